@@ -1,0 +1,2 @@
+pub mod CanonLaws
+pub mod DayTexts

@@ -1,0 +1,8 @@
+use Rattle.up_canon.proofs.CanonLaws.{read-canon, canon-injective}
+use Rattle.up_canon.proofs.canonical_laws.Goals as goal
+
+pub returns-clause-read : goal.returns-clause-read
+returns-clause-read c = read-canon
+
+pub returns-clause-injective : goal.returns-clause-injective
+returns-clause-injective c = canon-injective

@@ -1,0 +1,5 @@
+pub mod Canon
+pub mod Names
+pub mod Steps
+pub mod Moments
+pub mod Refusals

@@ -1,0 +1,27 @@
+//! Names, counts, moments, canonical text, members of JSON objects, and refusals.
+#![tactic(auto)]
+
+pub mod bytes;
+pub mod count;
+pub mod file_name;
+pub mod file_names;
+pub mod ident;
+pub mod idents;
+pub mod moment;
+pub mod note;
+pub mod refusal;
+pub mod text;
+
+ghost use Rattle.up_canon.specs.Canon.{CanonIsRead, CanonIsInjective};
+ghost use Rattle.up_canon.specs.Moments.{DayTextIsOfDate};
+
+/// A canonical text is read as its value, and so no two values share one.
+pub fn canonical_laws()
+    ensures read { CanonIsRead }
+    ensures injective { CanonIsInjective }
+{}
+
+/// The days' texts are those of the calendar.
+pub fn day_texts()
+    ensures { DayTextIsOfDate }
+{}

@@ -1,0 +1,137 @@
+//! Refusals: what a call answers in place of a value, and why.
+use crate::count::Count;
+use crate::ident::Ident;
+use std::alloc::{AllocError, AllocFailed};
+use std::marker::Model;
+
+/// The name of a member that is missing, of a wrong kind or outside its limits.
+#[derive(Debug, Drop)]
+pub struct Field {
+    name: &'static str,
+}
+
+impl Model for Field {
+    ghost use Rattle.std.specs.Prelude.{ℕ, List};
+
+    ghost Value = { List ℕ };
+
+    ghost view = { λ a. a.name.now };
+}
+
+impl Field {
+    ghost use Rattle.std.specs.Prelude.{◌≡◌};
+
+    /// The field of that name.
+    pub fn new(name: &'static str) -> Field
+        ensures { result ≡ name.now }
+    {
+        Field { name }
+    }
+
+    /// Its name.
+    pub fn name(&self) -> &'static str
+        ensures { result.now ≡ self.now }
+    {
+        self.name
+    }
+}
+
+/// Why a command, a reader or a decision refused.
+#[derive(Debug, Drop)]
+pub enum Refusal {
+    /// Memory was refused.
+    Memory,
+    /// The database refused a call.
+    Store,
+    /// The moment of a command is past 2100-01-01T00:00:00Z.
+    MomentOutOfRange,
+    /// The text is longer than its limit.
+    TooLarge,
+    /// The text is no JSON.
+    NotJson,
+    /// The signed value has no canonical text.
+    NotCanonical,
+    /// A member is missing, of a wrong kind or outside its limits.
+    BadShape(Field),
+    /// The repositories are not founded.
+    NotFounded,
+    /// The repositories are founded already.
+    AlreadyFounded,
+    /// The inventory has no such vehicle.
+    UnknownVehicle,
+    /// The manifest names another Primary than the inventory.
+    WrongPrimary,
+    /// The manifest's signature is not the Primary's.
+    BadManifestSignature,
+    /// The manifest's counter is not above the last one, which stands here.
+    Stale(Count),
+    /// A report of an ECU that the vehicle does not have.
+    UnknownEcu(Ident),
+    /// An ECU that stands twice.
+    DuplicateEcu(Ident),
+    /// An ECU of the vehicle without a report.
+    MissingEcu(Ident),
+    /// A report's signature is not its ECU's.
+    BadReportSignature(Ident),
+    /// A report that is older than the last one of its ECU, or another with the same counter.
+    ReportReplayed(Ident),
+    /// Another image has the filename.
+    ImageTaken,
+    /// The register of images is full.
+    RegisterFull,
+    /// The image repository's version is at its limit.
+    VersionLimit,
+    /// Another vehicle has the identifier.
+    VehicleTaken,
+    /// An ECU that is recorded already.
+    EcuTaken(Ident),
+    /// Another campaign has the name.
+    CampaignTaken,
+    /// There is no such campaign.
+    UnknownCampaign,
+    /// An item names an image that is not registered.
+    UnknownImage,
+    /// An item's image is not for its hardware.
+    WrongHardware,
+    /// The version is not above the present one.
+    VersionNotGreater,
+    /// There is no such file.
+    UnknownFile,
+    /// There are as many root versions as there may be.
+    RootFull,
+    /// The Primary of a vehicle is never replaced.
+    PrimaryFixed,
+}
+
+impl From<AllocError> for Refusal {
+    ghost use Rattle.std.specs.Prelude.{◌≡◌};
+    ghost use Rattle.up_canon.specs.declared.refusal.Refusal.TheVariants.{Memory};
+
+    ghost from_gives = { λ _ e. e ≡ Memory };
+
+    fn from(_: AllocError) -> Self {
+        Refusal::Memory
+    }
+}
+
+impl<T: Drop> From<AllocFailed<T>> for Refusal {
+    ghost use Rattle.std.specs.Prelude.{◌≡◌};
+    ghost use Rattle.up_canon.specs.declared.refusal.Refusal.TheVariants.{Memory};
+
+    ghost from_gives = { λ _ e. e ≡ Memory };
+
+    fn from(_: AllocFailed<T>) -> Self {
+        Refusal::Memory
+    }
+}
+
+impl From<&'static str> for Refusal {
+    ghost use Rattle.std.specs.Prelude.{◌≡◌};
+    ghost use Rattle.up_canon.specs.declared.refusal.Refusal.TheVariants.{BadShape};
+
+    ghost from_gives = { λ name e. e ≡ BadShape name.now };
+
+    fn from(name: &'static str) -> Self {
+        Refusal::BadShape(Field::new(name))
+    }
+}
