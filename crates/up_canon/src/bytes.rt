@@ -1,6 +1,7 @@
 //! Bytes: keys, hashes and bodies.
-ghost use Rattle.std.specs.Prelude.{◌≡◌, IfOk};
+ghost use Rattle.std.specs.Prelude.{◌≡◌};
 
+use crate::listed::Duplicate;
 use std::alloc::{AllocError, Global};
 use std::marker::Model;
 
@@ -40,11 +41,10 @@ impl Bytes {
         let Bytes { items } = self;
         items
     }
+}
 
-    /// An equal one of its own memory.
-    pub fn copy(&self, alloc: Global) -> Result<Bytes, AllocError>
-        ensures { IfOk result (λ copied. copied ≡ self.now) }
-    {
+impl Duplicate for Bytes {
+    fn copy(&self, alloc: Global) -> Result<Bytes, AllocError> {
         Ok(Bytes {
             items: self.items.as_slice().to_vec(alloc)?,
         })

@@ -1,9 +1,10 @@
 //! Filenames of images and metadata.
-ghost use Rattle.std.specs.Prelude.{◌≡◌, IfOk, string_bytes, MatchOption, true, false};
+ghost use Rattle.std.specs.Prelude.{◌≡◌, string_bytes, MatchOption, true, false};
 ghost use Rattle.std.specs.List.{list_all};
 ghost use Rattle.up_canon.specs.Names.{is_file_name, is_file_byte as is_file_byte_of};
 
 use crate::ident::is_ident_byte;
+use crate::listed::Duplicate;
 use std::alloc::{AllocError, Global};
 use std::marker::Model;
 
@@ -43,11 +44,10 @@ impl FileName {
     {
         self.text.as_str()
     }
+}
 
-    /// An equal one of its own memory.
-    pub fn copy(&self, alloc: Global) -> Result<FileName, AllocError>
-        ensures { IfOk result (λ copied. copied ≡ self.now) }
-    {
+impl Duplicate for FileName {
+    fn copy(&self, alloc: Global) -> Result<FileName, AllocError> {
         Ok(FileName {
             text: self.text.as_str().to_string(alloc)?,
         })

@@ -1,8 +1,9 @@
 //! Identifiers of vehicles, ECUs, hardware and campaigns.
-ghost use Rattle.std.specs.Prelude.{◌≡◌, IfOk, string_bytes, MatchOption, true, false};
+ghost use Rattle.std.specs.Prelude.{◌≡◌, string_bytes, MatchOption, true, false};
 ghost use Rattle.std.specs.List.{list_all};
 ghost use Rattle.up_canon.specs.Names.{is_ident, is_ident_byte as is_ident_byte_of};
 
+use crate::listed::Duplicate;
 use std::alloc::{AllocError, Global};
 use std::marker::Model;
 
@@ -42,11 +43,10 @@ impl Ident {
     {
         self.text.as_str()
     }
+}
 
-    /// An equal one of its own memory.
-    pub fn copy(&self, alloc: Global) -> Result<Ident, AllocError>
-        ensures { IfOk result (λ copied. copied ≡ self.now) }
-    {
+impl Duplicate for Ident {
+    fn copy(&self, alloc: Global) -> Result<Ident, AllocError> {
         Ok(Ident {
             text: self.text.as_str().to_string(alloc)?,
         })

@@ -4,9 +4,8 @@
 pub mod bytes;
 pub mod count;
 pub mod file_name;
-pub mod file_names;
 pub mod ident;
-pub mod idents;
+pub mod listed;
 pub mod moment;
 pub mod note;
 pub mod refusal;

@@ -1,9 +1,10 @@
 //! Notes, as an ECU's word on a detected attack.
-ghost use Rattle.std.specs.Prelude.{◌≡◌, IfOk, string_bytes, MatchOption, true, false};
+ghost use Rattle.std.specs.Prelude.{◌≡◌, string_bytes, MatchOption, true, false};
 ghost use Rattle.std.specs.List.{list_all};
 ghost use Rattle.up_canon.specs.Canon.{is_printable as is_printable_of};
 ghost use Rattle.up_canon.specs.Names.{is_note};
 
+use crate::listed::Duplicate;
 use std::alloc::{AllocError, Global};
 use std::marker::Model;
 
@@ -43,11 +44,10 @@ impl Note {
     {
         self.text.as_str()
     }
+}
 
-    /// An equal one of its own memory.
-    pub fn copy(&self, alloc: Global) -> Result<Note, AllocError>
-        ensures { IfOk result (λ copied. copied ≡ self.now) }
-    {
+impl Duplicate for Note {
+    fn copy(&self, alloc: Global) -> Result<Note, AllocError> {
         Ok(Note {
             text: self.text.as_str().to_string(alloc)?,
         })

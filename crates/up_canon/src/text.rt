@@ -1,6 +1,7 @@
 //! Text of any length, as a signed text or a reply.
-ghost use Rattle.std.specs.Prelude.{◌≡◌, IfOk, string_bytes};
+ghost use Rattle.std.specs.Prelude.{◌≡◌, string_bytes};
 
+use crate::listed::Duplicate;
 use std::alloc::{AllocError, Global};
 use std::marker::Model;
 
@@ -40,11 +41,10 @@ impl Text {
         let Text { text } = self;
         text
     }
+}
 
-    /// An equal one of its own memory.
-    pub fn copy(&self, alloc: Global) -> Result<Text, AllocError>
-        ensures { IfOk result (λ copied. copied ≡ self.now) }
-    {
+impl Duplicate for Text {
+    fn copy(&self, alloc: Global) -> Result<Text, AllocError> {
         Ok(Text {
             text: self.text.as_str().to_string(alloc)?,
         })
