@@ -1,0 +1,4 @@
+pub mod Hmac
+pub mod HmacLaws
+pub mod Schemes
+pub mod Envelopes

@@ -1,0 +1,84 @@
+//! HMAC over SHA-256 (RFC 2104, FIPS 180-4), and the scheme of that name.
+ghost use Rattle.std.specs.Prelude.{◌≡◌, ℕ, length, map, bit_xor};
+ghost use Rattle.up_sign.specs.Hmac.{hmac as hmac_of, block_key, inner_pad, outer_pad, key_id as key_id_of, hmac_sha256};
+
+use crate::scheme::Scheme;
+use sha2::{Digest, Sha256};
+use std::alloc::{AllocError, Global};
+
+/// HMAC over SHA-256, under keys of 32 bytes.
+#[derive(Clone, Copy, Debug)]
+pub struct HmacSha256;
+
+impl Scheme for HmacSha256 {
+    ghost use Rattle.up_sign.specs.HmacLaws.{hmac_sha256_lawful};
+
+    ghost rules = { λ _. hmac_sha256 };
+
+    fn method(&self) -> &str {
+        "hmac-sha256"
+    }
+
+    fn secret_fits(&self, secret: &[u8]) -> bool {
+        secret.len() == 32
+    }
+
+    fn public_fits(&self, public: &[u8]) -> bool {
+        public.len() == 32
+    }
+
+    fn public(&self, alloc: Global, secret: &[u8]) -> Result<Vec<u8>, AllocError> {
+        secret.to_vec(alloc)
+    }
+
+    fn sign(&self, alloc: Global, secret: &[u8], message: &[u8]) -> Result<Vec<u8>, AllocError> {
+        hmac(secret, message).to_vec(alloc)
+    }
+
+    fn verify(&self, public: &[u8], message: &[u8], signature: &[u8]) -> bool {
+        signature == &hmac(public, message)[..]
+    }
+
+    fn shown(&self, alloc: Global, _public: &[u8]) -> Result<String, AllocError> {
+        "".to_string(alloc)
+    }
+
+    ghost lawful = { λ _. hmac_sha256_lawful };
+}
+
+/// HMAC over SHA-256.
+#[tactic(auto, unfolding(crate::specs::Hmac::hmac))]
+pub fn hmac(key: &[u8], message: &[u8]) -> [u8; 32]
+    ensures { result ≡ hmac_of key.now message.now }
+{
+    let block = block_of(key);
+    let mut inner = Sha256::new();
+    inner.update(&masked(&block, 0x36)[..]);
+    inner.update(message);
+    let mut outer = Sha256::new();
+    outer.update(&masked(&block, 0x5c)[..]);
+    outer.update(&inner.finalize()[..]);
+    outer.finalize()
+}
+
+fn block_of(key: &[u8]) -> [u8; 64]
+    ensures { result ≡ block_key key.now }
+{
+    let mut block = [0; 64];
+    if key.len() > 64 {
+        block[..32].copy_from_slice(&Sha256::digest(key));
+    } else {
+        block[..key.len()].copy_from_slice(key);
+    }
+    block
+}
+
+fn masked(block: &[u8; 64], mask: u8) -> [u8; 64]
+    ensures { result ≡ map (bit_xor mask) block.now }
+{
+    let mut out = *block;
+    for byte in out.iter_mut() {
+        *byte = mask ^ *byte;
+    }
+    out
+}

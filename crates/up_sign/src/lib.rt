@@ -1,0 +1,6 @@
+//! Schemes of signatures, HMAC over SHA-256, envelopes and thresholds.
+#![tactic(auto)]
+
+pub mod envelope;
+pub mod hmac_sha256;
+pub mod scheme;
