@@ -1,0 +1,29 @@
+-- Images of the register, and their limits.
+use Rattle.std.specs.Prelude.{ℕ, ◌&&◌, List, Bool, nat_le, not, length, is_none, bytes_eq}
+use Rattle.std.specs.List.{list_any}
+use Rattle.up_canon.specs.Names.{Name, is_from_to, first_repeated}
+use Rattle.up_plan.specs.declared.image.Need.{Need}
+
+-- what contracts see of an image
+pub record ImageData : Type 0 where
+  pub file : Name
+  pub length : ℕ
+  pub sha256 : List ℕ
+  pub hardware : List Name
+  pub release : ℕ
+  pub needs : List Need
+  pub conflicts : List Name
+
+-- 1 to 16 names of hardware, none twice
+abbrev pub hardware_fits : List Name → Bool
+hardware_fits hardware = is_from_to 1 16 (length hardware) && is_none (first_repeated hardware)
+
+abbrev pub needs_fit : List Need → Bool
+needs_fit needs = nat_le (length needs) 16
+
+-- at most 16 filenames, not its own among them
+abbrev pub conflicts_fit : Name → List Name → Bool
+conflicts_fit file conflicts = nat_le (length conflicts) 16 && not (list_any (bytes_eq file) conflicts)
+
+abbrev pub image_fits : ImageData → Bool
+image_fits image = hardware_fits image.hardware && needs_fit image.needs && conflicts_fit image.file image.conflicts

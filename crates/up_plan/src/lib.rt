@@ -1,0 +1,6 @@
+//! Images, campaigns, and which images a vehicle gets.
+#![tactic(auto)]
+
+pub mod assigned;
+pub mod campaign;
+pub mod image;
