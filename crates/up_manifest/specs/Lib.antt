@@ -1,0 +1,2 @@
+pub mod Provisional
+pub mod Manifests

@@ -1,0 +1,92 @@
+-- What a manifest's body means, or the first fault of it.
+use Rattle.std.specs.Prelude.{ℕ, List, nat_le, length, if◌then◌else◌, Option, None, option_and_then, Result, Ok, codes}
+use Rattle.std.specs.Str.{is_utf8}
+use Rattle.serde_json.specs.Data.{Data}
+use Rattle.serde_json.specs.Read.{read}
+use Rattle.up_canon.specs.Steps.{◌>>=◌, or_error, unless, each, value_of}
+use Rattle.up_canon.specs.declared.refusal.Refusal.{Refusal}
+use Rattle.up_canon.specs.declared.refusal.Refusal.TheVariants.{TooLarge, NotJson, BadShape}
+use Rattle.up_manifest.specs.Provisional.{count_in, list_in, object_in, ident_in, file_name_in, note_in, word_in, hex_in, moment_in, opened_in}
+use Rattle.up_manifest.specs.declared.report.Installed.{Installed}
+use Rattle.up_manifest.specs.declared.report.Report.{Report}
+use Rattle.up_manifest.specs.declared.report.SignedReport.{SignedReport}
+use Rattle.up_manifest.specs.declared.manifest.Manifest.{Manifest}
+use Rattle.up_manifest.specs.declared.manifest.Incoming.{Incoming}
+
+-- the bytes of a body
+abbrev pub largest_body : ℕ
+largest_body = 262_144
+
+-- the reports of a manifest
+abbrev pub most_reports : ℕ
+most_reports = 64
+
+-- ---- reports
+
+unfoldable pub installed_in : Data → Result Installed Refusal
+installed_in d = do
+  file ← file_name_in (codes "file") d
+  size ← count_in (codes "length") d
+  hashes ← object_in (codes "hashes") d
+  sha256 ← hex_in 64 64 (codes "sha256") hashes
+  Ok (record { file = file; length = size; sha256 = sha256 })
+
+unfoldable pub report_in : Data → Result Report Refusal
+report_in payload = do
+  kind ← word_in (codes "report") (codes "type") payload
+  ecu ← ident_in (codes "ecu") payload
+  counter ← count_in (codes "counter") payload
+  time ← moment_in (codes "time") payload
+  attack ← note_in (codes "attack") payload
+  image ← object_in (codes "image") payload
+  installed ← installed_in image
+  Ok (record { ecu = ecu; counter = counter; time = time; attack = attack; image = installed })
+
+unfoldable pub signed_report_in : Data → Result SignedReport Refusal
+signed_report_in d = do
+  opened ← opened_in (codes "reports") d
+  report ← report_in opened.payload
+  Ok (record { report = report; envelope = opened.envelope })
+
+-- ---- manifests
+
+-- a counter from 1 on
+unfoldable pub manifest_counter_in : Data → Result ℕ Refusal
+manifest_counter_in payload = do
+  counter ← count_in (codes "counter") payload
+  is_positive ← unless (nat_le 1 counter) (BadShape (codes "counter"))
+  Ok counter
+
+unfoldable pub reports_in : Data → Result (List SignedReport) Refusal
+reports_in payload = do
+  listed ← list_in (codes "reports") payload
+  are_few ← unless (nat_le (length listed) most_reports) (BadShape (codes "reports"))
+  each signed_report_in listed
+
+unfoldable pub manifest_in : Data → Result Manifest Refusal
+manifest_in payload = do
+  kind ← word_in (codes "manifest") (codes "type") payload
+  vehicle ← ident_in (codes "vehicle") payload
+  primary ← ident_in (codes "primary") payload
+  counter ← manifest_counter_in payload
+  reports ← reports_in payload
+  Ok (record { vehicle = vehicle; primary = primary; counter = counter; reports = reports })
+
+-- ---- bodies
+
+-- what the bytes read as, if they are UTF-8
+abbrev pub value_in : List ℕ → Option Data
+value_in body = if is_utf8 body then read body else None
+
+-- the manifest that a body means, with its envelope, or its first fault
+unfoldable pub incoming_in : List ℕ → Result Incoming Refusal
+incoming_in body = do
+  is_small ← unless (nat_le (length body) largest_body) TooLarge
+  d ← or_error NotJson (value_in body)
+  opened ← opened_in (codes "body") d
+  manifest ← manifest_in opened.payload
+  Ok (record { manifest = manifest; envelope = opened.envelope })
+
+-- the manifest of a signed text
+unfoldable pub manifest_of : List ℕ → Option Manifest
+manifest_of signed = option_and_then (λ d. value_of (manifest_in d)) (read signed)
