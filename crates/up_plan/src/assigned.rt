@@ -1,7 +1,8 @@
 //! Plans: which images a vehicle gets, or why it gets none.
+use std::alloc::{AllocError, Global};
 use up_canon::file_name::FileName;
 use up_canon::ident::Ident;
-use up_canon::listed::Listed;
+use up_canon::listed::{Duplicate, Listed};
 use up_manifest::report::Installed;
 
 /// An ECU of a vehicle with the image that it reports.
@@ -12,11 +13,30 @@ pub struct Fitted {
     pub image: Installed,
 }
 
+impl Duplicate for Fitted {
+    fn copy(&self, alloc: Global) -> Result<Fitted, AllocError> {
+        Ok(Fitted {
+            ecu: self.ecu.copy(alloc)?,
+            hardware: self.hardware.copy(alloc)?,
+            image: self.image.copy(alloc)?,
+        })
+    }
+}
+
 /// An image that is assigned to an ECU.
 #[derive(Debug, Drop)]
 pub struct Assigned {
     pub ecu: Ident,
     pub file: FileName,
+}
+
+impl Duplicate for Assigned {
+    fn copy(&self, alloc: Global) -> Result<Assigned, AllocError> {
+        Ok(Assigned {
+            ecu: self.ecu.copy(alloc)?,
+            file: self.file.copy(alloc)?,
+        })
+    }
 }
 
 /// Why the wanted images of a vehicle are withheld: an ECU's image has a need that isn't met, or a conflict with a file.
@@ -26,9 +46,35 @@ pub enum Cause {
     Conflict { ecu: Ident, file: FileName },
 }
 
+impl Duplicate for Cause {
+    fn copy(&self, alloc: Global) -> Result<Cause, AllocError> {
+        match self {
+            Cause::Need { ecu, hardware } => Ok(Cause::Need {
+                ecu: ecu.copy(alloc)?,
+                hardware: hardware.copy(alloc)?,
+            }),
+            Cause::Conflict { ecu, file } => Ok(Cause::Conflict {
+                ecu: ecu.copy(alloc)?,
+                file: file.copy(alloc)?,
+            }),
+        }
+    }
+}
+
 /// The images assigned to a vehicle in inventory order, and the cause where they are withheld.
 #[derive(Debug, Drop)]
 pub struct Plan {
     pub assigned: Listed<Assigned>,
     pub withheld: Option<Cause>,
+}
+
+impl Duplicate for Plan {
+    fn copy(&self, alloc: Global) -> Result<Plan, AllocError> {
+        let assigned = self.assigned.copy(alloc)?;
+        let withheld = match &self.withheld {
+            Some(cause) => Some(cause.copy(alloc)?),
+            None => None,
+        };
+        Ok(Plan { assigned, withheld })
+    }
 }

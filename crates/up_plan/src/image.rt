@@ -1,15 +1,25 @@
 //! Images of the register.
+use std::alloc::{AllocError, Global};
 use std::marker::Model;
 use up_canon::count::Count;
 use up_canon::file_name::FileName;
 use up_canon::ident::Ident;
-use up_canon::listed::Listed;
+use up_canon::listed::{Duplicate, Listed};
 
 /// A need of an image: every ECU of the vehicle with the hardware has at least the release.
 #[derive(Debug, Drop)]
 pub struct Need {
     pub hardware: Ident,
     pub release: Count,
+}
+
+impl Duplicate for Need {
+    fn copy(&self, alloc: Global) -> Result<Need, AllocError> {
+        Ok(Need {
+            hardware: self.hardware.copy(alloc)?,
+            release: self.release,
+        })
+    }
 }
 
 /// A registered image: filename, length in bytes, SHA-256, the hardware that it is for (1 to 16, distinct), its release
@@ -34,4 +44,18 @@ impl Model for Image {
     ghost view = { λ a. record { file = a.file; length = a.length; sha256 = a.sha256; hardware = a.hardware; release = a.release; needs = a.needs; conflicts = a.conflicts } };
 
     ghost invariant = { λ a. image_fits (record { file = a.file; length = a.length; sha256 = a.sha256; hardware = a.hardware; release = a.release; needs = a.needs; conflicts = a.conflicts }) ≡ true };
+}
+
+impl Duplicate for Image {
+    fn copy(&self, alloc: Global) -> Result<Image, AllocError> {
+        Ok(Image {
+            file: self.file.copy(alloc)?,
+            length: self.length,
+            sha256: self.sha256,
+            hardware: self.hardware.copy(alloc)?,
+            release: self.release,
+            needs: self.needs.copy(alloc)?,
+            conflicts: self.conflicts.copy(alloc)?,
+        })
+    }
 }
