@@ -1,6 +1,7 @@
 //! Envelopes: a signed text with its signatures.
+use std::alloc::{AllocError, Global};
 use up_canon::bytes::Bytes;
-use up_canon::listed::Listed;
+use up_canon::listed::{Duplicate, Listed};
 use up_canon::text::Text;
 
 /// A signature over the signed text, with the identifier of its key and the name of its method.
@@ -11,9 +12,28 @@ pub struct Signature {
     pub sig: Bytes,
 }
 
+impl Duplicate for Signature {
+    fn copy(&self, alloc: Global) -> Result<Signature, AllocError> {
+        Ok(Signature {
+            keyid: self.keyid.copy(alloc)?,
+            method: self.method.copy(alloc)?,
+            sig: self.sig.copy(alloc)?,
+        })
+    }
+}
+
 /// A signed text, which is the canonical text of an object, and 1 to 8 signatures over it.
 #[derive(Debug, Drop)]
 pub struct Envelope {
     pub signatures: Listed<Signature>,
     pub signed: Text,
+}
+
+impl Duplicate for Envelope {
+    fn copy(&self, alloc: Global) -> Result<Envelope, AllocError> {
+        Ok(Envelope {
+            signatures: self.signatures.copy(alloc)?,
+            signed: self.signed.copy(alloc)?,
+        })
+    }
 }
