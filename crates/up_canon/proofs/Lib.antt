@@ -1,2 +1,3 @@
 pub mod CanonLaws
 pub mod DayTexts
+pub mod Lists

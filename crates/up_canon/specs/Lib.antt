@@ -3,3 +3,5 @@ pub mod Names
 pub mod Steps
 pub mod Moments
 pub mod Refusals
+pub mod Members
+pub mod Readers

@@ -3,11 +3,15 @@
 
 pub mod bytes;
 pub mod count;
+pub mod fields;
 pub mod file_name;
 pub mod ident;
+pub mod kinds;
+pub mod limits;
 pub mod listed;
 pub mod moment;
 pub mod note;
+pub mod readers;
 pub mod refusal;
 pub mod text;
 

@@ -63,7 +63,8 @@ fn fits(bytes: &[u8]) -> bool
     has_printable_bytes(bytes)
 }
 
-fn has_printable_bytes(bytes: &[u8]) -> bool
+/// Whether each byte is printable ASCII.
+pub fn has_printable_bytes(bytes: &[u8]) -> bool
     ensures { result ≡ list_all is_printable_of bytes.now }
 {
     bytes.iter().all(|b| is_printable(*b))
