@@ -13,6 +13,8 @@ pub mod moment;
 pub mod note;
 pub mod readers;
 pub mod refusal;
+#[cfg(test)]
+mod tests;
 pub mod text;
 
 ghost use Rattle.up_canon.specs.Canon.{CanonIsRead, CanonIsInjective};
