@@ -5,3 +5,4 @@ pub mod Moments
 pub mod Refusals
 pub mod Members
 pub mod Readers
+pub mod Build

@@ -1,0 +1,23 @@
+-- JSON values made of their parts.
+use Rattle.std.specs.Prelude.{ℕ, List, [], ◌∷◌}
+use Rattle.hex.specs.Hex.{encode_lower}
+use Rattle.serde_json.specs.Data.{unsigned, Data, number, string, array, object, Members, no_members, put}
+use Rattle.serde_json.specs.View.{items_of}
+
+-- the members of these names, in the order of the names; of two of one name the first counts
+abbrev pub members_with : List (List ℕ × Data) → Members
+members_with [] = no_members
+members_with (m ∷ ms) = put m.0 m.1 (members_with ms)
+
+abbrev pub object_with : List (List ℕ × Data) → Data
+object_with ms = object (members_with ms)
+
+abbrev pub list_with : List Data → Data
+list_with ds = array (items_of ds)
+
+abbrev pub count_value : ℕ → Data
+count_value n = number (unsigned n)
+
+-- bytes as lower case hexadecimal digits
+abbrev pub hex_value : List ℕ → Data
+hex_value bytes = string (encode_lower bytes)
