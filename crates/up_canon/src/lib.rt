@@ -3,6 +3,7 @@
 
 pub mod bytes;
 pub mod count;
+pub mod each;
 pub mod fields;
 pub mod file_name;
 pub mod ident;
