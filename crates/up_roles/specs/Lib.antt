@@ -1,0 +1,7 @@
+pub mod Provisional
+pub mod Payload
+pub mod Root
+pub mod Targets
+pub mod Snapshot
+pub mod Timestamp
+pub mod Lifetimes
