@@ -1,5 +1,5 @@
 -- Campaigns, and their limits.
-use Rattle.std.specs.Prelude.{◌&&◌, List, Bool, true, length}
+use Rattle.std.specs.Prelude.{◌&&◌, List, Bool, true, not, length, Option, Some, None, codes, if◌then◌else◌}
 use Rattle.up_canon.specs.Names.{Name, is_from_to}
 use Rattle.up_plan.specs.declared.campaign.Reach.{Reach}
 use Rattle.up_plan.specs.declared.campaign.Reach.TheVariants.{All, Named}
@@ -22,3 +22,10 @@ items_fit items = is_from_to 1 16 (length items)
 
 abbrev pub campaign_fits : CampaignData → Bool
 campaign_fits campaign = reach_fits campaign.reach && items_fit campaign.items
+
+-- the first member that breaks its limit
+abbrev pub campaign_fault : CampaignData → Option Name
+campaign_fault campaign =
+    if not (reach_fits campaign.reach) then Some (codes "vehicles")
+    else if not (items_fit campaign.items) then Some (codes "items")
+    else None

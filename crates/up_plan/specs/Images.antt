@@ -1,5 +1,5 @@
 -- Images of the register, and their limits.
-use Rattle.std.specs.Prelude.{ℕ, ◌&&◌, List, Bool, nat_le, not, length, is_none, bytes_eq}
+use Rattle.std.specs.Prelude.{ℕ, ◌&&◌, List, Bool, nat_le, not, length, is_none, bytes_eq, Option, Some, None, codes, if◌then◌else◌}
 use Rattle.std.specs.List.{list_any}
 use Rattle.up_canon.specs.Names.{Name, is_from_to, first_repeated}
 use Rattle.up_plan.specs.declared.image.Need.{Need}
@@ -27,3 +27,11 @@ conflicts_fit file conflicts = nat_le (length conflicts) 16 && not (list_any (by
 
 abbrev pub image_fits : ImageData → Bool
 image_fits image = hardware_fits image.hardware && needs_fit image.needs && conflicts_fit image.file image.conflicts
+
+-- the first member that breaks its limit
+abbrev pub image_fault : ImageData → Option Name
+image_fault image =
+    if not (hardware_fits image.hardware) then Some (codes "hardware")
+    else if not (needs_fit image.needs) then Some (codes "needs")
+    else if not (conflicts_fit image.file image.conflicts) then Some (codes "conflicts")
+    else None

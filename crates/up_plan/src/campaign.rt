@@ -1,4 +1,7 @@
 //! Campaigns.
+ghost use Rattle.std.specs.Prelude.{◌≡◌};
+ghost use Rattle.up_plan.specs.Campaigns.{reach_fits as reach_fits_limits};
+
 use std::alloc::{AllocError, Global};
 use std::marker::Model;
 use up_canon::file_name::FileName;
@@ -57,6 +60,30 @@ impl Model for Campaign {
     ghost invariant = { λ a. campaign_fits (record { name = a.name; reach = a.reach; items = a.items; running = a.running }) ≡ true };
 }
 
+impl Campaign {
+    ghost use Rattle.std.specs.Prelude.{◌≡◌, Some, true, MatchResult};
+    ghost use Rattle.up_plan.specs.Campaigns.{CampaignData, campaign_fits, campaign_fault};
+
+    /// The running campaign of these parts, or the name of the first member that breaks its limit: `vehicles` or `items`.
+    pub fn new(name: Ident, reach: Reach, items: Vec<Item>) -> Result<Campaign, &'static str>
+        ensures { let given : CampaignData = record { name = name; reach = reach; items = items.items; running = true } in
+            MatchResult result (λ campaign. (campaign_fits given ≡ true) × (campaign ≡ given)) (λ fault. campaign_fault given ≡ Some fault.now) }
+    {
+        if !reach_fits(&reach) {
+            return Err("vehicles");
+        }
+        if items.is_empty() || items.len() > 16 {
+            return Err("items");
+        }
+        Ok(Campaign {
+            name,
+            reach,
+            items: Listed::new(items),
+            running: true,
+        })
+    }
+}
+
 impl Duplicate for Campaign {
     fn copy(&self, alloc: Global) -> Result<Campaign, AllocError> {
         Ok(Campaign {
@@ -65,5 +92,17 @@ impl Duplicate for Campaign {
             items: self.items.copy(alloc)?,
             running: self.running,
         })
+    }
+}
+
+fn reach_fits(reach: &Reach) -> bool
+    ensures { result ≡ reach_fits_limits reach.now }
+{
+    match reach {
+        Reach::All => true,
+        Reach::Named(vehicles) => {
+            let named = vehicles.as_slice().len();
+            1 <= named && named <= 1000
+        }
     }
 }

@@ -1,4 +1,9 @@
 //! Images of the register.
+ghost use Rattle.std.specs.Prelude.{◌≡◌, is_none};
+ghost use Rattle.up_canon.specs.Names.{first_repeated};
+ghost use Rattle.up_plan.specs.Images.{hardware_fits as hardware_fits_limits, conflicts_fit as conflicts_fit_limits};
+
+use crate::names::{has_file, has_name};
 use std::alloc::{AllocError, Global};
 use std::marker::Model;
 use up_canon::count::Count;
@@ -46,6 +51,44 @@ impl Model for Image {
     ghost invariant = { λ a. image_fits (record { file = a.file; length = a.length; sha256 = a.sha256; hardware = a.hardware; release = a.release; needs = a.needs; conflicts = a.conflicts }) ≡ true };
 }
 
+impl Image {
+    ghost use Rattle.std.specs.Prelude.{◌≡◌, Some, true, MatchResult};
+    ghost use Rattle.up_plan.specs.Images.{ImageData, image_fits, image_fault};
+
+    /// The image of these parts, or the name of the first member that breaks its limit: `hardware`, `needs` or `conflicts`.
+    pub fn new(
+        file: FileName,
+        length: Count,
+        sha256: [u8; 32],
+        hardware: Vec<Ident>,
+        release: Count,
+        needs: Vec<Need>,
+        conflicts: Vec<FileName>,
+    ) -> Result<Image, &'static str>
+        ensures { let given : ImageData = record { file = file; length = length; sha256 = sha256; hardware = hardware.items; release = release; needs = needs.items; conflicts = conflicts.items } in
+            MatchResult result (λ image. (image_fits given ≡ true) × (image ≡ given)) (λ fault. image_fault given ≡ Some fault.now) }
+    {
+        if !hardware_fits(hardware.as_slice()) {
+            return Err("hardware");
+        }
+        if needs.len() > 16 {
+            return Err("needs");
+        }
+        if !conflicts_fit(&file, conflicts.as_slice()) {
+            return Err("conflicts");
+        }
+        Ok(Image {
+            file,
+            length,
+            sha256,
+            hardware: Listed::new(hardware),
+            release,
+            needs: Listed::new(needs),
+            conflicts: Listed::new(conflicts),
+        })
+    }
+}
+
 impl Duplicate for Image {
     fn copy(&self, alloc: Global) -> Result<Image, AllocError> {
         Ok(Image {
@@ -58,4 +101,30 @@ impl Duplicate for Image {
             conflicts: self.conflicts.copy(alloc)?,
         })
     }
+}
+
+fn hardware_fits(hardware: &[Ident]) -> bool
+    ensures { result ≡ hardware_fits_limits hardware.now }
+{
+    if hardware.is_empty() || hardware.len() > 16 {
+        return false;
+    }
+    are_distinct(hardware)
+}
+
+fn are_distinct(names: &[Ident]) -> bool
+    ensures { result ≡ is_none (first_repeated names.now) }
+{
+    for (i, name) in names.iter().enumerate() {
+        if has_name(&names[..i], name) {
+            return false;
+        }
+    }
+    true
+}
+
+fn conflicts_fit(file: &FileName, conflicts: &[FileName]) -> bool
+    ensures { result ≡ conflicts_fit_limits file.now conflicts.now }
+{
+    conflicts.len() <= 16 && !has_file(conflicts, file)
 }

@@ -4,3 +4,4 @@
 pub mod assigned;
 pub mod campaign;
 pub mod image;
+mod names;
