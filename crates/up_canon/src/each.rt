@@ -8,30 +8,37 @@ use crate::refusal::Refusal;
 use serde_json::Value;
 use std::alloc::Global;
 
-/// What a JSON value may mean.
-pub trait FromValue: Drop {
-    ghost use Rattle.std.specs.Prelude.{Result};
+/// A way to read a value of a list: what it means, where the list has this name.
+pub trait Reading {
+    ghost use Rattle.std.specs.Prelude.{ℕ, List, Result};
     ghost use Rattle.serde_json.specs.Data.{Data};
     ghost use Rattle.serde_json.specs.View.{view};
     ghost use Rattle.up_canon.specs.Refusals.{Gives};
     ghost use Rattle.up_canon.specs.declared.refusal.Refusal.{Refusal};
 
-    /// What it means, or the first fault.
-    ghost meaning: { Data → Result Self Refusal };
+    /// What is read.
+    type Item: Drop;
+
+    /// What a value means in a list of that name, or its first fault.
+    ghost meaning: { List ℕ → Data → Result Self.Item Refusal };
 
     /// Reads it.
-    fn from_value(alloc: Global, value: &Value) -> Result<Self, Refusal>
-        ensures { Gives result (meaning (view value.now)) };
+    fn read(alloc: Global, value: &Value, place: &'static str) -> Result<Self::Item, Refusal>
+        ensures { Gives result (meaning place.now (view value.now)) };
 }
 
 /// What each of the values means, in order, or the first fault of the first that has one.
 #[tactic(auto, unfolding(crate::specs::Steps::each, crate::specs::Steps::and_then))]
-pub fn each_of<T: FromValue>(alloc: Global, values: &[Value]) -> Result<Listed<T>, Refusal>
-    ensures { Gives result (each T.meaning (values_of values.now)) }
+pub fn each_of<R: Reading>(
+    alloc: Global,
+    values: &[Value],
+    place: &'static str,
+) -> Result<Listed<R::Item>, Refusal>
+    ensures { Gives result (each (R.meaning place.now) (values_of values.now)) }
 {
     let mut read = Vec::with_capacity(alloc, values.len())?;
     for value in values {
-        read.push(T::from_value(alloc, value)?)?;
+        read.push(R::read(alloc, value, place)?)?;
     }
     Ok(Listed::new(read))
 }

@@ -11,6 +11,7 @@ pub mod kinds;
 pub mod limits;
 pub mod listed;
 pub mod moment;
+pub mod name_readings;
 pub mod note;
 pub mod readers;
 pub mod refusal;
