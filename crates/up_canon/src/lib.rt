@@ -6,6 +6,7 @@ pub mod count;
 pub mod each;
 pub mod fields;
 pub mod file_name;
+pub mod hex_text;
 pub mod ident;
 pub mod kinds;
 pub mod limits;

@@ -1,0 +1,98 @@
+//! Bytes that JSON holds as hexadecimal text.
+ghost use Rattle.std.specs.Prelude.{◌≡◌, Ok, MatchResult, OnErr, length};
+ghost use Rattle.serde_json.specs.View.{view};
+ghost use Rattle.up_canon.specs.HexText.{hex_of as hex_of_value, hex_in, sha256_in, lower_sha256_in, is_lower as is_lower_text};
+ghost use Rattle.up_canon.specs.Members.{IsFault, object_of_map};
+ghost use Rattle.up_canon.specs.Refusals.{Gives};
+
+use crate::bytes::Bytes;
+use crate::fields::member_at;
+use crate::kinds::text_of;
+use crate::refusal::Refusal;
+use hex::FromHexError;
+use serde_json::{Map, Value};
+use std::alloc::Global;
+
+/// The bytes of a text of so many hexadecimal digits, of either case; the name is that of the fault.
+#[tactic(auto, unfolding(crate::specs::HexText::hex_of, crate::specs::Steps::and_then))]
+pub fn hex_of(
+    alloc: Global,
+    value: &Value,
+    name: &'static str,
+    least: usize,
+    most: usize,
+) -> Result<Bytes, Refusal>
+    ensures { Gives result (hex_of_value least most name.now (view value.now)) }
+{
+    let text = text_of(value, name)?;
+    if text.len() < least || text.len() > most {
+        return Err(name.into());
+    }
+    match hex::decode(alloc, text.as_bytes()) {
+        Ok(bytes) => Ok(Bytes::new(bytes)),
+        Err(FromHexError::OutOfMemory) => Err(Refusal::Memory),
+        Err(_) => Err(name.into()),
+    }
+}
+
+/// The bytes of a member of so many hexadecimal digits, of either case.
+#[tactic(auto, unfolding(crate::specs::HexText::hex_in, crate::specs::Steps::and_then))]
+pub fn hex_at(
+    alloc: Global,
+    map: &Map<String, Value>,
+    name: &'static str,
+    least: usize,
+    most: usize,
+) -> Result<Bytes, Refusal>
+    ensures { Gives result (hex_in least most name.now (object_of_map map.now.entries)) }
+{
+    hex_of(alloc, member_at(map, name)?, name, least, most)
+}
+
+/// The SHA-256 of a member, 64 hexadecimal digits of either case, or its name.
+#[tactic(auto, unfolding(crate::specs::HexText::sha256_in, crate::specs::Steps::and_then))]
+pub fn sha256_at(map: &Map<String, Value>, name: &'static str) -> Result<[u8; 32], &'static str>
+    ensures { MatchResult result
+        (λ hash. sha256_in name.now (object_of_map map.now.entries) ≡ Ok hash)
+        (λ fault. IsFault (sha256_in name.now (object_of_map map.now.entries)) name.now fault.now) }
+{
+    sha256_of(member_at(map, name)?, name)
+}
+
+/// The SHA-256 of a member, 64 hexadecimal digits of lower case, or its name.
+#[tactic(auto, unfolding(crate::specs::HexText::lower_sha256_in, crate::specs::Steps::and_then))]
+pub fn lower_sha256_at(
+    map: &Map<String, Value>,
+    name: &'static str,
+) -> Result<[u8; 32], &'static str>
+    ensures { MatchResult result
+        (λ hash. lower_sha256_in name.now (object_of_map map.now.entries) ≡ Ok hash)
+        (λ fault. IsFault (lower_sha256_in name.now (object_of_map map.now.entries)) name.now fault.now) }
+{
+    let value = member_at(map, name)?;
+    if !is_lower(text_of(value, name)?.as_bytes()) {
+        return Err(name);
+    }
+    sha256_of(value, name)
+}
+
+/// The 32 bytes of a text of 64 hexadecimal digits, or the name.
+#[tactic(auto, unfolding(crate::specs::HexText::hex_of, crate::specs::Steps::and_then))]
+pub fn sha256_of(value: &Value, name: &'static str) -> Result<[u8; 32], &'static str>
+    ensures { MatchResult result
+        (λ hash. hex_of_value 64 64 name.now (view value.now) ≡ Ok hash)
+        (λ fault. IsFault (hex_of_value 64 64 name.now (view value.now)) name.now fault.now) }
+{
+    let text = text_of(value, name)?;
+    let mut hash = [0; 32];
+    match hex::decode_to_slice(text.as_bytes(), &mut hash[..]) {
+        Ok(()) => Ok(hash),
+        Err(_) => Err(name),
+    }
+}
+
+fn is_lower(text: &[u8]) -> bool
+    ensures { result ≡ is_lower_text text.now }
+{
+    text.iter().all(|b| !(*b >= b'A' && *b <= b'Z'))
+}
