@@ -1,3 +1,5 @@
 pub mod CanonLaws
 pub mod DayTexts
 pub mod Lists
+pub mod Plain
+pub mod CanonicalText

@@ -2,6 +2,7 @@
 #![tactic(auto)]
 
 pub mod bytes;
+pub mod canonical;
 pub mod count;
 pub mod each;
 pub mod fields;
