@@ -1,5 +1,8 @@
 //! Commands, answers and the plain machine of the two repositories.
 #![tactic(auto)]
 
+pub mod answer;
+pub mod command;
 pub mod keys;
+pub mod rows;
 pub mod vehicle;

@@ -1,6 +1,5 @@
 //! Vehicles that are added to the inventory.
-ghost use Rattle.std.specs.Prelude.{◌≡◌, true, not, bytes_eq, length, MatchResult, Some, None, codes};
-ghost use Rattle.std.specs.List.{list_any};
+ghost use Rattle.std.specs.Prelude.{◌≡◌, MatchResult, Some, None};
 ghost use Rattle.up_machine.specs.Vehicles.{NewVehicleData, new_vehicle_fault, has_ecu};
 
 use std::alloc::{AllocError, Global};

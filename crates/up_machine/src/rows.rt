@@ -1,0 +1,115 @@
+//! Rows: what is kept of the state, one for each thing.
+use crate::keys::KeySet;
+use std::alloc::{AllocError, Global};
+use up_canon::bytes::Bytes;
+use up_canon::count::Count;
+use up_canon::ident::Ident;
+use up_canon::listed::Duplicate;
+use up_canon::moment::Moment;
+use up_canon::text::Text;
+use up_manifest::report::Installed;
+use up_plan::assigned::Plan;
+
+/// The founded repositories: the last root version and its keys, the image repository's version, and the moment of the command
+/// that made the image repository's files.
+#[derive(Debug, Drop)]
+pub struct Founding {
+    pub root: u64,
+    pub keys: KeySet,
+    pub image_version: u64,
+    pub stamp: Moment,
+}
+
+impl Duplicate for Founding {
+    fn copy(&self, alloc: Global) -> Result<Founding, AllocError> {
+        Ok(Founding {
+            root: self.root,
+            keys: self.keys.copy(alloc)?,
+            image_version: self.image_version,
+            stamp: self.stamp,
+        })
+    }
+}
+
+/// A vehicle: its Primary, its version (the number of accepted manifests) and the greatest counter of an accepted manifest, 0
+/// before the first.
+#[derive(Debug, Drop)]
+pub struct VehicleRow {
+    pub vehicle: Ident,
+    pub primary: Ident,
+    pub version: u64,
+    pub last: Count,
+}
+
+impl Duplicate for VehicleRow {
+    fn copy(&self, alloc: Global) -> Result<VehicleRow, AllocError> {
+        Ok(VehicleRow {
+            vehicle: self.vehicle.copy(alloc)?,
+            primary: self.primary.copy(alloc)?,
+            version: self.version,
+            last: self.last,
+        })
+    }
+}
+
+/// An ECU: its hardware, the public part of its key, and of its last report the image, the counter and the canonical signed
+/// text; before a first report the counter is 0.
+#[derive(Debug, Drop)]
+pub struct EcuRow {
+    pub ecu: Ident,
+    pub hardware: Ident,
+    pub public: Bytes,
+    pub installed: Option<Installed>,
+    pub counter: Count,
+    pub report: Option<Text>,
+}
+
+impl Duplicate for EcuRow {
+    fn copy(&self, alloc: Global) -> Result<EcuRow, AllocError> {
+        let installed = match &self.installed {
+            Some(image) => Some(image.copy(alloc)?),
+            None => None,
+        };
+        let report = match &self.report {
+            Some(text) => Some(text.copy(alloc)?),
+            None => None,
+        };
+        Ok(EcuRow {
+            ecu: self.ecu.copy(alloc)?,
+            hardware: self.hardware.copy(alloc)?,
+            public: self.public.copy(alloc)?,
+            installed,
+            counter: self.counter,
+            report,
+        })
+    }
+}
+
+/// An accepted manifest: its vehicle and counter, the version that it gave the vehicle, the moment and the root version at that
+/// moment, its canonical signed text, the plan, and the text of the reply.
+#[derive(Debug, Drop)]
+pub struct Kept {
+    pub vehicle: Ident,
+    pub counter: Count,
+    pub version: u64,
+    pub at: Moment,
+    pub root: u64,
+    pub signed: Text,
+    pub plan: Plan,
+    pub reply: Text,
+}
+
+impl Duplicate for Kept {
+    fn copy(&self, alloc: Global) -> Result<Kept, AllocError> {
+        Ok(Kept {
+            vehicle: self.vehicle.copy(alloc)?,
+            counter: self.counter,
+            version: self.version,
+            at: self.at,
+            root: self.root,
+            signed: self.signed.copy(alloc)?,
+            plan: self.plan.copy(alloc)?,
+            reply: self.reply.copy(alloc)?,
+        })
+    }
+}
