@@ -47,11 +47,13 @@ impl Model for NewVehicle {
 
 impl NewVehicle {
     /// The vehicle, or the name of the field that is outside its limits: `ecus` (1 to 32), `primary` (one of the ECUs).
-    pub fn new(vehicle: Ident, primary: Ident, ecus: Listed<NewEcu>) -> Result<NewVehicle, &'static str>
-        ensures {
-            let given : NewVehicleData = record { vehicle = vehicle; primary = primary; ecus = ecus } in
-            MatchResult result (λ made. (new_vehicle_fault given ≡ None) × (made ≡ given)) (λ fault. new_vehicle_fault given ≡ Some fault.now)
-        }
+    pub fn new(
+        vehicle: Ident,
+        primary: Ident,
+        ecus: Listed<NewEcu>,
+    ) -> Result<NewVehicle, &'static str>
+        ensures { let given : NewVehicleData = record { vehicle = vehicle; primary = primary; ecus = ecus } in
+            MatchResult result (λ made. (new_vehicle_fault given ≡ None) × (made ≡ given)) (λ fault. new_vehicle_fault given ≡ Some fault.now) }
     {
         let count = ecus.as_slice().len();
         if count == 0 || count > 32 {
@@ -60,7 +62,11 @@ impl NewVehicle {
         if !is_among(primary.text(), ecus.as_slice()) {
             return Err("primary");
         }
-        Ok(NewVehicle { vehicle, primary, ecus })
+        Ok(NewVehicle {
+            vehicle,
+            primary,
+            ecus,
+        })
     }
 }
 
