@@ -2,3 +2,4 @@ pub mod Hmac
 pub mod HmacLaws
 pub mod Schemes
 pub mod Envelopes
+pub mod Formats

@@ -1,4 +1,8 @@
 //! Envelopes: a signed text with its signatures.
+ghost use Rattle.std.specs.Prelude.{◌≡◌, IsTrue, IfOk, string_bytes};
+ghost use Rattle.up_sign.specs.Formats.{envelope_fits, envelope_text};
+
+use crate::writing::push_signatures;
 use std::alloc::{AllocError, Global};
 use up_canon::bytes::Bytes;
 use up_canon::listed::{Duplicate, Listed};
@@ -27,6 +31,23 @@ impl Duplicate for Signature {
 pub struct Envelope {
     pub signatures: Listed<Signature>,
     pub signed: Text,
+}
+
+impl Envelope {
+    /// Its JSON text, in which the signed text stands as it is.
+    #[tactic(auto, unfolding(crate::specs::Formats::envelope_text))]
+    pub fn text(&self, alloc: Global) -> Result<String, AllocError>
+        requires limits { IsTrue (envelope_fits self.now) }
+        ensures { IfOk result (λ text. string_bytes text ≡ envelope_text self.now) }
+    {
+        let mut out = String::new(alloc);
+        out.push_str("{\"signatures\":")?;
+        push_signatures(alloc, &mut out, self.signatures.as_slice())?;
+        out.push_str(",\"signed\":")?;
+        out.push_str(self.signed.as_str())?;
+        out.push('}')?;
+        Ok(out)
+    }
 }
 
 impl Duplicate for Envelope {

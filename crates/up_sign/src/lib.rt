@@ -7,3 +7,4 @@ pub mod key_id;
 pub mod scheme;
 pub mod seal;
 pub mod threshold;
+mod writing;

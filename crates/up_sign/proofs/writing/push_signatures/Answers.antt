@@ -1,0 +1,17 @@
+use Rattle.std.proofs.Common.{arith}
+use Rattle.std.proofs.lemmas.Grind.{common_steps}
+use Rattle.up_canon.specs.Canon.{text}
+use Rattle.up_sign.specs.Formats.{signature_value}
+use Rattle.up_sign.proofs.Written.{separator_more, joined_more, listed_text}
+use Rattle.up_sign.proofs.writing.push_signatures.Goals as goal
+
+pub loop-signature-preserved : goal.loop-signature-preserved
+loop-signature-preserved c =
+    let more = joined_more (λ s. text (signature_value s)) c.args.signatures.now c.loop-signature.signature-index c.signature-item.result (omega arith) in
+    record {
+      written = grind (arith, common_steps, more);
+      separator = separator_more c.args.signatures.now c.loop-signature.signature-index c.signature-item.result (omega arith);
+    }
+
+pub returns : goal.returns
+returns c = let all = listed_text signature_value c.args.signatures.now in grind (arith, common_steps, all)

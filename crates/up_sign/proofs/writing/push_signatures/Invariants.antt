@@ -1,0 +1,13 @@
+use Rattle.std.proofs.Common.{◌≡◌, ◌∷◌, ◌++◌, take, map}
+use Rattle.std.specs.List.{join_with_byte}
+use Rattle.up_canon.specs.Canon.{text}
+use Rattle.up_sign.specs.Formats.{signature_value}
+use Rattle.up_sign.proofs.Written.{separator_after}
+use Rattle.up_sign.proofs.writing.push_signatures.Given as goal
+
+-- a bracket and the signatures so far stand behind what stood there
+abbrev pub invariant-loop-signature : goal.invariant-loop-signature
+invariant-loop-signature l = record {
+  written : l.out.bytes.items ≡ l.fn.out.bytes.items ++ 91 ∷ join_with_byte 44 (map (λ s. text (signature_value s)) (take l.signature-index l.signatures));
+  separator : l.separator ≡ separator_after (take l.signature-index l.signatures);
+}
