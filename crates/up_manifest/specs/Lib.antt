@@ -1,2 +1,4 @@
 pub mod Provisional
 pub mod Manifests
+pub mod Meaning
+pub mod Laws

@@ -5,8 +5,10 @@ use Rattle.serde_json.specs.Data.{Data}
 use Rattle.serde_json.specs.Read.{read}
 use Rattle.up_canon.specs.Steps.{◌>>=◌, or_error, unless, each, value_of}
 use Rattle.up_canon.specs.declared.refusal.Refusal.{Refusal}
-use Rattle.up_canon.specs.declared.refusal.Refusal.TheVariants.{TooLarge, NotJson, BadShape}
-use Rattle.up_manifest.specs.Provisional.{count_in, list_in, object_in, ident_in, file_name_in, note_in, word_in, hex_in, moment_in, opened_in}
+use Rattle.up_canon.specs.declared.refusal.Refusal.TheVariants.{TooLarge, NotJson}
+use Rattle.up_canon.specs.Members.{count_in, object_in}
+use Rattle.up_canon.specs.Readers.{ident_in, file_name_in, note_in, word_in, positive_in, list_within}
+use Rattle.up_manifest.specs.Provisional.{hex_in, moment_in, opened_in}
 use Rattle.up_manifest.specs.declared.report.Installed.{Installed}
 use Rattle.up_manifest.specs.declared.report.Report.{Report}
 use Rattle.up_manifest.specs.declared.report.SignedReport.{SignedReport}
@@ -50,26 +52,14 @@ signed_report_in d = do
 
 -- ---- manifests
 
--- a counter from 1 on
-unfoldable pub manifest_counter_in : Data → Result ℕ Refusal
-manifest_counter_in payload = do
-  counter ← count_in (codes "counter") payload
-  is_positive ← unless (nat_le 1 counter) (BadShape (codes "counter"))
-  Ok counter
-
-unfoldable pub reports_in : Data → Result (List SignedReport) Refusal
-reports_in payload = do
-  listed ← list_in (codes "reports") payload
-  are_few ← unless (nat_le (length listed) most_reports) (BadShape (codes "reports"))
-  each signed_report_in listed
-
 unfoldable pub manifest_in : Data → Result Manifest Refusal
 manifest_in payload = do
   kind ← word_in (codes "manifest") (codes "type") payload
   vehicle ← ident_in (codes "vehicle") payload
   primary ← ident_in (codes "primary") payload
-  counter ← manifest_counter_in payload
-  reports ← reports_in payload
+  counter ← positive_in (codes "counter") payload
+  listed ← list_within 0 most_reports (codes "reports") payload
+  reports ← each signed_report_in listed
   Ok (record { vehicle = vehicle; primary = primary; counter = counter; reports = reports })
 
 -- ---- bodies

@@ -3,3 +3,17 @@
 
 pub mod manifest;
 pub mod report;
+
+ghost use Rattle.up_manifest.specs.Laws.{BodiesAreRead, BodiesMeanOneOrFail, SignedTextsMean};
+
+use up_canon::canonical_laws;
+
+/// A body means one manifest with its envelope, or nothing and then it has one first fault; and the text that the
+/// Primary signed has the whole manifest in it.
+pub fn body_laws()
+    ensures read { BodiesAreRead }
+    ensures one { BodiesMeanOneOrFail }
+    ensures signed { SignedTextsMean }
+{
+    canonical_laws();
+}
