@@ -1,1 +1,15 @@
+pub mod Keys
 pub mod Vehicles
+pub mod Commands
+pub mod State
+pub mod Files
+pub mod Replies
+pub mod Deciding
+pub mod Repositories
+pub mod Inventory
+pub mod Deliveries
+pub mod Machine
+pub mod Repeats
+pub mod Sound
+pub mod Rows
+pub mod Reads

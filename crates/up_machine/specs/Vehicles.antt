@@ -1,5 +1,5 @@
 -- Vehicles of the inventory: their ECUs, and the limits of one that is added.
-use Rattle.std.specs.Prelude.{ℕ, List, Bool, not, length, Option, Some, None, if◌then◌else◌, bytes_eq, codes}
+use Rattle.std.specs.Prelude.{ℕ, List, Bool, not, length, map, find, Option, Some, None, if◌then◌else◌, bytes_eq, codes}
 use Rattle.std.specs.List.{list_any}
 use Rattle.up_canon.specs.Names.{Name, is_from_to}
 use Rattle.up_machine.specs.declared.vehicle.NewEcu.{NewEcu}
@@ -13,6 +13,14 @@ pub record NewVehicleData : Type 0 where
 -- whether an ECU of the name is among these
 abbrev pub has_ecu : Name → List NewEcu → Bool
 has_ecu name ecus = list_any (λ e. bytes_eq e.ecu name) ecus
+
+-- the first ECU of the name
+abbrev pub ecu_in : List NewEcu → Name → Option NewEcu
+ecu_in ecus name = find (λ e. bytes_eq e.ecu name) ecus
+
+-- the identifiers, in inventory order
+abbrev pub ecu_names : List NewEcu → List Name
+ecu_names ecus = map (λ e. e.ecu) ecus
 
 -- 1 to 32 ECUs, the Primary among them; else the field that breaks it
 abbrev pub new_vehicle_fault : NewVehicleData → Option (List ℕ)

@@ -1,0 +1,64 @@
+-- Which keys fit: of the roles of a founding or a rotation, and of an ECU.
+use Rattle.std.specs.Prelude.{ℕ, ◌&&◌, List, Bool, length, map, is_none, ⊤, Result, codes}
+use Rattle.std.specs.List.{list_all}
+use Rattle.up_canon.specs.Names.{Name, is_from_to, first_repeated}
+use Rattle.up_canon.specs.Steps.{◌>>=◌, unless}
+use Rattle.up_canon.specs.declared.refusal.Refusal.{Refusal}
+use Rattle.up_canon.specs.declared.refusal.Refusal.TheVariants.{BadShape}
+use Rattle.up_sign.specs.Schemes.{Rules}
+use Rattle.up_sign.specs.Hmac.{key_id}
+use Rattle.up_machine.specs.declared.keys.RoleSecrets.{RoleSecrets}
+use Rattle.up_machine.specs.declared.keys.RepoKeys.{RepoKeys}
+use Rattle.up_machine.specs.declared.keys.KeySet.{KeySet}
+
+-- 1 to 256 bytes that the scheme takes as a secret
+abbrev pub secret_fits : Rules → List ℕ → Bool
+secret_fits k secret = is_from_to 1 256 (length secret) && k.secret_fits secret
+
+-- 1 to 256 bytes that the scheme takes as a public part
+abbrev pub public_fits : Rules → List ℕ → Bool
+public_fits k public = is_from_to 1 256 (length public) && k.public_fits public
+
+-- the identifier of a secret's public part
+abbrev pub identifier : Rules → List ℕ → Name
+identifier k secret = key_id (k.public_of secret)
+
+-- ---- the keys of a role
+
+-- 1 to 4 keys that fit, with distinct identifiers
+abbrev pub keys_fit : Rules → RoleSecrets → Bool
+keys_fit k role =
+    is_from_to 1 4 (length role.keys) && list_all (secret_fits k) role.keys && is_none (first_repeated (map (identifier k) role.keys))
+
+-- 1 to their number
+abbrev pub threshold_fits : RoleSecrets → Bool
+threshold_fits role = is_from_to 1 (length role.keys) role.threshold
+
+abbrev pub role_fits : Rules → RoleSecrets → Bool
+role_fits k role = keys_fit k role && threshold_fits role
+
+abbrev pub repository_fits : Rules → RepoKeys → Bool
+repository_fits k keys = role_fits k keys.root && role_fits k keys.targets && role_fits k keys.snapshot && role_fits k keys.timestamp
+
+-- the keys of both repositories
+abbrev pub key_set_fits : Rules → KeySet → Bool
+key_set_fits k keys = repository_fits k keys.director && repository_fits k keys.image
+
+-- ---- the first fault
+
+unfoldable pub check_role : Rules → RoleSecrets → Result ⊤ Refusal
+check_role k role = do
+  bad_keys ← unless (keys_fit k role) (BadShape (codes "keys"))
+  unless (threshold_fits role) (BadShape (codes "threshold"))
+
+unfoldable pub check_repository : Rules → RepoKeys → Result ⊤ Refusal
+check_repository k keys = do
+  bad_root ← check_role k keys.root
+  bad_targets ← check_role k keys.targets
+  bad_snapshot ← check_role k keys.snapshot
+  check_role k keys.timestamp
+
+unfoldable pub check_keys : Rules → KeySet → Result ⊤ Refusal
+check_keys k keys = do
+  bad_director ← check_repository k keys.director
+  check_repository k keys.image

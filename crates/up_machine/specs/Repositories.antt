@@ -1,0 +1,85 @@
+-- The decisions on both repositories' roots and on the register of images. Each check carries the name of its refusal, in the order of refusals.
+use Rattle.std.specs.Prelude.{ℕ, ◌+◌, ◌==◌, ◌&&◌, ◌++◌, [], ◌∷◌, Bool, not, nat_le, length, bytes_eq, Result, Ok}
+use Rattle.std.specs.Cmp.Lexicographic.{pointwise}
+use Rattle.std.specs.FinMap as table
+use Rattle.up_canon.specs.Names.{Name}
+use Rattle.up_canon.specs.Steps.{◌>>=◌, refuse_if, or_error}
+use Rattle.up_canon.specs.declared.refusal.Refusal.{Refusal}
+use Rattle.up_canon.specs.declared.refusal.Refusal.TheVariants.{AlreadyFounded, ImageTaken, RegisterFull, VersionNotGreater, UnknownFile, RootFull}
+use Rattle.up_sign.specs.Schemes.{Rules}
+use Rattle.up_roles.specs.declared.repository.Repository.{Repository}
+use Rattle.up_plan.specs.declared.image.Need.{Need}
+use Rattle.up_plan.specs.Images.{ImageData}
+use Rattle.up_machine.specs.declared.answer.Answer.TheVariants.{File}
+use Rattle.up_machine.specs.declared.keys.KeySet.{KeySet}
+use Rattle.up_machine.specs.Keys.{check_keys}
+use Rattle.up_machine.specs.State.{State}
+use Rattle.up_machine.specs.Files.{file}
+use Rattle.up_machine.specs.Deciding.{Outcome, done, where_new, check_moment, check_founded, check_version}
+
+-- ---- what changes
+
+-- new files of the image repository, with this version and moment
+abbrev pub stamped : State → ℕ → ℕ → State
+stamped s at version = record s { image_version = version; stamp = at }
+
+-- the next root version
+abbrev pub with_root : State → ℕ → KeySet → State
+with_root s at keys = record s { roots = s.roots ++ record { keys = keys; at = at } ∷ [] }
+
+abbrev pub with_image : State → ImageData → State
+with_image s image = record s { images = table.insert s.images image.file image }
+
+-- ---- equal images
+
+abbrev pub same_need : Need → Need → Bool
+same_need a b = bytes_eq a.hardware b.hardware && (a.release == b.release)
+
+abbrev pub same_image : ImageData → ImageData → Bool
+same_image a b =
+    bytes_eq a.file b.file && (a.length == b.length) && bytes_eq a.sha256 b.sha256 && pointwise bytes_eq a.hardware b.hardware
+    && (a.release == b.release) && pointwise same_need a.needs b.needs && pointwise bytes_eq a.conflicts b.conflicts
+
+-- ---- decisions
+
+unfoldable pub decide_found : Rules → State → ℕ → KeySet → Result Outcome Refusal
+decide_found k s at keys = do
+  moment_out_of_range ← check_moment at
+  bad_shape ← check_keys k keys
+  already_founded ← refuse_if (not (length s.roots == 0)) AlreadyFounded
+  Ok (done (stamped (with_root s at keys) at 1))
+
+unfoldable pub decide_rotate : Rules → State → ℕ → KeySet → Result Outcome Refusal
+decide_rotate k s at keys = do
+  moment_out_of_range ← check_moment at
+  bad_shape ← check_keys k keys
+  not_founded ← check_founded s
+  root_full ← refuse_if (nat_le 64 (length s.roots)) RootFull
+  version_limit ← check_version s
+  Ok (done (stamped (with_root s at keys) at (s.image_version + 1)))
+
+unfoldable pub decide_new_image : State → ℕ → ImageData → Result Outcome Refusal
+decide_new_image s at image = do
+  register_full ← refuse_if (nat_le 1024 (table.len s.images)) RegisterFull
+  version_limit ← check_version s
+  Ok (done (stamped (with_image s image) at (s.image_version + 1)))
+
+unfoldable pub decide_image : State → ℕ → ImageData → Result Outcome Refusal
+decide_image s at image = do
+  moment_out_of_range ← check_moment at
+  not_founded ← check_founded s
+  where_new s (same_image image) ImageTaken (table.get s.images image.file) (decide_new_image s at image)
+
+unfoldable pub decide_refresh : State → ℕ → ℕ → Result Outcome Refusal
+decide_refresh s at version = do
+  moment_out_of_range ← check_moment at
+  not_founded ← check_founded s
+  version_not_greater ← refuse_if (nat_le version s.image_version) VersionNotGreater
+  Ok (done (stamped s at version))
+
+unfoldable pub decide_fetch : Rules → State → ℕ → Repository → Name → Result Outcome Refusal
+decide_fetch k s at repository name = do
+  moment_out_of_range ← check_moment at
+  not_founded ← check_founded s
+  text ← or_error UnknownFile (file k s repository name)
+  Ok (record { answer = File text; next = s })

@@ -1,0 +1,42 @@
+-- The rows of a state: what is kept of it, one for each thing.
+use Rattle.std.specs.Prelude.{ℕ, Option, option_map, unwrap_or, length}
+use Rattle.up_canon.specs.Names.{Name}
+use Rattle.up_sign.specs.Schemes.{Rules}
+use Rattle.up_machine.specs.declared.rows.Founding.{Founding}
+use Rattle.up_machine.specs.declared.rows.VehicleRow.{VehicleRow}
+use Rattle.up_machine.specs.declared.rows.EcuRow.{EcuRow}
+use Rattle.up_machine.specs.declared.rows.Kept.{Kept}
+use Rattle.up_machine.specs.declared.vehicle.NewEcu.{NewEcu}
+use Rattle.up_machine.specs.State.{Entry, Vehicle, State, root_at, version, last_counter, last_report, installed_on}
+use Rattle.up_machine.specs.Replies.{reply_text}
+
+-- none before founding
+abbrev pub founding_row : State → Option Founding
+founding_row s = option_map (λ root. record { root = length s.roots; keys = root.keys; image_version = s.image_version; stamp = s.stamp }) (root_at s (length s.roots))
+
+abbrev pub vehicle_row : Name → Vehicle → VehicleRow
+vehicle_row name v = record { vehicle = name; primary = v.primary; version = version v.entries; last = last_counter v.entries }
+
+-- before a first report the counter is 0, and there is neither an image nor a signed text
+abbrev pub ecu_row : Vehicle → NewEcu → EcuRow
+ecu_row v e = record {
+  ecu = e.ecu;
+  hardware = e.hardware;
+  public = e.public;
+  installed = installed_on v e.ecu;
+  counter = unwrap_or (option_map (λ r. r.report.counter) (last_report v e.ecu)) 0;
+  report = option_map (λ r. r.envelope.signed) (last_report v e.ecu);
+}
+
+-- of the vehicle's entry of this number, counted from 1
+abbrev pub kept_row : Rules → State → Name → ℕ → Entry → Kept
+kept_row k s vehicle number e = record {
+  vehicle = vehicle;
+  counter = e.counter;
+  version = number;
+  at = e.at;
+  root = e.root;
+  signed = e.signed;
+  plan = e.plan;
+  reply = reply_text k s vehicle number e;
+}

@@ -1,0 +1,97 @@
+-- The state of the plain machine, and what is read off it. It holds nothing that can be computed from the rest of it.
+use Rattle.std.specs.Prelude.{ℕ, ◌-◌, ◌==◌, max, List, [], ◌∷◌, Bool, Option, None, option_map, option_and_then, if◌then◌else◌, length, find, bytes_eq, slice_get}
+use Rattle.std.specs.List.{list_any}
+use Rattle.std.specs.FinMap as table
+use Rattle.up_canon.specs.Names.{Name, Table}
+use Rattle.up_manifest.specs.declared.report.Installed.{Installed}
+use Rattle.up_manifest.specs.declared.report.SignedReport.{SignedReport}
+use Rattle.up_manifest.specs.declared.manifest.Manifest.{Manifest}
+use Rattle.up_manifest.specs.Manifests.{manifest_of}
+use Rattle.up_plan.specs.declared.assigned.Plan.{Plan}
+use Rattle.up_plan.specs.Campaigns.{CampaignData}
+use Rattle.up_plan.specs.Images.{ImageData}
+use Rattle.up_machine.specs.declared.keys.KeySet.{KeySet}
+use Rattle.up_machine.specs.declared.vehicle.NewEcu.{NewEcu}
+use Rattle.up_machine.specs.Vehicles.{has_ecu}
+
+-- ---- the state
+
+-- an accepted manifest: its counter and canonical signed text, the moment and the root version at that moment, and the plan
+pub record Entry : Type 0 where
+  pub counter : ℕ
+  pub signed : List ℕ
+  pub at : ℕ
+  pub root : ℕ
+  pub plan : Plan
+
+-- a vehicle of the inventory: its Primary, its ECUs in inventory order, and its accepted manifests in the order of acceptance
+pub record Vehicle : Type 0 where
+  pub primary : Name
+  pub ecus : List NewEcu
+  pub entries : List Entry
+
+-- a root version of both repositories: the keys and the moment
+pub record Root : Type 0 where
+  pub keys : KeySet
+  pub at : ℕ
+
+-- the i-th root is root version i; before founding there is none, and the image repository's version and stamp are 0
+pub record State : Type 0 where
+  pub roots : List Root
+  pub images : Table ImageData
+  pub image_version : ℕ
+  pub stamp : ℕ
+  pub campaigns : Table CampaignData
+  pub vehicles : Table Vehicle
+
+-- nothing is founded
+abbrev pub empty_state : State
+empty_state = record { roots = []; images = table.empty; image_version = 0; stamp = 0; campaigns = table.empty; vehicles = table.empty }
+
+-- the i-th, counted from 1
+abbrev pub nth : {A : Type 0} → List A → ℕ → Option A
+nth xs i = if i == 0 then None else slice_get xs (i - 1)
+
+-- root version i
+abbrev pub root_at : State → ℕ → Option Root
+root_at s i = nth s.roots i
+
+-- ---- a vehicle's version, last counter, plan and reports
+
+-- the vehicle's version: how many manifests were accepted
+abbrev pub version : List Entry → ℕ
+version entries = length entries
+
+-- the greatest counter, 0 before the first manifest
+abbrev pub last_counter : List Entry → ℕ
+last_counter [] = 0
+last_counter (e ∷ entries) = max e.counter (last_counter entries)
+
+-- the entry with the greatest counter
+abbrev pub newest : List Entry → Option Entry
+newest entries = find (λ e. e.counter == last_counter entries) entries
+
+-- what is assigned to the vehicle
+abbrev pub plan_for : Vehicle → Option Plan
+plan_for v = option_map (λ e. e.plan) (newest v.entries)
+
+-- the report of the ECU among these
+abbrev pub report_of : Name → List SignedReport → Option SignedReport
+report_of ecu reports = find (λ r. bytes_eq r.report.ecu ecu) reports
+
+abbrev pub last_manifest : List Entry → Option Manifest
+last_manifest entries = option_and_then (λ e. manifest_of e.signed) (newest entries)
+
+-- the report of the ECU that was accepted last
+unfoldable pub last_report : Vehicle → Name → Option SignedReport
+last_report v ecu = option_and_then (λ m. report_of ecu m.reports) (last_manifest v.entries)
+
+-- the image that the ECU reported last
+abbrev pub installed_on : Vehicle → Name → Option Installed
+installed_on v ecu = option_map (λ r. r.report.image) (last_report v ecu)
+
+-- ---- the inventory
+
+-- whether an ECU of the name stands in a vehicle
+abbrev pub is_recorded : State → Name → Bool
+is_recorded s ecu = list_any (λ v. has_ecu ecu v.ecus) (table.values s.vehicles)
