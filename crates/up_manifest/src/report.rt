@@ -37,9 +37,30 @@ pub struct Report {
     pub image: Installed,
 }
 
+impl Duplicate for Report {
+    fn copy(&self, alloc: Global) -> Result<Report, AllocError> {
+        Ok(Report {
+            ecu: self.ecu.copy(alloc)?,
+            counter: self.counter,
+            time: self.time,
+            attack: self.attack.copy(alloc)?,
+            image: self.image.copy(alloc)?,
+        })
+    }
+}
+
 /// A report with the envelope that its ECU signed.
 #[derive(Debug, Drop)]
 pub struct SignedReport {
     pub report: Report,
     pub envelope: Envelope,
+}
+
+impl Duplicate for SignedReport {
+    fn copy(&self, alloc: Global) -> Result<SignedReport, AllocError> {
+        Ok(SignedReport {
+            report: self.report.copy(alloc)?,
+            envelope: self.envelope.copy(alloc)?,
+        })
+    }
 }

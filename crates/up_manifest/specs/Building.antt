@@ -1,0 +1,91 @@
+-- Reports and manifests as they are written.
+use Rattle.std.specs.Prelude.{◌≡◌, ℕ, ◌≤◌, ◌<◌, ◌++◌, List, [], ◌∷◌, IsTrue, length, map, codes, decimal, slice_index, ⊤}
+use Rattle.serde_json.specs.Data.{Data, string}
+use Rattle.up_canon.specs.Build.{object_with, list_with, count_value, hex_value}
+use Rattle.up_canon.specs.Canon.{max_count, text, quoted}
+use Rattle.up_canon.specs.Moments.{last_moment, moment_text}
+use Rattle.up_canon.specs.Names.{is_ident, is_file_name, is_note}
+use Rattle.up_sign.specs.Envelopes.{sealed}
+use Rattle.up_sign.specs.Formats.{envelope_fits, envelope_text}
+use Rattle.up_sign.specs.Schemes.{Rules}
+use Rattle.up_sign.specs.declared.envelope.Envelope.{Envelope}
+use Rattle.up_manifest.specs.declared.report.Installed.{Installed}
+use Rattle.up_manifest.specs.declared.report.Report.{Report}
+use Rattle.up_manifest.specs.declared.report.SignedReport.{SignedReport}
+use Rattle.up_manifest.specs.declared.manifest.Manifest.{Manifest}
+use Rattle.up_manifest.specs.declared.manifest.Incoming.{Incoming}
+
+-- ---- reports
+
+abbrev pub hashes_value : List ℕ → Data
+hashes_value sha256 = object_with ((codes "sha256", hex_value sha256) ∷ [])
+
+abbrev pub installed_value : Installed → Data
+installed_value i = object_with ((codes "file", string i.file) ∷ (codes "hashes", hashes_value i.sha256) ∷ (codes "length", count_value i.length) ∷ [])
+
+abbrev pub report_value : Report → Data
+report_value r = object_with (
+    (codes "attack", string r.attack) ∷ (codes "counter", count_value r.counter) ∷ (codes "ecu", string r.ecu) ∷
+    (codes "image", installed_value r.image) ∷ (codes "time", string (moment_text r.time)) ∷ (codes "type", string (codes "report")) ∷ [])
+
+-- the canonical text of a report
+unfoldable pub report_text : Report → List ℕ
+report_text r = text (report_value r)
+
+-- the limits that the types of a report's members keep
+pub record ReportFits (r : Report) : Type 0 where
+  pub ecu : IsTrue (is_ident r.ecu)
+  pub counter : r.counter ≤ max_count
+  pub time : r.time ≤ last_moment
+  pub attack : IsTrue (is_note r.attack)
+  pub file : IsTrue (is_file_name r.image.file)
+  pub size : r.image.length ≤ max_count
+  pub sha256 : length r.image.sha256 ≡ 32
+  pub bytes : (i : ℕ) → slice_index r.image.sha256 i < 256
+
+-- an envelope with one signature over a report's text
+pub record IsReportEnvelope (e : Envelope) (r : Report) : Type 0 where
+  pub one : length e.signatures ≡ 1
+  pub limits : IsTrue (envelope_fits e)
+  pub signed : e.signed ≡ report_text r
+  pub fits : ReportFits r
+
+-- each envelope is that of the report at its place
+abbrev pub AreReportEnvelopes : List Envelope → List Report → Type 0
+AreReportEnvelopes [] [] = ⊤
+AreReportEnvelopes [] (r ∷ rs) = ⊥
+AreReportEnvelopes (e ∷ es) [] = ⊥
+AreReportEnvelopes (e ∷ es) (r ∷ rs) = IsReportEnvelope e r × AreReportEnvelopes es rs
+
+-- ---- manifests
+
+-- texts in a list, its closing bracket included; a comma stands before each but the first
+abbrev pub more_listed : List (List ℕ) → List ℕ
+more_listed [] = codes "]"
+more_listed (t ∷ ts) = codes "," ++ t ++ more_listed ts
+
+abbrev pub listed : List (List ℕ) → List ℕ
+listed [] = codes "[]"
+listed (t ∷ ts) = codes "[" ++ t ++ more_listed ts
+
+-- the text that a Primary signs, in which the reports' envelopes stand as they are
+unfoldable pub manifest_text : List ℕ → List ℕ → ℕ → List Envelope → List ℕ
+manifest_text vehicle primary counter reports =
+    codes "{\"counter\":" ++ decimal counter ++ codes ",\"primary\":" ++ quoted primary ++ codes ",\"reports\":" ++ listed (map envelope_text reports)
+    ++ codes ",\"type\":\"manifest\",\"vehicle\":" ++ quoted vehicle ++ codes "}"
+
+-- the reports with their envelopes
+abbrev pub signed_reports : List Report → List Envelope → List SignedReport
+signed_reports [] es = []
+signed_reports (r ∷ rs) [] = []
+signed_reports (r ∷ rs) (e ∷ es) = record { report = r; envelope = e } ∷ signed_reports rs es
+
+-- the manifest in the envelope that its Primary signs
+abbrev pub sealed_manifest : Rules → List ℕ → List ℕ → List ℕ → ℕ → List Envelope → Envelope
+sealed_manifest k secret vehicle primary counter reports = sealed k (secret ∷ []) (manifest_text vehicle primary counter reports)
+
+abbrev pub built : Rules → List ℕ → List ℕ → List ℕ → ℕ → List Report → List Envelope → Incoming
+built k secret vehicle primary counter rs es = record {
+  manifest = record { vehicle = vehicle; primary = primary; counter = counter; reports = signed_reports rs es };
+  envelope = sealed_manifest k secret vehicle primary counter es;
+}
