@@ -3,3 +3,4 @@ pub mod DayTexts
 pub mod Lists
 pub mod Plain
 pub mod CanonicalText
+pub mod Written

@@ -20,6 +20,7 @@ pub mod refusal;
 #[cfg(test)]
 mod tests;
 pub mod text;
+pub mod writing;
 
 ghost use Rattle.up_canon.specs.Canon.{CanonIsRead, CanonIsInjective};
 ghost use Rattle.up_canon.specs.Moments.{DayTextIsOfDate};
