@@ -1,5 +1,5 @@
 -- Levels, wanted images and plans, over the lists of registered images and of campaigns.
-use Rattle.std.specs.Prelude.{ℕ, ◌&&◌, ◌||◌, ◌==◌, ◌++◌, List, [], ◌∷◌, Bool, true, false, not, nat_lt, nat_le, Option, Some, None, option_map, unwrap_or, filter, flat_map, map, find, bytes_eq}
+use Rattle.std.specs.Prelude.{ℕ, ◌&&◌, ◌||◌, ◌==◌, ◌++◌, List, [], ◌∷◌, Bool, true, false, cond, not, nat_lt, nat_le, Option, Some, None, option_map, unwrap_or, filter, flat_map, map, find, bytes_eq}
 use Rattle.std.specs.List.{list_all, list_any, best_of}
 use Rattle.std.specs.Ordering.{nat_cmp, is_lt}
 use Rattle.std.specs.Cmp.Lexicographic.{slice_cmp}
@@ -58,6 +58,11 @@ offered images items hardware = filter (is_offered items hardware) images
 abbrev pub is_above : ImageData → ImageData → Bool
 is_above a b = nat_lt b.release a.release || ((a.release == b.release) && is_lt (slice_cmp nat_cmp a.file b.file))
 
+-- the greatest so far, and one more
+abbrev pub greater : Option ImageData → ImageData → ImageData
+greater None image = image
+greater (Some best) image = cond (is_above image best) image best
+
 abbrev pub greatest : List ImageData → Option ImageData
 greatest [] = None
 greatest (image ∷ images) = Some (best_of is_above image images)
@@ -94,7 +99,7 @@ is_met set need = list_all (λ r. not (bytes_eq r.hardware need.hardware) || nat
 
 -- no ECU has the file
 abbrev pub is_apart : List Resulting → Name → Bool
-is_apart set file = not (list_any (λ r. bytes_eq r.file file) set)
+is_apart set file = list_all (λ r. not (bytes_eq r.file file)) set
 
 -- an image's needs that aren't met, and then its conflicts
 abbrev pub unmet_by : List Resulting → Name → Option ImageData → List Cause

@@ -5,3 +5,7 @@ pub mod assigned;
 pub mod campaign;
 pub mod image;
 mod names;
+pub mod plan;
+mod resulting;
+mod unmet;
+mod wanted;

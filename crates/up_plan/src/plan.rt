@@ -1,0 +1,68 @@
+//! Which images a vehicle gets.
+ghost use Rattle.std.specs.Prelude.{◌≡◌, IfOk};
+ghost use Rattle.up_plan.specs.Planning.{plan_from, plan_of, updates as updates_of};
+
+use crate::assigned::{Assigned, Fitted, Plan};
+use crate::campaign::Campaign;
+use crate::image::Image;
+use crate::resulting::{Resulting, resulting_set};
+use crate::unmet::first_unmet;
+use crate::wanted::items_for;
+use std::alloc::{AllocError, Global};
+use up_canon::ident::Ident;
+use up_canon::listed::{Duplicate, Listed};
+
+/// The plan for a vehicle's ECUs, which are given in inventory order with the images that they report: each ECU's wanted
+/// image where all needs and conflicts of the resulting set are met, else none and the first that isn't. Nothing is
+/// assigned or withheld where no ECU has a wanted image.
+#[tactic(auto, unfolding(crate::specs::Planning::plan_of))]
+pub fn plan(
+    alloc: Global,
+    images: &[Image],
+    campaigns: &[Campaign],
+    vehicle: &Ident,
+    fitted: &[Fitted],
+) -> Result<Plan, AllocError>
+    ensures { IfOk result (λ p. p ≡ plan_of images.now campaigns.now vehicle.now fitted.now) }
+{
+    let items = items_for(alloc, campaigns, vehicle)?;
+    let set = resulting_set(alloc, images, items.as_slice(), fitted)?;
+    plan_for(alloc, set.as_slice())
+}
+
+fn plan_for(alloc: Global, set: &[Resulting]) -> Result<Plan, AllocError>
+    ensures { IfOk result (λ p. p ≡ plan_from set.now) }
+{
+    let assigned = updates(alloc, set)?;
+    if assigned.is_empty() {
+        return Ok(Plan {
+            assigned: Listed::new(assigned),
+            withheld: None,
+        });
+    }
+    match first_unmet(alloc, set)? {
+        None => Ok(Plan {
+            assigned: Listed::new(assigned),
+            withheld: None,
+        }),
+        Some(cause) => Ok(Plan {
+            assigned: Listed::new(Vec::new(alloc)),
+            withheld: Some(cause),
+        }),
+    }
+}
+
+fn updates(alloc: Global, set: &[Resulting]) -> Result<Vec<Assigned>, AllocError>
+    ensures { IfOk result (λ assigned. assigned.items ≡ updates_of set.now) }
+{
+    let mut assigned = Vec::new(alloc);
+    for r in set {
+        if r.updated {
+            assigned.push(Assigned {
+                ecu: r.ecu.copy(alloc)?,
+                file: r.file.copy(alloc)?,
+            })?;
+        }
+    }
+    Ok(assigned)
+}
