@@ -3,3 +3,4 @@ pub mod HmacLaws
 pub mod Schemes
 pub mod Envelopes
 pub mod Formats
+pub mod Reading
