@@ -1,5 +1,7 @@
 pub mod CanonLaws
-pub mod DayTexts
+pub mod Days
+pub mod MomentTexts
+pub mod MomentForm
 pub mod Lists
 pub mod Plain
 pub mod CanonicalText

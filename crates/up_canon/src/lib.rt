@@ -23,15 +23,9 @@ pub mod text;
 pub mod writing;
 
 ghost use Rattle.up_canon.specs.Canon.{CanonIsRead, CanonIsInjective};
-ghost use Rattle.up_canon.specs.Moments.{DayTextIsOfDate};
 
 /// A canonical text is read as its value, and so no two values share one.
 pub fn canonical_laws()
     ensures read { CanonIsRead }
     ensures injective { CanonIsInjective }
-{}
-
-/// The days' texts are those of the calendar.
-pub fn day_texts()
-    ensures { DayTextIsOfDate }
 {}

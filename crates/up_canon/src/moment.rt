@@ -1,7 +1,7 @@
 //! Moments: whole seconds since 1970-01-01T00:00:00Z.
-ghost use Rattle.std.specs.Prelude.{◌≡◌, ◌++◌, ◌∷◌, [], ◌<◌, ◌≤◌, ◌≤ℤ◌, ◌+◌, pos, IfOk, MatchOption, string_bytes};
+ghost use Rattle.std.specs.Prelude.{◌≡◌, ◌++◌, ◌∷◌, [], ◌<◌, ◌≤◌, ◌≤ℤ◌, ◌+◌, ◌*◌, pos, length, if◌then◌else◌, true, Some, None, IfOk, MatchOption, string_bytes};
 ghost use Rattle.jiff.specs.Words.{epoch_day, iso_datetime_text};
-ghost use Rattle.up_canon.specs.Moments.{last_moment, moment_text};
+ghost use Rattle.up_canon.specs.Moments.{last_moment, moment_text, read_moment, day_number, is_date, is_time, has_form as has_form_of, fits_sign as fits_sign_of, two_digits as two_digits_of, DayIsOfCalendar, PartsAreOfDate, MomentTextIsPlain, MomentsAreRead, OnlyTextsAreRead, PartsAreRead};
 
 use jiff::ToSpan;
 use jiff::civil::{Date, DateTime, date};
@@ -57,6 +57,28 @@ impl Moment {
         }
     }
 
+    /// The moment whose text it is, or none where it is no moment's text: 20 bytes
+    /// `YYYY-MM-DDTHH:MM:SSZ` with a date from 1970 on that exists, the hour to 23, and the minute
+    /// and the second to 59.
+    pub fn read(text: &str) -> Option<Moment>
+        ensures { result ≡ read_moment text.now }
+    {
+        let bytes = text.as_bytes();
+        if !has_form(bytes) {
+            return None;
+        }
+        let year = two_digits(bytes, 0) * 100 + two_digits(bytes, 2);
+        let midnight = midnight_of(year, two_digits(bytes, 5), two_digits(bytes, 8))?;
+        let passed = seconds_of(
+            two_digits(bytes, 11),
+            two_digits(bytes, 14),
+            two_digits(bytes, 17),
+        )?;
+        Some(Moment {
+            second: midnight + passed,
+        })
+    }
+
     /// The text by RFC 3339, at UTC and in whole seconds, as `2026-01-01T00:00:00Z`.
     pub fn text(&self, alloc: Global) -> Result<String, AllocError>
         ensures { IfOk result (λ text. string_bytes text ≡ moment_text self.now) }
@@ -71,26 +93,110 @@ fn shown_at(second: u64) -> DateTime
     requires { second ≤ last_moment }
     ensures { iso_datetime_text result ++ 90 ∷ [] ≡ moment_text second }
 {
-    let of_day = second % 86400;
     date_of((second / 86400) as i64).at(
-        (of_day / 3600) as i8,
-        (of_day / 60 % 60) as i8,
-        (of_day % 60) as i8,
+        (second / 3600 % 24) as i8,
+        (second / 60 % 60) as i8,
+        (second % 60) as i8,
         0,
     )
 }
 
-/// The date that many days after 1970-01-01.
+/// The date of moment 0.
+fn epoch() -> Date
+    ensures { epoch_day result ≡ pos 0 }
+{
+    date(1970, 1, 1)
+}
+
+/// The date that many days after it.
 fn date_of(day: i64) -> Date
     requires low { pos 0 ≤ℤ day }
     requires high { day ≤ℤ pos 2_932_896 }
     ensures { epoch_day result ≡ day }
 {
-    match date(1970, 1, 1).checked_add(day.days()) {
+    match epoch().checked_add(day.days()) {
         Ok(date) => date,
         Err(_) => unreachable!(),
     }
 }
+
+/// Whether digits and signs stand where they do in a moment's text.
+fn has_form(bytes: &[u8]) -> bool
+    ensures form { result ≡ has_form_of bytes.now }
+    ensures long { result ≡ true → length bytes.now ≡ 20 }
+{
+    let form = b"0000-00-00T00:00:00Z";
+    if bytes.len() != 20 {
+        return false;
+    }
+    for i in 0..20 {
+        if !fits_sign(form[i], bytes[i]) {
+            return false;
+        }
+    }
+    true
+}
+
+/// Whether the byte may stand where the form has the sign, which has 0 for any digit.
+fn fits_sign(sign: u8, byte: u8) -> bool
+    ensures { result ≡ fits_sign_of sign byte }
+{
+    if sign == b'0' {
+        byte.is_ascii_digit()
+    } else {
+        byte == sign
+    }
+}
+
+/// The number that the two digits at that place spell.
+fn two_digits(bytes: &[u8], place: usize) -> u64
+    requires { place + 1 < length bytes.now }
+    ensures value { result ≡ two_digits_of bytes.now place }
+    ensures bound { result < 2300 }
+{
+    let tens = bytes[place].saturating_sub(b'0') as u64;
+    let ones = bytes[place + 1].saturating_sub(b'0') as u64;
+    tens * 10 + ones
+}
+
+/// The first second of the date, or none where there is no such date from 1970 on.
+fn midnight_of(year: u64, month: u64, day: u64) -> Option<u64>
+    ensures { result ≡ (if is_date year month day then Some (day_number year month day * 86400) else None) }
+{
+    if year < 1970 || year > 9999 || month > 12 || day > 31 {
+        return None;
+    }
+    match Date::new(year as i16, month as i8, day as i8) {
+        Ok(found) => Some(found.duration_since(epoch()).as_secs() as u64),
+        Err(_) => None,
+    }
+}
+
+/// The seconds of a day before that time, or none where no clock shows it.
+fn seconds_of(hour: u64, minute: u64, second: u64) -> Option<u64>
+    ensures { result ≡ (if is_time hour minute second then Some (hour * 3600 + minute * 60 + second) else None) }
+{
+    if hour < 24 && minute < 60 && second < 60 {
+        Some(hour * 3600 + minute * 60 + second)
+    } else {
+        None
+    }
+}
+
+/// Days since 1970-01-01 and dates are those of the calendar.
+pub fn calendar_laws()
+    ensures day { DayIsOfCalendar }
+    ensures parts { PartsAreOfDate }
+{}
+
+/// A moment's text is 20 bytes of printable ASCII. It is read as the moment, whatever date from
+/// 1970 on and time it shows, and nothing else is read.
+pub fn moment_laws()
+    ensures plain { MomentTextIsPlain }
+    ensures read { MomentsAreRead }
+    ensures only { OnlyTextsAreRead }
+    ensures parts { PartsAreRead }
+{}
 
 #[cfg(test)]
 mod tests {
@@ -111,11 +217,49 @@ mod tests {
         (253402300799, "9999-12-31T23:59:59Z"),
     ];
 
+    const UNREAD: [&str; 23] = [
+        "2026-02-29T00:00:00Z",
+        "2026-01-01T24:00:00Z",
+        "1900-02-28T00:00:00Z",
+        "1900-02-29T00:00:00Z",
+        "2100-02-29T00:00:00Z",
+        "1969-12-31T23:59:59Z",
+        "9999-12-31T23:59:60Z",
+        "2026-01-01T00:60:00Z",
+        "2026-04-31T00:00:00Z",
+        "2026-13-01T00:00:00Z",
+        "2026-00-01T00:00:00Z",
+        "2026-01-00T00:00:00Z",
+        "2026-01-32T00:00:00Z",
+        "2026-01-01T00:00:00z",
+        "2026-01-01t00:00:00Z",
+        "2026-01-01 00:00:00Z",
+        "2026-01-01T00:00:00",
+        "2026-01-01T00:00:00ZZ",
+        "+026-01-01T00:00:00Z",
+        "2026-01-01T0 :00:00Z",
+        "2026-01-01T00:00:0:Z",
+        "2026-01-01T00-00-00Z",
+        "",
+    ];
+
     #[test]
     fn texts(rt: HostRuntime) -> Result<(), Fail> {
         for (second, shown) in SHOWN.iter() {
             let moment = Moment::new(*second).ok_or("past the last moment")?;
             assert_eq!(rt; moment.text(rt.alloc())?.as_str(), *shown);
+        }
+        Ok(())
+    }
+
+    #[test]
+    fn reads(rt: HostRuntime) -> Result<(), Fail> {
+        for (second, shown) in SHOWN.iter() {
+            let moment = Moment::read(*shown).ok_or("no moment")?;
+            assert_eq!(rt; moment.get(), *second);
+        }
+        for text in UNREAD.iter() {
+            assert!(rt; Moment::read(*text).is_none(), "{text}");
         }
         Ok(())
     }
