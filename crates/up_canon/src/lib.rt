@@ -17,6 +17,7 @@ pub mod name_readings;
 pub mod note;
 pub mod readers;
 pub mod refusal;
+pub mod refusal_text;
 #[cfg(test)]
 mod tests;
 pub mod text;

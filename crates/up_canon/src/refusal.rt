@@ -1,7 +1,8 @@
 //! Refusals: what a call answers in place of a value, and why.
 use crate::count::Count;
 use crate::ident::Ident;
-use std::alloc::{AllocError, AllocFailed};
+use crate::listed::Duplicate;
+use std::alloc::{AllocError, AllocFailed, Global};
 use std::marker::Model;
 
 /// The name of a member that is missing, of a wrong kind or outside its limits.
@@ -133,5 +134,49 @@ impl From<&'static str> for Refusal {
 
     fn from(name: &'static str) -> Self {
         Refusal::BadShape(Field::new(name))
+    }
+}
+
+impl Duplicate for Field {
+    fn copy(&self, _: Global) -> Result<Field, AllocError> {
+        Ok(Field { name: self.name })
+    }
+}
+
+impl Duplicate for Refusal {
+    fn copy(&self, alloc: Global) -> Result<Refusal, AllocError> {
+        match self {
+            Refusal::Memory => Ok(Refusal::Memory),
+            Refusal::Store => Ok(Refusal::Store),
+            Refusal::MomentOutOfRange => Ok(Refusal::MomentOutOfRange),
+            Refusal::TooLarge => Ok(Refusal::TooLarge),
+            Refusal::NotJson => Ok(Refusal::NotJson),
+            Refusal::NotCanonical => Ok(Refusal::NotCanonical),
+            Refusal::BadShape(field) => Ok(Refusal::BadShape(field.copy(alloc)?)),
+            Refusal::NotFounded => Ok(Refusal::NotFounded),
+            Refusal::AlreadyFounded => Ok(Refusal::AlreadyFounded),
+            Refusal::UnknownVehicle => Ok(Refusal::UnknownVehicle),
+            Refusal::WrongPrimary => Ok(Refusal::WrongPrimary),
+            Refusal::BadManifestSignature => Ok(Refusal::BadManifestSignature),
+            Refusal::Stale(last) => Ok(Refusal::Stale(*last)),
+            Refusal::UnknownEcu(ecu) => Ok(Refusal::UnknownEcu(ecu.copy(alloc)?)),
+            Refusal::DuplicateEcu(ecu) => Ok(Refusal::DuplicateEcu(ecu.copy(alloc)?)),
+            Refusal::MissingEcu(ecu) => Ok(Refusal::MissingEcu(ecu.copy(alloc)?)),
+            Refusal::BadReportSignature(ecu) => Ok(Refusal::BadReportSignature(ecu.copy(alloc)?)),
+            Refusal::ReportReplayed(ecu) => Ok(Refusal::ReportReplayed(ecu.copy(alloc)?)),
+            Refusal::ImageTaken => Ok(Refusal::ImageTaken),
+            Refusal::RegisterFull => Ok(Refusal::RegisterFull),
+            Refusal::VersionLimit => Ok(Refusal::VersionLimit),
+            Refusal::VehicleTaken => Ok(Refusal::VehicleTaken),
+            Refusal::EcuTaken(ecu) => Ok(Refusal::EcuTaken(ecu.copy(alloc)?)),
+            Refusal::CampaignTaken => Ok(Refusal::CampaignTaken),
+            Refusal::UnknownCampaign => Ok(Refusal::UnknownCampaign),
+            Refusal::UnknownImage => Ok(Refusal::UnknownImage),
+            Refusal::WrongHardware => Ok(Refusal::WrongHardware),
+            Refusal::VersionNotGreater => Ok(Refusal::VersionNotGreater),
+            Refusal::UnknownFile => Ok(Refusal::UnknownFile),
+            Refusal::RootFull => Ok(Refusal::RootFull),
+            Refusal::PrimaryFixed => Ok(Refusal::PrimaryFixed),
+        }
     }
 }
