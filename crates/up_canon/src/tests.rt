@@ -89,79 +89,101 @@ fn assert_printed(
     Ok(())
 }
 
+// The refusals without a value, as they are printed.
+const BARE: [&str; 23] = [
+    "1 Memory",
+    "2 Store",
+    "3 MomentOutOfRange",
+    "4 TooLarge",
+    "5 NotJson",
+    "6 NotCanonical",
+    "8 NotFounded",
+    "9 AlreadyFounded",
+    "10 UnknownVehicle",
+    "11 WrongPrimary",
+    "12 BadManifestSignature",
+    "19 ImageTaken",
+    "20 RegisterFull",
+    "21 VersionLimit",
+    "22 VehicleTaken",
+    "24 CampaignTaken",
+    "25 UnknownCampaign",
+    "26 UnknownImage",
+    "27 WrongHardware",
+    "28 VersionNotGreater",
+    "29 UnknownFile",
+    "30 RootFull",
+    "31 PrimaryFixed",
+];
+
+fn bare(place: usize) -> Refusal {
+    match place {
+        0 => Refusal::Memory,
+        1 => Refusal::Store,
+        2 => Refusal::MomentOutOfRange,
+        3 => Refusal::TooLarge,
+        4 => Refusal::NotJson,
+        5 => Refusal::NotCanonical,
+        6 => Refusal::NotFounded,
+        7 => Refusal::AlreadyFounded,
+        8 => Refusal::UnknownVehicle,
+        9 => Refusal::WrongPrimary,
+        10 => Refusal::BadManifestSignature,
+        11 => Refusal::ImageTaken,
+        12 => Refusal::RegisterFull,
+        13 => Refusal::VersionLimit,
+        14 => Refusal::VehicleTaken,
+        15 => Refusal::CampaignTaken,
+        16 => Refusal::UnknownCampaign,
+        17 => Refusal::UnknownImage,
+        18 => Refusal::WrongHardware,
+        19 => Refusal::VersionNotGreater,
+        20 => Refusal::UnknownFile,
+        21 => Refusal::RootFull,
+        _ => Refusal::PrimaryFixed,
+    }
+}
+
 #[test]
 fn bare_refusals(rt: HostRuntime) -> Result<(), Fail> {
-    let rows = [
-        (Refusal::Memory, "1 Memory"),
-        (Refusal::Store, "2 Store"),
-        (Refusal::MomentOutOfRange, "3 MomentOutOfRange"),
-        (Refusal::TooLarge, "4 TooLarge"),
-        (Refusal::NotJson, "5 NotJson"),
-        (Refusal::NotCanonical, "6 NotCanonical"),
-        (Refusal::NotFounded, "8 NotFounded"),
-        (Refusal::AlreadyFounded, "9 AlreadyFounded"),
-        (Refusal::UnknownVehicle, "10 UnknownVehicle"),
-        (Refusal::WrongPrimary, "11 WrongPrimary"),
-        (Refusal::BadManifestSignature, "12 BadManifestSignature"),
-        (Refusal::ImageTaken, "19 ImageTaken"),
-        (Refusal::RegisterFull, "20 RegisterFull"),
-        (Refusal::VersionLimit, "21 VersionLimit"),
-        (Refusal::VehicleTaken, "22 VehicleTaken"),
-        (Refusal::CampaignTaken, "24 CampaignTaken"),
-        (Refusal::UnknownCampaign, "25 UnknownCampaign"),
-        (Refusal::UnknownImage, "26 UnknownImage"),
-        (Refusal::WrongHardware, "27 WrongHardware"),
-        (Refusal::VersionNotGreater, "28 VersionNotGreater"),
-        (Refusal::UnknownFile, "29 UnknownFile"),
-        (Refusal::RootFull, "30 RootFull"),
-        (Refusal::PrimaryFixed, "31 PrimaryFixed"),
-    ];
-    for (refusal, printed) in rows {
-        assert_printed(&rt, rt.alloc(), &refusal, printed)?;
+    for (place, wanted) in BARE.iter().enumerate() {
+        assert_printed(&rt, rt.alloc(), &bare(place), wanted)?;
     }
     Ok(())
+}
+
+// The refusals with a value, as they are printed.
+const VALUED: [&str; 8] = [
+    "7 BadShape signatures",
+    "13 Stale 9007199254740991",
+    "14 UnknownEcu S2",
+    "15 DuplicateEcu S2",
+    "16 MissingEcu S2",
+    "17 BadReportSignature S2",
+    "18 ReportReplayed S2",
+    "23 EcuTaken S2",
+];
+
+fn valued(place: usize, last: Count, ecu: Ident) -> Refusal {
+    match place {
+        0 => Refusal::BadShape(Field::new("signatures")),
+        1 => Refusal::Stale(last),
+        2 => Refusal::UnknownEcu(ecu),
+        3 => Refusal::DuplicateEcu(ecu),
+        4 => Refusal::MissingEcu(ecu),
+        5 => Refusal::BadReportSignature(ecu),
+        6 => Refusal::ReportReplayed(ecu),
+        _ => Refusal::EcuTaken(ecu),
+    }
 }
 
 #[test]
-fn refusals_with_a_value(rt: HostRuntime) -> Result<(), Fail> {
+fn valued_refusals(rt: HostRuntime) -> Result<(), Fail> {
     let last = Count::new(9007199254740991).ok_or("no count")?;
-    let rows = [
-        (
-            Refusal::BadShape(Field::new("signatures")),
-            "7 BadShape signatures",
-        ),
-        (Refusal::Stale(last), "13 Stale 9007199254740991"),
-        (
-            Refusal::UnknownEcu(ident(rt.alloc(), "X9")?),
-            "14 UnknownEcu X9",
-        ),
-        (
-            Refusal::DuplicateEcu(ident(rt.alloc(), "P2")?),
-            "15 DuplicateEcu P2",
-        ),
-        (
-            Refusal::MissingEcu(ident(rt.alloc(), "S2")?),
-            "16 MissingEcu S2",
-        ),
-        (
-            Refusal::BadReportSignature(ident(rt.alloc(), "S2")?),
-            "17 BadReportSignature S2",
-        ),
-        (
-            Refusal::ReportReplayed(ident(rt.alloc(), "S2")?),
-            "18 ReportReplayed S2",
-        ),
-        (
-            Refusal::EcuTaken(ident(rt.alloc(), "P1")?),
-            "23 EcuTaken P1",
-        ),
-    ];
-    for (refusal, printed) in rows {
-        assert_printed(&rt, rt.alloc(), &refusal, printed)?;
+    let ecu = Ident::new("S2".to_string(rt.alloc())?).ok_or("no identifier")?;
+    for (place, wanted) in VALUED.iter().enumerate() {
+        let refusal = valued(place, last, ecu.copy(rt.alloc())?);
+        assert_printed(&rt, rt.alloc(), &refusal, wanted)?;
     }
     Ok(())
-}
-
-fn ident(alloc: Global, text: &str) -> Result<Ident, Fail> {
-    Ok(Ident::new(text.to_string(alloc)?).ok_or("no identifier")?)
 }
