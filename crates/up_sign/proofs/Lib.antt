@@ -1,3 +1,4 @@
 pub mod Arrays
 pub mod Written
 pub mod Read
+pub mod Sealed

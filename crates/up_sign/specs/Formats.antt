@@ -6,16 +6,21 @@ use Rattle.serde_json.specs.Find.{as_object}
 use Rattle.up_canon.specs.Build.{object_with, list_with, hex_value}
 use Rattle.up_canon.specs.Canon.{text, canon}
 use Rattle.up_canon.specs.Names.{is_from_to, is_short_text}
+use Rattle.up_sign.specs.Schemes.{is_byte}
 use Rattle.up_sign.specs.declared.envelope.Signature.{Signature}
 use Rattle.up_sign.specs.declared.envelope.Envelope.{Envelope}
 
 -- ---- limits
 
 abbrev pub signature_fits : Signature → Bool
-signature_fits s = is_short_text 1 128 s.keyid && is_short_text 1 64 s.method && is_from_to 1 512 (length s.sig)
+signature_fits s = is_short_text 1 128 s.keyid && (is_short_text 1 64 s.method && is_from_to 1 512 (length s.sig))
 
 abbrev pub envelope_fits : Envelope → Bool
 envelope_fits e = is_from_to 1 8 (length e.signatures) && list_all signature_fits e.signatures
+
+-- whose signatures are bytes
+abbrev pub has_bytes : Envelope → Bool
+has_bytes e = list_all (λ s. list_all is_byte s.sig) e.signatures
 
 abbrev pub is_object : Data → Bool
 is_object d = is_some (as_object d)

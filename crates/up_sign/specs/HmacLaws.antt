@@ -1,14 +1,33 @@
 -- HMAC over SHA-256 keeps the laws of a scheme.
-use Rattle.std.proofs.Common.{◌≡◌, ℕ, List, length, refl, arith}
-use Rattle.std.specs.Prelude.{IsTrue, bytes_eq}
+use Rattle.std.proofs.Common.{◌≡◌, ℕ, zero, suc, List, true, length, refl, ap₂, ◌∙◌, arith}
+use Rattle.std.specs.Prelude.{◌&&◌, IsTrue, bytes_eq, slice_index}
+use Rattle.std.specs.List.{list_all}
+use Rattle.std.specs.Int.{bytes_high_first}
+use Rattle.std.proofs.lemmas.Bool.Decides.{nat_tests}
+use Rattle.std.proofs.lemmas.List.Folds.{list_all-append}
 use Rattle.std.specs.Cmp.Lexicographic.{bytes_decides}
+use Rattle.sha2.specs.Sha256.{sha256, digest_bytes}
 use Rattle.sha2.proofs.Facts256.{length-sha256}
-use Rattle.up_sign.specs.Schemes.{IsScheme}
+use Rattle.up_sign.specs.Schemes.{is_byte, IsScheme}
 use Rattle.up_sign.specs.Hmac.{hmac, hmac_sha256}
 
-length-hmac : (k m : List ℕ) → length (hmac k m) ≡ 32
+pub length-hmac : (k m : List ℕ) → length (hmac k m) ≡ 32
 unfolding hmac
 length-hmac k m = length-sha256 _
+
+are_bytes-high_first : (k n : ℕ) → list_all is_byte (bytes_high_first k n) ≡ true
+are_bytes-high_first zero n = refl
+are_bytes-high_first (suc zero) n = grind (arith, nat_tests)
+are_bytes-high_first (suc (suc k)) n = grind (arith, nat_tests, are_bytes-high_first (suc k) n)
+
+are_bytes-digest : (h : List ℕ) (n : ℕ) → list_all is_byte (digest_bytes h n) ≡ true
+unfolding digest_bytes
+are_bytes-digest h zero = refl
+are_bytes-digest h (suc n) = list_all-append is_byte (digest_bytes h n) _ ∙ ap₂ (λ a b. a && b) (are_bytes-digest h n) (are_bytes-high_first 4 (slice_index h n))
+
+pub are_bytes-hmac : (k m : List ℕ) → list_all is_byte (hmac k m) ≡ true
+unfolding hmac sha256
+are_bytes-hmac k m = are_bytes-digest _ 8
 
 same_tag : (g : List ℕ) → IsTrue (bytes_eq g g)
 same_tag g = search ((bytes_decides g g).1 refl)
@@ -19,5 +38,6 @@ hmac_sha256_lawful = record {
   shown = λ p. refl;
   public_fits = λ s h. h;
   tag_length = λ s m h. (omega (arith, length-hmac s m), omega (arith, length-hmac s m));
+  tag_bytes = λ s m h. are_bytes-hmac s m;
   tag_is_valid = λ s m h. same_tag (hmac s m);
 }

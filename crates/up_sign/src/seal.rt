@@ -2,6 +2,7 @@
 ghost use Rattle.std.specs.Prelude.{◌≡◌, ◌≤◌, IsTrue, IfOk, length, string_bytes};
 ghost use Rattle.std.specs.List.{list_all};
 ghost use Rattle.up_sign.specs.Envelopes.{signature_of as signature_of_secret, sealed};
+ghost use Rattle.up_sign.specs.Formats.{envelope_fits};
 
 use crate::envelope::{Envelope, Signature};
 use crate::key_id::key_id_text;
@@ -20,7 +21,8 @@ pub fn seal<K: Scheme>(
 ) -> Result<Envelope, AllocError>
     requires fit { IsTrue (list_all (K.rules scheme.now).secret_fits secrets.now) }
     requires number { (1 ≤ length secrets.now) × (length secrets.now ≤ 8) }
-    ensures { IfOk result (λ e. e ≡ sealed (K.rules scheme.now) secrets.now (string_bytes signed)) }
+    ensures value { IfOk result (λ e. e ≡ sealed (K.rules scheme.now) secrets.now (string_bytes signed)) }
+    ensures limits { IfOk result (λ e. IsTrue (envelope_fits e)) }
 {
     let mut signatures = Vec::with_capacity(alloc, secrets.len())?;
     for secret in secrets.iter() {
