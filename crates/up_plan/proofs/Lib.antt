@@ -1,5 +1,12 @@
+pub mod Above
 pub mod Causes
 pub mod Distinct
+pub mod Due
+pub mod FirstUnmet
 pub mod Firsts
 pub mod Greatest
+pub mod Members
 pub mod Offers
+pub mod Orders
+pub mod PlanLaws
+pub mod Updates

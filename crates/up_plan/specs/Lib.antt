@@ -1,3 +1,4 @@
 pub mod Images
 pub mod Campaigns
 pub mod Planning
+pub mod Laws

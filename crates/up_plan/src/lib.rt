@@ -4,6 +4,7 @@
 pub mod assigned;
 pub mod campaign;
 pub mod image;
+pub mod laws;
 mod names;
 pub mod plan;
 mod resulting;
