@@ -1,9 +1,10 @@
--- Members within limits: names, short texts, counts from 1, hexadecimal text.
+-- Members within limits: names, short texts, counts from 1, moments.
 use Rattle.std.specs.Prelude.{ℕ, List, Bool, nat_le, length, bytes_eq, if◌then◌else◌, ⊤, Result, Ok, Err}
 use Rattle.serde_json.specs.Data.{Data}
 use Rattle.up_canon.specs.Members.{member_in, text_of, text_in, count_in, list_in}
+use Rattle.up_canon.specs.Moments.{read_moment}
 use Rattle.up_canon.specs.Names.{Name, is_from_to, is_ident, is_file_name, is_note, is_short_text}
-use Rattle.up_canon.specs.Steps.{◌>>=◌, unless}
+use Rattle.up_canon.specs.Steps.{◌>>=◌, or_error, unless}
 use Rattle.up_canon.specs.declared.refusal.Refusal.{Refusal}
 use Rattle.up_canon.specs.declared.refusal.Refusal.TheVariants.{BadShape}
 
@@ -68,3 +69,9 @@ unfoldable pub list_within : ℕ → ℕ → List ℕ → Data → Result (List 
 list_within least most name d = do
   items ← list_in name d
   fitting (λ ds. is_from_to least most (length ds)) name items
+
+-- the moment whose text it is
+unfoldable pub moment_in : List ℕ → Data → Result ℕ Refusal
+moment_in name d = do
+  text ← text_in name d
+  or_error (BadShape name) (read_moment text)

@@ -3,6 +3,7 @@
 
 pub mod bytes;
 pub mod canonical;
+pub mod compared;
 pub mod count;
 pub mod each;
 pub mod fields;

@@ -2,10 +2,11 @@
 ghost use Rattle.std.specs.Prelude.{◌≡◌, Ok, MatchResult};
 ghost use Rattle.up_canon.specs.Members.{IsFault, object_of_map, values_of};
 ghost use Rattle.up_canon.specs.Names.{is_short_text};
-ghost use Rattle.up_canon.specs.Readers.{word_in, short_text_in, positive_in, list_within};
+ghost use Rattle.up_canon.specs.Readers.{word_in, short_text_in, positive_in, moment_in, list_within};
 
 use crate::count::Count;
 use crate::fields::{count_at, list_at, text_at};
+use crate::moment::Moment;
 use crate::note::has_printable_bytes;
 use serde_json::{Map, Value};
 
@@ -56,6 +57,16 @@ pub fn positive_at(map: &Map<String, Value>, name: &'static str) -> Result<Count
     } else {
         Err(name)
     }
+}
+
+/// The moment of a member that is a moment's text, or its name.
+#[tactic(auto, unfolding(crate::specs::Readers::moment_in, crate::specs::Steps::and_then))]
+pub fn moment_at(map: &Map<String, Value>, name: &'static str) -> Result<Moment, &'static str>
+    ensures { MatchResult result
+        (λ moment. moment_in name.now (object_of_map map.now.entries) ≡ Ok moment)
+        (λ fault. IsFault (moment_in name.now (object_of_map map.now.entries)) name.now fault.now) }
+{
+    Moment::read(text_at(map, name)?).ok_or(name)
 }
 
 /// The list of a member of so many items, or its name.
