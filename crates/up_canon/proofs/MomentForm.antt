@@ -1,11 +1,11 @@
 -- What has the form of a moment's text is the text of the parts that its digits spell, and is read where they are those of a moment.
 use Rattle.std.proofs.Common.{◌≡◌, ℕ, ◌+◌, ◌-◌, ◌*◌, ◌/◌, ◌%◌, ◌<◌, ◌≤◌, ◌∷◌, [], List, Bool, true, false, refl, sym, ap, ◌∙◌, arith, None, Some, Option, subst}
-use Rattle.std.specs.Prelude.{codes, unwrap_or, nat_lt, ◌==◌, if◌then◌else◌}
+use Rattle.std.specs.Prelude.{codes, MatchOption, ◌≢◌, unwrap_or, nat_lt, ◌==◌, if◌then◌else◌}
 use Rattle.std.proofs.lemmas.Bool.{and_parts}
 use Rattle.std.proofs.lemmas.Bool.Decides.{nat_tests}
 use Rattle.std.proofs.lemmas.Option.{none-some}
 use Rattle.up_canon.specs.Moments.{last_moment, day_number, year_of, month_of, day_in_month, moment_text, parts_text, parts_moment, read_moment, two_digits, fits_sign, has_form, is_date, is_time}
-use Rattle.up_canon.proofs.MomentTexts.{only_texts_are_read, parts_are_read, moment_parts, IsParts, civil_bounds, digits_back}
+use Rattle.up_canon.proofs.MomentTexts.{only_texts_are_read, moments_are_read, parts_are_read, moment_parts, IsParts, civil_bounds, digits_back}
 use Rattle.up_canon.proofs.Days.{is_date_from, is_date_to}
 use lib.Pointwise.{pointwise_long}
 
@@ -180,3 +180,9 @@ all_read t y mo d h mi s midnight passed o q form e1 e2 e3 e4 e5 e6 date date_is
     let value : read_moment t ≡ Some (parts_moment y mo d h mi s) = rw (e1, e2, e3, e4, e5, e6) (read_spelled t passes) in
     let read = value ∙ ap Some sum in
     record { value = read; bound = (only_texts_are_read t (midnight + passed) read).0 }
+
+-- ---- what is read, said by the text
+
+pub exact_of : (t : List ℕ) (o : Option ℕ) → o ≡ read_moment t → MatchOption o ((m : ℕ) → m ≤ last_moment → t ≢ moment_text m) (λ m. t ≡ moment_text m)
+exact_of t None e = λ m h is. none-some _ (e ∙ ap read_moment is ∙ moments_are_read m h)
+exact_of t (Some m) e = (only_texts_are_read t m (sym e)).1

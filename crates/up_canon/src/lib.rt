@@ -2,6 +2,7 @@
 #![tactic(auto)]
 
 pub mod bytes;
+pub mod calendar;
 pub mod canonical;
 pub mod compared;
 pub mod count;
@@ -14,6 +15,7 @@ pub mod kinds;
 pub mod limits;
 pub mod listed;
 pub mod moment;
+mod moment_form;
 pub mod name_readings;
 pub mod note;
 pub mod readers;

@@ -1,10 +1,9 @@
 //! Moments: whole seconds since 1970-01-01T00:00:00Z.
-ghost use Rattle.std.specs.Prelude.{◌≡◌, ◌++◌, ◌∷◌, [], ◌<◌, ◌≤◌, ◌≤ℤ◌, ◌+◌, ◌*◌, pos, length, if◌then◌else◌, true, Some, None, IfOk, MatchOption, string_bytes};
-ghost use Rattle.jiff.specs.Words.{epoch_day, iso_datetime_text};
-ghost use Rattle.up_canon.specs.Moments.{last_moment, moment_text, read_moment, day_number, is_date, is_time, has_form as has_form_of, fits_sign as fits_sign_of, two_digits as two_digits_of, DayIsOfCalendar, PartsAreOfDate, MomentTextIsPlain, MomentsAreRead, OnlyTextsAreRead, PartsAreRead};
+ghost use Rattle.std.specs.Prelude.{◌≡◌, ◌≢◌, ℕ, ◌<◌, ◌≤◌, ◌+◌, IfOk, MatchOption, string_bytes};
+ghost use Rattle.up_canon.specs.Moments.{last_moment, moment_text, read_moment, MomentTextIsPlain, MomentsAreRead, OnlyTextsAreRead, PartsAreRead};
 
-use jiff::ToSpan;
-use jiff::civil::{Date, DateTime, date};
+use crate::calendar::{midnight_of, seconds_of, shown_at};
+use crate::moment_form::{has_form, two_digits};
 use std::alloc::{AllocError, Global};
 use std::marker::Model;
 
@@ -61,7 +60,8 @@ impl Moment {
     /// `YYYY-MM-DDTHH:MM:SSZ` with a date from 1970 on that exists, the hour to 23, and the minute
     /// and the second to 59.
     pub fn read(text: &str) -> Option<Moment>
-        ensures { result ≡ read_moment text.now }
+        ensures value { result ≡ read_moment text.now }
+        ensures exact { MatchOption result ((m : ℕ) → m ≤ last_moment → text.now ≢ moment_text m) (λ m. text.now ≡ moment_text m) }
     {
         let bytes = text.as_bytes();
         if !has_form(bytes) {
@@ -87,107 +87,6 @@ impl Moment {
         format!(in alloc; "{shown}Z")
     }
 }
-
-/// What a clock at UTC shows.
-fn shown_at(second: u64) -> DateTime
-    requires { second ≤ last_moment }
-    ensures { iso_datetime_text result ++ 90 ∷ [] ≡ moment_text second }
-{
-    date_of((second / 86400) as i64).at(
-        (second / 3600 % 24) as i8,
-        (second / 60 % 60) as i8,
-        (second % 60) as i8,
-        0,
-    )
-}
-
-/// The date of moment 0.
-fn epoch() -> Date
-    ensures { epoch_day result ≡ pos 0 }
-{
-    date(1970, 1, 1)
-}
-
-/// The date that many days after it.
-fn date_of(day: i64) -> Date
-    requires low { pos 0 ≤ℤ day }
-    requires high { day ≤ℤ pos 2_932_896 }
-    ensures { epoch_day result ≡ day }
-{
-    match epoch().checked_add(day.days()) {
-        Ok(date) => date,
-        Err(_) => unreachable!(),
-    }
-}
-
-/// Whether digits and signs stand where they do in a moment's text.
-fn has_form(bytes: &[u8]) -> bool
-    ensures form { result ≡ has_form_of bytes.now }
-    ensures long { result ≡ true → length bytes.now ≡ 20 }
-{
-    let form = b"0000-00-00T00:00:00Z";
-    if bytes.len() != 20 {
-        return false;
-    }
-    for i in 0..20 {
-        if !fits_sign(form[i], bytes[i]) {
-            return false;
-        }
-    }
-    true
-}
-
-/// Whether the byte may stand where the form has the sign, which has 0 for any digit.
-fn fits_sign(sign: u8, byte: u8) -> bool
-    ensures { result ≡ fits_sign_of sign byte }
-{
-    if sign == b'0' {
-        byte.is_ascii_digit()
-    } else {
-        byte == sign
-    }
-}
-
-/// The number that the two digits at that place spell.
-fn two_digits(bytes: &[u8], place: usize) -> u64
-    requires { place + 1 < length bytes.now }
-    ensures value { result ≡ two_digits_of bytes.now place }
-    ensures bound { result < 2300 }
-{
-    let tens = bytes[place].saturating_sub(b'0') as u64;
-    let ones = bytes[place + 1].saturating_sub(b'0') as u64;
-    tens * 10 + ones
-}
-
-/// The first second of the date, or none where there is no such date from 1970 on.
-fn midnight_of(year: u64, month: u64, day: u64) -> Option<u64>
-    ensures { result ≡ (if is_date year month day then Some (day_number year month day * 86400) else None) }
-{
-    if year < 1970 || year > 9999 || month > 12 || day > 31 {
-        return None;
-    }
-    match Date::new(year as i16, month as i8, day as i8) {
-        Ok(found) => Some(found.duration_since(epoch()).as_secs() as u64),
-        Err(_) => None,
-    }
-}
-
-/// The seconds of a day before that time, or none where no clock shows it.
-fn seconds_of(hour: u64, minute: u64, second: u64) -> Option<u64>
-    ensures { result ≡ (if is_time hour minute second then Some (hour * 3600 + minute * 60 + second) else None) }
-{
-    if hour < 24 && minute < 60 && second < 60 {
-        Some(hour * 3600 + minute * 60 + second)
-    } else {
-        None
-    }
-}
-
-/// Days since 1970-01-01 and dates are those of the calendar.
-pub fn calendar_laws()
-    ensures day { DayIsOfCalendar }
-    ensures parts { PartsAreOfDate }
-{}
 
 /// A moment's text is 20 bytes of printable ASCII. It is read as the moment, whatever date from
 /// 1970 on and time it shows, and nothing else is read.

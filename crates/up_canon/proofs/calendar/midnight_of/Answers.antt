@@ -4,7 +4,7 @@ use Rattle.jiff_core.specs.Date.{IsYmd}
 use Rattle.jiff_core.proofs.SignedLemmas.{signed_arith}
 use Rattle.up_canon.specs.Moments.{day_number}
 use Rattle.up_canon.proofs.Days.{is_date_true, epoch_day_is, seconds_since}
-use Rattle.up_canon.proofs.moment.midnight_of.Goals as goal
+use Rattle.up_canon.proofs.calendar.midnight_of.Goals as goal
 
 abbrev at : goal.After-as_secs → Type 0
 at c = to_z w64 (of_z w64 c.as_secs.result) ≡ pos (day_number c.args.year c.args.month c.args.day * 86_400)

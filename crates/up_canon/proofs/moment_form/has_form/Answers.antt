@@ -3,7 +3,7 @@ use Rattle.std.proofs.Math.ListN.{drop_of_length-le}
 use Rattle.std.specs.Prelude.{codes, ◌&&◌}
 use Rattle.std.specs.Cmp.Lexicographic.{pointwise}
 use Rattle.up_canon.specs.Moments.{fits_sign}
-use Rattle.up_canon.proofs.moment.has_form.Goals as goal
+use Rattle.up_canon.proofs.moment_form.has_form.Goals as goal
 
 abbrev signs : List ℕ
 signs = codes "0000-00-00T00:00:00Z"

@@ -2,7 +2,7 @@ use Rattle.std.proofs.Common.{◌≡◌, ◌/◌, pos, ◌∙◌, ap, arith}
 use Rattle.std.proofs.lemmas.Int.{ints}
 use Rattle.jiff.specs.Words.{epoch_day}
 use Rattle.up_canon.proofs.MomentTexts.{moment_texts}
-use Rattle.up_canon.proofs.moment.shown_at.Goals as goal
+use Rattle.up_canon.proofs.calendar.shown_at.Goals as goal
 
 pub returns : goal.returns
 returns c =

@@ -1,7 +1,7 @@
 use Rattle.std.proofs.Common.{◌∙◌, arith, FitsSigned, w64}
 use Rattle.std.proofs.lemmas.Int.{to_z-of_z}
 use Rattle.jiff.proofs.SpanFacts.{signed_arith, date_add-days, can_add-days}
-use Rattle.up_canon.proofs.moment.date_of.Goals as goal
+use Rattle.up_canon.proofs.calendar.date_of.Goals as goal
 
 pub returns : goal.returns
 returns c =

@@ -2,7 +2,7 @@ use Rattle.std.proofs.Common.{◌≡◌, length, drop}
 use Rattle.std.specs.Prelude.{codes}
 use Rattle.std.specs.Cmp.Lexicographic.{pointwise}
 use Rattle.up_canon.specs.Moments.{has_form, fits_sign}
-use Rattle.up_canon.proofs.moment.has_form.Given as goal
+use Rattle.up_canon.proofs.moment_form.has_form.Given as goal
 
 abbrev pub invariant-loop-i : goal.invariant-loop-i
 invariant-loop-i l = record {
