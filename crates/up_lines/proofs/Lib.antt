@@ -1,0 +1,5 @@
+pub mod Writes
+pub mod Cuts
+pub mod RunLaws
+pub mod Steps
+pub mod Ends

@@ -1,0 +1,258 @@
+-- How far a run has come, step by step.
+use Rattle.std.proofs.Common.{◌≡◌, ◌&&◌, not, Result, Ok, Err, OnOk, IfErr, IsErrAnd, inl, inr, ℕ, ◌+◌, ◌-◌, ◌<◌, ◌≤◌, Bool, true, false, List, [], ◌∷◌, ◌++◌, length, take, drop, get_or, take-append-drop, filter, refl, ap, sym, ◌∙◌, subst, arith, append_assoc, append-nil, length-append}
+use Rattle.std.specs.Prelude.{Option}
+use Rattle.std.specs.List.{list_all}
+use Rattle.std.specs.Io.KnownBytes.{Appends}
+use Rattle.std.proofs.KnownBytes.{Appends-trans}
+use Rattle.std.proofs.lemmas.Bool.{ne_eqb}
+use Rattle.std.proofs.lemmas.Grind.{common_steps}
+use Rattle.std.proofs.lemmas.Result.{err_from_is_err_and}
+use Rattle.std.proofs.lemmas.List.Elements.{filter-append}
+use Rattle.std.proofs.lemmas.List.Folds.{list_all-append}
+use Rattle.up_lines.specs.declared.progress.Progress.{Progress}
+use Rattle.up_lines.specs.Lines.{newline, most_lines, most_line_bytes, lines_of, is_short, fits, has_bytes, asked}
+use Rattle.up_lines.specs.declared.fault.Cause.{Cause}
+use Rattle.up_lines.specs.declared.fault.Cause.TheVariants.{Memory, Read, Write, TooLong}
+use Rattle.up_lines.specs.Runs.{Run, print, printed, Stopped, Tells}
+use Rattle.up_lines.specs.Progress.{Sofar, Closes, Fails, Takes, Stops, is_inside}
+use Rattle.up_lines.proofs.Cuts.{lines-line, lines-front, lines-front_whole, lines-some}
+use Rattle.up_lines.proofs.RunLaws.{has_bytes-long, is_short-le, is_short-gt, Run-append, Run-one, printed-append, filter-first, asked_among, asked-append, asked_none, fits-many, fits-long}
+
+-- the piece, in what was taken and the rest
+piece_split : (piece : List ℕ) (i : ℕ) → i < length piece → piece ≡ take i piece ++ get_or piece i 0 ∷ drop (i + 1) piece
+piece_split piece i below = sym (take-append-drop i piece) ∙ ap (λ l. take i piece ++ l) (grind (arith, common_steps))
+
+module _ {S : Type 0} (gives : S → List ℕ → List ℕ → S → Type 0) where
+  -- a line with bytes is ended
+  pub closes_some : (old new : Progress) (before after : S) (held holds : Option (List ℕ)) (line text : List ℕ)
+      → line ≡ old.line.items → 0 < length line → new.line.items ≡ [] → new.counted ≡ old.counted + 1 → new.answered ≡ old.answered + 1
+      → gives before line text after → Appends held holds (print text)
+      → Closes gives old before held new after holds
+  closes_some old new before after held holds line text same some emptied counted answered gave wrote = record {
+    answers = text ∷ [];
+    emptied = emptied;
+    counted_is = counted;
+    answered_is = answered;
+    run = subst (λ l. Run gives before (filter has_bytes (l ∷ [])) (text ∷ []) after) same (Run-one gives before after line text (has_bytes-long line some) gave);
+    wrote = subst (Appends held holds) (sym (append-nil (print text))) wrote;
+  }
+
+  -- the end of a line is taken
+  pub takes_end : (old new : Progress) (before after : S) (held holds : Option (List ℕ)) → old.counted < most_lines → Closes gives old before held new after holds
+      → Takes gives (newline ∷ []) old before held new after holds
+  takes_end old new before after held holds room closes = λ first empty came so.
+      let line = old.line.items in
+      let whole' : list_all is_short (line ∷ []) ≡ true = ap (λ t. t && true) (is_short-le line so.short) in
+      record {
+        whole = so.whole ++ line ∷ [];
+        answers = so.answers ++ closes.answers;
+        cut = λ ended more.
+            ap (lines_of ended) (append_assoc came (newline ∷ []) more)
+            ∙ so.cut ended (newline ∷ more)
+            ∙ ap (λ l. so.whole ++ l) (lines-line ended line more so.own_bytes)
+            ∙ sym (append_assoc so.whole (line ∷ []) (lines_of ended more))
+            ∙ ap (λ l. (so.whole ++ line ∷ []) ++ lines_of ended (l ++ more)) (sym closes.emptied);
+        own_bytes = ap (list_all is_inside) closes.emptied;
+        each_short = list_all-append is_short so.whole (line ∷ []) ∙ ap (λ t. t && list_all is_short (line ∷ [])) so.each_short ∙ whole';
+        counted_is = omega (arith, length-append so.whole (line ∷ []), so.counted_is, closes.counted_is);
+        few = omega (arith, closes.counted_is);
+        short = omega (arith, ap length closes.emptied);
+        none_past = λ _. closes.emptied;
+        bytes = omega (arith, so.bytes, so.short, closes.counted_is, ap length closes.emptied, length-append came (newline ∷ []));
+        run = subst (λ l. Run gives first l (so.answers ++ closes.answers) after) (sym (filter-append has_bytes so.whole (line ∷ [])))
+            (Run-append gives first before after (filter has_bytes so.whole) (filter has_bytes (line ∷ [])) so.answers closes.answers so.run closes.run);
+        answered_is = omega (arith, so.answered_is, closes.answered_is, length-append so.answers closes.answers);
+        wrote = subst (Appends empty holds) (sym (printed-append so.answers closes.answers)) (Appends-trans _ _ _ _ _ so.wrote closes.wrote);
+      }
+
+  -- a byte of a line's own is taken
+  pub takes_byte : (old new : Progress) (byte : ℕ) (now : S) (holds : Option (List ℕ)) → old.counted < most_lines → (length old.line.items ≡ most_line_bytes → ⊥) → is_inside byte ≡ true
+      → new.line.items ≡ old.line.items ++ byte ∷ [] → new.counted ≡ old.counted → new.answered ≡ old.answered
+      → Takes gives (byte ∷ []) old now holds new now holds
+  takes_byte old new byte now holds room not_full own grown counted answered = λ first empty came so.
+      let line = old.line.items in
+      let one_more : length new.line.items ≡ length line + 1 = omega (arith, ap length grown, length-append line (byte ∷ [])) in
+      record {
+        whole = so.whole;
+        answers = so.answers;
+        cut = λ ended more.
+            ap (lines_of ended) (append_assoc came (byte ∷ []) more)
+            ∙ so.cut ended (byte ∷ more)
+            ∙ ap (λ l. so.whole ++ lines_of ended l) (sym (append_assoc line (byte ∷ []) more) ∙ ap (λ l. l ++ more) (sym grown));
+        own_bytes = ap (list_all is_inside) grown ∙ list_all-append is_inside line (byte ∷ []) ∙ ap (λ t. t && (is_inside byte && true)) so.own_bytes ∙ ap (λ t. t && true) own;
+        each_short = so.each_short;
+        counted_is = counted ∙ so.counted_is;
+        few = omega (arith, counted);
+        short = omega (arith, one_more, so.short);
+        none_past = λ full. absurd (omega (arith, counted));
+        bytes = omega (arith, so.bytes, counted, one_more, length-append came (byte ∷ []));
+        run = so.run;
+        answered_is = answered ∙ so.answered_is;
+        wrote = so.wrote;
+      }
+
+  -- nothing is taken past the last line
+  pub stops_many : (at : Progress) (byte : ℕ) (more : List ℕ) (now : S) (holds : Option (List ℕ)) → at.counted ≡ most_lines
+      → Stops gives TooLong false (byte ∷ more) at now holds at now holds
+  stops_many at byte more now holds full = λ first empty came so.
+      let all : length so.whole ≡ most_lines = omega (arith, so.counted_is) in
+      let cut : lines_of true (came ++ byte ∷ more) ≡ so.whole ++ lines_of true (byte ∷ more) =
+      so.cut true (byte ∷ more) ∙ ap (λ l. so.whole ++ lines_of true (l ++ byte ∷ more)) (so.none_past full) in (
+        ap fits cut ∙ fits-many so.whole (lines_of true (byte ∷ more)) all (lines-some byte more),
+        record {
+          done = filter has_bytes so.whole;
+          others = [];
+          answers = so.answers;
+          last = now;
+          front = [];
+          split = ap asked (so.cut false (byte ∷ more)) ∙ asked-append so.whole (lines_of false (at.line.items ++ byte ∷ more)) so.each_short (omega (arith, all))
+              ∙ ap (λ n. filter has_bytes so.whole ++ asked_among n (lines_of false (at.line.items ++ byte ∷ more))) (let none : most_lines - length so.whole ≡ 0 = omega (arith, all) in none);
+          run = so.run;
+          next = (refl, refl, refl);
+          answered_is = so.answered_is;
+          wrote = subst (Appends empty holds) (sym (append-nil (printed so.answers))) so.wrote;
+        },
+      )
+
+  -- nothing is taken past a line's last byte
+  pub stops_long : (at : Progress) (byte : ℕ) (more : List ℕ) (now : S) (holds : Option (List ℕ)) → length at.line.items ≡ most_line_bytes → is_inside byte ≡ true
+      → Stops gives TooLong false (byte ∷ more) at now holds at now holds
+  stops_long at byte more now holds full own = λ first empty came so.
+      let line = at.line.items in
+      let front = lines-front line byte more so.own_bytes own in
+      let long : (rest : List ℕ) → is_short ((line ++ byte ∷ []) ++ rest) ≡ false =
+      (λ rest. is_short-gt _ (omega (arith, length-append (line ++ byte ∷ []) rest, length-append line (byte ∷ [])))) in (
+        ap fits (so.cut true (byte ∷ more) ∙ ap (λ l. so.whole ++ l) front.is) ∙ fits-long so.whole _ front.others (long front.rest),
+        record {
+          done = filter has_bytes so.whole;
+          others = [];
+          answers = so.answers;
+          last = now;
+          front = [];
+          split = ap asked (so.cut false (byte ∷ more)) ∙ asked-append so.whole (lines_of false (line ++ byte ∷ more)) so.each_short (omega (arith, so.counted_is, so.few))
+              ∙ ap (λ l. filter has_bytes so.whole ++ l) (asked_none (most_lines - length so.whole) (line ++ byte ∷ []) _ long (lines-front_whole line byte more so.own_bytes own));
+          run = so.run;
+          next = (refl, refl, refl);
+          answered_is = so.answered_is;
+          wrote = subst (Appends empty holds) (sym (append-nil (printed so.answers))) so.wrote;
+        },
+      )
+
+  -- no memory for a byte
+  pub stops_memory : (old new : Progress) (bytes : List ℕ) (now : S) (holds : Option (List ℕ)) → new.answered ≡ old.answered
+      → Stops gives Memory false bytes old now holds new now holds
+  stops_memory old new bytes now holds same = λ first empty came so. (
+    tt,
+    record {
+      done = filter has_bytes so.whole;
+      others = asked_among (most_lines - length so.whole) (lines_of false (old.line.items ++ bytes));
+      answers = so.answers;
+      last = now;
+      front = [];
+      split = ap asked (so.cut false bytes) ∙ asked-append so.whole (lines_of false (old.line.items ++ bytes)) so.each_short (omega (arith, so.counted_is, so.few));
+      run = so.run;
+      next = (refl, inl refl);
+      answered_is = same ∙ so.answered_is;
+      wrote = subst (Appends empty holds) (sym (append-nil (printed so.answers))) so.wrote;
+    },
+  )
+
+  -- the line that is begun is the next to be answered
+  abbrev behind : List (List ℕ) → List ℕ → List (List ℕ)
+  behind whole more = asked_among (most_lines - length whole) (lines_of false more)
+
+  split_end : (whole : List (List ℕ)) (line more : List ℕ) → list_all is_short whole ≡ true → length whole < most_lines → length line ≤ most_line_bytes
+      → list_all is_inside line ≡ true → has_bytes line ≡ true
+      → asked (whole ++ lines_of false (line ++ newline ∷ more)) ≡ filter has_bytes whole ++ line ∷ behind (whole ++ line ∷ []) more
+  split_end whole line more each room short own some =
+      let added : list_all is_short (whole ++ line ∷ []) ≡ true =
+      list_all-append is_short whole (line ∷ []) ∙ ap (λ t. t && (is_short line && true)) each ∙ ap (λ t. t && true) (is_short-le line short) in
+      ap (λ l. asked (whole ++ l)) (lines-line false line more own)
+      ∙ ap asked (sym (append_assoc whole (line ∷ []) (lines_of false more)))
+      ∙ asked-append (whole ++ line ∷ []) (lines_of false more) added (omega (arith, length-append whole (line ∷ [])))
+      ∙ ap (λ l. l ++ behind (whole ++ line ∷ []) more) (filter-append has_bytes whole (line ∷ []) ∙ ap (λ l. filter has_bytes whole ++ l) (filter-first line [] some))
+      ∙ append_assoc (filter has_bytes whole) (line ∷ []) (behind (whole ++ line ∷ []) more)
+
+  -- a line that isn't answered whole
+  pub stops_end : (cause : Cause) (old new : Progress) (before after : S) (held holds : Option (List ℕ)) (more : List ℕ) → old.counted < most_lines
+      → Fails gives cause old before held new after holds → Stops gives cause false (newline ∷ more) old before held new after holds
+  stops_end Memory old new before after held holds more room fails = λ first empty came so. (
+    tt,
+    record {
+      done = filter has_bytes so.whole;
+      others = old.line.items ∷ behind (so.whole ++ old.line.items ∷ []) more;
+      answers = so.answers;
+      last = before;
+      front = [];
+      split = ap asked (so.cut false (newline ∷ more)) ∙ split_end so.whole old.line.items more so.each_short (omega (arith, so.counted_is)) so.short so.own_bytes fails.some;
+      run = so.run;
+      next = (refl, elim fails.unanswered.0 [ inl same ↦ inl same | inr gave ↦ inr (old.line.items, gave.0, _, refl, gave.1) ]);
+      answered_is = fails.answered_is ∙ so.answered_is;
+      wrote = Appends-trans _ _ _ _ _ so.wrote fails.unanswered.1;
+    },
+  )
+  stops_end Write old new before after held holds more room fails = λ first empty came so. (
+    tt,
+    record {
+      done = filter has_bytes so.whole;
+      others = old.line.items ∷ behind (so.whole ++ old.line.items ∷ []) more;
+      answers = so.answers;
+      last = before;
+      front = fails.unanswered.2;
+      split = ap asked (so.cut false (newline ∷ more)) ∙ split_end so.whole old.line.items more so.each_short (omega (arith, so.counted_is)) so.short so.own_bytes fails.some;
+      run = so.run;
+      next = (old.line.items, fails.unanswered.0, _, refl, fails.unanswered.1, fails.unanswered.3);
+      answered_is = fails.answered_is ∙ so.answered_is;
+      wrote = Appends-trans _ _ _ _ _ so.wrote fails.unanswered.4;
+    },
+  )
+  stops_end Read old new before after held holds more room fails = absurd fails.unanswered
+  stops_end TooLong old new before after held holds more room fails = absurd fails.unanswered
+
+  -- the same, where the byte is known by an equation
+  pub takes_newline : (byte : ℕ) → byte ≡ newline → (old new : Progress) (before after : S) (held holds : Option (List ℕ)) → old.counted < most_lines → Closes gives old before held new after holds
+      → Takes gives (byte ∷ []) old before held new after holds
+  takes_newline byte e old new before after held holds room closes =
+      subst (λ b. Takes gives (b ∷ []) old before held new after holds) (sym e) (takes_end old new before after held holds room closes)
+
+  pub stops_newline : (byte : ℕ) → byte ≡ newline → (cause : Cause) (old new : Progress) (before after : S) (held holds : Option (List ℕ)) (more : List ℕ) → old.counted < most_lines
+      → Fails gives cause old before held new after holds → Stops gives cause false (byte ∷ more) old before held new after holds
+  stops_newline byte e cause old new before after held holds more room fails =
+      subst (λ b. Stops gives cause false (b ∷ more) old before held new after holds) (sym e) (stops_end cause old new before after held holds more room fails)
+
+  -- bytes taken, and then more
+  pub takes_more : (xs ys : List ℕ) (old mid new : Progress) (before between after : S) (held have holds : Option (List ℕ)) → Takes gives xs old before held mid between have → Takes gives ys mid between have new after holds
+      → Takes gives (xs ++ ys) old before held new after holds
+  takes_more xs ys old mid new before between after held have holds p q = λ first empty came so.
+      subst (λ l. Sofar gives first empty l new after holds) (append_assoc came xs ys) (q first empty (came ++ xs) (p first empty came so))
+
+  pub takes_none : (at : Progress) (now : S) (holds : Option (List ℕ)) → Takes gives [] at now holds at now holds
+  takes_none at now holds = λ first empty came so. subst (λ l. Sofar gives first empty l at now holds) (sym (append-nil came)) so
+
+  -- bytes taken, and then not all of the others
+  pub stops_after : (xs ys : List ℕ) (cause : Cause) (ended : Bool) (old mid new : Progress) (before between after : S) (held have holds : Option (List ℕ)) → Takes gives xs old before held mid between have → Stops gives cause ended ys mid between have new after holds
+      → Stops gives cause ended (xs ++ ys) old before held new after holds
+  stops_after xs ys cause ended old mid new before between after held have holds p q = λ first empty came so.
+      let P : List ℕ → Type 0 = λ l. Tells cause l × Stopped gives cause first empty (asked (lines_of ended l)) new.answered after holds in
+      subst P (append_assoc came xs ys) (q first empty (came ++ xs) (p first empty came so))
+
+  -- a piece that isn't all taken
+  pub stops_piece : (piece : List ℕ) (i : ℕ) (cause : Cause) (old mid new : Progress) (before between after : S) (held have holds : Option (List ℕ)) → i < length piece
+      → Takes gives (take i piece) old before held mid between have → ((more : List ℕ) → Stops gives cause false (get_or piece i 0 ∷ more) mid between have new after holds)
+      → Stops gives cause false piece old before held new after holds
+  stops_piece piece i cause old mid new before between after held have holds below p q =
+      subst (λ l. Stops gives cause false l old before held new after holds) (sym (piece_split piece i below))
+      (stops_after (take i piece) _ cause false old mid new before between after held have holds p (q (drop (i + 1) piece)))
+
+pub on_ok : {T E P Q : Type 0} → (r : Result T E) → (P → Q) → OnOk r P → OnOk r Q
+on_ok (Ok _) f h = f h
+on_ok (Err _) f h = tt
+
+pub inside : (byte : ℕ) → (byte ≡ newline → ⊥) → is_inside byte ≡ true
+inside byte h = ap not (ne_eqb byte newline h)
+
+-- what the exit of a `?` passes on
+pub passed_on : {T E : Type 0} → (r : Result T E) (e : E) (Q : E → Type 0) → IsErrAnd r (λ x. x ≡ e) → Q e → IfErr r Q
+passed_on r e Q h q =
+    let (x, is, same) = err_from_is_err_and r h in
+    subst (λ s. IfErr s Q) (sym is) (subst Q (sym same) q)

@@ -1,0 +1,7 @@
+use Rattle.std.proofs.Common.{take}
+use Rattle.up_lines.specs.Progress.{Takes}
+use Rattle.up_lines.proofs.reading.take_piece.Given as goal
+
+-- the bytes before the index were taken
+abbrev pub invariant-loop-byte : goal.invariant-loop-byte
+invariant-loop-byte g l = Takes g.A.Answer.gives (take l.byte-index l.piece) l.fn.progress l.fn.state (g.W.Write.contents l.fn.writer) l.progress l.state (g.W.Write.contents l.writer)

@@ -1,0 +1,87 @@
+-- What a run over lines leaves: answers, states, and what was written.
+use Rattle.std.specs.Prelude.{◌≡◌, ◌⊎◌, ℕ, ◌<◌, ◌≤◌, Bool, true, false, ⊤, Option, List, [], ◌∷◌, ◌++◌, length, flat_map, Result, Ok, Err}
+use Rattle.std.specs.Io.KnownBytes.{Appends, Consumes, IsAtEnd}
+use Rattle.up_lines.specs.declared.fault.Cause.{Cause}
+use Rattle.up_lines.specs.declared.fault.Cause.TheVariants.{Memory, Read, Write, TooLong}
+use Rattle.up_lines.specs.declared.fault.Fault.{Fault}
+use Rattle.up_lines.specs.Lines.{newline, most_bytes, lines_of, fits, asked}
+
+-- lines, answered one after another, may have these answers, which leave the new state
+abbrev pub Run : {S : Type 0} → (S → List ℕ → List ℕ → S → Type 0) → S → List (List ℕ) → List (List ℕ) → S → Type 0
+Run gives old [] [] new = new ≡ old
+Run {S} gives old (line ∷ lines) (answer ∷ answers) new = (mid : S) × gives old line answer mid × Run gives mid lines answers new
+Run gives old [] (answer ∷ answers) new = ⊥
+Run gives old (line ∷ lines) [] new = ⊥
+
+-- an answer as it is written
+abbrev pub print : List ℕ → List ℕ
+print answer = answer ++ newline ∷ []
+
+-- answers as they are written, each with its newline
+abbrev pub printed : List (List ℕ) → List ℕ
+printed answers = flat_map print answers
+
+-- a front of a text that isn't all of it
+abbrev pub IsProperFront : List ℕ → List ℕ → Type 0
+IsProperFront front text = (rest : List ℕ) × (text ≡ front ++ rest) × (0 < length rest)
+
+-- the first of these lines was answered
+abbrev pub IsAnswered : {S : Type 0} → (S → List ℕ → List ℕ → S → Type 0) → S → List (List ℕ) → S → Type 0
+IsAnswered gives old lines new = (line answer : List ℕ) × (rest : List (List ℕ)) × (lines ≡ line ∷ rest) × gives old line answer new
+
+-- a line that wasn't answered whole: without memory the state is as before or as an answer leaves it, and nothing was written;
+-- where the writer failed the state is as the answer leaves it, and a front of the answer was written
+abbrev pub Unanswered : {S : Type 0} → (S → List ℕ → List ℕ → S → Type 0) → Cause → S → List ℕ → S → Option (List ℕ) → Option (List ℕ) → Type 0
+Unanswered gives Memory old line new held holds = ((new ≡ old) ⊎ ((answer : List ℕ) × gives old line answer new)) × Appends held holds []
+Unanswered gives Write old line new held holds = (answer : List ℕ) × gives old line answer new × (front : List ℕ) × IsProperFront front (print answer) × Appends held holds front
+Unanswered gives Read old line new held holds = ⊥
+Unanswered gives TooLong old line new held holds = ⊥
+
+-- what became of the line after those that were answered whole, of which a front of the answer may be written
+abbrev pub Next : {S : Type 0} → (S → List ℕ → List ℕ → S → Type 0) → Cause → S → List (List ℕ) → S → List ℕ → Type 0
+Next gives Memory old lines new front = (front ≡ []) × ((new ≡ old) ⊎ IsAnswered gives old lines new)
+Next gives Write old lines new front = (line answer : List ℕ) × (rest : List (List ℕ)) × (lines ≡ line ∷ rest) × gives old line answer new × IsProperFront front (print answer)
+Next gives Read old lines new front = (front ≡ []) × (new ≡ old) × (lines ≡ [])
+Next gives TooLong old lines new front = (front ≡ []) × (new ≡ old) × (lines ≡ [])
+
+-- what a run that ended early leaves, of the lines that it was to answer: so many are answered, and their answers written whole
+pub record Stopped {S : Type 0} (gives : S → List ℕ → List ℕ → S → Type 0) (cause : Cause) (first : S) (held : Option (List ℕ)) (lines : List (List ℕ)) (answered : ℕ) (now : S) (holds : Option (List ℕ)) : Type 0 where
+  pub done : List (List ℕ)
+  pub others : List (List ℕ)
+  pub answers : List (List ℕ)
+  pub last : S
+  pub front : List ℕ
+  pub split : lines ≡ done ++ others
+  pub run : Run gives first done answers last
+  pub next : Next gives cause last others now front
+  pub answered_is : answered ≡ length answers
+  pub wrote : Appends held holds (printed answers ++ front)
+
+-- what a cause says of the bytes that came
+abbrev pub Tells : Cause → List ℕ → Type 0
+Tells TooLong came = fits (lines_of true came) ≡ false
+Tells Read came = fits (lines_of true came) ≡ true
+Tells Memory came = ⊤
+Tells Write came = ⊤
+
+-- what a run that read to the end leaves: each line has its answer, in order, and nothing else is written
+pub record Finished {S : Type 0} (gives : S → List ℕ → List ℕ → S → Type 0) (first : S) (held : Option (List ℕ)) (came : List ℕ) (answered : ℕ) (now : S) (holds : Option (List ℕ)) : Type 0 where
+  pub answers : List (List ℕ)
+  pub within : fits (lines_of true came) ≡ true
+  pub run : Run gives first (asked (lines_of true came)) answers now
+  pub answered_is : answered ≡ length answers
+  pub wrote : Appends held holds (printed answers)
+
+-- what a run leaves, of the bytes that came
+abbrev pub Leaves : {S : Type 0} → (S → List ℕ → List ℕ → S → Type 0) → S → Option (List ℕ) → List ℕ → Bool → Result ℕ Fault → S → Option (List ℕ) → Type 0
+Leaves gives first held came ended (Ok answered) now holds = (ended ≡ true) × Finished gives first held came answered now holds
+Leaves gives first held came ended (Err fault) now holds = Tells fault.cause came × Stopped gives fault.cause first held (asked (lines_of ended came)) fault.lines now holds
+
+-- a run over a reader and a writer
+pub record Ran {S : Type 0} (gives : S → List ℕ → List ℕ → S → Type 0) (first now : S) (had has held holds : Option (List ℕ)) (result : Result ℕ Fault) : Type 0 where
+  pub came : List ℕ
+  pub ended : Bool
+  pub read : Consumes had has came
+  pub bounded : length came ≤ most_bytes
+  pub at_end : ended ≡ true → IsAtEnd has
+  pub leaves : Leaves gives first held came ended result now holds

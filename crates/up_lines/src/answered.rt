@@ -1,0 +1,30 @@
+//! One line, answered.
+ghost use Rattle.std.specs.Prelude.{ℕ, List, [], ◌∷◌, ◌++◌, IfErr, OnOk};
+ghost use Rattle.std.specs.Io.KnownBytes.{Appends};
+ghost use Rattle.up_lines.specs.Runs.{print, Unanswered};
+
+use crate::answer::Answer;
+use crate::fault::Cause;
+use crate::written::write_whole;
+use std::alloc::Global;
+use std::io::Write;
+
+/// Answers a line, and writes the answer and a newline.
+pub(crate) fn answer_line<S, A: Answer<S>, W: Write>(
+    alloc: Global,
+    answerer: &A,
+    state: &mut S,
+    writer: &mut W,
+    line: &[u8],
+) -> Result<(), Cause>
+    ensures ok { OnOk result ((text : List ℕ) × A.gives state.old line.now text state.new
+        × Appends (W.contents writer.old) (W.contents writer.new) (print text)) }
+    ensures err { IfErr result (λ cause. Unanswered A.gives cause state.old line.now state.new (W.contents writer.old) (W.contents writer.new)) }
+{
+    let mut text = answerer.answer(alloc, state, line)?;
+    text.push(b'\n')?;
+    match write_whole(writer, text.as_slice()) {
+        Ok(()) => Ok(()),
+        Err(_) => Err(Cause::Write),
+    }
+}

@@ -1,0 +1,16 @@
+//! Lines of bytes: cut from a reader, answered one after another, and the answers written to a writer.
+#![tactic(auto)]
+
+pub mod answer;
+mod answered;
+mod ending;
+pub mod fault;
+pub mod limits;
+mod progress;
+mod reading;
+mod taking;
+#[cfg(test)]
+mod tests;
+mod written;
+
+pub use reading::run;

@@ -1,0 +1,17 @@
+//! How far a run has come.
+ghost use Rattle.std.specs.Prelude.{◌≡◌, ◌≤◌, []};
+ghost use Rattle.up_lines.specs.Lines.{most_lines};
+
+/// The line that is begun, and what is behind it.
+#[derive(Debug, Drop)]
+pub(crate) struct Progress {
+    /// The bytes of the line so far.
+    pub line: Vec<u8>,
+    /// How many lines were whole.
+    pub counted: u32,
+    /// How many of them were answered.
+    pub answered: u32,
+    ghost in_order: { answered ≤ counted },
+    ghost few: { counted ≤ most_lines },
+    ghost none_past: { counted ≡ most_lines → line.items ≡ [] },
+}

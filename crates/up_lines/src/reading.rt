@@ -1,0 +1,123 @@
+//! Lines cut from a reader, and their answers written to a writer.
+ghost use Rattle.std.specs.Prelude.{◌≡◌, ◌<◌, ◌≤◌, ℕ, List, Option, [], IfOk, IfErr, OnErr, OnOk, false, true, length, take};
+ghost use Rattle.std.specs.Io.KnownBytes.{Consumes, IsAtEnd, Keeps};
+ghost use Rattle.up_lines.specs.Runs.{Ran};
+ghost use Rattle.up_lines.specs.Progress.{Takes, Stops, Completes, IsFresh, told};
+
+use crate::answer::Answer;
+use crate::ending::end_line;
+use crate::fault::{Cause, Fault};
+use crate::limits::{MOST_BYTES, PIECE_BYTES};
+use crate::progress::Progress;
+use crate::taking::take_byte;
+use std::alloc::Global;
+use std::io;
+use std::io::{Read, Write};
+
+/// Takes the bytes of a piece.
+fn take_piece<S, A: Answer<S>, W: Write>(
+    alloc: Global,
+    answerer: &A,
+    state: &mut S,
+    writer: &mut W,
+    progress: &mut Progress,
+    piece: &[u8],
+) -> Result<(), Cause>
+    ensures ok { OnOk result (Takes A.gives piece.now progress.old state.old (W.contents writer.old)
+        progress.new state.new (W.contents writer.new)) }
+    ensures err { IfErr result (λ cause. Stops A.gives cause false piece.now
+        progress.old state.old (W.contents writer.old) progress.new state.new (W.contents writer.new)) }
+{
+    for byte in piece {
+        take_byte(alloc, answerer, state, writer, progress, *byte)?;
+    }
+    Ok(())
+}
+
+/// Reads a piece into the buffer, at most so many bytes.
+fn read_piece<R: Read>(reader: &mut R, buffer: &mut [u8], most: u64) -> io::Result<usize>
+    ensures count { IfOk result (λ n. (n ≤ length buffer.new) × (n ≤ most)) }
+    ensures bytes { IfOk result (λ n. Consumes (R.remaining reader.old) (R.remaining reader.new) (take n buffer.new)) }
+    ensures end { IfOk result (λ n. n ≡ 0 → 0 < most → 0 < length buffer.old → IsAtEnd (R.remaining reader.new)) }
+    ensures err { OnErr result (Keeps (R.remaining reader.old) (R.remaining reader.new)) }
+{
+    let room = if most < buffer.len() as u64 {
+        most as usize
+    } else {
+        buffer.len()
+    };
+    reader.read(&mut buffer[..room])
+}
+
+/// Ends the line that the input's end ends, if one is begun.
+fn finish<S, A: Answer<S>, W: Write>(
+    alloc: Global,
+    answerer: &A,
+    state: &mut S,
+    writer: &mut W,
+    progress: &mut Progress,
+) -> Result<(), Cause>
+    ensures ok { OnOk result (Completes A.gives progress.old state.old (W.contents writer.old)
+        progress.new state.new (W.contents writer.new)) }
+    ensures err { IfErr result (λ cause. Stops A.gives cause true [] progress.old state.old (W.contents writer.old)
+        progress.new state.new (W.contents writer.new)) }
+{
+    if progress.line.is_empty() {
+        return Ok(());
+    }
+    end_line(alloc, answerer, state, writer, progress)
+}
+
+/// Reads and takes the bytes, to the input's end.
+fn read_lines<S, A: Answer<S>, R: Read, W: Write>(
+    alloc: Global,
+    answerer: &A,
+    state: &mut S,
+    reader: &mut R,
+    writer: &mut W,
+    progress: &mut Progress,
+) -> Result<(), Cause>
+    requires { IsFresh progress.old }
+    ensures { Ran A.gives state.old state.new (R.remaining reader.old) (R.remaining reader.new)
+        (W.contents writer.old) (W.contents writer.new) (told result progress.new.answered) }
+{
+    let mut buffer = vec![in alloc; 0; PIECE_BYTES]?;
+    let mut most = MOST_BYTES;
+    while most > 0 {
+        match read_piece(reader, &mut buffer, most) {
+            Ok(0) => return finish(alloc, answerer, state, writer, progress),
+            Ok(n) => {
+                take_piece(alloc, answerer, state, writer, progress, &buffer[..n])?;
+                most -= n as u64;
+            }
+            Err(_) => return Err(Cause::Read),
+        }
+    }
+    Err(Cause::TooLong)
+}
+
+/// Answers each line of what the reader has, in order, as soon as it is whole, and writes each answer and a newline.
+/// An empty line is counted and not answered. The number is that of the lines answered.
+pub fn run<S, A: Answer<S>, R: Read, W: Write>(
+    alloc: Global,
+    answerer: &A,
+    state: &mut S,
+    reader: &mut R,
+    writer: &mut W,
+) -> Result<u32, Fault>
+    ensures { Ran A.gives state.old state.new (R.remaining reader.old) (R.remaining reader.new)
+        (W.contents writer.old) (W.contents writer.new) result }
+{
+    let mut progress = Progress {
+        line: Vec::new(alloc),
+        counted: 0,
+        answered: 0,
+    };
+    match read_lines(alloc, answerer, state, reader, writer, &mut progress) {
+        Ok(()) => Ok(progress.answered),
+        Err(cause) => Err(Fault {
+            cause,
+            lines: progress.answered,
+        }),
+    }
+}

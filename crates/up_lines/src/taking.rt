@@ -1,0 +1,40 @@
+//! Bytes, taken one after another; each line is answered as soon as it is whole.
+ghost use Rattle.std.specs.Prelude.{◌∷◌, [], ℕ, List, IfErr, OnOk, false};
+ghost use Rattle.up_lines.specs.Progress.{Takes, Stops};
+
+use crate::answer::Answer;
+use crate::ending::end_line;
+use crate::fault::Cause;
+use crate::limits::{MOST_LINE_BYTES, MOST_LINES};
+use crate::progress::Progress;
+use std::alloc::Global;
+use std::io::Write;
+
+/// Takes the next byte.
+pub(crate) fn take_byte<S, A: Answer<S>, W: Write>(
+    alloc: Global,
+    answerer: &A,
+    state: &mut S,
+    writer: &mut W,
+    progress: &mut Progress,
+    byte: u8,
+) -> Result<(), Cause>
+    ensures ok { OnOk result (Takes A.gives (byte ∷ []) progress.old state.old (W.contents writer.old)
+        progress.new state.new (W.contents writer.new)) }
+    ensures err { IfErr result (λ cause. (more : List ℕ) → Stops A.gives cause false (byte ∷ more)
+        progress.old state.old (W.contents writer.old) progress.new state.new (W.contents writer.new)) }
+{
+    if progress.counted == MOST_LINES {
+        return Err(Cause::TooLong);
+    }
+    if byte == b'\n' {
+        return end_line(alloc, answerer, state, writer, progress);
+    }
+    if progress.line.len() == MOST_LINE_BYTES {
+        return Err(Cause::TooLong);
+    }
+    match progress.line.push(byte) {
+        Ok(()) => Ok(()),
+        Err(_) => Err(Cause::Memory),
+    }
+}

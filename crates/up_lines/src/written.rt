@@ -1,0 +1,27 @@
+//! A text written whole, with nothing tried twice.
+ghost use Rattle.std.specs.Prelude.{ℕ, List, OnOk, OnErr};
+ghost use Rattle.std.specs.Io.KnownBytes.{Appends};
+ghost use Rattle.up_lines.specs.Runs.{IsProperFront};
+
+use std::io::Write;
+
+/// The writer failed, or took no byte of what it was handed.
+#[derive(Clone, Copy, Debug, PartialEq, Eq, Drop)]
+pub(crate) struct NotWritten;
+
+/// Writes a text, from where the writer stopped if it takes it in parts. Nothing is tried again after a failure.
+pub(crate) fn write_whole<W: Write>(writer: &mut W, text: &[u8]) -> Result<(), NotWritten>
+    ensures ok { OnOk result (Appends (W.contents writer.old) (W.contents writer.new) text.now) }
+    ensures err { OnErr result ((front : List ℕ) × IsProperFront front text.now
+        × Appends (W.contents writer.old) (W.contents writer.new) front) }
+{
+    let mut at = 0;
+    while at < text.len() {
+        match writer.write(&text[at..]) {
+            Ok(0) => return Err(NotWritten),
+            Err(_) => return Err(NotWritten),
+            Ok(n) => at += n,
+        }
+    }
+    Ok(())
+}
