@@ -6,3 +6,4 @@ pub mod Lists
 pub mod Plain
 pub mod CanonicalText
 pub mod Written
+pub mod TableLemmas

@@ -2,6 +2,7 @@ pub mod Canon
 pub mod Names
 pub mod Steps
 pub mod HexText
+pub mod Tables
 pub mod Moments
 pub mod Refusals
 pub mod Members

@@ -21,6 +21,7 @@ pub mod note;
 pub mod readers;
 pub mod refusal;
 pub mod refusal_text;
+pub mod table;
 #[cfg(test)]
 mod tests;
 pub mod text;
