@@ -1,0 +1,14 @@
+pub mod Steps
+pub mod Tables
+pub mod Decided
+pub mod Receiving
+pub mod Growing
+pub mod Lists
+pub mod Values
+pub mod Counters
+pub mod Keeping
+pub mod Refusing
+pub mod Planned
+pub mod Staying
+pub mod Accepting
+pub mod Soundness

@@ -13,3 +13,4 @@ pub mod Repeats
 pub mod Sound
 pub mod Rows
 pub mod Reads
+pub mod Laws

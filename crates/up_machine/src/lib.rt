@@ -4,5 +4,6 @@
 pub mod answer;
 pub mod command;
 pub mod keys;
+pub mod laws;
 pub mod rows;
 pub mod vehicle;

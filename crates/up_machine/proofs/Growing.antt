@@ -1,0 +1,123 @@
+-- States only grow, and what was kept stays.
+use Rattle.std.proofs.Common.{◌≡◌, ℕ, List, [], ◌∷◌, ◌++◌, Bool, true, false, Some, None, Result, Ok, Err, inl, inr, refl, sym, ap, ◌∙◌, subst, append-nil, append_assoc}
+use Rattle.std.specs.Ordering.{nat_cmp, eq_by_cmp}
+use Rattle.std.specs.Cmp.Lexicographic.{slice_cmp}
+use Rattle.std.specs.FinMap as table
+use Rattle.up_canon.specs.Names.{Name, Table}
+use Rattle.up_canon.specs.declared.refusal.Refusal.{Refusal}
+use Rattle.up_sign.specs.Schemes.{Rules}
+use Rattle.up_plan.specs.Images.{ImageData}
+use Rattle.up_machine.specs.declared.command.Command.{Command}
+use Rattle.up_machine.specs.declared.command.Command.TheVariants.{Found, Rotate, AddImage, Refresh, AddVehicle, OpenCampaign, CloseCampaign, Deliver, Fetch}
+use Rattle.up_machine.specs.Vehicles.{NewVehicleData}
+use Rattle.up_machine.specs.State.{Entry, Vehicle, Root, State}
+use Rattle.up_machine.specs.Deciding.{Outcome, already}
+use Rattle.up_machine.specs.Inventory.{with_vehicle}
+use Rattle.up_machine.specs.Deliveries.{with_entry}
+use Rattle.up_machine.specs.Machine.{decide, outcome_of, step}
+use Rattle.up_machine.specs.Laws.{IsLater, LaterIsReflexive, LaterIsTransitive, StepsGrow, RunsGrow}
+use Rattle.up_machine.proofs.Steps.{one_value}
+use Rattle.up_machine.proofs.Tables.{one_name, get_new, kept_by_insert}
+use Rattle.up_machine.proofs.Decided.{found_ok, rotate_ok, image_ok, refresh_ok, vehicle_ok, open_ok, close_ok, delivery_ok, fetch_ok}
+use Rattle.up_machine.proofs.Receiving.{received}
+
+-- what holds of the state where a command is refused, and of the next state of each outcome, holds after the step
+pub by_decision : (s : State) (r : Result Outcome Refusal) (P : State → Type 0) → P s → ((o : Outcome) → r ≡ Ok o → P o.next) → P (outcome_of s r).next
+by_decision s (Ok o) P here go = go o refl
+by_decision s (Err e) P here go = here
+
+more_of_none : (v : Vehicle) → v ≡ record v { entries = v.entries ++ [] }
+more_of_none v = ap (λ es. record v { entries = es }) (sym (append-nil v.entries))
+
+pub later_with : (s next : State) (more : List Root) → next.roots ≡ s.roots ++ more
+    → ((file : Name) (image : ImageData) → table.get s.images file ≡ Some image → table.get next.images file ≡ Some image)
+    → ((name : Name) (v : Vehicle) → table.get s.vehicles name ≡ Some v → table.get next.vehicles name ≡ Some v) → IsLater s next
+later_with s next more roots images vehicles = record {
+  more_roots = more;
+  roots = roots;
+  images = images;
+  vehicles = λ name v there. ([], vehicles name v there ∙ ap Some (more_of_none v));
+}
+
+pub itself : LaterIsReflexive
+itself s = later_with s s [] (sym (append-nil s.roots)) (λ file image h. h) (λ name v h. h)
+
+pub onward : LaterIsTransitive
+onward s t u a b = record {
+  more_roots = a.more_roots ++ b.more_roots;
+  roots = b.roots ∙ ap (λ rs. rs ++ b.more_roots) a.roots ∙ append_assoc s.roots a.more_roots b.more_roots;
+  images = λ file image h. b.images file image (a.images file image h);
+  vehicles = λ name v h.
+      let first = a.vehicles name v h in
+      let second = b.vehicles name (record v { entries = v.entries ++ first.0 }) first.1 in
+      (first.0 ++ second.0, second.1 ∙ ap (λ es. Some (record v { entries = es })) (append_assoc v.entries first.0 second.0));
+}
+
+-- ---- each outcome
+
+grown_image : (s : State) (image : ImageData) (next : State) → table.get s.images image.file ≡ None → next.roots ≡ s.roots → next.vehicles ≡ s.vehicles
+    → next.images ≡ table.insert s.images image.file image → IsLater s next
+grown_image s image next new roots vehicles images =
+    later_with s next [] (roots ∙ sym (append-nil s.roots))
+    (λ file old there. ap (λ (t : Table ImageData). table.get t file) images ∙ kept_by_insert s.images image.file file image old new there)
+    (λ name v there. ap (λ (t : Table Vehicle). table.get t name) vehicles ∙ there)
+
+grown_vehicle : (s : State) (new : NewVehicleData) → table.get s.vehicles new.vehicle ≡ None → IsLater s (with_vehicle s new)
+grown_vehicle s new none =
+    later_with s (with_vehicle s new) [] (sym (append-nil s.roots)) (λ file image h. h) (λ name v there. kept_by_insert s.vehicles new.vehicle name _ v none there)
+
+pub grown_entries : (s : State) (name : Name) (v : Vehicle) (e : Entry) → table.get s.vehicles name ≡ Some v → IsLater s (with_entry s name v e)
+grown_entries s name v e found = record {
+  more_roots = [];
+  roots = sym (append-nil s.roots);
+  images = λ file old there. there;
+  vehicles = λ q w there. by_test q w there (eq_by_cmp (slice_cmp nat_cmp) q name) refl;
+}
+  where
+    by_test : (q : Name) (w : Vehicle) → table.get s.vehicles q ≡ Some w → (b : Bool) → eq_by_cmp (slice_cmp nat_cmp) q name ≡ b
+        → (more : List Entry) × (table.get (with_entry s name v e).vehicles q ≡ Some (record w { entries = w.entries ++ more }))
+    by_test q w there true is =
+        let same : v ≡ w = one_value _ v w found (ap (table.get s.vehicles) (sym (one_name q name is)) ∙ there) in
+        (e ∷ [], get_new s.vehicles name q _ ∙ rw is (ap (λ (x : Vehicle). Some (record x { entries = x.entries ++ e ∷ [] })) same))
+    by_test q w there false is = ([], get_new s.vehicles name q _ ∙ rw is (there ∙ ap Some (more_of_none w)))
+
+unchanged : (s : State) (o : Outcome) → already s ≡ o → IsLater s o.next
+unchanged s o h = subst (λ (o : Outcome). IsLater s o.next) h (itself s)
+
+same_vehicles : (s next : State) (more : List Root) → next.roots ≡ s.roots ++ more → next.images ≡ s.images → next.vehicles ≡ s.vehicles → IsLater s next
+same_vehicles s next more roots images vehicles = later_with s next more roots
+    (λ file image there. ap (λ (t : Table ImageData). table.get t file) images ∙ there)
+    (λ name v there. ap (λ (t : Table Vehicle). table.get t name) vehicles ∙ there)
+
+pub grow_outcome : (k : Rules) (s : State) (at : ℕ) (c : Command) (o : Outcome) → decide k s at c ≡ Ok o → IsLater s o.next
+grow_outcome k s at (Found keys) o h = subst (λ (o : Outcome). IsLater s o.next) (found_ok k s at keys o h).is (same_vehicles s _ _ refl refl refl)
+grow_outcome k s at (Rotate keys) o h = subst (λ (o : Outcome). IsLater s o.next) (rotate_ok k s at keys o h).is (same_vehicles s _ _ refl refl refl)
+grow_outcome k s at (AddImage image) o h = elim (image_ok s at image o h) [
+  | inl same ↦ unchanged s o same
+  | inr new ↦ subst (λ (o : Outcome). IsLater s o.next) new.is (grown_image s image _ new.none refl refl refl)
+]
+grow_outcome k s at (Refresh version) o h = subst (λ (o : Outcome). IsLater s o.next) (refresh_ok s at version o h).is (same_vehicles s _ [] (sym (append-nil s.roots)) refl refl)
+grow_outcome k s at (AddVehicle new) o h = elim (vehicle_ok k s at new o h) [
+  | inl same ↦ unchanged s o same
+  | inr is ↦ subst (λ (o : Outcome). IsLater s o.next) is.is (grown_vehicle s new is.none)
+]
+grow_outcome k s at (OpenCampaign campaign) o h = elim (open_ok s at campaign o h) [
+  | inl same ↦ unchanged s o same
+  | inr is ↦ subst (λ (o : Outcome). IsLater s o.next) is.is (same_vehicles s _ [] (sym (append-nil s.roots)) refl refl)
+]
+grow_outcome k s at (CloseCampaign name) o h = elim (close_ok s at name o h) [
+  | inl same ↦ unchanged s o same
+  | inr is ↦ subst (λ (o : Outcome). IsLater s o.next) is.is (same_vehicles s _ [] (sym (append-nil s.roots)) refl refl)
+]
+grow_outcome k s at (Deliver body) o h =
+    let is = delivery_ok k s at body o h in
+    subst (λ (o : Outcome). IsLater s o.next) is.is (grown_entries s _ _ _ (received k s at body is.received is.receives).vehicle)
+grow_outcome k s at (Fetch repository name) o h = subst (λ (o : Outcome). IsLater s o.next) (fetch_ok k s at repository name o h).2 (itself s)
+
+pub grow : StepsGrow
+unfolding step
+grow k s at c = by_decision s (decide k s at c) (IsLater s) (itself s) (grow_outcome k s at c)
+
+pub grow_on : RunsGrow
+grow_on k s [] = itself s
+grow_on k s (t ∷ ts) = onward s _ _ (grow k s t.at t.command) (grow_on k (step k s t.at t.command).next ts)

@@ -1,0 +1,5 @@
+use Rattle.up_machine.proofs.Counters as counters
+use Rattle.up_machine.proofs.laws.counters_tell_entries.Goals as goal
+
+pub returns : goal.returns
+returns c = counters.told_apart

@@ -1,0 +1,77 @@
+-- The laws of the plain machine over single commands and over runs.
+use Rattle.std.specs.Prelude.{◌≡◌, ℕ, List, ◌++◌, Some, IsTrue, slice_get}
+use Rattle.std.specs.List.{AllByRecursion}
+use Rattle.std.specs.FinMap as table
+use Rattle.up_canon.specs.Names.{Name}
+use Rattle.up_sign.specs.Schemes.{Rules}
+use Rattle.up_plan.specs.Images.{ImageData}
+use Rattle.up_machine.specs.declared.command.Command.{Command}
+use Rattle.up_machine.specs.declared.answer.Answer.TheVariants.{Refused, Already}
+use Rattle.up_machine.specs.declared.answer.Reply.{Reply}
+use Rattle.up_canon.specs.declared.refusal.Refusal.{Refusal}
+use Rattle.up_machine.specs.Commands.{is_command}
+use Rattle.up_machine.specs.State.{Entry, Vehicle, Root, State, empty_state}
+use Rattle.up_machine.specs.Replies.{kept_reply}
+use Rattle.up_machine.specs.Machine.{Timed, step, run}
+use Rattle.up_machine.specs.Sound.{CountersRise, IsSound}
+
+-- ---- refusals
+
+-- a refusal changes nothing, and neither does `Already`
+abbrev pub RefusalsChangeNothing : Type 0
+RefusalsChangeNothing = (k : Rules) (s : State) (at : ℕ) (c : Command) (r : Refusal) → (step k s at c).answer ≡ Refused r → (step k s at c).next ≡ s
+
+abbrev pub AlreadyChangesNothing : Type 0
+AlreadyChangesNothing = (k : Rules) (s : State) (at : ℕ) (c : Command) → (step k s at c).answer ≡ Already → (step k s at c).next ≡ s
+
+-- ---- soundness
+
+abbrev pub EmptyIsSound : Type 0
+EmptyIsSound = (k : Rules) → IsSound k empty_state
+
+abbrev pub StepsStaySound : Type 0
+StepsStaySound = (k : Rules) (s : State) (at : ℕ) (c : Command) → IsTrue (is_command c) → IsSound k s → IsSound k (step k s at c).next
+
+abbrev pub RunsStaySound : Type 0
+RunsStaySound = (k : Rules) (s : State) (ts : List Timed) → AllByRecursion (λ t. IsTrue (is_command t.command)) ts → IsSound k s → IsSound k (run k s ts)
+
+-- ---- counters
+
+-- where counters rise, at most one entry has a given counter
+abbrev pub CountersTellEntries : Type 0
+CountersTellEntries = (entries : List Entry) (i j : ℕ) (e f : Entry) → CountersRise entries
+    → slice_get entries i ≡ Some e → slice_get entries j ≡ Some f → e.counter ≡ f.counter → i ≡ j
+
+-- ---- later states
+
+-- roots and images are only added, and a vehicle keeps its Primary and its ECUs and its entries only grow
+pub record IsLater (s later : State) : Type 0 where
+  pub more_roots : List Root
+  pub roots : later.roots ≡ s.roots ++ more_roots
+  pub images : (file : Name) (image : ImageData) → table.get s.images file ≡ Some image → table.get later.images file ≡ Some image
+  pub vehicles : (name : Name) (v : Vehicle) → table.get s.vehicles name ≡ Some v
+      → (more : List Entry) × (table.get later.vehicles name ≡ Some (record v { entries = v.entries ++ more }))
+
+abbrev pub LaterIsReflexive : Type 0
+LaterIsReflexive = (s : State) → IsLater s s
+
+abbrev pub LaterIsTransitive : Type 0
+LaterIsTransitive = (s t u : State) → IsLater s t → IsLater t u → IsLater s u
+
+abbrev pub StepsGrow : Type 0
+StepsGrow = (k : Rules) (s : State) (at : ℕ) (c : Command) → IsLater s (step k s at c).next
+
+abbrev pub RunsGrow : Type 0
+RunsGrow = (k : Rules) (s : State) (ts : List Timed) → IsLater s (run k s ts)
+
+-- ---- kept replies
+
+-- a kept reply is the same in each later state
+abbrev pub KeptRepliesStay : Type 0
+KeptRepliesStay = (k : Rules) (s later : State) (vehicle : Name) (number : ℕ) (reply : Reply) → IsSound k s → IsLater s later
+    → kept_reply k s vehicle number ≡ Some reply → kept_reply k later vehicle number ≡ Some reply
+
+-- and so after each run
+abbrev pub KeptRepliesOutlastRuns : Type 0
+KeptRepliesOutlastRuns = (k : Rules) (s : State) (ts : List Timed) (vehicle : Name) (number : ℕ) (reply : Reply) → IsSound k s
+    → kept_reply k s vehicle number ≡ Some reply → kept_reply k (run k s ts) vehicle number ≡ Some reply
