@@ -14,7 +14,7 @@ pub fn calendar_laws()
 {}
 
 /// What a clock at UTC shows.
-pub fn shown_at(second: u64) -> DateTime
+pub(crate) fn shown_at(second: u64) -> DateTime
     requires { second ≤ last_moment }
     ensures { iso_datetime_text result ++ 90 ∷ [] ≡ moment_text second }
 {
@@ -33,7 +33,7 @@ fn epoch() -> Date
     date(1970, 1, 1)
 }
 
-/// The date that many days after it.
+/// The date that many days after 1970-01-01.
 fn date_of(day: i64) -> Date
     requires low { pos 0 ≤ℤ day }
     requires high { day ≤ℤ pos 2_932_896 }
@@ -46,7 +46,7 @@ fn date_of(day: i64) -> Date
 }
 
 /// The first second of the date, or none where there is no such date from 1970 on.
-pub fn midnight_of(year: u64, month: u64, day: u64) -> Option<u64>
+pub(crate) fn midnight_of(year: u64, month: u64, day: u64) -> Option<u64>
     ensures { result ≡ (if is_date year month day then Some (day_number year month day * 86400) else None) }
 {
     if year < 1970 || year > 9999 || month > 12 || day > 31 {
@@ -59,7 +59,7 @@ pub fn midnight_of(year: u64, month: u64, day: u64) -> Option<u64>
 }
 
 /// The seconds of a day before that time, or none where no clock shows it.
-pub fn seconds_of(hour: u64, minute: u64, second: u64) -> Option<u64>
+pub(crate) fn seconds_of(hour: u64, minute: u64, second: u64) -> Option<u64>
     ensures { result ≡ (if is_time hour minute second then Some (hour * 3600 + minute * 60 + second) else None) }
 {
     if hour < 24 && minute < 60 && second < 60 {

@@ -3,7 +3,7 @@ ghost use Rattle.std.specs.Prelude.{◌≡◌, ◌<◌, ◌+◌, length, true};
 ghost use Rattle.up_canon.specs.Moments.{has_form as has_form_of, fits_sign as fits_sign_of, two_digits as two_digits_of};
 
 /// Whether digits and signs stand where they do in a moment's text.
-pub fn has_form(bytes: &[u8]) -> bool
+pub(crate) fn has_form(bytes: &[u8]) -> bool
     ensures form { result ≡ has_form_of bytes.now }
     ensures long { result ≡ true → length bytes.now ≡ 20 }
 {
@@ -31,7 +31,7 @@ fn fits_sign(sign: u8, byte: u8) -> bool
 }
 
 /// The number that the two digits at that place spell.
-pub fn two_digits(bytes: &[u8], place: usize) -> u64
+pub(crate) fn two_digits(bytes: &[u8], place: usize) -> u64
     requires { place + 1 < length bytes.now }
     ensures value { result ≡ two_digits_of bytes.now place }
     ensures bound { result < 2300 }
