@@ -18,6 +18,8 @@ pub mod moment;
 mod moment_form;
 pub mod name_readings;
 pub mod note;
+#[cfg(test)]
+mod reader_tests;
 pub mod readers;
 pub mod refusal;
 pub mod refusal_text;
