@@ -23,7 +23,7 @@ use Rattle.serde_json.specs.Written.{outline, items_outline, members_outline, co
 use Rattle.serde_json.specs.Written as written
 use Rattle.serde_json.proofs.Numbers.{number_of-decimal}
 use Rattle.serde_json.proofs.Texts.{print-outline}
-use Rattle.up_canon.specs.Canon.{is_printable, is_printable_text, comes_first, is_plain, items_are_plain, members_are_plain, has_canon, escaped, quoted, text, items_text, more_items_text, members_text, more_members_text, CanonIsRead, CanonIsInjective, max_count, max_nesting}
+use Rattle.up_canon.specs.Canon.{is_printable, is_printable_text, comes_first, is_plain, items_are_plain, members_are_plain, has_canon, escaped, quoted, text, items_text, more_items_text, members_text, more_members_text, PlainIsRead, CanonIsRead, CanonIsInjective, max_count}
 
 -- ---- the text is the one that `serde_json` prints
 
@@ -208,12 +208,12 @@ chosen : {A : Type 0} (b : Bool) (x : A) (t : A) → cond b (Some x) None ≡ So
 chosen true x t h = (refl, cc)
 chosen false x t h = cc
 
-read-text : (d : Data) → is_plain d ≡ true → nat_le (depth d) max_nesting ≡ true → read (text d) ≡ Some d
+pub read-text : PlainIsRead
 read-text d plain shallow =
     let j = outline d in
     let printed_tokens : tokens (text d) ≡ json_tokens j =
     ap tokens (sym (compact_text-plain d plain) ∙ sym (print-outline d)) ∙ tokens-print (json_tokens j) (ArePrintable-json_tokens j (HasNumbers-outline d plain)) in
-    let flat : tree.depth j ≤ max_depth = grind (arith, nat_tests, depth-outline d) in
+    let flat : tree.depth j ≤ max_depth = omega (arith, depth-outline d) in
     ap (λ ts. option_and_then of_json (option_and_then (λ p. json.if_last p.0 p.1) (json.value max_depth ts))) (printed_tokens ∙ sym (append-nil (json_tokens j)))
     ∙ ap (λ o. option_and_then of_json (option_and_then (λ p. json.if_last p.0 p.1) o)) (value-json_tokens j max_depth [] flat)
     ∙ of_json-outline d plain
@@ -222,7 +222,8 @@ pub read-canon : CanonIsRead
 read-canon x t h =
     let c = chosen (has_canon x) (text x) t h in
     let p = and_parts (is_plain x) _ c.0 in
-    subst (λ s. read s ≡ Some x) c.1 (read-text x p.0 p.1)
+    let shallow = p.1 in
+    subst (λ s. read s ≡ Some x) c.1 (read-text x p.0 (grind (arith, nat_tests)))
 
 pub canon-injective : CanonIsInjective
 canon-injective x y t h k = let e = sym (read-canon x t h) ∙ read-canon y t k in cc

@@ -29,10 +29,12 @@ mod tests;
 pub mod text;
 pub mod writing;
 
-ghost use Rattle.up_canon.specs.Canon.{CanonIsRead, CanonIsInjective};
+ghost use Rattle.up_canon.specs.Canon.{PlainIsRead, CanonIsRead, CanonIsInjective};
 
-/// A canonical text is read as its value, and so no two values share one.
+/// A canonical text is read as its value, and so no two values share one. Printed in the same way, a value that
+/// nests deeper is read too.
 pub fn canonical_laws()
     ensures read { CanonIsRead }
     ensures injective { CanonIsInjective }
+    ensures deeper { PlainIsRead }
 {}

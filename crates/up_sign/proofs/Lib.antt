@@ -2,3 +2,9 @@ pub mod Arrays
 pub mod Written
 pub mod Read
 pub mod Sealed
+pub mod Steps
+pub mod Members
+pub mod Meaning
+pub mod Faults
+pub mod Texts
+pub mod Accepted

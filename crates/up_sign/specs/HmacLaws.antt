@@ -25,11 +25,15 @@ unfolding digest_bytes
 are_bytes-digest h zero = refl
 are_bytes-digest h (suc n) = list_all-append is_byte (digest_bytes h n) _ ∙ ap₂ (λ a b. a && b) (are_bytes-digest h n) (are_bytes-high_first 4 (slice_index h n))
 
-pub are_bytes-hmac : (k m : List ℕ) → list_all is_byte (hmac k m) ≡ true
-unfolding hmac sha256
-are_bytes-hmac k m = are_bytes-digest _ 8
+pub are_bytes-sha256 : (m : List ℕ) → list_all is_byte (sha256 m) ≡ true
+unfolding sha256
+are_bytes-sha256 m = are_bytes-digest _ 8
 
-same_tag : (g : List ℕ) → IsTrue (bytes_eq g g)
+pub are_bytes-hmac : (k m : List ℕ) → list_all is_byte (hmac k m) ≡ true
+unfolding hmac
+are_bytes-hmac k m = are_bytes-sha256 _
+
+pub same_tag : (g : List ℕ) → IsTrue (bytes_eq g g)
 same_tag g = search ((bytes_decides g g).1 refl)
 
 pub hmac_sha256_lawful : IsScheme hmac_sha256

@@ -4,3 +4,5 @@ pub mod Schemes
 pub mod Envelopes
 pub mod Formats
 pub mod Reading
+pub mod Meaning
+pub mod Laws

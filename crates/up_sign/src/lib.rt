@@ -4,6 +4,7 @@
 pub mod envelope;
 pub mod hmac_sha256;
 pub mod key_id;
+pub mod laws;
 pub mod reading;
 pub mod scheme;
 pub mod seal;
