@@ -8,5 +8,7 @@ pub mod laws;
 mod names;
 pub mod plan;
 mod resulting;
+#[cfg(test)]
+mod tests;
 mod unmet;
 mod wanted;
