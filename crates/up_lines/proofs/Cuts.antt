@@ -63,7 +63,7 @@ begins_or_none b [] = inl refl
 begins_or_none b (l ∷ ls) = inr (record { rest = l; others = ls; is = refl })
 
 -- or there is none yet, where the line is never ended
-pub lines-front_whole : (line : List ℕ) (b : ℕ) (more : List ℕ) → list_all is_inside line ≡ true → is_inside b ≡ true
+lines-front_whole : (line : List ℕ) (b : ℕ) (more : List ℕ) → list_all is_inside line ≡ true → is_inside b ≡ true
     → (lines_of false (line ++ b ∷ more) ≡ []) ⊎ Begins (line ++ b ∷ []) (lines_of false (line ++ b ∷ more))
 lines-front_whole [] b more h own =
     let P : List (List ℕ) → Type 0 = λ l. (l ≡ []) ⊎ Begins (b ∷ []) l in
@@ -76,6 +76,12 @@ lines-front_whole (c ∷ cs) b more h own =
       | inl none ↦ inl (ap (begin_with false c) none)
       | inr some ↦ inr (begins_more false c (cs ++ b ∷ []) _ some)
     ])
+
+-- in both cases
+pub lines-begins : (ended : Bool) (line : List ℕ) (b : ℕ) (more : List ℕ) → list_all is_inside line ≡ true → is_inside b ≡ true
+    → (lines_of ended (line ++ b ∷ more) ≡ []) ⊎ Begins (line ++ b ∷ []) (lines_of ended (line ++ b ∷ more))
+lines-begins true line b more h own = inr (lines-front line b more h own)
+lines-begins false line b more h own = lines-front_whole line b more h own
 
 begins_some : (b : ℕ) (lines : List (List ℕ)) → 0 < length (begin_with true b lines)
 begins_some b [] = omega arith

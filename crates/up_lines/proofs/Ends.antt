@@ -50,13 +50,6 @@ bytes_below came counted line bytes few short room =
       | inr below ↦ omega (arith, below)
     ]
 
--- what a cause says is of the lines
-tells_last : (cause : Cause) (xs ys : List ℕ) → lines_of true xs ≡ lines_of true ys → Tells cause xs → Tells cause ys
-tells_last Memory xs ys e h = tt
-tells_last Write xs ys e h = tt
-tells_last Read xs ys e h = ap fits (sym e) ∙ h
-tells_last TooLong xs ys e h = ap fits (sym e) ∙ h
-
 fits_begun : (whole : List (List ℕ)) (line : List ℕ) → list_all is_short whole ≡ true → list_all is_inside line ≡ true → length line ≤ most_line_bytes → length whole ≤ most_lines
     → (length whole ≡ most_lines → line ≡ []) → fits (whole ++ lines_of true line) ≡ true
 fits_begun whole [] each own short few room = ap fits (append-nil whole) ∙ fits-true whole few each
@@ -165,12 +158,19 @@ module _ {S : Type 0} (gives : S → List ℕ → List ℕ → S → Type 0) whe
   finishes_some old new before after held holds room some closes = λ first empty came so. completes_some gives first empty came old new before after held holds room some closes so
 
   -- the last line isn't answered whole
+  -- no line that isn't answered whole is one past a limit
+  tells_end : (cause : Cause) (old new : Progress) (before after : S) (held holds : Option (List ℕ)) (came : List ℕ) → Fails gives cause old before held new after holds → Tells cause came
+  tells_end Memory old new before after held holds came fails = tt
+  tells_end Write old new before after held holds came fails = tt
+  tells_end Read old new before after held holds came fails = absurd fails.unanswered
+  tells_end TooLong old new before after held holds came fails = absurd fails.unanswered
+
   pub finish_stops : (cause : Cause) (old new : Progress) (before after : S) (held holds : Option (List ℕ)) → old.counted < most_lines → 0 < length old.line.items → Fails gives cause old before held new after holds
       → Stops gives cause true [] old before held new after holds
   finish_stops cause old new before after held holds room some fails = λ first empty came so.
       let both = stops_end gives cause old new before after held holds [] room fails first empty came so in
       let same : lines_of false (came ++ newline ∷ []) ≡ lines_of true (came ++ []) = same_lines gives first empty came old before held so false some ∙ ap (lines_of true) (sym (append-nil came)) in (
-        tells_last cause (came ++ newline ∷ []) (came ++ []) (same_lines gives first empty came old before held so true some ∙ ap (lines_of true) (sym (append-nil came))) both.0,
+        tells_end cause old new before after held holds (came ++ []) fails,
         subst (λ l. Stopped gives cause first empty (asked l) new.answered after holds) same both.1,
       )
 

@@ -15,12 +15,17 @@ use Rattle.up_lines.specs.declared.fault.Cause.{Cause}
 use Rattle.up_lines.specs.declared.fault.Cause.TheVariants.{Memory, Read, Write, TooLong}
 use Rattle.up_lines.specs.Runs.{Run, print, printed, Stopped, Tells}
 use Rattle.up_lines.specs.Progress.{Sofar, Closes, Fails, Takes, Stops, is_inside}
-use Rattle.up_lines.proofs.Cuts.{lines-line, lines-front, lines-front_whole, lines-some}
+use Rattle.up_lines.proofs.Cuts.{lines-line, lines-begins, lines-front, lines-some}
 use Rattle.up_lines.proofs.RunLaws.{has_bytes-long, is_short-le, is_short-gt, Run-append, Run-one, printed-append, filter-first, asked_among, asked-append, asked_none, fits-many, fits-long}
 
 -- the piece, in what was taken and the rest
 piece_split : (piece : List ℕ) (i : ℕ) → i < length piece → piece ≡ take i piece ++ get_or piece i 0 ∷ drop (i + 1) piece
 piece_split piece i below = sym (take-append-drop i piece) ∙ ap (λ l. take i piece ++ l) (grind (arith, common_steps))
+
+-- the byte passes a limit, behind these whole lines
+record Past (came : List ℕ) (byte : ℕ) (whole : List (List ℕ)) : Type 0 where
+  past : (more : List ℕ) → fits (lines_of true (came ++ byte ∷ more)) ≡ false
+  settled : (ended : Bool) (more : List ℕ) → asked (lines_of ended (came ++ byte ∷ more)) ≡ filter has_bytes whole
 
 module _ {S : Type 0} (gives : S → List ℕ → List ℕ → S → Type 0) where
   -- a line with bytes is ended
@@ -91,52 +96,60 @@ module _ {S : Type 0} (gives : S → List ℕ → List ℕ → S → Type 0) whe
         wrote = so.wrote;
       }
 
+  -- nothing is taken of a byte that passes a limit
+  stops_past : (first : S) (empty : Option (List ℕ)) (came : List ℕ) (at : Progress) (byte : ℕ) (more : List ℕ) (now : S) (holds : Option (List ℕ)) (so : Sofar gives first empty came at now holds) → Past came byte so.whole
+      → Tells TooLong (came ++ byte ∷ more) × Stopped gives TooLong first empty (asked (lines_of false (came ++ byte ∷ more))) at.answered now holds
+  stops_past first empty came at byte more now holds so h = (
+    λ others. let same : (came ++ byte ∷ more) ++ others ≡ came ++ byte ∷ (more ++ others) = append_assoc came (byte ∷ more) others in (
+      ap (λ l. fits (lines_of true l)) same ∙ h.past (more ++ others),
+      ap (λ l. asked (lines_of true l)) same ∙ h.settled true (more ++ others) ∙ sym (h.settled false more),
+    ),
+    record {
+      done = filter has_bytes so.whole;
+      others = [];
+      answers = so.answers;
+      last = now;
+      front = [];
+      split = h.settled false more ∙ sym (append-nil (filter has_bytes so.whole));
+      run = so.run;
+      next = (refl, refl, refl);
+      answered_is = so.answered_is;
+      wrote = subst (Appends empty holds) (sym (append-nil (printed so.answers))) so.wrote;
+    },
+  )
+
   -- nothing is taken past the last line
   pub stops_many : (at : Progress) (byte : ℕ) (more : List ℕ) (now : S) (holds : Option (List ℕ)) → at.counted ≡ most_lines
       → Stops gives TooLong false (byte ∷ more) at now holds at now holds
   stops_many at byte more now holds full = λ first empty came so.
-      let all : length so.whole ≡ most_lines = omega (arith, so.counted_is) in
-      let cut : lines_of true (came ++ byte ∷ more) ≡ so.whole ++ lines_of true (byte ∷ more) =
-      so.cut true (byte ∷ more) ∙ ap (λ l. so.whole ++ lines_of true (l ++ byte ∷ more)) (so.none_past full) in (
-        ap fits cut ∙ fits-many so.whole (lines_of true (byte ∷ more)) all (lines-some byte more),
-        record {
-          done = filter has_bytes so.whole;
-          others = [];
-          answers = so.answers;
-          last = now;
-          front = [];
-          split = ap asked (so.cut false (byte ∷ more)) ∙ asked-append so.whole (lines_of false (at.line.items ++ byte ∷ more)) so.each_short (omega (arith, all))
-              ∙ ap (λ n. filter has_bytes so.whole ++ asked_among n (lines_of false (at.line.items ++ byte ∷ more))) (let none : most_lines - length so.whole ≡ 0 = omega (arith, all) in none);
-          run = so.run;
-          next = (refl, refl, refl);
-          answered_is = so.answered_is;
-          wrote = subst (Appends empty holds) (sym (append-nil (printed so.answers))) so.wrote;
-        },
-      )
+    let all : length so.whole ≡ most_lines = omega (arith, so.counted_is) in
+    let none : most_lines - length so.whole ≡ 0 = omega (arith, all) in
+    let within : length so.whole ≤ most_lines = omega (arith, all) in
+    stops_past first empty came at byte more now holds so (record {
+      past = λ rest.
+        ap fits (so.cut true (byte ∷ rest) ∙ ap (λ l. so.whole ++ lines_of true (l ++ byte ∷ rest)) (so.none_past full))
+        ∙ fits-many so.whole (lines_of true (byte ∷ rest)) all (lines-some byte rest);
+      settled = λ ended rest.
+        ap asked (so.cut ended (byte ∷ rest)) ∙ asked-append so.whole (lines_of ended (at.line.items ++ byte ∷ rest)) so.each_short within
+        ∙ ap (λ n. filter has_bytes so.whole ++ asked_among n (lines_of ended (at.line.items ++ byte ∷ rest))) none ∙ append-nil (filter has_bytes so.whole);
+    })
 
   -- nothing is taken past a line's last byte
   pub stops_long : (at : Progress) (byte : ℕ) (more : List ℕ) (now : S) (holds : Option (List ℕ)) → length at.line.items ≡ most_line_bytes → is_inside byte ≡ true
       → Stops gives TooLong false (byte ∷ more) at now holds at now holds
   stops_long at byte more now holds full own = λ first empty came so.
-      let line = at.line.items in
-      let front = lines-front line byte more so.own_bytes own in
-      let long : (rest : List ℕ) → is_short ((line ++ byte ∷ []) ++ rest) ≡ false =
-      (λ rest. is_short-gt _ (omega (arith, length-append (line ++ byte ∷ []) rest, length-append line (byte ∷ [])))) in (
-        ap fits (so.cut true (byte ∷ more) ∙ ap (λ l. so.whole ++ l) front.is) ∙ fits-long so.whole _ front.others (long front.rest),
-        record {
-          done = filter has_bytes so.whole;
-          others = [];
-          answers = so.answers;
-          last = now;
-          front = [];
-          split = ap asked (so.cut false (byte ∷ more)) ∙ asked-append so.whole (lines_of false (line ++ byte ∷ more)) so.each_short (omega (arith, so.counted_is, so.few))
-              ∙ ap (λ l. filter has_bytes so.whole ++ l) (asked_none (most_lines - length so.whole) (line ++ byte ∷ []) _ long (lines-front_whole line byte more so.own_bytes own));
-          run = so.run;
-          next = (refl, refl, refl);
-          answered_is = so.answered_is;
-          wrote = subst (Appends empty holds) (sym (append-nil (printed so.answers))) so.wrote;
-        },
-      )
+    let line = at.line.items in
+    let long : (rest : List ℕ) → is_short ((line ++ byte ∷ []) ++ rest) ≡ false =
+      (λ rest. is_short-gt _ (omega (arith, length-append (line ++ byte ∷ []) rest, length-append line (byte ∷ [])))) in
+    let within : length so.whole ≤ most_lines = omega (arith, so.counted_is, so.few) in
+    stops_past first empty came at byte more now holds so (record {
+      past = λ rest. let front = lines-front line byte rest so.own_bytes own in
+        ap fits (so.cut true (byte ∷ rest) ∙ ap (λ l. so.whole ++ l) front.is) ∙ fits-long so.whole _ front.others (long front.rest);
+      settled = λ ended rest.
+        ap asked (so.cut ended (byte ∷ rest)) ∙ asked-append so.whole (lines_of ended (line ++ byte ∷ rest)) so.each_short within
+        ∙ ap (λ l. filter has_bytes so.whole ++ l) (asked_none (most_lines - length so.whole) (line ++ byte ∷ []) _ long (lines-begins ended line byte rest so.own_bytes own))
+        ∙ append-nil (filter has_bytes so.whole);
+    })
 
   -- no memory for a byte
   pub stops_memory : (old new : Progress) (bytes : List ℕ) (now : S) (holds : Option (List ℕ)) → new.answered ≡ old.answered

@@ -57,9 +57,13 @@ pub record Stopped {S : Type 0} (gives : S → List ℕ → List ℕ → S → T
   pub answered_is : answered ≡ length answers
   pub wrote : Appends held holds (printed answers ++ front)
 
+-- a limit is passed, whatever else follows, and nothing that follows is answered
+abbrev pub IsPast : List ℕ → Type 0
+IsPast came = (more : List ℕ) → (fits (lines_of true (came ++ more)) ≡ false) × (asked (lines_of true (came ++ more)) ≡ asked (lines_of false came))
+
 -- what a cause says of the bytes that came
 abbrev pub Tells : Cause → List ℕ → Type 0
-Tells TooLong came = fits (lines_of true came) ≡ false
+Tells TooLong came = IsPast came
 Tells Read came = fits (lines_of true came) ≡ true
 Tells Memory came = ⊤
 Tells Write came = ⊤
