@@ -3,3 +3,5 @@ pub mod Cuts
 pub mod RunLaws
 pub mod Steps
 pub mod Ends
+pub mod Later
+pub mod Known

@@ -1,5 +1,5 @@
 -- The lines of an input, and their limits.
-use Rattle.std.specs.Prelude.{ℕ, ◌+◌, ◌*◌, ◌==◌, ◌&&◌, Bool, true, false, cond, List, [], ◌∷◌, length, nat_le, take, filter}
+use Rattle.std.specs.Prelude.{◌≡◌, ◌++◌, ℕ, ◌+◌, ◌*◌, ◌==◌, ◌&&◌, Bool, true, false, cond, List, [], ◌∷◌, length, nat_le, take, filter}
 use Rattle.std.specs.List.{list_all, take_while}
 
 -- the byte that ends a line
@@ -44,3 +44,7 @@ has_bytes (_ ∷ _) = true
 -- the lines that are answered: those before the first past a limit that have any byte
 abbrev pub asked : List (List ℕ) → List (List ℕ)
 asked lines = filter has_bytes (take_while is_short (take most_lines lines))
+
+-- whatever bytes follow, the lines that are whole are the first to be answered
+abbrev pub WholeLinesFirst : Type 0
+WholeLinesFirst = (came more : List ℕ) → (others : List (List ℕ)) × (asked (lines_of true (came ++ more)) ≡ asked (lines_of false came) ++ others)

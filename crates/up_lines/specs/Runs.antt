@@ -89,3 +89,20 @@ pub record Ran {S : Type 0} (gives : S → List ℕ → List ℕ → S → Type 
   pub bounded : length came ≤ most_bytes
   pub at_end : ended ≡ true → IsAtEnd has
   pub leaves : Leaves gives first held came ended result now holds
+
+-- nothing became of the next line, or it was answered and less than the whole answer was written
+abbrev pub IsNext : {S : Type 0} → (S → List ℕ → List ℕ → S → Type 0) → S → List (List ℕ) → S → List ℕ → Type 0
+IsNext gives old lines new front = ((front ≡ []) × (new ≡ old)) ⊎ ((line answer : List ℕ) × (rest : List (List ℕ)) × (lines ≡ line ∷ rest) × gives old line answer new × IsProperFront front (print answer))
+
+-- of lines to be answered the first so many have their answers, written whole; the next one may be answered, and less than its whole answer written
+pub record AnswersFirst {S : Type 0} (gives : S → List ℕ → List ℕ → S → Type 0) (first : S) (held : Option (List ℕ)) (lines : List (List ℕ)) (answered : ℕ) (now : S) (holds : Option (List ℕ)) : Type 0 where
+  pub done : List (List ℕ)
+  pub others : List (List ℕ)
+  pub answers : List (List ℕ)
+  pub last : S
+  pub front : List ℕ
+  pub split : lines ≡ done ++ others
+  pub run : Run gives first done answers last
+  pub next : IsNext gives last others now front
+  pub answered_is : answered ≡ length answers
+  pub wrote : Appends held holds (printed answers ++ front)

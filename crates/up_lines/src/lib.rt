@@ -14,3 +14,10 @@ mod tests;
 mod written;
 
 pub use reading::run;
+
+ghost use Rattle.up_lines.specs.Lines.{WholeLinesFirst};
+
+/// The lines that are whole are answered first and as they are, whatever bytes follow.
+pub fn whole_lines_first()
+    ensures { WholeLinesFirst }
+{}

@@ -1,7 +1,8 @@
 //! Lines cut from a reader, and their answers written to a writer.
-ghost use Rattle.std.specs.Prelude.{◌≡◌, ◌<◌, ◌≤◌, ℕ, List, Option, [], IfOk, IfErr, OnErr, OnOk, false, true, length, take};
+ghost use Rattle.std.specs.Prelude.{◌≡◌, ◌<◌, ◌≤◌, ℕ, List, Option, [], IfOk, IfErr, IfSome, OnErr, OnOk, false, true, length, take};
 ghost use Rattle.std.specs.Io.KnownBytes.{Consumes, IsAtEnd, Keeps};
-ghost use Rattle.up_lines.specs.Runs.{Ran};
+ghost use Rattle.up_lines.specs.Lines.{lines_of, fits, asked};
+ghost use Rattle.up_lines.specs.Runs.{Ran, Finished, AnswersFirst};
 ghost use Rattle.up_lines.specs.Progress.{Takes, Stops, Completes, IsFresh, told};
 
 use crate::answer::Answer;
@@ -97,7 +98,11 @@ fn read_lines<S, A: Answer<S>, R: Read, W: Write>(
 }
 
 /// Answers each line of what the reader has, in order, as soon as it is whole, and writes each answer and a newline.
-/// An empty line is counted and not answered. The number is that of the lines answered.
+///
+/// A line ends with a newline (byte 10), or with the input where any byte stands behind the last newline.
+/// An empty line is counted and not answered. The number is that of the lines answered. At most 100,000 lines are
+/// read, of at most 2,097,152 bytes each without the newline, and one byte more; nothing is tried twice.
+/// A fault tells how many answers were written whole; lines that were answered before it stay answered.
 pub fn run<S, A: Answer<S>, R: Read, W: Write>(
     alloc: Global,
     answerer: &A,
@@ -105,8 +110,18 @@ pub fn run<S, A: Answer<S>, R: Read, W: Write>(
     reader: &mut R,
     writer: &mut W,
 ) -> Result<u32, Fault>
-    ensures { Ran A.gives state.old state.new (R.remaining reader.old) (R.remaining reader.new)
+    // For any reader and writer: the bytes that came, what was answered of them, and what was written.
+    ensures ran { Ran A.gives state.old state.new (R.remaining reader.old) (R.remaining reader.new)
         (W.contents writer.old) (W.contents writer.new) result }
+
+    // Where it is known what the reader has, by its lines.
+    ensures whole { IfOk result (λ answered. IfSome (R.remaining reader.old) (λ input.
+        Finished A.gives state.old (W.contents writer.old) input answered state.new (W.contents writer.new))) }
+    ensures too_long { IfErr result (λ fault. fault.cause ≡ Cause.TooLong → IfSome (R.remaining reader.old) (λ input.
+        fits (lines_of true input) ≡ false)) }
+    ensures front { IfErr result (λ fault. IfSome (R.remaining reader.old) (λ input.
+        AnswersFirst A.gives state.old (W.contents writer.old) (asked (lines_of true input)) fault.lines
+            state.new (W.contents writer.new))) }
 {
     let mut progress = Progress {
         line: Vec::new(alloc),
