@@ -1,12 +1,11 @@
 -- How a run ends.
-use Rattle.std.proofs.Common.{◌≡◌, ◌&&◌, Result, Ok, Err, OnOk, IfErr, IsErrAnd, inl, inr, ℕ, ◌+◌, ◌-◌, ◌*◌, ◌<◌, ◌≤◌, Bool, true, false, List, [], ◌∷◌, ◌++◌, length, take, drop, filter, refl, ap, sym, ◌∙◌, subst, arith, append-nil, length-append}
+use Rattle.std.proofs.Common.{◌≡◌, ◌&&◌, Result, Ok, Err, OnOk, IfErr, IsErrAnd, ℕ, ◌-◌, ◌<◌, ◌≤◌, Bool, true, false, List, [], ◌∷◌, ◌++◌, length, take, drop, filter, refl, ap, sym, ◌∙◌, subst, arith, append-nil, length-append}
 use Rattle.std.specs.Prelude.{Option}
 use Rattle.std.specs.List.{list_all}
 use Rattle.std.specs.Io.KnownBytes.{Appends, Consumes, IsAtEnd}
 use Rattle.std.proofs.KnownBytes.{Appends-nil}
 use Rattle.std.proofs.lemmas.Result.{err_from_is_err_and}
 use Rattle.std.proofs.Math.Seq.{take-append_seam}
-use Rattle.std.proofs.Math.Nat.{eq-or-lt_of_le}
 use Rattle.std.proofs.lemmas.List.Folds.{list_all-append}
 use Rattle.up_lines.specs.declared.progress.Progress.{Progress}
 use Rattle.up_lines.specs.declared.fault.Cause.{Cause}
@@ -16,7 +15,8 @@ use Rattle.up_lines.specs.Runs.{Run, printed, Stopped, Finished, Tells, Ran}
 use Rattle.up_lines.specs.Progress.{Sofar, Closes, Fails, Stops, Completes, IsFresh, told, is_inside}
 use Rattle.up_lines.proofs.Cuts.{lines-line, lines-last, lines-begun}
 use Rattle.up_lines.proofs.RunLaws.{is_short-le, asked-append, asked_among-none, fits-true}
-use Rattle.up_lines.proofs.Steps.{takes_end, stops_end}
+use Rattle.up_lines.proofs.Steps.{takes_end}
+use Rattle.up_lines.proofs.Stopping.{stops_end}
 
 not_full : (n : ℕ) → n ≤ most_lines → (n ≡ most_lines → ⊥) → n < most_lines
 not_full n few h = omega arith
@@ -43,13 +43,6 @@ lines-last_one : (line : List ℕ) → list_all is_inside line ≡ true → 0 < 
 lines-last_one [] own some = absurd (omega arith)
 lines-last_one (b ∷ bs) own some = lines-last b bs own
 
-bytes_below : (came counted line : ℕ) → came ≤ counted * (most_line_bytes + 1) + line → counted ≤ most_lines → line ≤ most_line_bytes → (counted ≡ most_lines → line ≡ 0) → came < most_bytes
-bytes_below came counted line bytes few short room =
-    elim (eq-or-lt_of_le few) [
-      | inl full ↦ (let none : line ≡ 0 = room full in omega (arith, full))
-      | inr below ↦ omega (arith, below)
-    ]
-
 fits_begun : (whole : List (List ℕ)) (line : List ℕ) → list_all is_short whole ≡ true → list_all is_inside line ≡ true → length line ≤ most_line_bytes → length whole ≤ most_lines
     → (length whole ≡ most_lines → line ≡ []) → fits (whole ++ lines_of true line) ≡ true
 fits_begun whole [] each own short few room = ap fits (append-nil whole) ∙ fits-true whole few each
@@ -60,11 +53,6 @@ fits_begun whole (b ∷ bs) each own short few room =
     (list_all-append is_short whole ((b ∷ bs) ∷ []) ∙ ap (λ t. t && (is_short (b ∷ bs) && true)) each ∙ ap (λ t. t && true) (is_short-le (b ∷ bs) short))
 
 module _ {S : Type 0} (gives : S → List ℕ → List ℕ → S → Type 0) (first : S) (empty : Option (List ℕ)) where
-  -- fewer bytes came than may come
-  pub room_left : (came : List ℕ) (at : Progress) (now : S) (holds : Option (List ℕ)) → Sofar gives first empty came at now holds → length came < most_bytes
-  room_left came at now holds so =
-      bytes_below (length came) at.counted (length at.line.items) so.bytes so.few so.short (λ full. ap length (so.none_past full))
-
   -- the lines of what came
   lines_now : (came : List ℕ) (at : Progress) (now : S) (holds : Option (List ℕ)) (so : Sofar gives first empty came at now holds) (ended : Bool) → lines_of ended came ≡ so.whole ++ lines_of ended at.line.items
   lines_now came at now holds so ended =

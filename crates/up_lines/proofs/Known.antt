@@ -1,7 +1,6 @@
 -- What a run says where it is known what the reader had.
-use Rattle.std.proofs.Common.{◌≡◌, ◌⊎◌, ℕ, Bool, true, false, List, [], ◌∷◌, ◌++◌, Result, Ok, Err, IfOk, IfErr, IfSome, Some, None, inl, inr, refl, ap, sym, ◌∙◌, subst, append_assoc, append-nil, arith, length-append, length, ◌<◌}
+use Rattle.std.proofs.Common.{◌≡◌, ℕ, Bool, true, false, List, [], ◌∷◌, ◌++◌, Ok, Err, IfSome, Some, None, inl, inr, refl, ap, sym, ◌∙◌, subst, append_assoc, append-nil, arith, length-append}
 use Rattle.std.specs.Prelude.{Option}
-use Rattle.std.specs.Io.KnownBytes.{Consumes, IsAtEnd}
 use Rattle.std.proofs.KnownBytes.{Consumes-whole}
 use Rattle.up_lines.specs.declared.fault.Cause.{Cause}
 use Rattle.up_lines.specs.declared.fault.Cause.TheVariants.{Memory, Read, Write, TooLong}
@@ -27,17 +26,17 @@ module _ {S : Type 0} (gives : S → List ℕ → List ℕ → S → Type 0) whe
   answers_first : (cause : Cause) (first : S) (held : Option (List ℕ)) (lines more : List (List ℕ)) (answered : ℕ) (now : S) (holds : Option (List ℕ)) → Stopped gives cause first held lines answered now holds
       → AnswersFirst gives first held (lines ++ more) answered now holds
   answers_first cause first held lines more answered now holds st = record {
-      done = st.done;
-      others = st.others ++ more;
-      answers = st.answers;
-      last = st.last;
-      front = st.front;
-      split = ap (λ l. l ++ more) st.split ∙ append_assoc st.done st.others more;
-      run = st.run;
-      next = next_of cause st.last st.others more now st.front st.next;
-      answered_is = st.answered_is;
-      wrote = st.wrote;
-    }
+    done = st.done;
+    others = st.others ++ more;
+    answers = st.answers;
+    last = st.last;
+    front = st.front;
+    split = ap (λ l. l ++ more) st.split ∙ append_assoc st.done st.others more;
+    run = st.run;
+    next = next_of cause st.last st.others more now st.front st.next;
+    answered_is = st.answered_is;
+    wrote = st.wrote;
+  }
 
   module _ (first now : S) (held holds : Option (List ℕ)) where
     pub known_whole : (had has : Option (List ℕ)) (answered : ℕ) → Ran gives first now had has held holds (Ok answered)
@@ -60,4 +59,4 @@ module _ {S : Type 0} (gives : S → List ℕ → List ℕ → S → Type 0) whe
     known_front (Some input) (Some left) fault ran =
         let (others, same) = first_of ran.ended ran.came left ran.at_end in
         subst (λ l. AnswersFirst gives first held l fault.lines now holds) (sym (ap (λ l. asked (lines_of true l)) ran.read ∙ same))
-          (answers_first fault.cause first held (asked (lines_of ran.ended ran.came)) others fault.lines now holds ran.leaves.1)
+        (answers_first fault.cause first held (asked (lines_of ran.ended ran.came)) others fault.lines now holds ran.leaves.1)

@@ -1,10 +1,6 @@
 -- Bytes that come later leave the lines that are whole as they are.
-use Rattle.std.proofs.Common.{◌≡◌, ◌&&◌, ◌==◌, not, subst, Result, Ok, Err, IfOk, IfSome, ℕ, zero, suc, Bool, true, false, cond, List, [], ◌∷◌, ◌++◌, take, filter, refl, ap, sym, ◌∙◌, append-nil}
-use Rattle.std.specs.Prelude.{Option}
+use Rattle.std.proofs.Common.{◌≡◌, ◌&&◌, ◌==◌, not, subst, ℕ, zero, suc, Bool, true, false, cond, List, [], ◌∷◌, ◌++◌, take, filter, refl, ap, sym, ◌∙◌, append-nil}
 use Rattle.std.proofs.lemmas.Bool.{eqb-true}
-use Rattle.std.proofs.KnownBytes.{Consumes-whole}
-use Rattle.up_lines.specs.declared.fault.Fault.{Fault}
-use Rattle.up_lines.specs.Runs.{Ran, Finished}
 use Rattle.std.specs.List.{list_all, take_while}
 use Rattle.std.proofs.lemmas.List.Sums.{take_while-cons}
 use Rattle.up_lines.specs.Lines.{newline, begin_with, lines_of, is_short, has_bytes, asked, most_lines}
@@ -27,17 +23,17 @@ cut_newline bytes c = record { whole = [] ∷ c.whole; rest = c.rest; own_bytes 
 cut_inside : (byte : ℕ) (bytes : List ℕ) → is_inside byte ≡ true → (whole : List (List ℕ)) (rest : List ℕ) → list_all is_inside rest ≡ true
     → ((ended : Bool) (more : List ℕ) → lines_of ended (bytes ++ more) ≡ whole ++ lines_of ended (rest ++ more)) → Cut (byte ∷ bytes)
 cut_inside byte bytes own [] rest own_bytes cut = record {
-    whole = [];
-    rest = byte ∷ rest;
-    own_bytes = ap (λ t. t && list_all is_inside rest) own ∙ own_bytes;
-    cut = λ ended more. lines-inside ended byte (bytes ++ more) own ∙ ap (begin_with ended byte) (cut ended more) ∙ sym (lines-inside ended byte (rest ++ more) own);
-  }
+  whole = [];
+  rest = byte ∷ rest;
+  own_bytes = ap (λ t. t && list_all is_inside rest) own ∙ own_bytes;
+  cut = λ ended more. lines-inside ended byte (bytes ++ more) own ∙ ap (begin_with ended byte) (cut ended more) ∙ sym (lines-inside ended byte (rest ++ more) own);
+}
 cut_inside byte bytes own (line ∷ lines) rest own_bytes cut = record {
-    whole = (byte ∷ line) ∷ lines;
-    rest = rest;
-    own_bytes = own_bytes;
-    cut = λ ended more. lines-inside ended byte (bytes ++ more) own ∙ ap (begin_with ended byte) (cut ended more);
-  }
+  whole = (byte ∷ line) ∷ lines;
+  rest = rest;
+  own_bytes = own_bytes;
+  cut = λ ended more. lines-inside ended byte (bytes ++ more) own ∙ ap (begin_with ended byte) (cut ended more);
+}
 
 cut_byte : (byte : ℕ) (bytes : List ℕ) → (b : Bool) → (byte == newline) ≡ b → Cut bytes → Cut (byte ∷ bytes)
 cut_byte byte bytes true is c = subst (λ n. Cut (n ∷ bytes)) (sym (eqb-true byte newline is)) (cut_newline bytes c)
@@ -76,7 +72,6 @@ pub whole_first : (came more : List ℕ) → (others : List (List ℕ)) × (aske
 whole_first came more =
     let c = cut_of came in
     let all : lines_of false came ≡ c.whole =
-      ap (lines_of false) (sym (append-nil came)) ∙ c.cut false [] ∙ ap (λ l. c.whole ++ l) (ap (lines_of false) (append-nil c.rest) ∙ lines-begun c.rest c.own_bytes) ∙ append-nil c.whole in
+    ap (lines_of false) (sym (append-nil came)) ∙ c.cut false [] ∙ ap (λ l. c.whole ++ l) (ap (lines_of false) (append-nil c.rest) ∙ lines-begun c.rest c.own_bytes) ∙ append-nil c.whole in
     let (others, same) = first_asked most_lines c.whole (lines_of true (c.rest ++ more)) in
     (others, ap asked (c.cut true more) ∙ same ∙ ap (λ l. asked l ++ others) (sym all))
-

@@ -2,6 +2,7 @@ pub mod Writes
 pub mod Cuts
 pub mod RunLaws
 pub mod Steps
+pub mod Stopping
 pub mod Ends
 pub mod Later
 pub mod Known

@@ -1,5 +1,5 @@
 -- What was written of a text, part by part.
-use Rattle.std.proofs.Common.{◌≡◌, ℕ, ◌+◌, ◌-◌, ◌<◌, List, ◌++◌, length, take, drop, ap, sym, ◌∙◌, subst, arith, take-append-drop, length-drop, append-nil, []}
+use Rattle.std.proofs.Common.{◌≡◌, ℕ, ◌+◌, ◌-◌, ◌<◌, List, ◌++◌, length, take, drop, ap, sym, ◌∙◌, subst, arith, take-append-drop, length-drop}
 use Rattle.std.specs.Prelude.{Option}
 use Rattle.std.specs.Io.KnownBytes.{Appends, Keeps}
 use Rattle.std.proofs.KnownBytes.{Appends-trans, Appends-kept}
@@ -20,12 +20,3 @@ pub wrote_front : (a b c : Option (List ℕ)) (text : List ℕ) (at : ℕ) → a
     → (front : List ℕ) × IsProperFront front text × Appends a c front
 wrote_front a b c text at below before kept =
     (take at text, (drop at text, sym (take-append-drop at text), omega (arith, length-drop at text)), Appends-kept a b c _ before kept)
-
--- nothing more was written by a write that took nothing
-pub wrote_none : (a b c : Option (List ℕ)) (text : List ℕ) (at : ℕ) → at < length text → Appends a b (take at text) → Appends b c []
-    → (front : List ℕ) × IsProperFront front text × Appends a c front
-wrote_none a b c text at below before now = (
-  take at text,
-  (drop at text, sym (take-append-drop at text), omega (arith, length-drop at text)),
-  subst (Appends a c) (append-nil (take at text)) (Appends-trans a b c _ _ before now),
-)

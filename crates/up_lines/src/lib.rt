@@ -13,9 +13,9 @@ mod taking;
 mod tests;
 mod written;
 
-pub use reading::run;
-
 ghost use Rattle.up_lines.specs.Lines.{WholeLinesFirst};
+
+pub use reading::run;
 
 /// The lines that are whole are answered first and as they are, whatever bytes follow.
 pub fn whole_lines_first()

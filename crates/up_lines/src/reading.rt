@@ -121,7 +121,7 @@ pub fn run<S, A: Answer<S>, R: Read, W: Write>(
         fits (lines_of true input) ≡ false)) }
     ensures front { IfErr result (λ fault. IfSome (R.remaining reader.old) (λ input.
         AnswersFirst A.gives state.old (W.contents writer.old) (asked (lines_of true input)) fault.lines
-            state.new (W.contents writer.new))) }
+        state.new (W.contents writer.new))) }
 {
     let mut progress = Progress {
         line: Vec::new(alloc),

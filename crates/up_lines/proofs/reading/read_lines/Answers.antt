@@ -7,7 +7,7 @@ use Rattle.std.proofs.KnownBytes.{Consumes-nil, Consumes-trans, Consumes-kept}
 use Rattle.up_lines.specs.Lines.{lines_of, asked}
 use Rattle.up_lines.specs.Runs.{Tells, Stopped}
 use Rattle.up_lines.specs.Progress.{Sofar}
-use Rattle.up_lines.proofs.Steps.{stops_memory}
+use Rattle.up_lines.proofs.Stopping.{stops_memory}
 use Rattle.up_lines.proofs.Ends.{fresh, same_front, ran_stop, ran_err, ran_on, stops_read}
 use Rattle.up_lines.proofs.reading.read_lines.Goals as goal
 

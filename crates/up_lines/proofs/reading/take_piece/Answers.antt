@@ -1,4 +1,5 @@
-use Rattle.up_lines.proofs.Steps.{passed_on, stops_piece}
+use Rattle.up_lines.proofs.Steps.{passed_on}
+use Rattle.up_lines.proofs.Stopping.{stops_piece}
 use Rattle.up_lines.proofs.reading.take_piece.Goals as goal
 
 pub returns-in_err-take_byte-clause-err : goal.returns-in_err-take_byte-clause-err

@@ -1,7 +1,8 @@
 use Rattle.std.proofs.Common.{refl, arith, ◌∷◌}
 use Rattle.std.proofs.lemmas.Grind.{common_steps}
 use Rattle.std.proofs.lemmas.Result.{IfErr-weaker}
-use Rattle.up_lines.proofs.Steps.{takes_newline, takes_byte, stops_many, stops_long, stops_memory, stops_newline, on_ok, inside}
+use Rattle.up_lines.proofs.Steps.{takes_newline, takes_byte, on_ok, inside}
+use Rattle.up_lines.proofs.Stopping.{stops_many, stops_long, stops_memory, stops_newline}
 use Rattle.up_lines.proofs.taking.take_byte.Goals as goal
 
 pub returns-then-progress-eq-MOST_LINES-clause-err :
