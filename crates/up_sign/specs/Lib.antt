@@ -6,3 +6,4 @@ pub mod Formats
 pub mod Reading
 pub mod Meaning
 pub mod Laws
+pub mod Hashed

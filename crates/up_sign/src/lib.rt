@@ -2,11 +2,15 @@
 #![tactic(auto)]
 
 pub mod envelope;
+#[cfg(test)]
+mod hashed;
 pub mod hmac_sha256;
 pub mod key_id;
 pub mod laws;
 pub mod reading;
 pub mod scheme;
 pub mod seal;
+#[cfg(test)]
+mod tests;
 pub mod threshold;
 mod writing;
