@@ -7,3 +7,4 @@ pub mod Plain
 pub mod CanonicalText
 pub mod Written
 pub mod TableLemmas
+pub mod JsonTexts

@@ -8,3 +8,4 @@ pub mod Refusals
 pub mod Members
 pub mod Readers
 pub mod Build
+pub mod JsonText

@@ -11,6 +11,7 @@ pub mod fields;
 pub mod file_name;
 pub mod hex_text;
 pub mod ident;
+pub mod json_text;
 pub mod kinds;
 pub mod limits;
 pub mod listed;

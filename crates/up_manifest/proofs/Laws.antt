@@ -9,7 +9,7 @@ use Rattle.up_manifest.specs.Meaning.{MeansBody}
 use Rattle.up_manifest.specs.Laws.{IsBodyFault, BodiesAreRead, BodiesMeanOneOrFail, SignedTextsMean}
 use Rattle.up_manifest.specs.declared.manifest.Incoming.{Incoming}
 use Rattle.up_manifest.proofs.Faults.{body_fails}
-use Rattle.up_manifest.proofs.Reading.{body_read, body_there, manifest_there}
+use Rattle.up_manifest.proofs.BodyReading.{body_read, body_there, manifest_there}
 
 pub bodies_are_read : BodiesAreRead
 bodies_are_read body i = (body_read body i, body_there body i)

@@ -1,5 +1,9 @@
 pub mod Steps
 pub mod Members
-pub mod Reading
+pub mod BodyReading
 pub mod Faults
 pub mod Laws
+pub mod Printable
+pub mod Values
+pub mod Lengths
+pub mod Built

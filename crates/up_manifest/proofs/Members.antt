@@ -9,11 +9,11 @@ use Rattle.serde_json.specs.Find as json
 use Rattle.up_canon.specs.Canon.{max_count}
 use Rattle.up_canon.specs.Names.{Name, is_from_to, is_ident, is_file_name, is_note, is_short_text}
 use Rattle.up_canon.specs.Moments.{read_moment}
+use Rattle.up_canon.specs.HexText.{hex_of, hex_in, sha256_in}
 use Rattle.up_canon.specs.Members.{items_list, text_of, count_of, list_of, object_of, member_in, text_in, count_in, list_in, object_in}
-use Rattle.up_canon.specs.Readers.{fitting, ident_of, file_name_of, note_of, ident_in, file_name_in, note_in, word_in, short_text_in, positive_in, list_within}
+use Rattle.up_canon.specs.Readers.{fitting, ident_of, file_name_of, note_of, ident_in, file_name_in, note_in, word_in, short_text_in, positive_in, list_within, moment_in}
 use Rattle.up_canon.specs.Steps.{or_error, if_passes, value_of}
 use Rattle.up_canon.specs.declared.refusal.Refusal.TheVariants.{BadShape}
-use Rattle.up_manifest.specs.Provisional.{hex_in, moment_in}
 use Rattle.up_manifest.specs.Meaning.{HasText, HasCount, HasObject, HasHex}
 use Rattle.up_manifest.proofs.Steps.{first_ok, bind-ok, or_error_ok, unless_ok, value_of_some, passed}
 
@@ -91,16 +91,33 @@ pub object_read : (name : List ℕ) (d o : Data) → object_in name d ≡ Ok o �
 unfolding object_in member_in object_of
 object_read name d o h = first_ok _ _ _ _ h (λ v has h. let p = is_some_object v o (or_error_ok _ _ o h) in (p.0, or_error_ok _ _ v has ∙ ap Some p.1, p.2))
 
+-- what has a member is an object
+pub has_member : (name : List ℕ) (d e : Data) → json.get name d ≡ Some e → (ms : Members) × (d ≡ object ms)
+has_member name null e h = cc
+has_member name (boolean b) e h = cc
+has_member name (number n) e h = cc
+has_member name (string s) e h = cc
+has_member name (array ds) e h = cc
+has_member name (object ms) e h = (ms, refl)
+
+pub self_read : (name : List ℕ) (d o : Data) → object_of name d ≡ Ok o → d ≡ o
+unfolding object_of
+self_read name d o h = let p = is_some_object d o (or_error_ok _ _ o h) in p.1 ∙ sym p.2
+
+pub self_there : (name : List ℕ) (d : Data) (o : (ms : Members) × (d ≡ object ms)) → object_of name d ≡ Ok d
+unfolding object_of
+self_there name d o = rw o.1 refl
+
 pub object_there : (name : List ℕ) (d o : Data) → HasObject d name o → object_in name d ≡ Ok o
 unfolding object_in member_in object_of
 object_there name d o has = let there = has.1 in bind-ok _ _ (object has.0) (rw there) ∙ ap Ok (sym has.2)
 
 -- ---- within limits
 
-fits_read : {A : Type 0} (fits : A → Bool) (name : List ℕ) (x y : A) → fitting fits name x ≡ Ok y → (fits y ≡ true) × (x ≡ y)
+pub fits_read : {A : Type 0} (fits : A → Bool) (name : List ℕ) (x y : A) → fitting fits name x ≡ Ok y → (fits y ≡ true) × (x ≡ y)
 fits_read fits name x y h = let p = passed (fits x) x y _ h in (subst (λ z. fits z ≡ true) p.1 p.0, p.1)
 
-fits_there : {A : Type 0} (fits : A → Bool) (name : List ℕ) (x : A) → fits x ≡ true → fitting fits name x ≡ Ok x
+pub fits_there : {A : Type 0} (fits : A → Bool) (name : List ℕ) (x : A) → fits x ≡ true → fitting fits name x ≡ Ok x
 fits_there fits name x h = rw h
 
 pub ident_read : (name : List ℕ) (d : Data) (t : Name) → ident_in name d ≡ Ok t → HasText d name t × (is_ident t ≡ true)
@@ -177,25 +194,41 @@ list_within_there least most name d items has low high =
 
 -- ---- hexadecimal text and moments
 
-pub hex_read : (least most : ℕ) (name : List ℕ) (d : Data) (bytes : List ℕ) → hex_in least most name d ≡ Ok bytes → HasHex least most d name bytes
-unfolding hex_in
-hex_read least most name d bytes h = first_ok _ _ _ _ h (λ t has h. first_ok _ _ _ _ h (λ digits fits h.
+hex_of_read : (least most : ℕ) (name : List ℕ) (d v : Data) (bytes : List ℕ) → json.get name d ≡ Some v → hex_of least most name v ≡ Ok bytes → HasHex least most d name bytes
+unfolding hex_of text_of
+hex_of_read least most name d v bytes has h = first_ok _ _ _ _ h (λ t is h. first_ok _ _ _ _ h (λ digits fits h.
     let p = fits_read (λ t. is_from_to least most (length t)) name t digits fits in
     let q = within least most (length digits) p.0 in
     record {
       digits = digits;
-      has_digits = subst (HasText d name) p.1 (text_read name d t has);
+      has_digits = subst (HasText d name) p.1 (has ∙ ap Some (is_text v t (or_error_ok _ _ t is)));
       at_least = q.0;
       at_most = q.1;
       decoded = value_of_some _ bytes (or_error_ok _ _ bytes h);
     }))
 
-pub hex_there : (least most : ℕ) (name : List ℕ) (d : Data) (bytes : List ℕ) → HasHex least most d name bytes → hex_in least most name d ≡ Ok bytes
-unfolding hex_in
-hex_there least most name d bytes h =
-    bind-ok _ _ h.digits (text_there name d h.digits h.has_digits)
+hex_of_there : (least most : ℕ) (name : List ℕ) (d : Data) (bytes : List ℕ) (h : HasHex least most d name bytes) → hex_of least most name (string h.digits) ≡ Ok bytes
+unfolding hex_of text_of
+hex_of_there least most name d bytes h =
+    bind-ok _ _ h.digits refl
     ∙ bind-ok _ _ h.digits (fits_there (λ t. is_from_to least most (length t)) name h.digits (within_there least most _ h.at_least h.at_most))
     ∙ ap (λ r. or_error (BadShape name) (value_of r)) h.decoded
+
+pub hex_read : (least most : ℕ) (name : List ℕ) (d : Data) (bytes : List ℕ) → hex_in least most name d ≡ Ok bytes → HasHex least most d name bytes
+unfolding hex_in member_in
+hex_read least most name d bytes h = first_ok _ _ _ _ h (λ v has h. hex_of_read least most name d v bytes (or_error_ok _ _ v has) h)
+
+pub hex_there : (least most : ℕ) (name : List ℕ) (d : Data) (bytes : List ℕ) → HasHex least most d name bytes → hex_in least most name d ≡ Ok bytes
+unfolding hex_in member_in
+hex_there least most name d bytes h = bind-ok _ _ (string h.digits) (ap (or_error (BadShape name)) h.has_digits) ∙ hex_of_there least most name d bytes h
+
+pub sha256_read : (name : List ℕ) (d : Data) (bytes : List ℕ) → sha256_in name d ≡ Ok bytes → HasHex 64 64 d name bytes
+unfolding sha256_in member_in
+sha256_read name d bytes h = first_ok _ _ _ _ h (λ v has h. hex_of_read 64 64 name d v bytes (or_error_ok _ _ v has) h)
+
+pub sha256_there : (name : List ℕ) (d : Data) (bytes : List ℕ) → HasHex 64 64 d name bytes → sha256_in name d ≡ Ok bytes
+unfolding sha256_in member_in
+sha256_there name d bytes h = bind-ok _ _ (string h.digits) (ap (or_error (BadShape name)) h.has_digits) ∙ hex_of_there 64 64 name d bytes h
 
 pub moment_read : (name : List ℕ) (d : Data) (m : ℕ) → moment_in name d ≡ Ok m → (t : List ℕ) × HasText d name t × (read_moment t ≡ Some m)
 unfolding moment_in

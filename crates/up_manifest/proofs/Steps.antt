@@ -1,9 +1,12 @@
 -- What a chain of steps that ended in a value says of each step.
-use Rattle.std.proofs.Common.{◌≡◌, List, [], ◌∷◌, Bool, true, false, cond, Option, Some, None, Result, Ok, Err, refl, length, ap, subst, ◌∙◌, ℕ, suc}
-use Rattle.std.specs.Prelude.{⊤}
+use Rattle.std.proofs.Common.{◌≡◌, List, [], ◌∷◌, Bool, true, false, cond, Option, Some, None, Result, Ok, Err, refl, sym, length, ap, subst, ◌∙◌, ℕ, suc}
+use Rattle.std.specs.Prelude.{⊤, MatchBool, IsErrAnd}
+use Rattle.std.proofs.lemmas.Result.{err_from_is_err_and}
 use Rattle.serde_json.specs.Data.{Data, Items, no_items, item}
 use Rattle.up_canon.specs.Members.{items_list}
 use Rattle.up_canon.specs.Steps.{and_then, ◌>>=◌, unless, or_error, value_of, each}
+use Rattle.up_canon.specs.Refusals.{Gives, is_memory}
+use Rattle.up_canon.specs.declared.refusal.Refusal.{Refusal}
 use Rattle.up_manifest.specs.Meaning.{EachMeans}
 
 -- to go on with the value of the first step
@@ -34,6 +37,26 @@ unless_there b e h = rw h refl
 pub value_of_some : {E A : Type 0} (r : Result A E) (x : A) → value_of r ≡ Some x → r ≡ Ok x
 value_of_some (Ok y) x h = cc
 value_of_some (Err e) x h = cc
+
+-- what a step refused, the steps refuse
+err_first : {A B : Type 0} (e : Refusal) (r : Result A Refusal) (f : A → Result B Refusal) → Gives {A = A} (Err e) r → Gives {A = B} (Err e) (r >>= f)
+unfolding and_then
+err_first {A = A} {B = B} e (Ok x) f h = by_memory (is_memory e) h
+  where
+    by_memory : (m : Bool) → MatchBool m ⊤ (◌≡◌ {A = Result A Refusal} (Ok x) (Err e)) → MatchBool m ⊤ (f x ≡ Err e)
+    by_memory true h = tt
+    by_memory false h = cc
+err_first {A = A} {B = B} e (Err d) f h = by_memory (is_memory e) h
+  where
+    by_memory : (m : Bool) → MatchBool m ⊤ (◌≡◌ {A = Result A Refusal} (Err d) (Err e)) → MatchBool m ⊤ (◌≡◌ {A = Result B Refusal} (Err d) (Err e))
+    by_memory true h = tt
+    by_memory false h = let same : d ≡ e = cc in ap (λ x. Err x) same
+
+pub gives_err : {A B : Type 0} (result : Result B Refusal) (e : Refusal) (r : Result A Refusal) (f : A → Result B Refusal)
+    → IsErrAnd result (λ x. x ≡ e) → Gives {A = A} (Err e) r → Gives result (r >>= f)
+gives_err {A = A} {B = B} result e r f is h =
+    let (x, was, same) = err_from_is_err_and result is in
+    subst (λ s. Gives s (r >>= f)) (sym (was ∙ ap (λ x. Err x) same)) (err_first e r f h)
 
 -- of a test, the value that passed it
 pub passed : {E A : Type 0} (b : Bool) (x y : A) (e : E) → cond b (Ok x) (Err e) ≡ Ok y → (b ≡ true) × (x ≡ y)

@@ -1,13 +1,14 @@
 -- Reports and manifests as they are written.
-use Rattle.std.specs.Prelude.{◌≡◌, ℕ, ◌≤◌, ◌<◌, ◌++◌, List, [], ◌∷◌, IsTrue, length, map, codes, decimal, slice_index, ⊤}
+use Rattle.std.specs.Prelude.{◌≡◌, ℕ, ◌≤◌, ◌++◌, List, [], ◌∷◌, IsTrue, length, map, codes, decimal, ⊤}
+use Rattle.std.specs.List.{list_all, join_with_byte}
 use Rattle.serde_json.specs.Data.{Data, string}
 use Rattle.up_canon.specs.Build.{object_with, list_with, count_value, hex_value}
 use Rattle.up_canon.specs.Canon.{max_count, text, quoted}
 use Rattle.up_canon.specs.Moments.{last_moment, moment_text}
 use Rattle.up_canon.specs.Names.{is_ident, is_file_name, is_note}
 use Rattle.up_sign.specs.Envelopes.{sealed}
-use Rattle.up_sign.specs.Formats.{envelope_fits, envelope_text}
-use Rattle.up_sign.specs.Schemes.{Rules}
+use Rattle.up_sign.specs.Formats.{envelope_fits, has_bytes, envelope_text}
+use Rattle.up_sign.specs.Schemes.{Rules, is_byte}
 use Rattle.up_sign.specs.declared.envelope.Envelope.{Envelope}
 use Rattle.up_manifest.specs.declared.report.Installed.{Installed}
 use Rattle.up_manifest.specs.declared.report.Report.{Report}
@@ -32,6 +33,10 @@ report_value r = object_with (
 unfoldable pub report_text : Report → List ℕ
 report_text r = text (report_value r)
 
+-- its first three members
+abbrev pub ecu_text : Report → List ℕ
+ecu_text r = codes "{\"attack\":" ++ quoted r.attack ++ codes ",\"counter\":" ++ decimal r.counter ++ codes ",\"ecu\":" ++ quoted r.ecu
+
 -- the limits that the types of a report's members keep
 pub record ReportFits (r : Report) : Type 0 where
   pub ecu : IsTrue (is_ident r.ecu)
@@ -41,12 +46,13 @@ pub record ReportFits (r : Report) : Type 0 where
   pub file : IsTrue (is_file_name r.image.file)
   pub size : r.image.length ≤ max_count
   pub sha256 : length r.image.sha256 ≡ 32
-  pub bytes : (i : ℕ) → slice_index r.image.sha256 i < 256
+  pub bytes : IsTrue (list_all is_byte r.image.sha256)
 
 -- an envelope with one signature over a report's text
 pub record IsReportEnvelope (e : Envelope) (r : Report) : Type 0 where
   pub one : length e.signatures ≡ 1
   pub limits : IsTrue (envelope_fits e)
+  pub bytes : IsTrue (has_bytes e)
   pub signed : e.signed ≡ report_text r
   pub fits : ReportFits r
 
@@ -59,14 +65,13 @@ AreReportEnvelopes (e ∷ es) (r ∷ rs) = IsReportEnvelope e r × AreReportEnve
 
 -- ---- manifests
 
--- texts in a list, its closing bracket included; a comma stands before each but the first
-abbrev pub more_listed : List (List ℕ) → List ℕ
-more_listed [] = codes "]"
-more_listed (t ∷ ts) = codes "," ++ t ++ more_listed ts
-
+-- texts in a list, with commas between
 abbrev pub listed : List (List ℕ) → List ℕ
-listed [] = codes "[]"
-listed (t ∷ ts) = codes "[" ++ t ++ more_listed ts
+listed ts = 91 ∷ join_with_byte 44 ts ++ 93 ∷ []
+
+-- the first two members
+abbrev pub primary_text : List ℕ → ℕ → List ℕ
+primary_text primary counter = codes "{\"counter\":" ++ decimal counter ++ codes ",\"primary\":" ++ quoted primary
 
 -- the text that a Primary signs, in which the reports' envelopes stand as they are
 unfoldable pub manifest_text : List ℕ → List ℕ → ℕ → List Envelope → List ℕ
@@ -84,6 +89,7 @@ signed_reports (r ∷ rs) (e ∷ es) = record { report = r; envelope = e } ∷ s
 abbrev pub sealed_manifest : Rules → List ℕ → List ℕ → List ℕ → ℕ → List Envelope → Envelope
 sealed_manifest k secret vehicle primary counter reports = sealed k (secret ∷ []) (manifest_text vehicle primary counter reports)
 
+-- what was built of these
 abbrev pub built : Rules → List ℕ → List ℕ → List ℕ → ℕ → List Report → List Envelope → Incoming
 built k secret vehicle primary counter rs es = record {
   manifest = record { vehicle = vehicle; primary = primary; counter = counter; reports = signed_reports rs es };

@@ -1,4 +1,3 @@
-pub mod Provisional
 pub mod Manifests
 pub mod Meaning
 pub mod Laws

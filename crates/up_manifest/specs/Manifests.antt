@@ -1,14 +1,14 @@
 -- What a manifest's body means, or the first fault of it.
 use Rattle.std.specs.Prelude.{ℕ, List, nat_le, length, if◌then◌else◌, Option, None, option_and_then, Result, Ok, codes}
-use Rattle.std.specs.Str.{is_utf8}
 use Rattle.serde_json.specs.Data.{Data}
 use Rattle.serde_json.specs.Read.{read}
 use Rattle.up_canon.specs.Steps.{◌>>=◌, or_error, unless, each, value_of}
 use Rattle.up_canon.specs.declared.refusal.Refusal.{Refusal}
-use Rattle.up_canon.specs.declared.refusal.Refusal.TheVariants.{TooLarge, NotJson}
+use Rattle.up_canon.specs.HexText.{sha256_in}
+use Rattle.up_canon.specs.JsonText.{value_within}
 use Rattle.up_canon.specs.Members.{count_in, object_in}
-use Rattle.up_canon.specs.Readers.{ident_in, file_name_in, note_in, word_in, positive_in, list_within}
-use Rattle.up_manifest.specs.Provisional.{hex_in, moment_in, opened_in}
+use Rattle.up_canon.specs.Readers.{ident_in, file_name_in, note_in, word_in, positive_in, list_within, moment_in}
+use Rattle.up_sign.specs.Reading.{opened_in}
 use Rattle.up_manifest.specs.declared.report.Installed.{Installed}
 use Rattle.up_manifest.specs.declared.report.Report.{Report}
 use Rattle.up_manifest.specs.declared.report.SignedReport.{SignedReport}
@@ -30,7 +30,7 @@ installed_in d = do
   file ← file_name_in (codes "file") d
   size ← count_in (codes "length") d
   hashes ← object_in (codes "hashes") d
-  sha256 ← hex_in 64 64 (codes "sha256") hashes
+  sha256 ← sha256_in (codes "sha256") hashes
   Ok (record { file = file; length = size; sha256 = sha256 })
 
 unfoldable pub report_in : Data → Result Report Refusal
@@ -44,13 +44,19 @@ report_in payload = do
   installed ← installed_in image
   Ok (record { ecu = ecu; counter = counter; time = time; attack = attack; image = installed })
 
-unfoldable pub signed_report_in : Data → Result SignedReport Refusal
-signed_report_in d = do
-  opened ← opened_in (codes "reports") d
+-- place is the name of the list that it stands in
+unfoldable pub signed_report_in : List ℕ → Data → Result SignedReport Refusal
+signed_report_in place d = do
+  opened ← opened_in place d
   report ← report_in opened.payload
   Ok (record { report = report; envelope = opened.envelope })
 
 -- ---- manifests
+
+unfoldable pub reports_in : Data → Result (List SignedReport) Refusal
+reports_in payload = do
+  listed ← list_within 0 most_reports (codes "reports") payload
+  each (signed_report_in (codes "reports")) listed
 
 unfoldable pub manifest_in : Data → Result Manifest Refusal
 manifest_in payload = do
@@ -58,21 +64,15 @@ manifest_in payload = do
   vehicle ← ident_in (codes "vehicle") payload
   primary ← ident_in (codes "primary") payload
   counter ← positive_in (codes "counter") payload
-  listed ← list_within 0 most_reports (codes "reports") payload
-  reports ← each signed_report_in listed
+  reports ← reports_in payload
   Ok (record { vehicle = vehicle; primary = primary; counter = counter; reports = reports })
 
 -- ---- bodies
 
--- what the bytes read as, if they are UTF-8
-abbrev pub value_in : List ℕ → Option Data
-value_in body = if is_utf8 body then read body else None
-
 -- the manifest that a body means, with its envelope, or its first fault
 unfoldable pub incoming_in : List ℕ → Result Incoming Refusal
 incoming_in body = do
-  is_small ← unless (nat_le (length body) largest_body) TooLarge
-  d ← or_error NotJson (value_in body)
+  d ← value_within largest_body body
   opened ← opened_in (codes "body") d
   manifest ← manifest_in opened.payload
   Ok (record { manifest = manifest; envelope = opened.envelope })

@@ -1,8 +1,11 @@
 //! ECU version reports and vehicle version manifests.
 #![tactic(auto)]
 
+pub mod building;
 pub mod manifest;
+pub mod reading;
 pub mod report;
+mod writing;
 
 ghost use Rattle.up_manifest.specs.Laws.{BodiesAreRead, BodiesMeanOneOrFail, SignedTextsMean};
 

@@ -1,0 +1,181 @@
+-- How long the texts of envelopes, reports and manifests are at most.
+use Rattle.std.proofs.Common.{◌≡◌, ℕ, zero, suc, lit<, lit≤, ◌+◌, ◌*◌, ◌^◌, ◌<◌, ◌≤◌, List, [], ◌∷◌, ◌++◌, Bool, true, false, cond, length, map, refl, sym, ap, ◌∙◌, arith, append_assoc, length-append}
+use Rattle.std.specs.Prelude.{◌||◌, ◌==◌, nat_le, codes, decimal, flat_map}
+use Rattle.std.specs.List.{list_all, join_with_byte}
+use Rattle.std.proofs.lemmas.Bool.{and_parts}
+use Rattle.std.proofs.lemmas.Bool.Decides.{nat_tests}
+use Rattle.std.proofs.lemmas.Fmt.{length-decimal-le}
+use Rattle.hex.specs.Hex.{encode_lower, lower_digits}
+use Rattle.hex.proofs.HexLemmas.{length-encode_with}
+use Rattle.serde_json.specs.View.{items_of}
+use Rattle.up_canon.specs.Build.{list_with}
+use Rattle.up_canon.specs.Canon.{max_count, text, quoted, escaped, items_text}
+use Rattle.up_canon.specs.Moments.{last_moment, moment_text, MomentTextIsPlain}
+use Rattle.up_canon.specs.Names.{is_from_to, is_short_text, is_ident}
+use Rattle.up_sign.specs.Formats.{signature_fits, envelope_fits, signature_value, envelope_text}
+use Rattle.up_sign.specs.declared.envelope.Signature.{Signature}
+use Rattle.up_sign.specs.declared.envelope.Envelope.{Envelope}
+use Rattle.up_manifest.specs.Building.{hashes_value, installed_value, ecu_text, report_text, ReportFits, IsReportEnvelope, AreReportEnvelopes, listed, manifest_text}
+use Rattle.up_manifest.specs.Manifests.{most_reports}
+use Rattle.up_manifest.specs.declared.report.Report.{Report}
+
+escaped-length : (x : ℕ) → length (escaped x) ≤ 2
+escaped-length x = by_test ((x == 34) || (x == 92))
+  where
+    by_test : (b : Bool) → length (cond b (92 ∷ x ∷ []) (x ∷ [])) ≤ 2
+    by_test true = lit≤ tt
+    by_test false = lit≤ tt
+
+escapes-length : (t : List ℕ) → length (flat_map escaped t) ≤ 2 * length t
+escapes-length [] = omega arith
+escapes-length (x ∷ t) = omega (arith, length-append (escaped x) (flat_map escaped t), escaped-length x, escapes-length t)
+
+quoted-length : (t : List ℕ) (n : ℕ) → length t ≤ n → length (quoted t) ≤ 2 * n + 2
+quoted-length t n h = omega (arith, length-append (flat_map escaped t) (34 ∷ []), escapes-length t)
+
+hex-length : (xs : List ℕ) (n : ℕ) → length xs ≤ n → length (quoted (encode_lower xs)) ≤ 4 * n + 2
+hex-length xs n h = let size = length-encode_with lower_digits xs in let q = quoted-length (encode_lower xs) (2 * n) (omega arith) in omega (arith, q)
+
+count-length : (n : ℕ) → n ≤ max_count → length (decimal n) ≤ 16
+count-length n h = length-decimal-le 16 n (lit< tt) (omega arith) (omega arith)
+
+short-length : (least most : ℕ) (t : List ℕ) → is_short_text least most t ≡ true → length t ≤ most
+short-length least most t h =
+    let p = and_parts (is_from_to least most (length t)) _ h in
+    let q = and_parts (nat_le least (length t)) _ p.0 in
+    let high = q.1 in
+    grind (arith, nat_tests)
+
+from-length : (least most n : ℕ) → is_from_to least most n ≡ true → n ≤ most
+from-length least most n h = let q = and_parts (nat_le least n) _ h in let high = q.1 in grind (arith, nat_tests)
+
+-- ---- signatures
+
+signature-spelled : (s : Signature) → text (signature_value s) ≡ codes "{\"keyid\":" ++ (quoted s.keyid ++ (codes ",\"method\":" ++ (quoted s.method ++ (codes ",\"sig\":" ++ (quoted (encode_lower s.sig) ++ codes "}")))))
+unfolding signature_value
+signature-spelled s = refl
+
+sum-seven : (a b c d e f g : List ℕ) → length (a ++ (b ++ (c ++ (d ++ (e ++ (f ++ g)))))) ≡ length a + (length b + (length c + (length d + (length e + (length f + length g)))))
+sum-seven a b c d e f g = simp length-append
+
+signature-length : (s : Signature) → signature_fits s ≡ true → length (text (signature_value s)) ≤ 2500
+signature-length s h =
+    let p = and_parts (is_short_text 1 128 s.keyid) _ h in
+    let q = and_parts (is_short_text 1 64 s.method) _ p.1 in
+    let k = quoted-length s.keyid 128 (short-length 1 128 s.keyid p.0) in
+    let m = quoted-length s.method 64 (short-length 1 64 s.method q.0) in
+    let g = hex-length s.sig 512 (from-length 1 512 (length s.sig) q.1) in
+    let sum = ap length (signature-spelled s) ∙ sum-seven (codes "{\"keyid\":") (quoted s.keyid) (codes ",\"method\":") (quoted s.method) (codes ",\"sig\":") (quoted (encode_lower s.sig)) (codes "}") in
+    omega (arith, sum, k, m, g)
+
+-- ---- envelopes of one signature
+
+sum-five : (a b c d e : List ℕ) → length (a ++ b ++ c ++ d ++ e) ≡ length a + length b + length c + length d + length e
+sum-five a b c d e = simp length-append
+
+one-signature : (ss : List Signature) → length ss ≡ 1 → list_all signature_fits ss ≡ true → length (text (list_with (map signature_value ss))) ≤ 2502
+one-signature [] h fits = absurd (omega arith)
+one-signature (s ∷ []) h fits =
+    let p = and_parts (signature_fits s) _ fits in
+    omega (arith, length-append (text (signature_value s)) (93 ∷ []), signature-length s p.0)
+one-signature (s ∷ t ∷ ss) h fits = absurd (omega arith)
+
+pub envelope-length : (e : Envelope) (n : ℕ) → length e.signatures ≡ 1 → envelope_fits e ≡ true → length e.signed ≤ n → length (envelope_text e) ≤ n + 2530
+unfolding envelope_text
+envelope-length e n one h small =
+    let p = and_parts (is_from_to 1 8 (length e.signatures)) _ h in
+    let signatures = one-signature e.signatures one p.1 in
+    let sum = sum-five (codes "{\"signatures\":") (text (list_with (map signature_value e.signatures))) (codes ",\"signed\":") e.signed (codes "}") in
+    omega (arith, sum, signatures)
+
+-- ---- reports
+
+hashes-length : (xs : List ℕ) → length xs ≡ 32 → length (text (hashes_value xs)) ≤ 150
+hashes-length xs size =
+    let hash = hex-length xs 32 (omega arith) in
+    let spelled : text (hashes_value xs) ≡ codes "{\"sha256\":" ++ (quoted (encode_lower xs) ++ codes "}") = refl in
+    omega (arith, ap length spelled, length-append (codes "{\"sha256\":") (quoted (encode_lower xs) ++ codes "}"), length-append (quoted (encode_lower xs)) (codes "}"), hash)
+
+installed-spelled : (r : Report) → text (installed_value r.image) ≡ codes "{\"file\":" ++ (quoted r.image.file ++ (codes ",\"hashes\":" ++ (text (hashes_value r.image.sha256) ++ (codes ",\"length\":" ++ (decimal r.image.length ++ codes "}")))))
+installed-spelled r = refl
+
+installed-length : (r : Report) → ReportFits r → length (text (installed_value r.image)) ≤ 470
+installed-length r h =
+    let size = h.sha256 in
+    let file = quoted-length r.image.file 128 (from-length 1 128 (length r.image.file) (and_parts (is_from_to 1 128 (length r.image.file)) _ h.file).0) in
+    let hash = hashes-length r.image.sha256 size in
+    let number = count-length r.image.length h.size in
+    let sum = ap length (installed-spelled r) ∙ sum-seven (codes "{\"file\":") (quoted r.image.file) (codes ",\"hashes\":") (text (hashes_value r.image.sha256)) (codes ",\"length\":") (decimal r.image.length) (codes "}") in
+    omega (arith, sum, file, hash, number)
+
+pub report-spelled : (r : Report) → report_text r ≡ codes "{\"attack\":" ++ (quoted r.attack ++ (codes ",\"counter\":" ++ (decimal r.counter ++ (codes ",\"ecu\":" ++ (quoted r.ecu ++ (codes ",\"image\":" ++
+    (text (installed_value r.image) ++ (codes ",\"time\":" ++ (quoted (moment_text r.time) ++ codes ",\"type\":\"report\"}")))))))))
+unfolding report_text
+report-spelled r = refl
+
+sum-eleven : (a b c d e f g h i j k : List ℕ) → length (a ++ (b ++ (c ++ (d ++ (e ++ (f ++ (g ++ (h ++ (i ++ (j ++ k))))))))))
+    ≡ length a + (length b + (length c + (length d + (length e + (length f + (length g + (length h + (length i + (length j + length k)))))))))
+sum-eleven a b c d e f g h i j k = simp length-append
+
+pub report-length : MomentTextIsPlain → (r : Report) → ReportFits r → length (report_text r) ≤ 1280
+report-length law r h =
+    let attack = quoted-length r.attack 256 (from-length 0 256 (length r.attack) (and_parts (is_from_to 0 256 (length r.attack)) _ h.attack).0) in
+    let number = count-length r.counter h.counter in
+    let ecu = quoted-length r.ecu 64 (from-length 1 64 (length r.ecu) (and_parts (is_from_to 1 64 (length r.ecu)) _ h.ecu).0) in
+    let image = installed-length r h in
+    let time = quoted-length (moment_text r.time) 20 (short-length 20 20 (moment_text r.time) (law r.time h.time).0) in
+    let sum = ap length (report-spelled r) ∙ sum-eleven (codes "{\"attack\":") (quoted r.attack) (codes ",\"counter\":") (decimal r.counter) (codes ",\"ecu\":") (quoted r.ecu) (codes ",\"image\":") (text (installed_value r.image)) (codes ",\"time\":") (quoted (moment_text r.time)) (codes ",\"type\":\"report\"}") in
+    omega (arith, sum, attack, number, ecu, image, time)
+
+-- ---- manifests
+
+report_envelope-length : MomentTextIsPlain → (e : Envelope) (r : Report) → IsReportEnvelope e r → length (envelope_text e) ≤ 3815
+report_envelope-length law e r h =
+    let size = ap length h.signed in
+    let small = report-length law r h.fits in
+    let whole = envelope-length e 1280 h.one h.limits (omega arith) in
+    omega (arith, whole)
+
+joined-length : MomentTextIsPlain → (es : List Envelope) (rs : List Report) → AreReportEnvelopes es rs → length (join_with_byte 44 (map envelope_text es)) ≤ 3816 * length es
+joined-length law [] rs h = omega arith
+joined-length law (e ∷ es) [] h = absurd h
+joined-length law (e ∷ []) (r ∷ rs) h = omega (arith, report_envelope-length law e r h.0)
+joined-length law (e ∷ f ∷ es) (r ∷ rs) h =
+    omega (arith, length-append (envelope_text e) (44 ∷ join_with_byte 44 (map envelope_text (f ∷ es))), report_envelope-length law e r h.0, joined-length law (f ∷ es) rs h.1)
+
+listed-length : (ts : List (List ℕ)) (n : ℕ) → length (join_with_byte 44 ts) ≤ n → length (listed ts) ≤ n + 2
+listed-length ts n h = omega (arith, length-append (join_with_byte 44 ts) (93 ∷ []))
+
+pub manifest-length : MomentTextIsPlain → (vehicle primary : List ℕ) (counter : ℕ) (es : List Envelope) (rs : List Report) → AreReportEnvelopes es rs
+    → is_ident vehicle ≡ true → is_ident primary ≡ true → counter ≤ max_count → length es ≤ most_reports → length (manifest_text vehicle primary counter es) ≤ 250_000
+unfolding manifest_text
+manifest-length law vehicle primary counter es rs h v p n few =
+    let name = quoted-length vehicle 64 (from-length 1 64 (length vehicle) (and_parts (is_from_to 1 64 (length vehicle)) _ v).0) in
+    let other = quoted-length primary 64 (from-length 1 64 (length primary) (and_parts (is_from_to 1 64 (length primary)) _ p).0) in
+    let number = count-length counter n in
+    let reports = listed-length (map envelope_text es) (3816 * length es) (joined-length law es rs h) in
+    let sum = sum-nine (codes "{\"counter\":") (decimal counter) (codes ",\"primary\":") (quoted primary) (codes ",\"reports\":") (listed (map envelope_text es)) (codes ",\"type\":\"manifest\",\"vehicle\":") (quoted vehicle) (codes "}") in
+    omega (arith, sum, name, other, number, reports)
+  where
+    sum-nine : (a b c d e f g h i : List ℕ) → length (a ++ b ++ c ++ d ++ e ++ f ++ g ++ h ++ i)
+        ≡ length a + length b + length c + length d + length e + length f + length g + length h + length i
+    sum-nine a b c d e f g h i = simp length-append
+
+-- ---- what is written piece by piece
+
+pub joined-six : (s0 s1 s2 s3 s4 s5 s6 a b c d e f : List ℕ) → s0 ≡ [] → s1 ≡ s0 ++ a → s2 ≡ s1 ++ b → s3 ≡ s2 ++ c → s4 ≡ s3 ++ d → s5 ≡ s4 ++ e → s6 ≡ s5 ++ f
+    → s6 ≡ a ++ b ++ c ++ d ++ e ++ f
+joined-six s0 s1 s2 s3 s4 s5 s6 a b c d e f h0 h1 h2 h3 h4 h5 h6 =
+    h6 ∙ ap (λ (s : List ℕ). s ++ f) (h5 ∙ ap (λ (s : List ℕ). s ++ e) (h4 ∙ ap (λ (s : List ℕ). s ++ d) (h3 ∙ ap (λ (s : List ℕ). s ++ c) (h2 ∙ ap (λ (s : List ℕ). s ++ b) (h1 ∙ ap (λ (s : List ℕ). s ++ a) h0)))))
+
+report-right : (a b c d e f g h i j k : List ℕ) → (a ++ b ++ c ++ d ++ e ++ f) ++ g ++ h ++ i ++ j ++ k ≡ a ++ (b ++ (c ++ (d ++ (e ++ (f ++ (g ++ (h ++ (i ++ (j ++ k)))))))))
+report-right a b c d e f g h i j k = simp append_assoc
+
+pub report-pieces : (r : Report) → ecu_text r ++ codes ",\"image\":" ++ text (installed_value r.image) ++ codes ",\"time\":" ++ quoted (moment_text r.time) ++ codes ",\"type\":\"report\"}" ≡ report_text r
+report-pieces r =
+    report-right (codes "{\"attack\":") (quoted r.attack) (codes ",\"counter\":") (decimal r.counter) (codes ",\"ecu\":") (quoted r.ecu) (codes ",\"image\":") (text (installed_value r.image)) (codes ",\"time\":") (quoted (moment_text r.time)) (codes ",\"type\":\"report\"}")
+    ∙ sym (report-spelled r)
+
+pub joined-four : (s0 s1 s2 s3 s4 a b c d : List ℕ) → s1 ≡ s0 ++ a → s2 ≡ s1 ++ b → s3 ≡ s2 ++ c → s4 ≡ s3 ++ d → s4 ≡ s0 ++ (a ++ b ++ c ++ d)
+joined-four s0 s1 s2 s3 s4 a b c d h1 h2 h3 h4 =
+    h4 ∙ ap (λ (s : List ℕ). s ++ d) (h3 ∙ ap (λ (s : List ℕ). s ++ c) (h2 ∙ ap (λ (s : List ℕ). s ++ b) h1)) ∙ simp append_assoc

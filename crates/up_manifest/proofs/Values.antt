@@ -1,0 +1,304 @@
+-- The values that texts of envelopes, reports and manifests read as, and what they mean.
+use Rattle.std.proofs.Common.{◌≡◌, ℕ, zero, suc, lit<, lit≤, ◌+◌, ◌*◌, ◌<◌, ◌≤◌, max, List, [], ◌∷◌, ◌++◌, Bool, true, false, cond, Some, None, Ok, length, map, append_assoc, refl, sym, ap, ap₂, ◌∙◌, subst, arith}
+use Rattle.std.specs.Prelude.{◌&&◌, IsTrue, nat_le, slice_index, codes, decimal}
+use Rattle.std.specs.List.{list_all, join_with_byte}
+use Rattle.std.proofs.lemmas.Bool.{and_parts}
+use Rattle.std.proofs.lemmas.Bool.Decides.{nat_tests}
+use Rattle.std.proofs.lemmas.List.{length-map}
+use Rattle.hex.specs.Hex.{IsBytes, encode_lower, lower_digits}
+use Rattle.hex.proofs.HexLemmas.{length-encode_with, decode_of-encode_lower}
+use Rattle.serde_json.specs.Data.{Data, string, object, array, Items, no_items, item, Members, depth, items_depth}
+use Rattle.serde_json.specs.View.{items_of}
+use Rattle.up_canon.specs.Build.{object_with, list_with, count_value, hex_value}
+use Rattle.up_canon.specs.Canon.{max_count, max_nesting, is_printable, is_printable_text, is_plain, items_are_plain, canon, text, items_text, quoted}
+use Rattle.up_canon.specs.Moments.{last_moment, moment_text, read_moment, MomentTextIsPlain, MomentsAreRead}
+use Rattle.up_canon.specs.Names.{is_from_to, is_short_text, is_ident}
+use Rattle.up_sign.specs.Formats.{signature_fits, envelope_fits, has_bytes, signature_value, envelope_text}
+use Rattle.up_sign.specs.Schemes.{is_byte}
+use Rattle.up_sign.specs.declared.envelope.Signature.{Signature}
+use Rattle.up_sign.specs.declared.envelope.Envelope.{Envelope}
+use Rattle.up_sign.proofs.Sealed.{are_printable-hex}
+use Rattle.up_sign.proofs.Written.{listed_text}
+use Rattle.up_manifest.specs.Building.{hashes_value, installed_value, report_value, report_text, ReportFits, IsReportEnvelope, AreReportEnvelopes, listed, manifest_text, signed_reports}
+use Rattle.up_manifest.specs.Manifests.{most_reports}
+use Rattle.up_manifest.specs.Meaning.{HasHex, EachMeans, MeansSignature, MeansEnvelope, MeansInstalled, MeansReport, MeansSignedReport, MeansManifest}
+use Rattle.up_manifest.specs.declared.report.Installed.{Installed}
+use Rattle.up_manifest.specs.declared.report.Report.{Report}
+use Rattle.up_manifest.specs.declared.report.SignedReport.{SignedReport}
+use Rattle.up_manifest.specs.declared.manifest.Manifest.{Manifest}
+use Rattle.up_manifest.proofs.Printable.{is_plain_text, ident_prints, file_name_prints, note_prints}
+
+-- ---- canonical text
+
+pub canon_of : (d : Data) → is_plain d ≡ true → depth d ≤ 16 → canon d ≡ Some (text d)
+canon_of d plain shallow =
+    let flat : nat_le (depth d) max_nesting ≡ true = grind (arith, nat_tests) in
+    rw (plain, flat) refl
+
+and_two : (a b : Bool) → a ≡ true → b ≡ true → (a && (b && true)) ≡ true
+and_two a b p q = rw (p, q) refl
+
+and_three : (a b c : Bool) → a ≡ true → b ≡ true → c ≡ true → (a && (b && (c && true))) ≡ true
+and_three a b c p q r = rw (p, q, r) refl
+
+and_four : (a b c d : Bool) → a ≡ true → b ≡ true → c ≡ true → d ≡ true → (a && (b && (c && (d && true)))) ≡ true
+and_four a b c d p q r s = rw (p, q, r, s) refl
+
+and_five : (a b c d e : Bool) → a ≡ true → b ≡ true → c ≡ true → d ≡ true → e ≡ true → (a && (b && (c && (d && (e && true))))) ≡ true
+and_five a b c d e p q r s t = rw (p, q, r, s, t) refl
+
+count_test : (n : ℕ) → n ≤ max_count → nat_le n max_count ≡ true
+count_test n h = grind (arith, nat_tests)
+
+is_bytes : (xs : List ℕ) → list_all is_byte xs ≡ true → IsBytes xs
+is_bytes [] h i = lit< tt
+is_bytes (x ∷ xs) h zero = let p = and_parts (is_byte x) _ h in let test = p.0 in grind (arith, nat_tests)
+is_bytes (x ∷ xs) h (suc i) = let p = and_parts (is_byte x) _ h in is_bytes xs p.1 i
+
+hex_plain : (xs : List ℕ) → list_all is_byte xs ≡ true → is_printable_text (encode_lower xs) ≡ true
+hex_plain xs h = is_plain_text (encode_lower xs) (are_printable-hex xs h)
+
+-- ---- envelopes
+
+right-five : (a b c d e : List ℕ) → a ++ b ++ c ++ d ++ e ≡ a ++ (b ++ (c ++ (d ++ e)))
+right-five a b c d e = simp append_assoc
+
+right-nine : (a b c d e f g h i : List ℕ) → a ++ b ++ c ++ d ++ e ++ f ++ g ++ h ++ i ≡ a ++ (b ++ (c ++ (d ++ (e ++ (f ++ (g ++ (h ++ i)))))))
+right-nine a b c d e f g h i = simp append_assoc
+
+abbrev pub envelope_value : Envelope → Data → Data
+envelope_value e payload = object_with ((codes "signatures", list_with (map signature_value e.signatures)) ∷ (codes "signed", payload) ∷ [])
+
+pub envelope_value-text : (e : Envelope) (payload : Data) → text payload ≡ e.signed → text (envelope_value e payload) ≡ envelope_text e
+unfolding envelope_text
+envelope_value-text e payload h =
+    ap (λ (t : List ℕ). codes "{\"signatures\":" ++ (text (list_with (map signature_value e.signatures)) ++ (codes ",\"signed\":" ++ (t ++ codes "}")))) h
+    ∙ sym (right-five (codes "{\"signatures\":") (text (list_with (map signature_value e.signatures))) (codes ",\"signed\":") e.signed (codes "}"))
+
+signature_parts : (s : Signature) → signature_fits s ≡ true → (is_short_text 1 128 s.keyid ≡ true) × (is_short_text 1 64 s.method ≡ true) × (1 ≤ length s.sig) × (length s.sig ≤ 512)
+signature_parts s h =
+    let p = and_parts (is_short_text 1 128 s.keyid) _ h in
+    let q = and_parts (is_short_text 1 64 s.method) _ p.1 in
+    let r = and_parts (nat_le 1 (length s.sig)) _ q.1 in
+    let low = r.0 in
+    let high = r.1 in
+    (p.0, q.0, grind (arith, nat_tests), grind (arith, nat_tests))
+
+short_plain : (least most : ℕ) (t : List ℕ) → is_short_text least most t ≡ true → is_printable_text t ≡ true
+short_plain least most t h = let p = and_parts (is_from_to least most (length t)) _ h in is_plain_text t p.1
+
+signature_plain : (s : Signature) → signature_fits s ≡ true → list_all is_byte s.sig ≡ true → is_plain (signature_value s) ≡ true
+unfolding signature_value
+signature_plain s h b =
+    let p = signature_parts s h in
+    and_three _ _ _ (short_plain 1 128 s.keyid p.0) (short_plain 1 64 s.method p.1) (hex_plain s.sig b)
+
+signature_depth : (s : Signature) → depth (signature_value s) ≡ 1
+unfolding signature_value
+signature_depth s = refl
+
+signature_means : (s : Signature) → signature_fits s ≡ true → list_all is_byte s.sig ≡ true → MeansSignature (signature_value s) s
+unfolding signature_value
+signature_means s h b =
+    let p = signature_parts s h in
+    let low = p.2 in
+    let high = p.3 in
+    let size = length-encode_with lower_digits s.sig in
+    record {
+      keyid = refl;
+      keyid_fits = p.0;
+      method = refl;
+      method_fits = p.1;
+      sig = record { digits = encode_lower s.sig; has_digits = refl; at_least = omega arith; at_most = omega arith; decoded = decode_of-encode_lower s.sig (is_bytes s.sig b) };
+    }
+
+signatures_plain : (ss : List Signature) → list_all signature_fits ss ≡ true → list_all (λ s. list_all is_byte s.sig) ss ≡ true → items_are_plain (items_of (map signature_value ss)) ≡ true
+signatures_plain [] h b = refl
+signatures_plain (s ∷ ss) h b =
+    let p = and_parts (signature_fits s) _ h in
+    let q = and_parts (list_all is_byte s.sig) _ b in
+    ap₂ (λ x y. x && y) (signature_plain s p.0 q.0) (signatures_plain ss p.1 q.1)
+
+signatures_depth : (ss : List Signature) → items_depth (items_of (map signature_value ss)) ≤ 1
+signatures_depth [] = omega arith
+signatures_depth (s ∷ ss) = omega (arith, signature_depth s, signatures_depth ss)
+
+signatures_mean : (ss : List Signature) → list_all signature_fits ss ≡ true → list_all (λ s. list_all is_byte s.sig) ss ≡ true → EachMeans MeansSignature (items_of (map signature_value ss)) ss
+signatures_mean [] h b = tt
+signatures_mean (s ∷ ss) h b =
+    let p = and_parts (signature_fits s) _ h in
+    let q = and_parts (list_all is_byte s.sig) _ b in
+    (signature_means s p.0 q.0, signatures_mean ss p.1 q.1)
+
+pub envelope_plain : (e : Envelope) (payload : Data) → envelope_fits e ≡ true → has_bytes e ≡ true → is_plain payload ≡ true → is_plain (envelope_value e payload) ≡ true
+envelope_plain e payload h b plain =
+    let p = and_parts (is_from_to 1 8 (length e.signatures)) _ h in
+    and_two _ _ (signatures_plain e.signatures p.1 b) plain
+
+pub envelope_depth : (e : Envelope) (payload : Data) (n : ℕ) → depth payload ≤ n → 2 ≤ n → depth (envelope_value e payload) ≤ n + 1
+envelope_depth e payload n h two = omega (arith, signatures_depth e.signatures)
+
+pub envelope_means : (e : Envelope) (payload : Data) → envelope_fits e ≡ true → has_bytes e ≡ true → (o : (ms : Members) × (payload ≡ object ms)) → canon payload ≡ Some e.signed
+    → MeansEnvelope (envelope_value e payload) payload e
+envelope_means e payload h b o signed =
+    let p = and_parts (is_from_to 1 8 (length e.signatures)) _ h in
+    let q = and_parts (nat_le 1 (length e.signatures)) _ p.0 in
+    let low = q.0 in
+    let high = q.1 in
+    record {
+      listed = items_of (map signature_value e.signatures);
+      has_signatures = refl;
+      signatures = signatures_mean e.signatures p.1 b;
+      some = grind (arith, nat_tests);
+      few = grind (arith, nat_tests);
+      has_signed = (o.0, ap Some o.1, o.1);
+      signed = signed;
+    }
+
+-- ---- reports
+
+installed_plain : (r : Report) → ReportFits r → is_plain (installed_value r.image) ≡ true
+installed_plain r h =
+    and_three _ _ _ (is_plain_text r.image.file (file_name_prints r.image.file h.file)) (ap (λ b. b && true) (hex_plain r.image.sha256 h.bytes)) (count_test r.image.length h.size)
+
+report_plain : MomentTextIsPlain → (r : Report) → ReportFits r → is_plain (report_value r) ≡ true
+report_plain law r h =
+    and_five _ _ _ _ _ (is_plain_text r.attack (note_prints r.attack h.attack)) (count_test r.counter h.counter) (is_plain_text r.ecu (ident_prints r.ecu h.ecu))
+    (installed_plain r h) (law r.time h.time).1
+
+report_depth : (r : Report) → depth (report_value r) ≡ 3
+report_depth r = refl
+
+pub report_canon : MomentTextIsPlain → (r : Report) → ReportFits r → canon (report_value r) ≡ Some (report_text r)
+unfolding report_text
+report_canon law r h = canon_of (report_value r) (report_plain law r h) (omega (arith, report_depth r))
+
+installed_means : (r : Report) → ReportFits r → MeansInstalled (installed_value r.image) r.image
+installed_means r h =
+    let size = length-encode_with lower_digits r.image.sha256 in
+    let whole = h.sha256 in
+    record {
+      file = refl;
+      file_fits = h.file;
+      size = (refl, h.size);
+      hashes = hashes_value r.image.sha256;
+      has_hashes = (_, refl, refl);
+      sha256 = record { digits = encode_lower r.image.sha256; has_digits = refl; at_least = omega arith; at_most = omega arith; decoded = decode_of-encode_lower r.image.sha256 (is_bytes r.image.sha256 h.bytes) };
+    }
+
+report_means : MomentsAreRead → (r : Report) → ReportFits r → MeansReport (report_value r) r
+report_means law r h = record {
+  kind = refl;
+  ecu = refl;
+  ecu_fits = h.ecu;
+  counter = (refl, h.counter);
+  time_text = moment_text r.time;
+  has_time = refl;
+  time = law r.time h.time;
+  attack = refl;
+  attack_fits = h.attack;
+  image_value = installed_value r.image;
+  has_image = (_, refl, refl);
+  image = installed_means r h;
+}
+
+-- the value of a report in its envelope
+abbrev pub pair_value : Envelope × Report → Data
+pair_value p = envelope_value p.0 (report_value p.1)
+
+pub signed_report_means : MomentTextIsPlain → MomentsAreRead → (e : Envelope) (r : Report) → IsReportEnvelope e r → MeansSignedReport (pair_value (e, r)) (record { report = r; envelope = e })
+signed_report_means plain law e r h = record {
+  payload = report_value r;
+  envelope = envelope_means e (report_value r) h.limits h.bytes (_, refl) (report_canon plain r h.fits ∙ ap Some (sym h.signed));
+  report = report_means law r h.fits;
+}
+
+report_value-text : (r : Report) → text (report_value r) ≡ report_text r
+unfolding report_text
+report_value-text r = refl
+
+pub pair_value-text : (e : Envelope) (r : Report) → IsReportEnvelope e r → text (pair_value (e, r)) ≡ envelope_text e
+pair_value-text e r h = envelope_value-text e (report_value r) (report_value-text r ∙ sym h.signed)
+
+pub pair_value-plain : MomentTextIsPlain → (e : Envelope) (r : Report) → IsReportEnvelope e r → is_plain (pair_value (e, r)) ≡ true
+pair_value-plain law e r h = envelope_plain e (report_value r) h.limits h.bytes (report_plain law r h.fits)
+
+pub pair_value-depth : (e : Envelope) (r : Report) → depth (pair_value (e, r)) ≤ 4
+pair_value-depth e r = envelope_depth e (report_value r) 3 (omega (arith, report_depth r)) (lit≤ tt)
+
+-- ---- lists of reports
+
+abbrev pub zipped : List Envelope → List Report → List (Envelope × Report)
+zipped [] rs = []
+zipped (e ∷ es) [] = []
+zipped (e ∷ es) (r ∷ rs) = (e, r) ∷ zipped es rs
+
+pairs_mean : MomentTextIsPlain → MomentsAreRead → (es : List Envelope) (rs : List Report) → AreReportEnvelopes es rs → EachMeans MeansSignedReport (items_of (map pair_value (zipped es rs))) (signed_reports rs es)
+pairs_mean plain law [] [] h = tt
+pairs_mean plain law [] (r ∷ rs) h = absurd h
+pairs_mean plain law (e ∷ es) [] h = absurd h
+pairs_mean plain law (e ∷ es) (r ∷ rs) h = (signed_report_means plain law e r h.0, pairs_mean plain law es rs h.1)
+
+pairs_plain : MomentTextIsPlain → (es : List Envelope) (rs : List Report) → AreReportEnvelopes es rs → items_are_plain (items_of (map pair_value (zipped es rs))) ≡ true
+pairs_plain law [] [] h = refl
+pairs_plain law [] (r ∷ rs) h = absurd h
+pairs_plain law (e ∷ es) [] h = absurd h
+pairs_plain law (e ∷ es) (r ∷ rs) h = ap₂ (λ a b. a && b) (pair_value-plain law e r h.0) (pairs_plain law es rs h.1)
+
+pairs_depth : (ps : List (Envelope × Report)) → items_depth (items_of (map pair_value ps)) ≤ 4
+pairs_depth [] = omega arith
+pairs_depth (p ∷ ps) = omega (arith, pair_value-depth p.0 p.1, pairs_depth ps)
+
+pairs_texts : (es : List Envelope) (rs : List Report) → AreReportEnvelopes es rs → map (λ p. text (pair_value p)) (zipped es rs) ≡ map envelope_text es
+pairs_texts [] [] h = refl
+pairs_texts [] (r ∷ rs) h = absurd h
+pairs_texts (e ∷ es) [] h = absurd h
+pairs_texts (e ∷ es) (r ∷ rs) h = ap₂ (λ (t : List ℕ) (ts : List (List ℕ)). t ∷ ts) (pair_value-text e r h.0) (pairs_texts es rs h.1)
+
+pub pairs_size : (es : List Envelope) (rs : List Report) → AreReportEnvelopes es rs → length (signed_reports rs es) ≡ length es
+pairs_size [] [] h = refl
+pairs_size [] (r ∷ rs) h = absurd h
+pairs_size (e ∷ es) [] h = absurd h
+pairs_size (e ∷ es) (r ∷ rs) h = ap (λ (n : ℕ). suc n) (pairs_size es rs h.1)
+
+-- ---- manifests
+
+abbrev pub manifest_value : List ℕ → List ℕ → ℕ → List (Envelope × Report) → Data
+manifest_value vehicle primary counter ps = object_with (
+    (codes "counter", count_value counter) ∷ (codes "primary", string primary) ∷ (codes "reports", list_with (map pair_value ps)) ∷
+    (codes "type", string (codes "manifest")) ∷ (codes "vehicle", string vehicle) ∷ [])
+
+pub manifest_value-text : (vehicle primary : List ℕ) (counter : ℕ) (es : List Envelope) (rs : List Report) → AreReportEnvelopes es rs
+    → text (manifest_value vehicle primary counter (zipped es rs)) ≡ manifest_text vehicle primary counter es
+unfolding manifest_text
+manifest_value-text vehicle primary counter es rs h =
+    ap (λ (t : List ℕ). codes "{\"counter\":" ++ (decimal counter ++ (codes ",\"primary\":" ++ (quoted primary ++ (codes ",\"reports\":" ++ ((91 ∷ t) ++ (codes ",\"type\":\"manifest\",\"vehicle\":" ++ (quoted vehicle ++ codes "}"))))))))
+    (listed_text pair_value (zipped es rs) ∙ ap (λ (ts : List (List ℕ)). join_with_byte 44 ts ++ 93 ∷ []) (pairs_texts es rs h))
+    ∙ sym (right-nine (codes "{\"counter\":") (decimal counter) (codes ",\"primary\":") (quoted primary) (codes ",\"reports\":") (listed (map envelope_text es)) (codes ",\"type\":\"manifest\",\"vehicle\":") (quoted vehicle) (codes "}"))
+
+pub manifest_plain : MomentTextIsPlain → (vehicle primary : List ℕ) (counter : ℕ) (es : List Envelope) (rs : List Report) → AreReportEnvelopes es rs
+    → list_all is_printable vehicle ≡ true → list_all is_printable primary ≡ true → counter ≤ max_count → is_plain (manifest_value vehicle primary counter (zipped es rs)) ≡ true
+manifest_plain law vehicle primary counter es rs h v p n =
+    and_four _ _ _ _ (count_test counter n) (is_plain_text primary p) (pairs_plain law es rs h) (is_plain_text vehicle v)
+
+pub manifest_depth : (vehicle primary : List ℕ) (counter : ℕ) (ps : List (Envelope × Report)) → depth (manifest_value vehicle primary counter ps) ≤ 6
+manifest_depth vehicle primary counter ps = omega (arith, pairs_depth ps)
+
+pub manifest_means : MomentTextIsPlain → MomentsAreRead → (m : Manifest) (es : List Envelope) (rs : List Report) → AreReportEnvelopes es rs → m.reports ≡ signed_reports rs es
+    → IsTrue (is_ident m.vehicle) → IsTrue (is_ident m.primary) → 1 ≤ m.counter → m.counter ≤ max_count → length es ≤ most_reports
+    → MeansManifest (manifest_value m.vehicle m.primary m.counter (zipped es rs)) m
+manifest_means plain law m es rs h same v p low high few =
+    let size = ap length same ∙ pairs_size es rs h in
+    record {
+      kind = refl;
+      vehicle = refl;
+      vehicle_fits = v;
+      primary = refl;
+      primary_fits = p;
+      counter = (refl, high);
+      positive = low;
+      listed = items_of (map pair_value (zipped es rs));
+      has_reports = refl;
+      reports = subst (EachMeans MeansSignedReport (items_of (map pair_value (zipped es rs)))) (sym same) (pairs_mean plain law es rs h);
+      few = omega arith;
+    }

@@ -1,0 +1,86 @@
+//! Building reports and manifests, as an ECU and a Primary send them.
+ghost use Rattle.std.specs.Prelude.{◌≡◌, ◌≤◌, ◌∷◌, [], List, Some, IsTrue, IfOk, length, string_bytes};
+ghost use Rattle.std.specs.List.{list_all};
+ghost use Rattle.serde_json.specs.Data.{Data};
+ghost use Rattle.serde_json.specs.Read.{read};
+ghost use Rattle.up_canon.specs.Canon.{max_count};
+ghost use Rattle.up_sign.specs.Envelopes.{sealed};
+ghost use Rattle.up_sign.specs.Formats.{envelope_fits, envelope_text};
+ghost use Rattle.up_manifest.specs.Building.{IsReportEnvelope, AreReportEnvelopes, report_text as report_text_of, sealed_manifest, built};
+ghost use Rattle.up_manifest.specs.Manifests.{most_reports};
+ghost use Rattle.up_manifest.specs.Meaning.{MeansSignedReport, MeansBody};
+ghost use Rattle.up_manifest.specs.declared.report.Report.{Report as ReportData};
+
+use crate::report::Report;
+use crate::writing::{keeps_limits, manifest_text, report_text};
+use std::alloc::{AllocError, Global};
+use up_canon::bytes::Bytes;
+use up_canon::canonical_laws;
+use up_canon::ident::Ident;
+use up_canon::moment::moment_laws;
+use up_sign::envelope::Envelope;
+use up_sign::scheme::Scheme;
+use up_sign::seal::seal;
+
+/// The report in an envelope that the ECU's secret signs. What its text reads as means the report.
+pub fn build_report<K: Scheme>(
+    alloc: Global,
+    scheme: &K,
+    secret: &[u8],
+    report: &Report,
+) -> Result<Envelope, AllocError>
+    requires { IsTrue ((K.rules scheme.now).secret_fits secret.now) }
+    ensures value { IfOk result (λ e. e ≡ sealed (K.rules scheme.now) (secret.now ∷ []) (report_text_of report.now)) }
+    ensures envelope { IfOk result (λ e. IsReportEnvelope e report.now) }
+    ensures means { IfOk result (λ e. (d : Data) × (read (envelope_text e) ≡ Some d) × MeansSignedReport d (record { report = report.now; envelope = e })) }
+{
+    canonical_laws();
+    moment_laws();
+    keeps_limits(report);
+    let signed = report_text(alloc, report)?;
+    let envelope = seal_one(alloc, scheme, secret, signed)?;
+    Ok(envelope)
+}
+
+/// The body of a vehicle version manifest: the reports in order, signed by the Primary's secret. Each report is an
+/// envelope of `build_report`, and the body means the manifest that it was built of.
+pub fn build_manifest<K: Scheme>(
+    alloc: Global,
+    scheme: &K,
+    secret: &[u8],
+    vehicle: &Ident,
+    primary: &Ident,
+    counter: u64,
+    reports: &[Envelope],
+) -> Result<String, AllocError>
+    requires fits { IsTrue ((K.rules scheme.now).secret_fits secret.now) }
+    requires counter { (1 ≤ counter) × (counter ≤ max_count) }
+    requires number { length reports.now ≤ most_reports }
+    requires limits { IsTrue (list_all envelope_fits reports.now) }
+    ensures value { IfOk result (λ t. string_bytes t ≡ envelope_text (sealed_manifest (K.rules scheme.now) secret.now vehicle.now primary.now counter reports.now)) }
+    ensures means { (rs : List ReportData) → AreReportEnvelopes reports.now rs
+        → IfOk result (λ t. MeansBody (string_bytes t) (built (K.rules scheme.now) secret.now vehicle.now primary.now counter rs reports.now)) }
+{
+    canonical_laws();
+    moment_laws();
+    vehicle.text();
+    primary.text();
+    let signed = manifest_text(alloc, vehicle, primary, counter, reports)?;
+    let envelope = seal_one(alloc, scheme, secret, signed)?;
+    let body = envelope.text(alloc)?;
+    Ok(body)
+}
+
+fn seal_one<K: Scheme>(
+    alloc: Global,
+    scheme: &K,
+    secret: &[u8],
+    signed: String,
+) -> Result<Envelope, AllocError>
+    requires { IsTrue ((K.rules scheme.now).secret_fits secret.now) }
+    ensures value { IfOk result (λ e. e ≡ sealed (K.rules scheme.now) (secret.now ∷ []) (string_bytes signed)) }
+    ensures limits { IfOk result (λ e. IsTrue (envelope_fits e)) }
+{
+    let secrets = [Bytes::new(secret.to_vec(alloc)?)];
+    seal(alloc, scheme, &secrets, signed)
+}
