@@ -1,4 +1,4 @@
-pub mod Provisional
+pub mod Parts
 pub mod Payload
 pub mod Root
 pub mod Targets

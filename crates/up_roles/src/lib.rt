@@ -2,9 +2,17 @@
 #![tactic(auto)]
 
 mod copies;
+mod distinct;
+mod file;
 pub mod lifetimes;
+mod parts;
+pub mod payload;
 pub mod repository;
 pub mod root;
+pub mod root_text;
+mod sealing;
 pub mod snapshot;
 pub mod targets;
+pub mod targets_text;
 pub mod timestamp;
+mod values;

@@ -1,10 +1,29 @@
 //! Snapshot files: the version of the Targets file.
+ghost use Rattle.std.specs.Prelude.{◌≡◌, ◌≤◌, ◌∷◌, [], Ok, IsTrue, IfOk, OnOk, MatchResult, codes, length, string_bytes, true};
+ghost use Rattle.std.specs.List.{list_all};
+ghost use Rattle.serde_json.specs.View.{view, members_view};
+ghost use Rattle.up_canon.specs.Build.{members_with};
+ghost use Rattle.up_canon.specs.Members.{IsFault, object_of_map};
+ghost use Rattle.up_canon.specs.Refusals.{Gives};
+ghost use Rattle.up_roles.specs.Snapshot.{snapshot_meta, snapshot_payload, snapshot_text_of, snapshot_fits, snapshot_is_typed, snapshot_in, snapshot_of, snapshot_entry_in};
+
 use crate::copies::copy_name;
+use crate::file::{RoleFile, read_file};
+use crate::parts::{object_part, positive_part};
+use crate::payload::{Head, head_at, payload_value, vehicle_at};
 use crate::repository::Repository;
+use crate::sealing::sealed_text;
+use crate::values::one_member;
+use serde_json::{Map, Value, json};
 use std::alloc::{AllocError, Global};
+use up_canon::bytes::Bytes;
+use up_canon::fields::object_at;
 use up_canon::ident::Ident;
 use up_canon::listed::Duplicate;
 use up_canon::moment::Moment;
+use up_canon::refusal::Refusal;
+use up_sign::envelope::Envelope;
+use up_sign::scheme::Scheme;
 
 /// Snapshot metadata: the version of the Targets file. The Director's is for one vehicle, which it names.
 #[derive(Debug, Drop)]
@@ -26,4 +45,87 @@ impl Duplicate for SnapshotFile {
             targets_version: self.targets_version,
         })
     }
+}
+
+/// The Snapshot file that the bytes mean, and its envelope. `TooLarge` above 4,194,304 bytes, `NotJson`, `BadShape` with the
+/// name of the first member at fault (of the envelope, then of the payload), `NotCanonical` between the two, `Memory`.
+#[tactic(auto, unfolding(crate::specs::Snapshot::snapshot_in))]
+pub fn read_snapshot(alloc: Global, bytes: &[u8]) -> Result<(SnapshotFile, Envelope), Refusal>
+    ensures { Gives result (snapshot_in bytes.now) }
+{
+    read_file(alloc, bytes)
+}
+
+impl RoleFile for SnapshotFile {
+    ghost use Rattle.up_roles.specs.Snapshot.{snapshot_of};
+
+    ghost meaning = { snapshot_of };
+
+    fn of_payload(alloc: Global, map: &Map<String, Value>) -> Result<SnapshotFile, Refusal> {
+        snapshot_at(alloc, map)
+    }
+}
+
+/// The Snapshot file that a payload means.
+#[tactic(auto, unfolding(crate::specs::Snapshot::snapshot_of, up_canon::specs::Steps::and_then))]
+fn snapshot_at(alloc: Global, map: &Map<String, Value>) -> Result<SnapshotFile, Refusal>
+    ensures { Gives result (snapshot_of (object_of_map map.now.entries)) }
+{
+    let head = head_at(map, "snapshot")?;
+    let vehicle = vehicle_at(alloc, head.repository, map)?;
+    Ok(SnapshotFile {
+        repository: head.repository,
+        version: head.version,
+        expires: head.expires,
+        vehicle,
+        targets_version: targets_version_at(map)?,
+    })
+}
+
+/// The version of the Targets file.
+#[tactic(auto, unfolding(crate::specs::Snapshot::snapshot_entry_in, up_canon::specs::Steps::and_then))]
+fn targets_version_at(map: &Map<String, Value>) -> Result<u64, &'static str>
+    ensures { MatchResult result
+        (λ version. snapshot_entry_in (object_of_map map.now.entries) ≡ Ok version)
+        (λ f. IsFault (snapshot_entry_in (object_of_map map.now.entries)) (codes "meta") f.now) }
+{
+    let meta = object_at(map, "meta")?;
+    let entry = object_part(meta, "targets.json", "meta")?;
+    Ok(positive_part(entry, "version", "meta")?.get())
+}
+
+/// The text of the Snapshot file: its envelope, signed with each secret in order.
+pub fn snapshot_text<K: Scheme>(
+    alloc: Global,
+    scheme: &K,
+    secrets: &[Bytes],
+    file: &SnapshotFile,
+) -> Result<String, AllocError>
+    requires fit { IsTrue (list_all (K.rules scheme.now).secret_fits secrets.now) }
+    requires number { (1 ≤ length secrets.now) × (length secrets.now ≤ 8) }
+    requires limits { IsTrue (snapshot_fits file.now) }
+    ensures { IfOk result (λ t. string_bytes t ≡ snapshot_text_of (K.rules scheme.now) secrets.now file.now) }
+{
+    let payload = snapshot_value(alloc, file)?;
+    sealed_text(alloc, scheme, secrets, &payload)
+}
+
+fn snapshot_value(alloc: Global, file: &SnapshotFile) -> Result<Value, AllocError>
+    ensures value { IfOk result (λ v. view v ≡ snapshot_payload file.now) }
+    ensures typed { OnOk result (snapshot_is_typed file.now ≡ true) }
+{
+    let head = Head {
+        repository: file.repository,
+        version: file.version,
+        expires: file.expires,
+    };
+    let more = snapshot_members(alloc, file)?;
+    payload_value(alloc, "snapshot", &head, &file.vehicle, more)
+}
+
+fn snapshot_members(alloc: Global, file: &SnapshotFile) -> Result<Map<String, Value>, AllocError>
+    ensures { IfOk result (λ m. members_view m.entries ≡ members_with ((codes "meta", snapshot_meta file.now) ∷ [])) }
+{
+    let meta = json!(in alloc; {"targets.json": {"version": file.targets_version}})?;
+    one_member(alloc, "meta", meta)
 }

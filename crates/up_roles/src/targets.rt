@@ -1,12 +1,32 @@
 //! Targets files: images, and in the Director repository the ECU that installs each.
+ghost use Rattle.std.specs.Prelude.{◌≡◌, codes};
+ghost use Rattle.std.specs.List.{list_any};
+ghost use Rattle.serde_json.specs.View.{view};
+ghost use Rattle.up_canon.specs.Members.{object_of_map, values_of};
+ghost use Rattle.up_canon.specs.Readers.{ident_of as name_of};
+ghost use Rattle.up_canon.specs.Refusals.{Gives};
+ghost use Rattle.up_canon.specs.Steps.{each};
+ghost use Rattle.up_roles.specs.Payload.{are_distinct as are_distinct_names};
+ghost use Rattle.up_roles.specs.Targets.{targets_in, targets_of, target_list_in, target_of, ecu_of, hardware_of, ecus_of, is_ecu, repeats_ecu as repeats_one_of};
+
 use crate::copies::copy_name;
+use crate::distinct::are_distinct;
+use crate::file::{RoleFile, read_file};
+use crate::parts::{count_part, few_part, file_name_part, ident_part, sha256_part};
+use crate::payload::{head_at, vehicle_at};
 use crate::repository::Repository;
+use serde_json::{Map, Value};
 use std::alloc::{AllocError, Global};
 use up_canon::count::Count;
+use up_canon::fields::list_at;
 use up_canon::file_name::FileName;
 use up_canon::ident::Ident;
+use up_canon::kinds::object_of;
 use up_canon::listed::{Duplicate, Listed};
 use up_canon::moment::Moment;
+use up_canon::readers::ident_of;
+use up_canon::refusal::Refusal;
+use up_sign::envelope::Envelope;
 
 /// An image: its filename, length in bytes, SHA-256, the hardware that it is for (1 to 16, distinct) and its release
 /// counter. The Director's names the ECU that installs it.
@@ -52,5 +72,167 @@ impl Duplicate for TargetsFile {
             vehicle: copy_name(&self.vehicle, alloc)?,
             targets: self.targets.copy(alloc)?,
         })
+    }
+}
+
+/// The Targets file that the bytes mean, and its envelope. `TooLarge` above 4,194,304 bytes, `NotJson`, `BadShape` with the
+/// name of the first member at fault (of the envelope, then of the payload), `NotCanonical` between the two, `Memory`.
+#[tactic(auto, unfolding(crate::specs::Targets::targets_in))]
+pub fn read_targets(alloc: Global, bytes: &[u8]) -> Result<(TargetsFile, Envelope), Refusal>
+    ensures { Gives result (targets_in bytes.now) }
+{
+    read_file(alloc, bytes)
+}
+
+impl RoleFile for TargetsFile {
+    ghost use Rattle.up_roles.specs.Targets.{targets_of};
+
+    ghost meaning = { targets_of };
+
+    fn of_payload(alloc: Global, map: &Map<String, Value>) -> Result<TargetsFile, Refusal> {
+        targets_at(alloc, map)
+    }
+}
+
+/// The Targets file that a payload means.
+#[tactic(auto, unfolding(crate::specs::Targets::targets_of, up_canon::specs::Steps::and_then))]
+fn targets_at(alloc: Global, map: &Map<String, Value>) -> Result<TargetsFile, Refusal>
+    ensures { Gives result (targets_of (object_of_map map.now.entries)) }
+{
+    let head = head_at(map, "targets")?;
+    let vehicle = vehicle_at(alloc, head.repository, map)?;
+    Ok(TargetsFile {
+        repository: head.repository,
+        version: head.version,
+        expires: head.expires,
+        vehicle,
+        targets: target_list_at(alloc, head.repository, map)?,
+    })
+}
+
+#[tactic(auto, unfolding(crate::specs::Targets::target_list_in, up_canon::specs::Steps::and_then))]
+fn target_list_at(
+    alloc: Global,
+    repository: Repository,
+    map: &Map<String, Value>,
+) -> Result<Listed<Target>, Refusal>
+    ensures { Gives result (target_list_in repository (object_of_map map.now.entries)) }
+{
+    let values = list_at(map, "targets")?;
+    let targets = each_target(alloc, repository, values.as_slice())?;
+    if !has_distinct_ecus(targets.as_slice()) {
+        return Err(Refusal::from("targets"));
+    }
+    Ok(targets)
+}
+
+#[tactic(auto, unfolding(up_canon::specs::Steps::each, up_canon::specs::Steps::and_then))]
+fn each_target(
+    alloc: Global,
+    repository: Repository,
+    values: &[Value],
+) -> Result<Listed<Target>, Refusal>
+    ensures { Gives result (each (target_of repository) (values_of values.now)) }
+{
+    let mut targets = Vec::with_capacity(alloc, values.len())?;
+    for value in values {
+        targets.push(target_at(alloc, repository, value)?)?;
+    }
+    Ok(Listed::new(targets))
+}
+
+#[tactic(auto, unfolding(crate::specs::Targets::target_of, up_canon::specs::Steps::and_then))]
+fn target_at(alloc: Global, repository: Repository, value: &Value) -> Result<Target, Refusal>
+    ensures { Gives result (target_of repository (view value.now)) }
+{
+    let map = object_of(value, "targets")?;
+    let ecu = ecu_at(alloc, repository, map)?;
+    let file = file_name_part(alloc, map, "file", "targets")?;
+    let hardware = hardware_at(alloc, map)?;
+    let sha256 = sha256_part(map, "targets")?;
+    let length = count_part(map, "length", "targets")?;
+    Ok(Target {
+        ecu,
+        file,
+        length,
+        sha256,
+        hardware,
+        release: count_part(map, "release", "targets")?,
+    })
+}
+
+/// The ECU that the Director names.
+#[tactic(auto, unfolding(crate::specs::Targets::ecu_of, up_canon::specs::Steps::and_then))]
+fn ecu_at(
+    alloc: Global,
+    repository: Repository,
+    map: &Map<String, Value>,
+) -> Result<Option<Ident>, Refusal>
+    ensures { Gives result (ecu_of repository (object_of_map map.now.entries)) }
+{
+    match repository {
+        Repository::Director => Ok(Some(ident_part(alloc, map, "ecu", "targets")?)),
+        Repository::Image => Ok(None),
+    }
+}
+
+#[tactic(auto, unfolding(crate::specs::Targets::hardware_of, up_canon::specs::Steps::and_then))]
+fn hardware_at(alloc: Global, map: &Map<String, Value>) -> Result<Listed<Ident>, Refusal>
+    ensures { Gives result (hardware_of (object_of_map map.now.entries)) }
+{
+    let values = few_part(map, "hardware", "targets", 1, 16)?;
+    let hardware = each_name(alloc, values.as_slice())?;
+    if !are_distinct(hardware.as_slice()) {
+        return Err(Refusal::from("targets"));
+    }
+    Ok(hardware)
+}
+
+#[tactic(auto, unfolding(up_canon::specs::Steps::each, up_canon::specs::Steps::and_then))]
+fn each_name(alloc: Global, values: &[Value]) -> Result<Listed<Ident>, Refusal>
+    ensures { Gives result (each (name_of (codes "targets")) (values_of values.now)) }
+{
+    let mut names = Vec::with_capacity(alloc, values.len())?;
+    for value in values {
+        names.push(ident_of(alloc, value, "targets")?)?;
+    }
+    Ok(Listed::new(names))
+}
+
+/// Whether no ECU stands twice.
+fn has_distinct_ecus(targets: &[Target]) -> bool
+    ensures { result ≡ are_distinct_names (ecus_of targets.now) }
+{
+    for (i, target) in targets.iter().enumerate() {
+        if repeats_ecu(&targets[..i], &target.ecu) {
+            return false;
+        }
+    }
+    true
+}
+
+/// Whether a target names the ECU.
+#[tactic(auto, using(crate::proofs::Repeats::ecu_among))]
+fn repeats_ecu(targets: &[Target], ecu: &Option<Ident>) -> bool
+    ensures { result ≡ repeats_one_of (ecus_of targets.now) ecu.now }
+{
+    match ecu {
+        Some(ecu) => has_ecu(targets, ecu.text()),
+        None => false,
+    }
+}
+
+fn has_ecu(targets: &[Target], name: &str) -> bool
+    ensures { result ≡ list_any (λ target. is_ecu name.now target.ecu) targets.now }
+{
+    targets.iter().any(|target| is_named(&target.ecu, name))
+}
+
+fn is_named(ecu: &Option<Ident>, name: &str) -> bool
+    ensures { result ≡ is_ecu name.now ecu.now }
+{
+    match ecu {
+        Some(ecu) => name == ecu.text(),
+        None => false,
     }
 }

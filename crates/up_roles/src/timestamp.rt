@@ -1,10 +1,29 @@
 //! Timestamp files: the version and the hash of the Snapshot file.
+ghost use Rattle.std.specs.Prelude.{◌≡◌, ◌≤◌, ◌∷◌, [], Ok, IsTrue, IfOk, OnOk, MatchResult, codes, length, string_bytes, true};
+ghost use Rattle.std.specs.List.{list_all};
+ghost use Rattle.serde_json.specs.View.{view, members_view};
+ghost use Rattle.up_canon.specs.Build.{members_with};
+ghost use Rattle.up_canon.specs.Members.{IsFault, object_of_map};
+ghost use Rattle.up_canon.specs.Refusals.{Gives};
+ghost use Rattle.up_roles.specs.Timestamp.{meta_of, timestamp_payload, timestamp_text_of, timestamp_fits, timestamp_is_typed, timestamp_in, timestamp_of, timestamp_entry_in};
+
 use crate::copies::copy_name;
+use crate::file::{RoleFile, read_file};
+use crate::parts::{object_part, positive_part, sha256_part};
+use crate::payload::{Head, head_at, payload_value, vehicle_at};
 use crate::repository::Repository;
+use crate::sealing::sealed_text;
+use crate::values::{hashes_value, one_member};
+use serde_json::{Map, Value, json};
 use std::alloc::{AllocError, Global};
+use up_canon::bytes::Bytes;
+use up_canon::fields::object_at;
 use up_canon::ident::Ident;
 use up_canon::listed::Duplicate;
 use up_canon::moment::Moment;
+use up_canon::refusal::Refusal;
+use up_sign::envelope::Envelope;
+use up_sign::scheme::Scheme;
 
 /// Timestamp metadata: the version of the Snapshot file, and the SHA-256 of that file's whole text. The Director's is
 /// for one vehicle, which it names.
@@ -29,4 +48,93 @@ impl Duplicate for TimestampFile {
             snapshot_sha256: self.snapshot_sha256,
         })
     }
+}
+
+/// The Timestamp file that the bytes mean, and its envelope. `TooLarge` above 4,194,304 bytes, `NotJson`, `BadShape` with the
+/// name of the first member at fault (of the envelope, then of the payload), `NotCanonical` between the two, `Memory`.
+#[tactic(auto, unfolding(crate::specs::Timestamp::timestamp_in))]
+pub fn read_timestamp(alloc: Global, bytes: &[u8]) -> Result<(TimestampFile, Envelope), Refusal>
+    ensures { Gives result (timestamp_in bytes.now) }
+{
+    read_file(alloc, bytes)
+}
+
+impl RoleFile for TimestampFile {
+    ghost use Rattle.up_roles.specs.Timestamp.{timestamp_of};
+
+    ghost meaning = { timestamp_of };
+
+    fn of_payload(alloc: Global, map: &Map<String, Value>) -> Result<TimestampFile, Refusal> {
+        timestamp_at(alloc, map)
+    }
+}
+
+/// The Timestamp file that a payload means.
+#[tactic(auto, unfolding(crate::specs::Timestamp::timestamp_of, up_canon::specs::Steps::and_then))]
+fn timestamp_at(alloc: Global, map: &Map<String, Value>) -> Result<TimestampFile, Refusal>
+    ensures { Gives result (timestamp_of (object_of_map map.now.entries)) }
+{
+    let head = head_at(map, "timestamp")?;
+    let vehicle = vehicle_at(alloc, head.repository, map)?;
+    let entry = snapshot_entry_at(map)?;
+    let snapshot_version = positive_part(entry, "version", "meta")?;
+    Ok(TimestampFile {
+        repository: head.repository,
+        version: head.version,
+        expires: head.expires,
+        vehicle,
+        snapshot_version: snapshot_version.get(),
+        snapshot_sha256: sha256_part(entry, "meta")?,
+    })
+}
+
+/// The entry of the Snapshot file.
+#[tactic(auto, unfolding(crate::specs::Timestamp::timestamp_entry_in, up_canon::specs::Steps::and_then))]
+fn snapshot_entry_at(map: &Map<String, Value>) -> Result<&Map<String, Value>, &'static str>
+    ensures { MatchResult result
+        (λ entry. timestamp_entry_in (object_of_map map.now.entries) ≡ Ok (object_of_map entry.now.entries))
+        (λ f. IsFault (timestamp_entry_in (object_of_map map.now.entries)) (codes "meta") f.now) }
+{
+    object_part(object_at(map, "meta")?, "snapshot.json", "meta")
+}
+
+/// The text of the Timestamp file: its envelope, signed with each secret in order.
+pub fn timestamp_text<K: Scheme>(
+    alloc: Global,
+    scheme: &K,
+    secrets: &[Bytes],
+    file: &TimestampFile,
+) -> Result<String, AllocError>
+    requires fit { IsTrue (list_all (K.rules scheme.now).secret_fits secrets.now) }
+    requires number { (1 ≤ length secrets.now) × (length secrets.now ≤ 8) }
+    requires limits { IsTrue (timestamp_fits file.now) }
+    ensures { IfOk result (λ t. string_bytes t ≡ timestamp_text_of (K.rules scheme.now) secrets.now file.now) }
+{
+    let payload = timestamp_value(alloc, file)?;
+    sealed_text(alloc, scheme, secrets, &payload)
+}
+
+fn timestamp_value(alloc: Global, file: &TimestampFile) -> Result<Value, AllocError>
+    ensures value { IfOk result (λ v. view v ≡ timestamp_payload file.now) }
+    ensures typed { OnOk result (timestamp_is_typed file.now ≡ true) }
+{
+    let head = Head {
+        repository: file.repository,
+        version: file.version,
+        expires: file.expires,
+    };
+    let hashes = hashes_value(alloc, &file.snapshot_sha256)?;
+    let more = timestamp_members(alloc, file.snapshot_version, hashes)?;
+    payload_value(alloc, "timestamp", &head, &file.vehicle, more)
+}
+
+fn timestamp_members(
+    alloc: Global,
+    version: u64,
+    hashes: Value,
+) -> Result<Map<String, Value>, AllocError>
+    ensures { IfOk result (λ m. members_view m.entries ≡ members_with ((codes "meta", meta_of (view hashes) version) ∷ [])) }
+{
+    let meta = json!(in alloc; {"snapshot.json": {"hashes": hashes, "version": version}})?;
+    one_member(alloc, "meta", meta)
 }

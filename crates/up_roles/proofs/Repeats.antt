@@ -1,0 +1,91 @@
+-- Names one after another, up to the first that stood before it.
+use Rattle.std.proofs.Common.{◌≡◌, ℕ, ◌+◌, ◌<◌, List, [], ◌∷◌, ◌++◌, Bool, true, false, Option, Some, None, length, get_or, take, drop, reverse, refl, ap, ◌∙◌, sym, append-nil}
+use Rattle.std.specs.Prelude.{bytes_eq, map, is_none, ◌||◌}
+use Rattle.std.specs.List.{list_any}
+use Rattle.std.proofs.lemmas.List.{take_more, drop_more, reverse-append, map-append}
+use Rattle.std.proofs.lemmas.List.Elements.{filter_map-append}
+use Rattle.std.proofs.lemmas.List.Sorted.{list_any-IsPermutation, IsPermutation-reverse}
+use Rattle.up_canon.specs.Names.{Name, first_repeated_after}
+use Rattle.up_roles.specs.declared.root.RootKey.{RootKey}
+use Rattle.up_roles.specs.declared.targets.Target.{Target}
+use Rattle.up_roles.specs.Targets.{ecus_of, repeats_ecu, is_ecu}
+
+-- what is left of the search, after the names that were seen
+abbrev pub left : List Name → List Name → Option Name
+left seen rest = first_repeated_after (reverse seen) rest
+
+before : (seen : List Name) (x : Name) (b : Bool) → list_any (bytes_eq x) seen ≡ b → list_any (bytes_eq x) (reverse seen) ≡ b
+before seen x b e = sym (list_any-IsPermutation (bytes_eq x) seen (reverse seen) (IsPermutation-reverse seen)) ∙ e
+
+-- a name that isn't among the earlier ones is passed
+passes : (seen rest : List Name) (x : Name) → list_any (bytes_eq x) seen ≡ false → left (seen ++ x ∷ []) rest ≡ left seen (x ∷ rest)
+passes seen rest x new =
+    let new' : list_any (bytes_eq x) (reverse seen) ≡ false = before seen x false new in
+    rw (reverse-append seen (x ∷ []), new') refl
+
+-- one that is among them is the first repeated
+found : (seen rest : List Name) (x : Name) → list_any (bytes_eq x) seen ≡ true → left seen (x ∷ rest) ≡ Some x
+found seen rest x old =
+    let old' : list_any (bytes_eq x) (reverse seen) ≡ true = before seen x true old in
+    rw old' refl
+
+pub name-passes : (names : List Name) (i : ℕ) (x : Name) → i < length names → x ≡ get_or names i x → list_any (bytes_eq x) (take i names) ≡ false
+    → left (take (i + 1) names) (drop (i + 1) names) ≡ left (take i names) (drop i names)
+name-passes names i x h at new = rw (drop_more names i x h, take_more names i x h, ← at) (passes (take i names) (drop (i + 1) names) x new)
+
+pub name-found : (names : List Name) (i : ℕ) (x : Name) → i < length names → x ≡ get_or names i x → list_any (bytes_eq x) (take i names) ≡ true
+    → left (take i names) (drop i names) ≡ Some x
+name-found names i x h at old = rw (drop_more names i x h, ← at) (found (take i names) (drop (i + 1) names) x old)
+
+-- ---- the ECUs of targets
+
+step : (seen : List Name) (o : Option Name) (rest : List Target) (x : Target) → x.ecu ≡ o → repeats_ecu seen x.ecu ≡ false
+    → left (seen ++ ecus_of (x ∷ [])) (ecus_of rest) ≡ left seen (ecus_of (x ∷ rest))
+step seen None rest x e new = rw (e, append-nil seen) refl
+step seen (Some name) rest x e new =
+    let new' : list_any (bytes_eq name) seen ≡ false = rw e at new in
+    rw e (passes seen (ecus_of rest) name new')
+
+stop : (seen : List Name) (o : Option Name) (rest : List Target) (x : Target) → x.ecu ≡ o → repeats_ecu seen x.ecu ≡ true
+    → is_none (left seen (ecus_of (x ∷ rest))) ≡ false
+stop seen None rest x e old = let old' : repeats_ecu seen None ≡ true = rw e at old in cc
+stop seen (Some name) rest x e old =
+    let old' : list_any (bytes_eq name) seen ≡ true = rw e at old in
+    rw e (ap is_none (found seen (ecus_of rest) name old'))
+
+pub ecu-passes : (targets : List Target) (i : ℕ) (x : Target) → i < length targets → x ≡ get_or targets i x → repeats_ecu (ecus_of (take i targets)) x.ecu ≡ false
+    → left (ecus_of (take (i + 1) targets)) (ecus_of (drop (i + 1) targets)) ≡ left (ecus_of (take i targets)) (ecus_of (drop i targets))
+ecu-passes targets i x h at new =
+    rw (drop_more targets i x h, take_more targets i x h, ← at, filter_map-append (λ (t : Target). t.ecu) (take i targets) (x ∷ [])) (step (ecus_of (take i targets)) x.ecu (drop (i + 1) targets) x refl new)
+
+pub ecu-found : (targets : List Target) (i : ℕ) (x : Target) → i < length targets → x ≡ get_or targets i x → repeats_ecu (ecus_of (take i targets)) x.ecu ≡ true
+    → is_none (left (ecus_of (take i targets)) (ecus_of (drop i targets))) ≡ false
+ecu-found targets i x h at old = rw (drop_more targets i x h, ← at) (stop (ecus_of (take i targets)) x.ecu (drop (i + 1) targets) x refl old)
+
+-- a name among the ECUs of targets
+pub ecu_among : (name : Name) (targets : List Target) → list_any (λ t. is_ecu name t.ecu) targets ≡ list_any (bytes_eq name) (ecus_of targets)
+ecu_among name [] = refl
+ecu_among name (x ∷ rest) = one_more name x rest x.ecu refl (ecu_among name rest)
+  where
+    one_more : (name : Name) (x : Target) (rest : List Target) (o : Option Name) → x.ecu ≡ o → list_any (λ t. is_ecu name t.ecu) rest ≡ list_any (bytes_eq name) (ecus_of rest)
+        → list_any (λ t. is_ecu name t.ecu) (x ∷ rest) ≡ list_any (bytes_eq name) (ecus_of (x ∷ rest))
+    one_more name x rest None e same = rw e same
+    one_more name x rest (Some ecu) e same = rw (e, same) refl
+
+-- ---- the identifiers of keys
+
+abbrev pub ids_of : List RootKey → List Name
+ids_of keys = map (λ key. key.keyid) keys
+
+ids_any : (name : Name) (keys : List RootKey) → list_any (bytes_eq name) (ids_of keys) ≡ list_any (λ key. bytes_eq name key.keyid) keys
+ids_any name [] = refl
+ids_any name (x ∷ keys) = ap (λ b. bytes_eq name x.keyid || b) (ids_any name keys)
+
+pub id-passes : (keys : List RootKey) (i : ℕ) (x : RootKey) → i < length keys → x ≡ get_or keys i x → list_any (λ key. bytes_eq x.keyid key.keyid) (take i keys) ≡ false
+    → left (ids_of (take (i + 1) keys)) (ids_of (drop (i + 1) keys)) ≡ left (ids_of (take i keys)) (ids_of (drop i keys))
+id-passes keys i x h at new =
+    rw (drop_more keys i x h, take_more keys i x h, ← at, map-append (λ (k : RootKey). k.keyid) (take i keys) (x ∷ [])) (passes (ids_of (take i keys)) (ids_of (drop (i + 1) keys)) x.keyid (ids_any x.keyid (take i keys) ∙ new))
+
+pub id-found : (keys : List RootKey) (i : ℕ) (x : RootKey) → i < length keys → x ≡ get_or keys i x → list_any (λ key. bytes_eq x.keyid key.keyid) (take i keys) ≡ true
+    → left (ids_of (take i keys)) (ids_of (drop i keys)) ≡ Some x.keyid
+id-found keys i x h at old = rw (drop_more keys i x h, ← at) (found (ids_of (take i keys)) (ids_of (drop (i + 1) keys)) x.keyid (ids_any x.keyid (take i keys) ∙ old))

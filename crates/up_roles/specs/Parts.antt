@@ -1,0 +1,66 @@
+-- Parts of a member, whose faults go by that member's name.
+use Rattle.std.specs.Prelude.{ℕ, ◌||◌, List, Bool, nat_le, length, codes, Result}
+use Rattle.std.specs.List.{list_all}
+use Rattle.hex.specs.Hex.{decode_sized}
+use Rattle.serde_json.specs.Data.{Data, object, Members, no_members, member}
+use Rattle.serde_json.specs.Find as json
+use Rattle.up_canon.specs.Members.{text_of, count_of, list_of, object_of}
+use Rattle.up_canon.specs.Names.{Name, is_from_to}
+use Rattle.up_canon.specs.Readers.{ident_of, file_name_of, fitting}
+use Rattle.up_canon.specs.Steps.{◌>>=◌, or_error, unless, value_of}
+use Rattle.up_canon.specs.declared.refusal.Refusal.{Refusal}
+use Rattle.up_canon.specs.declared.refusal.Refusal.TheVariants.{BadShape}
+
+-- the part of that name
+unfoldable pub part_in : List ℕ → List ℕ → Data → Result Data Refusal
+part_in fault name d = or_error (BadShape fault) (json.get name d)
+
+unfoldable pub object_part : List ℕ → List ℕ → Data → Result Data Refusal
+object_part fault name d = do
+  value ← part_in fault name d
+  object_of fault value
+
+-- a list of so many items
+unfoldable pub few_part : ℕ → ℕ → List ℕ → List ℕ → Data → Result (List Data) Refusal
+few_part least most fault name d = do
+  value ← part_in fault name d
+  values ← list_of fault value
+  fitting (λ vs. is_from_to least most (length vs)) fault values
+
+unfoldable pub text_part : List ℕ → List ℕ → Data → Result (List ℕ) Refusal
+text_part fault name d = do
+  value ← part_in fault name d
+  text_of fault value
+
+unfoldable pub count_part : List ℕ → List ℕ → Data → Result ℕ Refusal
+count_part fault name d = do
+  value ← part_in fault name d
+  count_of fault value
+
+-- a count from 1
+unfoldable pub positive_part : List ℕ → List ℕ → Data → Result ℕ Refusal
+positive_part fault name d = do
+  count ← count_part fault name d
+  fitting (nat_le 1) fault count
+
+unfoldable pub ident_part : List ℕ → List ℕ → Data → Result Name Refusal
+ident_part fault name d = do
+  value ← part_in fault name d
+  ident_of fault value
+
+unfoldable pub file_name_part : List ℕ → List ℕ → Data → Result Name Refusal
+file_name_part fault name d = do
+  value ← part_in fault name d
+  file_name_of fault value
+
+-- `0` to `9` and `a` to `f`
+abbrev pub is_lower_digit : ℕ → Bool
+is_lower_digit x = is_from_to 48 57 x || is_from_to 97 102 x
+
+-- the SHA-256 among the hashes, as 64 lower case hexadecimal digits
+unfoldable pub sha256_part : List ℕ → Data → Result (List ℕ) Refusal
+sha256_part fault d = do
+  hashes ← object_part fault (codes "hashes") d
+  digits ← text_part fault (codes "sha256") hashes
+  are_lower ← unless (list_all is_lower_digit digits) (BadShape fault)
+  or_error (BadShape fault) (value_of (decode_sized digits 32))

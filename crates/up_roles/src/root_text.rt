@@ -1,0 +1,120 @@
+//! Writing Root files.
+ghost use Rattle.std.specs.Prelude.{◌≡◌, ◌≤◌, IsTrue, IfOk, OnOk, length, map, string_bytes, true};
+ghost use Rattle.std.specs.List.{list_all};
+ghost use Rattle.serde_json.specs.Data.{string};
+ghost use Rattle.serde_json.specs.View.{view, members_view};
+ghost use Rattle.up_canon.specs.Build.{list_with, members_with, object_with};
+ghost use Rattle.up_roles.specs.Root.{all_keys, key_member, put_keys, role_value as role_value_of, roles_value as roles_value_of, root_more, root_payload, root_text_of, root_fits, root_is_typed};
+
+use crate::payload::{Head, payload_value};
+use crate::root::{RoleKeys, RootFile, RootKey};
+use crate::sealing::sealed_text;
+use crate::values::one_member;
+use serde_json::{Map, Value, json, put};
+use std::alloc::{AllocError, Global};
+use up_canon::bytes::Bytes;
+use up_sign::scheme::Scheme;
+
+/// The text of the Root file: its envelope, signed with each secret in order.
+pub fn root_text<K: Scheme>(
+    alloc: Global,
+    scheme: &K,
+    secrets: &[Bytes],
+    file: &RootFile,
+) -> Result<String, AllocError>
+    requires fit { IsTrue (list_all (K.rules scheme.now).secret_fits secrets.now) }
+    requires number { (1 ≤ length secrets.now) × (length secrets.now ≤ 8) }
+    requires limits { IsTrue (root_fits file.now) }
+    ensures { IfOk result (λ t. string_bytes t ≡ root_text_of (K.rules scheme.now) secrets.now file.now) }
+{
+    let payload = root_value(alloc, file)?;
+    sealed_text(alloc, scheme, secrets, &payload)
+}
+
+fn root_value(alloc: Global, file: &RootFile) -> Result<Value, AllocError>
+    ensures value { IfOk result (λ v. view v ≡ root_payload file.now) }
+    ensures typed { OnOk result (root_is_typed file.now ≡ true) }
+{
+    let head = Head {
+        repository: file.repository,
+        version: file.version,
+        expires: file.expires,
+    };
+    let more = root_members(alloc, file)?;
+    payload_value(alloc, "root", &head, &None, more)
+}
+
+fn root_members(alloc: Global, file: &RootFile) -> Result<Map<String, Value>, AllocError>
+    ensures { IfOk result (λ m. members_view m.entries ≡ members_with (root_more file.now)) }
+{
+    let keys = keys_value(alloc, file)?;
+    let roles = roles_value(alloc, file)?;
+    let mut members = one_member(alloc, "roles", roles)?;
+    put(&mut members, alloc, "keys", keys)?;
+    Ok(members)
+}
+
+/// The keys of the four roles; the first of an identifier goes in last, and stays.
+#[tactic(auto, using(crate::proofs::Keys::keys_in_turn))]
+fn keys_value(alloc: Global, file: &RootFile) -> Result<Value, AllocError>
+    ensures { IfOk result (λ v. view v ≡ object_with (map key_member (all_keys file.now))) }
+{
+    let members = Map::new(alloc);
+    let members = with_keys(alloc, file.timestamp.keys.as_slice(), members)?;
+    let members = with_keys(alloc, file.snapshot.keys.as_slice(), members)?;
+    let members = with_keys(alloc, file.targets.keys.as_slice(), members)?;
+    let members = with_keys(alloc, file.root.keys.as_slice(), members)?;
+    Ok(Value::Object(members))
+}
+
+/// The members with these keys, the last of which goes in first.
+fn with_keys(
+    alloc: Global,
+    keys: &[RootKey],
+    members: Map<String, Value>,
+) -> Result<Map<String, Value>, AllocError>
+    ensures { IfOk result (λ m. members_view m.entries ≡ put_keys keys.now (members_view members.entries)) }
+{
+    match keys {
+        [] => Ok(members),
+        [key, rest @ ..] => {
+            let mut members = with_keys(alloc, rest, members)?;
+            let value = key_value(alloc, key)?;
+            put(&mut members, alloc, key.keyid.as_str(), value)?;
+            Ok(members)
+        }
+    }
+}
+
+fn key_value(alloc: Global, key: &RootKey) -> Result<Value, AllocError>
+    ensures { IfOk result (λ v. view v ≡ (key_member key.now).1) }
+{
+    json!(in alloc; {"method": key.method.as_str(), "public": key.shown.as_str()})
+}
+
+fn roles_value(alloc: Global, file: &RootFile) -> Result<Value, AllocError>
+    ensures { IfOk result (λ v. view v ≡ roles_value_of file.now) }
+{
+    let root = role_value(alloc, &file.root)?;
+    let snapshot = role_value(alloc, &file.snapshot)?;
+    let targets = role_value(alloc, &file.targets)?;
+    let timestamp = role_value(alloc, &file.timestamp)?;
+    json!(in alloc; {"root": root, "snapshot": snapshot, "targets": targets, "timestamp": timestamp})
+}
+
+fn role_value(alloc: Global, role: &RoleKeys) -> Result<Value, AllocError>
+    ensures { IfOk result (λ v. view v ≡ role_value_of role.now) }
+{
+    let ids = ids_value(alloc, role.keys.as_slice())?;
+    json!(in alloc; {"keyids": ids, "threshold": role.threshold})
+}
+
+fn ids_value(alloc: Global, keys: &[RootKey]) -> Result<Value, AllocError>
+    ensures { IfOk result (λ v. view v ≡ list_with (map (λ key. string key.keyid) keys.now)) }
+{
+    let mut values = Vec::with_capacity(alloc, keys.len())?;
+    for key in keys {
+        values.push(Value::try_from_str(alloc, key.keyid.as_str())?)?;
+    }
+    Ok(Value::Array(values))
+}

@@ -1,0 +1,99 @@
+//! Writing Targets files.
+ghost use Rattle.std.specs.Prelude.{◌≡◌, ◌≤◌, IsTrue, IfOk, OnOk, codes, length, map, option_map, option_to_list, string_bytes, true};
+ghost use Rattle.std.specs.List.{list_all};
+ghost use Rattle.serde_json.specs.Data.{string};
+ghost use Rattle.serde_json.specs.View.{view, members_view};
+ghost use Rattle.up_canon.specs.Build.{list_with, members_with};
+ghost use Rattle.up_roles.specs.Payload.{is_named};
+ghost use Rattle.up_roles.specs.Targets.{target_value as target_value_of, targets_payload, targets_text_of, targets_fits, target_is_typed, targets_is_typed};
+
+use crate::payload::{Head, payload_value};
+use crate::sealing::sealed_text;
+use crate::targets::{Target, TargetsFile};
+use crate::values::{hashes_value, name_value, names_value, one_member};
+use serde_json::{Map, Value, put};
+use std::alloc::{AllocError, Global};
+use up_canon::bytes::Bytes;
+use up_canon::ident::Ident;
+use up_sign::scheme::Scheme;
+
+/// The text of the Targets file: its envelope, signed with each secret in order.
+pub fn targets_text<K: Scheme>(
+    alloc: Global,
+    scheme: &K,
+    secrets: &[Bytes],
+    file: &TargetsFile,
+) -> Result<String, AllocError>
+    requires fit { IsTrue (list_all (K.rules scheme.now).secret_fits secrets.now) }
+    requires number { (1 ≤ length secrets.now) × (length secrets.now ≤ 8) }
+    requires limits { IsTrue (targets_fits file.now) }
+    ensures { IfOk result (λ t. string_bytes t ≡ targets_text_of (K.rules scheme.now) secrets.now file.now) }
+{
+    let payload = targets_value(alloc, file)?;
+    sealed_text(alloc, scheme, secrets, &payload)
+}
+
+fn targets_value(alloc: Global, file: &TargetsFile) -> Result<Value, AllocError>
+    ensures value { IfOk result (λ v. view v ≡ targets_payload file.now) }
+    ensures typed { OnOk result (targets_is_typed file.now ≡ true) }
+{
+    let head = Head {
+        repository: file.repository,
+        version: file.version,
+        expires: file.expires,
+    };
+    let targets = target_values(alloc, file.targets.as_slice())?;
+    let more = one_member(alloc, "targets", targets)?;
+    payload_value(alloc, "targets", &head, &file.vehicle, more)
+}
+
+fn target_values(alloc: Global, targets: &[Target]) -> Result<Value, AllocError>
+    ensures value { IfOk result (λ v. view v ≡ list_with (map target_value_of targets.now)) }
+    ensures typed { OnOk result (list_all target_is_typed targets.now ≡ true) }
+{
+    let mut values = Vec::with_capacity(alloc, targets.len())?;
+    for target in targets {
+        values.push(target_value(alloc, target)?)?;
+    }
+    Ok(Value::Array(values))
+}
+
+#[tactic(auto, using(crate::proofs::PlainFiles::target_typed))]
+fn target_value(alloc: Global, target: &Target) -> Result<Value, AllocError>
+    ensures value { IfOk result (λ v. view v ≡ target_value_of target.now) }
+    ensures typed { OnOk result (target_is_typed target.now ≡ true) }
+{
+    let mut members = ecu_members(alloc, &target.ecu)?;
+    let hardware = names_value(alloc, target.hardware.as_slice())?;
+    let hashes = hashes_value(alloc, &target.sha256)?;
+    let file = Value::try_from_str(alloc, target.file.text())?;
+    put(
+        &mut members,
+        alloc,
+        "release",
+        Value::from(target.release.get()),
+    )?;
+    put(
+        &mut members,
+        alloc,
+        "length",
+        Value::from(target.length.get()),
+    )?;
+    put(&mut members, alloc, "hashes", hashes)?;
+    put(&mut members, alloc, "hardware", hardware)?;
+    put(&mut members, alloc, "file", file)?;
+    Ok(Value::Object(members))
+}
+
+/// The ECU, where there is one.
+fn ecu_members(alloc: Global, ecu: &Option<Ident>) -> Result<Map<String, Value>, AllocError>
+    ensures value { IfOk result (λ m. members_view m.entries ≡ members_with (option_to_list (option_map (λ name. (codes "ecu", string name)) ecu.now))) }
+    ensures typed { OnOk result (is_named ecu.now ≡ true) }
+{
+    let mut members = Map::new(alloc);
+    if let Some(name) = ecu {
+        let value = name_value(alloc, name)?;
+        put(&mut members, alloc, "ecu", value)?;
+    }
+    Ok(members)
+}
