@@ -12,3 +12,9 @@ pub mod Planned
 pub mod Staying
 pub mod Accepting
 pub mod Soundness
+pub mod Repeating
+pub mod Effects
+pub mod Apart
+pub mod Separately
+pub mod Commuting
+pub mod Installing

@@ -86,3 +86,18 @@ no_such name p (x ∷ xs) n h is =
         let passes : p (name x) ≡ true = ap p same ∙ is in
         cc
     by_test false e fails more = more
+
+-- ---- tests that answer alike
+
+pub find_alike : {A : Type 0} (p q : A → Bool) → ((x : A) → p x ≡ q x) → (xs : List A) → find p xs ≡ find q xs
+find_alike p q same [] = refl
+find_alike p q same (x ∷ xs) = rw (same x, find_alike p q same xs)
+
+pub all_alike : {A : Type 0} (p q : A → Bool) → ((x : A) → p x ≡ q x) → (xs : List A) → list_all p xs ≡ list_all q xs
+all_alike p q same [] = refl
+all_alike p q same (x ∷ xs) = rw (same x, all_alike p q same xs)
+
+pub both_ways : (a b : Bool) → (a ≡ true → b ≡ true) → (b ≡ true → a ≡ true) → a ≡ b
+both_ways true b there back = sym (there refl)
+both_ways false true there back = back refl
+both_ways false false there back = refl

@@ -86,3 +86,18 @@ values_of P t h (e ∷ es) all = (h e.0 e.1 all.0, values_of P t h es all.1)
 -- what holds of each value that is found holds of each of the values
 pub each_value : {X : Type 0} (P : X → Type 0) (t : Table X) → ((q : Name) (x : X) → table.get t q ≡ Some x → P x) → AllByRecursion P (table.values t)
 each_value P t h = values_of P t h (table.entries t) (each_found t)
+
+-- ---- a value that passes is found at a name
+
+any_in : {X : Type 0} (p : X → Bool) (t : Table X) (es : List (Name × X)) → AllByRecursion (λ e. table.get t e.0 ≡ Some e.1) es → list_any p (map (λ e. e.1) es) ≡ true
+    → (q : Name) × (x : X) × (table.get t q ≡ Some x) × (p x ≡ true)
+any_in p t [] all h = cc
+any_in p t (e ∷ es) all h = by_test (p e.1) refl h (any_in p t es all.1)
+  where
+    by_test : (b : Bool) → p e.1 ≡ b → (b || list_any p (map (λ e. e.1) es)) ≡ true
+        → (list_any p (map (λ e. e.1) es) ≡ true → (q : Name) × (x : _) × (table.get t q ≡ Some x) × (p x ≡ true)) → (q : Name) × (x : _) × (table.get t q ≡ Some x) × (p x ≡ true)
+    by_test true is h more = (e.0, e.1, all.0, is)
+    by_test false is h more = more h
+
+pub any_found : {X : Type 0} (p : X → Bool) (t : Table X) → list_any p (table.values t) ≡ true → (q : Name) × (x : X) × (table.get t q ≡ Some x) × (p x ≡ true)
+any_found p t h = any_in p t (table.entries t) (each_found t) h

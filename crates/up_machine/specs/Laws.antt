@@ -1,7 +1,8 @@
 -- The laws of the plain machine over single commands and over runs.
-use Rattle.std.specs.Prelude.{◌≡◌, ℕ, List, ◌++◌, Some, IsTrue, slice_get}
+use Rattle.std.specs.Prelude.{◌≡◌, ℕ, ◌≤◌, List, ◌++◌, Some, IsTrue, slice_get}
 use Rattle.std.specs.List.{AllByRecursion}
 use Rattle.std.specs.FinMap as table
+use Rattle.up_canon.specs.Canon.{max_count}
 use Rattle.up_canon.specs.Names.{Name}
 use Rattle.up_sign.specs.Schemes.{Rules}
 use Rattle.up_plan.specs.Images.{ImageData}
@@ -10,7 +11,7 @@ use Rattle.up_machine.specs.declared.answer.Answer.TheVariants.{Refused, Already
 use Rattle.up_machine.specs.declared.answer.Reply.{Reply}
 use Rattle.up_canon.specs.declared.refusal.Refusal.{Refusal}
 use Rattle.up_machine.specs.Commands.{is_command}
-use Rattle.up_machine.specs.State.{Entry, Vehicle, Root, State, empty_state}
+use Rattle.up_machine.specs.State.{Entry, Vehicle, Root, State, empty_state, version, last_counter}
 use Rattle.up_machine.specs.Replies.{kept_reply}
 use Rattle.up_machine.specs.Machine.{Timed, step, run}
 use Rattle.up_machine.specs.Sound.{CountersRise, IsSound}
@@ -41,6 +42,11 @@ RunsStaySound = (k : Rules) (s : State) (ts : List Timed) → AllByRecursion (λ
 abbrev pub CountersTellEntries : Type 0
 CountersTellEntries = (entries : List Entry) (i j : ℕ) (e f : Entry) → CountersRise entries
     → slice_get entries i ≡ Some e → slice_get entries j ≡ Some f → e.counter ≡ f.counter → i ≡ j
+
+-- a vehicle's version is at most its last counter, and so a count
+abbrev pub VersionsAreCounts : Type 0
+VersionsAreCounts = (k : Rules) (s : State) (name : Name) (v : Vehicle) → IsSound k s → table.get s.vehicles name ≡ Some v
+    → (version v.entries ≤ last_counter v.entries) × (last_counter v.entries ≤ max_count)
 
 -- ---- later states
 

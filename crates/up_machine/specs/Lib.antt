@@ -14,3 +14,5 @@ pub mod Sound
 pub mod Rows
 pub mod Reads
 pub mod Laws
+pub mod RepeatLaws
+pub mod ApartLaws

@@ -68,6 +68,11 @@ abbrev pub trace : Rules → State → List Sent → List Met
 trace k s [] = []
 trace k s (m ∷ ms) = meet k s m ∷ trace k (meet k s m).next ms
 
+-- the state after a list
+abbrev pub after : Rules → State → List Sent → State
+after k s [] = s
+after k s (m ∷ ms) = after k (meet k s m).next ms
+
 -- the items that stay: neither lost nor repeats
 abbrev pub stays : Met → Option Timed
 stays met = if met.sent.lost then None else if met.is_repeat then None else Some met.sent.item

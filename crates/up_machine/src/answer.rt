@@ -47,3 +47,15 @@ pub enum Answer {
     /// It was refused, and nothing changed.
     Refused(Refusal),
 }
+
+impl Duplicate for Answer {
+    fn copy(&self, alloc: Global) -> Result<Answer, AllocError> {
+        Ok(match self {
+            Answer::Done => Answer::Done,
+            Answer::Already => Answer::Already,
+            Answer::Reply(reply) => Answer::Reply(reply.copy(alloc)?),
+            Answer::File(text) => Answer::File(text.copy(alloc)?),
+            Answer::Refused(refusal) => Answer::Refused(refusal.copy(alloc)?),
+        })
+    }
+}

@@ -1,5 +1,7 @@
 //! The laws of the plain machine.
-ghost use Rattle.up_machine.specs.Laws.{RefusalsChangeNothing, AlreadyChangesNothing, EmptyIsSound, StepsStaySound, RunsStaySound, CountersTellEntries, LaterIsReflexive, LaterIsTransitive, StepsGrow, RunsGrow, KeptRepliesStay, KeptRepliesOutlastRuns};
+ghost use Rattle.up_machine.specs.Laws.{RefusalsChangeNothing, AlreadyChangesNothing, EmptyIsSound, StepsStaySound, RunsStaySound, CountersTellEntries, VersionsAreCounts, LaterIsReflexive, LaterIsTransitive, StepsGrow, RunsGrow, KeptRepliesStay, KeptRepliesOutlastRuns};
+ghost use Rattle.up_machine.specs.RepeatLaws.{RepeatsAreStale, RepeatsGetKeptReplies, CountersFindRepeats, OlderCountersAreStale, RepeatsChangeNothing, ServedIsThinned, ServedStaysSound};
+ghost use Rattle.up_machine.specs.ApartLaws.{VehiclesStandApart, DeliveriesCommute, InstalledIsOfTheVehicle};
 
 use up_manifest::body_laws;
 
@@ -19,9 +21,10 @@ pub fn states_stay_sound()
     body_laws();
 }
 
-/// A vehicle has at most one accepted manifest of a given counter.
+/// A vehicle has at most one accepted manifest of a given counter, and its version is at most its last counter.
 pub fn counters_tell_entries()
-    ensures { CountersTellEntries }
+    ensures apart { CountersTellEntries }
+    ensures versions { VersionsAreCounts }
 {}
 
 /// Roots, images and vehicles are only added, and a vehicle's accepted manifests only grow.
@@ -37,4 +40,32 @@ pub fn states_only_grow()
 pub fn kept_replies_stay()
     ensures later { KeptRepliesStay }
     ensures run { KeptRepliesOutlastRuns }
+{}
+
+/// A repeat of an accepted manifest is found by its counter, is answered the reply that was kept for it, and is stale to the
+/// plain machine, which keeps its state; an older counter that was never seen is stale too.
+pub fn repeats_are_found()
+    ensures stale { RepeatsAreStale }
+    ensures kept { RepeatsGetKeptReplies }
+    ensures found { CountersFindRepeats }
+    ensures older { OlderCountersAreStale }
+{
+    body_laws();
+}
+
+/// The state after a list is that after the list without its repeats, which is also what serving the list leaves.
+pub fn repeats_change_nothing()
+    ensures thinned { RepeatsChangeNothing }
+    ensures served { ServedIsThinned }
+    ensures sound { ServedStaysSound }
+{
+    body_laws();
+}
+
+/// What other vehicles deliver doesn't touch a vehicle or its answers, and neighbouring deliveries of different vehicles may
+/// be exchanged.
+pub fn vehicles_stand_apart()
+    ensures apart { VehiclesStandApart }
+    ensures exchanged { DeliveriesCommute }
+    ensures installed { InstalledIsOfTheVehicle }
 {}
