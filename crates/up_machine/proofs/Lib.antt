@@ -18,3 +18,5 @@ pub mod Apart
 pub mod Separately
 pub mod Commuting
 pub mod Installing
+pub mod Signing
+pub mod Serving

@@ -16,3 +16,4 @@ pub mod Reads
 pub mod Laws
 pub mod RepeatLaws
 pub mod ApartLaws
+pub mod SignedLaws

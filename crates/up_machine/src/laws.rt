@@ -2,6 +2,7 @@
 ghost use Rattle.up_machine.specs.Laws.{RefusalsChangeNothing, AlreadyChangesNothing, EmptyIsSound, StepsStaySound, RunsStaySound, CountersTellEntries, VersionsAreCounts, LaterIsReflexive, LaterIsTransitive, StepsGrow, RunsGrow, KeptRepliesStay, KeptRepliesOutlastRuns};
 ghost use Rattle.up_machine.specs.RepeatLaws.{RepeatsAreStale, RepeatsGetKeptReplies, CountersFindRepeats, OlderCountersAreStale, RepeatsChangeNothing, ServedIsThinned, ServedStaysSound};
 ghost use Rattle.up_machine.specs.ApartLaws.{VehiclesStandApart, DeliveriesCommute, InstalledIsOfTheVehicle};
+ghost use Rattle.up_machine.specs.SignedLaws.{RootsAreSigned, ImageFilesAreSigned, RepliesAreSigned, ServedFilesAreKnown};
 
 use up_manifest::body_laws;
 
@@ -68,4 +69,13 @@ pub fn vehicles_stand_apart()
     ensures apart { VehiclesStandApart }
     ensures exchanged { DeliveriesCommute }
     ensures installed { InstalledIsOfTheVehicle }
+{}
+
+/// Every Root file, every file of the image repository and every file in a kept reply is accepted under the keys and the
+/// threshold of its role in its root version, and a later Root file also under those of the version before.
+pub fn files_are_signed()
+    ensures roots { RootsAreSigned }
+    ensures images { ImageFilesAreSigned }
+    ensures replies { RepliesAreSigned }
+    ensures served { ServedFilesAreKnown }
 {}
