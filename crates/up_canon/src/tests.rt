@@ -187,3 +187,19 @@ fn valued_refusals(rt: HostRuntime) -> Result<(), Fail> {
     }
     Ok(())
 }
+
+#[test]
+fn keeps_values_in_the_order_of_their_names(rt: HostRuntime) -> Result<(), std::test::Fail> {
+    let alloc = rt.alloc();
+    let mut table = Table::new(alloc);
+    for (name, value) in [("b.bin", 2), ("a.bin", 1), ("c.bin", 3), ("b.bin", 4)] {
+        table.insert(Text::new(name.to_string(alloc)?), value)?;
+    }
+    assert_eq!(rt; table.len(), 3);
+    assert_eq!(rt; table.values(), [1, 4, 3].as_slice());
+    assert!(rt; table.contains("a.bin"));
+    assert!(rt; !table.contains("a"));
+    assert_eq!(rt; table.get("b.bin").copied(), Some(4));
+    assert_eq!(rt; table.get("d.bin").copied(), None);
+    Ok(())
+}
