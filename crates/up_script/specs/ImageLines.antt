@@ -1,0 +1,49 @@
+-- The members of a line that adds an image.
+use Rattle.std.specs.Prelude.{ℕ, List, [], Option, Some, None, Result, Ok, Err, codes}
+use Rattle.serde_json.specs.Data.{Data}
+use Rattle.serde_json.specs.Find as json
+use Rattle.up_canon.specs.Members.{object_of, count_in, list_in, list_of}
+use Rattle.up_canon.specs.HexText.{sha256_in}
+use Rattle.up_canon.specs.Readers.{ident_in, file_name_in, ident_of, file_name_of}
+use Rattle.up_canon.specs.Steps.{◌>>=◌, each}
+use Rattle.up_canon.specs.declared.refusal.Refusal.{Refusal}
+use Rattle.up_canon.specs.declared.refusal.Refusal.TheVariants.{BadShape}
+use Rattle.up_plan.specs.Images.{ImageData, image_fault}
+use Rattle.up_plan.specs.declared.image.Need.{Need}
+
+unfoldable pub need_of : List ℕ → Data → Result Need Refusal
+need_of place value = do
+  d ← object_of place value
+  hardware ← ident_in (codes "hardware") d
+  release ← count_in (codes "release") d
+  Ok (record { hardware = hardware; release = release })
+
+-- a list that may be left out, and is then empty
+abbrev pub list_or_empty : List ℕ → Option Data → Result (List Data) Refusal
+list_or_empty name None = Ok []
+list_or_empty name (Some value) = list_of name value
+
+unfoldable pub optional_list_in : List ℕ → Data → Result (List Data) Refusal
+optional_list_in name d = list_or_empty name (json.get name d)
+
+-- what is made of members that were all read, within the limits
+abbrev pub within : {A : Type 0} → Option (List ℕ) → A → Result A Refusal
+within None x = Ok x
+within (Some fault) x = Err (BadShape fault)
+
+abbrev pub checked : ImageData → Result ImageData Refusal
+checked image = within (image_fault image) image
+
+unfoldable pub image_in : Data → Result ImageData Refusal
+image_in d = do
+  file ← file_name_in (codes "file") d
+  size ← count_in (codes "length") d
+  sha256 ← sha256_in (codes "sha256") d
+  hardware_values ← list_in (codes "hardware") d
+  hardware ← each (ident_of (codes "hardware")) hardware_values
+  release ← count_in (codes "release") d
+  need_values ← optional_list_in (codes "needs") d
+  needs ← each (need_of (codes "needs")) need_values
+  conflict_values ← optional_list_in (codes "conflicts") d
+  conflicts ← each (file_name_of (codes "conflicts")) conflict_values
+  checked (record { file = file; length = size; sha256 = sha256; hardware = hardware; release = release; needs = needs; conflicts = conflicts })
