@@ -1,1 +1,4 @@
+pub mod CampaignLines
 pub mod ImageLines
+pub mod KeyLines
+pub mod VehicleLines

@@ -1,5 +1,8 @@
 //! The lines of a script: what each asks, and how an answer is printed.
 #![tactic(auto)]
 
+pub mod campaign_line;
 pub mod image_line;
+pub mod key_line;
 pub mod optional;
+pub mod vehicle_line;

@@ -1,0 +1,39 @@
+-- The keys of a line that founds or rotates.
+use Rattle.std.specs.Prelude.{ℕ, ◌^◌, List, Bool, nat_lt, Result, Ok, codes}
+use Rattle.serde_json.specs.Data.{Data}
+use Rattle.up_canon.specs.HexText.{hex_of}
+use Rattle.up_canon.specs.Members.{object_in, list_in, count_in}
+use Rattle.up_canon.specs.Readers.{fitting}
+use Rattle.up_canon.specs.Steps.{◌>>=◌, each}
+use Rattle.up_canon.specs.declared.refusal.Refusal.{Refusal}
+use Rattle.up_machine.specs.declared.keys.RoleSecrets.{RoleSecrets}
+use Rattle.up_machine.specs.declared.keys.RepoKeys.{RepoKeys}
+use Rattle.up_machine.specs.declared.keys.KeySet.{KeySet}
+
+-- a key, 1 to 256 bytes in hexadecimal digits
+unfoldable pub key_of : List ℕ → Data → Result (List ℕ) Refusal
+key_of place value = hex_of 2 512 place value
+
+unfoldable pub role_in : List ℕ → Data → Result RoleSecrets Refusal
+role_in name d = do
+  role ← object_in name d
+  values ← list_in (codes "keys") role
+  keys ← each (key_of (codes "keys")) values
+  given ← count_in (codes "threshold") role
+  threshold ← fitting (λ n. nat_lt n (2 ^ 32)) (codes "threshold") given
+  Ok (record { keys = keys; threshold = threshold })
+
+unfoldable pub repository_in : List ℕ → Data → Result RepoKeys Refusal
+repository_in name d = do
+  repository ← object_in name d
+  root ← role_in (codes "root") repository
+  targets ← role_in (codes "targets") repository
+  snapshot ← role_in (codes "snapshot") repository
+  timestamp ← role_in (codes "timestamp") repository
+  Ok (record { root = root; targets = targets; snapshot = snapshot; timestamp = timestamp })
+
+unfoldable pub key_set_in : Data → Result KeySet Refusal
+key_set_in d = do
+  director ← repository_in (codes "director") d
+  image ← repository_in (codes "image") d
+  Ok (record { director = director; image = image })
