@@ -12,6 +12,8 @@ use crate::limits::word_at;
 use crate::listed::Duplicate;
 use crate::readers::ident_at;
 use crate::refusal::{Field, Refusal};
+use crate::table::Table;
+use crate::text::Text;
 use serde_json::{Map, Value};
 use std::alloc::Global;
 use std::process::Abort;
