@@ -1,5 +1,5 @@
 //! Signatures as a scheme gives them.
-ghost use Rattle.std.specs.Prelude.{◌≡◌, IsTrue, IfOk, string_bytes};
+ghost use Rattle.std.specs.Prelude.{◌≡◌, IfOk, string_bytes};
 ghost use Rattle.up_sign.specs.Schemes.{Rules, IsScheme};
 
 use std::alloc::{AllocError, Global};
@@ -23,12 +23,10 @@ pub trait Scheme: Drop {
 
     /// The public part of a secret.
     fn public(&self, alloc: Global, secret: &[u8]) -> Result<Vec<u8>, AllocError>
-        requires { IsTrue ((rules self.now).secret_fits secret.now) }
         ensures { IfOk result (λ p. p.items ≡ (rules self.now).public_of secret.now) };
 
     /// The signature of a message.
     fn sign(&self, alloc: Global, secret: &[u8], message: &[u8]) -> Result<Vec<u8>, AllocError>
-        requires { IsTrue ((rules self.now).secret_fits secret.now) }
         ensures { IfOk result (λ g. g.items ≡ (rules self.now).tag secret.now message.now) };
 
     /// Whether the signature of a message is valid.
