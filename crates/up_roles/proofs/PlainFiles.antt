@@ -11,7 +11,7 @@ use Rattle.up_canon.specs.Canon.{max_count, is_printable, is_printable_text, has
 use Rattle.up_canon.specs.Moments.{last_moment, moment_text}
 use Rattle.up_canon.specs.Names.{Name, is_from_to, is_ident, is_ident_byte, is_file_name, is_file_byte}
 use Rattle.up_canon.proofs.MomentTexts.{moments_are_plain}
-use Rattle.up_roles.specs.Payload.{payload, payload_members, repository_text, hashes_value, version_fits, is_named, is_hash, is_moment}
+use Rattle.up_roles.specs.Payload.{IsCanonical, payload, payload_members, repository_text, hashes_value, version_fits, is_named, is_hash, is_moment}
 use Rattle.up_roles.specs.Root.{all_keys, key_member, role_value, roles_value, roles_members, root_more, root_payload, key_fits, role_is_met, role_fits, root_fits, root_is_typed}
 use Rattle.up_roles.specs.Snapshot.{snapshot_meta, snapshot_payload, snapshot_fits, snapshot_is_typed}
 use Rattle.up_roles.specs.Targets.{target_value, target_members, targets_payload, targets_fits, target_is_typed, targets_is_typed}
@@ -26,6 +26,9 @@ use Rattle.up_roles.specs.declared.targets.Target.{Target}
 use Rattle.up_roles.specs.declared.targets.TargetsFile.{TargetsFile}
 use Rattle.up_roles.specs.declared.timestamp.TimestampFile.{TimestampFile}
 use Rattle.up_roles.proofs.Plain.{IsPlain, AllMembers, AllItems, plain-object, plain-list, all-plain, plain-string, plain-count, deeper, plain-canon, all-more, printable-hex}
+
+pub canon_is : (d : Data) → has_canon d ≡ true → IsCanonical d
+canon_is d h = rw h refl
 
 -- ---- names
 

@@ -1,9 +1,9 @@
 -- What the files of the four roles have in common: type, repository, version, expiry and vehicle, and the sealing.
-use Rattle.std.specs.Prelude.{ℕ, ◌++◌, ◌&&◌, ◌==◌, List, [], ◌∷◌, Bool, true, false, nat_le, nat_lt, length, bytes_eq, if◌then◌else◌, Option, Some, None, is_none, option_map, option_to_list, codes, Result, Ok, Err}
+use Rattle.std.specs.Prelude.{◌≡◌, ℕ, ◌++◌, ◌&&◌, ◌==◌, List, [], ◌∷◌, Bool, true, false, nat_le, nat_lt, length, bytes_eq, if◌then◌else◌, Option, Some, None, is_none, option_map, option_to_list, codes, Result, Ok, Err}
 use Rattle.std.specs.List.{list_all}
 use Rattle.serde_json.specs.Data.{Data, string, Members, put}
 use Rattle.up_canon.specs.Build.{object_with, count_value, hex_value}
-use Rattle.up_canon.specs.Canon.{text, max_count}
+use Rattle.up_canon.specs.Canon.{canon, text, max_count}
 use Rattle.up_canon.specs.JsonText.{value_within}
 use Rattle.up_canon.specs.Members.{text_in}
 use Rattle.up_canon.specs.Moments.{moment_text, read_moment, last_moment}
@@ -49,6 +49,10 @@ payload kind repository version expires vehicle more = object_with (payload_memb
 -- the text of a file: the envelope of its payload's canonical text, signed with these secrets in order
 unfoldable pub sealed_text : Rules → List (List ℕ) → Data → List ℕ
 sealed_text k secrets payload = envelope_text (sealed k secrets (text payload))
+
+-- the signed text of a file is the canonical one
+abbrev pub IsCanonical : Data → Type 0
+IsCanonical payload = canon payload ≡ Some (text payload)
 
 -- ---- limits
 

@@ -1,6 +1,9 @@
 -- Targets files: images, and in the Director's the ECU that installs each.
-use Rattle.std.specs.Prelude.{ℕ, ◌&&◌, List, [], ◌∷◌, Bool, nat_le, false, bytes_eq, option_map, option_to_list, length, map, filter_map, codes, Option, Some, None, Result, Ok}
+use Rattle.std.specs.Prelude.{◌≡◌, ℕ, ◌&&◌, List, [], ◌∷◌, Bool, nat_le, false, bytes_eq, option_map, option_to_list, length, map, filter_map, codes, Option, Some, None, Result, Ok}
+use Rattle.std.specs.BTreeSet.{BTreeSet, contains_by}
+use Rattle.std.specs.Cmp.Lexicographic.{slice_cmp}
 use Rattle.std.specs.List.{list_all, list_any}
+use Rattle.std.specs.Ordering.{nat_cmp}
 use Rattle.serde_json.specs.Data.{Data, string}
 use Rattle.up_canon.specs.Canon.{max_count}
 use Rattle.up_canon.specs.Members.{list_in, object_of}
@@ -17,6 +20,7 @@ use Rattle.up_roles.specs.declared.repository.Repository.{Repository}
 use Rattle.up_roles.specs.declared.repository.Repository.TheVariants.{Director, Image}
 use Rattle.up_roles.specs.declared.targets.Target.{Target}
 use Rattle.up_roles.specs.declared.targets.TargetsFile.{TargetsFile}
+use denote.Ref.{Bor}
 
 -- ---- the payload
 
@@ -54,9 +58,9 @@ abbrev pub repeats_ecu : List Name → Option Name → Bool
 repeats_ecu ecus None = false
 repeats_ecu ecus (Some ecu) = list_any (bytes_eq ecu) ecus
 
-abbrev pub is_ecu : Name → Option Name → Bool
-is_ecu name None = false
-is_ecu name (Some ecu) = bytes_eq name ecu
+-- the set has these names
+abbrev pub IsSeen : BTreeSet (Bor Name) → List Name → Type 0
+IsSeen seen names = (q : Name) → contains_by (λ k. slice_cmp nat_cmp q k.now) seen ≡ list_any (bytes_eq q) names
 
 abbrev pub targets_fits : TargetsFile → Bool
 targets_fits file =

@@ -9,6 +9,8 @@ mod parts;
 pub mod payload;
 pub mod repository;
 pub mod root;
+mod root_keys;
+mod root_roles;
 pub mod root_text;
 mod sealing;
 pub mod snapshot;

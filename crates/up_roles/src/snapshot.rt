@@ -5,6 +5,7 @@ ghost use Rattle.serde_json.specs.View.{view, members_view};
 ghost use Rattle.up_canon.specs.Build.{members_with};
 ghost use Rattle.up_canon.specs.Members.{IsFault, object_of_map};
 ghost use Rattle.up_canon.specs.Refusals.{Gives};
+ghost use Rattle.up_roles.specs.Payload.{IsCanonical};
 ghost use Rattle.up_roles.specs.Snapshot.{snapshot_meta, snapshot_payload, snapshot_text_of, snapshot_fits, snapshot_is_typed, snapshot_in, snapshot_of, snapshot_entry_in};
 
 use crate::copies::copy_name;
@@ -104,7 +105,9 @@ pub fn snapshot_text<K: Scheme>(
     requires fit { IsTrue (list_all (K.rules scheme.now).secret_fits secrets.now) }
     requires number { (1 ≤ length secrets.now) × (length secrets.now ≤ 8) }
     requires limits { IsTrue (snapshot_fits file.now) }
-    ensures { IfOk result (λ t. string_bytes t ≡ snapshot_text_of (K.rules scheme.now) secrets.now file.now) }
+    ensures value { IfOk result (λ t. string_bytes t ≡ snapshot_text_of (K.rules scheme.now) secrets.now file.now) }
+    ensures canonical { OnOk result (IsCanonical (snapshot_payload file.now)) }
+    ensures typed { OnOk result (snapshot_is_typed file.now ≡ true) }
 {
     let payload = snapshot_value(alloc, file)?;
     sealed_text(alloc, scheme, secrets, &payload)

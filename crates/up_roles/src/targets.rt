@@ -1,13 +1,13 @@
 //! Targets files: images, and in the Director repository the ECU that installs each.
-ghost use Rattle.std.specs.Prelude.{◌≡◌, codes};
-ghost use Rattle.std.specs.List.{list_any};
+ghost use Rattle.std.specs.Prelude.{◌≡◌, ◌++◌, codes, not, option_to_list, List, IfOk};
 ghost use Rattle.serde_json.specs.View.{view};
 ghost use Rattle.up_canon.specs.Members.{object_of_map, values_of};
+ghost use Rattle.up_canon.specs.Names.{Name};
 ghost use Rattle.up_canon.specs.Readers.{ident_of as name_of};
 ghost use Rattle.up_canon.specs.Refusals.{Gives};
 ghost use Rattle.up_canon.specs.Steps.{each};
 ghost use Rattle.up_roles.specs.Payload.{are_distinct as are_distinct_names};
-ghost use Rattle.up_roles.specs.Targets.{targets_in, targets_of, target_list_in, target_of, ecu_of, hardware_of, ecus_of, is_ecu, repeats_ecu as repeats_one_of};
+ghost use Rattle.up_roles.specs.Targets.{targets_in, targets_of, target_list_in, target_of, ecu_of, hardware_of, ecus_of, repeats_ecu, IsSeen};
 
 use crate::copies::copy_name;
 use crate::distinct::are_distinct;
@@ -17,6 +17,7 @@ use crate::payload::{head_at, vehicle_at};
 use crate::repository::Repository;
 use serde_json::{Map, Value};
 use std::alloc::{AllocError, Global};
+use std::collections::BTreeSet;
 use up_canon::count::Count;
 use up_canon::fields::list_at;
 use up_canon::file_name::FileName;
@@ -120,7 +121,7 @@ fn target_list_at(
 {
     let values = list_at(map, "targets")?;
     let targets = each_target(alloc, repository, values.as_slice())?;
-    if !has_distinct_ecus(targets.as_slice()) {
+    if !has_distinct_ecus(alloc, targets.as_slice())? {
         return Err(Refusal::from("targets"));
     }
     Ok(targets)
@@ -200,39 +201,25 @@ fn each_name(alloc: Global, values: &[Value]) -> Result<Listed<Ident>, Refusal>
 }
 
 /// Whether no ECU stands twice.
-fn has_distinct_ecus(targets: &[Target]) -> bool
-    ensures { result ≡ are_distinct_names (ecus_of targets.now) }
+fn has_distinct_ecus(alloc: Global, targets: &[Target]) -> Result<bool, AllocError>
+    ensures { IfOk result (λ distinct. distinct ≡ are_distinct_names (ecus_of targets.now)) }
 {
-    for (i, target) in targets.iter().enumerate() {
-        if repeats_ecu(&targets[..i], &target.ecu) {
-            return false;
+    let mut seen = BTreeSet::new(alloc);
+    for target in targets {
+        if !adds_ecu(&mut seen, &target.ecu)? {
+            return Ok(false);
         }
     }
-    true
+    Ok(true)
 }
 
-/// Whether a target names the ECU.
-#[tactic(auto, using(crate::proofs::Repeats::ecu_among))]
-fn repeats_ecu(targets: &[Target], ecu: &Option<Ident>) -> bool
-    ensures { result ≡ repeats_one_of (ecus_of targets.now) ecu.now }
+/// Adds the ECU, if there is one, to those that were seen; whether it isn't one of them.
+fn adds_ecu<'a>(seen: &mut BTreeSet<&'a str>, ecu: &'a Option<Ident>) -> Result<bool, AllocError>
+    ensures { IfOk result (λ new. (names : List Name) → IsSeen seen.old names
+        → (new ≡ not (repeats_ecu names ecu.now)) × IsSeen seen.new (names ++ option_to_list ecu.now)) }
 {
     match ecu {
-        Some(ecu) => has_ecu(targets, ecu.text()),
-        None => false,
-    }
-}
-
-fn has_ecu(targets: &[Target], name: &str) -> bool
-    ensures { result ≡ list_any (λ target. is_ecu name.now target.ecu) targets.now }
-{
-    targets.iter().any(|target| is_named(&target.ecu, name))
-}
-
-fn is_named(ecu: &Option<Ident>, name: &str) -> bool
-    ensures { result ≡ is_ecu name.now ecu.now }
-{
-    match ecu {
-        Some(ecu) => name == ecu.text(),
-        None => false,
+        Some(ecu) => Ok(seen.insert(ecu.text())?),
+        None => Ok(true),
     }
 }

@@ -4,7 +4,7 @@ ghost use Rattle.std.specs.List.{list_all};
 ghost use Rattle.serde_json.specs.Data.{string};
 ghost use Rattle.serde_json.specs.View.{view, members_view};
 ghost use Rattle.up_canon.specs.Build.{list_with, members_with};
-ghost use Rattle.up_roles.specs.Payload.{is_named};
+ghost use Rattle.up_roles.specs.Payload.{IsCanonical, is_named};
 ghost use Rattle.up_roles.specs.Targets.{target_value as target_value_of, targets_payload, targets_text_of, targets_fits, target_is_typed, targets_is_typed};
 
 use crate::payload::{Head, payload_value};
@@ -27,7 +27,9 @@ pub fn targets_text<K: Scheme>(
     requires fit { IsTrue (list_all (K.rules scheme.now).secret_fits secrets.now) }
     requires number { (1 ≤ length secrets.now) × (length secrets.now ≤ 8) }
     requires limits { IsTrue (targets_fits file.now) }
-    ensures { IfOk result (λ t. string_bytes t ≡ targets_text_of (K.rules scheme.now) secrets.now file.now) }
+    ensures value { IfOk result (λ t. string_bytes t ≡ targets_text_of (K.rules scheme.now) secrets.now file.now) }
+    ensures canonical { OnOk result (IsCanonical (targets_payload file.now)) }
+    ensures typed { OnOk result (targets_is_typed file.now ≡ true) }
 {
     let payload = targets_value(alloc, file)?;
     sealed_text(alloc, scheme, secrets, &payload)

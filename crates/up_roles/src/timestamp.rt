@@ -5,6 +5,7 @@ ghost use Rattle.serde_json.specs.View.{view, members_view};
 ghost use Rattle.up_canon.specs.Build.{members_with};
 ghost use Rattle.up_canon.specs.Members.{IsFault, object_of_map};
 ghost use Rattle.up_canon.specs.Refusals.{Gives};
+ghost use Rattle.up_roles.specs.Payload.{IsCanonical};
 ghost use Rattle.up_roles.specs.Timestamp.{meta_of, timestamp_payload, timestamp_text_of, timestamp_fits, timestamp_is_typed, timestamp_in, timestamp_of, timestamp_entry_in};
 
 use crate::copies::copy_name;
@@ -108,7 +109,9 @@ pub fn timestamp_text<K: Scheme>(
     requires fit { IsTrue (list_all (K.rules scheme.now).secret_fits secrets.now) }
     requires number { (1 ≤ length secrets.now) × (length secrets.now ≤ 8) }
     requires limits { IsTrue (timestamp_fits file.now) }
-    ensures { IfOk result (λ t. string_bytes t ≡ timestamp_text_of (K.rules scheme.now) secrets.now file.now) }
+    ensures value { IfOk result (λ t. string_bytes t ≡ timestamp_text_of (K.rules scheme.now) secrets.now file.now) }
+    ensures canonical { OnOk result (IsCanonical (timestamp_payload file.now)) }
+    ensures typed { OnOk result (timestamp_is_typed file.now ≡ true) }
 {
     let payload = timestamp_value(alloc, file)?;
     sealed_text(alloc, scheme, secrets, &payload)

@@ -2,7 +2,7 @@ use Rattle.std.proofs.Common.{ap, sym, ◌∙◌, take}
 use Rattle.std.specs.Prelude.{is_none, bytes_eq}
 use Rattle.std.specs.List.{list_any}
 use Rattle.up_roles.proofs.Repeats.{id-passes, id-found}
-use Rattle.up_roles.proofs.root.has_distinct_ids.Goals as goal
+use Rattle.up_roles.proofs.root_roles.has_distinct_ids.Goals as goal
 
 pub loop-i-preserved : goal.loop-i-preserved
 loop-i-preserved c =

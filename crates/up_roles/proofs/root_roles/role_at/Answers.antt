@@ -3,7 +3,7 @@ use Rattle.up_canon.specs.Steps.{each, and_then}
 use Rattle.up_canon.specs.Members.{values_of}
 use Rattle.up_canon.specs.Refusals.{Gives}
 use Rattle.up_roles.specs.Root.{role_in, chosen_key}
-use Rattle.up_roles.proofs.root.role_at.Goals as goal
+use Rattle.up_roles.proofs.root_roles.role_at.Goals as goal
 
 pub returns : goal.returns
 unfolding role_in and_then
