@@ -1,5 +1,5 @@
 -- The bytes of a hash.
-use Rattle.std.proofs.Common.{◌≡◌, ℕ, ◌<◌, ◌≤◌, ◌+◌, zero, suc, List, [], ◌∷◌, Bool, true, ◌&&◌, ◌==◌, length, get_or, refl, ap₂, arith}
+use Rattle.std.proofs.Common.{◌≡◌, ℕ, ◌<◌, suc, List, [], ◌∷◌, Bool, true, ◌&&◌, ◌==◌, length, get_or, refl, ap₂, arith}
 use Rattle.std.specs.Prelude.{nat_lt}
 use Rattle.std.specs.List.{list_all}
 use Rattle.std.proofs.lemmas.Bool.Decides.{nat_tests}

@@ -1,6 +1,6 @@
 -- The keys of the four roles in one object.
-use Rattle.std.proofs.Common.{◌≡◌, List, [], ◌∷◌, ◌++◌, map, refl, ap, ◌∙◌, ℕ}
-use Rattle.serde_json.specs.Data.{Data, Members, no_members, put, object}
+use Rattle.std.proofs.Common.{◌≡◌, List, [], ◌∷◌, ◌++◌, map, refl, ap, ◌∙◌}
+use Rattle.serde_json.specs.Data.{Members, no_members, put, object}
 use Rattle.up_canon.specs.Build.{members_with, object_with}
 use Rattle.up_roles.specs.Root.{all_keys, key_member, put_keys}
 use Rattle.up_roles.specs.declared.root.RootKey.{RootKey}

@@ -1,6 +1,6 @@
 -- Values that have a canonical text, part by part: all but the nesting, which is at most n.
-use Rattle.std.proofs.Common.{◌≡◌, inl, inr, ℕ, zero, suc, ◌≤◌, ◌<◌, ◌/◌, ◌%◌, max, List, [], ◌∷◌, ◌++◌, Bool, true, false, ◌&&◌, Ordering, Less, Equal, Greater, slice_index, nat_cmp, refl, ap, ap₂, ◌∙◌, sym, arith, map, length}
-use Rattle.std.specs.Prelude.{nat_le, nat_lt, codes}
+use Rattle.std.proofs.Common.{◌≡◌, inl, inr, ℕ, zero, suc, ◌≤◌, ◌<◌, ◌/◌, ◌%◌, List, [], ◌∷◌, Bool, true, ◌&&◌, Ordering, Less, Equal, Greater, slice_index, nat_cmp, refl, ap, ◌∙◌, arith, map}
+use Rattle.std.specs.Prelude.{nat_le, nat_lt}
 use Rattle.std.specs.List.{list_all}
 use Rattle.std.specs.Ordering.{match_ordering, ordering_reverse, is_lt}
 use Rattle.std.specs.Cmp.Lexicographic.{slice_cmp}
@@ -8,9 +8,9 @@ use Rattle.std.proofs.lemmas.Bool.{and_parts, cases_lt}
 use Rattle.std.proofs.lemmas.Bool.Decides.{nat_tests}
 use Rattle.std.proofs.lemmas.Cmp.{nat_list_cmp_total}
 use Rattle.hex.specs.Hex.{encode_with, encode_lower, lower_digits}
-use Rattle.serde_json.specs.Data.{unsigned, Data, number, string, Members, no_members, member, put, depth, items_depth, members_depth}
+use Rattle.serde_json.specs.Data.{Data, string, Members, no_members, member, put, depth, items_depth, members_depth}
 use Rattle.serde_json.specs.View.{items_of}
-use Rattle.up_canon.specs.Build.{object_with, members_with, list_with, count_value, hex_value}
+use Rattle.up_canon.specs.Build.{object_with, members_with, list_with, count_value}
 use Rattle.up_canon.specs.Canon.{max_count, is_printable, is_printable_text, is_plain, items_are_plain, members_are_plain, comes_first, has_canon}
 
 pub record IsPlain (n : ℕ) (d : Data) : Type 0 where

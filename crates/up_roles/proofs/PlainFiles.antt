@@ -1,6 +1,6 @@
 -- The payloads of files within the limits have canonical texts.
-use Rattle.std.proofs.Common.{◌≡◌, ℕ, suc, ◌≤◌, List, [], ◌∷◌, ◌++◌, Bool, true, ◌&&◌, Option, Some, None, length, map, refl, ap, ap₂, ◌∙◌, sym, arith}
-use Rattle.std.specs.Prelude.{nat_le, nat_lt, codes, option_map, option_to_list}
+use Rattle.std.proofs.Common.{◌≡◌, ℕ, suc, ◌≤◌, List, [], ◌∷◌, ◌++◌, true, Option, Some, None, length, map, refl, arith}
+use Rattle.std.specs.Prelude.{nat_le, codes, option_map, option_to_list}
 use Rattle.std.specs.List.{list_all}
 use Rattle.std.proofs.lemmas.Bool.{and_parts}
 use Rattle.std.proofs.lemmas.Bool.Decides.{nat_tests}
@@ -12,7 +12,7 @@ use Rattle.up_canon.specs.Moments.{last_moment, moment_text}
 use Rattle.up_canon.specs.Names.{Name, is_from_to, is_ident, is_ident_byte, is_file_name, is_file_byte}
 use Rattle.up_canon.proofs.MomentTexts.{moments_are_plain}
 use Rattle.up_roles.specs.Payload.{IsCanonical, payload, payload_members, repository_text, hashes_value, version_fits, is_named, is_hash, is_moment}
-use Rattle.up_roles.specs.Root.{all_keys, key_member, role_value, roles_value, roles_members, root_more, root_payload, key_fits, role_is_met, role_fits, root_fits, root_is_typed}
+use Rattle.up_roles.specs.Root.{all_keys, key_member, role_value, roles_value, roles_members, root_more, root_payload, key_fits, role_fits, root_fits, root_is_typed}
 use Rattle.up_roles.specs.Snapshot.{snapshot_meta, snapshot_payload, snapshot_fits, snapshot_is_typed}
 use Rattle.up_roles.specs.Targets.{target_value, target_members, targets_payload, targets_fits, target_is_typed, targets_is_typed}
 use Rattle.up_roles.specs.Timestamp.{timestamp_meta, timestamp_payload, timestamp_fits, timestamp_is_typed}

@@ -2,7 +2,7 @@
 use Rattle.std.specs.Prelude.{ℕ, ◌||◌, List, Bool, nat_le, length, codes, Result}
 use Rattle.std.specs.List.{list_all}
 use Rattle.hex.specs.Hex.{decode_sized}
-use Rattle.serde_json.specs.Data.{Data, object, Members, no_members, member}
+use Rattle.serde_json.specs.Data.{Data}
 use Rattle.serde_json.specs.Find as json
 use Rattle.up_canon.specs.Members.{text_of, count_of, list_of, object_of}
 use Rattle.up_canon.specs.Names.{Name, is_from_to}

@@ -1,5 +1,5 @@
 -- Root files: the keys of the four roles, and their thresholds.
-use Rattle.std.specs.Prelude.{ℕ, ◌++◌, ◌&&◌, ◌||◌, List, [], ◌∷◌, Bool, bytes_eq, None, is_none, option_map, unwrap_or, length, map, codes, Result, Ok, String, string_bytes}
+use Rattle.std.specs.Prelude.{ℕ, ◌++◌, ◌&&◌, ◌||◌, List, [], ◌∷◌, Bool, bytes_eq, None, option_map, unwrap_or, length, map, codes, Result, Ok, String, string_bytes}
 use Rattle.std.specs.declared.alloc.Global.{Global}
 use Rattle.std.specs.List.{list_all, list_any, find}
 use Rattle.serde_json.specs.Data.{Data, string, Members, no_members, member, put}
@@ -8,7 +8,7 @@ use Rattle.serde_json.specs.View.{view}
 use Rattle.serde_json.specs.declared.value.Value.{Value}
 use Rattle.up_canon.specs.Build.{object_with, list_with, count_value}
 use Rattle.up_canon.specs.Members.{object_in, object_of, text_of}
-use Rattle.up_canon.specs.Names.{is_from_to, is_short_text, first_repeated}
+use Rattle.up_canon.specs.Names.{is_from_to, is_short_text}
 use Rattle.up_canon.specs.Readers.{fitting}
 use Rattle.up_canon.specs.Steps.{◌>>=◌, each, or_error}
 use Rattle.up_canon.specs.declared.refusal.Refusal.TheVariants.{BadShape}

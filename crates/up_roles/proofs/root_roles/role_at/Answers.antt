@@ -1,7 +1,6 @@
-use Rattle.std.proofs.Common.{ap, sym, ◌∙◌, subst, Ok, ◌≡◌}
+use Rattle.std.proofs.Common.{ap, sym, ◌∙◌}
 use Rattle.up_canon.specs.Steps.{each, and_then}
 use Rattle.up_canon.specs.Members.{values_of}
-use Rattle.up_canon.specs.Refusals.{Gives}
 use Rattle.up_roles.specs.Root.{role_in, chosen_key}
 use Rattle.up_roles.proofs.root_roles.role_at.Goals as goal
 

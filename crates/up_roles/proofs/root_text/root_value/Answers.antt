@@ -1,6 +1,3 @@
-use Rattle.std.proofs.Common.{◌≡◌, [], ◌∷◌, ap, ◌∙◌, map}
-use Rattle.std.specs.Prelude.{codes}
-use Rattle.up_canon.specs.Build.{list_with, members_with}
 use Rattle.up_roles.specs.Root.{root_payload, root_more}
 use Rattle.up_roles.proofs.Oks.{if_ok}
 use Rattle.up_roles.proofs.root_text.root_value.Goals as goal

@@ -1,6 +1,5 @@
-use Rattle.std.proofs.Common.{◌≡◌, [], ◌∷◌, ap, ◌∙◌, map}
+use Rattle.std.proofs.Common.{[], ◌∷◌}
 use Rattle.std.specs.Prelude.{codes}
-use Rattle.up_canon.specs.Build.{list_with, members_with}
 use Rattle.up_roles.specs.Snapshot.{snapshot_payload, snapshot_meta}
 use Rattle.up_roles.proofs.Oks.{if_ok}
 use Rattle.up_roles.proofs.snapshot.snapshot_value.Goals as goal

@@ -1,4 +1,4 @@
-use Rattle.std.proofs.Common.{◌≡◌, ap, sym, subst, ◌∙◌, take}
+use Rattle.std.proofs.Common.{ap, sym, subst, ◌∙◌, take}
 use Rattle.std.specs.Prelude.{is_none}
 use Rattle.up_roles.specs.Targets.{ecus_of, repeats_ecu, IsSeen}
 use Rattle.up_roles.proofs.Repeats.{ecu-passes, ecu-found, ecus-more, is_new, is_old}

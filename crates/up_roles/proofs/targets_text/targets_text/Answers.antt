@@ -1,6 +1,4 @@
-use Rattle.std.proofs.Common.{◌≡◌, ap, ◌∙◌}
-use Rattle.std.specs.Prelude.{string_bytes}
-use Rattle.serde_json.specs.View.{view}
+use Rattle.std.proofs.Common.{ap, ◌∙◌}
 use Rattle.up_canon.specs.Canon.{has_canon}
 use Rattle.up_roles.specs.Payload.{sealed_text}
 use Rattle.up_roles.specs.Targets.{targets_payload, targets_text_of}

@@ -1,4 +1,4 @@
-use Rattle.std.proofs.Common.{◌≡◌, [], ◌∷◌, ap, ◌∙◌, map}
+use Rattle.std.proofs.Common.{[], ◌∷◌, ap, ◌∙◌, map}
 use Rattle.std.specs.Prelude.{codes}
 use Rattle.up_canon.specs.Build.{list_with, members_with}
 use Rattle.up_roles.specs.Targets.{targets_payload, target_value}

@@ -1,6 +1,6 @@
-use Rattle.std.proofs.Common.{◌≡◌, [], ◌∷◌, ap, ◌∙◌, map}
+use Rattle.std.proofs.Common.{[], ◌∷◌, ap, ◌∙◌}
 use Rattle.std.specs.Prelude.{codes}
-use Rattle.up_canon.specs.Build.{list_with, members_with}
+use Rattle.up_canon.specs.Build.{members_with}
 use Rattle.up_roles.specs.Timestamp.{timestamp_payload, timestamp_meta, meta_of}
 use Rattle.up_roles.proofs.Oks.{if_ok}
 use Rattle.up_roles.proofs.timestamp.timestamp_value.Goals as goal
