@@ -9,12 +9,15 @@ abbrev pub members_with : List (List ℕ × Data) → Members
 members_with [] = no_members
 members_with (m ∷ ms) = put m.0 m.1 (members_with ms)
 
+-- the object of these members
 abbrev pub object_with : List (List ℕ × Data) → Data
 object_with ms = object (members_with ms)
 
+-- the list of these items
 abbrev pub list_with : List Data → Data
 list_with ds = array (items_of ds)
 
+-- a whole number
 abbrev pub count_value : ℕ → Data
 count_value n = number (unsigned n)
 

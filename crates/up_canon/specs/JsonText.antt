@@ -1,4 +1,4 @@
--- What bytes read as.
+-- What bytes read as: JSON (RFC 8259) in UTF-8 (RFC 3629).
 use Rattle.std.specs.Prelude.{ℕ, List, nat_le, length, if◌then◌else◌, Option, None, Result}
 use Rattle.std.specs.Str.{is_utf8}
 use Rattle.serde_json.specs.Data.{Data}

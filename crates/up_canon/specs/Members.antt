@@ -22,6 +22,7 @@ values_of values = map view values
 abbrev pub IsFault : {A : Type 0} → Result A Refusal → List ℕ → List ℕ → Type 0
 IsFault computed name fault = (fault ≡ name) × (computed ≡ Err (BadShape name))
 
+-- the items of a JSON list, as a list
 abbrev pub items_list : Items → List Data
 items_list no_items = []
 items_list (item d ds) = d ∷ items_list ds
@@ -46,24 +47,29 @@ object_of name d = or_error (BadShape name) (option_map object (json.as_object d
 
 -- ---- a member of an object
 
+-- the value of that name
 unfoldable pub member_in : List ℕ → Data → Result Data Refusal
 member_in name d = or_error (BadShape name) (json.get name d)
 
+-- a text of that name
 unfoldable pub text_in : List ℕ → Data → Result (List ℕ) Refusal
 text_in name d = do
   value ← member_in name d
   text_of name value
 
+-- a count of that name
 unfoldable pub count_in : List ℕ → Data → Result ℕ Refusal
 count_in name d = do
   value ← member_in name d
   count_of name value
 
+-- a list of that name
 unfoldable pub list_in : List ℕ → Data → Result (List Data) Refusal
 list_in name d = do
   value ← member_in name d
   list_of name value
 
+-- an object of that name
 unfoldable pub object_in : List ℕ → Data → Result Data Refusal
 object_in name d = do
   value ← member_in name d

@@ -14,6 +14,7 @@ Name = List ℕ
 abbrev pub Table : Type 0 → Type 0
 Table X = FinMap (slice_cmp nat_cmp) X
 
+-- at least the first, at most the second
 abbrev pub is_from_to : ℕ → ℕ → ℕ → Bool
 is_from_to least most n = nat_le least n && nat_le n most
 
@@ -21,6 +22,7 @@ is_from_to least most n = nat_le least n && nat_le n most
 abbrev pub is_ident_byte : ℕ → Bool
 is_ident_byte x = is_from_to 65 90 x || is_from_to 97 122 x || is_from_to 48 57 x || (x == 46) || (x == 95) || (x == 45)
 
+-- an identifier: 1 to 64 such bytes
 abbrev pub is_ident : Name → Bool
 is_ident name = is_from_to 1 64 (length name) && list_all is_ident_byte name
 
@@ -28,6 +30,7 @@ is_ident name = is_from_to 1 64 (length name) && list_all is_ident_byte name
 abbrev pub is_file_byte : ℕ → Bool
 is_file_byte x = is_ident_byte x || (x == 47)
 
+-- a filename: 1 to 128 such bytes
 abbrev pub is_file_name : Name → Bool
 is_file_name name = is_from_to 1 128 (length name) && list_all is_file_byte name
 
@@ -35,6 +38,7 @@ is_file_name name = is_from_to 1 128 (length name) && list_all is_file_byte name
 abbrev pub is_short_text : ℕ → ℕ → List ℕ → Bool
 is_short_text least most text = is_from_to least most (length text) && list_all is_printable text
 
+-- a note: 0 to 256 bytes of printable ASCII
 abbrev pub is_note : Name → Bool
 is_note text = is_short_text 0 256 text
 
@@ -43,5 +47,6 @@ abbrev pub first_repeated_after : List Name → List Name → Option Name
 first_repeated_after seen [] = None
 first_repeated_after seen (name ∷ names) = if list_any (bytes_eq name) seen then Some name else first_repeated_after (name ∷ seen) names
 
+-- the first name that stands twice
 abbrev pub first_repeated : List Name → Option Name
 first_repeated names = first_repeated_after [] names

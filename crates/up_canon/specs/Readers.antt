@@ -14,31 +14,37 @@ fitting fits name x = if fits x then Ok x else Err (BadShape name)
 
 -- ---- names
 
+-- a text that is an identifier
 unfoldable pub ident_of : List ℕ → Data → Result Name Refusal
 ident_of name d = do
   text ← text_of name d
   fitting is_ident name text
 
+-- a text that is a filename
 unfoldable pub file_name_of : List ℕ → Data → Result Name Refusal
 file_name_of name d = do
   text ← text_of name d
   fitting is_file_name name text
 
+-- a text that is a note
 unfoldable pub note_of : List ℕ → Data → Result Name Refusal
 note_of name d = do
   text ← text_of name d
   fitting is_note name text
 
+-- an identifier of that name
 unfoldable pub ident_in : List ℕ → Data → Result Name Refusal
 ident_in name d = do
   value ← member_in name d
   ident_of name value
 
+-- a filename of that name
 unfoldable pub file_name_in : List ℕ → Data → Result Name Refusal
 file_name_in name d = do
   value ← member_in name d
   file_name_of name value
 
+-- a note of that name
 unfoldable pub note_in : List ℕ → Data → Result Name Refusal
 note_in name d = do
   value ← member_in name d

@@ -6,6 +6,7 @@ use Rattle.up_canon.specs.Steps.{or_error}
 use Rattle.up_canon.specs.declared.refusal.Refusal.{Refusal}
 use Rattle.up_canon.specs.declared.refusal.Refusal.TheVariants.{Memory, Store, MomentOutOfRange, TooLarge, NotJson, NotCanonical, BadShape, NotFounded, AlreadyFounded, UnknownVehicle, WrongPrimary, BadManifestSignature, Stale, UnknownEcu, DuplicateEcu, MissingEcu, BadReportSignature, ReportReplayed, ImageTaken, RegisterFull, VersionLimit, VehicleTaken, EcuTaken, CampaignTaken, UnknownCampaign, UnknownImage, WrongHardware, VersionNotGreater, UnknownFile, RootFull, PrimaryFixed}
 
+-- the refusal that no definition computes, since no definition knows how much memory there is
 abbrev pub is_memory : Refusal → Bool
 is_memory Memory = true
 is_memory _ = false
@@ -32,12 +33,15 @@ pub record Row : Type 0 where
   pub name : List ℕ
   pub value : Option (List ℕ)
 
+-- a refusal without a value
 abbrev bare : ℕ → List ℕ → Row
 bare number name = record { number = number; name = name; value = None }
 
+-- a refusal with a value
 abbrev valued : ℕ → List ℕ → List ℕ → Row
 valued number name value = record { number = number; name = name; value = Some value }
 
+-- the table: each refusal's row
 abbrev pub row : Refusal → Row
 row Memory = bare 1 (codes "Memory")
 row Store = bare 2 (codes "Store")
@@ -71,6 +75,7 @@ row UnknownFile = bare 29 (codes "UnknownFile")
 row RootFull = bare 30 (codes "RootFull")
 row PrimaryFixed = bare 31 (codes "PrimaryFixed")
 
+-- a space and the value, where there is one
 abbrev then_value : Option (List ℕ) → List ℕ
 then_value None = []
 then_value (Some value) = 32 ∷ value

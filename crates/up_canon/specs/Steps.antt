@@ -38,10 +38,12 @@ each step (x ∷ xs) = do
   ys ← each step xs
   Ok (y ∷ ys)
 
+-- the error, if there is one
 abbrev pub error_of : {E A : Type 0} → Result A E → Option E
 error_of (Ok x) = None
 error_of (Err e) = Some e
 
+-- the value, if there is one
 abbrev pub value_of : {E A : Type 0} → Result A E → Option A
 value_of (Ok x) = Some x
 value_of (Err e) = None
@@ -51,6 +53,7 @@ abbrev pub if_passes : {A : Type 0} → (A → Bool) → Option A → Option A
 if_passes p None = None
 if_passes p (Some x) = if p x then Some x else None
 
+-- the first member, if there is one
 abbrev pub first_or_none : {A : Type 0} → List A → Option A
 first_or_none [] = None
 first_or_none (x ∷ xs) = Some x

@@ -1,4 +1,4 @@
--- Names in byte order, each with its value.
+-- Names in byte order, each with its value, and the place of a name among them, of which no public contract speaks.
 use Rattle.std.specs.Prelude.{◌≡◌, ℕ, suc, List, [], ◌∷◌, IsTrue, length, Result, Ok, Err}
 use Rattle.std.specs.List.{zip}
 use Rattle.std.specs.Ordering.{nat_cmp}

@@ -1,7 +1,7 @@
 //! Bytes that JSON holds as hexadecimal text.
 ghost use Rattle.std.specs.Prelude.{◌≡◌, Ok, MatchResult, OnErr, length};
 ghost use Rattle.serde_json.specs.View.{view};
-ghost use Rattle.up_canon.specs.HexText.{hex_of as hex_of_value, hex_in, sha256_in, lower_sha256_in, is_lower as is_lower_text};
+ghost use Rattle.up_canon.specs.HexText.{hex_of as hex_of_value, hex_in, sha256_in};
 ghost use Rattle.up_canon.specs.Members.{IsFault, object_of_map};
 ghost use Rattle.up_canon.specs.Refusals.{Gives};
 
@@ -59,23 +59,6 @@ pub fn sha256_at(map: &Map<String, Value>, name: &'static str) -> Result<[u8; 32
     sha256_of(member_at(map, name)?, name)
 }
 
-/// The SHA-256 of a member, 64 hexadecimal digits of lower case, or its name.
-#[tactic(auto, unfolding(crate::specs::HexText::lower_sha256_in, crate::specs::Steps::and_then))]
-pub fn lower_sha256_at(
-    map: &Map<String, Value>,
-    name: &'static str,
-) -> Result<[u8; 32], &'static str>
-    ensures { MatchResult result
-        (λ hash. lower_sha256_in name.now (object_of_map map.now.entries) ≡ Ok hash)
-        (λ fault. IsFault (lower_sha256_in name.now (object_of_map map.now.entries)) name.now fault.now) }
-{
-    let value = member_at(map, name)?;
-    if !is_lower(text_of(value, name)?.as_bytes()) {
-        return Err(name);
-    }
-    sha256_of(value, name)
-}
-
 /// The 32 bytes of a text of 64 hexadecimal digits, or the name.
 #[tactic(auto, unfolding(crate::specs::HexText::hex_of, crate::specs::Steps::and_then))]
 pub fn sha256_of(value: &Value, name: &'static str) -> Result<[u8; 32], &'static str>
@@ -89,10 +72,4 @@ pub fn sha256_of(value: &Value, name: &'static str) -> Result<[u8; 32], &'static
         Ok(()) => Ok(hash),
         Err(_) => Err(name),
     }
-}
-
-fn is_lower(text: &[u8]) -> bool
-    ensures { result ≡ is_lower_text text.now }
-{
-    text.iter().all(|b| !(*b >= b'A' && *b <= b'Z'))
 }

@@ -1,15 +1,20 @@
-//! Readers and copies that take memory, each once with ample memory.
+//! Readers, writers and copies that take memory, each once with ample memory.
 use crate::bytes::Bytes;
+use crate::canonical::canonical;
+use crate::count::Count;
 use crate::each::each_of;
 use crate::fields::list_at;
 use crate::file_name::FileName;
-use crate::hex_text::{hex_at, lower_sha256_at, sha256_at};
+use crate::hex_text::{hex_at, sha256_at};
 use crate::ident::Ident;
+use crate::json_text::value_within;
 use crate::listed::Duplicate;
 use crate::name_readings::{FileNameReading, IdentReading};
 use crate::note::Note;
 use crate::readers::{file_name_at, ident_at, note_at};
+use crate::refusal::Refusal;
 use crate::text::Text;
+use crate::writing::{push_count, push_hex, push_quoted};
 use serde_json::Value;
 use std::test::Fail;
 
@@ -35,9 +40,11 @@ fn reads_hashes(rt: HostRuntime) -> Result<(), Fail> {
     let json = "{\"sha256\":\"ba7816bf8f01cfea414140de5dae2223b00361a396177a9cb410ff61f20015ad\"}";
     let value = Value::from_str(rt.alloc(), json)?;
     let members = value.as_object().ok_or("no object")?;
-    let hash = lower_sha256_at(members, "sha256")?;
-    assert_eq!(rt; (hash[0], hash[1], hash[31]), (0xba, 0x78, 0xad));
-    assert_eq!(rt; sha256_at(members, "sha256")?[15], 0x23);
+    let hash = sha256_at(members, "sha256")?;
+    assert_eq!(rt;
+        (hash[0], hash[1], hash[15], hash[31]),
+        (0xba, 0x78, 0x23, 0xad)
+    );
     Ok(())
 }
 
@@ -81,5 +88,37 @@ fn names_in_byte_order(rt: HostRuntime) -> Result<(), Fail> {
     assert!(rt; upper < lower);
     assert!(rt; lower < longer);
     assert!(rt; lower != longer);
+    Ok(())
+}
+
+#[test]
+fn reads_bytes(rt: HostRuntime) -> Result<(), Fail> {
+    let rows = [
+        (b" {\"a\":1}".as_slice(), Some("{\"a\":1}")),
+        (b"\"~~~~~~~\"".as_slice(), Some("\"~~~~~~~\"")),
+        (b"[1".as_slice(), None),
+        (b"".as_slice(), None),
+        (b"\"\xff\"".as_slice(), None),
+    ];
+    for (bytes, wanted) in rows {
+        let text = match value_within(rt.alloc(), bytes, 9) {
+            Err(Refusal::NotJson) => None,
+            other => Some(canonical(rt.alloc(), &other?)?),
+        };
+        assert_eq!(rt; text.as_ref().map(|t| t.as_str()), wanted);
+    }
+    let longer = value_within(rt.alloc(), b"1234567890".as_slice(), 9);
+    assert!(rt; matches!(longer, Err(Refusal::TooLarge)));
+    Ok(())
+}
+
+#[test]
+fn writes(rt: HostRuntime) -> Result<(), Fail> {
+    let mut out = String::new(rt.alloc());
+    push_quoted(&mut out, "a \"b\\c")?;
+    push_hex(rt.alloc(), &mut out, [0, 0xab, 255].as_slice())?;
+    let count = Count::new(9007199254740991).ok_or("no count")?;
+    push_count(rt.alloc(), &mut out, count)?;
+    assert_eq!(rt; out.as_str(), "\"a \\\"b\\\\c\"\"00abff\"9007199254740991");
     Ok(())
 }
