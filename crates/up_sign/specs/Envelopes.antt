@@ -1,4 +1,4 @@
--- Envelopes, thresholds, and the sealing of a text.
+-- The sealing of a text, and thresholds: metadata counts as signed where enough of its role's keys have signed it (Uptane Standard 2.1.0).
 use Rattle.std.specs.Prelude.{ℕ, ◌&&◌, List, Bool, nat_le, map, count_by, bytes_eq}
 use Rattle.std.specs.List.{list_any}
 use Rattle.up_sign.specs.Schemes.{Rules}
@@ -22,5 +22,6 @@ is_accepted k ps threshold e = nat_le threshold (count_by (is_satisfied k e) ps)
 abbrev pub signature_of : Rules → List ℕ → List ℕ → Signature
 signature_of k text s = record { keyid = key_id (k.public_of s); method = k.method; sig = k.tag s text }
 
+-- the text with a signature of each secret, in their order
 abbrev pub sealed : Rules → List (List ℕ) → List ℕ → Envelope
 sealed k secrets text = record { signatures = map (signature_of k text) secrets; signed = text }

@@ -1,4 +1,4 @@
--- Envelopes as text, and the limits of their parts.
+-- Envelopes as text, and the limits of their parts. The Uptane Standard 2.1.0 leaves the encoding open; this is the one used here.
 use Rattle.std.specs.Prelude.{◌≡◌, ℕ, ◌++◌, ◌&&◌, List, [], ◌∷◌, Bool, Some, IsTrue, length, map, codes, is_some}
 use Rattle.std.specs.List.{list_all}
 use Rattle.serde_json.specs.Data.{Data, string}
@@ -12,9 +12,11 @@ use Rattle.up_sign.specs.declared.envelope.Envelope.{Envelope}
 
 -- ---- limits
 
+-- an identifier of 1 to 128 bytes of printable ASCII, a method of 1 to 64, and a signature of 1 to 512 bytes
 abbrev pub signature_fits : Signature → Bool
 signature_fits s = is_short_text 1 128 s.keyid && (is_short_text 1 64 s.method && is_from_to 1 512 (length s.sig))
 
+-- 1 to 8 signatures within their limits
 abbrev pub envelope_fits : Envelope → Bool
 envelope_fits e = is_from_to 1 8 (length e.signatures) && list_all signature_fits e.signatures
 
@@ -22,6 +24,7 @@ envelope_fits e = is_from_to 1 8 (length e.signatures) && list_all signature_fit
 abbrev pub has_bytes : Envelope → Bool
 has_bytes e = list_all (λ s. list_all is_byte s.sig) e.signatures
 
+-- the value is an object
 abbrev pub is_object : Data → Bool
 is_object d = is_some (as_object d)
 
@@ -31,6 +34,7 @@ IsSigned t payload = (canon payload ≡ Some t) × IsTrue (is_object payload)
 
 -- ---- text
 
+-- a signature as JSON
 unfoldable pub signature_value : Signature → Data
 signature_value s = object_with ((codes "keyid", string s.keyid) ∷ (codes "method", string s.method) ∷ (codes "sig", hex_value s.sig) ∷ [])
 

@@ -6,9 +6,11 @@ use Rattle.sha2.proofs.Facts256.{length-sha256}
 use Rattle.up_sign.specs.HmacLaws.{are_bytes-sha256, same_tag}
 use Rattle.up_sign.specs.Schemes.{Rules, IsScheme}
 
+-- the public part: the SHA-256 (FIPS 180-4) of a word and the secret
 unfoldable pub hashed_public : List ℕ → List ℕ
 hashed_public s = sha256 (codes "public " ++ s)
 
+-- the scheme: a tag is the SHA-256 of the public part and the message
 abbrev pub hashed : Rules
 hashed = record {
   method = codes "sha256-tag";
@@ -20,6 +22,7 @@ hashed = record {
   is_valid = λ p m g. bytes_eq g (sha256 (p ++ m));
 }
 
+-- it keeps the laws of a scheme
 pub hashed_lawful : IsScheme hashed
 unfolding hashed_public
 hashed_lawful = record {

@@ -1,4 +1,4 @@
--- HMAC over SHA-256, key identifiers, and the shipped scheme.
+-- HMAC (RFC 2104) over SHA-256 (FIPS 180-4), key identifiers, and the shipped scheme.
 use Rattle.std.specs.Prelude.{ℕ, ◌-◌, ◌++◌, ◌==◌, List, [], nat_lt, if◌then◌else◌, length, map, replicate, codes, bit_xor, bytes_eq}
 use Rattle.sha2.specs.Sha256.{sha256}
 use Rattle.hex.specs.Hex.{encode_lower}
@@ -8,12 +8,15 @@ use Rattle.up_sign.specs.Schemes.{Rules}
 abbrev pub block_key : List ℕ → List ℕ
 block_key key = if nat_lt 64 (length key) then sha256 key ++ replicate 32 0 else key ++ replicate (64 - length key) 0
 
+-- the byte that masks the key of the inner hash (RFC 2104)
 abbrev pub inner_pad : ℕ
 inner_pad = 0x36
 
+-- the byte that masks the key of the outer hash (RFC 2104)
 abbrev pub outer_pad : ℕ
 outer_pad = 0x5c
 
+-- H(K xor opad, H(K xor ipad, text)) of RFC 2104, where H is SHA-256 (FIPS 180-4)
 unfoldable pub hmac : List ℕ → List ℕ → List ℕ
 hmac key m =
     sha256 (map (bit_xor outer_pad) (block_key key) ++ sha256 (map (bit_xor inner_pad) (block_key key) ++ m))

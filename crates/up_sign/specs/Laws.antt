@@ -29,6 +29,7 @@ ValuesMeanOneOrFail = (place : List ℕ) (d : Data) → MatchResult (opened_in p
 
 -- ---- writing
 
+-- an envelope of a signed object, as JSON
 abbrev pub envelope_value : Envelope → Data → Data
 envelope_value e payload = object_with ((codes "signatures", list_with (map signature_value e.signatures)) ∷ (codes "signed", payload) ∷ [])
 

@@ -8,6 +8,7 @@ use Rattle.up_sign.specs.Formats.{IsSigned}
 use Rattle.up_sign.specs.declared.envelope.Signature.{Signature}
 use Rattle.up_sign.specs.declared.envelope.Envelope.{Envelope}
 
+-- the member of that name is the text
 abbrev pub HasText : Data → List ℕ → List ℕ → Type 0
 HasText d name t = json.get name d ≡ Some (string t)
 
@@ -26,6 +27,7 @@ EachMeans M no_items (x ∷ xs) = ⊥
 EachMeans M (item d ds) [] = ⊥
 EachMeans M (item d ds) (x ∷ xs) = M d x × EachMeans M ds xs
 
+-- the value has the members of the signature, within their limits; others are left aside
 pub record MeansSignature (d : Data) (s : Signature) : Type 0 where
   pub keyid : HasText d (codes "keyid") s.keyid
   pub keyid_fits : IsTrue (is_short_text 1 128 s.keyid)

@@ -33,6 +33,7 @@ pub record Signed : Type 0 where
   pub text : List ℕ
   pub payload : Data
 
+-- an object that has a canonical text, under the name `signed`
 unfoldable pub signed_in : Data → Result Signed Refusal
 signed_in d = do
   payload ← object_in (codes "signed") d

@@ -1,4 +1,4 @@
--- What a scheme of signatures is.
+-- What a scheme of signatures is (the Uptane Standard 2.1.0 leaves the choice open).
 use Rattle.std.specs.Prelude.{ℕ, ◌≤◌, List, Bool, IsTrue, length, nat_lt}
 use Rattle.std.specs.List.{list_all}
 use Rattle.up_canon.specs.Names.{is_short_text}
@@ -13,6 +13,7 @@ pub record Rules : Type 0 where
   pub tag : List ℕ → List ℕ → List ℕ
   pub is_valid : List ℕ → List ℕ → List ℕ → Bool
 
+-- a number that is a byte
 abbrev pub is_byte : ℕ → Bool
 is_byte b = nat_lt b 256
 

@@ -8,7 +8,8 @@ use up_canon::bytes::Bytes;
 use up_canon::listed::{Duplicate, Listed};
 use up_canon::text::Text;
 
-/// A signature over the signed text, with the identifier of its key and the name of its method.
+/// A signature over the signed text, with the identifier of its key and the name of its method. The type bounds none of
+/// them: what is read and what is sealed keeps the limits of the format (`envelope_fits`), which `Envelope::text` asks for.
 #[derive(Debug, Drop)]
 pub struct Signature {
     pub keyid: Text,
@@ -26,7 +27,8 @@ impl Duplicate for Signature {
     }
 }
 
-/// A signed text, which is the canonical text of an object, and 1 to 8 signatures over it.
+/// A signed text and its signatures. Any text and any number of signatures may stand in it: `read_envelope` gives only
+/// 1 to 8 signatures over the canonical text of an object, and `seal` one for each of 1 to 8 secrets.
 #[derive(Debug, Drop)]
 pub struct Envelope {
     pub signatures: Listed<Signature>,
