@@ -139,10 +139,7 @@ fn written_by<K: Scheme>(
     if envelope.text(alloc)?.as_str() != by_hand {
         return Ok(false);
     }
-    let read = match read_envelope(alloc, &Value::from_str(alloc, by_hand)?) {
-        Ok(read) => read,
-        Err(_) => return Ok(false),
-    };
+    let read = read_envelope(alloc, &Value::from_str(alloc, by_hand)?)?;
     Ok(are_equal(&read, &envelope) && are_equal(&read.copy(alloc)?, &envelope))
 }
 
@@ -241,69 +238,9 @@ fn calls_of_a_scheme(rt: HostRuntime) -> Result<(), Fail> {
         "1a5ca02a9c2a564896153cb84ae636a6349e5b78b1087185e3cb78d78284ca66"
     );
     assert!(rt; HmacSha256.verify(&key[..], SIGNED.as_bytes(), tag.as_slice()));
+    assert_eq!(rt; Hashed.shown(alloc, &key[..])?.as_str(), "hash");
     if let Some((_, most)) = tag.as_slice().split_last() {
         assert!(rt; !HmacSha256.verify(&key[..], SIGNED.as_bytes(), most));
-    }
-    Ok(())
-}
-
-#[test]
-fn faults(rt: HostRuntime) -> Result<(), Fail> {
-    let rows = [
-        ("[]", "BadShape body"),
-        ("{}", "BadShape signatures"),
-        ("{\"signatures\":[]}", "BadShape signatures"),
-        ("{\"signatures\":[{},5]}", "BadShape signatures"),
-        ("{\"signatures\":[{}]}", "BadShape keyid"),
-        ("{\"signatures\":[{\"keyid\":\"\"}]}", "BadShape keyid"),
-        ("{\"signatures\":[{\"keyid\":\"k\"},{}]}", "BadShape method"),
-        (
-            "{\"signatures\":[{\"keyid\":\"k\",\"method\":\"m\"}]}",
-            "BadShape sig",
-        ),
-        (
-            "{\"signatures\":[{\"keyid\":\"k\",\"method\":\"m\",\"sig\":\"abc\"}]}",
-            "BadShape sig",
-        ),
-        (
-            "{\"signatures\":[{\"keyid\":\"k\",\"method\":\"m\",\"sig\":\"aB\"},{}]}",
-            "BadShape keyid",
-        ),
-        (
-            "{\"signatures\":[{\"keyid\":\"k\",\"method\":\"m\",\"sig\":\"aB\"}],\"signed\":[]}",
-            "BadShape signed",
-        ),
-        (
-            "{\"signatures\":[{\"keyid\":\"k\",\"method\":\"m\",\"sig\":\"aB\"}],\"signed\":{\"a\":1.0}}",
-            "NotCanonical",
-        ),
-        (
-            "{\"signatures\":[{\"keyid\":\"k\",\"method\":\"m\",\"sig\":\"aB\"}],\"signed\":{},\"more\":1.0}",
-            "none",
-        ),
-    ];
-    for (json, wanted) in rows {
-        let found = match read_envelope(rt.alloc(), &Value::from_str(rt.alloc(), json)?) {
-            Ok(_) => "none".to_string(rt.alloc())?,
-            Err(refusal) => refusal.text(rt.alloc())?,
-        };
-        assert_eq!(rt; found.as_str(), wanted, "of {json}");
-    }
-    Ok(())
-}
-
-#[test]
-fn case_of_digits(rt: HostRuntime) -> Result<(), Fail> {
-    let json =
-        "{\"signatures\":[{\"keyid\":\"a \\\"b\\\\c\",\"method\":\"m\",\"sig\":\"aB0F\"}],\"signed\":{}}";
-    match read_envelope(rt.alloc(), &Value::from_str(rt.alloc(), json)?) {
-        Ok(envelope) => {
-            for signature in envelope.signatures.as_slice().iter() {
-                assert_eq!(rt; signature.keyid.as_str(), "a \"b\\c");
-                assert_eq!(rt; signature.sig.as_slice(), &[0xab, 0x0f][..]);
-            }
-        }
-        Err(_) => assert!(rt; false),
     }
     Ok(())
 }
