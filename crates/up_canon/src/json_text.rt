@@ -1,11 +1,11 @@
 //! Reading JSON from bytes.
-ghost use Rattle.std.specs.Prelude.{◌≡◌, ◌⊎◌};
+ghost use Rattle.std.specs.Prelude.{◌≡◌, ◌<◌, ◌⊎◌, Err, length};
 ghost use Rattle.serde_json.specs.Errors.{IsMemory};
 ghost use Rattle.serde_json.specs.View.{view};
 ghost use Rattle.up_canon.specs.JsonText.{value_in, value_within as value_within_of};
 ghost use Rattle.up_canon.specs.Refusals.{GivesAs};
 ghost use Rattle.up_canon.specs.Steps.{or_error};
-ghost use Rattle.up_canon.specs.declared.refusal.Refusal.TheVariants.{Memory, NotJson};
+ghost use Rattle.up_canon.specs.declared.refusal.Refusal.TheVariants.{Memory, TooLarge, NotJson};
 
 use crate::refusal::Refusal;
 use serde_json::{Category, Value};
@@ -15,7 +15,8 @@ use std::alloc::Global;
 /// UTF-8 (RFC 8259), `Memory` where it was refused.
 #[tactic(auto, unfolding(crate::specs::JsonText::value_within, crate::specs::Steps::and_then))]
 pub fn value_within(alloc: Global, bytes: &[u8], most: usize) -> Result<Value, Refusal>
-    ensures { GivesAs view result (value_within_of most bytes.now) }
+    ensures value { GivesAs view result (value_within_of most bytes.now) }
+    ensures large { most < length bytes.now → result ≡ Err TooLarge }
 {
     if bytes.len() > most {
         return Err(Refusal::TooLarge);
