@@ -50,7 +50,7 @@ entry_sound bodies texts k s at body r is checked =
     let means = (bodies body r.incoming).0 is.reads in
     record {
       payload = means.payload;
-      canonical = means.envelope.signed;
+      canonical = means.envelope.signed.0;
       manifest = r.incoming.manifest;
       means = means.manifest;
       read = texts body r.incoming is.reads;

@@ -5,66 +5,64 @@ use Rattle.std.specs.List.{list_all}
 use Rattle.std.proofs.lemmas.Bool.Decides.{nat_tests}
 use Rattle.serde_json.specs.Data.{Data, Members, object}
 use Rattle.serde_json.specs.Read.{read}
-use Rattle.up_canon.specs.Canon.{max_count, canon, text, is_plain, CanonIsRead}
+use Rattle.up_canon.specs.Canon.{max_count, canon}
 use Rattle.up_canon.specs.Moments.{MomentTextIsPlain, MomentsAreRead}
 use Rattle.up_canon.specs.Names.{is_ident}
 use Rattle.up_sign.specs.Envelopes.{sealed}
-use Rattle.up_sign.specs.Formats.{envelope_fits, has_bytes, envelope_text}
+use Rattle.up_sign.specs.Formats.{envelope_text, IsSigned}
+use Rattle.up_sign.specs.Laws.{envelope_value, ValuesMeanOneOrFail, TextsAreRead, SealedFits}
 use Rattle.up_sign.specs.Schemes.{Rules, IsScheme, is_byte}
 use Rattle.up_sign.specs.declared.envelope.Envelope.{Envelope}
-use Rattle.up_sign.proofs.Sealed.{sealed_fits, sealed_bytes}
-use Rattle.up_manifest.specs.Building.{report_text, ReportFits, IsReportEnvelope, AreReportEnvelopes, manifest_text, sealed_manifest, signed_reports, built}
+use Rattle.up_manifest.specs.Building.{report_value, report_text, ReportFits, IsReportEnvelope, AreReportEnvelopes, manifest_text, sealed_manifest, signed_reports, built}
 use Rattle.up_manifest.specs.Manifests.{most_reports}
 use Rattle.up_manifest.specs.Meaning.{MeansSignedReport, MeansManifest, MeansBody}
 use Rattle.up_manifest.specs.declared.report.Report.{Report}
 use Rattle.up_manifest.specs.declared.manifest.Incoming.{Incoming}
 use Rattle.up_manifest.proofs.Printable.{ident_prints}
-use Rattle.up_manifest.proofs.Values.{canon_of, envelope_value, envelope_value-text, envelope_plain, envelope_depth, envelope_means, pair_value, pair_value-text, pair_value-plain, pair_value-depth, signed_report_means, zipped, manifest_value, manifest_value-text, manifest_plain, manifest_depth, manifest_means}
+use Rattle.up_manifest.proofs.Values.{canon_of, envelope_means, pair_value, report_signed, signed_report_means, zipped, manifest_value, manifest_value-text, manifest_plain, manifest_depth, manifest_means}
 use Rattle.up_manifest.proofs.Lengths.{envelope-length, manifest-length}
 
 one_fits : (k : Rules) (secret : List ℕ) → IsTrue (k.secret_fits secret) → IsTrue (list_all k.secret_fits (secret ∷ []))
 one_fits k secret h = ap (λ b. b && true) h
 
-pub report_envelope : (k : Rules) → IsScheme k → (secret : List ℕ) (r : Report) → IsTrue (k.secret_fits secret) → ReportFits r → IsReportEnvelope (sealed k (secret ∷ []) (report_text r)) r
-report_envelope k law secret r fits limits = record {
-  one = refl;
-  limits = sealed_fits k law (secret ∷ []) (report_text r) (one_fits k secret fits) (lit≤ tt) (lit≤ tt);
-  bytes = sealed_bytes k law (secret ∷ []) (report_text r) (one_fits k secret fits);
-  signed = refl;
-  fits = limits;
-}
+pub report_envelope : SealedFits → (k : Rules) → IsScheme k → (secret : List ℕ) (r : Report) → IsTrue (k.secret_fits secret) → ReportFits r → IsReportEnvelope (sealed k (secret ∷ []) (report_text r)) r
+report_envelope sealing k scheme secret r fits limits =
+    let sealed_limits = sealing k (secret ∷ []) (report_text r) scheme (one_fits k secret fits) (lit≤ tt) (lit≤ tt) in
+    record {
+      one = refl;
+      limits = sealed_limits.0;
+      bytes = sealed_limits.1;
+      signed = refl;
+      fits = limits;
+    }
 
-pub report_built : MomentTextIsPlain → MomentsAreRead → CanonIsRead → (e : Envelope) (r : Report) → IsReportEnvelope e r
+pub report_built : ValuesMeanOneOrFail → TextsAreRead → MomentTextIsPlain → MomentsAreRead → (e : Envelope) (r : Report) → IsReportEnvelope e r
     → (d : Data) × (read (envelope_text e) ≡ Some d) × MeansSignedReport d (record { report = r; envelope = e })
-report_built plain law again e r h =
-    let shallow = pair_value-depth e r in
-    let is = canon_of (pair_value (e, r)) (pair_value-plain plain e r h) (omega arith) ∙ ap Some (pair_value-text e r h) in
-    (pair_value (e, r), again (pair_value (e, r)) (envelope_text e) is, signed_report_means plain law e r h)
+report_built law texts plain moments e r h =
+    (pair_value (e, r), (texts [] e (report_value r) h.limits h.bytes (report_signed plain e r h)).0, signed_report_means law texts plain moments e r h)
 
-pub built_means : MomentTextIsPlain → MomentsAreRead → CanonIsRead → (k : Rules) → IsScheme k → (secret vehicle primary : List ℕ) (counter : ℕ) (es : List Envelope) (rs : List Report)
+pub built_means : ValuesMeanOneOrFail → TextsAreRead → SealedFits → MomentTextIsPlain → MomentsAreRead → (k : Rules) → IsScheme k
+    → (secret vehicle primary : List ℕ) (counter : ℕ) (es : List Envelope) (rs : List Report)
     → IsTrue (k.secret_fits secret) → is_ident vehicle ≡ true → is_ident primary ≡ true → 1 ≤ counter → counter ≤ max_count → length es ≤ most_reports → AreReportEnvelopes es rs
     → (body : List ℕ) → IsUtf8 body → body ≡ envelope_text (sealed_manifest k secret vehicle primary counter es) → MeansBody body (built k secret vehicle primary counter rs es)
-built_means plain law again k scheme secret vehicle primary counter es rs fits v p low high few h body utf8 same =
+built_means law texts sealing plain moments k scheme secret vehicle primary counter es rs fits v p low high few h body utf8 same =
     let signed = manifest_text vehicle primary counter es in
     let e = sealed k (secret ∷ []) signed in
-    let limits = sealed_fits k scheme (secret ∷ []) signed (one_fits k secret fits) (lit≤ tt) (lit≤ tt) in
-    let bytes = sealed_bytes k scheme (secret ∷ []) signed (one_fits k secret fits) in
+    let limits = sealing k (secret ∷ []) signed scheme (one_fits k secret fits) (lit≤ tt) (lit≤ tt) in
     let payload = manifest_value vehicle primary counter (zipped es rs) in
     let payload_plain = manifest_plain plain vehicle primary counter es rs h (ident_prints vehicle v) (ident_prints primary p) high in
-    let payload_text = manifest_value-text vehicle primary counter es rs h in
     let flat = manifest_depth vehicle primary counter (zipped es rs) in
-    let payload_canon : canon payload ≡ Some signed = canon_of payload payload_plain (omega arith) ∙ ap Some payload_text in
-    let shallow = envelope_depth e payload 6 flat (lit≤ tt) in
-    let is : canon (envelope_value e payload) ≡ Some (envelope_text e) = canon_of (envelope_value e payload) (envelope_plain e payload limits bytes payload_plain) (omega arith) ∙ ap Some (envelope_value-text e payload payload_text) in
-    let size = envelope-length e 250_000 refl limits (manifest-length plain vehicle primary counter es rs h v p high few) in
+    let payload_canon : canon payload ≡ Some signed = canon_of payload payload_plain (omega arith) ∙ ap Some (manifest_value-text vehicle primary counter es rs h) in
+    let is_signed : IsSigned signed payload = (payload_canon, refl) in
+    let size = envelope-length e 250_000 refl limits.0 (manifest-length plain vehicle primary counter es rs h v p high few) in
     subst (λ t. MeansBody t (built k secret vehicle primary counter rs es)) (sym same) (record {
       small = omega arith;
       utf8 = subst IsUtf8 same utf8;
       value = envelope_value e payload;
-      reads = again (envelope_value e payload) (envelope_text e) is;
+      reads = (texts [] e payload limits.0 limits.1 is_signed).0;
       payload = payload;
-      envelope = envelope_means e payload limits bytes (_, refl) payload_canon;
-      manifest = manifest_means plain law (built k secret vehicle primary counter rs es).manifest es rs h refl v p low high few;
+      envelope = envelope_means law texts e payload limits.0 limits.1 is_signed;
+      manifest = manifest_means law texts plain moments (built k secret vehicle primary counter rs es).manifest es rs h refl v p low high few;
     })
 
 -- numbers below 256 are bytes

@@ -5,18 +5,17 @@ use Rattle.hex.specs.Hex.{decode_of}
 use Rattle.serde_json.specs.Data.{Data}
 use Rattle.up_canon.specs.declared.refusal.Refusal.{Refusal}
 use Rattle.up_canon.specs.declared.refusal.Refusal.TheVariants.{TooLarge, NotJson, NotCanonical, BadShape}
-use Rattle.up_canon.specs.Names.{is_from_to, is_ident, is_file_name, is_note, is_short_text}
-use Rattle.up_canon.specs.HexText.{hex_of, hex_in, sha256_in}
-use Rattle.up_canon.specs.Refusals.{canonical_text}
-use Rattle.up_sign.specs.Formats.{is_object}
-use Rattle.std.specs.List.{list_all}
+use Rattle.up_canon.specs.Names.{is_from_to, is_ident, is_file_name, is_note}
+use Rattle.up_canon.specs.HexText.{hex_of, sha256_in}
 use Rattle.up_canon.specs.JsonText.{value_within}
 use Rattle.up_canon.specs.Members.{text_of, count_of, list_of, object_of, member_in, text_in, count_in, list_in, object_in}
-use Rattle.up_canon.specs.Readers.{fitting, ident_of, file_name_of, note_of, ident_in, file_name_in, note_in, word_in, short_text_in, positive_in, list_within, moment_in}
+use Rattle.up_canon.specs.Readers.{fitting, ident_of, file_name_of, note_of, ident_in, file_name_in, note_in, word_in, positive_in, list_within, moment_in}
 use Rattle.up_canon.specs.Steps.{and_then, ◌>>=◌, or_error, unless, each, value_of}
-use Rattle.up_sign.specs.Reading.{signature_in, signatures_in, signed_in, opened_in}
+use Rattle.up_sign.specs.Laws.{IsEnvelopeFault, ValuesMeanOneOrFail}
+use Rattle.up_sign.specs.Reading.{opened_in}
 use Rattle.up_manifest.specs.Manifests.{installed_in, report_in, signed_report_in, reports_in, manifest_in, incoming_in}
 use Rattle.up_manifest.specs.Laws.{IsBodyFault}
+use Rattle.up_manifest.proofs.BodyReading.{opened_fault}
 
 -- each error of it is such a fault
 abbrev Fails : {A : Type 0} → Result A Refusal → Type 0
@@ -86,10 +85,6 @@ word_fails : (word name : List ℕ) (d : Data) → Fails (word_in word name d)
 unfolding word_in
 word_fails word name d = then_fails _ _ (text_fails name d) (λ t. unless_fails _ (BadShape name) tt)
 
-short_text_fails : (least most : ℕ) (name : List ℕ) (d : Data) → Fails (short_text_in least most name d)
-unfolding short_text_in
-short_text_fails least most name d = then_fails _ _ (text_fails name d) (λ t. fitting_fails (is_short_text least most) name t)
-
 positive_fails : (name : List ℕ) (d : Data) → Fails (positive_in name d)
 unfolding positive_in
 positive_fails name d = then_fails _ _ (count_fails name d) (λ n. fitting_fails (nat_le 1) name n)
@@ -102,10 +97,6 @@ hex_of_fails : (least most : ℕ) (name : List ℕ) (d : Data) → Fails (hex_of
 unfolding hex_of text_of
 hex_of_fails least most name d = then_fails _ _ (or_error_fails (BadShape name) _ tt) (λ t. then_fails _ _ (fitting_fails (λ x. is_from_to least most (length x)) name t) (λ digits. or_error_fails (BadShape name) (value_of (decode_of digits)) tt))
 
-hex_fails : (least most : ℕ) (name : List ℕ) (d : Data) → Fails (hex_in least most name d)
-unfolding hex_in
-hex_fails least most name d = then_fails _ _ (member_fails name d) (λ v. hex_of_fails least most name v)
-
 sha256_fails : (name : List ℕ) (d : Data) → Fails (sha256_in name d)
 unfolding sha256_in
 sha256_fails name d = then_fails _ _ (member_fails name d) (λ v. hex_of_fails 64 64 name v)
@@ -114,37 +105,13 @@ moment_fails : (name : List ℕ) (d : Data) → Fails (moment_in name d)
 unfolding moment_in
 moment_fails name d = then_fails _ _ (text_fails name d) (λ t. or_error_fails (BadShape name) _ tt)
 
-self_fails : (name : List ℕ) (d : Data) → Fails (object_of name d)
-unfolding object_of
-self_fails name d = or_error_fails (BadShape name) _ tt
+body_fault : (fault : Refusal) → IsEnvelopeFault fault → IsBodyFault fault
+body_fault NotCanonical is = tt
+body_fault (BadShape name) is = tt
+body_fault _ is = absurd is
 
-signature_fails : (place : List ℕ) (d : Data) → Fails (signature_in place d)
-unfolding signature_in
-signature_fails place d =
-    then_fails _ _ (self_fails place d) (λ members.
-    then_fails _ _ (short_text_fails 1 128 (codes "keyid") members) (λ a.
-    then_fails _ _ (short_text_fails 1 64 (codes "method") members) (λ b.
-    then_fails _ _ (hex_fails 2 1024 (codes "sig") members) (λ c. ok_fails _))))
-
-signatures_fails : (d : Data) → Fails (signatures_in d)
-unfolding signatures_in
-signatures_fails d =
-    then_fails _ _ (list_within_fails 1 8 (codes "signatures") d) (λ values.
-    then_fails _ _ (fitting_fails (list_all is_object) (codes "signatures") values) (λ objects.
-    each_fails (signature_in (codes "signatures")) (signature_fails (codes "signatures")) objects))
-
-signed_fails : (d : Data) → Fails (signed_in d)
-unfolding signed_in canonical_text
-signed_fails d =
-    then_fails _ _ (object_fails (codes "signed") d) (λ payload.
-    then_fails _ _ (or_error_fails NotCanonical _ tt) (λ a. ok_fails _))
-
-opened_fails : (place : List ℕ) (d : Data) → Fails (opened_in place d)
-unfolding opened_in
-opened_fails place d =
-    then_fails _ _ (self_fails place d) (λ members.
-    then_fails _ _ (signatures_fails members) (λ signatures.
-    then_fails _ _ (signed_fails members) (λ signed. ok_fails _)))
+opened_fails : ValuesMeanOneOrFail → (place : List ℕ) (d : Data) → Fails (opened_in place d)
+opened_fails law place d fault h = body_fault fault (opened_fault law place d fault h)
 
 installed_fails : (d : Data) → Fails (installed_in d)
 unfolding installed_in
@@ -165,34 +132,34 @@ report_fails d =
     then_fails _ _ (object_fails (codes "image") d) (λ image.
     then_fails _ _ (installed_fails image) (λ g. ok_fails _)))))))
 
-signed_report_fails : (place : List ℕ) (d : Data) → Fails (signed_report_in place d)
+signed_report_fails : ValuesMeanOneOrFail → (place : List ℕ) (d : Data) → Fails (signed_report_in place d)
 unfolding signed_report_in
-signed_report_fails place d =
-    then_fails _ _ (opened_fails place d) (λ opened.
+signed_report_fails law place d =
+    then_fails _ _ (opened_fails law place d) (λ opened.
     then_fails _ _ (report_fails opened.payload) (λ a. ok_fails _))
 
-reports_fails : (d : Data) → Fails (reports_in d)
+reports_fails : ValuesMeanOneOrFail → (d : Data) → Fails (reports_in d)
 unfolding reports_in
-reports_fails d =
+reports_fails law d =
     then_fails _ _ (list_within_fails 0 64 (codes "reports") d) (λ listed.
-    each_fails (signed_report_in (codes "reports")) (signed_report_fails (codes "reports")) listed)
+    each_fails (signed_report_in (codes "reports")) (signed_report_fails law (codes "reports")) listed)
 
-manifest_fails : (d : Data) → Fails (manifest_in d)
+manifest_fails : ValuesMeanOneOrFail → (d : Data) → Fails (manifest_in d)
 unfolding manifest_in
-manifest_fails d =
+manifest_fails law d =
     then_fails _ _ (word_fails (codes "manifest") (codes "type") d) (λ a.
     then_fails _ _ (ident_fails (codes "vehicle") d) (λ b.
     then_fails _ _ (ident_fails (codes "primary") d) (λ c.
     then_fails _ _ (positive_fails (codes "counter") d) (λ e.
-    then_fails _ _ (reports_fails d) (λ f. ok_fails _)))))
+    then_fails _ _ (reports_fails law d) (λ f. ok_fails _)))))
 
 value_fails : (most : ℕ) (body : List ℕ) → Fails (value_within most body)
 unfolding value_within
 value_fails most body = then_fails _ _ (unless_fails _ TooLarge tt) (λ a. or_error_fails NotJson _ tt)
 
-pub body_fails : (body : List ℕ) → Fails (incoming_in body)
+pub body_fails : ValuesMeanOneOrFail → (body : List ℕ) → Fails (incoming_in body)
 unfolding incoming_in
-body_fails body =
+body_fails law body =
     then_fails _ _ (value_fails 262_144 body) (λ d.
-    then_fails _ _ (opened_fails (codes "body") d) (λ opened.
-    then_fails _ _ (manifest_fails opened.payload) (λ b. ok_fails _)))
+    then_fails _ _ (opened_fails law (codes "body") d) (λ opened.
+    then_fails _ _ (manifest_fails law opened.payload) (λ b. ok_fails _)))

@@ -7,14 +7,15 @@ use Rattle.std.proofs.lemmas.Bool.Decides.{nat_tests}
 use Rattle.serde_json.specs.Data.{unsigned, negative, float, Data, null, boolean, number, string, array, object, Items, Members}
 use Rattle.serde_json.specs.Find as json
 use Rattle.up_canon.specs.Canon.{max_count}
-use Rattle.up_canon.specs.Names.{Name, is_from_to, is_ident, is_file_name, is_note, is_short_text}
+use Rattle.up_canon.specs.Names.{Name, is_from_to, is_ident, is_file_name, is_note}
 use Rattle.up_canon.specs.Moments.{read_moment}
-use Rattle.up_canon.specs.HexText.{hex_of, hex_in, sha256_in}
+use Rattle.up_canon.specs.HexText.{hex_of, sha256_in}
 use Rattle.up_canon.specs.Members.{items_list, text_of, count_of, list_of, object_of, member_in, text_in, count_in, list_in, object_in}
-use Rattle.up_canon.specs.Readers.{fitting, ident_of, file_name_of, note_of, ident_in, file_name_in, note_in, word_in, short_text_in, positive_in, list_within, moment_in}
+use Rattle.up_canon.specs.Readers.{fitting, ident_of, file_name_of, note_of, ident_in, file_name_in, note_in, word_in, positive_in, list_within, moment_in}
 use Rattle.up_canon.specs.Steps.{or_error, if_passes, value_of}
 use Rattle.up_canon.specs.declared.refusal.Refusal.TheVariants.{BadShape}
-use Rattle.up_manifest.specs.Meaning.{HasText, HasCount, HasObject, HasHex}
+use Rattle.up_sign.specs.Meaning.{HasText, HasHex}
+use Rattle.up_manifest.specs.Meaning.{HasCount, HasObject}
 use Rattle.up_manifest.proofs.Steps.{first_ok, bind-ok, or_error_ok, unless_ok, value_of_some, passed}
 
 -- ---- what a value is
@@ -91,23 +92,6 @@ pub object_read : (name : List ℕ) (d o : Data) → object_in name d ≡ Ok o �
 unfolding object_in member_in object_of
 object_read name d o h = first_ok _ _ _ _ h (λ v has h. let p = is_some_object v o (or_error_ok _ _ o h) in (p.0, or_error_ok _ _ v has ∙ ap Some p.1, p.2))
 
--- what has a member is an object
-pub has_member : (name : List ℕ) (d e : Data) → json.get name d ≡ Some e → (ms : Members) × (d ≡ object ms)
-has_member name null e h = cc
-has_member name (boolean b) e h = cc
-has_member name (number n) e h = cc
-has_member name (string s) e h = cc
-has_member name (array ds) e h = cc
-has_member name (object ms) e h = (ms, refl)
-
-pub self_read : (name : List ℕ) (d o : Data) → object_of name d ≡ Ok o → d ≡ o
-unfolding object_of
-self_read name d o h = let p = is_some_object d o (or_error_ok _ _ o h) in p.1 ∙ sym p.2
-
-pub self_there : (name : List ℕ) (d : Data) (o : (ms : Members) × (d ≡ object ms)) → object_of name d ≡ Ok d
-unfolding object_of
-self_there name d o = rw o.1 refl
-
 pub object_there : (name : List ℕ) (d o : Data) → HasObject d name o → object_in name d ≡ Ok o
 unfolding object_in member_in object_of
 object_there name d o has = let there = has.1 in bind-ok _ _ (object has.0) (rw there) ∙ ap Ok (sym has.2)
@@ -154,14 +138,6 @@ word_read word name d h = first_ok _ _ _ _ h (λ t has h. let same : t ≡ word 
 pub word_there : (word name : List ℕ) (d : Data) → HasText d name word → word_in word name d ≡ Ok tt
 unfolding word_in
 word_there word name d has = bind-ok _ _ word (text_there name d word has) ∙ rw ((bytes_decides word word).1 refl)
-
-pub short_text_read : (least most : ℕ) (name : List ℕ) (d : Data) (t : Name) → short_text_in least most name d ≡ Ok t → HasText d name t × (is_short_text least most t ≡ true)
-unfolding short_text_in
-short_text_read least most name d t h = first_ok _ _ _ _ h (λ s has h. let p = fits_read (is_short_text least most) name s t h in (subst (HasText d name) p.1 (text_read name d s has), p.0))
-
-pub short_text_there : (least most : ℕ) (name : List ℕ) (d : Data) (t : Name) → HasText d name t → is_short_text least most t ≡ true → short_text_in least most name d ≡ Ok t
-unfolding short_text_in
-short_text_there least most name d t has ok = bind-ok _ _ t (text_there name d t has) ∙ fits_there (is_short_text least most) name t ok
 
 pub positive_read : (name : List ℕ) (d : Data) (n : ℕ) → positive_in name d ≡ Ok n → HasCount d name n × (1 ≤ n)
 unfolding positive_in
@@ -213,14 +189,6 @@ hex_of_there least most name d bytes h =
     bind-ok _ _ h.digits refl
     ∙ bind-ok _ _ h.digits (fits_there (λ t. is_from_to least most (length t)) name h.digits (within_there least most _ h.at_least h.at_most))
     ∙ ap (λ r. or_error (BadShape name) (value_of r)) h.decoded
-
-pub hex_read : (least most : ℕ) (name : List ℕ) (d : Data) (bytes : List ℕ) → hex_in least most name d ≡ Ok bytes → HasHex least most d name bytes
-unfolding hex_in member_in
-hex_read least most name d bytes h = first_ok _ _ _ _ h (λ v has h. hex_of_read least most name d v bytes (or_error_ok _ _ v has) h)
-
-pub hex_there : (least most : ℕ) (name : List ℕ) (d : Data) (bytes : List ℕ) → HasHex least most d name bytes → hex_in least most name d ≡ Ok bytes
-unfolding hex_in member_in
-hex_there least most name d bytes h = bind-ok _ _ (string h.digits) (ap (or_error (BadShape name)) h.has_digits) ∙ hex_of_there least most name d bytes h
 
 pub sha256_read : (name : List ℕ) (d : Data) (bytes : List ℕ) → sha256_in name d ≡ Ok bytes → HasHex 64 64 d name bytes
 unfolding sha256_in member_in

@@ -7,7 +7,7 @@ use Rattle.up_canon.specs.Members.{items_list}
 use Rattle.up_canon.specs.Steps.{and_then, ◌>>=◌, unless, or_error, value_of, each}
 use Rattle.up_canon.specs.Refusals.{Gives, is_memory}
 use Rattle.up_canon.specs.declared.refusal.Refusal.{Refusal}
-use Rattle.up_manifest.specs.Meaning.{EachMeans}
+use Rattle.up_sign.specs.Meaning.{EachMeans}
 
 -- to go on with the value of the first step
 pub first_ok : {E A B : Type 0} (r : Result A E) (f : A → Result B E) (y : B) (P : Type 0) → (r >>= f) ≡ Ok y → ((x : A) → r ≡ Ok x → f x ≡ Ok y → P) → P

@@ -13,7 +13,9 @@ use Rattle.up_canon.specs.Build.{object_with, list_with, count_value, hex_value}
 use Rattle.up_canon.specs.Canon.{max_count, max_nesting, is_printable, is_printable_text, is_plain, items_are_plain, canon, text, items_text, quoted}
 use Rattle.up_canon.specs.Moments.{last_moment, moment_text, read_moment, MomentTextIsPlain, MomentsAreRead}
 use Rattle.up_canon.specs.Names.{is_from_to, is_short_text, is_ident}
-use Rattle.up_sign.specs.Formats.{signature_fits, envelope_fits, has_bytes, signature_value, envelope_text}
+use Rattle.up_sign.specs.Formats.{signature_fits, envelope_fits, has_bytes, IsSigned, signature_value, envelope_text}
+use Rattle.up_sign.specs.Laws.{envelope_value, ValuesMeanOneOrFail, TextsAreRead}
+use Rattle.up_sign.specs.Meaning.{HasHex, EachMeans, MeansEnvelope}
 use Rattle.up_sign.specs.Schemes.{is_byte}
 use Rattle.up_sign.specs.declared.envelope.Signature.{Signature}
 use Rattle.up_sign.specs.declared.envelope.Envelope.{Envelope}
@@ -21,11 +23,12 @@ use Rattle.up_sign.proofs.Sealed.{are_printable-hex}
 use Rattle.up_sign.proofs.Written.{listed_text}
 use Rattle.up_manifest.specs.Building.{hashes_value, installed_value, report_value, report_text, ReportFits, IsReportEnvelope, AreReportEnvelopes, listed, manifest_text, signed_reports}
 use Rattle.up_manifest.specs.Manifests.{most_reports}
-use Rattle.up_manifest.specs.Meaning.{HasHex, EachMeans, MeansSignature, MeansEnvelope, MeansInstalled, MeansReport, MeansSignedReport, MeansManifest}
+use Rattle.up_manifest.specs.Meaning.{MeansInstalled, MeansReport, MeansSignedReport, MeansManifest}
 use Rattle.up_manifest.specs.declared.report.Installed.{Installed}
 use Rattle.up_manifest.specs.declared.report.Report.{Report}
 use Rattle.up_manifest.specs.declared.report.SignedReport.{SignedReport}
 use Rattle.up_manifest.specs.declared.manifest.Manifest.{Manifest}
+use Rattle.up_manifest.proofs.BodyReading.{opened_read}
 use Rattle.up_manifest.proofs.Printable.{is_plain_text, ident_prints, file_name_prints, note_prints}
 
 -- ---- canonical text
@@ -66,9 +69,6 @@ right-five a b c d e = simp append_assoc
 right-nine : (a b c d e f g h i : List ℕ) → a ++ b ++ c ++ d ++ e ++ f ++ g ++ h ++ i ≡ a ++ (b ++ (c ++ (d ++ (e ++ (f ++ (g ++ (h ++ i)))))))
 right-nine a b c d e f g h i = simp append_assoc
 
-abbrev pub envelope_value : Envelope → Data → Data
-envelope_value e payload = object_with ((codes "signatures", list_with (map signature_value e.signatures)) ∷ (codes "signed", payload) ∷ [])
-
 pub envelope_value-text : (e : Envelope) (payload : Data) → text payload ≡ e.signed → text (envelope_value e payload) ≡ envelope_text e
 unfolding envelope_text
 envelope_value-text e payload h =
@@ -97,21 +97,6 @@ signature_depth : (s : Signature) → depth (signature_value s) ≡ 1
 unfolding signature_value
 signature_depth s = refl
 
-signature_means : (s : Signature) → signature_fits s ≡ true → list_all is_byte s.sig ≡ true → MeansSignature (signature_value s) s
-unfolding signature_value
-signature_means s h b =
-    let p = signature_parts s h in
-    let low = p.2 in
-    let high = p.3 in
-    let size = length-encode_with lower_digits s.sig in
-    record {
-      keyid = refl;
-      keyid_fits = p.0;
-      method = refl;
-      method_fits = p.1;
-      sig = record { digits = encode_lower s.sig; has_digits = refl; at_least = omega arith; at_most = omega arith; decoded = decode_of-encode_lower s.sig (is_bytes s.sig b) };
-    }
-
 signatures_plain : (ss : List Signature) → list_all signature_fits ss ≡ true → list_all (λ s. list_all is_byte s.sig) ss ≡ true → items_are_plain (items_of (map signature_value ss)) ≡ true
 signatures_plain [] h b = refl
 signatures_plain (s ∷ ss) h b =
@@ -123,13 +108,6 @@ signatures_depth : (ss : List Signature) → items_depth (items_of (map signatur
 signatures_depth [] = omega arith
 signatures_depth (s ∷ ss) = omega (arith, signature_depth s, signatures_depth ss)
 
-signatures_mean : (ss : List Signature) → list_all signature_fits ss ≡ true → list_all (λ s. list_all is_byte s.sig) ss ≡ true → EachMeans MeansSignature (items_of (map signature_value ss)) ss
-signatures_mean [] h b = tt
-signatures_mean (s ∷ ss) h b =
-    let p = and_parts (signature_fits s) _ h in
-    let q = and_parts (list_all is_byte s.sig) _ b in
-    (signature_means s p.0 q.0, signatures_mean ss p.1 q.1)
-
 pub envelope_plain : (e : Envelope) (payload : Data) → envelope_fits e ≡ true → has_bytes e ≡ true → is_plain payload ≡ true → is_plain (envelope_value e payload) ≡ true
 envelope_plain e payload h b plain =
     let p = and_parts (is_from_to 1 8 (length e.signatures)) _ h in
@@ -138,22 +116,9 @@ envelope_plain e payload h b plain =
 pub envelope_depth : (e : Envelope) (payload : Data) (n : ℕ) → depth payload ≤ n → 2 ≤ n → depth (envelope_value e payload) ≤ n + 1
 envelope_depth e payload n h two = omega (arith, signatures_depth e.signatures)
 
-pub envelope_means : (e : Envelope) (payload : Data) → envelope_fits e ≡ true → has_bytes e ≡ true → (o : (ms : Members) × (payload ≡ object ms)) → canon payload ≡ Some e.signed
+pub envelope_means : ValuesMeanOneOrFail → TextsAreRead → (e : Envelope) (payload : Data) → envelope_fits e ≡ true → has_bytes e ≡ true → IsSigned e.signed payload
     → MeansEnvelope (envelope_value e payload) payload e
-envelope_means e payload h b o signed =
-    let p = and_parts (is_from_to 1 8 (length e.signatures)) _ h in
-    let q = and_parts (nat_le 1 (length e.signatures)) _ p.0 in
-    let low = q.0 in
-    let high = q.1 in
-    record {
-      listed = items_of (map signature_value e.signatures);
-      has_signatures = refl;
-      signatures = signatures_mean e.signatures p.1 b;
-      some = grind (arith, nat_tests);
-      few = grind (arith, nat_tests);
-      has_signed = (o.0, ap Some o.1, o.1);
-      signed = signed;
-    }
+envelope_means law texts e payload h b signed = opened_read law [] (envelope_value e payload) (record { envelope = e; payload = payload }) (texts [] e payload h b signed).1
 
 -- ---- reports
 
@@ -206,11 +171,14 @@ report_means law r h = record {
 abbrev pub pair_value : Envelope × Report → Data
 pair_value p = envelope_value p.0 (report_value p.1)
 
-pub signed_report_means : MomentTextIsPlain → MomentsAreRead → (e : Envelope) (r : Report) → IsReportEnvelope e r → MeansSignedReport (pair_value (e, r)) (record { report = r; envelope = e })
-signed_report_means plain law e r h = record {
+pub report_signed : MomentTextIsPlain → (e : Envelope) (r : Report) → IsReportEnvelope e r → IsSigned e.signed (report_value r)
+report_signed plain e r h = (report_canon plain r h.fits ∙ ap Some (sym h.signed), refl)
+
+pub signed_report_means : ValuesMeanOneOrFail → TextsAreRead → MomentTextIsPlain → MomentsAreRead → (e : Envelope) (r : Report) → IsReportEnvelope e r → MeansSignedReport (pair_value (e, r)) (record { report = r; envelope = e })
+signed_report_means law texts plain moments e r h = record {
   payload = report_value r;
-  envelope = envelope_means e (report_value r) h.limits h.bytes (_, refl) (report_canon plain r h.fits ∙ ap Some (sym h.signed));
-  report = report_means law r h.fits;
+  envelope = envelope_means law texts e (report_value r) h.limits h.bytes (report_signed plain e r h);
+  report = report_means moments r h.fits;
 }
 
 report_value-text : (r : Report) → text (report_value r) ≡ report_text r
@@ -233,11 +201,11 @@ zipped [] rs = []
 zipped (e ∷ es) [] = []
 zipped (e ∷ es) (r ∷ rs) = (e, r) ∷ zipped es rs
 
-pairs_mean : MomentTextIsPlain → MomentsAreRead → (es : List Envelope) (rs : List Report) → AreReportEnvelopes es rs → EachMeans MeansSignedReport (items_of (map pair_value (zipped es rs))) (signed_reports rs es)
-pairs_mean plain law [] [] h = tt
-pairs_mean plain law [] (r ∷ rs) h = absurd h
-pairs_mean plain law (e ∷ es) [] h = absurd h
-pairs_mean plain law (e ∷ es) (r ∷ rs) h = (signed_report_means plain law e r h.0, pairs_mean plain law es rs h.1)
+pairs_mean : ValuesMeanOneOrFail → TextsAreRead → MomentTextIsPlain → MomentsAreRead → (es : List Envelope) (rs : List Report) → AreReportEnvelopes es rs → EachMeans MeansSignedReport (items_of (map pair_value (zipped es rs))) (signed_reports rs es)
+pairs_mean law texts plain moments [] [] h = tt
+pairs_mean law texts plain moments [] (r ∷ rs) h = absurd h
+pairs_mean law texts plain moments (e ∷ es) [] h = absurd h
+pairs_mean law texts plain moments (e ∷ es) (r ∷ rs) h = (signed_report_means law texts plain moments e r h.0, pairs_mean law texts plain moments es rs h.1)
 
 pairs_plain : MomentTextIsPlain → (es : List Envelope) (rs : List Report) → AreReportEnvelopes es rs → items_are_plain (items_of (map pair_value (zipped es rs))) ≡ true
 pairs_plain law [] [] h = refl
@@ -284,10 +252,10 @@ manifest_plain law vehicle primary counter es rs h v p n =
 pub manifest_depth : (vehicle primary : List ℕ) (counter : ℕ) (ps : List (Envelope × Report)) → depth (manifest_value vehicle primary counter ps) ≤ 6
 manifest_depth vehicle primary counter ps = omega (arith, pairs_depth ps)
 
-pub manifest_means : MomentTextIsPlain → MomentsAreRead → (m : Manifest) (es : List Envelope) (rs : List Report) → AreReportEnvelopes es rs → m.reports ≡ signed_reports rs es
+pub manifest_means : ValuesMeanOneOrFail → TextsAreRead → MomentTextIsPlain → MomentsAreRead → (m : Manifest) (es : List Envelope) (rs : List Report) → AreReportEnvelopes es rs → m.reports ≡ signed_reports rs es
     → IsTrue (is_ident m.vehicle) → IsTrue (is_ident m.primary) → 1 ≤ m.counter → m.counter ≤ max_count → length es ≤ most_reports
     → MeansManifest (manifest_value m.vehicle m.primary m.counter (zipped es rs)) m
-manifest_means plain law m es rs h same v p low high few =
+manifest_means law texts plain moments m es rs h same v p low high few =
     let size = ap length same ∙ pairs_size es rs h in
     record {
       kind = refl;
@@ -299,6 +267,6 @@ manifest_means plain law m es rs h same v p low high few =
       positive = low;
       listed = items_of (map pair_value (zipped es rs));
       has_reports = refl;
-      reports = subst (EachMeans MeansSignedReport (items_of (map pair_value (zipped es rs)))) (sym same) (pairs_mean plain law es rs h);
+      reports = subst (EachMeans MeansSignedReport (items_of (map pair_value (zipped es rs)))) (sym same) (pairs_mean law texts plain moments es rs h);
       few = omega arith;
     }

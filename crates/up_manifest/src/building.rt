@@ -15,10 +15,10 @@ use crate::report::Report;
 use crate::writing::{keeps_limits, manifest_text, report_text};
 use std::alloc::{AllocError, Global};
 use up_canon::bytes::Bytes;
-use up_canon::canonical_laws;
 use up_canon::ident::Ident;
 use up_canon::moment::moment_laws;
 use up_sign::envelope::Envelope;
+use up_sign::laws::envelope_laws;
 use up_sign::scheme::Scheme;
 use up_sign::seal::seal;
 
@@ -32,9 +32,10 @@ pub fn build_report<K: Scheme>(
     requires { IsTrue ((K.rules scheme.now).secret_fits secret.now) }
     ensures value { IfOk result (λ e. e ≡ sealed (K.rules scheme.now) (secret.now ∷ []) (report_text_of report.now)) }
     ensures envelope { IfOk result (λ e. IsReportEnvelope e report.now) }
+    ensures limits { IfOk result (λ e. IsTrue (envelope_fits e)) }
     ensures means { IfOk result (λ e. (d : Data) × (read (envelope_text e) ≡ Some d) × MeansSignedReport d (record { report = report.now; envelope = e })) }
 {
-    canonical_laws();
+    envelope_laws();
     moment_laws();
     keeps_limits(report);
     let signed = report_text(alloc, report)?;
@@ -61,7 +62,7 @@ pub fn build_manifest<K: Scheme>(
     ensures means { (rs : List ReportData) → AreReportEnvelopes reports.now rs
         → IfOk result (λ t. MeansBody (string_bytes t) (built (K.rules scheme.now) secret.now vehicle.now primary.now counter rs reports.now)) }
 {
-    canonical_laws();
+    envelope_laws();
     moment_laws();
     vehicle.text();
     primary.text();

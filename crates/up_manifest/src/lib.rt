@@ -10,6 +10,7 @@ mod writing;
 ghost use Rattle.up_manifest.specs.Laws.{BodiesAreRead, BodiesMeanOneOrFail, SignedTextsMean};
 
 use up_canon::canonical_laws;
+use up_sign::laws::envelope_laws;
 
 /// A body means one manifest with its envelope, or nothing and then it has one first fault; and the text that the
 /// Primary signed has the whole manifest in it.
@@ -19,4 +20,5 @@ pub fn body_laws()
     ensures signed { SignedTextsMean }
 {
     canonical_laws();
+    envelope_laws();
 }

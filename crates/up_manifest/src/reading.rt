@@ -1,7 +1,9 @@
 //! Reading reports and manifests.
+ghost use Rattle.std.specs.Prelude.{◌≡◌, ◌<◌, Err, length};
 ghost use Rattle.up_canon.specs.Members.{object_of_map};
 ghost use Rattle.up_canon.specs.Refusals.{Gives};
-ghost use Rattle.up_manifest.specs.Manifests.{installed_in, report_in, reports_in, manifest_in, incoming_in};
+ghost use Rattle.up_canon.specs.declared.refusal.Refusal.TheVariants.{TooLarge};
+ghost use Rattle.up_manifest.specs.Manifests.{largest_body, installed_in, report_in, reports_in, manifest_in, incoming_in};
 
 use crate::manifest::{Incoming, Manifest};
 use crate::report::{Installed, Report, SignedReport};
@@ -26,10 +28,11 @@ const MOST_REPORTS: usize = 64;
 /// The vehicle version manifest that a body means, with the envelope that its Primary signed. The faults, in their
 /// order: `TooLarge` above 262,144 bytes; `NotJson`; `BadShape` of the envelope; `NotCanonical` of the signed value;
 /// `BadShape` of the manifest's own members, then report by report of a report's envelope, and of its members.
-/// `Memory` where memory was refused.
+/// `Memory` where memory was refused, though never in place of `TooLarge`.
 #[tactic(auto, unfolding(crate::specs::Manifests::incoming_in, up_canon::specs::Steps::and_then))]
 pub fn read_manifest(alloc: Global, body: &[u8]) -> Result<Incoming, Refusal>
-    ensures { Gives result (incoming_in body.now) }
+    ensures value { Gives result (incoming_in body.now) }
+    ensures large { largest_body < length body.now → result ≡ Err TooLarge }
 {
     let value = value_within(alloc, body, LARGEST_BODY)?;
     let (envelope, payload) = open(alloc, &value, "body")?;
