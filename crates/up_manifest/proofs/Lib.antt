@@ -4,6 +4,7 @@ pub mod BodyReading
 pub mod Faults
 pub mod Laws
 pub mod Printable
+pub mod Joined
 pub mod Values
 pub mod Lengths
 pub mod Built

@@ -19,8 +19,6 @@ use Rattle.up_sign.specs.Meaning.{HasHex, EachMeans, MeansEnvelope}
 use Rattle.up_sign.specs.Schemes.{is_byte}
 use Rattle.up_sign.specs.declared.envelope.Signature.{Signature}
 use Rattle.up_sign.specs.declared.envelope.Envelope.{Envelope}
-use Rattle.up_sign.proofs.Sealed.{are_printable-hex}
-use Rattle.up_sign.proofs.Written.{listed_text}
 use Rattle.up_manifest.specs.Building.{hashes_value, installed_value, report_value, report_text, ReportFits, IsReportEnvelope, AreReportEnvelopes, listed, manifest_text, signed_reports}
 use Rattle.up_manifest.specs.Manifests.{most_reports}
 use Rattle.up_manifest.specs.Meaning.{MeansInstalled, MeansReport, MeansSignedReport, MeansManifest}
@@ -29,7 +27,8 @@ use Rattle.up_manifest.specs.declared.report.Report.{Report}
 use Rattle.up_manifest.specs.declared.report.SignedReport.{SignedReport}
 use Rattle.up_manifest.specs.declared.manifest.Manifest.{Manifest}
 use Rattle.up_manifest.proofs.BodyReading.{opened_read}
-use Rattle.up_manifest.proofs.Printable.{is_plain_text, ident_prints, file_name_prints, note_prints}
+use Rattle.up_manifest.proofs.Joined.{listed_text}
+use Rattle.up_manifest.proofs.Printable.{is_plain_text, ident_prints, file_name_prints, note_prints, are_printable-hex}
 
 -- ---- canonical text
 
