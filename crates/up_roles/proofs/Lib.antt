@@ -5,3 +5,7 @@ pub mod Oks
 pub mod Plain
 pub mod PlainFiles
 pub mod Repeats
+pub mod Ascii
+pub mod ReadAgain
+pub mod Heads
+pub mod ReadFiles

@@ -17,7 +17,7 @@ pub record IsPlain (n : ℕ) (d : Data) : Type 0 where
   pub plain : is_plain d ≡ true
   pub shallow : depth d ≤ n
 
-both : (a b : Bool) → a ≡ true → b ≡ true → (a && b) ≡ true
+pub both : (a b : Bool) → a ≡ true → b ≡ true → (a && b) ≡ true
 both a b h k = rw (h, k) refl
 
 -- ---- objects
@@ -117,27 +117,31 @@ pub all-more : {A : Type 0} (p q : A → Bool) (xs : List A) → ((x : A) → p 
 all-more p q [] g h = refl
 all-more p q (x ∷ xs) g h = let r = and_parts (p x) _ h in both _ _ (g x r.0) (all-more p q xs g r.1)
 
-abbrev all_print : ℕ → Bool
-all_print zero = true
-all_print (suc n) = is_printable (slice_index lower_digits n) && all_print n
+-- each digit passes a test
+abbrev pub digits_pass : (ℕ → Bool) → ℕ → Bool
+digits_pass p zero = true
+digits_pass p (suc n) = p (slice_index lower_digits n) && digits_pass p n
 
-print-below : (n k : ℕ) → all_print n ≡ true → k < n → is_printable (slice_index lower_digits k) ≡ true
-print-below zero k h lt = absurd (omega arith)
-print-below (suc n) k h lt =
-    let parts = and_parts (is_printable (slice_index lower_digits n)) (all_print n) h in
+digit-below : (p : ℕ → Bool) (n k : ℕ) → digits_pass p n ≡ true → k < n → p (slice_index lower_digits k) ≡ true
+digit-below p zero k h lt = absurd (omega arith)
+digit-below p (suc n) k h lt =
+    let parts = and_parts (p (slice_index lower_digits n)) (digits_pass p n) h in
     elim (cases_lt k n) [
-      | inl below ↦ print-below n k parts.1 below
+      | inl below ↦ digit-below p n k parts.1 below
       | inr top ↦
           let e : k ≡ n = omega arith in
           rw e parts.0
     ]
 
-pub printable-hex : (xs : List ℕ) → list_all (λ x. nat_lt x 256) xs ≡ true → is_printable_text (encode_lower xs) ≡ true
+pub all-hex : (p : ℕ → Bool) → digits_pass p 16 ≡ true → (xs : List ℕ) → list_all (λ x. nat_lt x 256) xs ≡ true → list_all p (encode_lower xs) ≡ true
 unfolding encode_with
-printable-hex [] h = refl
-printable-hex (b ∷ xs) h =
-    let p = and_parts (nat_lt b 256) _ h in
-    let small = p.0 in
+all-hex p digits [] h = refl
+all-hex p digits (b ∷ xs) h =
+    let q = and_parts (nat_lt b 256) _ h in
+    let small = q.0 in
     let high : b / 16 < 16 = grind (arith, nat_tests) in
     let low : b % 16 < 16 = omega arith in
-    both _ _ (print-below 16 (b / 16) refl high) (both _ _ (print-below 16 (b % 16) refl low) (printable-hex xs p.1))
+    both _ _ (digit-below p 16 (b / 16) digits high) (both _ _ (digit-below p 16 (b % 16) digits low) (all-hex p digits xs q.1))
+
+pub printable-hex : (xs : List ℕ) → list_all (λ x. nat_lt x 256) xs ≡ true → is_printable_text (encode_lower xs) ≡ true
+printable-hex xs h = all-hex is_printable refl xs h

@@ -5,3 +5,4 @@ pub mod Targets
 pub mod Snapshot
 pub mod Timestamp
 pub mod Lifetimes
+pub mod Laws

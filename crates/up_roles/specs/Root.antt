@@ -1,5 +1,5 @@
 -- Root files: the keys of the four roles, and their thresholds.
-use Rattle.std.specs.Prelude.{ℕ, ◌++◌, ◌&&◌, ◌||◌, List, [], ◌∷◌, Bool, bytes_eq, None, option_map, unwrap_or, length, map, codes, Result, Ok, String, string_bytes}
+use Rattle.std.specs.Prelude.{ℕ, ◌++◌, ◌&&◌, ◌||◌, List, [], ◌∷◌, Bool, true, not, bytes_eq, None, option_map, unwrap_or, length, map, codes, Result, Ok, String, string_bytes}
 use Rattle.std.specs.declared.alloc.Global.{Global}
 use Rattle.std.specs.List.{list_all, list_any, find}
 use Rattle.serde_json.specs.Data.{Data, string, Members, no_members, member, put}
@@ -73,6 +73,14 @@ role_fits role = is_from_to 1 4 (length role.keys) && role_is_met role && list_a
 abbrev pub root_fits : RootFile → Bool
 root_fits file =
     version_fits file.version && role_fits file.root && role_fits file.targets && role_fits file.snapshot && role_fits file.timestamp
+
+-- keys of one identifier have one method and one shown text
+abbrev pub agree : RootKey → RootKey → Bool
+agree x y = not (bytes_eq x.keyid y.keyid) || (bytes_eq x.method y.method && bytes_eq x.shown y.shown)
+
+abbrev pub keys_agree : List RootKey → Bool
+keys_agree [] = true
+keys_agree (key ∷ keys) = list_all (agree key) keys && keys_agree keys
 
 -- what the types of the fields keep
 abbrev pub root_is_typed : RootFile → Bool

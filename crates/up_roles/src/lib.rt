@@ -4,6 +4,7 @@
 mod copies;
 mod distinct;
 mod file;
+pub mod laws;
 pub mod lifetimes;
 mod parts;
 pub mod payload;

@@ -1,0 +1,91 @@
+-- What was sealed is read and opened again.
+use Rattle.std.proofs.Common.{◌≡◌, ℕ, ◌≤◌, List, [], ◌∷◌, ◌++◌, true, Some, Ok, Result, length, map, refl, ap, ◌∙◌, arith}
+use Rattle.std.specs.Prelude.{IsTrue, IsAscii, codes, nat_le}
+use Rattle.std.specs.List.{list_all}
+use Rattle.std.proofs.lemmas.Bool.{and_parts}
+use Rattle.std.proofs.lemmas.Bool.Decides.{nat_tests}
+use Rattle.std.proofs.lemmas.Str.{IsAscii-append, IsUtf8-from_ascii, is_utf8-from_IsUtf8}
+use Rattle.serde_json.specs.Data.{Data, string}
+use Rattle.serde_json.specs.Read.{read}
+use Rattle.up_canon.specs.Build.{list_with, hex_value}
+use Rattle.up_canon.specs.Canon.{has_canon, is_plain, text}
+use Rattle.up_canon.specs.JsonText.{value_in, value_within}
+use Rattle.up_canon.specs.Moments.{MomentsAreRead}
+use Rattle.up_canon.specs.Names.{is_from_to, is_short_text}
+use Rattle.up_canon.specs.Steps.{or_error}
+use Rattle.up_canon.specs.declared.refusal.Refusal.{Refusal}
+use Rattle.up_canon.specs.declared.refusal.Refusal.TheVariants.{NotJson}
+use Rattle.up_sign.specs.Envelopes.{sealed}
+use Rattle.up_sign.specs.Formats.{signature_value, signature_fits, envelope_text, envelope_fits, has_bytes, is_object}
+use Rattle.up_sign.specs.Laws.{TextsAreRead, SealedFits, envelope_value}
+use Rattle.up_sign.specs.Reading.{Opened, opened_in}
+use Rattle.up_sign.specs.Schemes.{Rules, is_byte}
+use Rattle.up_sign.specs.declared.envelope.Envelope.{Envelope}
+use Rattle.up_sign.specs.declared.envelope.Signature.{Signature}
+use Rattle.up_sign.proofs.Steps.{bind-ok}
+use Rattle.up_roles.specs.Laws.{AreSigners}
+use Rattle.up_roles.specs.Payload.{largest_file, sealed_text, file_in}
+use Rattle.up_roles.proofs.Ascii.{small-ascii, text-ascii}
+use Rattle.up_roles.proofs.Heads.{unless-there}
+use Rattle.up_roles.proofs.Plain.{IsPlain, AllItems, plain-object, plain-list, plain-string, printable-hex}
+
+-- what is known of the crates below
+pub record Lower : Type 0 where
+  pub texts : TextsAreRead
+  pub limits : SealedFits
+  pub moments : MomentsAreRead
+
+-- ---- the text of an envelope is ASCII
+
+plain-signature : (s : Signature) → signature_fits s ≡ true → list_all is_byte s.sig ≡ true → IsPlain 1 (signature_value s)
+unfolding signature_value
+plain-signature s fits bytes =
+    let p = and_parts (is_short_text 1 128 s.keyid) _ fits in
+    let q = and_parts (is_short_text 1 64 s.method) _ p.1 in
+    plain-object 0 ((codes "keyid", string s.keyid) ∷ (codes "method", string s.method) ∷ (codes "sig", hex_value s.sig) ∷ [])
+    (refl, plain-string s.keyid (and_parts _ _ p.0).1, (refl, plain-string s.method (and_parts _ _ q.0).1, (refl, plain-string _ (printable-hex s.sig bytes), tt)))
+
+plain-signatures : (ss : List Signature) → list_all signature_fits ss ≡ true → list_all (λ s. list_all is_byte s.sig) ss ≡ true → AllItems 1 (map signature_value ss)
+plain-signatures [] fits bytes = tt
+plain-signatures (s ∷ ss) fits bytes =
+    let p = and_parts (signature_fits s) _ fits in
+    let q = and_parts (list_all is_byte s.sig) _ bytes in
+    (plain-signature s p.0 q.0, plain-signatures ss p.1 q.1)
+
+envelope-ascii : (e : Envelope) → envelope_fits e ≡ true → has_bytes e ≡ true → IsAscii e.signed → IsAscii (envelope_text e)
+unfolding envelope_text
+envelope-ascii e fits bytes signed =
+    let listed = list_with (map signature_value e.signatures) in
+    let p = and_parts (is_from_to 1 8 (length e.signatures)) _ fits in
+    let plain = plain-list 1 (map signature_value e.signatures) (plain-signatures e.signatures p.1 bytes) in
+    IsAscii-append (((codes "{\"signatures\":" ++ text listed) ++ codes ",\"signed\":") ++ e.signed) (codes "}")
+    (IsAscii-append ((codes "{\"signatures\":" ++ text listed) ++ codes ",\"signed\":") e.signed
+      (IsAscii-append (codes "{\"signatures\":" ++ text listed) (codes ",\"signed\":") (IsAscii-append (codes "{\"signatures\":") (text listed) (small-ascii (codes "{\"signatures\":") refl) (text-ascii listed plain.plain)) (small-ascii (codes ",\"signed\":") refl))
+      signed)
+    (small-ascii (codes "}") refl)
+
+-- ---- and is read as the envelope that was sealed
+
+value-there : (most : ℕ) (bytes : List ℕ) (d : Data) → length bytes ≤ most → IsAscii bytes → read bytes ≡ Some d → value_within most bytes ≡ Ok d
+unfolding value_within value_in
+value-there most bytes d small ascii reads =
+    let le : nat_le (length bytes) most ≡ true = grind (arith, nat_tests) in
+    let is = is_utf8-from_IsUtf8 bytes (IsUtf8-from_ascii bytes ascii) in
+    bind-ok _ _ tt (unless-there _ _ le) ∙ rw is (ap (or_error NotJson) reads)
+
+file-there : {F : Type 0} (meaning : Data → Result F Refusal) (bytes : List ℕ) (d : Data) (o : Opened) (file : F)
+    → value_within largest_file bytes ≡ Ok d → opened_in (codes "body") d ≡ Ok o → meaning o.payload ≡ Ok file → file_in meaning bytes ≡ Ok (file, o.envelope)
+unfolding file_in
+file-there meaning bytes d o file a b c = bind-ok _ _ d a ∙ bind-ok _ _ o b ∙ bind-ok _ _ file c
+
+pub read-again : {F : Type 0} (meaning : Data → Result F Refusal) (k : Rules) (secrets : List (List ℕ)) (payload : Data) (file : F)
+    → Lower → AreSigners k secrets → has_canon payload ≡ true → IsTrue (is_object payload) → meaning payload ≡ Ok file
+    → length (sealed_text k secrets payload) ≤ largest_file → file_in meaning (sealed_text k secrets payload) ≡ Ok (file, sealed k secrets (text payload))
+unfolding sealed_text
+read-again meaning k secrets payload file law signers canon object means small =
+    let e = sealed k secrets (text payload) in
+    let limits = law.limits k secrets (text payload) signers.scheme signers.fit signers.some signers.few in
+    let read = law.texts (codes "body") e payload limits.0 limits.1 (rw canon refl, object) in
+    let ascii = envelope-ascii e limits.0 limits.1 (text-ascii payload (and_parts (is_plain payload) _ canon).0) in
+    file-there meaning (envelope_text e) (envelope_value e payload) (record { envelope = e; payload = payload }) file
+    (value-there largest_file (envelope_text e) (envelope_value e payload) small ascii read.0) read.1 means
