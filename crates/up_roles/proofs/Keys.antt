@@ -10,7 +10,7 @@ put_keys-append : (xs ys : List RootKey) (ms : Members) → put_keys (xs ++ ys) 
 put_keys-append [] ys ms = refl
 put_keys-append (x ∷ xs) ys ms = ap (λ (rest : Members). put x.keyid (key_member x).1 rest) (put_keys-append xs ys ms)
 
-members_with-keys : (xs : List RootKey) → members_with (map key_member xs) ≡ put_keys xs no_members
+pub members_with-keys : (xs : List RootKey) → members_with (map key_member xs) ≡ put_keys xs no_members
 members_with-keys [] = refl
 members_with-keys (x ∷ xs) = ap (λ (rest : Members). put x.keyid (key_member x).1 rest) (members_with-keys xs)
 

@@ -9,3 +9,7 @@ pub mod Ascii
 pub mod ReadAgain
 pub mod Heads
 pub mod ReadFiles
+pub mod Lists
+pub mod ReadTargets
+pub mod Gathered
+pub mod ReadRoot

@@ -86,7 +86,7 @@ is_old n false e h = sym h ∙ e
 
 -- ---- the ECUs that were seen, as a set
 
-bytes_eq-sym : (x y : List ℕ) → bytes_eq x y ≡ bytes_eq y x
+pub bytes_eq-sym : (x y : List ℕ) → bytes_eq x y ≡ bytes_eq y x
 bytes_eq-sym x y = by_tests (bytes_eq x y) (bytes_eq y x) refl refl
   where
     by_tests : (a b : Bool) → bytes_eq x y ≡ a → bytes_eq y x ≡ b → a ≡ b

@@ -1,14 +1,17 @@
 //! Laws of role files.
-ghost use Rattle.up_roles.specs.Laws.{TimestampsAreRead, SnapshotsAreRead};
+ghost use Rattle.up_roles.specs.Laws.{RootsAreRead, TargetsAreRead, SnapshotsAreRead, TimestampsAreRead};
 
 use up_canon::canonical_laws;
 use up_canon::moment::moment_laws;
 use up_sign::laws::envelope_laws;
 
-/// What was written is read again as the same file, with the envelope that was sealed.
+/// What was written is read again as the same file, with the envelope that was sealed. The file has to be within the
+/// limits of its role and its text within those of a file; in a Root file keys of one identifier have to be one key.
 pub fn role_laws()
-    ensures timestamp { TimestampsAreRead }
+    ensures root { RootsAreRead }
+    ensures targets { TargetsAreRead }
     ensures snapshot { SnapshotsAreRead }
+    ensures timestamp { TimestampsAreRead }
 {
     canonical_laws();
     moment_laws();
