@@ -39,7 +39,7 @@ put-members k (l ∷ ls) = by_order (slice_cmp nat_cmp k.keyid l.keyid) refl (pu
   where
     by_order : (o : Ordering) → slice_cmp nat_cmp k.keyid l.keyid ≡ o → put k.keyid (key_member k).1 (members_of ls) ≡ members_of (put_key k ls)
         → match_ordering o (member k.keyid (key_member k).1 (members_of (l ∷ ls))) (member l.keyid (key_member k).1 (members_of ls)) (member l.keyid (key_member l).1 (put k.keyid (key_member k).1 (members_of ls)))
-            ≡ members_of (match_ordering o (k ∷ l ∷ ls) (k ∷ ls) (l ∷ put_key k ls))
+        ≡ members_of (match_ordering o (k ∷ l ∷ ls) (k ∷ ls) (l ∷ put_key k ls))
     by_order Less e rest = refl
     by_order Equal e rest = ap (λ (id : List ℕ). member id (key_member k).1 (members_of ls)) (sym (same_id k l e))
     by_order Greater e rest = ap (λ (ms : Members). member l.keyid (key_member l).1 ms) rest

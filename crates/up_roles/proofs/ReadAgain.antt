@@ -60,8 +60,8 @@ envelope-ascii e fits bytes signed =
     let plain = plain-list 1 (map signature_value e.signatures) (plain-signatures e.signatures p.1 bytes) in
     IsAscii-append (((codes "{\"signatures\":" ++ text listed) ++ codes ",\"signed\":") ++ e.signed) (codes "}")
     (IsAscii-append ((codes "{\"signatures\":" ++ text listed) ++ codes ",\"signed\":") e.signed
-      (IsAscii-append (codes "{\"signatures\":" ++ text listed) (codes ",\"signed\":") (IsAscii-append (codes "{\"signatures\":") (text listed) (small-ascii (codes "{\"signatures\":") refl) (text-ascii listed plain.plain)) (small-ascii (codes ",\"signed\":") refl))
-      signed)
+    (IsAscii-append (codes "{\"signatures\":" ++ text listed) (codes ",\"signed\":") (IsAscii-append (codes "{\"signatures\":") (text listed) (small-ascii (codes "{\"signatures\":") refl) (text-ascii listed plain.plain)) (small-ascii (codes ",\"signed\":") refl))
+    signed)
     (small-ascii (codes "}") refl)
 
 -- ---- and is read as the envelope that was sealed

@@ -1,7 +1,6 @@
 //! Laws of role files.
 ghost use Rattle.up_roles.specs.Laws.{RootsAreRead, TargetsAreRead, SnapshotsAreRead, TimestampsAreRead};
 
-use up_canon::canonical_laws;
 use up_canon::moment::moment_laws;
 use up_sign::laws::envelope_laws;
 
@@ -13,7 +12,6 @@ pub fn role_laws()
     ensures snapshot { SnapshotsAreRead }
     ensures timestamp { TimestampsAreRead }
 {
-    canonical_laws();
     moment_laws();
     envelope_laws();
 }

@@ -6,6 +6,7 @@ mod distinct;
 mod file;
 pub mod laws;
 pub mod lifetimes;
+mod limits;
 mod parts;
 pub mod payload;
 pub mod repository;

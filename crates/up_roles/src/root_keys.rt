@@ -74,7 +74,7 @@ fn shown_at<'a>(
     }
 }
 
-fn is_short(text: &str, least: usize, most: usize) -> bool
+pub(crate) fn is_short(text: &str, least: usize, most: usize) -> bool
     ensures { result ≡ is_short_text_of least most text.now }
 {
     text.len() >= least && text.len() <= most && has_printable_bytes(text.as_bytes())

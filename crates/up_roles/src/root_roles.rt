@@ -84,7 +84,7 @@ fn find_key<'a>(keys: &'a [RootKey], keyid: &str) -> Option<&'a RootKey>
     keys.iter().find(|key| key.keyid.as_str() == keyid)
 }
 
-fn has_distinct_ids(keys: &[RootKey]) -> bool
+pub(crate) fn has_distinct_ids(keys: &[RootKey]) -> bool
     ensures { result ≡ are_distinct (map (λ key. key.keyid) keys.now) }
 {
     for (i, key) in keys.iter().enumerate() {

@@ -201,7 +201,7 @@ fn each_name(alloc: Global, values: &[Value]) -> Result<Listed<Ident>, Refusal>
 }
 
 /// Whether no ECU stands twice.
-fn has_distinct_ecus(alloc: Global, targets: &[Target]) -> Result<bool, AllocError>
+pub(crate) fn has_distinct_ecus(alloc: Global, targets: &[Target]) -> Result<bool, AllocError>
     ensures { IfOk result (λ distinct. distinct ≡ are_distinct_names (ecus_of targets.now)) }
 {
     let mut seen = BTreeSet::new(alloc);
