@@ -12,6 +12,7 @@ pub mod Machine
 pub mod Repeats
 pub mod Sound
 pub mod Rows
+pub mod Decisions
 pub mod Reads
 pub mod Laws
 pub mod RepeatLaws

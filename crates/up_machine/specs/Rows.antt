@@ -1,11 +1,15 @@
 -- The rows of a state: what is kept of it, one for each thing.
-use Rattle.std.specs.Prelude.{ℕ, Option, option_map, unwrap_or, length}
+use Rattle.std.specs.Prelude.{ℕ, ◌==◌, Option, option_map, option_and_then, unwrap_or, length, map, find}
+use Rattle.std.specs.List.{enumerate_from}
+use Rattle.std.specs.FinMap as table
 use Rattle.up_canon.specs.Names.{Name}
 use Rattle.up_sign.specs.Schemes.{Rules}
 use Rattle.up_machine.specs.declared.rows.Founding.{Founding}
 use Rattle.up_machine.specs.declared.rows.VehicleRow.{VehicleRow}
 use Rattle.up_machine.specs.declared.rows.EcuRow.{EcuRow}
+use Rattle.up_machine.specs.declared.rows.VehicleRows.{VehicleRows}
 use Rattle.up_machine.specs.declared.rows.Kept.{Kept}
+use Rattle.up_machine.specs.declared.answer.Reply.{Reply}
 use Rattle.up_machine.specs.declared.vehicle.NewEcu.{NewEcu}
 use Rattle.up_machine.specs.State.{Entry, Vehicle, State, root_at, version, last_counter, last_report, installed_on}
 use Rattle.up_machine.specs.Replies.{reply_text}
@@ -40,3 +44,19 @@ kept_row k s vehicle number e = record {
   plan = e.plan;
   reply = reply_text k s vehicle number e;
 }
+
+abbrev pub rows_of : Name → Vehicle → VehicleRows
+rows_of name v = record { vehicle = vehicle_row name v; ecus = map (ecu_row v) v.ecus }
+
+-- none of an unknown vehicle
+abbrev pub vehicle_rows : State → Name → Option VehicleRows
+vehicle_rows s name = option_map (rows_of name) (table.get s.vehicles name)
+
+-- the row of the vehicle's entry with this counter
+abbrev pub kept_at : Rules → State → Name → ℕ → Option Kept
+kept_at k s name counter =
+    option_and_then (λ v. option_map (λ e. kept_row k s name e.0 e.1) (find (λ e. e.1.counter == counter) (enumerate_from 1 v.entries))) (table.get s.vehicles name)
+
+-- the reply that a kept row holds
+abbrev pub reply_kept : Kept → Reply
+reply_kept row = record { vehicle = row.vehicle; version = row.version; targets = length row.plan.assigned; withheld = row.plan.withheld; text = row.reply }

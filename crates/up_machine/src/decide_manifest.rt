@@ -1,0 +1,46 @@
+//! The decision on a manifest that a vehicle delivers.
+ghost use Rattle.std.specs.Prelude.{◌≡◌, ◌≤◌, option_copied};
+ghost use Rattle.std.specs.FinMap as table;
+ghost use Rattle.up_canon.specs.Moments.{last_command_moment};
+ghost use Rattle.up_machine.specs.State.{State};
+ghost use Rattle.up_machine.specs.Sound.{IsSound};
+ghost use Rattle.up_machine.specs.Rows.{founding_row, vehicle_rows, kept_at};
+ghost use Rattle.up_machine.specs.Decisions.{IsRead, decide_incoming, GivesDelivered};
+
+use crate::decision::Delivered;
+use crate::rows::{Founding, Kept, VehicleRows};
+use std::alloc::Global;
+use up_canon::moment::Moment;
+use up_canon::refusal::Refusal;
+use up_canon::table::Table;
+use up_manifest::manifest::Incoming;
+use up_plan::campaign::Campaign;
+use up_plan::image::Image;
+use up_sign::scheme::Scheme;
+
+/// Decides on a manifest, as it was read, at a command's moment: `NotFounded`; `UnknownVehicle`; `WrongPrimary`;
+/// `BadManifestSignature`; then `Repeat` where the vehicle has accepted the same canonical signed text, and else `Stale`
+/// with the last counter, `UnknownEcu`, `DuplicateEcu`, `MissingEcu`, `BadReportSignature`, `ReportReplayed`; `Memory`.
+/// The rows are those of its vehicle, the kept one with its counter, and all images and campaigns.
+pub fn decide_manifest<K: Scheme>(
+    alloc: Global,
+    scheme: &K,
+    at: Moment,
+    incoming: &Incoming,
+    founding: &Option<Founding>,
+    vehicle: Option<&VehicleRows>,
+    kept: Option<&Kept>,
+    images: &Table<Image>,
+    campaigns: &[Campaign],
+) -> Result<Delivered, Refusal>
+    requires moment { at ≤ last_command_moment }
+    requires read { IsRead incoming.now }
+    ensures { (s : State) → IsSound (K.rules scheme.now) s → founding.now ≡ founding_row s
+        → option_copied vehicle.entry ≡ vehicle_rows s incoming.now.manifest.vehicle
+        → option_copied kept.entry ≡ kept_at (K.rules scheme.now) s incoming.now.manifest.vehicle incoming.now.manifest.counter
+        → images.now ≡ s.images → campaigns.now ≡ table.values s.campaigns
+        → GivesDelivered (K.rules scheme.now) s (option_copied kept.entry) incoming.now.manifest.vehicle result
+        (decide_incoming (K.rules scheme.now) s at incoming.now) }
+{
+    Err(Refusal::Memory)
+}
