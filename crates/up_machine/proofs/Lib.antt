@@ -20,3 +20,4 @@ pub mod Commuting
 pub mod Installing
 pub mod Signing
 pub mod Serving
+pub mod Makings

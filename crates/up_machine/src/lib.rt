@@ -11,5 +11,6 @@ pub mod decide_vehicle;
 pub mod decision;
 pub mod keys;
 pub mod laws;
+pub mod making;
 pub mod rows;
 pub mod vehicle;
