@@ -1,2 +1,3 @@
 pub mod Digests
 pub mod Jobs
+pub mod LineAnswers

@@ -3,6 +3,9 @@
 
 pub mod digest;
 pub mod job;
+pub mod line_answer;
+pub mod script;
+mod show;
 #[cfg(test)]
 mod tests;
 pub mod words;
