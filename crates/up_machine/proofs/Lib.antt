@@ -21,3 +21,9 @@ pub mod Installing
 pub mod Signing
 pub mod Serving
 pub mod Makings
+pub mod Distinct
+pub mod RootMakings
+pub mod NewFiles
+pub mod FoundingRows
+pub mod Registers
+pub mod RootDecisions

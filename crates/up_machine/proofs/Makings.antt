@@ -1,16 +1,16 @@
 -- Which secrets sign the files of a role, and how long files last.
-use Rattle.std.proofs.Common.{◌≡◌, ℕ, ◌≤◌, List, Bool, true, false, refl, arith}
+use Rattle.std.proofs.Common.{◌≡◌, ◌≤◌, true, arith}
 use Rattle.std.specs.Prelude.{◌&&◌, length, nat_le, is_none, IsTrue}
 use Rattle.std.specs.List.{list_all}
 use Rattle.std.proofs.lemmas.Bool.{leb-true}
-use Rattle.up_canon.specs.Names.{is_from_to, first_repeated}
+use Rattle.up_canon.specs.Names.{is_from_to}
 use Rattle.up_sign.specs.Schemes.{Rules}
 use Rattle.up_roles.specs.declared.repository.Repository.{Repository}
 use Rattle.up_roles.specs.declared.repository.Repository.TheVariants.{Director, Image}
 use Rattle.up_roles.specs.Lifetimes.{lifetimes}
 use Rattle.up_machine.specs.declared.keys.RoleSecrets.{RoleSecrets}
 use Rattle.up_machine.specs.declared.keys.RepoKeys.{RepoKeys}
-use Rattle.up_machine.specs.Keys.{secret_fits, keys_fit, threshold_fits, role_fits, repository_fits}
+use Rattle.up_machine.specs.Keys.{secret_fits, threshold_fits, role_fits, repository_fits}
 use Rattle.up_machine.proofs.Lists.{and_left, and_right, all_weaker}
 
 -- ---- secrets
@@ -20,12 +20,14 @@ secrets_fit k role h =
     let each : list_all (secret_fits k) role.keys ≡ true = and_right (is_from_to 1 4 (length role.keys)) _ (and_left _ (is_none _) (and_left _ (threshold_fits role) h)) in
     all_weaker (secret_fits k) k.secret_fits (λ s fit. and_right (is_from_to 1 256 (length s)) _ fit) role.keys each
 
--- at least one, and few enough for an envelope
-pub secrets_are_few : (k : Rules) (role : RoleSecrets) → IsTrue (role_fits k role) → (1 ≤ length role.keys) × (length role.keys ≤ 8)
-secrets_are_few k role h =
+pub keys_are_few : (k : Rules) (role : RoleSecrets) → IsTrue (role_fits k role) → (1 ≤ length role.keys) × (length role.keys ≤ 4)
+keys_are_few k role h =
     let number : is_from_to 1 4 (length role.keys) ≡ true = and_left _ (list_all (secret_fits k) role.keys) (and_left _ (is_none _) (and_left _ (threshold_fits role) h)) in
-    let few : length role.keys ≤ 4 = leb-true _ _ (and_right (nat_le 1 (length role.keys)) _ number) in
-    (leb-true _ _ (and_left _ (nat_le (length role.keys) 4) number), omega arith)
+    (leb-true _ _ (and_left _ (nat_le (length role.keys) 4) number), leb-true _ _ (and_right (nat_le 1 (length role.keys)) _ number))
+
+-- few enough for an envelope
+pub secrets_are_few : (k : Rules) (role : RoleSecrets) → IsTrue (role_fits k role) → (1 ≤ length role.keys) × (length role.keys ≤ 8)
+secrets_are_few k role h = let few = keys_are_few k role h in (few.0, omega (arith, few.1))
 
 pub roles_fit : (k : Rules) (keys : RepoKeys) → IsTrue (repository_fits k keys)
     → IsTrue (role_fits k keys.root) × IsTrue (role_fits k keys.targets) × IsTrue (role_fits k keys.snapshot) × IsTrue (role_fits k keys.timestamp)

@@ -11,6 +11,7 @@ pub mod Deliveries
 pub mod Machine
 pub mod Repeats
 pub mod Sound
+pub mod Registers
 pub mod Rows
 pub mod Decisions
 pub mod Reads

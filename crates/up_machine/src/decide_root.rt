@@ -1,6 +1,7 @@
 //! Decisions on new root versions: foundings and rotations.
-ghost use Rattle.std.specs.Prelude.{◌≡◌, ◌+◌, ◌≤◌};
+ghost use Rattle.std.specs.Prelude.{◌≡◌, ◌+◌, ◌≤◌, IfSome, IsTrue};
 ghost use Rattle.up_canon.specs.Moments.{last_command_moment};
+ghost use Rattle.up_machine.specs.Keys.{key_set_fits};
 ghost use Rattle.up_machine.specs.State.{State};
 ghost use Rattle.up_machine.specs.Sound.{IsSound};
 ghost use Rattle.up_machine.specs.Rows.{founding_row};
@@ -8,7 +9,9 @@ ghost use Rattle.up_machine.specs.Repositories.{decide_found as decide_found_in,
 ghost use Rattle.up_machine.specs.Decisions.{GivesRows, HasRootRows};
 
 use crate::decision::RootRows;
+use crate::key_checks::check_keys;
 use crate::keys::KeySet;
+use crate::new_files::root_rows;
 use crate::rows::Founding;
 use std::alloc::Global;
 use up_canon::moment::Moment;
@@ -32,7 +35,11 @@ pub fn decide_found<K: Scheme>(
         → GivesRows (HasRootRows (K.rules scheme.now) (stamped (with_root s at keys.now) at 1)) (stamped (with_root s at keys.now) at 1) result
         (decide_found_in (K.rules scheme.now) s at keys.now) }
 {
-    Err(Refusal::Memory)
+    check_keys(alloc, scheme, keys)?;
+    if founding.is_some() {
+        return Err(Refusal::AlreadyFounded);
+    }
+    Ok(root_rows(alloc, scheme, 1, keys, at, None, 1, images.values())?)
 }
 
 /// Decides on a rotation, at a command's moment: `BadShape` as in a founding; `NotFounded`; `RootFull` after 64 root
@@ -45,10 +52,30 @@ pub fn decide_rotate<K: Scheme>(
     founding: &Option<Founding>,
     images: &Table<Image>,
 ) -> Result<RootRows, Refusal>
-    requires { at ≤ last_command_moment }
+    requires moment { at ≤ last_command_moment }
+    requires keys { IfSome founding.now (λ f. IsTrue (key_set_fits (K.rules scheme.now) f.keys)) }
     ensures { (s : State) → IsSound (K.rules scheme.now) s → founding.now ≡ founding_row s → images.now ≡ s.images
         → GivesRows (HasRootRows (K.rules scheme.now) (stamped (with_root s at keys.now) at (s.image_version + 1))) (stamped (with_root s at keys.now) at (s.image_version + 1)) result
         (decide_rotate_in (K.rules scheme.now) s at keys.now) }
 {
-    Err(Refusal::Memory)
+    check_keys(alloc, scheme, keys)?;
+    let Some(old) = founding else {
+        return Err(Refusal::NotFounded);
+    };
+    if old.root >= 64 {
+        return Err(Refusal::RootFull);
+    }
+    if old.image_version >= 9007199254740991 {
+        return Err(Refusal::VersionLimit);
+    }
+    Ok(root_rows(
+        alloc,
+        scheme,
+        old.root + 1,
+        keys,
+        at,
+        Some(&old.keys),
+        old.image_version + 1,
+        images.values(),
+    )?)
 }
