@@ -1,6 +1,6 @@
 -- The rows that are kept are those of one state, which is computed from them.
 use Rattle.std.proofs.Common.{◌≡◌, ℕ, zero, suc, ◌+◌, ◌-◌, List, [], ◌∷◌, Bool, true, false, cond, Option, Some, None, map, refl, sym, ap, ap₂, ◌∙◌, subst, arith}
-use Rattle.std.specs.Prelude.{option_map, unwrap_or, length, slice_get, is_some}
+use Rattle.std.specs.Prelude.{option_map, unwrap_or, length, slice_get, is_some, Result, Ok, Err, IfOk}
 use Rattle.std.specs.List.{enumerate_from}
 use Rattle.std.specs.FinMap as table
 use Rattle.std.specs.FinMap.{same_map, get-empty, nat_cmp-IsAntisymmetric, slice_cmp-IsAntisymmetric}
@@ -53,7 +53,7 @@ last_there : {A : Type 0} (x : A) (xs : List A) → is_some (slice_get (x ∷ xs
 last_there x [] = refl
 last_there x (y ∷ xs) = last_there y xs
 
-no_last : {A : Type 0} (xs : List A) → nth xs (length xs) ≡ None → length xs ≡ 0
+pub no_last : {A : Type 0} (xs : List A) → nth xs (length xs) ≡ None → length xs ≡ 0
 no_last [] h = refl
 no_last (x ∷ xs) h =
     let some = ne_eqb (length (x ∷ xs)) 0 (λ e. omega arith) in
@@ -122,3 +122,7 @@ version_read k s b name h = ap (option_map (λ (rows : VehicleRows). rows.vehicl
     by_case : (o : Option Vehicle) → option_map (λ (rows : VehicleRows). rows.vehicle.version) (option_map (rows_of name) o) ≡ option_map (λ (v : Vehicle). length v.entries) o
     by_case None = refl
     by_case (Some v) = refl
+
+pub same_if_ok : {T E : Type 0} (r : Result T E) (x y : T) → IfOk r (λ found. found ≡ x) → x ≡ y → IfOk r (λ found. found ≡ y)
+same_if_ok (Ok found) x y h is = h ∙ is
+same_if_ok (Err e) x y h is = tt

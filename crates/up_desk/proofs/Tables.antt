@@ -10,7 +10,7 @@ use Rattle.up_canon.specs.Names.{Name, Table}
 use Rattle.up_machine.proofs.Tables.{one_name}
 use Rattle.up_desk.specs.Tables.{each_value}
 
-abbrev changed : {X Y : Type 0} → (Name → X → Y) → Name × X → Name × Y
+abbrev pub changed : {X Y : Type 0} → (Name → X → Y) → Name × X → Name × Y
 changed f e = (e.0, f e.0 e.1)
 
 below_changed : {X Y : Type 0} (f : Name → X → Y) (name : Name) (es : List (Name × X)) → below_all (slice_cmp nat_cmp) name (map (changed f) es) ≡ below_all (slice_cmp nat_cmp) name es

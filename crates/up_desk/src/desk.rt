@@ -1,21 +1,24 @@
 //! The two repositories under one scheme.
-ghost use Rattle.std.specs.Prelude.{◌≡◌, IfOk, IsTrue};
+ghost use Rattle.std.specs.Prelude.{◌≡◌, ◌++◌, List, IfOk, OnOk, OnErr, IsTrue};
+ghost use Rattle.std.specs.List.{AllByRecursion};
 ghost use Rattle.up_machine.specs.State.{empty_state};
 ghost use Rattle.up_machine.specs.Repeats.{serve};
 ghost use Rattle.up_machine.specs.Reads.{ecus_of, version_of, installed as installed_in, assigned_to};
+ghost use Rattle.up_machine.specs.declared.answer.Answer.{Answer};
+ghost use Rattle.up_desk.specs.Runs.{IsRun};
 ghost use Rattle.up_desk.specs.Serving.{Holding, IsAnswered, opens_running};
 
 use crate::book::Book;
-use crate::reads::version_in;
+use crate::obeying::{answer_of, keeps_limits, obey};
+use crate::reads::{assigned_in, ecus_in, installed_of, version_in};
 use std::alloc::{AllocError, Global};
 use std::marker::Model;
 use up_canon::ident::Ident;
 use up_canon::listed::Listed;
-use up_canon::refusal::Refusal;
 use up_canon::table::Table;
 use up_machine::answer::Answer;
 use up_machine::command::Command;
-use up_machine::laws::states_stay_sound;
+use up_machine::laws::{repeats_change_nothing, states_stay_sound, vehicles_stand_apart};
 use up_manifest::report::Installed;
 use up_plan::assigned::Plan;
 use up_sign::scheme::Scheme;
@@ -78,14 +81,43 @@ impl<K: Scheme> Desk<K> {
         ensures served { IsAnswered result self.old.state self.new.state (serve (K.rules self.old.scheme) self.old.state at command.now) }
         ensures scheme { self.new.scheme ≡ self.old.scheme }
     {
-        Answer::Refused(Refusal::Memory)
+        keeps_limits(command);
+        repeats_change_nothing();
+        answer_of(obey(&mut self.book, alloc, &self.scheme, at, command))
+    }
+
+    /// Answers commands one after another, each with its moment, and appends one answer for each: where some commands are
+    /// repeated or lost (answered `Refused(Memory)`), the state is the plain machine's after the list without them, and each
+    /// other answer is the expected one. An error means that nothing was done.
+    pub fn run(
+        &mut self,
+        alloc: Global,
+        commands: &[(u64, Command)],
+        answers: &mut Vec<Answer>,
+    ) -> Result<(), AllocError>
+        requires { AllByRecursion (λ c. IsTrue (opens_running c.1)) commands.now }
+        ensures ran { OnOk result ((told : List Answer) × (answers.new.items ≡ answers.old.items ++ told)
+            × IsRun (K.rules self.old.scheme) self.old.state commands.now told self.new.state) }
+        ensures err { OnErr result ((answers.new.items ≡ answers.old.items) × (self.new.state ≡ self.old.state)) }
+        ensures scheme { self.new.scheme ≡ self.old.scheme }
+    {
+        let _ = &self.book;
+        repeats_change_nothing();
+        vehicles_stand_apart();
+        answers.reserve(commands.len())?;
+        for item in commands {
+            keeps_limits(&item.1);
+            let answer = self.call(alloc, item.0, &item.1);
+            answers.push(answer).unwrap();
+        }
+        Ok(())
     }
 
     /// The ECUs of a vehicle in inventory order, none of an unknown vehicle.
     pub fn ecus(&self, alloc: Global, vehicle: &Ident) -> Result<Option<Listed<Ident>>, AllocError>
         ensures { IfOk result (λ found. found ≡ ecus_of self.now.state vehicle.now) }
     {
-        Err(AllocError)
+        ecus_in(&self.book, alloc, vehicle)
     }
 
     /// How many manifests of a vehicle were accepted, none of an unknown vehicle.
@@ -99,13 +131,13 @@ impl<K: Scheme> Desk<K> {
     pub fn installed(&self, alloc: Global, ecu: &Ident) -> Result<Option<Installed>, AllocError>
         ensures { IfOk result (λ found. found ≡ installed_in self.now.state ecu.now) }
     {
-        Err(AllocError)
+        installed_of(&self.book, alloc, ecu)
     }
 
     /// What is assigned to a vehicle, none of an unknown vehicle and before its first manifest.
     pub fn assigned(&self, alloc: Global, vehicle: &Ident) -> Result<Option<Plan>, AllocError>
         ensures { IfOk result (λ found. found ≡ assigned_to self.now.state vehicle.now) }
     {
-        Err(AllocError)
+        assigned_in(&self.book, alloc, vehicle)
     }
 }

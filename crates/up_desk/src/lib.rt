@@ -2,5 +2,13 @@
 #![tactic(auto)]
 
 mod book;
+mod campaigns;
+mod deliveries;
 pub mod desk;
+mod files;
+mod inventory;
+mod obeying;
 mod reads;
+mod register;
+mod roots;
+mod texts;
