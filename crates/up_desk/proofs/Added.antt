@@ -96,9 +96,15 @@ new_name k s new (inr is) = is.none
 pub vehicle_done : (k : Rules) (s : State) (b after : Held) (at : ℕ) (new : NewVehicleData) (rows : VehicleRows) → Holds k s b
     → decide_vehicle k s at new ≡ Ok (done (with_vehicle s new)) → rows ≡ rows_of new.vehicle (record { primary = new.primary; ecus = new.ecus; entries = [] })
     → after ≡ with_vehicle_rows b rows → Leaves k s after (Ok Done) (decide_vehicle k s at new)
-vehicle_done k s b after at new rows holds decided same is =
-    (refl, (with_vehicle s new, decided, subst (Shows k (with_vehicle s new)) (sym (is ∙ ap (with_vehicle_rows b) same))
-    (added k s b new holds.shows (new_name k s new (vehicle_ok k s at new _ decided)))))
+vehicle_done k s b after at new rows holds decided same is = (
+  refl,
+  (
+    with_vehicle s new,
+    decided,
+    subst (Shows k (with_vehicle s new)) (sym (is ∙ ap (with_vehicle_rows b) same))
+        (added k s b new holds.shows (new_name k s new (vehicle_ok k s at new _ decided))),
+  ),
+)
 
 -- ---- whether an ECU stands in a vehicle
 
@@ -162,9 +168,14 @@ accepted k s b name v e rows h found has = record {
 pub delivery_done : (k : Rules) (s : State) (b after : Held) (name : Name) (v : Vehicle) (e : Entry) (rows : AcceptedRows) (reply : Reply) (computed : Result Outcome Refusal) → Holds k s b
     → table.get s.vehicles name ≡ Some v → computed ≡ Ok (record { answer = Replied (reply_kept rows.kept); next = with_entry s name v e })
     → HasAcceptedRows k s name v e rows → reply ≡ reply_kept rows.kept → after ≡ with_accepted_rows b rows → Leaves k s after (Ok (Replied reply)) computed
-delivery_done k s b after name v e rows reply computed holds found decided has told is =
-    (refl, (with_entry s name v e, decided ∙ ap (λ (r : Reply). Ok (record { answer = Replied r; next = with_entry s name v e })) (sym told),
-    subst (Shows k (with_entry s name v e)) (sym is) (accepted k s b name v e rows holds.shows found has)))
+delivery_done k s b after name v e rows reply computed holds found decided has told is = (
+  refl,
+  (
+    with_entry s name v e,
+    decided ∙ ap (λ (r : Reply). Ok (record { answer = Replied r; next = with_entry s name v e })) (sym told),
+    subst (Shows k (with_entry s name v e)) (sym is) (accepted k s b name v e rows holds.shows found has),
+  ),
+)
 
 pub repeat_done : (k : Rules) (s : State) (b : Held) (row : Kept) (reply : Reply) (computed : Result Outcome Refusal) → Shows k s b
     → computed ≡ Ok (record { answer = Replied (reply_kept row); next = s }) → reply ≡ reply_kept row → Leaves k s b (Ok (Replied reply)) computed

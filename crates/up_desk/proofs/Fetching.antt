@@ -116,7 +116,7 @@ roots_found : (k : Rules) (s : State) (repository : Repository) (name : Name) (r
 roots_found k s repository name rows is =
     either_found name (latest_root k s repository) (numbered_roots k s repository)
     ∙ ap₂ option_or (latest_found k s repository name (root_at s (length s.roots))
-      ∙ ap (λ (o : Option RootRow). option_map (text_in repository) (if bytes_eq (codes "root.json") name then o else None)) (sym (last_row k s s.roots)))
+    ∙ ap (λ (o : Option RootRow). option_map (text_in repository) (if bytes_eq (codes "root.json") name then o else None)) (sym (last_row k s s.roots)))
     (numbered_found k s repository name 1 s.roots)
     ∙ sym (or_mapped (text_in repository) _ _) ∙ ap (λ (r : List RootRow). option_map (text_in repository) (row_named name r)) (sym is)
 

@@ -22,29 +22,41 @@ pub image_done : (k : Rules) (s : State) (b new : Held) (at : ℕ) (image : Imag
     → new ≡ with_image_rows b image rows → Leaves k s new (Ok Done) (decide_image s at image)
 image_done k s b new at image rows holds decided has is =
     let next : State = stamped (with_image s image) at (s.image_version + 1) in
-    let later = grow_outcome k s at (AddImage image) _ decided in
-    (refl, (next, decided, subst (Shows k next) (sym is) (record {
-      founding = sym has.founding;
-      roots = holds.shows.roots;
-      images = ap (λ t. table.insert t image.file image) holds.shows.images;
-      files = sym has.files;
-      campaigns = holds.shows.campaigns;
-      vehicles = holds.shows.vehicles;
-      kept = λ name. holds.shows.kept name ∙ sym (kept_stay k s next name holds.sound later refl);
-    })))
+    let later = grow_outcome k s at (AddImage image) _ decided in (
+      refl,
+      (
+        next,
+        decided,
+        subst (Shows k next) (sym is) (record {
+          founding = sym has.founding;
+          roots = holds.shows.roots;
+          images = ap (λ t. table.insert t image.file image) holds.shows.images;
+          files = sym has.files;
+          campaigns = holds.shows.campaigns;
+          vehicles = holds.shows.vehicles;
+          kept = λ name. holds.shows.kept name ∙ sym (kept_stay k s next name holds.sound later refl);
+        }),
+      ),
+    )
 
 pub refresh_done : (k : Rules) (s : State) (b new : Held) (at version : ℕ) (rows : RegisterRows) → Holds k s b
     → decide_refresh s at version ≡ Ok (done (stamped s at version)) → HasRegisterRows k (stamped s at version) rows
     → new ≡ with_register_rows b rows → Leaves k s new (Ok Done) (decide_refresh s at version)
 refresh_done k s b new at version rows holds decided has is =
     let next : State = stamped s at version in
-    let later = grow_outcome k s at (Refresh version) _ decided in
-    (refl, (next, decided, subst (Shows k next) (sym is) (record {
-      founding = sym has.founding;
-      roots = holds.shows.roots;
-      images = holds.shows.images;
-      files = sym has.files;
-      campaigns = holds.shows.campaigns;
-      vehicles = holds.shows.vehicles;
-      kept = λ name. holds.shows.kept name ∙ sym (kept_stay k s next name holds.sound later refl);
-    })))
+    let later = grow_outcome k s at (Refresh version) _ decided in (
+      refl,
+      (
+        next,
+        decided,
+        subst (Shows k next) (sym is) (record {
+          founding = sym has.founding;
+          roots = holds.shows.roots;
+          images = holds.shows.images;
+          files = sym has.files;
+          campaigns = holds.shows.campaigns;
+          vehicles = holds.shows.vehicles;
+          kept = λ name. holds.shows.kept name ∙ sym (kept_stay k s next name holds.sound later refl);
+        }),
+      ),
+    )

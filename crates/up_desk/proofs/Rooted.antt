@@ -82,16 +82,26 @@ rooted k s b at version keys rows holds later has =
 pub found_done : (k : Rules) (s : State) (b new : Held) (at : ℕ) (keys : KeySet) (rows : RootRows) → Holds k s b
     → decide_found k s at keys ≡ Ok (done (stamped (with_root s at keys) at 1)) → HasRootRows k (stamped (with_root s at keys) at 1) rows
     → new ≡ with_root_rows b rows → Leaves k s new (Ok Done) (decide_found k s at keys)
-found_done k s b new at keys rows holds decided has is =
-    (refl, (stamped (with_root s at keys) at 1, decided,
-    subst (Shows k (stamped (with_root s at keys) at 1)) (sym is) (rooted k s b at 1 keys rows holds (grow_outcome k s at (Found keys) _ decided) has)))
+found_done k s b new at keys rows holds decided has is = (
+  refl,
+  (
+    stamped (with_root s at keys) at 1,
+    decided,
+    subst (Shows k (stamped (with_root s at keys) at 1)) (sym is) (rooted k s b at 1 keys rows holds (grow_outcome k s at (Found keys) _ decided) has),
+  ),
+)
 
 pub rotate_done : (k : Rules) (s : State) (b new : Held) (at : ℕ) (keys : KeySet) (rows : RootRows) → Holds k s b
     → decide_rotate k s at keys ≡ Ok (done (stamped (with_root s at keys) at (s.image_version + 1))) → HasRootRows k (stamped (with_root s at keys) at (s.image_version + 1)) rows
     → new ≡ with_root_rows b rows → Leaves k s new (Ok Done) (decide_rotate k s at keys)
-rotate_done k s b new at keys rows holds decided has is =
-    (refl, (stamped (with_root s at keys) at (s.image_version + 1), decided,
-    subst (Shows k (stamped (with_root s at keys) at (s.image_version + 1))) (sym is) (rooted k s b at (s.image_version + 1) keys rows holds (grow_outcome k s at (Rotate keys) _ decided) has)))
+rotate_done k s b new at keys rows holds decided has is = (
+  refl,
+  (
+    stamped (with_root s at keys) at (s.image_version + 1),
+    decided,
+    subst (Shows k (stamped (with_root s at keys) at (s.image_version + 1))) (sym is) (rooted k s b at (s.image_version + 1) keys rows holds (grow_outcome k s at (Rotate keys) _ decided) has),
+  ),
+)
 
 pub unchanged : (k : Rules) (s : State) (b new : Held) → Holds k s b → new ≡ b → Shows k s new
 unchanged k s b new holds is = subst (Shows k s) (sym is) holds.shows

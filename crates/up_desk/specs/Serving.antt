@@ -6,7 +6,7 @@ use Rattle.up_canon.specs.declared.refusal.Refusal.{Refusal}
 use Rattle.up_sign.specs.Schemes.{Rules}
 use Rattle.up_manifest.specs.Manifests.{incoming_in}
 use Rattle.up_machine.specs.declared.command.Command.{Command}
-use Rattle.up_machine.specs.declared.command.Command.TheVariants.{OpenCampaign, Deliver}
+use Rattle.up_machine.specs.declared.command.Command.TheVariants.{Deliver}
 use Rattle.up_machine.specs.declared.answer.Answer.{Answer}
 use Rattle.up_machine.specs.declared.answer.Answer.TheVariants.{Refused}
 use Rattle.up_machine.specs.State.{State}
@@ -19,11 +19,6 @@ use Rattle.up_desk.specs.Rows.{Held, Shows}
 pub record Holding (K : Type 0) : Type 0 where
   pub scheme : K
   pub state : State
-
--- a campaign that is opened is running
-abbrev pub opens_running : Command → Bool
-opens_running (OpenCampaign campaign) = campaign.running
-opens_running _ = true
 
 -- memory was refused
 abbrev pub is_lost : Answer → Bool

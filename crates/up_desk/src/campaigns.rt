@@ -31,7 +31,15 @@ pub fn open(
         (decide_open_in (state_of (held book.old)) at campaign.now) }
 {
     let old = book.campaigns.get(campaign.name.text());
-    match decide_open(alloc, at, campaign, &book.founding, old, &book.vehicles, &book.images)? {
+    match decide_open(
+        alloc,
+        at,
+        campaign,
+        &book.founding,
+        old,
+        &book.vehicles,
+        &book.images,
+    )? {
         Decision::Already => Ok(Answer::Already),
         Decision::New(campaign) => {
             put_campaign(alloc, book, campaign)?;

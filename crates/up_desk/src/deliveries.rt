@@ -93,14 +93,25 @@ fn decide<K: Scheme>(
 {
     let vehicle = book.vehicles.get(incoming.manifest.vehicle.text());
     let campaigns = book.campaigns.values();
-    decide_manifest(alloc, scheme, at, incoming, &book.founding, vehicle, kept, &book.images, campaigns)
+    decide_manifest(
+        alloc,
+        scheme,
+        at,
+        incoming,
+        &book.founding,
+        vehicle,
+        kept,
+        &book.images,
+        campaigns,
+    )
 }
 
 /// The vehicle's row with this counter.
 pub fn find_kept<'a>(rows: &'a [Kept], vehicle: &Ident, counter: Count) -> Option<&'a Kept>
     ensures { option_copied result ≡ kept_with vehicle.now counter rows.now }
 {
-    rows.iter().find(|row| row.vehicle.text() == vehicle.text() && row.counter.get() == counter.get())
+    rows.iter().find(|row| row.vehicle.text() == vehicle.text()
+        && row.counter.get() == counter.get())
 }
 
 /// The reply that a row holds. A plan of more than 4294967295 images, which no state has, is answered as want of memory.

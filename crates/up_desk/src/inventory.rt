@@ -59,7 +59,15 @@ fn decide<K: Scheme>(
 {
     let recorded = recorded_in(alloc, book.vehicles.values(), new.ecus.as_slice())?;
     let old = book.vehicles.get(new.vehicle.text());
-    decide_vehicle(alloc, scheme, at, new, &book.founding, old, recorded.as_slice())
+    decide_vehicle(
+        alloc,
+        scheme,
+        at,
+        new,
+        &book.founding,
+        old,
+        recorded.as_slice(),
+    )
 }
 
 /// For each new ECU whether one of its name stands in a vehicle.
@@ -88,7 +96,10 @@ fn is_recorded(vehicles: &[VehicleRows], ecu: &Ident) -> bool
 pub fn stands_in(rows: &VehicleRows, ecu: &Ident) -> bool
     ensures { result ≡ stands_among ecu.now rows.now.ecus }
 {
-    rows.ecus.as_slice().iter().any(|row| row.ecu.text() == ecu.text())
+    rows.ecus
+        .as_slice()
+        .iter()
+        .any(|row| row.ecu.text() == ecu.text())
 }
 
 /// Keeps a vehicle under its name.

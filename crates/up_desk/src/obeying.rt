@@ -1,9 +1,10 @@
 //! Commands over the rows.
 ghost use Rattle.std.specs.Prelude.{◌≡◌, ◌≤◌, ◌<◌, IsTrue, MatchOption};
 ghost use Rattle.up_canon.specs.Moments.{last_command_moment};
-ghost use Rattle.up_machine.specs.Commands.{is_command};
+ghost use Rattle.up_canon.specs.declared.refusal.Refusal.TheVariants.{MomentOutOfRange};
+ghost use Rattle.up_machine.specs.Commands.{is_command, opens_running};
 ghost use Rattle.up_desk.specs.Rows.{held, state_of, Stands};
-ghost use Rattle.up_desk.specs.Serving.{Leaves, opens_running, served, told};
+ghost use Rattle.up_desk.specs.Serving.{Leaves, served, told};
 
 use crate::book::Book;
 use crate::campaigns::{close, open};
@@ -28,8 +29,9 @@ pub fn obey<K: Scheme>(
     command: &Command,
 ) -> Result<Answer, Refusal>
     requires { Stands (K.rules scheme.now) (held book.old) }
-    ensures { Leaves (K.rules scheme.now) (state_of (held book.old)) (held book.new) result
+    ensures leaves { Leaves (K.rules scheme.now) (state_of (held book.old)) (held book.new) result
         (served (K.rules scheme.now) (state_of (held book.old)) at command.now) }
+    ensures moment { last_command_moment < at → result ≡ Err MomentOutOfRange }
 {
     match command_moment(at) {
         Some(at) => act(book, alloc, scheme, at, command),

@@ -84,11 +84,7 @@ fn image_of(alloc: Global, row: Option<&EcuRow>) -> Result<Option<Installed>, Al
 }
 
 /// The plan of the vehicle's row with its greatest counter.
-pub fn assigned_in(
-    book: &Book,
-    alloc: Global,
-    vehicle: &Ident,
-) -> Result<Option<Plan>, AllocError>
+pub fn assigned_in(book: &Book, alloc: Global, vehicle: &Ident) -> Result<Option<Plan>, AllocError>
     ensures { IfOk result (λ found. found ≡ plan_held (held book.now) vehicle.now) }
 {
     let Some(rows) = book.vehicles.get(vehicle.text()) else {
