@@ -1,6 +1,10 @@
 pub mod Steps
 pub mod Tables
 pub mod Decided
+pub mod FoundedRow
+pub mod RepeatedNames
+pub mod OpenedCampaigns
+pub mod AddedVehicles
 pub mod Receiving
 pub mod Growing
 pub mod Lists

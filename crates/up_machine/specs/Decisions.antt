@@ -1,5 +1,5 @@
 -- What decisions answer over the rows of a state: the rows of the plain machine's next state, `Already`, a repeat, or the refusal that is due.
-use Rattle.std.specs.Prelude.{◌≡◌, ℕ, ◌+◌, ◌++◌, List, [], ◌∷◌, Option, Some, None, Result, Ok, Err, MatchBool, IfSome, length, ⊤}
+use Rattle.std.specs.Prelude.{◌≡◌, ℕ, ◌+◌, ◌++◌, List, [], ◌∷◌, Bool, false, Option, Some, None, option_map, unwrap_or, Result, Ok, Err, MatchBool, IfSome, length, ⊤}
 use Rattle.std.specs.List.{AllByRecursion}
 use Rattle.std.specs.FinMap as table
 use Rattle.up_canon.specs.Names.{Name, Table}
@@ -10,10 +10,12 @@ use Rattle.up_sign.specs.Schemes.{Rules}
 use Rattle.up_manifest.specs.declared.manifest.Incoming.{Incoming}
 use Rattle.up_manifest.specs.Manifests.{incoming_in}
 use Rattle.up_roles.specs.declared.repository.Repository.TheVariants.{Director, Image}
+use Rattle.up_plan.specs.declared.campaign.Item.{Item}
 use Rattle.up_plan.specs.declared.campaign.Reach.{Reach}
 use Rattle.up_plan.specs.declared.campaign.Reach.TheVariants.{All, Named}
 use Rattle.up_plan.specs.Campaigns.{CampaignData}
 use Rattle.up_plan.specs.Images.{ImageData}
+use Rattle.up_plan.specs.Planning.{is_for}
 use Rattle.up_machine.specs.declared.rows.VehicleRows.{VehicleRows}
 use Rattle.up_machine.specs.declared.answer.Answer.TheVariants.{Reply as Replied}
 use Rattle.up_machine.specs.declared.rows.Kept.{Kept}
@@ -106,6 +108,13 @@ named_in (Named vehicles) = vehicles
 pub record Knows (s : State) (campaign : CampaignData) (vehicles : Table VehicleRows) (images : Table ImageData) : Type 0 where
   pub of_vehicles : AllByRecursion (λ name. table.contains_key vehicles name ≡ table.contains_key s.vehicles name) (named_in campaign.reach)
   pub of_images : AllByRecursion (λ item. table.get images item.file ≡ table.get s.images item.file) campaign.items
+
+-- an item's image is among these, and is for its hardware
+abbrev pub finds_image : Table ImageData → Item → Bool
+finds_image images item = table.contains_key images item.file
+
+abbrev pub finds_hardware : Table ImageData → Item → Bool
+finds_hardware images item = unwrap_or (option_map (is_for item.hardware) (table.get images item.file)) false
 
 -- a campaign that is closed is the one of that name, not running
 abbrev pub GivesClosed : State → Name → Result (Decision CampaignData) Refusal → Result Outcome Refusal → Type 0

@@ -14,6 +14,7 @@ pub mod Sound
 pub mod Registers
 pub mod Rows
 pub mod Decisions
+pub mod ManifestRows
 pub mod Reads
 pub mod Laws
 pub mod RepeatLaws

@@ -1,17 +1,27 @@
 //! Decisions on vehicles of the inventory.
-ghost use Rattle.std.specs.Prelude.{◌≡◌, ◌≤◌, [], map, option_copied};
+ghost use Rattle.std.specs.Prelude.{◌≡◌, ◌≤◌, [], map, option_copied, bytes_eq, codes, false};
+ghost use Rattle.std.specs.List.{list_all, list_any};
 ghost use Rattle.up_canon.specs.Moments.{last_command_moment};
+ghost use Rattle.up_canon.specs.Names.{first_repeated as first_repeated_name};
+ghost use Rattle.up_canon.specs.declared.refusal.Refusal.TheVariants.{BadShape};
+ghost use Rattle.up_machine.specs.Keys.{public_fits};
 ghost use Rattle.up_machine.specs.State.{State, is_recorded};
 ghost use Rattle.up_machine.specs.Sound.{IsSound};
 ghost use Rattle.up_machine.specs.Rows.{founding_row, rows_of, vehicle_rows};
-ghost use Rattle.up_machine.specs.Vehicles.{ecu_names};
-ghost use Rattle.up_machine.specs.Inventory.{decide_vehicle as decide_vehicle_in, with_vehicle};
+ghost use Rattle.up_machine.specs.Vehicles.{ecu_names, first_marked};
+ghost use Rattle.up_machine.specs.Inventory.{decide_new_vehicle, decide_vehicle as decide_vehicle_in, with_vehicle};
 ghost use Rattle.up_machine.specs.Decisions.{GivesDecision};
 
 use crate::decision::Decision;
+use crate::founded::check_founded;
+use crate::new_vehicle::new_rows;
+use crate::public_keys::publics_fit;
 use crate::rows::{Founding, VehicleRows};
-use crate::vehicle::NewVehicle;
+use crate::same_vehicle::same_vehicle;
+use crate::vehicle::{NewEcu, NewVehicle};
 use std::alloc::Global;
+use up_canon::ident::Ident;
+use up_canon::listed::Duplicate;
 use up_canon::moment::Moment;
 use up_canon::refusal::Refusal;
 use up_sign::scheme::Scheme;
@@ -20,6 +30,7 @@ use up_sign::scheme::Scheme;
 /// `Already` where an equal vehicle is there; `VehicleTaken` where another one has its name; `DuplicateEcu`; `EcuTaken`;
 /// `Memory`. The rows are those of the vehicle of that name, and for each new ECU whether one of its name stands in any
 /// vehicle.
+#[tactic(auto, using(crate::proofs::AddedVehicles::there_by_rows), unfolding(crate::specs::Inventory::decide_vehicle, up_canon::specs::Steps::and_then))]
 pub fn decide_vehicle<K: Scheme>(
     alloc: Global,
     scheme: &K,
@@ -30,10 +41,80 @@ pub fn decide_vehicle<K: Scheme>(
     recorded: &[bool],
 ) -> Result<Decision<VehicleRows>, Refusal>
     requires { at ≤ last_command_moment }
-    ensures { (s : State) → IsSound (K.rules scheme.now) s → founding.now ≡ founding_row s
+    ensures key { list_all (λ e. public_fits (K.rules scheme.now) e.public) new.now.ecus ≡ false → result ≡ Err (BadShape (codes "key")) }
+    ensures decided { (s : State) → IsSound (K.rules scheme.now) s → founding.now ≡ founding_row s
         → option_copied old.entry ≡ vehicle_rows s new.now.vehicle → recorded.now ≡ map (is_recorded s) (ecu_names new.now.ecus)
         → GivesDecision (λ rows. rows ≡ rows_of new.now.vehicle (record { primary = new.now.primary; ecus = new.now.ecus; entries = [] })) s (with_vehicle s new.now) result
         (decide_vehicle_in (K.rules scheme.now) s at new.now) }
 {
-    Err(Refusal::Memory)
+    if !publics_fit(scheme, new.ecus.as_slice()) {
+        return Err(Refusal::from("key"));
+    }
+    check_founded(founding)?;
+    match old {
+        Some(rows) => {
+            if same_vehicle(new, rows) {
+                Ok(Decision::Already)
+            } else {
+                Err(Refusal::VehicleTaken)
+            }
+        }
+        None => decide_new(alloc, new, recorded),
+    }
+}
+
+/// Decides on a vehicle of a name that none has.
+#[tactic(auto, using(crate::proofs::AddedVehicles::recorded_first, crate::proofs::AddedVehicles::rows_of_new), unfolding(crate::specs::Inventory::decide_new_vehicle, up_canon::specs::Steps::and_then))]
+fn decide_new(
+    alloc: Global,
+    new: &NewVehicle,
+    recorded: &[bool],
+) -> Result<Decision<VehicleRows>, Refusal>
+    ensures { (s : State) → recorded.now ≡ map (is_recorded s) (ecu_names new.now.ecus)
+        → GivesDecision (λ rows. rows ≡ rows_of new.now.vehicle (record { primary = new.now.primary; ecus = new.now.ecus; entries = [] })) s (with_vehicle s new.now) result
+        (decide_new_vehicle s new.now) }
+{
+    let ecus = new.ecus.as_slice();
+    if let Some(ecu) = first_repeated(ecus) {
+        return Err(Refusal::DuplicateEcu(ecu.copy(alloc)?));
+    }
+    if let Some(ecu) = first_recorded(ecus, recorded) {
+        return Err(Refusal::EcuTaken(ecu.copy(alloc)?));
+    }
+    Ok(Decision::New(new_rows(alloc, new)?))
+}
+
+/// The first ECU that stood before it.
+fn first_repeated(ecus: &[NewEcu]) -> Option<&Ident>
+    ensures { option_copied result ≡ first_repeated_name (ecu_names ecus.now) }
+{
+    for (i, ecu) in ecus.iter().enumerate() {
+        if is_among(&ecus[..i], &ecu.ecu) {
+            return Some(&ecu.ecu);
+        }
+    }
+    None
+}
+
+fn is_among(ecus: &[NewEcu], name: &Ident) -> bool
+    ensures { result ≡ list_any (λ ecu. bytes_eq name.now ecu.ecu) ecus.now }
+{
+    ecus.iter().any(|ecu| *name == ecu.ecu)
+}
+
+/// The first ECU that stands in a vehicle.
+fn first_recorded<'a>(ecus: &'a [NewEcu], recorded: &[bool]) -> Option<&'a Ident>
+    ensures { option_copied result ≡ first_marked ecus.now recorded.now }
+{
+    match (ecus, recorded) {
+        ([ecu, ecus @ ..], [taken, recorded @ ..]) => {
+            if *taken {
+                Some(&ecu.ecu)
+            } else {
+                first_recorded(ecus, recorded)
+            }
+        }
+        ([], _) => None,
+        ([_, ..], []) => None,
+    }
 }
