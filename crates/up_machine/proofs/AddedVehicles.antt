@@ -1,16 +1,17 @@
 -- What the rows of a vehicle say of it where a vehicle is added.
-use Rattle.std.proofs.Common.{◌≡◌, List, [], ◌∷◌, Bool, true, false, cond, Option, Some, None, Result, refl, ap, ◌∙◌}
+use Rattle.std.proofs.Common.{◌≡◌, List, [], ◌∷◌, Bool, true, false, cond, Option, Some, None, Result, Ok, Err, refl, ap, ◌∙◌}
 use Rattle.std.specs.Prelude.{◌&&◌, map, find, option_map, bytes_eq}
 use Rattle.std.specs.List.{zip}
 use Rattle.std.specs.Cmp.Lexicographic.{pointwise}
 use Rattle.std.specs.FinMap as table
 use Rattle.up_canon.specs.Names.{Name}
 use Rattle.up_canon.specs.declared.refusal.Refusal.{Refusal}
+use Rattle.up_canon.specs.declared.refusal.Refusal.TheVariants.{VehicleTaken}
 use Rattle.up_machine.specs.declared.rows.VehicleRows.{VehicleRows}
 use Rattle.up_machine.specs.declared.vehicle.NewEcu.{NewEcu}
 use Rattle.up_machine.specs.Vehicles.{NewVehicleData, ecu_names, first_marked}
 use Rattle.up_machine.specs.State.{Vehicle, State, last_report}
-use Rattle.up_machine.specs.Deciding.{Outcome, where_new}
+use Rattle.up_machine.specs.Deciding.{Outcome, already, where_new}
 use Rattle.up_machine.specs.Inventory.{same_ecu, same_vehicle}
 use Rattle.up_machine.specs.Rows.{ecu_row, new_row, new_rows, rows_of, same_ecu_row, same_rows, vehicle_rows}
 
@@ -31,9 +32,23 @@ there_in s new taken None decided = refl
 there_in s new taken (Some v) decided = rw same_by_rows
 
 -- the rows tell whether it is the same
-pub there_by_rows : (s : State) (new : NewVehicleData) (taken : Refusal) (old : Option VehicleRows) (decided : Result Outcome Refusal) → old ≡ vehicle_rows s new.vehicle
+there_by_rows : (s : State) (new : NewVehicleData) (taken : Refusal) (old : Option VehicleRows) (decided : Result Outcome Refusal) → old ≡ vehicle_rows s new.vehicle
     → where_new s (same_vehicle new) taken (table.get s.vehicles new.vehicle) decided ≡ where_new s (same_rows new) taken old decided
 there_by_rows s new taken old decided is = rw is (there_in s new taken (table.get s.vehicles new.vehicle) decided)
+
+pub same_there : (s : State) (new : NewVehicleData) (old : Option VehicleRows) (rows : VehicleRows) (decided : Result Outcome Refusal) → old ≡ vehicle_rows s new.vehicle → old ≡ Some rows → same_rows new rows ≡ true
+    → where_new s (same_vehicle new) VehicleTaken (table.get s.vehicles new.vehicle) decided ≡ Ok (already s)
+same_there s new old rows decided of_state is same =
+    there_by_rows s new VehicleTaken old decided of_state ∙ ap (λ o. where_new s (same_rows new) VehicleTaken o decided) is ∙ ap (λ b. cond b (Ok (already s)) (Err VehicleTaken)) same
+
+pub other_there : (s : State) (new : NewVehicleData) (old : Option VehicleRows) (rows : VehicleRows) (decided : Result Outcome Refusal) → old ≡ vehicle_rows s new.vehicle → old ≡ Some rows → same_rows new rows ≡ false
+    → where_new s (same_vehicle new) VehicleTaken (table.get s.vehicles new.vehicle) decided ≡ Err VehicleTaken
+other_there s new old rows decided of_state is other =
+    there_by_rows s new VehicleTaken old decided of_state ∙ ap (λ o. where_new s (same_rows new) VehicleTaken o decided) is ∙ ap (λ b. cond b (Ok (already s)) (Err VehicleTaken)) other
+
+pub none_there : (s : State) (new : NewVehicleData) (old : Option VehicleRows) (decided : Result Outcome Refusal) → old ≡ vehicle_rows s new.vehicle → old ≡ None
+    → where_new s (same_vehicle new) VehicleTaken (table.get s.vehicles new.vehicle) decided ≡ decided
+none_there s new old decided of_state is = there_by_rows s new VehicleTaken old decided of_state ∙ ap (λ o. where_new s (same_rows new) VehicleTaken o decided) is
 
 -- ---- a vehicle that is new
 

@@ -31,3 +31,10 @@ pub mod NewFiles
 pub mod FoundingRows
 pub mod Registers
 pub mod RootDecisions
+pub mod DistinctNames
+pub mod DirectorTargets
+pub mod CheckedRows
+pub mod FoundRepeats
+pub mod AcceptedManifests
+pub mod DecidedManifests
+pub mod SoundRows

@@ -1,11 +1,12 @@
 -- What decisions answer over the rows of a state: the rows of the plain machine's next state, `Already`, a repeat, or the refusal that is due.
-use Rattle.std.specs.Prelude.{◌≡◌, ℕ, ◌+◌, ◌++◌, List, [], ◌∷◌, Bool, false, Option, Some, None, option_map, unwrap_or, Result, Ok, Err, MatchBool, IfSome, length, ⊤}
-use Rattle.std.specs.List.{AllByRecursion}
+use Rattle.std.specs.Prelude.{◌≡◌, ℕ, ◌+◌, ◌≤◌, ◌++◌, List, [], ◌∷◌, Bool, false, Option, Some, None, option_map, unwrap_or, Result, Ok, Err, MatchBool, IsSomeAnd, length, map, ⊤}
+use Rattle.std.specs.List.{AllByRecursion, list_all}
 use Rattle.std.specs.FinMap as table
-use Rattle.up_canon.specs.Names.{Name, Table}
-use Rattle.up_canon.specs.Steps.{and_then}
+use Rattle.up_canon.specs.Names.{Name, Table, first_repeated}
+use Rattle.up_canon.specs.Steps.{and_then, ◌>>=◌, unless}
 use Rattle.up_canon.specs.Refusals.{is_memory}
 use Rattle.up_canon.specs.declared.refusal.Refusal.{Refusal}
+use Rattle.up_canon.specs.declared.refusal.Refusal.TheVariants.{UnknownVehicle, UnknownImage, WrongHardware}
 use Rattle.up_sign.specs.Schemes.{Rules}
 use Rattle.up_manifest.specs.declared.manifest.Incoming.{Incoming}
 use Rattle.up_manifest.specs.Manifests.{incoming_in}
@@ -83,6 +84,11 @@ abbrev pub resolve : Rules → State → ℕ → Received → Option KeptEntry �
 resolve k s at r (Some p) = Ok (record { answer = Replied (reply_to k s p.vehicle p.number p.entry); next = s })
 resolve k s at r None = decide_received k s at r
 
+-- the rows of a sound state's vehicle: the version is at most the last counter, and no ECU stands twice
+pub record AreSoundRows (rows : VehicleRows) : Type 0 where
+  pub version : rows.vehicle.version ≤ rows.vehicle.last
+  pub once : first_repeated (map (λ row. row.ecu) rows.ecus) ≡ None
+
 -- what the delivery of a manifest comes to, once its moment was checked and its body read
 unfoldable pub decide_incoming : Rules → State → ℕ → Incoming → Result Outcome Refusal
 decide_incoming k s at incoming = and_then (receive_manifest k s incoming) (λ r. resolve k s at r (repeat_in r))
@@ -90,7 +96,7 @@ decide_incoming k s at incoming = and_then (receive_manifest k s incoming) (λ r
 -- a repeat is answered by the row that was kept; an accepted manifest by the row that is new
 abbrev pub GivesDelivered : Rules → State → Option Kept → Name → Result Delivered Refusal → Result Outcome Refusal → Type 0
 GivesDelivered k s kept name (Ok Repeat) computed =
-    IfSome kept (λ row. computed ≡ Ok (record { answer = Replied (reply_kept row); next = s }))
+    IsSomeAnd kept (λ row. computed ≡ Ok (record { answer = Replied (reply_kept row); next = s }))
 GivesDelivered k s kept name (Ok (Accepted rows)) computed =
     (v : Vehicle) × (e : Entry) × (table.get s.vehicles name ≡ Some v)
     × (computed ≡ Ok (record { answer = Replied (reply_kept rows.kept); next = with_entry s name v e }))
@@ -115,6 +121,13 @@ finds_image images item = table.contains_key images item.file
 
 abbrev pub finds_hardware : Table ImageData → Item → Bool
 finds_hardware images item = unwrap_or (option_map (is_for item.hardware) (table.get images item.file)) false
+
+-- the first fault of what a campaign names
+unfoldable pub check_campaign : Table VehicleRows → Table ImageData → CampaignData → Result ⊤ Refusal
+check_campaign vehicles images campaign = do
+  unknown_vehicle ← unless (list_all (table.contains_key vehicles) (named_in campaign.reach)) UnknownVehicle
+  unknown_image ← unless (list_all (finds_image images) campaign.items) UnknownImage
+  unless (list_all (finds_hardware images) campaign.items) WrongHardware
 
 -- a campaign that is closed is the one of that name, not running
 abbrev pub GivesClosed : State → Name → Result (Decision CampaignData) Refusal → Result Outcome Refusal → Type 0

@@ -20,3 +20,4 @@ pub mod Laws
 pub mod RepeatLaws
 pub mod ApartLaws
 pub mod SignedLaws
+pub mod RowLaws

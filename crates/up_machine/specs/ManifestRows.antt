@@ -3,7 +3,7 @@ use Rattle.std.specs.Prelude.{ℕ, ◌+◌, ◌++◌, ◌||◌, ◌&&◌, ◌==�
 use Rattle.std.specs.List.{list_any}
 use Rattle.std.specs.FinMap as table
 use Rattle.up_canon.specs.Names.{Name, Table, first_repeated}
-use Rattle.up_canon.specs.Steps.{◌>>=◌, unless, refuse_if, refuse_first}
+use Rattle.up_canon.specs.Steps.{◌>>=◌, unless, refuse_if, refuse_first, if_passes}
 use Rattle.up_canon.specs.declared.refusal.Refusal.{Refusal}
 use Rattle.up_canon.specs.declared.refusal.Refusal.TheVariants.{WrongPrimary, BadManifestSignature, Stale, UnknownEcu, DuplicateEcu, MissingEcu, BadReportSignature, ReportReplayed}
 use Rattle.up_sign.specs.Schemes.{Rules}
@@ -44,6 +44,12 @@ unfoldable pub check_primary : Rules → VehicleRows → Incoming → Result ⊤
 check_primary k rows incoming = do
   wrong_primary ← unless (bytes_eq incoming.manifest.primary rows.vehicle.primary) WrongPrimary
   unless (is_signed_by_row k rows.ecus rows.vehicle.primary incoming.envelope) BadManifestSignature
+
+-- ---- repeats
+
+-- the kept row with the manifest's counter, where it has the manifest's signed text
+abbrev pub repeated : Incoming → Option Kept → Option Kept
+repeated incoming kept = if_passes (λ row. bytes_eq row.signed incoming.envelope.signed) kept
 
 -- ---- after it
 

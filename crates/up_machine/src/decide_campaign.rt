@@ -7,7 +7,7 @@ ghost use Rattle.up_plan.specs.Planning.{is_for as is_for_hardware};
 ghost use Rattle.up_machine.specs.State.{State};
 ghost use Rattle.up_machine.specs.Rows.{founding_row};
 ghost use Rattle.up_machine.specs.Inventory.{decide_new_campaign, decide_open as decide_open_in, decide_close as decide_close_in, with_campaign};
-ghost use Rattle.up_machine.specs.Decisions.{GivesDecision, GivesClosed, Knows, named_in, finds_image, finds_hardware};
+ghost use Rattle.up_machine.specs.Decisions.{GivesDecision, GivesClosed, Knows, named_in, finds_image, finds_hardware, check_campaign};
 
 use crate::decision::Decision;
 use crate::founded::check_founded;
@@ -54,7 +54,7 @@ pub fn decide_open(
 }
 
 /// Decides on opening a campaign of a name that none has.
-#[tactic(auto, using(crate::proofs::OpenedCampaigns::knows_vehicles, crate::proofs::OpenedCampaigns::knows_images, crate::proofs::OpenedCampaigns::knows_hardware), unfolding(crate::specs::Inventory::decide_new_campaign, up_canon::specs::Steps::and_then))]
+#[tactic(auto, using(crate::proofs::OpenedCampaigns::checked_rows), unfolding(up_canon::specs::Steps::and_then))]
 fn decide_new(
     alloc: Global,
     campaign: &Campaign,
@@ -64,17 +64,30 @@ fn decide_new(
     ensures { (s : State) → Knows s campaign.now vehicles.now images.now
         → GivesDecision (λ row. row ≡ campaign.now) s (with_campaign s campaign.now) result (decide_new_campaign s campaign.now) }
 {
+    check_new(campaign, vehicles, images)?;
+    Ok(Decision::New(campaign.copy(alloc)?))
+}
+
+/// Tests that the vehicles and images that the campaign names are there, and each image for its item's hardware.
+#[tactic(auto, unfolding(crate::specs::Decisions::check_campaign, up_canon::specs::Steps::and_then))]
+fn check_new(
+    campaign: &Campaign,
+    vehicles: &Table<VehicleRows>,
+    images: &Table<Image>,
+) -> Result<(), Refusal>
+    ensures { result ≡ check_campaign vehicles.now images.now campaign.now }
+{
     if !knows_vehicles(&campaign.reach, vehicles) {
         return Err(Refusal::UnknownVehicle);
     }
     let items = campaign.items.as_slice();
-    if !items.iter().all(|item| has_image(images, item)) {
+    if !has_images(images, items) {
         return Err(Refusal::UnknownImage);
     }
-    if !items.iter().all(|item| has_hardware(images, item)) {
+    if !has_hardwares(images, items) {
         return Err(Refusal::WrongHardware);
     }
-    Ok(Decision::New(campaign.copy(alloc)?))
+    Ok(())
 }
 
 fn knows_vehicles(reach: &Reach, vehicles: &Table<VehicleRows>) -> bool
@@ -89,13 +102,25 @@ fn knows_vehicles(reach: &Reach, vehicles: &Table<VehicleRows>) -> bool
     }
 }
 
+fn has_images(images: &Table<Image>, items: &[Item]) -> bool
+    ensures { result ≡ list_all (finds_image images.now) items.now }
+{
+    items.iter().all(|item| has_image(images, item))
+}
+
+/// Whether each item's image is for its hardware.
+fn has_hardwares(images: &Table<Image>, items: &[Item]) -> bool
+    ensures { result ≡ list_all (finds_hardware images.now) items.now }
+{
+    items.iter().all(|item| has_hardware(images, item))
+}
+
 fn has_image(images: &Table<Image>, item: &Item) -> bool
     ensures { result ≡ finds_image images.now item.now }
 {
     images.contains(item.file.text())
 }
 
-/// Whether the item's image is for its hardware.
 fn has_hardware(images: &Table<Image>, item: &Item) -> bool
     ensures { result ≡ finds_hardware images.now item.now }
 {

@@ -1,15 +1,18 @@
 //! Decisions on vehicles of the inventory.
 ghost use Rattle.std.specs.Prelude.{◌≡◌, ◌≤◌, [], map, option_copied, bytes_eq, codes, false};
 ghost use Rattle.std.specs.List.{list_all, list_any};
+ghost use Rattle.std.specs.FinMap as table;
 ghost use Rattle.up_canon.specs.Moments.{last_command_moment};
 ghost use Rattle.up_canon.specs.Names.{first_repeated as first_repeated_name};
-ghost use Rattle.up_canon.specs.declared.refusal.Refusal.TheVariants.{BadShape};
+ghost use Rattle.up_canon.specs.declared.refusal.Refusal.TheVariants.{BadShape, VehicleTaken};
+ghost use Rattle.up_canon.specs.Steps.{and_then};
+ghost use Rattle.up_machine.specs.Deciding.{check_founded as check_founded_in, where_new};
 ghost use Rattle.up_machine.specs.Keys.{public_fits};
 ghost use Rattle.up_machine.specs.State.{State, is_recorded};
 ghost use Rattle.up_machine.specs.Sound.{IsSound};
 ghost use Rattle.up_machine.specs.Rows.{founding_row, rows_of, vehicle_rows};
 ghost use Rattle.up_machine.specs.Vehicles.{ecu_names, first_marked};
-ghost use Rattle.up_machine.specs.Inventory.{decide_new_vehicle, decide_vehicle as decide_vehicle_in, with_vehicle};
+ghost use Rattle.up_machine.specs.Inventory.{same_vehicle as same_vehicle_of, decide_new_vehicle, decide_vehicle as decide_vehicle_in, with_vehicle};
 ghost use Rattle.up_machine.specs.Decisions.{GivesDecision};
 
 use crate::decision::Decision;
@@ -30,7 +33,7 @@ use up_sign::scheme::Scheme;
 /// `Already` where an equal vehicle is there; `VehicleTaken` where another one has its name; `DuplicateEcu`; `EcuTaken`;
 /// `Memory`. The rows are those of the vehicle of that name, and for each new ECU whether one of its name stands in any
 /// vehicle.
-#[tactic(auto, using(crate::proofs::AddedVehicles::there_by_rows), unfolding(crate::specs::Inventory::decide_vehicle, up_canon::specs::Steps::and_then))]
+#[tactic(auto, unfolding(crate::specs::Inventory::decide_vehicle, up_canon::specs::Steps::and_then))]
 pub fn decide_vehicle<K: Scheme>(
     alloc: Global,
     scheme: &K,
@@ -47,10 +50,42 @@ pub fn decide_vehicle<K: Scheme>(
         → GivesDecision (λ rows. rows ≡ rows_of new.now.vehicle (record { primary = new.now.primary; ecus = new.now.ecus; entries = [] })) s (with_vehicle s new.now) result
         (decide_vehicle_in (K.rules scheme.now) s at new.now) }
 {
-    if !publics_fit(scheme, new.ecus.as_slice()) {
-        return Err(Refusal::from("key"));
+    if publics_fit(scheme, new.ecus.as_slice()) {
+        decide_fitting(alloc, new, founding, old, recorded)
+    } else {
+        Err(Refusal::from("key"))
     }
+}
+
+/// Decides on a new vehicle whose public parts fit.
+#[tactic(auto, unfolding(up_canon::specs::Steps::and_then))]
+fn decide_fitting(
+    alloc: Global,
+    new: &NewVehicle,
+    founding: &Option<Founding>,
+    old: Option<&VehicleRows>,
+    recorded: &[bool],
+) -> Result<Decision<VehicleRows>, Refusal>
+    ensures { (s : State) → founding.now ≡ founding_row s
+        → option_copied old.entry ≡ vehicle_rows s new.now.vehicle → recorded.now ≡ map (is_recorded s) (ecu_names new.now.ecus)
+        → GivesDecision (λ rows. rows ≡ rows_of new.now.vehicle (record { primary = new.now.primary; ecus = new.now.ecus; entries = [] })) s (with_vehicle s new.now) result
+        (and_then (check_founded_in s) (λ _. where_new s (same_vehicle_of new.now) VehicleTaken (table.get s.vehicles new.now.vehicle) (decide_new_vehicle s new.now))) }
+{
     check_founded(founding)?;
+    decide_named(alloc, new, old, recorded)
+}
+
+/// Decides on a new vehicle, once the repositories are founded.
+fn decide_named(
+    alloc: Global,
+    new: &NewVehicle,
+    old: Option<&VehicleRows>,
+    recorded: &[bool],
+) -> Result<Decision<VehicleRows>, Refusal>
+    ensures { (s : State) → option_copied old.entry ≡ vehicle_rows s new.now.vehicle → recorded.now ≡ map (is_recorded s) (ecu_names new.now.ecus)
+        → GivesDecision (λ rows. rows ≡ rows_of new.now.vehicle (record { primary = new.now.primary; ecus = new.now.ecus; entries = [] })) s (with_vehicle s new.now) result
+        (where_new s (same_vehicle_of new.now) VehicleTaken (table.get s.vehicles new.now.vehicle) (decide_new_vehicle s new.now)) }
+{
     match old {
         Some(rows) => {
             if same_vehicle(new, rows) {
@@ -106,15 +141,12 @@ fn is_among(ecus: &[NewEcu], name: &Ident) -> bool
 fn first_recorded<'a>(ecus: &'a [NewEcu], recorded: &[bool]) -> Option<&'a Ident>
     ensures { option_copied result ≡ first_marked ecus.now recorded.now }
 {
-    match (ecus, recorded) {
-        ([ecu, ecus @ ..], [taken, recorded @ ..]) => {
-            if *taken {
-                Some(&ecu.ecu)
-            } else {
-                first_recorded(ecus, recorded)
-            }
-        }
-        ([], _) => None,
-        ([_, ..], []) => None,
+    let [ecu, ecus @ ..] = ecus else {
+        return None;
+    };
+    match recorded {
+        [] => None,
+        [true, ..] => Some(&ecu.ecu),
+        [false, recorded @ ..] => first_recorded(ecus, recorded),
     }
 }

@@ -1,6 +1,7 @@
 //! Commands, answers and the plain machine of the two repositories.
 #![tactic(auto)]
 
+mod acceptance;
 pub mod answer;
 pub mod command;
 pub mod decide_campaign;
@@ -18,6 +19,7 @@ mod new_files;
 pub mod root_making;
 pub mod rows;
 mod same_image;
+mod director_files;
 mod founded;
 pub mod keys;
 pub mod laws;
@@ -25,6 +27,7 @@ pub mod making;
 mod manifest_checks;
 mod new_vehicle;
 mod public_keys;
+mod reported;
 pub mod rows;
 mod same_campaign;
 mod same_vehicle;

@@ -1,6 +1,7 @@
 //! The checks of a manifest over the rows of its vehicle.
-ghost use Rattle.std.specs.Prelude.{◌≡◌, find, not, bytes_eq, option_copied};
+ghost use Rattle.std.specs.Prelude.{◌≡◌, ◌<◌, ◌≤◌, OnOk, bytes_eq, find, not, option_copied};
 ghost use Rattle.std.specs.List.{list_any};
+ghost use Rattle.up_canon.specs.Canon.{max_count};
 ghost use Rattle.up_canon.specs.Names.{first_repeated as first_repeated_name};
 ghost use Rattle.up_canon.specs.Refusals.{Gives};
 ghost use Rattle.up_machine.specs.Deliveries.{report_name, report_names};
@@ -45,7 +46,9 @@ pub(crate) fn check_new<K: Scheme>(
     rows: &VehicleRows,
     manifest: &Manifest,
 ) -> Result<(), Refusal>
-    ensures { Gives result (check_new_of (K.rules scheme.now) rows.now manifest.now) }
+    ensures value { Gives result (check_new_of (K.rules scheme.now) rows.now manifest.now) }
+    ensures later { OnOk result (rows.now.vehicle.last < manifest.now.counter) }
+    ensures limit { OnOk result (manifest.now.counter ≤ max_count) }
 {
     let last = rows.vehicle.last;
     if manifest.counter.get() <= last.get() {
@@ -66,23 +69,51 @@ fn check_reports<K: Scheme>(
 ) -> Result<(), Refusal>
     ensures { Gives result (check_reports_of (K.rules scheme.now) rows.now reports.now) }
 {
-    if let Some(unknown) = reports.iter().find(|r| !has_row(rows, r)) {
+    if let Some(unknown) = first_unknown(rows, reports) {
         return Err(Refusal::UnknownEcu(unknown.report.ecu.copy(alloc)?));
     }
     if let Some(ecu) = first_repeated(reports) {
         return Err(Refusal::DuplicateEcu(ecu.copy(alloc)?));
     }
-    if let Some(row) = rows.iter().find(|row| !is_reported(reports, row)) {
+    if let Some(row) = first_missing(rows, reports) {
         return Err(Refusal::MissingEcu(row.ecu.copy(alloc)?));
     }
-    if let Some(unsigned) = reports.iter().find(|r| !is_signed(scheme, rows, r)) {
+    if let Some(unsigned) = first_unsigned(scheme, rows, reports) {
         let ecu = unsigned.report.ecu.copy(alloc)?;
         return Err(Refusal::BadReportSignature(ecu));
     }
-    if let Some(replayed) = reports.iter().find(|r| !follows_last(rows, r)) {
+    if let Some(replayed) = first_replayed(rows, reports) {
         return Err(Refusal::ReportReplayed(replayed.report.ecu.copy(alloc)?));
     }
     Ok(())
+}
+
+fn first_unknown<'a>(rows: &[EcuRow], reports: &'a [SignedReport]) -> Option<&'a SignedReport>
+    ensures { option_copied result ≡ find (λ r. not (has_row_in rows.now r)) reports.now }
+{
+    reports.iter().find(|r| !has_row(rows, r))
+}
+
+fn first_missing<'a>(rows: &'a [EcuRow], reports: &[SignedReport]) -> Option<&'a EcuRow>
+    ensures { option_copied result ≡ find (λ row. not (is_reported_in reports.now row)) rows.now }
+{
+    rows.iter().find(|row| !is_reported(reports, row))
+}
+
+fn first_unsigned<'a, K: Scheme>(
+    scheme: &K,
+    rows: &[EcuRow],
+    reports: &'a [SignedReport],
+) -> Option<&'a SignedReport>
+    ensures { option_copied result ≡ find (λ r. not (is_signed_by_row (K.rules scheme.now) rows.now (report_name r) r.envelope)) reports.now }
+{
+    reports.iter().find(|r| !is_signed(scheme, rows, r))
+}
+
+fn first_replayed<'a>(rows: &[EcuRow], reports: &'a [SignedReport]) -> Option<&'a SignedReport>
+    ensures { option_copied result ≡ find (λ r. not (follows_its_row rows.now r)) reports.now }
+{
+    reports.iter().find(|r| !follows_last(rows, r))
 }
 
 fn has_row(rows: &[EcuRow], report: &SignedReport) -> bool

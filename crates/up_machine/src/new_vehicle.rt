@@ -46,7 +46,7 @@ fn new_row(alloc: Global, ecu: &NewEcu) -> Result<EcuRow, AllocError>
     })
 }
 
-fn zero() -> Count
+pub(crate) fn zero() -> Count
     ensures { result ≡ 0 }
 {
     Count::new(0).unwrap()
