@@ -33,6 +33,8 @@ pub mod Registers
 pub mod RootDecisions
 pub mod DistinctNames
 pub mod DirectorTargets
+pub mod Taken
+pub mod Passing
 pub mod CheckedRows
 pub mod FoundRepeats
 pub mod AcceptedManifests

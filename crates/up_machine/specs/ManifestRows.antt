@@ -82,8 +82,11 @@ check_new_of k rows manifest = do
 -- ---- acceptance
 
 -- an ECU with the image that it reports
+abbrev pub fitted_with : EcuRow → SignedReport → Fitted
+fitted_with row r = record { ecu = row.ecu; hardware = row.hardware; image = r.report.image }
+
 abbrev pub fitted_of : List SignedReport → EcuRow → Option Fitted
-fitted_of reports row = option_map (λ r. record { ecu = row.ecu; hardware = row.hardware; image = r.report.image }) (report_of row.ecu reports)
+fitted_of reports row = option_map (fitted_with row) (report_of row.ecu reports)
 
 abbrev pub fitted_in : List SignedReport → List EcuRow → List Fitted
 fitted_in reports rows = filter_map (fitted_of reports) rows

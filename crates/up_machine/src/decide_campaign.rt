@@ -54,7 +54,6 @@ pub fn decide_open(
 }
 
 /// Decides on opening a campaign of a name that none has.
-#[tactic(auto, using(crate::proofs::OpenedCampaigns::checked_rows), unfolding(up_canon::specs::Steps::and_then))]
 fn decide_new(
     alloc: Global,
     campaign: &Campaign,

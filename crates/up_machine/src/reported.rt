@@ -1,6 +1,6 @@
 //! The rows of ECUs after their reports.
 ghost use Rattle.std.specs.Prelude.{◌≡◌, map, option_copied, option_map, unwrap_or, IfOk};
-ghost use Rattle.up_machine.specs.ManifestRows.{fitted_in, reported_row as reported_row_of};
+ghost use Rattle.up_machine.specs.ManifestRows.{fitted_in, fitted_with, reported_row as reported_row_of};
 ghost use Rattle.up_machine.specs.State.{report_of as report_in};
 
 use crate::new_vehicle::zero;
@@ -26,13 +26,19 @@ pub(crate) fn fitted_ecus(
         let Some(report) = report_of(reports, &row.ecu) else {
             continue;
         };
-        fitted.push(Fitted {
-            ecu: row.ecu.copy(alloc)?,
-            hardware: row.hardware.copy(alloc)?,
-            image: report.report.image.copy(alloc)?,
-        })?;
+        fitted.push(fitted_ecu(alloc, row, report)?)?;
     }
     Ok(fitted)
+}
+
+fn fitted_ecu(alloc: Global, row: &EcuRow, report: &SignedReport) -> Result<Fitted, AllocError>
+    ensures { IfOk result (λ fitted. fitted ≡ fitted_with row.now report.now) }
+{
+    Ok(Fitted {
+        ecu: row.ecu.copy(alloc)?,
+        hardware: row.hardware.copy(alloc)?,
+        image: report.report.image.copy(alloc)?,
+    })
 }
 
 /// The rows of the ECUs with what they report.

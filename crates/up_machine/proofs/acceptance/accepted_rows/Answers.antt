@@ -7,4 +7,4 @@ use Rattle.up_machine.proofs.acceptance.accepted_rows.Goals as goal
 pub kept_row-requires-clause-once : goal.kept_row-requires-clause-once
 kept_row-requires-clause-once g c =
     ap (λ (p : Plan). first_repeated (map (λ a. a.ecu) p.assigned)) c.in_ok-plan.ensures
-    ∙ planned_once c.args.images.now c.args.campaigns.now c.args.rows.now c.as_slice.result.now c.requires.once
+    ∙ planned_once c.args.images.now c.args.campaigns.now c.args.rows.now c.as_slice-reports.result.now c.requires.once
