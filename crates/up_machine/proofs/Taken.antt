@@ -17,8 +17,8 @@ taken h xs i x y within is some = one_more h xs i x within is ∙ ap (λ o. filt
 
 pub all_and_one : {X : Type 0} (p : X → Bool) (xs : List X) (x : X) → list_all p xs ≡ true → p x ≡ true → list_all p (xs ++ x ∷ []) ≡ true
 all_and_one p [] x all one = rw one refl
-all_and_one p (y ∷ ys) x all one = by_test (p y) all
+all_and_one p (y ∷ ys) x all one = by_test (p y) all (λ rest. all_and_one p ys x rest one)
   where
-    by_test : (b : Bool) → (b && list_all p ys) ≡ true → (b && list_all p (ys ++ x ∷ [])) ≡ true
-    by_test true all = all_and_one p ys x all one
-    by_test false all = cc
+    by_test : (b : Bool) → (b && list_all p ys) ≡ true → (list_all p ys ≡ true → list_all p (ys ++ x ∷ []) ≡ true) → (b && list_all p (ys ++ x ∷ [])) ≡ true
+    by_test true all more = more all
+    by_test false all more = cc
