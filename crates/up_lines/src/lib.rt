@@ -15,7 +15,7 @@ mod written;
 
 ghost use Rattle.up_lines.specs.Lines.{WholeLinesFirst};
 
-pub use reading::run;
+pub use reading::{read_piece, run};
 
 /// The lines that are whole are answered first and as they are, whatever bytes follow.
 pub fn whole_lines_first()

@@ -36,7 +36,7 @@ fn take_piece<S, A: Answer<S>, W: Write>(
 }
 
 /// Reads a piece into the buffer, at most so many bytes.
-fn read_piece<R: Read>(reader: &mut R, buffer: &mut [u8], most: u64) -> io::Result<usize>
+pub fn read_piece<R: Read>(reader: &mut R, buffer: &mut [u8], most: u64) -> io::Result<usize>
     ensures count { IfOk result (λ n. (n ≤ length buffer.new) × (n ≤ most)) }
     ensures bytes { IfOk result (λ n. Consumes (R.remaining reader.old) (R.remaining reader.new) (take n buffer.new)) }
     ensures end { IfOk result (λ n. n ≡ 0 → 0 < most → 0 < length buffer.old → IsAtEnd (R.remaining reader.new)) }

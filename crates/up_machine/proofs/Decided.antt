@@ -49,7 +49,7 @@ unfolding check_repository
 repository_passed k keys x h = first_ok _ _ _ _ h (λ a root h. first_ok _ _ _ _ h (λ b targets h. first_ok _ _ _ _ h (λ c snapshot h.
     rw (role_passed k keys.root a root, role_passed k keys.targets b targets, role_passed k keys.snapshot c snapshot, role_passed k keys.timestamp x h))))
 
-keys_passed : (k : Rules) (keys : KeySet) (x : ⊤) → check_keys k keys ≡ Ok x → key_set_fits k keys ≡ true
+pub keys_passed : (k : Rules) (keys : KeySet) (x : ⊤) → check_keys k keys ≡ Ok x → key_set_fits k keys ≡ true
 unfolding check_keys
 keys_passed k keys x h = first_ok _ _ _ _ h (λ a director h.
     rw (repository_passed k keys.director a director, repository_passed k keys.image x h))

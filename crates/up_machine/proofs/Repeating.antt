@@ -68,7 +68,7 @@ nth_at_place xs i place x is there =
     let before : i - 1 ≡ place = omega arith in
     rw some (ap (slice_get xs) before ∙ there)
 
-place_of : {A : Type 0} (xs : List A) (i : ℕ) (x : A) → nth xs i ≡ Some x → (place : ℕ) × (i ≡ 1 + place) × (slice_get xs place ≡ Some x)
+pub place_of : {A : Type 0} (xs : List A) (i : ℕ) (x : A) → nth xs i ≡ Some x → (place : ℕ) × (i ≡ 1 + place) × (slice_get xs place ≡ Some x)
 place_of xs zero x h = cc
 place_of xs (suc i) x h =
     let some = ne_eqb (suc i) 0 (λ e. omega arith) in

@@ -222,7 +222,7 @@ at_place [] i h = absurd (omega arith)
 at_place (y ∷ ys) zero h = (y, refl)
 at_place (y ∷ ys) (suc i) h = at_place ys i (omega arith)
 
-nth_there : {A : Type 0} (xs : List A) (i : ℕ) → 1 ≤ i → i ≤ length xs → (x : A) × (nth xs i ≡ Some x)
+pub nth_there : {A : Type 0} (xs : List A) (i : ℕ) → 1 ≤ i → i ≤ length xs → (x : A) × (nth xs i ≡ Some x)
 nth_there xs zero low high = absurd (omega arith)
 nth_there xs (suc i) low high =
     let some = ne_eqb (suc i) 0 (λ e. omega arith) in

@@ -14,3 +14,8 @@ is_command (Refresh version) = nat_le version max_count
 is_command (AddVehicle new) = is_none (new_vehicle_fault new)
 is_command (OpenCampaign campaign) = campaign_fits campaign && campaign.running
 is_command _ = true
+
+-- a campaign that is opened is running
+abbrev pub opens_running : Command → Bool
+opens_running (OpenCampaign campaign) = campaign.running
+opens_running _ = true

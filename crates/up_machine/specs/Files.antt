@@ -20,6 +20,7 @@ use Rattle.up_plan.specs.Images.{ImageData}
 use Rattle.up_machine.specs.declared.keys.RoleSecrets.{RoleSecrets}
 use Rattle.up_machine.specs.declared.keys.RepoKeys.{RepoKeys}
 use Rattle.up_machine.specs.declared.keys.KeySet.{KeySet}
+use Rattle.up_machine.specs.declared.decision.RoleTexts.{RoleTexts}
 use Rattle.up_machine.specs.Keys.{identifier}
 use Rattle.up_machine.specs.State.{Root, State, root_at}
 
@@ -64,11 +65,6 @@ unfoldable pub root_text : Rules → Repository → ℕ → Root → Option Root
 root_text k repository number root before = root_text_of k (root_signers repository root before) (root_file k repository number root)
 
 -- ---- Targets, Snapshot and Timestamp files, which are made together
-
-pub record RoleTexts : Type 0 where
-  pub targets : List ℕ
-  pub snapshot : List ℕ
-  pub timestamp : List ℕ
 
 abbrev pub target_of : Option Name → ImageData → Target
 target_of ecu image = record { ecu = ecu; file = image.file; length = image.length; sha256 = image.sha256; hardware = image.hardware; release = image.release }

@@ -11,9 +11,13 @@ pub mod Deliveries
 pub mod Machine
 pub mod Repeats
 pub mod Sound
+pub mod Registers
 pub mod Rows
+pub mod Decisions
+pub mod ManifestRows
 pub mod Reads
 pub mod Laws
 pub mod RepeatLaws
 pub mod ApartLaws
 pub mod SignedLaws
+pub mod RowLaws

@@ -10,7 +10,8 @@ use Rattle.up_roles.specs.declared.targets.Target.{Target}
 use Rattle.up_plan.specs.declared.assigned.Assigned.{Assigned}
 use Rattle.up_machine.specs.declared.answer.Reply.{Reply}
 use Rattle.up_machine.specs.State.{Entry, Root, State, nth, root_at}
-use Rattle.up_machine.specs.Files.{Making, RoleTexts, role_texts, target_of}
+use Rattle.up_machine.specs.declared.decision.RoleTexts.{RoleTexts}
+use Rattle.up_machine.specs.Files.{Making, role_texts, target_of}
 
 -- the target for an ECU that an image is assigned to
 abbrev pub assigned_target : State → Assigned → Option Target

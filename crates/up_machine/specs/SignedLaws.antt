@@ -12,7 +12,8 @@ use Rattle.up_roles.specs.declared.repository.Repository.TheVariants.{Director, 
 use Rattle.up_machine.specs.declared.keys.RoleSecrets.{RoleSecrets}
 use Rattle.up_machine.specs.declared.keys.RepoKeys.{RepoKeys}
 use Rattle.up_machine.specs.State.{Entry, Vehicle, Root, State, nth, root_at}
-use Rattle.up_machine.specs.Files.{keys_of, Making, RoleTexts, role_texts, root_text_at, image_making, file}
+use Rattle.up_machine.specs.declared.decision.RoleTexts.{RoleTexts}
+use Rattle.up_machine.specs.Files.{keys_of, Making, role_texts, root_text_at, image_making, file}
 use Rattle.up_machine.specs.Replies.{reply_making, reply_json, reply_text}
 use Rattle.up_machine.specs.Sound.{IsSound}
 

@@ -1,9 +1,30 @@
 //! Commands, answers and the plain machine of the two repositories.
 #![tactic(auto)]
 
+mod acceptance;
 pub mod answer;
 pub mod command;
+pub mod decide_campaign;
+pub mod decide_manifest;
+pub mod decide_register;
+pub mod decide_root;
+pub mod decide_vehicle;
+pub mod decision;
+mod director_files;
+mod founded;
+mod image_targets;
+pub mod key_checks;
 pub mod keys;
 pub mod laws;
+pub mod making;
+mod manifest_checks;
+mod new_files;
+mod new_vehicle;
+mod public_keys;
+mod reported;
+pub mod root_making;
 pub mod rows;
+mod same_campaign;
+mod same_image;
+mod same_vehicle;
 pub mod vehicle;

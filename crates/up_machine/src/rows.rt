@@ -4,7 +4,7 @@ use std::alloc::{AllocError, Global};
 use up_canon::bytes::Bytes;
 use up_canon::count::Count;
 use up_canon::ident::Ident;
-use up_canon::listed::Duplicate;
+use up_canon::listed::{Duplicate, Listed};
 use up_canon::moment::Moment;
 use up_canon::text::Text;
 use up_manifest::report::Installed;
@@ -83,6 +83,13 @@ impl Duplicate for EcuRow {
             report,
         })
     }
+}
+
+/// A vehicle with its ECUs in inventory order.
+#[derive(Debug, Drop)]
+pub struct VehicleRows {
+    pub vehicle: VehicleRow,
+    pub ecus: Listed<EcuRow>,
 }
 
 /// An accepted manifest: its vehicle and counter, the version that it gave the vehicle, the moment and the root version at that

@@ -1,5 +1,5 @@
 //! Lines that open a campaign.
-ghost use Rattle.std.specs.Prelude.{◌≡◌};
+ghost use Rattle.std.specs.Prelude.{◌≡◌, IfOk, IsTrue};
 ghost use Rattle.serde_json.specs.View.{view};
 ghost use Rattle.up_canon.specs.Members.{object_of_map};
 ghost use Rattle.up_canon.specs.Refusals.{Gives};
@@ -37,7 +37,8 @@ impl Reading for ItemReading {
 /// The running campaign that a line opens, or the first fault of its members.
 #[tactic(auto, unfolding(crate::specs::CampaignLines::campaign_in, up_canon::specs::Steps::and_then))]
 pub fn campaign_at(alloc: Global, line: &Map<String, Value>) -> Result<Campaign, Refusal>
-    ensures { Gives result (campaign_in (object_of_map line.now.entries)) }
+    ensures value { Gives result (campaign_in (object_of_map line.now.entries)) }
+    ensures running { IfOk result (λ campaign. IsTrue campaign.running) }
 {
     let name = ident_at(alloc, line, "campaign")?;
     let reach = reach_at(alloc, line)?;

@@ -1,0 +1,67 @@
+-- What a decision that went through says.
+use Rattle.std.proofs.Common.{◌≡◌, List, Bool, true, false, Option, Some, None, Result, Ok, Err, refl, sym, ap, ◌∙◌, subst}
+use Rattle.std.specs.FinMap as table
+use Rattle.up_canon.specs.Names.{Name}
+use Rattle.up_canon.specs.declared.refusal.Refusal.{Refusal}
+use Rattle.up_sign.specs.Schemes.{Rules}
+use Rattle.up_plan.specs.Campaigns.{CampaignData}
+use Rattle.up_machine.specs.declared.answer.Answer.TheVariants.{Already as Same}
+use Rattle.up_machine.specs.declared.decision.Decision.{Decision}
+use Rattle.up_machine.specs.declared.decision.Decision.TheVariants.{Already, New}
+use Rattle.up_machine.specs.declared.answer.Answer.TheVariants.{Reply as Replied}
+use Rattle.up_machine.specs.declared.decision.AcceptedRows.{AcceptedRows}
+use Rattle.up_machine.specs.declared.decision.Delivered.{Delivered}
+use Rattle.up_machine.specs.declared.decision.Delivered.TheVariants.{Repeat, Accepted}
+use Rattle.up_machine.specs.declared.rows.Kept.{Kept}
+use Rattle.up_machine.specs.Deliveries.{with_entry}
+use Rattle.up_machine.specs.Rows.{reply_kept}
+use Rattle.up_machine.specs.State.{Entry, Vehicle, State}
+use Rattle.up_machine.specs.Deciding.{Outcome, done, already}
+use Rattle.up_machine.specs.Inventory.{with_campaign}
+use Rattle.up_machine.specs.Decisions.{IsDone, GivesDecision, GivesClosed, HasAcceptedRows, GivesDelivered}
+use Rattle.up_desk.specs.Rows.{Held, Shows}
+use Rattle.up_desk.specs.Serving.{Leaves}
+
+pub when_already : {R : Type 0} (has : R → Type 0) (s next : State) (d : Decision R) (computed : Result Outcome Refusal) → d ≡ Already → GivesDecision has s next (Ok d) computed
+    → computed ≡ Ok (already s)
+when_already has s next Already computed is h = h
+when_already has s next (New rows) computed is h = cc
+
+pub when_new : {R : Type 0} (has : R → Type 0) (s next : State) (d : Decision R) (rows : R) (computed : Result Outcome Refusal) → d ≡ New rows → GivesDecision has s next (Ok d) computed
+    → IsDone has next rows computed
+when_new has s next Already rows computed is h = cc
+when_new has s next (New other) rows computed is h = let same : other ≡ rows = cc in subst (λ r. IsDone has next r computed) same h
+
+pub when_closed : (s : State) (name : Name) (d : Decision CampaignData) (computed : Result Outcome Refusal) → d ≡ Already → GivesClosed s name (Ok d) computed → computed ≡ Ok (already s)
+when_closed s name Already computed is h = h
+when_closed s name (New row) computed is h = cc
+
+pub when_closing : (s : State) (name : Name) (d : Decision CampaignData) (row : CampaignData) (computed : Result Outcome Refusal) → d ≡ New row → GivesClosed s name (Ok d) computed
+    → computed ≡ Ok (done (with_campaign s row))
+when_closing s name Already row computed is h = cc
+when_closing s name (New other) row computed is h = let same : other ≡ row = cc in h.3 ∙ ap (λ (c : CampaignData). Ok (done (with_campaign s c))) same
+
+pub unchanged : (k : Rules) (s : State) (b : Held) (computed : Result Outcome Refusal) → Shows k s b → computed ≡ Ok (already s) → Leaves k s b (Ok Same) computed
+unchanged k s b computed shows h = (refl, (s, h, shows))
+
+pub when_repeated : (k : Rules) (s : State) (kept : Option Kept) (name : Name) (d : Delivered) (row : Kept) (computed : Result Outcome Refusal) → d ≡ Repeat → kept ≡ Some row
+    → GivesDelivered k s kept name (Ok d) computed → computed ≡ Ok (record { answer = Replied (reply_kept row); next = s })
+when_repeated k s None name Repeat row computed is there h = cc
+when_repeated k s (Some other) name Repeat row computed is there h =
+    let same : other ≡ row = cc in h ∙ ap (λ (r : Kept). Ok (record { answer = Replied (reply_kept r); next = s })) same
+when_repeated k s kept name (Accepted rows) row computed is there h = cc
+
+-- the vehicle and the entry that an accepted manifest gives it
+pub record IsAccepted (k : Rules) (s : State) (name : Name) (rows : AcceptedRows) (computed : Result Outcome Refusal) : Type 0 where
+  pub vehicle : Vehicle
+  pub entry : Entry
+  pub found : table.get s.vehicles name ≡ Some vehicle
+  pub decided : computed ≡ Ok (record { answer = Replied (reply_kept rows.kept); next = with_entry s name vehicle entry })
+  pub has : HasAcceptedRows k s name vehicle entry rows
+
+pub when_accepted : (k : Rules) (s : State) (kept : Option Kept) (name : Name) (d : Delivered) (rows : AcceptedRows) (computed : Result Outcome Refusal) → d ≡ Accepted rows
+    → GivesDelivered k s kept name (Ok d) computed → IsAccepted k s name rows computed
+when_accepted k s kept name Repeat rows computed is h = cc
+when_accepted k s kept name (Accepted other) rows computed is h =
+    let same : other ≡ rows = cc in
+    subst (λ (r : AcceptedRows). IsAccepted k s name r computed) same (record { vehicle = h.0; entry = h.1; found = h.2; decided = h.3; has = h.4 })

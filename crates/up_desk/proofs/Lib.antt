@@ -1,0 +1,14 @@
+pub mod Tables
+pub mod Shown
+pub mod Numbered
+pub mod Staying
+pub mod Rooted
+pub mod Registered
+pub mod Added
+pub mod Campaigned
+pub mod Serving
+pub mod Reading
+pub mod Decided
+pub mod Fetching
+pub mod Runs
+pub mod Founding

@@ -1,0 +1,161 @@
+-- What is served is what a command over the rows comes to.
+use Rattle.std.proofs.Common.{◌≡◌, ℕ, ◌<◌, ◌≤◌, List, Bool, true, false, Option, Some, None, Result, Ok, Err, refl, sym, ap, ◌∙◌, subst, arith}
+use Rattle.std.specs.Prelude.{⊤, nat_lt, option_and_then, MatchBool, IsTrue}
+use Rattle.std.proofs.lemmas.Bool.Decides.{nat_tests}
+use Rattle.up_canon.specs.Moments.{last_command_moment}
+use Rattle.up_canon.specs.Steps.{and_then, refuse_if, value_of}
+use Rattle.up_canon.specs.Refusals.{is_memory}
+use Rattle.up_canon.specs.declared.refusal.Refusal.{Refusal}
+use Rattle.up_canon.specs.declared.refusal.Refusal.TheVariants.{MomentOutOfRange}
+use Rattle.up_sign.specs.Schemes.{Rules}
+use Rattle.up_manifest.specs.Manifests.{incoming_in}
+use Rattle.up_machine.specs.declared.command.Command.{Command}
+use Rattle.up_machine.specs.declared.command.Command.TheVariants.{Found, Rotate, AddImage, Refresh, AddVehicle, OpenCampaign, CloseCampaign, Deliver, Fetch}
+use Rattle.up_machine.specs.declared.answer.Answer.{Answer}
+use Rattle.up_machine.specs.declared.answer.Answer.TheVariants.{Reply as Replied, Refused}
+use Rattle.up_machine.specs.Commands.{is_command}
+use Rattle.up_machine.specs.State.{State}
+use Rattle.up_machine.specs.Replies.{reply_to}
+use Rattle.up_machine.specs.Deciding.{Outcome, check_moment}
+use Rattle.up_machine.specs.Repositories.{decide_found, decide_rotate, decide_image, decide_refresh, decide_fetch}
+use Rattle.up_machine.specs.Inventory.{decide_vehicle, decide_open, decide_close}
+use Rattle.up_machine.specs.Deliveries.{Received, receive_manifest, receive, decide_received, decide_delivery}
+use Rattle.up_machine.specs.Decisions.{resolve, decide_incoming}
+use Rattle.up_machine.specs.Machine.{decide, outcome_of, step}
+use Rattle.up_machine.specs.Repeats.{Repeat, repeat_in, repeat_of, served_as, serve}
+use Rattle.up_machine.specs.Sound.{IsSound}
+use Rattle.up_machine.specs.RepeatLaws.{ServedStaysSound}
+use Rattle.up_desk.specs.Rows.{Held, Shows, state_of, Holds, Stands}
+use Rattle.up_desk.specs.Serving.{is_lost, IsAnswered, told, served, Leaves}
+use Rattle.up_desk.proofs.Shown.{determined, settled}
+
+-- ---- the moment
+
+late_test : (at : ℕ) → last_command_moment < at → nat_lt last_command_moment at ≡ true
+late_test at h = grind (arith, nat_tests)
+
+in_time_test : (at : ℕ) → at ≤ last_command_moment → nat_lt last_command_moment at ≡ false
+in_time_test at h = grind (arith, nat_tests)
+
+too_late : (at : ℕ) → last_command_moment < at → check_moment at ≡ Err MomentOutOfRange
+too_late at h = ap (λ t. refuse_if t MomentOutOfRange) (late_test at h)
+
+pub in_time : (at : ℕ) → at ≤ last_command_moment → check_moment at ≡ Ok tt
+in_time at h = ap (λ t. refuse_if t MomentOutOfRange) (in_time_test at h)
+
+stopped : {A : Type 0} (m : Result ⊤ Refusal) (f : ⊤ → Result A Refusal) (r : Refusal) → m ≡ Err r → and_then m f ≡ Err r
+unfolding and_then
+stopped m f r h = ap (λ (n : Result ⊤ Refusal). and_then n f) h
+
+pub stopped_at : {A B : Type 0} (m : Result A Refusal) (f : A → Result B Refusal) (r : Refusal) → m ≡ Err r → and_then m f ≡ Err r
+unfolding and_then
+stopped_at m f r h = ap (λ n. and_then n f) h
+
+pub passed : {A : Type 0} (m : Result ⊤ Refusal) (f : ⊤ → Result A Refusal) → m ≡ Ok tt → and_then m f ≡ f tt
+unfolding and_then
+passed m f h = ap (λ (n : Result ⊤ Refusal). and_then n f) h
+
+pub late_served : (k : Rules) (s : State) (at : ℕ) (c : Command) → last_command_moment < at → served k s at c ≡ Err MomentOutOfRange
+unfolding decide_found decide_rotate decide_image decide_refresh decide_fetch decide_vehicle decide_open decide_close
+late_served k s at (Found keys) h = stopped _ _ _ (too_late at h)
+late_served k s at (Rotate keys) h = stopped _ _ _ (too_late at h)
+late_served k s at (AddImage image) h = stopped _ _ _ (too_late at h)
+late_served k s at (Refresh version) h = stopped _ _ _ (too_late at h)
+late_served k s at (AddVehicle new) h = stopped _ _ _ (too_late at h)
+late_served k s at (OpenCampaign campaign) h = stopped _ _ _ (too_late at h)
+late_served k s at (CloseCampaign name) h = stopped _ _ _ (too_late at h)
+late_served k s at (Deliver body) h = stopped _ _ _ (too_late at h)
+late_served k s at (Fetch repository name) h = stopped _ _ _ (too_late at h)
+
+pub delivery_served : (k : Rules) (s : State) (at : ℕ) (body : List ℕ) → at ≤ last_command_moment
+    → and_then (incoming_in body) (decide_incoming k s at) ≡ served k s at (Deliver body)
+unfolding and_then
+delivery_served k s at body h = sym (ap (λ (m : Result ⊤ Refusal). and_then m (λ _. and_then (incoming_in body) (decide_incoming k s at))) (in_time at h))
+
+pub of_command : (k : Rules) (s : State) (new : Held) (r : Result Answer Refusal) (at : ℕ) (c d : Command) → c ≡ d → Leaves k s new r (served k s at d) → Leaves k s new r (served k s at c)
+of_command k s new r at c d is h = subst (λ (e : Command). Leaves k s new r (served k s at e)) (sym is) h
+
+pub of_delivery : (k : Rules) (s : State) (new : Held) (r : Result Answer Refusal) (at : ℕ) (c : Command) (body : List ℕ) → c ≡ Deliver body → at ≤ last_command_moment
+    → Leaves k s new r (and_then (incoming_in body) (decide_incoming k s at)) → Leaves k s new r (served k s at c)
+of_delivery k s new r at c body is moment h = of_command k s new r at c (Deliver body) is (subst (λ (o : Result Outcome Refusal). Leaves k s new r o) (delivery_served k s at body moment) h)
+
+-- ---- repeats
+
+abbrev chosen : Rules → State → Option Repeat → Result Outcome Refusal → Outcome
+chosen k s None decided = outcome_of s decided
+chosen k s (Some r) decided = record { answer = Replied (reply_to k s r.vehicle r.number r.entry); next = s }
+
+chosen_is : (k : Rules) (s : State) (at : ℕ) (c : Command) (o : Option Repeat) → served_as k s at c o ≡ chosen k s o (decide k s at c)
+unfolding step
+chosen_is k s at c None = refl
+chosen_is k s at c (Some r) = refl
+
+resolved : (k : Rules) (s : State) (at : ℕ) (d : Received) (o : Option Repeat) → chosen k s o (decide_received k s at d) ≡ outcome_of s (resolve k s at d o)
+resolved k s at d None = refl
+resolved k s at d (Some r) = refl
+
+received_served : (k : Rules) (s : State) (at : ℕ) (r : Result Received Refusal)
+    → chosen k s (option_and_then repeat_in (value_of r)) (and_then r (decide_received k s at)) ≡ outcome_of s (and_then r (λ d. resolve k s at d (repeat_in d)))
+unfolding and_then
+received_served k s at (Ok d) = resolved k s at d (repeat_in d)
+received_served k s at (Err e) = refl
+
+chained : {A B C D : Type 0} (m : Result A Refusal) (i : Result B Refusal) (f : B → Result C Refusal) (g : C → Result D Refusal)
+    → and_then (and_then m (λ _. and_then i f)) g ≡ and_then m (λ _. and_then i (λ x. and_then (f x) g))
+unfolding and_then
+chained (Ok x) (Ok y) f g = refl
+chained (Ok x) (Err e) f g = refl
+chained (Err e) i f g = refl
+
+delivered : (k : Rules) (s : State) (at : ℕ) (body : List ℕ) → serve k s at (Deliver body) ≡ outcome_of s (served k s at (Deliver body))
+unfolding serve receive decide_delivery decide_incoming
+delivered k s at body =
+    chosen_is k s at (Deliver body) (repeat_of k s at (Deliver body))
+    ∙ received_served k s at (receive k s at body)
+    ∙ ap (outcome_of s) (chained (check_moment at) (incoming_in body) (receive_manifest k s) (λ d. resolve k s at d (repeat_in d)))
+
+pub served_is : (k : Rules) (s : State) (at : ℕ) (c : Command) → serve k s at c ≡ outcome_of s (served k s at c)
+unfolding serve step
+served_is k s at (Found keys) = refl
+served_is k s at (Rotate keys) = refl
+served_is k s at (AddImage image) = refl
+served_is k s at (Refresh version) = refl
+served_is k s at (AddVehicle new) = refl
+served_is k s at (OpenCampaign campaign) = refl
+served_is k s at (CloseCampaign name) = refl
+served_is k s at (Deliver body) = delivered k s at body
+served_is k s at (Fetch repository name) = refl
+
+-- ---- one call
+
+pub record IsServed (k : Rules) (s : State) (at : ℕ) (c : Command) (a : Answer) (new : Held) : Type 0 where
+  pub answered : IsAnswered a s (state_of new) (serve k s at c)
+  pub stands : Stands k new
+
+by_memory : (k : Rules) (s : State) (at : ℕ) (c : Command) (r : Refusal) (new : Held) → state_of new ≡ s
+    → (b : Bool) → MatchBool b ⊤ (served k s at c ≡ Err r)
+    → MatchBool b (state_of new ≡ s) ((Refused r ≡ (serve k s at c).answer) × (state_of new ≡ (serve k s at c).next))
+by_memory k s at c r new same true h = same
+by_memory k s at c r new same false h =
+    let is : serve k s at c ≡ record { answer = Refused r; next = s } = served_is k s at c ∙ ap (outcome_of s) h in
+    (sym (ap (λ (o : Outcome). o.answer) is), same ∙ sym (ap (λ (o : Outcome). o.next) is))
+
+done_as : (k : Rules) (s next : State) (at : ℕ) (c : Command) (a : Answer) (new : Held) → state_of new ≡ next → serve k s at c ≡ record { answer = a; next = next }
+    → (b : Bool) → b ≡ false → MatchBool b (state_of new ≡ s) ((a ≡ (serve k s at c).answer) × (state_of new ≡ (serve k s at c).next))
+done_as k s next at c a new same is true h = cc
+done_as k s next at c a new same is false h = (sym (ap (λ (o : Outcome). o.answer) is), same ∙ sym (ap (λ (o : Outcome). o.next) is))
+
+pub answered : (k : Rules) (s : State) (new : Held) (at : ℕ) (c : Command) (r : Result Answer Refusal) → ServedStaysSound → IsTrue (is_command c) → IsSound k s
+    → Leaves k s new r (served k s at c) → IsServed k s at c (told r) new
+answered k s new at c (Ok a) stays fits sound h =
+    let next : State = h.1.0 in
+    let is : serve k s at c ≡ record { answer = a; next = next } = served_is k s at c ∙ ap (outcome_of s) h.1.1 in
+    let next_sound : IsSound k next = subst (λ (o : Outcome). IsSound k o.next) is (stays k s at c fits sound) in
+    record {
+      answered = done_as k s next at c a new (determined k next new next_sound h.1.2) is (is_lost a) h.0;
+      stands = settled k next new next_sound h.1.2;
+    }
+answered k s new at c (Err r) stays fits sound h = record {
+  answered = by_memory k s at c r new (determined k s new sound h.0) (is_memory r) h.1;
+  stands = settled k s new sound h.0;
+}

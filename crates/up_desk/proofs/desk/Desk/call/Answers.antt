@@ -1,0 +1,22 @@
+use Rattle.std.proofs.Common.{sym, ap, subst, ◌∙◌}
+use Rattle.up_machine.specs.Repeats.{serve}
+use Rattle.up_desk.specs.Rows.{held, state_of}
+use Rattle.up_desk.specs.Serving.{IsAnswered, told as told_as}
+use Rattle.up_desk.proofs.Serving.{answered}
+use Rattle.up_desk.proofs.desk.Desk.call.Goals as goal
+
+pub invariant_of-self : goal.invariant_of-self
+invariant_of-self g c =
+    (answered (g.K.Scheme.rules c.self.inside.scheme) (state_of (held c.self.inside.book)) (held c.obey.new.book) c.args.at c.args.command.now c.obey.result
+    c.repeats_change_nothing.ensures.sound c.keeps_limits.ensures c.self.invariant.sound c.obey.ensures.leaves).stands
+
+pub returns : goal.returns
+returns g c =
+    let is = answered (g.K.Scheme.rules c.self.inside.scheme) (state_of (held c.self.inside.book)) (held c.obey.new.book) c.args.at c.args.command.now c.obey.result
+    c.repeats_change_nothing.ensures.sound c.keeps_limits.ensures c.self.invariant.sound c.obey.ensures.leaves in
+    let told = subst (λ a. IsAnswered a (state_of (held c.self.inside.book)) (state_of (held c.obey.new.book)) (serve (g.K.Scheme.rules c.self.inside.scheme) (state_of (held c.self.inside.book)) c.args.at c.args.command.now)) (sym c.answer_of.ensures) is.answered in
+    record {
+      served = subst (λ d. IsAnswered c.answer_of.result d.state (state_of (held c.obey.new.book)) (serve (g.K.Scheme.rules d.scheme) d.state c.args.at c.args.command.now)) c.self.view_is told;
+      moment = λ late. c.answer_of.ensures ∙ ap told_as (c.obey.ensures.moment late);
+      scheme = ap (λ d. d.scheme) c.self.view_is;
+    }

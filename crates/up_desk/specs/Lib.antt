@@ -1,0 +1,5 @@
+pub mod Tables
+pub mod Rows
+pub mod Changes
+pub mod Serving
+pub mod Runs

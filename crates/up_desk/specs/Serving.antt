@@ -1,0 +1,51 @@
+-- What a desk answers, and the state that it leaves.
+use Rattle.std.specs.Prelude.{◌≡◌, ℕ, Bool, true, false, MatchBool, ⊤, Result, Ok, Err}
+use Rattle.up_canon.specs.Refusals.{is_memory}
+use Rattle.up_canon.specs.Steps.{◌>>=◌}
+use Rattle.up_canon.specs.declared.refusal.Refusal.{Refusal}
+use Rattle.up_sign.specs.Schemes.{Rules}
+use Rattle.up_manifest.specs.Manifests.{incoming_in}
+use Rattle.up_machine.specs.declared.command.Command.{Command}
+use Rattle.up_machine.specs.declared.command.Command.TheVariants.{Deliver}
+use Rattle.up_machine.specs.declared.answer.Answer.{Answer}
+use Rattle.up_machine.specs.declared.answer.Answer.TheVariants.{Refused}
+use Rattle.up_machine.specs.State.{State}
+use Rattle.up_machine.specs.Deciding.{Outcome, check_moment}
+use Rattle.up_machine.specs.Decisions.{decide_incoming}
+use Rattle.up_machine.specs.Machine.{decide}
+use Rattle.up_desk.specs.Rows.{Held, Shows}
+
+-- a scheme, and the state that is kept under it
+pub record Holding (K : Type 0) : Type 0 where
+  pub scheme : K
+  pub state : State
+
+-- memory was refused
+abbrev pub is_lost : Answer → Bool
+is_lost (Refused r) = is_memory r
+is_lost _ = false
+
+-- the answer and the state are those of the outcome; where memory was refused the state is as before
+abbrev pub IsAnswered : Answer → State → State → Outcome → Type 0
+IsAnswered a old new o = MatchBool (is_lost a) (new ≡ old) ((a ≡ o.answer) × (new ≡ o.next))
+
+-- a refusal is told as one
+abbrev pub told : Result Answer Refusal → Answer
+told (Ok answer) = answer
+told (Err r) = Refused r
+
+-- ---- one command over the rows
+
+-- the refusal that is due, or the outcome; a manifest that was accepted before is answered its kept reply
+abbrev pub served : Rules → State → ℕ → Command → Result Outcome Refusal
+served k s at (Deliver body) = do
+  moment_out_of_range ← check_moment at
+  incoming ← incoming_in body
+  decide_incoming k s at incoming
+served k s at c = decide k s at c
+
+-- what is kept are the rows of the outcome that was computed; of a refusal, or where memory was refused, those of the state
+abbrev pub Leaves : Rules → State → Held → Result Answer Refusal → Result Outcome Refusal → Type 0
+Leaves k s new (Ok answer) computed =
+    (is_lost answer ≡ false) × ((next : State) × (computed ≡ Ok (record { answer = answer; next = next })) × Shows k next new)
+Leaves k s new (Err r) computed = Shows k s new × MatchBool (is_memory r) ⊤ (computed ≡ Err r)

@@ -1,0 +1,75 @@
+//! Campaigns.
+ghost use Rattle.std.specs.Prelude.{◌≡◌, ◌≤◌, OnOk, OnErr};
+ghost use Rattle.up_canon.specs.Moments.{last_command_moment};
+ghost use Rattle.up_sign.specs.Schemes.{Rules};
+ghost use Rattle.up_machine.specs.Inventory.{decide_open as decide_open_in, decide_close as decide_close_in};
+ghost use Rattle.up_desk.specs.Rows.{held, state_of, Stands};
+ghost use Rattle.up_desk.specs.Changes.{with_campaign_row};
+ghost use Rattle.up_desk.specs.Serving.{Leaves};
+
+use crate::book::Book;
+use crate::texts::text_of;
+use std::alloc::{AllocError, Global};
+use up_canon::ident::Ident;
+use up_canon::listed::Duplicate;
+use up_canon::moment::Moment;
+use up_canon::refusal::Refusal;
+use up_machine::answer::Answer;
+use up_machine::decide_campaign::{decide_close, decide_open};
+use up_machine::decision::Decision;
+use up_plan::campaign::Campaign;
+
+/// Opens a campaign.
+pub fn open(
+    book: &mut Book,
+    alloc: Global,
+    at: Moment,
+    campaign: &Campaign,
+) -> Result<Answer, Refusal>
+    requires { at ≤ last_command_moment }
+    ensures { (k : Rules) → Stands k (held book.old) → Leaves k (state_of (held book.old)) (held book.new) result
+        (decide_open_in (state_of (held book.old)) at campaign.now) }
+{
+    let old = book.campaigns.get(campaign.name.text());
+    match decide_open(
+        alloc,
+        at,
+        campaign,
+        &book.founding,
+        old,
+        &book.vehicles,
+        &book.images,
+    )? {
+        Decision::Already => Ok(Answer::Already),
+        Decision::New(campaign) => {
+            put_campaign(alloc, book, campaign)?;
+            Ok(Answer::Done)
+        }
+    }
+}
+
+/// Closes the campaign of this name.
+pub fn close(book: &mut Book, alloc: Global, at: Moment, name: &Ident) -> Result<Answer, Refusal>
+    requires { at ≤ last_command_moment }
+    ensures { (k : Rules) → Stands k (held book.old) → Leaves k (state_of (held book.old)) (held book.new) result
+        (decide_close_in (state_of (held book.old)) at name.now) }
+{
+    let campaign = book.campaigns.get(name.text());
+    match decide_close(alloc, at, name, &book.founding, campaign)? {
+        Decision::Already => Ok(Answer::Already),
+        Decision::New(campaign) => {
+            put_campaign(alloc, book, campaign)?;
+            Ok(Answer::Done)
+        }
+    }
+}
+
+/// Keeps a campaign under its name.
+fn put_campaign(alloc: Global, book: &mut Book, campaign: Campaign) -> Result<(), AllocError>
+    ensures ok { OnOk result (held book.new ≡ with_campaign_row (held book.old) campaign) }
+    ensures err { OnErr result (held book.new ≡ held book.old) }
+{
+    let name = text_of(alloc, campaign.name.text())?;
+    book.campaigns.insert(name, campaign)?;
+    Ok(())
+}

@@ -1,0 +1,113 @@
+//! Vehicles of the inventory.
+ghost use Rattle.std.specs.Prelude.{◌≡◌, ◌≤◌, IfOk, OnOk, OnErr, [], map};
+ghost use Rattle.up_canon.specs.Moments.{last_command_moment};
+ghost use Rattle.up_machine.specs.Inventory.{decide_vehicle as decide_vehicle_in, with_vehicle};
+ghost use Rattle.up_machine.specs.Rows.{rows_of};
+ghost use Rattle.up_machine.specs.Decisions.{GivesDecision};
+ghost use Rattle.up_desk.specs.Rows.{held, state_of, Stands, has_ecu_row, stands_among};
+ghost use Rattle.up_desk.specs.Changes.{with_vehicle_rows};
+ghost use Rattle.up_desk.specs.Serving.{Leaves};
+
+use crate::book::Book;
+use crate::texts::text_of;
+use std::alloc::{AllocError, Global};
+use up_canon::ident::Ident;
+use up_canon::moment::Moment;
+use up_canon::refusal::Refusal;
+use up_machine::answer::Answer;
+use up_machine::decide_vehicle::decide_vehicle;
+use up_machine::decision::Decision;
+use up_machine::rows::VehicleRows;
+use up_machine::vehicle::{NewEcu, NewVehicle};
+use up_sign::scheme::Scheme;
+
+/// Adds a vehicle.
+pub fn add_vehicle<K: Scheme>(
+    book: &mut Book,
+    alloc: Global,
+    scheme: &K,
+    at: Moment,
+    new: &NewVehicle,
+) -> Result<Answer, Refusal>
+    requires moment { at ≤ last_command_moment }
+    requires stands { Stands (K.rules scheme.now) (held book.old) }
+    ensures { Leaves (K.rules scheme.now) (state_of (held book.old)) (held book.new) result
+        (decide_vehicle_in (K.rules scheme.now) (state_of (held book.old)) at new.now) }
+{
+    match decide(book, alloc, scheme, at, new)? {
+        Decision::Already => Ok(Answer::Already),
+        Decision::New(rows) => {
+            put_vehicle(alloc, book, rows)?;
+            Ok(Answer::Done)
+        }
+    }
+}
+
+/// Decides on a vehicle over its rows.
+fn decide<K: Scheme>(
+    book: &Book,
+    alloc: Global,
+    scheme: &K,
+    at: Moment,
+    new: &NewVehicle,
+) -> Result<Decision<VehicleRows>, Refusal>
+    requires moment { at ≤ last_command_moment }
+    requires stands { Stands (K.rules scheme.now) (held book.now) }
+    ensures { let s = state_of (held book.now) in
+        GivesDecision (λ rows. rows ≡ rows_of new.now.vehicle (record { primary = new.now.primary; ecus = new.now.ecus; entries = [] })) s (with_vehicle s new.now) result
+        (decide_vehicle_in (K.rules scheme.now) s at new.now) }
+{
+    let recorded = recorded_in(alloc, book.vehicles.values(), new.ecus.as_slice())?;
+    let old = book.vehicles.get(new.vehicle.text());
+    decide_vehicle(
+        alloc,
+        scheme,
+        at,
+        new,
+        &book.founding,
+        old,
+        recorded.as_slice(),
+    )
+}
+
+/// For each new ECU whether one of its name stands in a vehicle.
+fn recorded_in(
+    alloc: Global,
+    vehicles: &[VehicleRows],
+    ecus: &[NewEcu],
+) -> Result<Vec<bool>, AllocError>
+    ensures { IfOk result (λ recorded. recorded.items ≡ map (λ e. has_ecu_row e.ecu vehicles.now) ecus.now) }
+{
+    let mut recorded = Vec::with_capacity(alloc, ecus.len())?;
+    for ecu in ecus {
+        recorded.push(is_recorded(vehicles, &ecu.ecu))?;
+    }
+    Ok(recorded)
+}
+
+/// Whether an ECU of the name stands in one of the vehicles.
+fn is_recorded(vehicles: &[VehicleRows], ecu: &Ident) -> bool
+    ensures { result ≡ has_ecu_row ecu.now vehicles.now }
+{
+    vehicles.iter().any(|rows| stands_in(rows, ecu))
+}
+
+/// Whether an ECU of the name stands in the vehicle.
+pub fn stands_in(rows: &VehicleRows, ecu: &Ident) -> bool
+    ensures { result ≡ stands_among ecu.now rows.now.ecus }
+{
+    rows.ecus
+        .as_slice()
+        .iter()
+        .any(|row| row.ecu.text() == ecu.text())
+}
+
+/// Keeps a vehicle under its name.
+fn put_vehicle(alloc: Global, book: &mut Book, rows: VehicleRows) -> Result<(), AllocError>
+    ensures ok { OnOk result (held book.new ≡ with_vehicle_rows (held book.old) rows) }
+    ensures err { OnErr result (held book.new ≡ held book.old) }
+{
+    let name = text_of(alloc, rows.vehicle.vehicle.text())?;
+    book.vehicles.insert(name, rows)?;
+    Ok(())
+}

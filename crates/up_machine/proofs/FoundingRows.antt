@@ -1,0 +1,154 @@
+-- The founding's row of a state, and the rows of the state that a new root version or a change of the register leaves.
+use Rattle.std.proofs.Common.{◌≡◌, ℕ, ◌+◌, ◌-◌, ◌<◌, List, [], ◌∷◌, ◌++◌, false, Option, Some, None, length, refl, sym, ap, ◌∙◌, subst, arith}
+use Rattle.std.specs.Prelude.{slice_get, option_map, map, is_some, IsTrue, IfSome}
+use Rattle.std.specs.FinMap as table
+use Rattle.std.proofs.lemmas.List.{length-append}
+use Rattle.up_canon.specs.Names.{Table}
+use Rattle.up_sign.specs.Schemes.{Rules}
+use Rattle.up_roles.specs.declared.repository.Repository.TheVariants.{Director, Image}
+use Rattle.up_plan.specs.Images.{ImageData}
+use Rattle.up_machine.specs.declared.keys.KeySet.{KeySet}
+use Rattle.up_machine.specs.declared.rows.Founding.{Founding}
+use Rattle.up_machine.specs.declared.decision.RootRows.{RootRows}
+use Rattle.up_machine.specs.declared.decision.RoleTexts.{RoleTexts}
+use Rattle.up_machine.specs.Keys.{key_set_fits}
+use Rattle.up_machine.specs.State.{Root, State, nth, root_at}
+use Rattle.up_machine.specs.Files.{root_text, role_texts, image_making, target_of}
+use Rattle.up_machine.specs.Rows.{founding_row}
+use Rattle.up_machine.specs.Sound.{IsSoundRoot, IsSound}
+use Rattle.up_machine.specs.Repositories.{stamped, with_root}
+use Rattle.up_machine.specs.Decisions.{HasRootRows, HasRegisterRows}
+use Rattle.up_machine.proofs.Steps.{map_some}
+use Rattle.up_machine.proofs.Keeping.{nth_at, nth_stays}
+use Rattle.up_machine.proofs.Repeating.{nth_at_place}
+use Rattle.up_machine.proofs.Signing.{nth_there}
+
+-- the row where this is the last root
+abbrev row_of : State → Root → Founding
+row_of s root = record { root = length s.roots; keys = root.keys; image_version = s.image_version; stamp = s.stamp }
+
+-- ---- what the row says of the state
+
+pub record IsFoundingOf (s : State) (f : Founding) : Type 0 where
+  pub root : Root
+  pub there : root_at s (length s.roots) ≡ Some root
+  pub is : f ≡ row_of s root
+
+pub founding_of : (s : State) (f : Founding) → Some f ≡ founding_row s → IsFoundingOf s f
+founding_of s f h =
+    let found = map_some (row_of s) (root_at s (length s.roots)) f (sym h) in
+    record { root = found.0; there = found.1; is = sym found.2 }
+
+no_roots : (f : Root → Founding) (roots : List Root) → None ≡ option_map f (nth roots (length roots)) → length roots ≡ 0
+no_roots f [] h = refl
+no_roots f (root ∷ roots) h =
+    let last = nth_there (root ∷ roots) (length (root ∷ roots)) (omega arith) (omega arith) in
+    let some : option_map f (nth (root ∷ roots) (length (root ∷ roots))) ≡ Some (f last.0) = ap (option_map f) last.1 in
+    let clash : None ≡ Some (f last.0) = h ∙ some in
+    cc
+
+pub none_there : {A : Type 0} (o : Option A) → is_some o ≡ false → o ≡ None
+none_there None h = refl
+none_there (Some x) h = cc
+
+-- no row, no root
+pub unfounded : (s : State) → None ≡ founding_row s → length s.roots ≡ 0
+unfounded s h = no_roots (row_of s) s.roots h
+
+some_root : (roots : List Root) (root : Root) → nth roots (length roots) ≡ Some root → 0 < length roots
+some_root [] root h = cc
+some_root (x ∷ roots) root h = omega arith
+
+pub has_roots : (s : State) (f : Founding) → Some f ≡ founding_row s → 0 < length s.roots
+has_roots s f h = let of = founding_of s f h in some_root s.roots of.root of.there
+
+-- the keys of a sound state's row fit
+pub founding_fits : (k : Rules) (s : State) → IsSound k s → IfSome (founding_row s) (λ f. IsTrue (key_set_fits k f.keys))
+founding_fits k s sound = by_root (root_at s (length s.roots)) refl
+  where
+    by_root : (o : Option Root) → root_at s (length s.roots) ≡ o → IfSome (option_map (row_of s) o) (λ f. IsTrue (key_set_fits k f.keys))
+    by_root None is = tt
+    by_root (Some root) is = (nth_at (IsSoundRoot k) s.roots (length s.roots) root sound.repositories.each_root is).keys
+
+-- ---- one root more
+
+at_end : {A : Type 0} (xs : List A) (x : A) → slice_get (xs ++ x ∷ []) (length xs) ≡ Some x
+at_end [] x = refl
+at_end (y ∷ xs) x = at_end xs x
+
+one_more : {A : Type 0} (xs : List A) (x : A) → length (xs ++ x ∷ []) ≡ 1 + length xs
+one_more xs x = length-append xs (x ∷ []) ∙ swapped (length xs)
+  where
+    swapped : (n : ℕ) → n + 1 ≡ 1 + n
+    swapped n = omega arith
+
+new_last : {A : Type 0} (xs : List A) (x : A) → nth (xs ++ x ∷ []) (length (xs ++ x ∷ [])) ≡ Some x
+new_last xs x = nth_at_place (xs ++ x ∷ []) (length (xs ++ x ∷ [])) (length xs) x (one_more xs x) (at_end xs x)
+
+one_less : {A : Type 0} (xs : List A) (x : A) → length (xs ++ x ∷ []) - 1 ≡ length xs
+one_less xs x = let more = one_more xs x in omega (arith, more)
+
+-- the number of the new root
+pub new_number : (s : State) (at : ℕ) (keys : KeySet) → length (with_root s at keys).roots ≡ 1 + length s.roots
+new_number s at keys = one_more s.roots (record { keys = keys; at = at })
+
+-- the root of the number before it
+abbrev pub root_before : State → ℕ → KeySet → Option Root
+root_before s at keys = root_at (with_root s at keys) (length (with_root s at keys).roots - 1)
+
+pub none_before : (s : State) (at : ℕ) (keys : KeySet) → length s.roots ≡ 0 → option_map (λ r. r.keys) (root_before s at keys) ≡ None
+none_before s at keys none =
+    let first : length (with_root s at keys).roots - 1 ≡ 0 = one_less s.roots (record { keys = keys; at = at }) ∙ none in
+    ap (λ n. option_map (λ (r : Root). r.keys) (nth (with_root s at keys).roots n)) first
+
+pub old_before : (s : State) (at : ℕ) (keys : KeySet) (f : Founding) → Some f ≡ founding_row s → option_map (λ r. r.keys) (root_before s at keys) ≡ Some f.keys
+old_before s at keys f h =
+    let of = founding_of s f h in
+    ap (λ n. option_map (λ (r : Root). r.keys) (nth (with_root s at keys).roots n)) (one_less s.roots (record { keys = keys; at = at }))
+    ∙ ap (option_map (λ (r : Root). r.keys)) (nth_stays s.roots _ (length s.roots) of.root of.there)
+    ∙ ap (λ (f : Founding). Some f.keys) (sym of.is)
+
+-- ---- the rows of the next state
+
+-- the image repository's files
+abbrev pub files_of : Rules → KeySet → ℕ → ℕ → List ImageData → RoleTexts
+files_of k keys version at images = role_texts k (record { repository = Image; keys = keys; vehicle = None; version = version; at = at; targets = map (target_of None) images })
+
+abbrev pub root_rows_of : Rules → ℕ → KeySet → ℕ → Option Root → ℕ → List ImageData → RootRows
+root_rows_of k number keys at before version images = record {
+  founding = record { root = number; keys = keys; image_version = version; stamp = at };
+  director = root_text k Director number (record { keys = keys; at = at }) before;
+  image = root_text k Image number (record { keys = keys; at = at }) before;
+  files = files_of k keys version at images;
+}
+
+pub root_rows_hold : (k : Rules) (s : State) (at : ℕ) (keys : KeySet) (version number : ℕ) → number ≡ 1 + length s.roots
+    → HasRootRows k (stamped (with_root s at keys) at version) (root_rows_of k number keys at (root_before s at keys) version (table.values s.images))
+root_rows_hold k s at keys version number is =
+    let next = stamped (with_root s at keys) at version in
+    let root : Root = record { keys = keys; at = at } in
+    let last : root_at next (length next.roots) ≡ Some root = new_last s.roots root in
+    subst (λ n. HasRootRows k next (root_rows_of k n keys at (root_before s at keys) version (table.values s.images))) (new_number s at keys ∙ sym is) (record {
+      founding = ap (option_map (row_of next)) last;
+      root = root;
+      there = last;
+      director = refl;
+      image = refl;
+      files = ap (option_map (λ r. role_texts k (image_making next r))) last;
+    })
+
+pub register_rows_hold : (k : Rules) (s : State) (images : Table ImageData) (at version : ℕ) (f : Founding) → Some f ≡ founding_row s
+    → HasRegisterRows k (stamped (record s { images = images }) at version) (record {
+      founding = record { root = f.root; keys = f.keys; image_version = version; stamp = at };
+      files = files_of k f.keys version at (table.values images);
+    })
+register_rows_hold k s images at version f h =
+    let of = founding_of s f h in
+    let next = stamped (record s { images = images }) at version in
+    subst (λ (f : Founding). HasRegisterRows k next (record {
+      founding = record { root = f.root; keys = f.keys; image_version = version; stamp = at };
+      files = files_of k f.keys version at (table.values images);
+    })) (sym of.is) (record {
+      founding = ap (option_map (row_of next)) of.there;
+      files = ap (option_map (λ r. role_texts k (image_making next r))) of.there;
+    })

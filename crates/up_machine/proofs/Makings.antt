@@ -1,0 +1,46 @@
+-- Which secrets sign the files of a role, and how long files last.
+use Rattle.std.proofs.Common.{◌≡◌, ◌≤◌, true, arith}
+use Rattle.std.specs.Prelude.{◌&&◌, length, nat_le, is_none, IsTrue}
+use Rattle.std.specs.List.{list_all}
+use Rattle.std.proofs.lemmas.Bool.{leb-true}
+use Rattle.up_canon.specs.Names.{is_from_to}
+use Rattle.up_sign.specs.Schemes.{Rules}
+use Rattle.up_roles.specs.declared.repository.Repository.{Repository}
+use Rattle.up_roles.specs.declared.repository.Repository.TheVariants.{Director, Image}
+use Rattle.up_roles.specs.Lifetimes.{lifetimes}
+use Rattle.up_machine.specs.declared.keys.RoleSecrets.{RoleSecrets}
+use Rattle.up_machine.specs.declared.keys.RepoKeys.{RepoKeys}
+use Rattle.up_machine.specs.Keys.{secret_fits, threshold_fits, role_fits, repository_fits}
+use Rattle.up_machine.proofs.Lists.{and_left, and_right, all_weaker}
+
+-- ---- secrets
+
+pub secrets_fit : (k : Rules) (role : RoleSecrets) → IsTrue (role_fits k role) → IsTrue (list_all k.secret_fits role.keys)
+secrets_fit k role h =
+    let each : list_all (secret_fits k) role.keys ≡ true = and_right (is_from_to 1 4 (length role.keys)) _ (and_left _ (is_none _) (and_left _ (threshold_fits role) h)) in
+    all_weaker (secret_fits k) k.secret_fits (λ s fit. and_right (is_from_to 1 256 (length s)) _ fit) role.keys each
+
+pub keys_are_few : (k : Rules) (role : RoleSecrets) → IsTrue (role_fits k role) → (1 ≤ length role.keys) × (length role.keys ≤ 4)
+keys_are_few k role h =
+    let number : is_from_to 1 4 (length role.keys) ≡ true = and_left _ (list_all (secret_fits k) role.keys) (and_left _ (is_none _) (and_left _ (threshold_fits role) h)) in
+    (leb-true _ _ (and_left _ (nat_le (length role.keys) 4) number), leb-true _ _ (and_right (nat_le 1 (length role.keys)) _ number))
+
+-- few enough for an envelope
+pub secrets_are_few : (k : Rules) (role : RoleSecrets) → IsTrue (role_fits k role) → (1 ≤ length role.keys) × (length role.keys ≤ 8)
+secrets_are_few k role h = let few = keys_are_few k role h in (few.0, omega (arith, few.1))
+
+pub roles_fit : (k : Rules) (keys : RepoKeys) → IsTrue (repository_fits k keys)
+    → IsTrue (role_fits k keys.root) × IsTrue (role_fits k keys.targets) × IsTrue (role_fits k keys.snapshot) × IsTrue (role_fits k keys.timestamp)
+roles_fit k keys h = (
+  and_left _ _ (and_left _ _ (and_left _ _ h)),
+  and_right (role_fits k keys.root) _ (and_left _ _ (and_left _ _ h)),
+  and_right (role_fits k keys.root && role_fits k keys.targets) _ (and_left _ _ h),
+  and_right (role_fits k keys.root && role_fits k keys.targets && role_fits k keys.snapshot) _ h,
+)
+
+-- ---- lifetimes
+
+-- at most a year
+pub lifetimes_are_short : (r : Repository) → ((lifetimes r).root ≤ 31536000) × ((lifetimes r).targets ≤ 31536000) × ((lifetimes r).snapshot ≤ 31536000) × ((lifetimes r).timestamp ≤ 31536000)
+lifetimes_are_short Director = (omega arith, omega arith, omega arith, omega arith)
+lifetimes_are_short Image = (omega arith, omega arith, omega arith, omega arith)

@@ -1,0 +1,31 @@
+-- What new files of both repositories are made of.
+use Rattle.std.proofs.Common.{◌≡◌, List, [], ◌∷◌, Option, Some, None, refl, ap}
+use Rattle.std.specs.Prelude.{⊤, map, IsTrue, MatchOption}
+use Rattle.up_sign.specs.Schemes.{Rules}
+use Rattle.up_roles.specs.declared.repository.Repository.{Repository}
+use Rattle.up_roles.specs.declared.repository.Repository.TheVariants.{Director, Image}
+use Rattle.up_roles.specs.Payload.{are_distinct}
+use Rattle.up_roles.specs.Targets.{ecus_of}
+use Rattle.up_plan.specs.Images.{ImageData}
+use Rattle.up_machine.specs.declared.keys.KeySet.{KeySet}
+use Rattle.up_machine.specs.Keys.{repository_fits, key_set_fits}
+use Rattle.up_machine.specs.Files.{keys_of, target_of}
+use Rattle.up_machine.proofs.Lists.{and_left, and_right}
+use denote.Ref.{Bor}
+
+pub both_fit : (k : Rules) (keys : KeySet) → IsTrue (key_set_fits k keys) → IsTrue (repository_fits k keys.director) × IsTrue (repository_fits k keys.image)
+both_fit k keys h = (and_left _ _ h, and_right (repository_fits k keys.director) _ h)
+
+pub both_fit_before : (k : Rules) (repository : Repository) (before : Option (Bor KeySet)) → MatchOption before ⊤ (λ b. IsTrue (key_set_fits k b.now))
+    → MatchOption before ⊤ (λ b. IsTrue (repository_fits k (keys_of repository b.now)))
+both_fit_before k repository None h = tt
+both_fit_before k Director (Some b) h = (both_fit k b.now h).0
+both_fit_before k Image (Some b) h = (both_fit k b.now h).1
+
+-- the image repository's targets name no ECU
+none_named : (images : List ImageData) → ecus_of (map (target_of None) images) ≡ []
+none_named [] = refl
+none_named (image ∷ images) = none_named images
+
+pub no_ecus : (images : List ImageData) → IsTrue (are_distinct (ecus_of (map (target_of None) images)))
+no_ecus images = ap are_distinct (none_named images)

@@ -1,0 +1,171 @@
+-- What the decisions on both repositories come to, by what each check found.
+use Rattle.std.proofs.Common.{◌≡◌, ℕ, ◌+◌, ◌<◌, ◌≤◌, Bool, true, false, cond, Some, None, Result, Ok, Err, length, sym, ap, ◌∙◌, subst, arith}
+use Rattle.std.specs.Prelude.{⊤, MatchBool, IsErrAnd, nat_le, nat_lt, ◌==◌, not}
+use Rattle.std.specs.FinMap as table
+use Rattle.std.proofs.lemmas.Bool.Decides.{nat_tests}
+use Rattle.up_canon.specs.Canon.{max_count}
+use Rattle.up_canon.specs.Moments.{last_command_moment}
+use Rattle.up_canon.specs.Refusals.{is_memory}
+use Rattle.up_canon.specs.Steps.{refuse_if}
+use Rattle.up_canon.specs.declared.refusal.Refusal.{Refusal}
+use Rattle.up_canon.specs.declared.refusal.Refusal.TheVariants.{MomentOutOfRange, NotFounded, AlreadyFounded, ImageTaken, RegisterFull, VersionLimit, VersionNotGreater, RootFull}
+use Rattle.up_sign.specs.Schemes.{Rules}
+use Rattle.up_plan.specs.Images.{ImageData}
+use Rattle.up_machine.specs.declared.keys.KeySet.{KeySet}
+use Rattle.up_machine.specs.Keys.{check_keys}
+use Rattle.up_machine.specs.State.{State}
+use Rattle.up_machine.specs.Deciding.{Outcome, done, already, where_new, check_moment, check_founded, check_version}
+use Rattle.up_machine.specs.Repositories.{stamped, with_root, with_image, same_image, decide_found, decide_rotate, decide_new_image, decide_image, decide_refresh}
+use Rattle.up_machine.specs.Decisions.{GivesRows}
+use Rattle.up_machine.proofs.Steps.{bind-ok, bind-err}
+
+-- ---- checks
+
+in_time : (at : ℕ) → at ≤ last_command_moment → check_moment at ≡ Ok tt
+in_time at h = let test : nat_lt last_command_moment at ≡ false = grind (arith, nat_tests) in ap (λ b. refuse_if b MomentOutOfRange) test
+
+founded : (s : State) → 0 < length s.roots → check_founded s ≡ Ok tt
+founded s h = let test : (length s.roots == 0) ≡ false = grind (arith, nat_tests) in ap (λ b. refuse_if b NotFounded) test
+
+not_founded : (s : State) → length s.roots ≡ 0 → check_founded s ≡ Err NotFounded
+not_founded s h = let test : (length s.roots == 0) ≡ true = grind (arith, nat_tests) in ap (λ b. refuse_if b NotFounded) test
+
+below_limit : (s : State) → s.image_version < max_count → check_version s ≡ Ok tt
+below_limit s h = let test : nat_le max_count s.image_version ≡ false = grind (arith, nat_tests) in ap (λ b. refuse_if b VersionLimit) test
+
+at_limit : (s : State) → max_count ≤ s.image_version → check_version s ≡ Err VersionLimit
+at_limit s h = let test : nat_le max_count s.image_version ≡ true = grind (arith, nat_tests) in ap (λ b. refuse_if b VersionLimit) test
+
+-- ---- foundings
+
+found_bad : (k : Rules) (s : State) (at : ℕ) (keys : KeySet) (r : Refusal) → at ≤ last_command_moment → check_keys k keys ≡ Err r → decide_found k s at keys ≡ Err r
+unfolding decide_found
+found_bad k s at keys r moment bad = bind-ok _ _ tt (in_time at moment) ∙ bind-err _ _ r bad
+
+-- what holds where memory wasn't refused
+unless_memory : {A B : Type 0} (b : Bool) → (A → B) → MatchBool b ⊤ A → MatchBool b ⊤ B
+unless_memory true f h = tt
+unless_memory false f h = f h
+
+-- an error that is passed on
+pub passed_on : {R : Type 0} (has : R → Type 0) (next : State) (result : Result R Refusal) (computed : Result Outcome Refusal) (e : Refusal)
+    → IsErrAnd result (λ r. r ≡ e) → MatchBool (is_memory e) ⊤ (computed ≡ Err e) → GivesRows has next result computed
+passed_on has next (Ok rows) computed e is h = absurd is
+passed_on has next (Err r) computed e is h = subst (λ r. MatchBool (is_memory r) ⊤ (computed ≡ Err r)) (sym is) h
+
+pub found_gives : (k : Rules) (s : State) (at : ℕ) (keys : KeySet) (r : Refusal) → at ≤ last_command_moment → MatchBool (is_memory r) ⊤ (check_keys k keys ≡ Err r)
+    → MatchBool (is_memory r) ⊤ (decide_found k s at keys ≡ Err r)
+found_gives k s at keys r moment h = unless_memory (is_memory r) (found_bad k s at keys r moment) h
+
+pub found_again : (k : Rules) (s : State) (at : ℕ) (keys : KeySet) → at ≤ last_command_moment → check_keys k keys ≡ Ok tt → 0 < length s.roots → decide_found k s at keys ≡ Err AlreadyFounded
+unfolding decide_found
+found_again k s at keys moment good some =
+    let test : (length s.roots == 0) ≡ false = grind (arith, nat_tests) in
+    bind-ok _ _ tt (in_time at moment) ∙ bind-ok _ _ tt good ∙ bind-err _ _ AlreadyFounded (ap (λ b. refuse_if (not b) AlreadyFounded) test)
+
+pub found_done : (k : Rules) (s : State) (at : ℕ) (keys : KeySet) → at ≤ last_command_moment → check_keys k keys ≡ Ok tt → length s.roots ≡ 0
+    → decide_found k s at keys ≡ Ok (done (stamped (with_root s at keys) at 1))
+unfolding decide_found
+found_done k s at keys moment good none =
+    let test : (length s.roots == 0) ≡ true = grind (arith, nat_tests) in
+    bind-ok _ _ tt (in_time at moment) ∙ bind-ok _ _ tt good ∙ bind-ok _ _ tt (ap (λ b. refuse_if (not b) AlreadyFounded) test)
+
+-- ---- rotations
+
+rotate_bad : (k : Rules) (s : State) (at : ℕ) (keys : KeySet) (r : Refusal) → at ≤ last_command_moment → check_keys k keys ≡ Err r → decide_rotate k s at keys ≡ Err r
+unfolding decide_rotate
+rotate_bad k s at keys r moment bad = bind-ok _ _ tt (in_time at moment) ∙ bind-err _ _ r bad
+
+pub rotate_gives : (k : Rules) (s : State) (at : ℕ) (keys : KeySet) (r : Refusal) → at ≤ last_command_moment → MatchBool (is_memory r) ⊤ (check_keys k keys ≡ Err r)
+    → MatchBool (is_memory r) ⊤ (decide_rotate k s at keys ≡ Err r)
+rotate_gives k s at keys r moment h = unless_memory (is_memory r) (rotate_bad k s at keys r moment) h
+
+pub rotate_unfounded : (k : Rules) (s : State) (at : ℕ) (keys : KeySet) → at ≤ last_command_moment → check_keys k keys ≡ Ok tt → length s.roots ≡ 0 → decide_rotate k s at keys ≡ Err NotFounded
+unfolding decide_rotate
+rotate_unfounded k s at keys moment good none = bind-ok _ _ tt (in_time at moment) ∙ bind-ok _ _ tt good ∙ bind-err _ _ NotFounded (not_founded s none)
+
+pub rotate_full : (k : Rules) (s : State) (at : ℕ) (keys : KeySet) → at ≤ last_command_moment → check_keys k keys ≡ Ok tt → 0 < length s.roots → 64 ≤ length s.roots → decide_rotate k s at keys ≡ Err RootFull
+unfolding decide_rotate
+rotate_full k s at keys moment good some full =
+    let test : nat_le 64 (length s.roots) ≡ true = grind (arith, nat_tests) in
+    bind-ok _ _ tt (in_time at moment) ∙ bind-ok _ _ tt good ∙ bind-ok _ _ tt (founded s some) ∙ bind-err _ _ RootFull (ap (λ b. refuse_if b RootFull) test)
+
+room_for_root : (s : State) → length s.roots < 64 → refuse_if (nat_le 64 (length s.roots)) RootFull ≡ Ok tt
+room_for_root s room = let test : nat_le 64 (length s.roots) ≡ false = grind (arith, nat_tests) in ap (λ b. refuse_if b RootFull) test
+
+pub rotate_limit : (k : Rules) (s : State) (at : ℕ) (keys : KeySet) → at ≤ last_command_moment → check_keys k keys ≡ Ok tt → 0 < length s.roots → length s.roots < 64 → max_count ≤ s.image_version
+    → decide_rotate k s at keys ≡ Err VersionLimit
+unfolding decide_rotate
+rotate_limit k s at keys moment good some room limit =
+    bind-ok _ _ tt (in_time at moment) ∙ bind-ok _ _ tt good ∙ bind-ok _ _ tt (founded s some) ∙ bind-ok _ _ tt (room_for_root s room) ∙ bind-err _ _ VersionLimit (at_limit s limit)
+
+pub rotate_done : (k : Rules) (s : State) (at : ℕ) (keys : KeySet) → at ≤ last_command_moment → check_keys k keys ≡ Ok tt → 0 < length s.roots → length s.roots < 64 → s.image_version < max_count
+    → decide_rotate k s at keys ≡ Ok (done (stamped (with_root s at keys) at (s.image_version + 1)))
+unfolding decide_rotate
+rotate_done k s at keys moment good some room below =
+    bind-ok _ _ tt (in_time at moment) ∙ bind-ok _ _ tt good ∙ bind-ok _ _ tt (founded s some) ∙ bind-ok _ _ tt (room_for_root s room) ∙ bind-ok _ _ tt (below_limit s below)
+
+-- ---- new images
+
+pub image_unfounded : (s : State) (at : ℕ) (image : ImageData) → at ≤ last_command_moment → length s.roots ≡ 0 → decide_image s at image ≡ Err NotFounded
+unfolding decide_image
+image_unfounded s at image moment none = bind-ok _ _ tt (in_time at moment) ∙ bind-err _ _ NotFounded (not_founded s none)
+
+of_founded : (s : State) (at : ℕ) (image : ImageData) → at ≤ last_command_moment → 0 < length s.roots
+    → decide_image s at image ≡ where_new s (same_image image) ImageTaken (table.get s.images image.file) (decide_new_image s at image)
+unfolding decide_image
+of_founded s at image moment some = bind-ok _ _ tt (in_time at moment) ∙ bind-ok _ _ tt (founded s some)
+
+pub image_there : (s : State) (at : ℕ) (image old : ImageData) → at ≤ last_command_moment → 0 < length s.roots → table.get s.images image.file ≡ Some old → same_image image old ≡ true
+    → decide_image s at image ≡ Ok (already s)
+image_there s at image old moment some there same =
+    of_founded s at image moment some ∙ ap (λ o. where_new s (same_image image) ImageTaken o (decide_new_image s at image)) there ∙ ap (λ b. cond b (Ok (already s)) (Err ImageTaken)) same
+
+pub image_taken : (s : State) (at : ℕ) (image old : ImageData) → at ≤ last_command_moment → 0 < length s.roots → table.get s.images image.file ≡ Some old → same_image image old ≡ false
+    → decide_image s at image ≡ Err ImageTaken
+image_taken s at image old moment some there other =
+    of_founded s at image moment some ∙ ap (λ o. where_new s (same_image image) ImageTaken o (decide_new_image s at image)) there ∙ ap (λ b. cond b (Ok (already s)) (Err ImageTaken)) other
+
+of_new : (s : State) (at : ℕ) (image : ImageData) → at ≤ last_command_moment → 0 < length s.roots → table.get s.images image.file ≡ None → decide_image s at image ≡ decide_new_image s at image
+of_new s at image moment some none =
+    of_founded s at image moment some ∙ ap (λ o. where_new s (same_image image) ImageTaken o (decide_new_image s at image)) none
+
+pub image_full : (s : State) (at : ℕ) (image : ImageData) → at ≤ last_command_moment → 0 < length s.roots → table.get s.images image.file ≡ None → 1024 ≤ table.len s.images
+    → decide_image s at image ≡ Err RegisterFull
+unfolding decide_new_image
+image_full s at image moment some none full =
+    let test : nat_le 1024 (table.len s.images) ≡ true = grind (arith, nat_tests) in
+    of_new s at image moment some none ∙ bind-err _ _ RegisterFull (ap (λ b. refuse_if b RegisterFull) test)
+
+room_for_image : (s : State) → table.len s.images < 1024 → refuse_if (nat_le 1024 (table.len s.images)) RegisterFull ≡ Ok tt
+room_for_image s room = let test : nat_le 1024 (table.len s.images) ≡ false = grind (arith, nat_tests) in ap (λ b. refuse_if b RegisterFull) test
+
+pub image_limit : (s : State) (at : ℕ) (image : ImageData) → at ≤ last_command_moment → 0 < length s.roots → table.get s.images image.file ≡ None → table.len s.images < 1024 → max_count ≤ s.image_version
+    → decide_image s at image ≡ Err VersionLimit
+unfolding decide_new_image
+image_limit s at image moment some none room limit =
+    of_new s at image moment some none ∙ bind-ok _ _ tt (room_for_image s room) ∙ bind-err _ _ VersionLimit (at_limit s limit)
+
+pub image_done : (s : State) (at : ℕ) (image : ImageData) → at ≤ last_command_moment → 0 < length s.roots → table.get s.images image.file ≡ None → table.len s.images < 1024 → s.image_version < max_count
+    → decide_image s at image ≡ Ok (done (stamped (with_image s image) at (s.image_version + 1)))
+unfolding decide_new_image
+image_done s at image moment some none room below =
+    of_new s at image moment some none ∙ bind-ok _ _ tt (room_for_image s room) ∙ bind-ok _ _ tt (below_limit s below)
+
+-- ---- new files
+
+pub refresh_unfounded : (s : State) (at version : ℕ) → at ≤ last_command_moment → length s.roots ≡ 0 → decide_refresh s at version ≡ Err NotFounded
+unfolding decide_refresh
+refresh_unfounded s at version moment none = bind-ok _ _ tt (in_time at moment) ∙ bind-err _ _ NotFounded (not_founded s none)
+
+pub refresh_not_greater : (s : State) (at version : ℕ) → at ≤ last_command_moment → 0 < length s.roots → version ≤ s.image_version → decide_refresh s at version ≡ Err VersionNotGreater
+unfolding decide_refresh
+refresh_not_greater s at version moment some low =
+    let test : nat_le version s.image_version ≡ true = grind (arith, nat_tests) in
+    bind-ok _ _ tt (in_time at moment) ∙ bind-ok _ _ tt (founded s some) ∙ bind-err _ _ VersionNotGreater (ap (λ b. refuse_if b VersionNotGreater) test)
+
+pub refresh_done : (s : State) (at version : ℕ) → at ≤ last_command_moment → 0 < length s.roots → s.image_version < version → decide_refresh s at version ≡ Ok (done (stamped s at version))
+unfolding decide_refresh
+refresh_done s at version moment some above =
+    let test : nat_le version s.image_version ≡ false = grind (arith, nat_tests) in
+    bind-ok _ _ tt (in_time at moment) ∙ bind-ok _ _ tt (founded s some) ∙ bind-ok _ _ tt (ap (λ b. refuse_if b VersionNotGreater) test)

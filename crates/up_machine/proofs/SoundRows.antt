@@ -1,0 +1,29 @@
+-- The rows of a sound state's vehicle.
+use Rattle.std.proofs.Common.{◌≡◌, List, [], ◌∷◌, map, None, Some, refl, ap, ◌∙◌, subst}
+use Rattle.std.specs.FinMap as table
+use Rattle.up_canon.specs.Names.{Name, first_repeated}
+use Rattle.up_sign.specs.Schemes.{Rules}
+use Rattle.up_machine.specs.declared.rows.EcuRow.{EcuRow}
+use Rattle.up_machine.specs.declared.rows.VehicleRows.{VehicleRows}
+use Rattle.up_machine.specs.declared.vehicle.NewEcu.{NewEcu}
+use Rattle.up_machine.specs.Vehicles.{ecu_names}
+use Rattle.up_machine.specs.State.{Vehicle, State}
+use Rattle.up_machine.specs.Rows.{ecu_row, rows_of, vehicle_rows}
+use Rattle.up_machine.specs.Sound.{IsSound}
+use Rattle.up_machine.specs.Decisions.{AreSoundRows}
+use Rattle.up_machine.specs.RowLaws.{VehicleRowsAreSound}
+use Rattle.up_machine.proofs.Counters.{versions_are_counts}
+use Rattle.up_machine.proofs.Steps.{map_some}
+
+names_same : (v : Vehicle) (ecus : List NewEcu) → map (λ (row : EcuRow). row.ecu) (map (ecu_row v) ecus) ≡ ecu_names ecus
+names_same v [] = refl
+names_same v (e ∷ ecus) = ap (λ names. e.ecu ∷ names) (names_same v ecus)
+
+pub vehicle_rows_sound : VehicleRowsAreSound
+vehicle_rows_sound k s name rows sound h =
+    let found = map_some (rows_of name) (table.get s.vehicles name) rows h in
+    let v = found.0 in
+    subst AreSoundRows found.2 (record {
+      version = (versions_are_counts k s name v sound found.1).0;
+      once = ap first_repeated (names_same v v.ecus) ∙ (sound.vehicles name v found.1).once;
+    })

@@ -1,0 +1,136 @@
+-- What decisions answer over the rows of a state: the rows of the plain machine's next state, `Already`, a repeat, or the refusal that is due.
+use Rattle.std.specs.Prelude.{◌≡◌, ℕ, ◌+◌, ◌≤◌, ◌++◌, List, [], ◌∷◌, Bool, false, Option, Some, None, option_map, unwrap_or, Result, Ok, Err, MatchBool, IsSomeAnd, length, map, ⊤}
+use Rattle.std.specs.List.{AllByRecursion, list_all}
+use Rattle.std.specs.FinMap as table
+use Rattle.up_canon.specs.Names.{Name, Table, first_repeated}
+use Rattle.up_canon.specs.Steps.{and_then, ◌>>=◌, unless}
+use Rattle.up_canon.specs.Refusals.{is_memory}
+use Rattle.up_canon.specs.declared.refusal.Refusal.{Refusal}
+use Rattle.up_canon.specs.declared.refusal.Refusal.TheVariants.{UnknownVehicle, UnknownImage, WrongHardware}
+use Rattle.up_sign.specs.Schemes.{Rules}
+use Rattle.up_manifest.specs.declared.manifest.Incoming.{Incoming}
+use Rattle.up_manifest.specs.Manifests.{incoming_in}
+use Rattle.up_roles.specs.declared.repository.Repository.TheVariants.{Director, Image}
+use Rattle.up_plan.specs.declared.campaign.Item.{Item}
+use Rattle.up_plan.specs.declared.campaign.Reach.{Reach}
+use Rattle.up_plan.specs.declared.campaign.Reach.TheVariants.{All, Named}
+use Rattle.up_plan.specs.Campaigns.{CampaignData}
+use Rattle.up_plan.specs.Images.{ImageData}
+use Rattle.up_plan.specs.Planning.{is_for}
+use Rattle.up_machine.specs.declared.rows.VehicleRows.{VehicleRows}
+use Rattle.up_machine.specs.declared.answer.Answer.TheVariants.{Reply as Replied}
+use Rattle.up_machine.specs.declared.rows.Kept.{Kept}
+use Rattle.up_machine.specs.declared.decision.RootRows.{RootRows}
+use Rattle.up_machine.specs.declared.decision.RegisterRows.{RegisterRows}
+use Rattle.up_machine.specs.declared.decision.AcceptedRows.{AcceptedRows}
+use Rattle.up_machine.specs.declared.decision.Decision.{Decision}
+use Rattle.up_machine.specs.declared.decision.Decision.TheVariants.{Already, New}
+use Rattle.up_machine.specs.declared.decision.Delivered.{Delivered}
+use Rattle.up_machine.specs.declared.decision.Delivered.TheVariants.{Repeat, Accepted}
+use Rattle.up_machine.specs.State.{Entry, Vehicle, Root, State, root_at, version}
+use Rattle.up_machine.specs.Files.{root_text_at, image_texts}
+use Rattle.up_machine.specs.Deciding.{Outcome, done, already}
+use Rattle.up_machine.specs.Deliveries.{Received, receive_manifest, decide_received, with_entry}
+use Rattle.up_machine.specs.Inventory.{with_campaign, closed}
+use Rattle.up_machine.specs.Repeats.{Repeat as KeptEntry, repeat_in}
+use Rattle.up_machine.specs.Replies.{reply_to}
+use Rattle.up_machine.specs.Rows.{founding_row, rows_of, kept_row, reply_kept}
+
+-- ---- the rows of a next state
+
+-- the last root version with its Root files, and the image repository's files
+pub record HasRootRows (k : Rules) (next : State) (rows : RootRows) : Type 0 where
+  pub founding : founding_row next ≡ Some rows.founding
+  pub root : Root
+  pub there : root_at next (length next.roots) ≡ Some root
+  pub director : rows.director ≡ root_text_at k next Director (length next.roots) root
+  pub image : rows.image ≡ root_text_at k next Image (length next.roots) root
+  pub files : image_texts k next ≡ Some rows.files
+
+pub record HasRegisterRows (k : Rules) (next : State) (rows : RegisterRows) : Type 0 where
+  pub founding : founding_row next ≡ Some rows.founding
+  pub files : image_texts k next ≡ Some rows.files
+
+-- of a vehicle that has one entry more
+pub record HasAcceptedRows (k : Rules) (s : State) (name : Name) (v : Vehicle) (e : Entry) (rows : AcceptedRows) : Type 0 where
+  pub vehicle : rows.vehicle ≡ rows_of name (record v { entries = v.entries ++ e ∷ [] })
+  pub kept : rows.kept ≡ kept_row k s name (version v.entries + 1) e
+
+-- ---- answers
+
+-- what is computed is done and leaves this state, whose rows these are
+abbrev pub IsDone : {R : Type 0} → (R → Type 0) → State → R → Result Outcome Refusal → Type 0
+IsDone has next rows computed = (computed ≡ Ok (done next)) × has rows
+
+-- the rows of the next state, or the refusal that is due, unless memory was refused
+abbrev pub GivesRows : {R : Type 0} → (R → Type 0) → State → Result R Refusal → Result Outcome Refusal → Type 0
+GivesRows has next (Ok rows) computed = IsDone has next rows computed
+GivesRows has next (Err r) computed = MatchBool (is_memory r) ⊤ (computed ≡ Err r)
+
+-- the same of what may be there already
+abbrev pub GivesDecision : {R : Type 0} → (R → Type 0) → State → State → Result (Decision R) Refusal → Result Outcome Refusal → Type 0
+GivesDecision has s next (Ok Already) computed = computed ≡ Ok (already s)
+GivesDecision has s next (Ok (New rows)) computed = IsDone has next rows computed
+GivesDecision has s next (Err r) computed = MatchBool (is_memory r) ⊤ (computed ≡ Err r)
+
+-- ---- deliveries
+
+-- it is what some body means
+abbrev pub IsRead : Incoming → Type 0
+IsRead incoming = (body : List ℕ) × (incoming_in body ≡ Ok incoming)
+
+-- a repeat is answered the kept reply and changes nothing; another manifest is decided on
+abbrev pub resolve : Rules → State → ℕ → Received → Option KeptEntry → Result Outcome Refusal
+resolve k s at r (Some p) = Ok (record { answer = Replied (reply_to k s p.vehicle p.number p.entry); next = s })
+resolve k s at r None = decide_received k s at r
+
+-- the rows of a sound state's vehicle: the version is at most the last counter, and no ECU stands twice
+pub record AreSoundRows (rows : VehicleRows) : Type 0 where
+  pub version : rows.vehicle.version ≤ rows.vehicle.last
+  pub once : first_repeated (map (λ row. row.ecu) rows.ecus) ≡ None
+
+-- what the delivery of a manifest comes to, once its moment was checked and its body read
+unfoldable pub decide_incoming : Rules → State → ℕ → Incoming → Result Outcome Refusal
+decide_incoming k s at incoming = and_then (receive_manifest k s incoming) (λ r. resolve k s at r (repeat_in r))
+
+-- a repeat is answered by the row that was kept; an accepted manifest by the row that is new
+abbrev pub GivesDelivered : Rules → State → Option Kept → Name → Result Delivered Refusal → Result Outcome Refusal → Type 0
+GivesDelivered k s kept name (Ok Repeat) computed =
+    IsSomeAnd kept (λ row. computed ≡ Ok (record { answer = Replied (reply_kept row); next = s }))
+GivesDelivered k s kept name (Ok (Accepted rows)) computed =
+    (v : Vehicle) × (e : Entry) × (table.get s.vehicles name ≡ Some v)
+    × (computed ≡ Ok (record { answer = Replied (reply_kept rows.kept); next = with_entry s name v e }))
+    × HasAcceptedRows k s name v e rows
+GivesDelivered k s kept name (Err r) computed = MatchBool (is_memory r) ⊤ (computed ≡ Err r)
+
+-- ---- campaigns
+
+-- the vehicles that a campaign names; none where it reaches all
+abbrev pub named_in : Reach → List Name
+named_in All = []
+named_in (Named vehicles) = vehicles
+
+-- the vehicles and images that a campaign names, as the state has them
+pub record Knows (s : State) (campaign : CampaignData) (vehicles : Table VehicleRows) (images : Table ImageData) : Type 0 where
+  pub of_vehicles : AllByRecursion (λ name. table.contains_key vehicles name ≡ table.contains_key s.vehicles name) (named_in campaign.reach)
+  pub of_images : AllByRecursion (λ item. table.get images item.file ≡ table.get s.images item.file) campaign.items
+
+-- an item's image is among these, and is for its hardware
+abbrev pub finds_image : Table ImageData → Item → Bool
+finds_image images item = table.contains_key images item.file
+
+abbrev pub finds_hardware : Table ImageData → Item → Bool
+finds_hardware images item = unwrap_or (option_map (is_for item.hardware) (table.get images item.file)) false
+
+-- the first fault of what a campaign names
+unfoldable pub check_campaign : Table VehicleRows → Table ImageData → CampaignData → Result ⊤ Refusal
+check_campaign vehicles images campaign = do
+  unknown_vehicle ← unless (list_all (table.contains_key vehicles) (named_in campaign.reach)) UnknownVehicle
+  unknown_image ← unless (list_all (finds_image images) campaign.items) UnknownImage
+  unless (list_all (finds_hardware images) campaign.items) WrongHardware
+
+-- a campaign that is closed is the one of that name, not running
+abbrev pub GivesClosed : State → Name → Result (Decision CampaignData) Refusal → Result Outcome Refusal → Type 0
+GivesClosed s name (Ok Already) computed = computed ≡ Ok (already s)
+GivesClosed s name (Ok (New row)) computed = (old : CampaignData) × (table.get s.campaigns name ≡ Some old) × (row ≡ closed old) × (computed ≡ Ok (done (with_campaign s row)))
+GivesClosed s name (Err r) computed = MatchBool (is_memory r) ⊤ (computed ≡ Err r)

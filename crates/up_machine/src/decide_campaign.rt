@@ -1,0 +1,166 @@
+//! Decisions on campaigns.
+ghost use Rattle.std.specs.Prelude.{◌≡◌, ◌≤◌, option_copied};
+ghost use Rattle.std.specs.List.{list_all};
+ghost use Rattle.std.specs.FinMap as table;
+ghost use Rattle.up_canon.specs.Moments.{last_command_moment};
+ghost use Rattle.up_plan.specs.Planning.{is_for as is_for_hardware};
+ghost use Rattle.up_machine.specs.State.{State};
+ghost use Rattle.up_machine.specs.Rows.{founding_row};
+ghost use Rattle.up_machine.specs.Inventory.{decide_new_campaign, decide_open as decide_open_in, decide_close as decide_close_in, with_campaign};
+ghost use Rattle.up_machine.specs.Decisions.{GivesDecision, GivesClosed, Knows, named_in, finds_image, finds_hardware, check_campaign};
+
+use crate::decision::Decision;
+use crate::founded::check_founded;
+use crate::rows::{Founding, VehicleRows};
+use crate::same_campaign::same_campaign;
+use std::alloc::Global;
+use up_canon::ident::Ident;
+use up_canon::listed::Duplicate;
+use up_canon::moment::Moment;
+use up_canon::refusal::Refusal;
+use up_canon::table::Table;
+use up_plan::campaign::{Campaign, Item, Reach};
+use up_plan::image::Image;
+
+/// Decides on opening a campaign, at a command's moment: `NotFounded`; `Already` where an equal one is running;
+/// `CampaignTaken` where another one has its name; `UnknownVehicle`, `UnknownImage`, `WrongHardware`; `Memory`. Of the
+/// tables only the vehicles and the images that the campaign names are read.
+#[tactic(auto, unfolding(crate::specs::Inventory::decide_open, up_canon::specs::Steps::and_then))]
+pub fn decide_open(
+    alloc: Global,
+    at: Moment,
+    campaign: &Campaign,
+    founding: &Option<Founding>,
+    old: Option<&Campaign>,
+    vehicles: &Table<VehicleRows>,
+    images: &Table<Image>,
+) -> Result<Decision<Campaign>, Refusal>
+    requires { at ≤ last_command_moment }
+    ensures { (s : State) → founding.now ≡ founding_row s → option_copied old.entry ≡ table.get s.campaigns campaign.now.name
+        → Knows s campaign.now vehicles.now images.now
+        → GivesDecision (λ row. row ≡ campaign.now) s (with_campaign s campaign.now) result (decide_open_in s at campaign.now) }
+{
+    check_founded(founding)?;
+    match old {
+        Some(old) => {
+            if same_campaign(campaign, old) {
+                Ok(Decision::Already)
+            } else {
+                Err(Refusal::CampaignTaken)
+            }
+        }
+        None => decide_new(alloc, campaign, vehicles, images),
+    }
+}
+
+/// Decides on opening a campaign of a name that none has.
+fn decide_new(
+    alloc: Global,
+    campaign: &Campaign,
+    vehicles: &Table<VehicleRows>,
+    images: &Table<Image>,
+) -> Result<Decision<Campaign>, Refusal>
+    ensures { (s : State) → Knows s campaign.now vehicles.now images.now
+        → GivesDecision (λ row. row ≡ campaign.now) s (with_campaign s campaign.now) result (decide_new_campaign s campaign.now) }
+{
+    check_new(campaign, vehicles, images)?;
+    Ok(Decision::New(campaign.copy(alloc)?))
+}
+
+/// Tests that the vehicles and images that the campaign names are there, and each image for its item's hardware.
+#[tactic(auto, unfolding(crate::specs::Decisions::check_campaign, up_canon::specs::Steps::and_then))]
+fn check_new(
+    campaign: &Campaign,
+    vehicles: &Table<VehicleRows>,
+    images: &Table<Image>,
+) -> Result<(), Refusal>
+    ensures { result ≡ check_campaign vehicles.now images.now campaign.now }
+{
+    if !knows_vehicles(&campaign.reach, vehicles) {
+        return Err(Refusal::UnknownVehicle);
+    }
+    let items = campaign.items.as_slice();
+    if !has_images(images, items) {
+        return Err(Refusal::UnknownImage);
+    }
+    if !has_hardwares(images, items) {
+        return Err(Refusal::WrongHardware);
+    }
+    Ok(())
+}
+
+fn knows_vehicles(reach: &Reach, vehicles: &Table<VehicleRows>) -> bool
+    ensures { result ≡ list_all (table.contains_key vehicles.now) (named_in reach.now) }
+{
+    match reach {
+        Reach::All => true,
+        Reach::Named(named) => named
+            .as_slice()
+            .iter()
+            .all(|name| vehicles.contains(name.text())),
+    }
+}
+
+fn has_images(images: &Table<Image>, items: &[Item]) -> bool
+    ensures { result ≡ list_all (finds_image images.now) items.now }
+{
+    items.iter().all(|item| has_image(images, item))
+}
+
+/// Whether each item's image is for its hardware.
+fn has_hardwares(images: &Table<Image>, items: &[Item]) -> bool
+    ensures { result ≡ list_all (finds_hardware images.now) items.now }
+{
+    items.iter().all(|item| has_hardware(images, item))
+}
+
+fn has_image(images: &Table<Image>, item: &Item) -> bool
+    ensures { result ≡ finds_image images.now item.now }
+{
+    images.contains(item.file.text())
+}
+
+fn has_hardware(images: &Table<Image>, item: &Item) -> bool
+    ensures { result ≡ finds_hardware images.now item.now }
+{
+    match images.get(item.file.text()) {
+        Some(image) => is_for(image, &item.hardware),
+        None => false,
+    }
+}
+
+fn is_for(image: &Image, hardware: &Ident) -> bool
+    ensures { result ≡ is_for_hardware hardware.now image.now }
+{
+    image
+        .hardware
+        .as_slice()
+        .iter()
+        .any(|other| *hardware == *other)
+}
+
+/// Decides on closing a campaign, at a command's moment: `NotFounded`; `UnknownCampaign`; `Already` where it is closed;
+/// `Memory`.
+#[tactic(auto, unfolding(crate::specs::Inventory::decide_close, up_canon::specs::Steps::and_then))]
+pub fn decide_close(
+    alloc: Global,
+    at: Moment,
+    name: &Ident,
+    founding: &Option<Founding>,
+    campaign: Option<&Campaign>,
+) -> Result<Decision<Campaign>, Refusal>
+    requires { at ≤ last_command_moment }
+    ensures { (s : State) → founding.now ≡ founding_row s → option_copied campaign.entry ≡ table.get s.campaigns name.now
+        → GivesClosed s name.now result (decide_close_in s at name.now) }
+{
+    check_founded(founding)?;
+    let Some(campaign) = campaign else {
+        return Err(Refusal::UnknownCampaign);
+    };
+    if !campaign.running {
+        return Ok(Decision::Already);
+    }
+    let mut closed = campaign.copy(alloc)?;
+    closed.running = false;
+    Ok(Decision::New(closed))
+}

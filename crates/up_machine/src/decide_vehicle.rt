@@ -1,0 +1,152 @@
+//! Decisions on vehicles of the inventory.
+ghost use Rattle.std.specs.Prelude.{◌≡◌, ◌≤◌, [], map, option_copied, bytes_eq, codes, false};
+ghost use Rattle.std.specs.List.{list_all, list_any};
+ghost use Rattle.std.specs.FinMap as table;
+ghost use Rattle.up_canon.specs.Moments.{last_command_moment};
+ghost use Rattle.up_canon.specs.Names.{first_repeated as first_repeated_name};
+ghost use Rattle.up_canon.specs.declared.refusal.Refusal.TheVariants.{BadShape, VehicleTaken};
+ghost use Rattle.up_canon.specs.Steps.{and_then};
+ghost use Rattle.up_machine.specs.Deciding.{check_founded as check_founded_in, where_new};
+ghost use Rattle.up_machine.specs.Keys.{public_fits};
+ghost use Rattle.up_machine.specs.State.{State, is_recorded};
+ghost use Rattle.up_machine.specs.Sound.{IsSound};
+ghost use Rattle.up_machine.specs.Rows.{founding_row, rows_of, vehicle_rows};
+ghost use Rattle.up_machine.specs.Vehicles.{ecu_names, first_marked};
+ghost use Rattle.up_machine.specs.Inventory.{same_vehicle as same_vehicle_of, decide_new_vehicle, decide_vehicle as decide_vehicle_in, with_vehicle};
+ghost use Rattle.up_machine.specs.Decisions.{GivesDecision};
+
+use crate::decision::Decision;
+use crate::founded::check_founded;
+use crate::new_vehicle::new_rows;
+use crate::public_keys::publics_fit;
+use crate::rows::{Founding, VehicleRows};
+use crate::same_vehicle::same_vehicle;
+use crate::vehicle::{NewEcu, NewVehicle};
+use std::alloc::Global;
+use up_canon::ident::Ident;
+use up_canon::listed::Duplicate;
+use up_canon::moment::Moment;
+use up_canon::refusal::Refusal;
+use up_sign::scheme::Scheme;
+
+/// Decides on a new vehicle, at a command's moment: `BadShape` with `key` where a public part doesn't fit; `NotFounded`;
+/// `Already` where an equal vehicle is there; `VehicleTaken` where another one has its name; `DuplicateEcu`; `EcuTaken`;
+/// `Memory`. The rows are those of the vehicle of that name, and for each new ECU whether one of its name stands in any
+/// vehicle.
+#[tactic(auto, unfolding(crate::specs::Inventory::decide_vehicle, up_canon::specs::Steps::and_then))]
+pub fn decide_vehicle<K: Scheme>(
+    alloc: Global,
+    scheme: &K,
+    at: Moment,
+    new: &NewVehicle,
+    founding: &Option<Founding>,
+    old: Option<&VehicleRows>,
+    recorded: &[bool],
+) -> Result<Decision<VehicleRows>, Refusal>
+    requires { at ≤ last_command_moment }
+    ensures key { list_all (λ e. public_fits (K.rules scheme.now) e.public) new.now.ecus ≡ false → result ≡ Err (BadShape (codes "key")) }
+    ensures decided { (s : State) → IsSound (K.rules scheme.now) s → founding.now ≡ founding_row s
+        → option_copied old.entry ≡ vehicle_rows s new.now.vehicle → recorded.now ≡ map (is_recorded s) (ecu_names new.now.ecus)
+        → GivesDecision (λ rows. rows ≡ rows_of new.now.vehicle (record { primary = new.now.primary; ecus = new.now.ecus; entries = [] })) s (with_vehicle s new.now) result
+        (decide_vehicle_in (K.rules scheme.now) s at new.now) }
+{
+    if publics_fit(scheme, new.ecus.as_slice()) {
+        decide_fitting(alloc, new, founding, old, recorded)
+    } else {
+        Err(Refusal::from("key"))
+    }
+}
+
+/// Decides on a new vehicle whose public parts fit.
+#[tactic(auto, unfolding(up_canon::specs::Steps::and_then))]
+fn decide_fitting(
+    alloc: Global,
+    new: &NewVehicle,
+    founding: &Option<Founding>,
+    old: Option<&VehicleRows>,
+    recorded: &[bool],
+) -> Result<Decision<VehicleRows>, Refusal>
+    ensures { (s : State) → founding.now ≡ founding_row s
+        → option_copied old.entry ≡ vehicle_rows s new.now.vehicle → recorded.now ≡ map (is_recorded s) (ecu_names new.now.ecus)
+        → GivesDecision (λ rows. rows ≡ rows_of new.now.vehicle (record { primary = new.now.primary; ecus = new.now.ecus; entries = [] })) s (with_vehicle s new.now) result
+        (and_then (check_founded_in s) (λ _. where_new s (same_vehicle_of new.now) VehicleTaken (table.get s.vehicles new.now.vehicle) (decide_new_vehicle s new.now))) }
+{
+    check_founded(founding)?;
+    decide_named(alloc, new, old, recorded)
+}
+
+/// Decides on a new vehicle, once the repositories are founded.
+fn decide_named(
+    alloc: Global,
+    new: &NewVehicle,
+    old: Option<&VehicleRows>,
+    recorded: &[bool],
+) -> Result<Decision<VehicleRows>, Refusal>
+    ensures { (s : State) → option_copied old.entry ≡ vehicle_rows s new.now.vehicle → recorded.now ≡ map (is_recorded s) (ecu_names new.now.ecus)
+        → GivesDecision (λ rows. rows ≡ rows_of new.now.vehicle (record { primary = new.now.primary; ecus = new.now.ecus; entries = [] })) s (with_vehicle s new.now) result
+        (where_new s (same_vehicle_of new.now) VehicleTaken (table.get s.vehicles new.now.vehicle) (decide_new_vehicle s new.now)) }
+{
+    match old {
+        Some(rows) => {
+            if same_vehicle(new, rows) {
+                Ok(Decision::Already)
+            } else {
+                Err(Refusal::VehicleTaken)
+            }
+        }
+        None => decide_new(alloc, new, recorded),
+    }
+}
+
+/// Decides on a vehicle of a name that none has.
+#[tactic(auto, using(crate::proofs::AddedVehicles::recorded_first, crate::proofs::AddedVehicles::rows_of_new), unfolding(crate::specs::Inventory::decide_new_vehicle, up_canon::specs::Steps::and_then))]
+fn decide_new(
+    alloc: Global,
+    new: &NewVehicle,
+    recorded: &[bool],
+) -> Result<Decision<VehicleRows>, Refusal>
+    ensures { (s : State) → recorded.now ≡ map (is_recorded s) (ecu_names new.now.ecus)
+        → GivesDecision (λ rows. rows ≡ rows_of new.now.vehicle (record { primary = new.now.primary; ecus = new.now.ecus; entries = [] })) s (with_vehicle s new.now) result
+        (decide_new_vehicle s new.now) }
+{
+    let ecus = new.ecus.as_slice();
+    if let Some(ecu) = first_repeated(ecus) {
+        return Err(Refusal::DuplicateEcu(ecu.copy(alloc)?));
+    }
+    if let Some(ecu) = first_recorded(ecus, recorded) {
+        return Err(Refusal::EcuTaken(ecu.copy(alloc)?));
+    }
+    Ok(Decision::New(new_rows(alloc, new)?))
+}
+
+/// The first ECU that stood before it.
+fn first_repeated(ecus: &[NewEcu]) -> Option<&Ident>
+    ensures { option_copied result ≡ first_repeated_name (ecu_names ecus.now) }
+{
+    for (i, ecu) in ecus.iter().enumerate() {
+        if is_among(&ecus[..i], &ecu.ecu) {
+            return Some(&ecu.ecu);
+        }
+    }
+    None
+}
+
+fn is_among(ecus: &[NewEcu], name: &Ident) -> bool
+    ensures { result ≡ list_any (λ ecu. bytes_eq name.now ecu.ecu) ecus.now }
+{
+    ecus.iter().any(|ecu| *name == ecu.ecu)
+}
+
+/// The first ECU that stands in a vehicle.
+fn first_recorded<'a>(ecus: &'a [NewEcu], recorded: &[bool]) -> Option<&'a Ident>
+    ensures { option_copied result ≡ first_marked ecus.now recorded.now }
+{
+    let [ecu, ecus @ ..] = ecus else {
+        return None;
+    };
+    match recorded {
+        [] => None,
+        [true, ..] => Some(&ecu.ecu),
+        [false, recorded @ ..] => first_recorded(ecus, recorded),
+    }
+}

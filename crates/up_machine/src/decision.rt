@@ -1,0 +1,53 @@
+//! What decisions answer: new rows, with all texts.
+use crate::rows::{Founding, Kept, VehicleRows};
+use up_canon::text::Text;
+
+/// The texts of the Targets, Snapshot and Timestamp files that are made together.
+#[derive(Debug, Drop)]
+pub struct RoleTexts {
+    pub targets: Text,
+    pub snapshot: Text,
+    pub timestamp: Text,
+}
+
+/// What a new root version changes: the founding's row, the texts of both repositories' Root files, and the image
+/// repository's files.
+#[derive(Debug, Drop)]
+pub struct RootRows {
+    pub founding: Founding,
+    pub director: Text,
+    pub image: Text,
+    pub files: RoleTexts,
+}
+
+/// What a change of the register of images changes: the founding's row, and the image repository's files.
+#[derive(Debug, Drop)]
+pub struct RegisterRows {
+    pub founding: Founding,
+    pub files: RoleTexts,
+}
+
+/// What an accepted manifest changes: its vehicle's rows, and the row that is kept for it.
+#[derive(Debug, Drop)]
+pub struct AcceptedRows {
+    pub vehicle: VehicleRows,
+    pub kept: Kept,
+}
+
+/// What a command comes to that may be there already.
+#[derive(Debug, Drop)]
+pub enum Decision<N> {
+    /// An equal one is there already, or is closed already.
+    Already,
+    /// The new rows.
+    New(N),
+}
+
+/// What a delivery comes to.
+#[derive(Debug, Drop)]
+pub enum Delivered {
+    /// The manifest was accepted before: the row that was kept for it answers it.
+    Repeat,
+    /// It is accepted.
+    Accepted(AcceptedRows),
+}

@@ -1,0 +1,189 @@
+//! The checks of a manifest over the rows of its vehicle.
+ghost use Rattle.std.specs.Prelude.{◌≡◌, ◌<◌, ◌≤◌, OnOk, bytes_eq, find, not, option_copied};
+ghost use Rattle.std.specs.List.{list_any};
+ghost use Rattle.up_canon.specs.Canon.{max_count};
+ghost use Rattle.up_canon.specs.Names.{first_repeated as first_repeated_name};
+ghost use Rattle.up_canon.specs.Refusals.{Gives};
+ghost use Rattle.up_machine.specs.Deliveries.{report_name, report_names};
+ghost use Rattle.up_machine.specs.ManifestRows.{row_of as row_in, has_row as has_row_in, is_signed_by_row, is_reported_in, follows as follows_row, follows_its_row, check_primary as check_primary_in, check_reports_of, check_new_of};
+
+use crate::rows::{EcuRow, VehicleRows};
+use std::alloc::Global;
+use std::slice;
+use up_canon::ident::Ident;
+use up_canon::listed::Duplicate;
+use up_canon::refusal::Refusal;
+use up_manifest::manifest::{Incoming, Manifest};
+use up_manifest::report::SignedReport;
+use up_sign::envelope::Envelope;
+use up_sign::scheme::Scheme;
+use up_sign::threshold::accepts;
+
+/// Tests that the manifest names the vehicle's Primary, and that its Primary signed it.
+#[tactic(auto, unfolding(crate::specs::ManifestRows::check_primary, up_canon::specs::Steps::and_then))]
+pub(crate) fn check_primary<K: Scheme>(
+    scheme: &K,
+    rows: &VehicleRows,
+    incoming: &Incoming,
+) -> Result<(), Refusal>
+    ensures { result ≡ check_primary_in (K.rules scheme.now) rows.now incoming.now }
+{
+    let primary = &rows.vehicle.primary;
+    if incoming.manifest.primary != *primary {
+        return Err(Refusal::WrongPrimary);
+    }
+    if !is_signed_by(scheme, rows.ecus.as_slice(), primary, &incoming.envelope) {
+        return Err(Refusal::BadManifestSignature);
+    }
+    Ok(())
+}
+
+/// Tests a manifest that is no repeat: its counter is above the last, and its reports pass.
+#[tactic(auto, unfolding(crate::specs::ManifestRows::check_new_of, up_canon::specs::Steps::and_then))]
+pub(crate) fn check_new<K: Scheme>(
+    alloc: Global,
+    scheme: &K,
+    rows: &VehicleRows,
+    manifest: &Manifest,
+) -> Result<(), Refusal>
+    ensures value { Gives result (check_new_of (K.rules scheme.now) rows.now manifest.now) }
+    ensures later { OnOk result (rows.now.vehicle.last < manifest.now.counter) }
+    ensures limit { OnOk result (manifest.now.counter ≤ max_count) }
+{
+    let last = rows.vehicle.last;
+    if manifest.counter.get() <= last.get() {
+        return Err(Refusal::Stale(last));
+    }
+    let reports = manifest.reports.as_slice();
+    check_reports(alloc, scheme, rows.ecus.as_slice(), reports)
+}
+
+/// Tests that the reports are of the vehicle's ECUs, none twice and all of them, each signed by its ECU, and none older
+/// than the ECU's last report or another with its counter. Each test runs over the whole list before the next.
+#[tactic(auto, unfolding(crate::specs::ManifestRows::check_reports_of, up_canon::specs::Steps::and_then))]
+fn check_reports<K: Scheme>(
+    alloc: Global,
+    scheme: &K,
+    rows: &[EcuRow],
+    reports: &[SignedReport],
+) -> Result<(), Refusal>
+    ensures { Gives result (check_reports_of (K.rules scheme.now) rows.now reports.now) }
+{
+    if let Some(unknown) = first_unknown(rows, reports) {
+        return Err(Refusal::UnknownEcu(unknown.report.ecu.copy(alloc)?));
+    }
+    if let Some(ecu) = first_repeated(reports) {
+        return Err(Refusal::DuplicateEcu(ecu.copy(alloc)?));
+    }
+    if let Some(row) = first_missing(rows, reports) {
+        return Err(Refusal::MissingEcu(row.ecu.copy(alloc)?));
+    }
+    if let Some(unsigned) = first_unsigned(scheme, rows, reports) {
+        let ecu = unsigned.report.ecu.copy(alloc)?;
+        return Err(Refusal::BadReportSignature(ecu));
+    }
+    if let Some(replayed) = first_replayed(rows, reports) {
+        return Err(Refusal::ReportReplayed(replayed.report.ecu.copy(alloc)?));
+    }
+    Ok(())
+}
+
+fn first_unknown<'a>(rows: &[EcuRow], reports: &'a [SignedReport]) -> Option<&'a SignedReport>
+    ensures { option_copied result ≡ find (λ r. not (has_row_in rows.now r)) reports.now }
+{
+    reports.iter().find(|r| !has_row(rows, r))
+}
+
+fn first_missing<'a>(rows: &'a [EcuRow], reports: &[SignedReport]) -> Option<&'a EcuRow>
+    ensures { option_copied result ≡ find (λ row. not (is_reported_in reports.now row)) rows.now }
+{
+    rows.iter().find(|row| !is_reported(reports, row))
+}
+
+fn first_unsigned<'a, K: Scheme>(
+    scheme: &K,
+    rows: &[EcuRow],
+    reports: &'a [SignedReport],
+) -> Option<&'a SignedReport>
+    ensures { option_copied result ≡ find (λ r. not (is_signed_by_row (K.rules scheme.now) rows.now (report_name r) r.envelope)) reports.now }
+{
+    reports.iter().find(|r| !is_signed(scheme, rows, r))
+}
+
+fn first_replayed<'a>(rows: &[EcuRow], reports: &'a [SignedReport]) -> Option<&'a SignedReport>
+    ensures { option_copied result ≡ find (λ r. not (follows_its_row rows.now r)) reports.now }
+{
+    reports.iter().find(|r| !follows_last(rows, r))
+}
+
+fn has_row(rows: &[EcuRow], report: &SignedReport) -> bool
+    ensures { result ≡ has_row_in rows.now report.now }
+{
+    rows.iter().any(|row| row.ecu == report.report.ecu)
+}
+
+/// The first ECU of which a report stood before.
+fn first_repeated(reports: &[SignedReport]) -> Option<&Ident>
+    ensures { option_copied result ≡ first_repeated_name (report_names reports.now) }
+{
+    for (i, report) in reports.iter().enumerate() {
+        if is_among(&reports[..i], &report.report.ecu) {
+            return Some(&report.report.ecu);
+        }
+    }
+    None
+}
+
+fn is_among(reports: &[SignedReport], name: &Ident) -> bool
+    ensures { result ≡ list_any (λ r. bytes_eq name.now (report_name r)) reports.now }
+{
+    reports.iter().any(|report| *name == report.report.ecu)
+}
+
+fn is_reported(reports: &[SignedReport], row: &EcuRow) -> bool
+    ensures { result ≡ is_reported_in reports.now row.now }
+{
+    is_among(reports, &row.ecu)
+}
+
+fn is_signed<K: Scheme>(scheme: &K, rows: &[EcuRow], report: &SignedReport) -> bool
+    ensures { result ≡ is_signed_by_row (K.rules scheme.now) rows.now (report_name report.now) report.now.envelope }
+{
+    is_signed_by(scheme, rows, &report.report.ecu, &report.envelope)
+}
+
+/// Whether the ECU of the name signed it.
+fn is_signed_by<K: Scheme>(scheme: &K, rows: &[EcuRow], name: &Ident, envelope: &Envelope) -> bool
+    ensures { result ≡ is_signed_by_row (K.rules scheme.now) rows.now name.now envelope.now }
+{
+    match row_of(rows, name) {
+        Some(row) => accepts(scheme, slice::from_ref(&row.public), 1, envelope),
+        None => false,
+    }
+}
+
+fn row_of<'a>(rows: &'a [EcuRow], name: &Ident) -> Option<&'a EcuRow>
+    ensures { option_copied result ≡ row_in rows.now name.now }
+{
+    rows.iter().find(|row| row.ecu == *name)
+}
+
+fn follows_last(rows: &[EcuRow], report: &SignedReport) -> bool
+    ensures { result ≡ follows_its_row rows.now report.now }
+{
+    match row_of(rows, &report.report.ecu) {
+        Some(row) => follows(row, report),
+        None => true,
+    }
+}
+
+/// Whether the report is later than the ECU's last one, or the same again.
+fn follows(row: &EcuRow, report: &SignedReport) -> bool
+    ensures { result ≡ follows_row row.now report.now }
+{
+    let Some(last) = &row.report else {
+        return true;
+    };
+    let (before, counter) = (row.counter.get(), report.report.counter.get());
+    before < counter || before == counter && *last == report.envelope.signed
+}

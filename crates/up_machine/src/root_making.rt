@@ -1,0 +1,162 @@
+//! Making Root files.
+ghost use Rattle.std.specs.Prelude.{◌≡◌, ◌≤◌, ◌+◌, ◌++◌, Option, IsTrue, IfOk, OnOk, MatchOption, ⊤, bytes_eq, filter, map, not, option_copied, option_map, unwrap_or, []};
+ghost use Rattle.std.specs.List.{list_any};
+ghost use Rattle.up_canon.specs.Moments.{last_command_moment};
+ghost use Rattle.up_roles.specs.Lifetimes.{lifetimes};
+ghost use Rattle.up_roles.specs.Payload.{version_fits};
+ghost use Rattle.up_machine.specs.Files.{keys_of as keys_in, root_key as root_key_of, role_keys as role_keys_of, root_file as root_file_of, root_text as root_text_of};
+ghost use Rattle.up_machine.specs.Keys.{repository_fits};
+ghost use Rattle.up_machine.specs.State.{Root};
+
+use crate::keys::{KeySet, RoleSecrets};
+use crate::making::keys_of;
+use std::alloc::{AllocError, Global};
+use up_canon::bytes::Bytes;
+use up_canon::listed::{Duplicate, Listed};
+use up_canon::moment::Moment;
+use up_canon::text::Text;
+use up_roles::lifetimes::lifetimes_of;
+use up_roles::repository::Repository;
+use up_roles::root::{RoleKeys, RootFile, RootKey};
+use up_roles::root_text::root_text as signed_root;
+use up_sign::key_id::key_id_text;
+use up_sign::laws::envelope_laws;
+use up_sign::scheme::Scheme;
+
+/// The text of a repository's Root file of this number with these keys. It expires its lifetime after the moment, and is
+/// signed with its root keys, and with those of the version before, where there is one, that aren't among them.
+#[tactic(auto, unfolding(crate::specs::Files::root_text))]
+pub fn root_text<K: Scheme>(
+    alloc: Global,
+    scheme: &K,
+    repository: Repository,
+    number: u64,
+    keys: &KeySet,
+    at: Moment,
+    before: Option<&KeySet>,
+) -> Result<Text, AllocError>
+    requires keys { IsTrue (repository_fits (K.rules scheme.now) (keys_in repository keys.now)) }
+    requires before { MatchOption before ⊤ (λ b. IsTrue (repository_fits (K.rules scheme.now) (keys_in repository b.now))) }
+    requires number { IsTrue (version_fits number) }
+    requires moment { at ≤ last_command_moment }
+    ensures { (b : Option Root) → option_map (λ r. r.keys) b ≡ option_copied before.entry
+        → IfOk result (λ text. text ≡ root_text_of (K.rules scheme.now) repository number (record { keys = keys.now; at = at }) b) }
+{
+    envelope_laws();
+    let signers = root_signers(alloc, repository, keys, before)?;
+    let file = root_file(alloc, scheme, repository, number, keys, at)?;
+    Ok(Text::new(signed_root(alloc, scheme, signers.as_slice(), &file)?))
+}
+
+fn root_file<K: Scheme>(
+    alloc: Global,
+    scheme: &K,
+    repository: Repository,
+    number: u64,
+    keys: &KeySet,
+    at: Moment,
+) -> Result<RootFile, AllocError>
+    requires { at ≤ last_command_moment }
+    ensures { IfOk result (λ file. file ≡ root_file_of (K.rules scheme.now) repository number (record { keys = keys.now; at = at })) }
+{
+    let keys = keys_of(repository, keys);
+    Ok(RootFile {
+        repository,
+        version: number,
+        expires: root_expiry(repository, at),
+        root: role_keys(alloc, scheme, &keys.root)?,
+        targets: role_keys(alloc, scheme, &keys.targets)?,
+        snapshot: role_keys(alloc, scheme, &keys.snapshot)?,
+        timestamp: role_keys(alloc, scheme, &keys.timestamp)?,
+    })
+}
+
+/// When the Root file expires that is made at the moment.
+#[tactic(auto, using(crate::proofs::Makings::lifetimes_are_short))]
+fn root_expiry(repository: Repository, at: Moment) -> Moment
+    requires { at ≤ last_command_moment }
+    ensures { result ≡ at + (lifetimes repository).root }
+{
+    at.plus(lifetimes_of(repository).root)
+}
+
+/// The keys of a role, as Root metadata shows them.
+fn role_keys<K: Scheme>(
+    alloc: Global,
+    scheme: &K,
+    role: &RoleSecrets,
+) -> Result<RoleKeys, AllocError>
+    ensures { IfOk result (λ keys. keys ≡ role_keys_of (K.rules scheme.now) role.now) }
+{
+    Ok(RoleKeys {
+        keys: root_keys(alloc, scheme, role.keys.as_slice())?,
+        threshold: role.threshold,
+    })
+}
+
+fn root_keys<K: Scheme>(
+    alloc: Global,
+    scheme: &K,
+    secrets: &[Bytes],
+) -> Result<Listed<RootKey>, AllocError>
+    ensures { IfOk result (λ keys. keys ≡ map (root_key_of (K.rules scheme.now)) secrets.now) }
+{
+    let mut keys = Vec::with_capacity(alloc, secrets.len())?;
+    for secret in secrets {
+        keys.push(root_key(alloc, scheme, secret)?)?;
+    }
+    Ok(Listed::new(keys))
+}
+
+fn root_key<K: Scheme>(alloc: Global, scheme: &K, secret: &Bytes) -> Result<RootKey, AllocError>
+    ensures { IfOk result (λ key. key ≡ root_key_of (K.rules scheme.now) secret.now) }
+{
+    let public = scheme.public(alloc, secret.as_slice())?;
+    Ok(RootKey {
+        keyid: key_id_text(alloc, public.as_slice())?,
+        method: Text::new(scheme.method().to_string(alloc)?),
+        shown: Text::new(scheme.shown(alloc, public.as_slice())?),
+    })
+}
+
+/// The root keys that sign a Root file.
+fn root_signers(
+    alloc: Global,
+    repository: Repository,
+    keys: &KeySet,
+    before: Option<&KeySet>,
+) -> Result<Vec<Bytes>, AllocError>
+    ensures { IfOk result (λ signers. signers.items ≡ (keys_in repository keys.now).root.keys
+        ++ filter (λ secret. not (list_any (bytes_eq secret) (keys_in repository keys.now).root.keys)) (unwrap_or (option_map (λ b. (keys_in repository b).root.keys) (option_copied before.entry)) [])) }
+{
+    let own = &keys_of(repository, keys).root.keys;
+    let mut signers = own.copy(alloc)?.into_vec();
+    if let Some(before) = before {
+        let old = keys_of(repository, before).root.keys.as_slice();
+        push_others(alloc, &mut signers, old, own.as_slice())?;
+    }
+    Ok(signers)
+}
+
+/// Puts the old secrets behind that aren't among a root's own.
+fn push_others(
+    alloc: Global,
+    signers: &mut Vec<Bytes>,
+    old: &[Bytes],
+    own: &[Bytes],
+) -> Result<(), AllocError>
+    ensures { OnOk result (signers.new.items ≡ signers.old.items ++ filter (λ secret. not (list_any (bytes_eq secret) own.now)) old.now) }
+{
+    for secret in old {
+        if !is_among(secret.as_slice(), own) {
+            signers.push(secret.copy(alloc)?)?;
+        }
+    }
+    Ok(())
+}
+
+fn is_among(secret: &[u8], secrets: &[Bytes]) -> bool
+    ensures { result ≡ list_any (bytes_eq secret.now) secrets.now }
+{
+    secrets.iter().any(|other| secret == other.as_slice())
+}

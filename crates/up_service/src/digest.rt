@@ -1,0 +1,49 @@
+//! The length and the digest of a stream.
+ghost use Rattle.std.specs.Prelude.{◌≡◌, ◌<◌, IfOk, IfErr, IfSome, length};
+ghost use Rattle.sha2.specs.Sha256.{sha256};
+ghost use Rattle.up_service.specs.Digests.{Digested, most_bytes};
+
+use sha2::{Digest, Sha256};
+use std::io::Read;
+use up_lines::read_piece;
+
+/// One more than a file may have, in bytes.
+const PAST_BYTES: u64 = 1_073_741_825;
+
+/// How many bytes are read at once.
+const PIECE_BYTES: usize = 8_192;
+
+/// Why there is no digest.
+#[derive(Clone, Copy, Debug, PartialEq, Eq, Drop)]
+pub enum DigestFault {
+    /// The reader failed.
+    Read,
+    /// There are more than 1,073,741,824 bytes.
+    TooLong,
+}
+
+/// The number of bytes that the reader gives, and their SHA-256. `TooLong` past 1,073,741,824 bytes, of which one more is
+/// read at most. Takes no memory.
+pub fn digest_stream<R: Read>(reader: &mut R) -> Result<(u64, [u8; 32]), DigestFault>
+    // For any reader: the bytes that came, and what is said of them.
+    ensures digested { Digested (R.remaining reader.old) (R.remaining reader.new) result }
+
+    // Where it is known what the reader has.
+    ensures whole { IfOk result (λ told. IfSome (R.remaining reader.old) (λ input. (told.0 ≡ length input) × (told.1 ≡ sha256 input))) }
+    ensures too_long { IfErr result (λ fault. fault ≡ DigestFault.TooLong → IfSome (R.remaining reader.old) (λ input. most_bytes < length input)) }
+{
+    let mut buffer = [0; PIECE_BYTES];
+    let mut hasher = Sha256::new();
+    let mut most = PAST_BYTES;
+    while most > 0 {
+        match read_piece(reader, &mut buffer, most) {
+            Ok(0) => return Ok((PAST_BYTES - most, hasher.finalize())),
+            Ok(n) => {
+                hasher.update(&buffer[..n]);
+                most -= n as u64;
+            }
+            Err(_) => return Err(DigestFault::Read),
+        }
+    }
+    Err(DigestFault::TooLong)
+}
