@@ -4,6 +4,10 @@
 pub mod digest;
 pub mod job;
 pub mod line_answer;
+#[cfg(test)]
+mod line_faults;
+#[cfg(test)]
+mod member_faults;
 pub mod script;
 mod show;
 #[cfg(test)]
