@@ -1,6 +1,6 @@
 -- The founding's row of a state, and the rows of the state that a new root version or a change of the register leaves.
 use Rattle.std.proofs.Common.{◌≡◌, ℕ, ◌+◌, ◌-◌, ◌<◌, List, [], ◌∷◌, ◌++◌, false, Option, Some, None, length, refl, sym, ap, ◌∙◌, subst, arith}
-use Rattle.std.specs.Prelude.{slice_get, option_map, map, is_some, IsTrue, IfSome}
+use Rattle.std.specs.Prelude.{slice_get, option_map, map, is_some}
 use Rattle.std.specs.FinMap as table
 use Rattle.std.proofs.lemmas.List.{length-append}
 use Rattle.up_canon.specs.Names.{Table}
@@ -11,15 +11,13 @@ use Rattle.up_machine.specs.declared.keys.KeySet.{KeySet}
 use Rattle.up_machine.specs.declared.rows.Founding.{Founding}
 use Rattle.up_machine.specs.declared.decision.RootRows.{RootRows}
 use Rattle.up_machine.specs.declared.decision.RoleTexts.{RoleTexts}
-use Rattle.up_machine.specs.Keys.{key_set_fits}
 use Rattle.up_machine.specs.State.{Root, State, nth, root_at}
 use Rattle.up_machine.specs.Files.{root_text, role_texts, image_making, target_of}
 use Rattle.up_machine.specs.Rows.{founding_row}
-use Rattle.up_machine.specs.Sound.{IsSoundRoot, IsSound}
 use Rattle.up_machine.specs.Repositories.{stamped, with_root}
 use Rattle.up_machine.specs.Decisions.{HasRootRows, HasRegisterRows}
 use Rattle.up_machine.proofs.Steps.{map_some}
-use Rattle.up_machine.proofs.Keeping.{nth_at, nth_stays}
+use Rattle.up_machine.proofs.Keeping.{nth_stays}
 use Rattle.up_machine.proofs.Repeating.{nth_at_place}
 use Rattle.up_machine.proofs.Signing.{nth_there}
 
@@ -61,14 +59,6 @@ some_root (x ∷ roots) root h = omega arith
 
 pub has_roots : (s : State) (f : Founding) → Some f ≡ founding_row s → 0 < length s.roots
 has_roots s f h = let of = founding_of s f h in some_root s.roots of.root of.there
-
--- the keys of a sound state's row fit
-pub founding_fits : (k : Rules) (s : State) → IsSound k s → IfSome (founding_row s) (λ f. IsTrue (key_set_fits k f.keys))
-founding_fits k s sound = by_root (root_at s (length s.roots)) refl
-  where
-    by_root : (o : Option Root) → root_at s (length s.roots) ≡ o → IfSome (option_map (row_of s) o) (λ f. IsTrue (key_set_fits k f.keys))
-    by_root None is = tt
-    by_root (Some root) is = (nth_at (IsSoundRoot k) s.roots (length s.roots) root sound.repositories.each_root is).keys
 
 -- ---- one root more
 

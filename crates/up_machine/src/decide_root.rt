@@ -68,14 +68,9 @@ pub fn decide_rotate<K: Scheme>(
     if old.image_version >= 9007199254740991 {
         return Err(Refusal::VersionLimit);
     }
-    Ok(root_rows(
-        alloc,
-        scheme,
-        old.root + 1,
-        keys,
-        at,
-        Some(&old.keys),
-        old.image_version + 1,
-        images.values(),
-    )?)
+    let number = old.root + 1;
+    let version = old.image_version + 1;
+    let before = Some(&old.keys);
+    let images = images.values();
+    Ok(root_rows(alloc, scheme, number, keys, at, before, version, images)?)
 }

@@ -53,12 +53,7 @@ pub(crate) fn register_rows<K: Scheme>(
         targets,
     )?;
     Ok(RegisterRows {
-        founding: Founding {
-            root: founding.root,
-            keys: founding.keys.copy(alloc)?,
-            image_version: version,
-            stamp: at,
-        },
+        founding: founding_with(alloc, founding.root, &founding.keys, version, at)?,
         files,
     })
 }
@@ -110,14 +105,26 @@ pub(crate) fn root_rows<K: Scheme>(
         targets,
     )?;
     Ok(RootRows {
-        founding: Founding {
-            root: number,
-            keys: keys.copy(alloc)?,
-            image_version: version,
-            stamp: at,
-        },
+        founding: founding_with(alloc, number, keys, version, at)?,
         director,
         image,
         files,
+    })
+}
+
+fn founding_with(
+    alloc: Global,
+    root: u64,
+    keys: &KeySet,
+    image_version: u64,
+    stamp: Moment,
+) -> Result<Founding, AllocError>
+    ensures { IfOk result (λ founding. founding ≡ record { root = root; keys = keys.now; image_version = image_version; stamp = stamp }) }
+{
+    Ok(Founding {
+        root,
+        keys: keys.copy(alloc)?,
+        image_version,
+        stamp,
     })
 }

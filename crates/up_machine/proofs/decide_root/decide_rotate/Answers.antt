@@ -57,8 +57,8 @@ returns g c s sound row images =
     let below : s.image_version < max_count = omega (arith, version, test) in
     let next : c.in-Some.old.root + 1 ≡ 1 + length s.roots = omega (arith, number) in
     let rows = c.in_ok-root_rows.ensures (root_before s at keys) (old_before s at keys c.in-Some.old there) in
-    let values = c.values.ensures ∙ ap (λ t. table.values t) images in
-    let same = ap (λ v. root_rows_of k (c.in-Some.old.root + 1) keys at (root_before s at keys) (v + 1) c.values.result.now) version
+    let values = c.values-images.ensures ∙ ap (λ t. table.values t) images in
+    let same = ap (λ v. root_rows_of k (c.in-Some.old.root + 1) keys at (root_before s at keys) (v + 1) c.values-images.result.now) version
     ∙ ap (root_rows_of k (c.in-Some.old.root + 1) keys at (root_before s at keys) (s.image_version + 1)) values in (
       rotate_done k s at keys c.requires.moment c.in_ok-check_keys.ensures (has_roots s c.in-Some.old there) room below,
       subst (λ r. HasRootRows k (stamped (with_root s at keys) at (s.image_version + 1)) r) (sym (rows ∙ same))
