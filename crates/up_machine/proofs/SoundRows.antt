@@ -1,15 +1,12 @@
 -- The rows of a sound state's vehicle.
-use Rattle.std.proofs.Common.{◌≡◌, List, [], ◌∷◌, map, None, Some, refl, ap, ◌∙◌, subst}
+use Rattle.std.proofs.Common.{◌≡◌, List, [], ◌∷◌, map, refl, ap, ◌∙◌, subst}
 use Rattle.std.specs.FinMap as table
-use Rattle.up_canon.specs.Names.{Name, first_repeated}
-use Rattle.up_sign.specs.Schemes.{Rules}
+use Rattle.up_canon.specs.Names.{first_repeated}
 use Rattle.up_machine.specs.declared.rows.EcuRow.{EcuRow}
-use Rattle.up_machine.specs.declared.rows.VehicleRows.{VehicleRows}
 use Rattle.up_machine.specs.declared.vehicle.NewEcu.{NewEcu}
 use Rattle.up_machine.specs.Vehicles.{ecu_names}
-use Rattle.up_machine.specs.State.{Vehicle, State}
-use Rattle.up_machine.specs.Rows.{ecu_row, rows_of, vehicle_rows}
-use Rattle.up_machine.specs.Sound.{IsSound}
+use Rattle.up_machine.specs.State.{Vehicle}
+use Rattle.up_machine.specs.Rows.{ecu_row, rows_of}
 use Rattle.up_machine.specs.Decisions.{AreSoundRows}
 use Rattle.up_machine.specs.RowLaws.{VehicleRowsAreSound}
 use Rattle.up_machine.proofs.Counters.{versions_are_counts}
