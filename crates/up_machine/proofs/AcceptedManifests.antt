@@ -1,5 +1,5 @@
 -- The rows of an accepted manifest are those of the vehicle with its entry.
-use Rattle.std.proofs.Common.{◌≡◌, ℕ, ◌+◌, ◌<◌, List, [], ◌∷◌, ◌++◌, max, length, Option, Some, None, true, false, refl, sym, ap, ◌∙◌, subst, arith, length-append}
+use Rattle.std.proofs.Common.{◌≡◌, ℕ, ◌+◌, ◌<◌, List, [], ◌∷◌, ◌++◌, length, Option, Some, true, refl, sym, ap, ◌∙◌, subst, arith, length-append}
 use Rattle.std.specs.Prelude.{◌==◌, find, map, filter_map, option_map, option_and_then, unwrap_or, codes}
 use Rattle.std.specs.FinMap as table
 use Rattle.std.proofs.lemmas.Bool.{ne_eqb}
@@ -16,15 +16,14 @@ use Rattle.up_machine.specs.declared.rows.Founding.{Founding}
 use Rattle.up_machine.specs.declared.rows.Kept.{Kept}
 use Rattle.up_machine.specs.declared.rows.VehicleRow.{VehicleRow}
 use Rattle.up_machine.specs.declared.rows.VehicleRows.{VehicleRows}
-use Rattle.up_machine.specs.declared.decision.AcceptedRows.{AcceptedRows}
 use Rattle.up_machine.specs.declared.vehicle.NewEcu.{NewEcu}
-use Rattle.up_machine.specs.State.{Entry, Vehicle, Root, State, root_at, version, last_counter, newest, last_manifest, report_of, last_report}
+use Rattle.up_machine.specs.State.{Entry, Vehicle, Root, State, root_at, version, last_counter, newest, report_of, last_report}
 use Rattle.up_machine.specs.Files.{role_texts}
 use Rattle.up_machine.specs.Deliveries.{Received, fitted, plan_in, entry_of}
 use Rattle.up_machine.specs.Replies.{reply_making, reply_json, reply_text}
 use Rattle.up_machine.specs.Rows.{founding_row, ecu_row, vehicle_row, rows_of, kept_row}
 use Rattle.up_machine.specs.Decisions.{HasAcceptedRows}
-use Rattle.up_machine.specs.ManifestRows.{fitted_of, fitted_in, reported_row, accepted_row, reply_of, kept_of, plan_by_rows, accepted_rows, target_for}
+use Rattle.up_machine.specs.ManifestRows.{fitted_in, reported_row, accepted_row, reply_of, kept_of, plan_by_rows, accepted_rows, target_for}
 use Rattle.up_machine.proofs.Steps.{map_some}
 
 -- ---- the newest manifest

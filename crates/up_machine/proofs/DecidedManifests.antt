@@ -1,5 +1,5 @@
 -- What the decision on a manifest comes to at each of its ends, over the rows of a state.
-use Rattle.std.proofs.Common.{◌≡◌, ℕ, ◌<◌, ◌≤◌, List, true, false, Option, Some, None, Result, Ok, Err, Bool, cond, refl, sym, ap, ◌∙◌, subst}
+use Rattle.std.proofs.Common.{◌≡◌, ℕ, ◌<◌, ◌≤◌, List, true, false, Option, Some, None, Ok, Err, Bool, cond, refl, sym, ap, ◌∙◌, subst}
 use Rattle.std.specs.Prelude.{⊤, option_map, is_some, bytes_eq}
 use Rattle.std.specs.FinMap as table
 use Rattle.up_canon.specs.Moments.{last_command_moment}
@@ -18,8 +18,8 @@ use Rattle.up_machine.specs.declared.rows.Founding.{Founding}
 use Rattle.up_machine.specs.declared.rows.Kept.{Kept}
 use Rattle.up_machine.specs.declared.rows.VehicleRows.{VehicleRows}
 use Rattle.up_machine.specs.declared.decision.Delivered.TheVariants.{Repeat, Accepted}
-use Rattle.up_machine.specs.State.{Entry, Vehicle, State, last_counter}
-use Rattle.up_machine.specs.Deciding.{Outcome, check_founded}
+use Rattle.up_machine.specs.State.{Vehicle, State, last_counter}
+use Rattle.up_machine.specs.Deciding.{check_founded}
 use Rattle.up_machine.specs.Deliveries.{Received, receive_manifest, accepted, decide_received, entry_of, with_entry}
 use Rattle.up_machine.specs.Repeats.{repeat_in}
 use Rattle.up_machine.specs.Rows.{founding_row, rows_of, vehicle_rows, kept_at, reply_kept}

@@ -1,6 +1,6 @@
 -- The Director's targets fit, and no ECU stands twice among them.
 use Rattle.std.proofs.Common.{◌≡◌, ℕ, List, [], ◌∷◌, Bool, true, false, cond, Option, Some, None, refl, sym, ap, ap₂, ◌∙◌, subst, length, arith}
-use Rattle.std.specs.Prelude.{◌&&◌, ◌||◌, bytes_eq, map, filter, filter_map, find, option_map, is_none}
+use Rattle.std.specs.Prelude.{◌&&◌, bytes_eq, map, filter, filter_map, option_map, is_none}
 use Rattle.std.specs.List.{list_all, list_any, cons_option}
 use Rattle.std.specs.FinMap as table
 use Rattle.std.proofs.lemmas.Bool.{and_parts}
@@ -10,7 +10,6 @@ use Rattle.up_canon.specs.Names.{Name, Table, is_from_to, is_ident_byte, is_iden
 use Rattle.up_canon.specs.Steps.{first_or_none}
 use Rattle.up_manifest.specs.declared.report.SignedReport.{SignedReport}
 use Rattle.up_roles.specs.declared.repository.Repository.TheVariants.{Director}
-use Rattle.up_roles.specs.declared.targets.Target.{Target}
 use Rattle.up_roles.specs.Payload.{are_distinct}
 use Rattle.up_roles.specs.Targets.{target_fits, ecus_of}
 use Rattle.up_plan.specs.declared.assigned.Assigned.{Assigned}
@@ -18,7 +17,7 @@ use Rattle.up_plan.specs.declared.assigned.Cause.{Cause}
 use Rattle.up_plan.specs.declared.assigned.Fitted.{Fitted}
 use Rattle.up_plan.specs.declared.campaign.Item.{Item}
 use Rattle.up_plan.specs.Campaigns.{CampaignData}
-use Rattle.up_plan.specs.Images.{ImageData, hardware_fits, needs_fit, image_fits}
+use Rattle.up_plan.specs.Images.{ImageData, hardware_fits, image_fits}
 use Rattle.up_plan.specs.Planning.{Resulting, with_wanted, wanted, resulting, updates, unmet, plan_with, plan_of, items_for}
 use Rattle.up_machine.specs.declared.rows.EcuRow.{EcuRow}
 use Rattle.up_machine.specs.declared.rows.VehicleRows.{VehicleRows}

@@ -3,7 +3,7 @@ use Rattle.std.proofs.Common.{◌≡◌, List, [], ◌∷◌, Bool, true, false,
 use Rattle.std.specs.Prelude.{Option, Some, None, option_map, unwrap_or}
 use Rattle.std.specs.List.{AllByRecursion, list_all}
 use Rattle.std.specs.FinMap as table
-use Rattle.up_canon.specs.Names.{Name, Table}
+use Rattle.up_canon.specs.Names.{Table}
 use Rattle.up_canon.specs.Steps.{and_then, ◌>>=◌, unless}
 use Rattle.up_canon.specs.declared.refusal.Refusal.TheVariants.{UnknownVehicle, UnknownImage, WrongHardware}
 use Rattle.up_plan.specs.declared.campaign.Item.{Item}

@@ -1,5 +1,5 @@
 -- What a step refused, the decision refuses.
-use Rattle.std.proofs.Common.{◌≡◌, Bool, true, false, Option, Result, Ok, Err, sym, ap, ◌∙◌, subst}
+use Rattle.std.proofs.Common.{◌≡◌, Bool, true, false, Option, Result, Err, sym, ap, ◌∙◌, subst}
 use Rattle.std.specs.Prelude.{⊤, MatchBool, IsErrAnd}
 use Rattle.std.proofs.lemmas.Result.{err_from_is_err_and}
 use Rattle.up_canon.specs.Names.{Name}

@@ -1,5 +1,5 @@
 -- What the decision on a manifest computes over the rows of its vehicle.
-use Rattle.std.specs.Prelude.{ℕ, ◌+◌, ◌++◌, ◌||◌, ◌&&◌, ◌==◌, List, [], ◌∷◌, Bool, true, false, not, nat_le, nat_lt, Option, Some, None, option_map, unwrap_or, map, filter_map, find, bytes_eq, ⊤, Result, Ok}
+use Rattle.std.specs.Prelude.{ℕ, ◌+◌, ◌||◌, ◌&&◌, ◌==◌, List, [], ◌∷◌, Bool, true, false, not, nat_le, nat_lt, Option, Some, option_map, unwrap_or, map, filter_map, find, bytes_eq, ⊤, Result}
 use Rattle.std.specs.List.{list_any}
 use Rattle.std.specs.FinMap as table
 use Rattle.up_canon.specs.Names.{Name, Table, first_repeated}

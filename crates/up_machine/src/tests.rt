@@ -1,9 +1,14 @@
-//! Worked foundings, rotations and registers, limits of new vehicles, and copies with ample memory.
+//! Worked decisions of each kind, limits of new vehicles, and copies with ample memory.
+mod bodies;
+mod campaigns;
 mod copies;
 mod decisions;
+mod deliveries;
+mod delivering;
 mod fixtures;
 mod hashed;
 mod register;
 mod role_keys;
 mod roots;
 mod taken_images;
+mod vehicles;

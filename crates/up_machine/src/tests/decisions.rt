@@ -19,7 +19,7 @@ use up_sign::hmac_sha256::HmacSha256;
 use up_sign::scheme::Scheme;
 
 /// A command's moment.
-fn moment(second: u64) -> Result<Moment, Refusal>
+pub(super) fn moment(second: u64) -> Result<Moment, Refusal>
     ensures { IfOk result (λ at. at ≤ last_command_moment) }
 {
     match Moment::new(second) {
@@ -30,7 +30,7 @@ fn moment(second: u64) -> Result<Moment, Refusal>
 
 /// Tests the keys of the founding's row.
 #[tactic(auto, using(crate::proofs::Decided::keys_passed))]
-fn check_founding<K: Scheme>(
+pub(super) fn check_founding<K: Scheme>(
     alloc: Global,
     scheme: &K,
     founding: &Option<Founding>,

@@ -1,5 +1,4 @@
 use Rattle.std.proofs.Common.{sym, ◌∙◌}
-use Rattle.up_machine.specs.Decisions.{check_campaign}
 use Rattle.up_machine.specs.Inventory.{with_campaign, decide_new_campaign}
 use Rattle.up_machine.proofs.OpenedCampaigns.{checked_rows}
 use Rattle.up_machine.proofs.Passing.{surely, decision_refused}

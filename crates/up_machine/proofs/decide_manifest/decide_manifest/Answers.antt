@@ -4,7 +4,7 @@ use Rattle.up_machine.specs.declared.decision.Delivered.TheVariants.{Accepted}
 use Rattle.up_machine.specs.Decisions.{decide_incoming, GivesDelivered}
 use Rattle.up_machine.specs.Keys.{key_set_fits}
 use Rattle.up_machine.specs.ManifestRows.{check_new_of}
-use Rattle.up_machine.proofs.DecidedManifests.{Given, not_founded, unknown_vehicle, bad_primary, is_repeated, bad_manifest, is_accepted}
+use Rattle.up_machine.proofs.DecidedManifests.{not_founded, unknown_vehicle, bad_primary, is_repeated, bad_manifest, is_accepted}
 use Rattle.up_machine.proofs.Lists.{and_left}
 use Rattle.up_machine.proofs.Passing.{surely, so_too, delivery_refused}
 use Rattle.up_machine.proofs.decide_manifest.decide_manifest.Goals as goal

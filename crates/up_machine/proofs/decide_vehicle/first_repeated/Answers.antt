@@ -1,4 +1,4 @@
-use Rattle.std.proofs.Common.{ap, sym, ◌∙◌}
+use Rattle.std.proofs.Common.{sym, ◌∙◌}
 use Rattle.up_machine.specs.declared.vehicle.NewEcu.{NewEcu}
 use Rattle.up_machine.proofs.RepeatedNames.{repeated-passes, repeated-found}
 use Rattle.up_machine.proofs.decide_vehicle.first_repeated.Goals as goal

@@ -1,7 +1,6 @@
 use Rattle.std.proofs.Common.{◌≡◌, ◌++◌, ◌∷◌, [], Some, None, option_map, ap, sym, ◌∙◌, arith}
 use Rattle.std.specs.FinMap as table
 use Rattle.std.specs.List.{list_all}
-use Rattle.up_plan.specs.Images.{ImageData}
 use Rattle.up_roles.specs.declared.repository.Repository.TheVariants.{Director}
 use Rattle.up_roles.specs.Targets.{target_fits}
 use Rattle.up_machine.specs.Files.{target_of}

@@ -1,4 +1,4 @@
-use Rattle.std.proofs.Common.{ap, sym, ◌∙◌}
+use Rattle.std.proofs.Common.{sym, ◌∙◌}
 use Rattle.up_manifest.specs.declared.report.SignedReport.{SignedReport}
 use Rattle.up_machine.proofs.RepeatedNames.{repeated-passes, repeated-found}
 use Rattle.up_machine.proofs.manifest_checks.first_repeated.Goals as goal

@@ -1,5 +1,4 @@
 use Rattle.std.proofs.Common.{◌≡◌, ◌++◌, ◌∷◌, [], Some, None, option_map, ap, sym, ◌∙◌, arith}
-use Rattle.up_manifest.specs.declared.report.SignedReport.{SignedReport}
 use Rattle.up_machine.specs.State.{report_of}
 use Rattle.up_machine.specs.ManifestRows.{fitted_with, fitted_of}
 use Rattle.up_machine.proofs.Taken.{passed_over, taken}
