@@ -1,6 +1,6 @@
 -- The rows after a vehicle was added or a manifest accepted are those of the next state.
-use Rattle.std.proofs.Common.{◌≡◌, ℕ, ◌+◌, List, [], ◌∷◌, ◌++◌, Bool, true, false, cond, Option, Some, None, Result, Ok, Err, ◌⊎◌, inl, inr, map, append-nil, refl, sym, ap, ap₂, ◌∙◌, subst, arith}
-use Rattle.std.specs.Prelude.{◌||◌, option_map, unwrap_or, length, bytes_eq, filter}
+use Rattle.std.proofs.Common.{◌≡◌, ℕ, ◌+◌, ◌≤◌, List, [], ◌∷◌, ◌++◌, Bool, true, false, cond, Option, Some, None, Result, Ok, Err, ◌⊎◌, inl, inr, map, append-nil, refl, sym, ap, ap₂, ◌∙◌, subst, arith}
+use Rattle.std.specs.Prelude.{◌||◌, ◌&&◌, not, nat_le, codes, if◌then◌else◌, option_map, unwrap_or, length, bytes_eq, filter}
 use Rattle.std.specs.List.{enumerate_from, list_any}
 use Rattle.std.specs.Ordering.{nat_cmp, eq_by_cmp, is_eq}
 use Rattle.std.specs.Cmp.{both_ways, tied_itself}
@@ -8,6 +8,7 @@ use Rattle.std.specs.Cmp.Lexicographic.{slice_cmp, bytes_decides}
 use Rattle.std.specs.FinMap as table
 use Rattle.std.specs.FinMap.{same_map, nat_cmp-IsAntisymmetric, slice_cmp-IsAntisymmetric}
 use Rattle.std.proofs.lemmas.Cmp.{nat_list_cmp_total}
+use Rattle.std.proofs.lemmas.Bool.Decides.{nat_tests}
 use Rattle.std.proofs.lemmas.List.Elements.{filter-append}
 use Rattle.up_canon.specs.Names.{Name, Table}
 use Rattle.up_canon.specs.declared.refusal.Refusal.{Refusal}
@@ -20,7 +21,7 @@ use Rattle.up_machine.specs.declared.rows.EcuRow.{EcuRow}
 use Rattle.up_machine.specs.declared.rows.VehicleRows.{VehicleRows}
 use Rattle.up_machine.specs.declared.rows.Kept.{Kept}
 use Rattle.up_machine.specs.declared.vehicle.NewEcu.{NewEcu}
-use Rattle.up_machine.specs.Vehicles.{NewVehicleData, has_ecu, ecu_names}
+use Rattle.up_machine.specs.Vehicles.{NewVehicleData, has_ecu, ecu_names, new_vehicle_fault}
 use Rattle.up_machine.specs.State.{Entry, Vehicle, State, version, is_recorded}
 use Rattle.up_machine.specs.Replies.{reply_text}
 use Rattle.up_machine.specs.Deciding.{Outcome, done, already}
@@ -180,3 +181,14 @@ delivery_done k s b after name v e rows reply computed holds found decided has t
 pub repeat_done : (k : Rules) (s : State) (b : Held) (row : Kept) (reply : Reply) (computed : Result Outcome Refusal) → Shows k s b
     → computed ≡ Ok (record { answer = Replied (reply_kept row); next = s }) → reply ≡ reply_kept row → Leaves k s b (Ok (Replied reply)) computed
 repeat_done k s b row reply computed shows h told = (refl, (s, h ∙ ap (λ (r : Reply). Ok (record { answer = Replied r; next = s })) (sym told), shows))
+
+-- ---- a vehicle that is added has at most 32 ECUs
+
+pub few_ecus : (v : NewVehicleData) → new_vehicle_fault v ≡ None → length v.ecus ≤ 32
+few_ecus v h = by_test (nat_le 1 (length v.ecus)) (nat_le (length v.ecus) 32) refl h
+  where
+    by_test : (a b : Bool) → nat_le (length v.ecus) 32 ≡ b
+        → (if not (a && b) then Some (codes "ecus") else if not (has_ecu v.primary v.ecus) then Some (codes "primary") else None) ≡ None → length v.ecus ≤ 32
+    by_test true true is h = grind (arith, nat_tests)
+    by_test true false is h = cc
+    by_test false b is h = cc

@@ -1,5 +1,6 @@
 -- What a decision that went through says.
-use Rattle.std.proofs.Common.{◌≡◌, List, Bool, true, false, Option, Some, None, Result, Ok, Err, refl, sym, ap, ◌∙◌, subst}
+use Rattle.std.proofs.Common.{◌≡◌, List, Bool, true, false, Option, Some, None, Result, Ok, Err, Bor, refl, sym, ap, ◌∙◌, subst}
+use Rattle.std.specs.Prelude.{option_copied, IfSome}
 use Rattle.std.specs.FinMap as table
 use Rattle.up_canon.specs.Names.{Name}
 use Rattle.up_canon.specs.declared.refusal.Refusal.{Refusal}
@@ -46,10 +47,17 @@ unchanged k s b computed shows h = (refl, (s, h, shows))
 
 pub when_repeated : (k : Rules) (s : State) (kept : Option Kept) (name : Name) (d : Delivered) (row : Kept) (computed : Result Outcome Refusal) → d ≡ Repeat → kept ≡ Some row
     → GivesDelivered k s kept name (Ok d) computed → computed ≡ Ok (record { answer = Replied (reply_kept row); next = s })
-when_repeated k s None name Repeat row computed is there h = cc
+when_repeated k s None name Repeat row computed is there h = absurd h
 when_repeated k s (Some other) name Repeat row computed is there h =
     let same : other ≡ row = cc in h ∙ ap (λ (r : Kept). Ok (record { answer = Replied (reply_kept r); next = s })) same
 when_repeated k s kept name (Accepted rows) row computed is there h = cc
+
+-- no repeat without a kept row
+pub not_repeated : (k : Rules) (s : State) (kept : Option Kept) (name : Name) (d : Delivered) (computed : Result Outcome Refusal) → d ≡ Repeat → kept ≡ None
+    → GivesDelivered k s kept name (Ok d) computed → ⊥
+not_repeated k s None name Repeat computed is none h = h
+not_repeated k s (Some row) name Repeat computed is none h = cc
+not_repeated k s kept name (Accepted rows) computed is none h = cc
 
 -- the vehicle and the entry that an accepted manifest gives it
 pub record IsAccepted (k : Rules) (s : State) (name : Name) (rows : AcceptedRows) (computed : Result Outcome Refusal) : Type 0 where
@@ -65,3 +73,8 @@ when_accepted k s kept name Repeat rows computed is h = cc
 when_accepted k s kept name (Accepted other) rows computed is h =
     let same : other ≡ rows = cc in
     subst (λ (r : AcceptedRows). IsAccepted k s name r computed) same (record { vehicle = h.0; entry = h.1; found = h.2; decided = h.3; has = h.4 })
+
+-- what holds of each value that may be there holds of the one behind a reference
+pub if_copied : {T : Type 0} (P : T → Type 0) (o : Option (Bor T)) → ((x : T) → option_copied o ≡ Some x → P x) → IfSome o (λ r. P r.now)
+if_copied P None h = tt
+if_copied P (Some r) h = h r.now refl

@@ -1,13 +1,14 @@
 -- Calls one after another, and what they come to.
 use Rattle.std.proofs.Common.{◌≡◌, ℕ, zero, suc, ◌+◌, ◌<◌, ◌≤◌, List, [], ◌∷◌, ◌++◌, Bool, true, false, Option, Some, None, length, get_or, take, map, refl, sym, ap, ap₂, ◌∙◌, subst, arith}
 use Rattle.std.proofs.lemmas.List.{take_more, take_all}
-use Rattle.std.specs.Prelude.{Result, Ok, Err, is_ok, MatchBool, IsTrue, if◌then◌else◌}
+use Rattle.std.specs.Prelude.{Result, Ok, Err, is_ok, MatchBool, IsTrue, IfSome, if◌then◌else◌}
 use Rattle.std.specs.List.{AllByRecursion}
 use Rattle.std.specs.FinMap as table
 use Rattle.up_canon.specs.Names.{Name}
 use Rattle.up_sign.specs.Schemes.{Rules}
 use Rattle.up_machine.specs.declared.command.Command.{Command}
 use Rattle.up_machine.specs.declared.answer.Answer.{Answer}
+use Rattle.up_machine.specs.declared.answer.Answer.TheVariants.{Refused}
 use Rattle.up_machine.specs.Commands.{is_command}
 use Rattle.up_machine.specs.State.{State}
 use Rattle.up_machine.specs.Machine.{run}
@@ -15,32 +16,33 @@ use Rattle.up_machine.specs.Repeats.{Sent, serve, after, thinned, expected, not_
 use Rattle.up_machine.specs.Sound.{IsSound}
 use Rattle.up_machine.specs.RepeatLaws.{AreCommands, RepeatsChangeNothing, ServedIsThinned}
 use Rattle.up_machine.specs.ApartLaws.{VehiclesStandApart}
-use Rattle.up_desk.specs.Serving.{is_lost, IsAnswered}
-use Rattle.up_desk.specs.Runs.{timed, sent, unless_lost, IsRun}
+use Rattle.up_desk.specs.Serving.{is_lost, IsAnswered, outright}
+use Rattle.up_desk.specs.Runs.{AreOutright, timed, sent, unless_lost, IsRun}
 
 -- the calls one after another, of which some may want memory
 abbrev pub Ran : Rules → State → List (ℕ × Command) → List Answer → State → Type 0
 Ran k old [] [] new = new ≡ old
 Ran k old [] (a ∷ answers) new = ⊥
 Ran k old (c ∷ cs) [] new = ⊥
-Ran k old (c ∷ cs) (a ∷ answers) new = (mid : State) × IsAnswered a old mid (serve k old c.0 c.1) × IsTrue (is_command c.1) × Ran k mid cs answers new
+Ran k old (c ∷ cs) (a ∷ answers) new = (mid : State) × IsAnswered a old mid (serve k old c.0 c.1) × IsTrue (is_command c.1) × IfSome (outright k c.0 c.1) (λ r. a ≡ Refused r) × Ran k mid cs answers new
 
 -- ---- one more call
 
 ran_next : (k : Rules) (old : State) (cs : List (ℕ × Command)) (answers : List Answer) (mid : State) (c : ℕ × Command) (a : Answer) (new : State)
-    → Ran k old cs answers mid → IsAnswered a mid new (serve k mid c.0 c.1) → IsTrue (is_command c.1) → Ran k old (cs ++ c ∷ []) (answers ++ a ∷ []) new
-ran_next k old [] [] mid c a new ran is fits = (new, subst (λ s. IsAnswered a s new (serve k s c.0 c.1)) ran is, fits, refl)
-ran_next k old [] (b ∷ answers) mid c a new ran is fits = absurd ran
-ran_next k old (d ∷ cs) [] mid c a new ran is fits = absurd ran
-ran_next k old (d ∷ cs) (b ∷ answers) mid c a new ran is fits = (ran.0, ran.1, ran.2, ran_next k ran.0 cs answers mid c a new ran.3 is fits)
+    → Ran k old cs answers mid → IsAnswered a mid new (serve k mid c.0 c.1) → IsTrue (is_command c.1) → IfSome (outright k c.0 c.1) (λ r. a ≡ Refused r) → Ran k old (cs ++ c ∷ []) (answers ++ a ∷ []) new
+ran_next k old [] [] mid c a new ran is fits due = (new, subst (λ s. IsAnswered a s new (serve k s c.0 c.1)) ran is, fits, due, refl)
+ran_next k old [] (b ∷ answers) mid c a new ran is fits due = absurd ran
+ran_next k old (d ∷ cs) [] mid c a new ran is fits due = absurd ran
+ran_next k old (d ∷ cs) (b ∷ answers) mid c a new ran is fits due = (ran.0, ran.1, ran.2, ran.3, ran_next k ran.0 cs answers mid c a new ran.4 is fits due)
 
 pub ran_more : (k j : Rules) (old : State) (cs : List (ℕ × Command)) (i : ℕ) (here : ℕ × Command) (answers : List Answer) (mid : State) (a : Answer) (new : State)
-    → i < length cs → here ≡ get_or cs i here → j ≡ k → Ran k old (take i cs) answers mid → IsAnswered a mid new (serve j mid here.0 here.1) → IsTrue (is_command here.1)
+    → i < length cs → here ≡ get_or cs i here → j ≡ k → Ran k old (take i cs) answers mid → IsAnswered a mid new (serve j mid here.0 here.1) → IsTrue (is_command here.1) → IfSome (outright j here.0 here.1) (λ r. a ≡ Refused r)
     → Ran k old (take (i + 1) cs) (answers ++ a ∷ []) new
-ran_more k j old cs i here answers mid a new within item scheme ran is fits =
+ran_more k j old cs i here answers mid a new within item scheme ran is fits due =
     let answered : IsAnswered a mid new (serve k mid here.0 here.1) = subst (λ r. IsAnswered a mid new (serve r mid here.0 here.1)) scheme is in
+    let refused : IfSome (outright k here.0 here.1) (λ r. a ≡ Refused r) = subst (λ rules. IfSome (outright rules here.0 here.1) (λ r. a ≡ Refused r)) scheme due in
     let more : take (i + 1) cs ≡ take i cs ++ here ∷ [] = take_more cs i here within ∙ ap (λ c. take i cs ++ c ∷ []) (sym item) in
-    subst (λ (xs : List (ℕ × Command)). Ran k old xs (answers ++ a ∷ []) new) (sym more) (ran_next k old _ answers mid here a new ran answered fits)
+    subst (λ (xs : List (ℕ × Command)). Ran k old xs (answers ++ a ∷ []) new) (sym more) (ran_next k old _ answers mid here a new ran answered fits refused)
 
 -- what went through
 pub chosen_ok : {T E A : Type 0} (r : Result T E) (x : T) (new there else_there : A) → r ≡ Ok x → new ≡ (if is_ok r then there else else_there) → new ≡ there
@@ -79,15 +81,16 @@ record IsServedAll (k : Rules) (old : State) (cs : List (ℕ × Command)) (answe
   told : map unless_lost answers ≡ expected k old (sent cs answers)
   state : new ≡ after k old (sent cs answers)
   fits : AreCommands (sent cs answers)
+  due : AreOutright k cs answers
 
 ran_served : (k : Rules) (old : State) (cs : List (ℕ × Command)) (answers : List Answer) (new : State) → Ran k old cs answers new → IsServedAll k old cs answers new
-ran_served k old [] [] new ran = record { count = refl; told = refl; state = ran; fits = tt }
+ran_served k old [] [] new ran = record { count = refl; told = refl; state = ran; fits = tt; due = tt }
 ran_served k old [] (a ∷ answers) new ran = absurd ran
 ran_served k old (c ∷ cs) [] new ran = absurd ran
 ran_served k old (c ∷ cs) (a ∷ answers) new ran =
-    let rest = ran_served k ran.0 cs answers new ran.3 in
+    let rest = ran_served k ran.0 cs answers new ran.4 in
     let whole = by_loss k old ran.0 new c a (sent cs answers) answers (is_lost a) ran.1 rest.told rest.state in
-    record { count = ap suc rest.count; told = whole.told; state = whole.state; fits = (ran.2, rest.fits) }
+    record { count = ap suc rest.count; told = whole.told; state = whole.state; fits = (ran.2, rest.fits); due = (ran.3, rest.due) }
 
 pub ran_all : (k : Rules) (old : State) (cs : List (ℕ × Command)) (i : ℕ) (answers : List Answer) (new : State) → ServedIsThinned → RepeatsChangeNothing → VehiclesStandApart
     → IsSound k old → length cs ≤ i → Ran k old (take i cs) answers new → IsRun k old cs answers new
@@ -97,6 +100,7 @@ ran_all k old cs i answers new thin same apart sound all ran =
     record {
       count = whole.count;
       told = whole.told;
+      never_lost = whole.due;
       state = state;
       with_repeats = state ∙ same k old (sent cs answers) whole.fits sound;
       apart = λ name.

@@ -1,18 +1,21 @@
 -- What is served is what a command over the rows comes to.
 use Rattle.std.proofs.Common.{◌≡◌, ℕ, ◌<◌, ◌≤◌, List, Bool, true, false, Option, Some, None, Result, Ok, Err, refl, sym, ap, ◌∙◌, subst, arith}
-use Rattle.std.specs.Prelude.{⊤, nat_lt, option_and_then, MatchBool, IsTrue}
+use Rattle.std.specs.Prelude.{⊤, nat_lt, if◌then◌else◌, codes, IfSome, option_and_then, MatchBool, IsTrue}
+use Rattle.std.specs.List.{list_all}
 use Rattle.std.proofs.lemmas.Bool.Decides.{nat_tests}
 use Rattle.up_canon.specs.Moments.{last_command_moment}
 use Rattle.up_canon.specs.Steps.{and_then, refuse_if, value_of}
 use Rattle.up_canon.specs.Refusals.{is_memory}
 use Rattle.up_canon.specs.declared.refusal.Refusal.{Refusal}
-use Rattle.up_canon.specs.declared.refusal.Refusal.TheVariants.{MomentOutOfRange}
+use Rattle.up_canon.specs.declared.refusal.Refusal.TheVariants.{MomentOutOfRange, BadShape}
 use Rattle.up_sign.specs.Schemes.{Rules}
 use Rattle.up_manifest.specs.Manifests.{incoming_in}
 use Rattle.up_machine.specs.declared.command.Command.{Command}
 use Rattle.up_machine.specs.declared.command.Command.TheVariants.{Found, Rotate, AddImage, Refresh, AddVehicle, OpenCampaign, CloseCampaign, Deliver, Fetch}
 use Rattle.up_machine.specs.declared.answer.Answer.{Answer}
 use Rattle.up_machine.specs.declared.answer.Answer.TheVariants.{Reply as Replied, Refused}
+use Rattle.up_machine.specs.Keys.{public_fits}
+use Rattle.up_machine.specs.Vehicles.{NewVehicleData}
 use Rattle.up_machine.specs.Commands.{is_command}
 use Rattle.up_machine.specs.State.{State}
 use Rattle.up_machine.specs.Replies.{reply_to}
@@ -26,7 +29,7 @@ use Rattle.up_machine.specs.Repeats.{Repeat, repeat_in, repeat_of, served_as, se
 use Rattle.up_machine.specs.Sound.{IsSound}
 use Rattle.up_machine.specs.RepeatLaws.{ServedStaysSound}
 use Rattle.up_desk.specs.Rows.{Held, Shows, state_of, Holds, Stands}
-use Rattle.up_desk.specs.Serving.{is_lost, IsAnswered, told, served, Leaves}
+use Rattle.up_desk.specs.Serving.{is_lost, IsAnswered, told, served, outright_in_time, outright, Leaves}
 use Rattle.up_desk.proofs.Shown.{determined, settled}
 
 -- ---- the moment
@@ -159,3 +162,28 @@ answered k s new at c (Err r) stays fits sound h = record {
   answered = by_memory k s at c r new (determined k s new sound h.0) (is_memory r) h.1;
   stands = settled k s new sound h.0;
 }
+
+-- ---- what is refused whether or not there is memory
+
+pub key_outright : (k : Rules) (new : NewVehicleData) (c : Command) (result : Result Answer Refusal) → c ≡ AddVehicle new
+    → (list_all (λ e. public_fits k e.public) new.ecus ≡ false → result ≡ Err (BadShape (codes "key"))) → IfSome (outright_in_time k c) (λ r. result ≡ Err r)
+key_outright k new c result is refused =
+    subst (λ (d : Command). IfSome (outright_in_time k d) (λ r. result ≡ Err r)) (sym is) (by_test (list_all (λ e. public_fits k e.public) new.ecus) refl)
+  where
+    by_test : (t : Bool) → list_all (λ e. public_fits k e.public) new.ecus ≡ t → IfSome (if t then None else Some (BadShape (codes "key"))) (λ r. result ≡ Err r)
+    by_test true is = tt
+    by_test false is = refused is
+
+pub in_time_outright : (k : Rules) (at : ℕ) (c : Command) (result : Result Answer Refusal) → at ≤ last_command_moment
+    → IfSome (outright_in_time k c) (λ r. result ≡ Err r) → IfSome (outright k at c) (λ r. result ≡ Err r)
+in_time_outright k at c result h refused =
+    subst (λ t. IfSome (if t then Some MomentOutOfRange else outright_in_time k c) (λ r. result ≡ Err r)) (sym (in_time_test at h)) refused
+
+pub late_outright : (k : Rules) (at : ℕ) (c : Command) (result : Result Answer Refusal) → last_command_moment < at → result ≡ Err MomentOutOfRange
+    → IfSome (outright k at c) (λ r. result ≡ Err r)
+late_outright k at c result h is =
+    subst (λ t. IfSome (if t then Some MomentOutOfRange else outright_in_time k c) (λ r. result ≡ Err r)) (sym (late_test at h)) is
+
+pub told_outright : (o : Option Refusal) (given : Result Answer Refusal) (answer : Answer) → answer ≡ told given → IfSome o (λ r. given ≡ Err r) → IfSome o (λ r. answer ≡ Refused r)
+told_outright None given answer is h = tt
+told_outright (Some r) given answer is h = is ∙ ap told h

@@ -1,14 +1,15 @@
 -- Lists of commands, answered one after another.
-use Rattle.std.specs.Prelude.{◌≡◌, ℕ, List, [], ◌∷◌, Option, Some, None, if◌then◌else◌, map, length}
+use Rattle.std.specs.Prelude.{◌≡◌, ℕ, List, [], ◌∷◌, Option, Some, None, if◌then◌else◌, map, length, ⊤, IfSome}
 use Rattle.std.specs.FinMap as table
 use Rattle.up_canon.specs.Names.{Name}
 use Rattle.up_sign.specs.Schemes.{Rules}
 use Rattle.up_machine.specs.declared.command.Command.{Command}
 use Rattle.up_machine.specs.declared.answer.Answer.{Answer}
+use Rattle.up_machine.specs.declared.answer.Answer.TheVariants.{Refused}
 use Rattle.up_machine.specs.State.{State}
 use Rattle.up_machine.specs.Machine.{Timed, run}
 use Rattle.up_machine.specs.Repeats.{Sent, after, thinned, expected, not_lost, without_others, own_answers}
-use Rattle.up_desk.specs.Serving.{is_lost}
+use Rattle.up_desk.specs.Serving.{is_lost, outright}
 
 -- a command with its moment
 abbrev pub timed : ℕ × Command → Timed
@@ -24,12 +25,19 @@ sent (c ∷ cs) (a ∷ answers) = record { item = timed c; lost = is_lost a } �
 abbrev pub unless_lost : Answer → Option Answer
 unless_lost a = if is_lost a then None else Some a
 
+-- what is refused whether or not there is memory is answered so
+abbrev pub AreOutright : Rules → List (ℕ × Command) → List Answer → Type 0
+AreOutright k [] answers = ⊤
+AreOutright k (c ∷ cs) [] = ⊤
+AreOutright k (c ∷ cs) (a ∷ answers) = IfSome (outright k c.0 c.1) (λ r. a ≡ Refused r) × AreOutright k cs answers
+
 -- One answer for each command; each that isn't lost is the expected one; the state is the plain machine's after the list without what
 -- was lost and without the repeats, which is also that after the list with them; and each vehicle, and the answers to its own
 -- deliveries, are those of the list without other vehicles' deliveries.
 pub record IsRun (k : Rules) (old : State) (cs : List (ℕ × Command)) (answers : List Answer) (new : State) : Type 0 where
   pub count : length answers ≡ length cs
   pub told : map unless_lost answers ≡ expected k old (sent cs answers)
+  pub never_lost : AreOutright k cs answers
   pub state : new ≡ run k old (thinned k old (sent cs answers))
   pub with_repeats : new ≡ run k old (not_lost (sent cs answers))
   pub apart : (name : Name) → (table.get new.vehicles name ≡ table.get (after k old (without_others name (sent cs answers))).vehicles name)

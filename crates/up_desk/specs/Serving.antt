@@ -1,14 +1,18 @@
 -- What a desk answers, and the state that it leaves.
-use Rattle.std.specs.Prelude.{◌≡◌, ℕ, Bool, true, false, MatchBool, ⊤, Result, Ok, Err}
+use Rattle.std.specs.Prelude.{◌≡◌, ℕ, Bool, true, false, nat_lt, if◌then◌else◌, codes, Option, Some, None, MatchBool, ⊤, Result, Ok, Err}
+use Rattle.std.specs.List.{list_all}
+use Rattle.up_canon.specs.Moments.{last_command_moment}
 use Rattle.up_canon.specs.Refusals.{is_memory}
 use Rattle.up_canon.specs.Steps.{◌>>=◌}
 use Rattle.up_canon.specs.declared.refusal.Refusal.{Refusal}
+use Rattle.up_canon.specs.declared.refusal.Refusal.TheVariants.{MomentOutOfRange, BadShape}
 use Rattle.up_sign.specs.Schemes.{Rules}
 use Rattle.up_manifest.specs.Manifests.{incoming_in}
 use Rattle.up_machine.specs.declared.command.Command.{Command}
-use Rattle.up_machine.specs.declared.command.Command.TheVariants.{Deliver}
+use Rattle.up_machine.specs.declared.command.Command.TheVariants.{AddVehicle, Deliver}
 use Rattle.up_machine.specs.declared.answer.Answer.{Answer}
 use Rattle.up_machine.specs.declared.answer.Answer.TheVariants.{Refused}
+use Rattle.up_machine.specs.Keys.{public_fits}
 use Rattle.up_machine.specs.State.{State}
 use Rattle.up_machine.specs.Deciding.{Outcome, check_moment}
 use Rattle.up_machine.specs.Decisions.{decide_incoming}
@@ -29,12 +33,23 @@ is_lost _ = false
 abbrev pub IsAnswered : Answer → State → State → Outcome → Type 0
 IsAnswered a old new o = MatchBool (is_lost a) (new ≡ old) ((a ≡ o.answer) × (new ≡ o.next))
 
+-- ---- refusals that are answered whether or not there is memory
+
+-- of a command in time: that of a new vehicle with a public part that doesn't fit
+abbrev pub outright_in_time : Rules → Command → Option Refusal
+outright_in_time k (AddVehicle new) = if list_all (λ e. public_fits k e.public) new.ecus then None else Some (BadShape (codes "key"))
+outright_in_time k c = None
+
+-- that of a moment past the last one, before all others
+abbrev pub outright : Rules → ℕ → Command → Option Refusal
+outright k at c = if nat_lt last_command_moment at then Some MomentOutOfRange else outright_in_time k c
+
+-- ---- one command over the rows
+
 -- a refusal is told as one
 abbrev pub told : Result Answer Refusal → Answer
 told (Ok answer) = answer
 told (Err r) = Refused r
-
--- ---- one command over the rows
 
 -- the refusal that is due, or the outcome; a manifest that was accepted before is answered its kept reply
 abbrev pub served : Rules → State → ℕ → Command → Result Outcome Refusal

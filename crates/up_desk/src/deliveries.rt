@@ -21,6 +21,7 @@ use up_canon::refusal::Refusal;
 use up_machine::answer::{Answer, Reply};
 use up_machine::decide_manifest::decide_manifest;
 use up_machine::decision::{AcceptedRows, Delivered};
+use up_machine::laws::rows_are_sound;
 use up_machine::rows::Kept;
 use up_manifest::manifest::Incoming;
 use up_manifest::reading::read_manifest;
@@ -64,7 +65,7 @@ fn receive<K: Scheme>(
     match decide(book, alloc, scheme, at, incoming, kept)? {
         Delivered::Repeat => match kept {
             Some(row) => Ok(Answer::Reply(reply_of(alloc, row)?)),
-            None => Err(Refusal::Memory),
+            None => unreachable!(),
         },
         Delivered::Accepted(rows) => {
             let reply = reply_of(alloc, &rows.kept)?;
@@ -91,6 +92,7 @@ fn decide<K: Scheme>(
         GivesDelivered (K.rules scheme.now) s (option_copied kept.entry) incoming.now.manifest.vehicle result
         (decide_incoming (K.rules scheme.now) s at incoming.now) }
 {
+    rows_are_sound();
     let vehicle = book.vehicles.get(incoming.manifest.vehicle.text());
     let campaigns = book.campaigns.values();
     decide_manifest(

@@ -1,8 +1,6 @@
 //! The two repositories under one scheme.
-ghost use Rattle.std.specs.Prelude.{◌≡◌, ◌<◌, ◌++◌, List, IfOk, OnOk, OnErr, IsTrue};
+ghost use Rattle.std.specs.Prelude.{◌≡◌, ◌++◌, List, IfOk, IfSome, OnOk, OnErr, IsTrue};
 ghost use Rattle.std.specs.List.{AllByRecursion};
-ghost use Rattle.up_canon.specs.Moments.{last_command_moment};
-ghost use Rattle.up_canon.specs.declared.refusal.Refusal.TheVariants.{MomentOutOfRange};
 ghost use Rattle.up_machine.specs.declared.answer.Answer.TheVariants.{Refused};
 ghost use Rattle.up_machine.specs.Commands.{opens_running};
 ghost use Rattle.up_machine.specs.State.{empty_state};
@@ -10,7 +8,7 @@ ghost use Rattle.up_machine.specs.Repeats.{serve};
 ghost use Rattle.up_machine.specs.Reads.{ecus_of, version_of, installed as installed_in, assigned_to};
 ghost use Rattle.up_machine.specs.declared.answer.Answer.{Answer};
 ghost use Rattle.up_desk.specs.Runs.{IsRun};
-ghost use Rattle.up_desk.specs.Serving.{Holding, IsAnswered};
+ghost use Rattle.up_desk.specs.Serving.{Holding, IsAnswered, outright as outright_of};
 
 use crate::book::Book;
 use crate::obeying::{answer_of, keeps_limits, obey};
@@ -79,12 +77,12 @@ impl<K: Scheme> Desk<K> {
     }
 
     /// Answers a command at a moment: as the plain machine does, but a repeat of an accepted manifest is answered the reply
-    /// that was kept for it. Where memory is refused nothing changes; a moment past 2100-01-01T00:00:00Z is refused as that
-    /// whether or not there is memory.
+    /// that was kept for it. Where memory is refused nothing changes; a moment past
+    /// 2100-01-01T00:00:00Z, and then a key of a new vehicle that doesn't fit, is refused as that whether or not there is memory.
     pub fn call(&mut self, alloc: Global, at: u64, command: &Command) -> Answer
         requires { IsTrue (opens_running command.now) }
         ensures served { IsAnswered result self.old.state self.new.state (serve (K.rules self.old.scheme) self.old.state at command.now) }
-        ensures moment { last_command_moment < at → result ≡ Refused MomentOutOfRange }
+        ensures outright { IfSome (outright_of (K.rules self.old.scheme) at command.now) (λ r. result ≡ Refused r) }
         ensures scheme { self.new.scheme ≡ self.old.scheme }
     {
         keeps_limits(command);

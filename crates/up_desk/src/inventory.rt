@@ -1,5 +1,8 @@
 //! Vehicles of the inventory.
-ghost use Rattle.std.specs.Prelude.{◌≡◌, ◌≤◌, IfOk, OnOk, OnErr, [], map};
+ghost use Rattle.std.specs.Prelude.{◌≡◌, ◌≤◌, OnOk, OnErr, [], map, take, length, codes, false};
+ghost use Rattle.std.specs.List.{list_all};
+ghost use Rattle.up_canon.specs.declared.refusal.Refusal.TheVariants.{BadShape};
+ghost use Rattle.up_machine.specs.Keys.{public_fits};
 ghost use Rattle.up_canon.specs.Moments.{last_command_moment};
 ghost use Rattle.up_machine.specs.Inventory.{decide_vehicle as decide_vehicle_in, with_vehicle};
 ghost use Rattle.up_machine.specs.Rows.{rows_of};
@@ -31,7 +34,8 @@ pub fn add_vehicle<K: Scheme>(
 ) -> Result<Answer, Refusal>
     requires moment { at ≤ last_command_moment }
     requires stands { Stands (K.rules scheme.now) (held book.old) }
-    ensures { Leaves (K.rules scheme.now) (state_of (held book.old)) (held book.new) result
+    ensures key { list_all (λ e. public_fits (K.rules scheme.now) e.public) new.now.ecus ≡ false → result ≡ Err (BadShape (codes "key")) }
+    ensures leaves { Leaves (K.rules scheme.now) (state_of (held book.old)) (held book.new) result
         (decide_vehicle_in (K.rules scheme.now) (state_of (held book.old)) at new.now) }
 {
     match decide(book, alloc, scheme, at, new)? {
@@ -53,36 +57,34 @@ fn decide<K: Scheme>(
 ) -> Result<Decision<VehicleRows>, Refusal>
     requires moment { at ≤ last_command_moment }
     requires stands { Stands (K.rules scheme.now) (held book.now) }
-    ensures { let s = state_of (held book.now) in
+    ensures key { list_all (λ e. public_fits (K.rules scheme.now) e.public) new.now.ecus ≡ false → result ≡ Err (BadShape (codes "key")) }
+    ensures decided { let s = state_of (held book.now) in
         GivesDecision (λ rows. rows ≡ rows_of new.now.vehicle (record { primary = new.now.primary; ecus = new.now.ecus; entries = [] })) s (with_vehicle s new.now) result
         (decide_vehicle_in (K.rules scheme.now) s at new.now) }
 {
-    let recorded = recorded_in(alloc, book.vehicles.values(), new.ecus.as_slice())?;
+    let ecus = new.ecus.as_slice();
+    let mut recorded = [false; 32];
+    mark_recorded(&mut recorded, book.vehicles.values(), ecus);
+    let marks = first_marks(&recorded, ecus.len());
     let old = book.vehicles.get(new.vehicle.text());
-    decide_vehicle(
-        alloc,
-        scheme,
-        at,
-        new,
-        &book.founding,
-        old,
-        recorded.as_slice(),
-    )
+    decide_vehicle(alloc, scheme, at, new, &book.founding, old, marks)
 }
 
-/// For each new ECU whether one of its name stands in a vehicle.
-fn recorded_in(
-    alloc: Global,
-    vehicles: &[VehicleRows],
-    ecus: &[NewEcu],
-) -> Result<Vec<bool>, AllocError>
-    ensures { IfOk result (λ recorded. recorded.items ≡ map (λ e. has_ecu_row e.ecu vehicles.now) ecus.now) }
+fn first_marks(marks: &[bool], count: usize) -> &[bool]
+    requires { count ≤ length marks.now }
+    ensures { result.now ≡ take count marks.now }
 {
-    let mut recorded = Vec::with_capacity(alloc, ecus.len())?;
-    for ecu in ecus {
-        recorded.push(is_recorded(vehicles, &ecu.ecu))?;
+    &marks[..count]
+}
+
+/// Marks for each new ECU whether one of its name stands in a vehicle.
+fn mark_recorded(recorded: &mut [bool], vehicles: &[VehicleRows], ecus: &[NewEcu])
+    requires { length ecus.now ≤ length recorded.old }
+    ensures { take (length ecus.now) recorded.new ≡ map (λ e. has_ecu_row e.ecu vehicles.now) ecus.now }
+{
+    for place in 0..ecus.len() {
+        recorded[place] = is_recorded(vehicles, &ecus[place].ecu);
     }
-    Ok(recorded)
 }
 
 /// Whether an ECU of the name stands in one of the vehicles.

@@ -1,10 +1,9 @@
 //! Commands over the rows.
-ghost use Rattle.std.specs.Prelude.{◌≡◌, ◌≤◌, ◌<◌, IsTrue, MatchOption};
+ghost use Rattle.std.specs.Prelude.{◌≡◌, ◌≤◌, ◌<◌, IsTrue, IfSome, MatchOption};
 ghost use Rattle.up_canon.specs.Moments.{last_command_moment};
-ghost use Rattle.up_canon.specs.declared.refusal.Refusal.TheVariants.{MomentOutOfRange};
 ghost use Rattle.up_machine.specs.Commands.{is_command, opens_running};
 ghost use Rattle.up_desk.specs.Rows.{held, state_of, Stands};
-ghost use Rattle.up_desk.specs.Serving.{Leaves, served, told};
+ghost use Rattle.up_desk.specs.Serving.{Leaves, served, outright as outright_of, outright_in_time, told};
 
 use crate::book::Book;
 use crate::campaigns::{close, open};
@@ -31,7 +30,7 @@ pub fn obey<K: Scheme>(
     requires { Stands (K.rules scheme.now) (held book.old) }
     ensures leaves { Leaves (K.rules scheme.now) (state_of (held book.old)) (held book.new) result
         (served (K.rules scheme.now) (state_of (held book.old)) at command.now) }
-    ensures moment { last_command_moment < at → result ≡ Err MomentOutOfRange }
+    ensures outright { IfSome (outright_of (K.rules scheme.now) at command.now) (λ r. result ≡ Err r) }
 {
     match command_moment(at) {
         Some(at) => act(book, alloc, scheme, at, command),
@@ -49,8 +48,9 @@ fn act<K: Scheme>(
 ) -> Result<Answer, Refusal>
     requires moment { at ≤ last_command_moment }
     requires stands { Stands (K.rules scheme.now) (held book.old) }
-    ensures { Leaves (K.rules scheme.now) (state_of (held book.old)) (held book.new) result
+    ensures leaves { Leaves (K.rules scheme.now) (state_of (held book.old)) (held book.new) result
         (served (K.rules scheme.now) (state_of (held book.old)) at command.now) }
+    ensures outright { IfSome (outright_in_time (K.rules scheme.now) command.now) (λ r. result ≡ Err r) }
 {
     match command {
         Command::Found(keys) => found(book, alloc, scheme, at, keys),

@@ -1,6 +1,9 @@
-use Rattle.std.proofs.Common.{ap, ◌∙◌}
+use Rattle.std.proofs.Common.{sym, ap, ◌∙◌}
 use Rattle.std.specs.FinMap as table
+use Rattle.up_machine.specs.Decisions.{AreSoundRows}
 use Rattle.up_desk.specs.Rows.{held, state_of}
+use Rattle.up_desk.proofs.Decided.{if_copied}
+use Rattle.up_desk.proofs.Founding.{founding_keys}
 use Rattle.up_desk.proofs.Reading.{kept_found}
 use Rattle.up_desk.proofs.deliveries.decide.Goals as goal
 
@@ -12,3 +15,13 @@ returns g c =
     (c.get-vehicle.ensures ∙ ap (table.get c.args.book.now.vehicles) c.text.ensures.value ∙ stands.shows.vehicles name)
     (c.requires.kept ∙ kept_found _ _ (held c.args.book.now) name c.args.incoming.now.manifest.counter stands.shows)
     stands.shows.images (c.values-campaigns.ensures ∙ ap table.values stands.shows.campaigns)
+
+pub decide_manifest-requires-clause-keys : goal.decide_manifest-requires-clause-keys
+decide_manifest-requires-clause-keys g c = founding_keys _ _ (held c.args.book.now) c.requires.stands
+
+pub decide_manifest-requires-clause-rows : goal.decide_manifest-requires-clause-rows
+decide_manifest-requires-clause-rows g c =
+    let stands = c.requires.stands in
+    let name = c.args.incoming.now.manifest.vehicle in
+    let there = c.get-vehicle.ensures ∙ ap (table.get c.args.book.now.vehicles) c.text.ensures.value ∙ stands.shows.vehicles name in
+    if_copied AreSoundRows c.get-vehicle.result (λ rows is. c.rows_are_sound.ensures (g.K.Scheme.rules c.args.scheme.now) (state_of (held c.args.book.now)) name rows stands.sound (sym there ∙ is))

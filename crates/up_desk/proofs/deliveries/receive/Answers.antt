@@ -1,7 +1,7 @@
 use Rattle.std.proofs.Common.{refl, sym, ap, ap₂, ◌∙◌, Some, None}
 use Rattle.std.specs.Prelude.{option_copied}
 use Rattle.up_desk.specs.Rows.{held, state_of}
-use Rattle.up_desk.proofs.Decided.{when_repeated, when_accepted}
+use Rattle.up_desk.proofs.Decided.{when_repeated, not_repeated, when_accepted}
 use Rattle.up_desk.proofs.Added.{delivery_done, repeat_done}
 use Rattle.up_desk.proofs.deliveries.receive.Goals as goal
 
@@ -13,3 +13,6 @@ pub returns-in_ok-accept-in-Accepted : goal.returns-in_ok-accept-in-Accepted
 returns-in_ok-accept-in-Accepted g c =
     let is = when_accepted _ _ _ c.args.incoming.now.manifest.vehicle _ _ _ c.in-Accepted.is c.in_ok-decide.ensures in
     delivery_done _ _ (held c.args.book.now) _ _ is.vehicle is.entry _ _ _ c.requires.stands is.found is.decided is.has c.in_ok-reply-in-Accepted.ensures c.in_ok-accept-in-Accepted.ensures.ok
+
+pub unreachable-requires : goal.unreachable-requires
+unreachable-requires g c = not_repeated _ _ _ c.args.incoming.now.manifest.vehicle _ _ c.in-Repeat.is (ap option_copied c.in-None.is) c.in_ok-decide.ensures

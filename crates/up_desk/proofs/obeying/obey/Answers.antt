@@ -1,5 +1,14 @@
-use Rattle.up_desk.proofs.Serving.{late_served}
+use Rattle.std.proofs.Common.{Err, refl}
+use Rattle.up_canon.specs.declared.refusal.Refusal.TheVariants.{MomentOutOfRange}
+use Rattle.up_desk.proofs.Serving.{late_served, in_time_outright, late_outright}
 use Rattle.up_desk.proofs.obeying.obey.Goals as goal
 
-pub returns-in-None-clause-leaves : goal.returns-in-None-clause-leaves
-returns-in-None-clause-leaves g c = (c.requires.shows, late_served _ _ _ _ c.in-None.ensures)
+pub returns-in-None : goal.returns-in-None
+returns-in-None g c = record {
+  leaves = (c.requires.shows, late_served _ _ _ _ c.in-None.ensures);
+  outright = late_outright (g.K.Scheme.rules c.args.scheme.now) c.args.at c.args.command.now (Err MomentOutOfRange) c.in-None.ensures refl;
+}
+
+pub returns-in-Some-clause-outright : goal.returns-in-Some-clause-outright
+returns-in-Some-clause-outright g c =
+    in_time_outright (g.K.Scheme.rules c.args.scheme.now) c.args.at c.args.command.now c.act.result c.in-Some.ensures.0 c.act.ensures.outright

@@ -1,8 +1,10 @@
-use Rattle.std.proofs.Common.{sym, ap, subst, ◌∙◌}
+use Rattle.std.proofs.Common.{◌≡◌, sym, ap, subst}
+use Rattle.std.specs.Prelude.{IfSome}
+use Rattle.up_machine.specs.declared.answer.Answer.TheVariants.{Refused}
 use Rattle.up_machine.specs.Repeats.{serve}
 use Rattle.up_desk.specs.Rows.{held, state_of}
-use Rattle.up_desk.specs.Serving.{IsAnswered, told as told_as}
-use Rattle.up_desk.proofs.Serving.{answered}
+use Rattle.up_desk.specs.Serving.{IsAnswered, outright}
+use Rattle.up_desk.proofs.Serving.{answered, told_outright}
 use Rattle.up_desk.proofs.desk.Desk.call.Goals as goal
 
 pub invariant_of-self : goal.invariant_of-self
@@ -17,6 +19,7 @@ returns g c =
     let told = subst (λ a. IsAnswered a (state_of (held c.self.inside.book)) (state_of (held c.obey.new.book)) (serve (g.K.Scheme.rules c.self.inside.scheme) (state_of (held c.self.inside.book)) c.args.at c.args.command.now)) (sym c.answer_of.ensures) is.answered in
     record {
       served = subst (λ d. IsAnswered c.answer_of.result d.state (state_of (held c.obey.new.book)) (serve (g.K.Scheme.rules d.scheme) d.state c.args.at c.args.command.now)) c.self.view_is told;
-      moment = λ late. c.answer_of.ensures ∙ ap told_as (c.obey.ensures.moment late);
+      outright = subst (λ d. IfSome (outright (g.K.Scheme.rules d.scheme) c.args.at c.args.command.now) (λ r. c.answer_of.result ≡ Refused r)) c.self.view_is
+          (told_outright _ c.obey.result _ c.answer_of.ensures c.obey.ensures.outright);
       scheme = ap (λ d. d.scheme) c.self.view_is;
     }

@@ -13,7 +13,7 @@ loop-item-preserved g c =
       ran = (
         kept.ran.0 ++ answer ∷ [],
         pushed ∙ ap (λ (items : List _). items ++ answer ∷ []) kept.ran.1 ∙ append_assoc _ kept.ran.0 (answer ∷ []),
-        ran_more _ _ _ _ _ _ _ _ _ _ c.loop-item-test.true c.item-item.is (ap g.K.Scheme.rules kept.scheme) kept.ran.2 c.call-answer.ensures.served c.keeps_limits.ensures,
+        ran_more _ _ _ _ _ _ _ _ _ _ c.loop-item-test.true c.item-item.is (ap g.K.Scheme.rules kept.scheme) kept.ran.2 c.call-answer.ensures.served c.keeps_limits.ensures c.call-answer.ensures.outright,
       );
       scheme = c.call-answer.ensures.scheme ∙ kept.scheme;
       room = omega arith;
