@@ -1,6 +1,7 @@
 //! The limits of the register and of root versions.
 use crate::lines::{FOUND, ROTATE};
 use crate::running::called;
+use std::process::Abort;
 use std::test::Fail;
 use up_desk::desk::Desk;
 use up_script::printed::answer_text;
@@ -8,7 +9,7 @@ use up_sign::hmac_sha256::HmacSha256;
 
 /// Compares the answer to a line.
 fn answers(
-    rt: &HostRuntime,
+    rt: &(impl Abort + AllocGlobal),
     desk: &mut Desk<HmacSha256>,
     line: &str,
     printed: &str,

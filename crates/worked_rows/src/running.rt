@@ -3,6 +3,7 @@ ghost use Rattle.std.specs.Prelude.{IsTrue, IfOk};
 ghost use Rattle.std.specs.List.{AllByRecursion};
 ghost use Rattle.up_machine.specs.Commands.{opens_running};
 
+use std::process::Abort;
 use std::test::Fail;
 use up_desk::desk::Desk;
 use up_machine::answer::Answer;
@@ -13,13 +14,17 @@ use up_service::script::run_script;
 use up_sign::hmac_sha256::HmacSha256;
 
 /// Compares what is printed for the lines, by a script and by one run over those that are commands.
-pub(crate) fn answers_as(rt: &HostRuntime, lines: &[&str], printed: &[&str]) -> Result<(), Fail> {
+pub(crate) fn answers_as(
+    rt: &(impl Abort + AllocGlobal),
+    lines: &[&str],
+    printed: &[&str],
+) -> Result<(), Fail> {
     by_script(rt, lines, printed)?;
     at_once(rt, lines, printed)
 }
 
 /// The texts, each with a newline.
-pub(crate) fn joined(rt: &HostRuntime, texts: &[&str]) -> Result<String, Fail> {
+pub(crate) fn joined(rt: &impl AllocGlobal, texts: &[&str]) -> Result<String, Fail> {
     let mut all = String::new(rt.alloc());
     for text in texts {
         all.push_str(text)?;
@@ -29,7 +34,11 @@ pub(crate) fn joined(rt: &HostRuntime, texts: &[&str]) -> Result<String, Fail> {
 }
 
 /// Compares what a script of these lines prints.
-fn by_script(rt: &HostRuntime, lines: &[&str], printed: &[&str]) -> Result<(), Fail> {
+fn by_script(
+    rt: &(impl Abort + AllocGlobal),
+    lines: &[&str],
+    printed: &[&str],
+) -> Result<(), Fail> {
     let script = joined(rt, lines)?;
     let wanted = joined(rt, printed)?;
     let mut desk = Desk::new(HmacSha256, rt.alloc());
@@ -42,7 +51,7 @@ fn by_script(rt: &HostRuntime, lines: &[&str], printed: &[&str]) -> Result<(), F
 }
 
 /// Compares the answers of one run over the lines that are commands.
-fn at_once(rt: &HostRuntime, lines: &[&str], printed: &[&str]) -> Result<(), Fail> {
+fn at_once(rt: &(impl Abort + AllocGlobal), lines: &[&str], printed: &[&str]) -> Result<(), Fail> {
     let mut desk = Desk::new(HmacSha256, rt.alloc());
     let mut answers = Vec::new(rt.alloc());
     let (commands, wanted) = commands_of(rt, lines, printed)?;
@@ -56,7 +65,7 @@ fn at_once(rt: &HostRuntime, lines: &[&str], printed: &[&str]) -> Result<(), Fai
 
 /// The lines that are commands, with their moments, and what is printed for them.
 fn commands_of<'a>(
-    rt: &HostRuntime,
+    rt: &impl AllocGlobal,
     lines: &[&str],
     printed: &[&'a str],
 ) -> Result<(Vec<(u64, Command)>, Vec<&'a str>), Fail>
@@ -88,7 +97,7 @@ fn commands_of<'a>(
 
 /// The desk's answer to a line that is a command.
 pub(crate) fn called(
-    rt: &HostRuntime,
+    rt: &impl AllocGlobal,
     desk: &mut Desk<HmacSha256>,
     line: &str,
 ) -> Result<Answer, Fail> {
