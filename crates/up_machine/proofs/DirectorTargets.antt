@@ -1,6 +1,6 @@
 -- The Director's targets fit, and no ECU stands twice among them.
 use Rattle.std.proofs.Common.{◌≡◌, ℕ, List, [], ◌∷◌, Bool, true, false, cond, Option, Some, None, refl, sym, ap, ap₂, ◌∙◌, subst, length, arith}
-use Rattle.std.specs.Prelude.{◌&&◌, bytes_eq, map, filter, filter_map, option_map, is_none}
+use Rattle.std.specs.Prelude.{◌&&◌, not, if◌then◌else◌, bytes_eq, map, filter, filter_map, option_map, is_none}
 use Rattle.std.specs.List.{list_all, list_any, cons_option}
 use Rattle.std.specs.FinMap as table
 use Rattle.std.proofs.lemmas.Bool.{and_parts}
@@ -29,8 +29,13 @@ use Rattle.up_machine.proofs.DistinctNames.{Distinct, or_parts, distinct, once_o
 
 -- ---- a target of an image that fits
 
+-- what has no fault has fitting hardware, which is tested first
+hardware_first : (b : Bool) (name : Name) (rest : Option Name) → is_none (if not b then Some name else rest) ≡ true → b ≡ true
+hardware_first true name rest h = refl
+hardware_first false name rest h = h
+
 pub fits : (ecu : Name) (image : ImageData) → image_fits image ≡ true → target_fits Director (target_of (Some ecu) image) ≡ true
-fits ecu image h = and_left (hardware_fits image.hardware) _ (and_left _ _ h)
+fits ecu image h = hardware_first (hardware_fits image.hardware) _ _ h
 
 -- ---- names that are printed
 

@@ -32,6 +32,6 @@ root_text-requires-clause-limits g c =
 pub returns : goal.returns
 returns g c b is =
     let k = g.K.Scheme.rules c.args.scheme.now in
-    c.new.ensures ∙ c.in_ok-root_text.ensures
+    c.new.ensures ∙ c.in_ok-root_text.ensures.value
     ∙ ap₂ (root_text_of k) (c.as_slice.ensures.value ∙ c.in_ok-signers.ensures) c.in_ok-file.ensures
     ∙ root_text_is k c.args.repository c.args.number (record { keys = c.args.keys.now; at = c.args.at }) b (option_copied c.args.before) is
