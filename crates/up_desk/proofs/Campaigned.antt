@@ -1,5 +1,5 @@
 -- The rows after a campaign was opened or closed are those of the next state.
-use Rattle.std.proofs.Common.{◌≡◌, ℕ, ◌∷◌, [], List, Bool, true, Option, Some, None, Ok, refl, sym, ap, ◌∙◌, subst}
+use Rattle.std.proofs.Common.{◌≡◌, ℕ, ◌∷◌, [], List, Option, Some, None, Ok, refl, sym, ap, ◌∙◌, subst}
 use Rattle.std.specs.Prelude.{option_map, is_some}
 use Rattle.std.specs.List.{AllByRecursion}
 use Rattle.std.specs.FinMap as table
@@ -8,10 +8,9 @@ use Rattle.up_sign.specs.Schemes.{Rules}
 use Rattle.up_plan.specs.declared.campaign.Item.{Item}
 use Rattle.up_plan.specs.Campaigns.{CampaignData}
 use Rattle.up_machine.specs.declared.answer.Answer.TheVariants.{Done}
-use Rattle.up_machine.specs.declared.command.Command.TheVariants.{OpenCampaign}
 use Rattle.up_machine.specs.State.{Vehicle, State}
-use Rattle.up_machine.specs.Deciding.{Outcome, done}
-use Rattle.up_machine.specs.Inventory.{with_campaign, closed, decide_open, decide_close}
+use Rattle.up_machine.specs.Deciding.{done}
+use Rattle.up_machine.specs.Inventory.{with_campaign, decide_open, decide_close}
 use Rattle.up_machine.specs.Replies.{reply_text}
 use Rattle.up_machine.specs.Rows.{rows_of}
 use Rattle.up_machine.specs.Decisions.{Knows, named_in}

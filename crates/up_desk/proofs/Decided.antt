@@ -1,5 +1,5 @@
 -- What a decision that went through says.
-use Rattle.std.proofs.Common.{◌≡◌, List, Bool, true, false, Option, Some, None, Result, Ok, Err, Bor, refl, sym, ap, ◌∙◌, subst}
+use Rattle.std.proofs.Common.{◌≡◌, Option, Some, None, Result, Ok, Bor, refl, ap, ◌∙◌, subst}
 use Rattle.std.specs.Prelude.{option_copied, IfSome}
 use Rattle.std.specs.FinMap as table
 use Rattle.up_canon.specs.Names.{Name}

@@ -1,5 +1,5 @@
 -- The text that is found among the rows is the file's.
-use Rattle.std.proofs.Common.{◌≡◌, ℕ, zero, suc, ◌+◌, ◌-◌, ◌≤◌, List, [], ◌∷◌, ◌++◌, Bool, true, false, cond, Option, Some, None, Result, Ok, Err, map, refl, sym, ap, ap₂, ◌∙◌, subst, arith}
+use Rattle.std.proofs.Common.{◌≡◌, ℕ, zero, suc, ◌+◌, ◌-◌, ◌≤◌, List, [], ◌∷◌, ◌++◌, Bool, true, false, cond, Option, Some, None, Result, Ok, Err, map, refl, sym, ap, ap₂, ◌∙◌, arith}
 use Rattle.std.specs.Prelude.{⊤, is_none, MatchBool, ◌≢◌, ◌==◌, option_map, option_to_list, find, length, slice_get, bytes_eq, codes, if◌then◌else◌}
 use Rattle.std.specs.List.{enumerate_from}
 use Rattle.std.specs.Option.{option_or}
@@ -21,7 +21,7 @@ use Rattle.up_machine.specs.Repositories.{decide_fetch}
 use Rattle.up_machine.specs.declared.rows.Founding.{Founding}
 use Rattle.up_machine.specs.Rows.{founding_row}
 use Rattle.up_desk.specs.declared.book.RootRow.{RootRow}
-use Rattle.up_desk.specs.Rows.{Held, root_row, root_rows, text_in, row_named, text_among, other_text, text_held, text_for, Shows}
+use Rattle.up_desk.specs.Rows.{Held, root_row, root_rows, text_in, row_named, text_among, text_held, text_for, Shows}
 use Rattle.up_desk.specs.Serving.{Leaves}
 use Rattle.up_desk.proofs.Shown.{no_last}
 use Rattle.up_desk.proofs.Serving.{in_time, passed, stopped_at as stopped}

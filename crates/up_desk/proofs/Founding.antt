@@ -1,11 +1,10 @@
 -- The keys of the founding's row fit.
-use Rattle.std.proofs.Common.{◌≡◌, Option, Some, None, refl, sym, ◌∙◌, subst}
+use Rattle.std.proofs.Common.{◌≡◌, Option, Some, None, refl, sym, subst}
 use Rattle.std.specs.Prelude.{length, option_map, IsTrue, IfSome}
 use Rattle.up_sign.specs.Schemes.{Rules}
 use Rattle.up_machine.specs.declared.rows.Founding.{Founding}
 use Rattle.up_machine.specs.Keys.{key_set_fits}
 use Rattle.up_machine.specs.State.{Root, State, root_at}
-use Rattle.up_machine.specs.Rows.{founding_row}
 use Rattle.up_machine.specs.Sound.{IsSoundRoot, IsSound}
 use Rattle.up_machine.proofs.Keeping.{nth_at}
 use Rattle.up_desk.specs.Rows.{Held, Holds}

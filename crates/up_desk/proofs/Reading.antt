@@ -1,22 +1,21 @@
 -- What the rows tell is what the state tells.
-use Rattle.std.proofs.Common.{◌≡◌, ℕ, ◌+◌, List, [], ◌∷◌, Bool, true, false, cond, Option, Some, None, map, refl, sym, ap, ap₂, ◌∙◌, subst}
+use Rattle.std.proofs.Common.{◌≡◌, ℕ, ◌+◌, List, [], ◌∷◌, Bool, true, false, cond, Option, Some, None, map, refl, ap, ◌∙◌}
 use Rattle.std.specs.Prelude.{◌==◌, ◌&&◌, ◌||◌, option_map, option_and_then, unwrap_or, find, filter, bytes_eq}
-use Rattle.std.specs.List.{enumerate_from, list_any}
+use Rattle.std.specs.List.{enumerate_from}
 use Rattle.std.specs.Cmp.Lexicographic.{bytes_decides}
 use Rattle.std.specs.FinMap as table
 use Rattle.up_canon.specs.Names.{Name, Table}
 use Rattle.up_sign.specs.Schemes.{Rules}
 use Rattle.up_manifest.specs.declared.report.Installed.{Installed}
-use Rattle.up_plan.specs.declared.assigned.Plan.{Plan}
 use Rattle.up_machine.specs.declared.rows.EcuRow.{EcuRow}
 use Rattle.up_machine.specs.declared.rows.VehicleRows.{VehicleRows}
 use Rattle.up_machine.specs.declared.rows.Kept.{Kept}
 use Rattle.up_machine.specs.declared.vehicle.NewEcu.{NewEcu}
 use Rattle.up_machine.specs.Vehicles.{has_ecu, ecu_names}
 use Rattle.up_machine.specs.State.{Entry, Vehicle, State, last_counter, plan_for, installed_on}
-use Rattle.up_machine.specs.Reads.{ecus_of, owner, installed, assigned_to}
+use Rattle.up_machine.specs.Reads.{ecus_of, installed, assigned_to}
 use Rattle.up_machine.specs.Rows.{ecu_row, rows_of, kept_row, kept_at}
-use Rattle.up_desk.specs.Rows.{Held, kept_of, kept_with, stands_among, installed_among, plan_held, Shows}
+use Rattle.up_desk.specs.Rows.{Held, kept_with, stands_among, installed_among, plan_held, Shows}
 use Rattle.up_desk.proofs.Tables.{changed, entries_changed}
 use Rattle.up_desk.proofs.Staying.{rows_for}
 use Rattle.up_desk.proofs.Added.{among_rows, all_rows}

@@ -1,10 +1,8 @@
 -- The rows after a founding or a rotation are those of the next state.
-use Rattle.std.proofs.Common.{◌≡◌, ℕ, zero, suc, ◌+◌, ◌-◌, ◌<◌, ◌≤◌, List, [], ◌∷◌, ◌++◌, Bool, true, false, cond, Option, Some, None, Result, Ok, Err, map, refl, sym, ap, ap₂, ◌∙◌, subst, arith}
-use Rattle.std.specs.Prelude.{option_map, length, slice_get, ◌==◌}
-use Rattle.std.specs.List.{enumerate_from}
+use Rattle.std.proofs.Common.{◌≡◌, ℕ, ◌+◌, ◌-◌, List, [], ◌∷◌, ◌++◌, Some, Ok, refl, sym, ap, ap₂, ◌∙◌, subst, arith}
+use Rattle.std.specs.Prelude.{option_map, length, slice_get}
 use Rattle.std.proofs.lemmas.Bool.{ne_eqb}
 use Rattle.std.proofs.lemmas.List.{length-append}
-use Rattle.up_canon.specs.declared.refusal.Refusal.{Refusal}
 use Rattle.up_sign.specs.Schemes.{Rules}
 use Rattle.up_roles.specs.declared.repository.Repository.TheVariants.{Director, Image}
 use Rattle.up_machine.specs.declared.answer.Answer.TheVariants.{Done}
@@ -14,7 +12,7 @@ use Rattle.up_machine.specs.declared.rows.Founding.{Founding}
 use Rattle.up_machine.specs.declared.decision.RootRows.{RootRows}
 use Rattle.up_machine.specs.State.{Root, State, nth, root_at}
 use Rattle.up_machine.specs.Files.{numbered_root_name, root_text_at}
-use Rattle.up_machine.specs.Deciding.{Outcome, done}
+use Rattle.up_machine.specs.Deciding.{done}
 use Rattle.up_machine.specs.Repositories.{stamped, with_root, decide_found, decide_rotate}
 use Rattle.up_machine.specs.Decisions.{HasRootRows}
 use Rattle.up_machine.specs.Laws.{IsLater}

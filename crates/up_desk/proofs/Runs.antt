@@ -4,7 +4,6 @@ use Rattle.std.proofs.lemmas.List.{take_more, take_all}
 use Rattle.std.specs.Prelude.{Result, Ok, Err, is_ok, MatchBool, IsTrue, IfSome, if◌then◌else◌}
 use Rattle.std.specs.List.{AllByRecursion}
 use Rattle.std.specs.FinMap as table
-use Rattle.up_canon.specs.Names.{Name}
 use Rattle.up_sign.specs.Schemes.{Rules}
 use Rattle.up_machine.specs.declared.command.Command.{Command}
 use Rattle.up_machine.specs.declared.answer.Answer.{Answer}
@@ -12,7 +11,7 @@ use Rattle.up_machine.specs.declared.answer.Answer.TheVariants.{Refused}
 use Rattle.up_machine.specs.Commands.{is_command}
 use Rattle.up_machine.specs.State.{State}
 use Rattle.up_machine.specs.Machine.{run}
-use Rattle.up_machine.specs.Repeats.{Sent, serve, after, thinned, expected, not_lost}
+use Rattle.up_machine.specs.Repeats.{Sent, serve, after, thinned, expected}
 use Rattle.up_machine.specs.Sound.{IsSound}
 use Rattle.up_machine.specs.RepeatLaws.{AreCommands, RepeatsChangeNothing, ServedIsThinned}
 use Rattle.up_machine.specs.ApartLaws.{VehiclesStandApart}

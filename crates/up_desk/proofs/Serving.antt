@@ -28,7 +28,7 @@ use Rattle.up_machine.specs.Machine.{decide, outcome_of, step}
 use Rattle.up_machine.specs.Repeats.{Repeat, repeat_in, repeat_of, served_as, serve}
 use Rattle.up_machine.specs.Sound.{IsSound}
 use Rattle.up_machine.specs.RepeatLaws.{ServedStaysSound}
-use Rattle.up_desk.specs.Rows.{Held, Shows, state_of, Holds, Stands}
+use Rattle.up_desk.specs.Rows.{Held, state_of, Stands}
 use Rattle.up_desk.specs.Serving.{is_lost, IsAnswered, told, served, outright_in_time, outright, Leaves}
 use Rattle.up_desk.proofs.Shown.{determined, settled}
 

@@ -1,5 +1,5 @@
 -- The rows that are kept are those of one state, which is computed from them.
-use Rattle.std.proofs.Common.{◌≡◌, ℕ, zero, suc, ◌+◌, ◌-◌, List, [], ◌∷◌, Bool, true, false, cond, Option, Some, None, map, refl, sym, ap, ap₂, ◌∙◌, subst, arith}
+use Rattle.std.proofs.Common.{◌≡◌, ℕ, ◌+◌, ◌-◌, List, [], ◌∷◌, true, false, cond, Option, Some, None, map, refl, sym, ap, ap₂, ◌∙◌, subst, arith}
 use Rattle.std.specs.Prelude.{option_map, unwrap_or, length, slice_get, is_some, Result, Ok, Err, IfOk}
 use Rattle.std.specs.List.{enumerate_from}
 use Rattle.std.specs.FinMap as table
@@ -15,11 +15,11 @@ use Rattle.up_machine.specs.declared.rows.VehicleRows.{VehicleRows}
 use Rattle.up_machine.specs.declared.rows.Kept.{Kept}
 use Rattle.up_machine.specs.declared.vehicle.NewEcu.{NewEcu}
 use Rattle.up_machine.specs.State.{Entry, Vehicle, Root, State, empty_state, nth, root_at}
-use Rattle.up_machine.specs.Rows.{founding_row, ecu_row, rows_of, vehicle_rows, kept_row}
+use Rattle.up_machine.specs.Rows.{ecu_row, rows_of, kept_row}
 use Rattle.up_machine.specs.Sound.{IsSound}
 use Rattle.up_machine.specs.Laws.{EmptyIsSound}
 use Rattle.up_desk.specs.Tables.{each_value}
-use Rattle.up_desk.specs.Rows.{Held, root_row, kept_of, kept_rows, Shows, root_of, ecu_of, entry_of, vehicle_of, state_of, Holds}
+use Rattle.up_desk.specs.Rows.{Held, root_row, kept_of, Shows, root_of, ecu_of, entry_of, vehicle_of, state_of, Holds}
 use Rattle.up_desk.proofs.Tables.{get_changed}
 
 roots_back : (k : Rules) (s : State) (n : ℕ) (roots : List Root) → map root_of (map (λ (r : ℕ × Root). root_row k s r.0 r.1) (enumerate_from n roots)) ≡ roots

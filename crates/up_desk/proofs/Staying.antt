@@ -1,5 +1,5 @@
 -- Rows of root versions and kept rows stay where the state grows.
-use Rattle.std.proofs.Common.{◌≡◌, ℕ, zero, suc, ◌+◌, ◌-◌, ◌<◌, ◌≤◌, List, [], ◌∷◌, ◌++◌, cond, Option, Some, None, map, refl, sym, ap, ap₂, ◌∙◌, arith}
+use Rattle.std.proofs.Common.{◌≡◌, ℕ, zero, suc, ◌+◌, ◌-◌, ◌<◌, ◌≤◌, List, [], ◌∷◌, ◌++◌, cond, Option, Some, None, map, refl, ap, ap₂, ◌∙◌, arith}
 use Rattle.std.specs.Prelude.{option_map, unwrap_or, length, slice_get, ◌==◌}
 use Rattle.std.specs.List.{AllByRecursion, enumerate_from}
 use Rattle.std.specs.FinMap as table
@@ -7,7 +7,7 @@ use Rattle.up_canon.specs.Names.{Name}
 use Rattle.up_sign.specs.Schemes.{Rules}
 use Rattle.up_roles.specs.declared.repository.Repository.TheVariants.{Director, Image}
 use Rattle.up_machine.specs.declared.rows.Kept.{Kept}
-use Rattle.up_machine.specs.State.{Entry, Vehicle, Root, State, nth, root_at}
+use Rattle.up_machine.specs.State.{Entry, Vehicle, Root, State, nth}
 use Rattle.up_machine.specs.Files.{numbered_root_name, root_text}
 use Rattle.up_machine.specs.Rows.{kept_row}
 use Rattle.up_machine.specs.Sound.{IsSound, IsGrounded}

@@ -1,5 +1,5 @@
 -- What a desk answers, and the state that it leaves.
-use Rattle.std.specs.Prelude.{◌≡◌, ℕ, Bool, true, false, nat_lt, if◌then◌else◌, codes, Option, Some, None, MatchBool, ⊤, Result, Ok, Err}
+use Rattle.std.specs.Prelude.{◌≡◌, ℕ, Bool, false, nat_lt, if◌then◌else◌, codes, Option, Some, None, MatchBool, ⊤, Result, Ok, Err}
 use Rattle.std.specs.List.{list_all}
 use Rattle.up_canon.specs.Moments.{last_command_moment}
 use Rattle.up_canon.specs.Refusals.{is_memory}

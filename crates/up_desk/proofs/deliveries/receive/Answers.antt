@@ -1,6 +1,6 @@
-use Rattle.std.proofs.Common.{refl, sym, ap, ap₂, ◌∙◌, Some, None}
+use Rattle.std.proofs.Common.{ap}
 use Rattle.std.specs.Prelude.{option_copied}
-use Rattle.up_desk.specs.Rows.{held, state_of}
+use Rattle.up_desk.specs.Rows.{held}
 use Rattle.up_desk.proofs.Decided.{when_repeated, not_repeated, when_accepted}
 use Rattle.up_desk.proofs.Added.{delivery_done, repeat_done}
 use Rattle.up_desk.proofs.deliveries.receive.Goals as goal

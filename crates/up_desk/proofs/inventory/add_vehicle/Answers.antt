@@ -1,4 +1,4 @@
-use Rattle.up_desk.specs.Rows.{held, state_of}
+use Rattle.up_desk.specs.Rows.{held}
 use Rattle.up_desk.proofs.Decided.{when_already, when_new, unchanged}
 use Rattle.up_desk.proofs.Added.{vehicle_done}
 use Rattle.up_desk.proofs.inventory.add_vehicle.Goals as goal

@@ -1,4 +1,4 @@
-use Rattle.std.proofs.Common.{◌≡◌, ap, ◌∙◌}
+use Rattle.std.proofs.Common.{ap, ◌∙◌}
 use Rattle.up_machine.specs.Reads.{ecus_of}
 use Rattle.up_desk.proofs.Reading.{ecus_read}
 use Rattle.up_desk.proofs.Shown.{same_if_ok}

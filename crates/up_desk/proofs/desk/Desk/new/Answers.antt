@@ -1,6 +1,5 @@
-use Rattle.std.proofs.Common.{◌≡◌, None}
-use Rattle.up_desk.specs.Rows.{Held, held, state_of}
-use Rattle.up_desk.proofs.Shown.{nothing, nothing_settled, nothing_state}
+use Rattle.std.proofs.Common.{None}
+use Rattle.up_desk.proofs.Shown.{nothing_settled, nothing_state}
 use Rattle.up_desk.proofs.desk.Desk.new.Goals as goal
 
 pub invariant_of-result : goal.invariant_of-result

@@ -1,6 +1,6 @@
-use Rattle.std.proofs.Common.{◌≡◌, ◌+◌, List, [], ◌∷◌, ◌++◌, ◌∙◌, sym, ap, arith, append_assoc, subst, vec_len}
+use Rattle.std.proofs.Common.{◌≡◌, ◌+◌, List, [], ◌∷◌, ◌++◌, ◌∙◌, ap, arith, append_assoc, subst, vec_len}
 use Rattle.up_machine.specs.Sound.{IsSound}
-use Rattle.up_desk.proofs.Runs.{ran_more, ran_all, chosen_ok, each_or}
+use Rattle.up_desk.proofs.Runs.{ran_more, ran_all, chosen_ok}
 use Rattle.up_desk.proofs.desk.Desk.run.Goals as goal
 
 pub loop-item-preserved : goal.loop-item-preserved

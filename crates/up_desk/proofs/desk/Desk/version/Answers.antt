@@ -1,4 +1,4 @@
-use Rattle.std.proofs.Common.{◌≡◌, ap, ◌∙◌}
+use Rattle.std.proofs.Common.{ap, ◌∙◌}
 use Rattle.up_machine.specs.Reads.{version_of}
 use Rattle.up_desk.proofs.Shown.{version_read}
 use Rattle.up_desk.proofs.desk.Desk.version.Goals as goal
