@@ -27,6 +27,4 @@ pub mod rows;
 mod same_campaign;
 mod same_image;
 mod same_vehicle;
-#[cfg(test)]
-mod tests;
 pub mod vehicle;
