@@ -1,10 +1,10 @@
 //! Deliveries: repeats, stale counters, reports that are missing, foreign or replayed.
-use crate::lines::{FOUND, IMAGE_Z, REFRESH_TO_THE_LAST, ROTATE, SHOW_V1, V1, V2};
+use crate::lines::{found, image_z, refresh_to_the_last, rotate, show_v1, v1, v2};
 use crate::manifests::{
-    DELIVER_WITH_A_CHANGED_SIGNATURE, DELIVER_WITH_ANOTHER_SIGNATURE, DELIVER_WITH_SPACES,
-    V1_1_P1_1, V1_1_P1_1_LATER, V1_2_P1_1, V1_3_P1_1, V1_3_P1_2, V1_LAST_BUT_ONE_P1_1,
-    V1_LAST_P1_1, V2_1_P2_1, V2_1_P2_1_P2_1, V2_1_P2_1_S2_1_BY_ANOTHER, V2_1_P2_1_S2_1_X9_1,
-    V2_1_P2_1_S2_5, V2_2_P2_1_S2_5, V2_3_P2_1_S2_4, V2_3_P2_1_S2_5_OTHER, V2_3_P2_1_S2_6_OTHER,
+    deliver_with_a_changed_signature, deliver_with_another_signature, deliver_with_spaces,
+    v1_1_p1_1, v1_1_p1_1_later, v1_2_p1_1, v1_3_p1_1, v1_3_p1_2, v1_last_but_one_p1_1,
+    v1_last_p1_1, v2_1_p2_1, v2_1_p2_1_p2_1, v2_1_p2_1_s2_1_by_another, v2_1_p2_1_s2_1_x9_1,
+    v2_1_p2_1_s2_5, v2_2_p2_1_s2_5, v2_3_p2_1_s2_4, v2_3_p2_1_s2_5_other, v2_3_p2_1_s2_6_other,
 };
 use crate::running::answers_as;
 use std::test::Fail;
@@ -13,7 +13,7 @@ use std::test::Fail;
 fn first_manifest(rt: HostRuntime) -> Result<(), Fail> {
     answers_as(
         &rt,
-        &[FOUND, V1, V1_1_P1_1],
+        &[found(), v1(), v1_1_p1_1()],
         &["done", "done", "reply V1 version 1 targets 0"],
     )
 }
@@ -22,7 +22,7 @@ fn first_manifest(rt: HostRuntime) -> Result<(), Fail> {
 fn repeat_when_expired(rt: HostRuntime) -> Result<(), Fail> {
     answers_as(
         &rt,
-        &[FOUND, V1, V1_1_P1_1, V1_1_P1_1_LATER, V1_2_P1_1],
+        &[found(), v1(), v1_1_p1_1(), v1_1_p1_1_later(), v1_2_p1_1()],
         &[
             "done",
             "done",
@@ -37,7 +37,14 @@ fn repeat_when_expired(rt: HostRuntime) -> Result<(), Fail> {
 fn older_counter(rt: HostRuntime) -> Result<(), Fail> {
     answers_as(
         &rt,
-        &[FOUND, V1, V1_1_P1_1, V1_3_P1_1, V1_2_P1_1, V1_3_P1_1],
+        &[
+            found(),
+            v1(),
+            v1_1_p1_1(),
+            v1_3_p1_1(),
+            v1_2_p1_1(),
+            v1_3_p1_1(),
+        ],
         &[
             "done",
             "done",
@@ -54,7 +61,13 @@ fn same_counter_other_manifest(rt: HostRuntime) -> Result<(), Fail> {
     answers_as(
         &rt,
         &[
-            FOUND, V1, V1_1_P1_1, V1_3_P1_1, V1_2_P1_1, V1_3_P1_1, V1_3_P1_2,
+            found(),
+            v1(),
+            v1_1_p1_1(),
+            v1_3_p1_1(),
+            v1_2_p1_1(),
+            v1_3_p1_1(),
+            v1_3_p1_2(),
         ],
         &[
             "done",
@@ -73,12 +86,12 @@ fn repeat_in_another_spelling(rt: HostRuntime) -> Result<(), Fail> {
     answers_as(
         &rt,
         &[
-            FOUND,
-            V1,
-            V1_1_P1_1,
-            DELIVER_WITH_SPACES,
-            DELIVER_WITH_ANOTHER_SIGNATURE,
-            SHOW_V1,
+            found(),
+            v1(),
+            v1_1_p1_1(),
+            deliver_with_spaces(),
+            deliver_with_another_signature(),
+            show_v1(),
         ],
         &[
             "done",
@@ -95,7 +108,12 @@ fn repeat_in_another_spelling(rt: HostRuntime) -> Result<(), Fail> {
 fn changed_signature(rt: HostRuntime) -> Result<(), Fail> {
     answers_as(
         &rt,
-        &[FOUND, V1, V1_1_P1_1, DELIVER_WITH_A_CHANGED_SIGNATURE],
+        &[
+            found(),
+            v1(),
+            v1_1_p1_1(),
+            deliver_with_a_changed_signature(),
+        ],
         &[
             "done",
             "done",
@@ -109,7 +127,13 @@ fn changed_signature(rt: HostRuntime) -> Result<(), Fail> {
 fn ecus_of_the_inventory(rt: HostRuntime) -> Result<(), Fail> {
     answers_as(
         &rt,
-        &[FOUND, V2, V2_1_P2_1, V2_1_P2_1_S2_1_X9_1, V2_1_P2_1_P2_1],
+        &[
+            found(),
+            v2(),
+            v2_1_p2_1(),
+            v2_1_p2_1_s2_1_x9_1(),
+            v2_1_p2_1_p2_1(),
+        ],
         &[
             "done",
             "done",
@@ -124,7 +148,7 @@ fn ecus_of_the_inventory(rt: HostRuntime) -> Result<(), Fail> {
 fn report_signed_by_another(rt: HostRuntime) -> Result<(), Fail> {
     answers_as(
         &rt,
-        &[FOUND, V2, V2_1_P2_1_S2_1_BY_ANOTHER],
+        &[found(), v2(), v2_1_p2_1_s2_1_by_another()],
         &["done", "done", "refused 17 BadReportSignature S2"],
     )
 }
@@ -134,13 +158,13 @@ fn replayed_reports(rt: HostRuntime) -> Result<(), Fail> {
     answers_as(
         &rt,
         &[
-            FOUND,
-            V2,
-            V2_1_P2_1_S2_5,
-            V2_2_P2_1_S2_5,
-            V2_3_P2_1_S2_5_OTHER,
-            V2_3_P2_1_S2_4,
-            V2_3_P2_1_S2_6_OTHER,
+            found(),
+            v2(),
+            v2_1_p2_1_s2_5(),
+            v2_2_p2_1_s2_5(),
+            v2_3_p2_1_s2_5_other(),
+            v2_3_p2_1_s2_4(),
+            v2_3_p2_1_s2_6_other(),
         ],
         &[
             "done",
@@ -159,15 +183,15 @@ fn greatest_counts(rt: HostRuntime) -> Result<(), Fail> {
     answers_as(
         &rt,
         &[
-            FOUND,
-            V1,
-            V1_LAST_P1_1,
-            V1_LAST_P1_1,
-            V1_LAST_BUT_ONE_P1_1,
-            REFRESH_TO_THE_LAST,
-            IMAGE_Z,
-            REFRESH_TO_THE_LAST,
-            ROTATE,
+            found(),
+            v1(),
+            v1_last_p1_1(),
+            v1_last_p1_1(),
+            v1_last_but_one_p1_1(),
+            refresh_to_the_last(),
+            image_z(),
+            refresh_to_the_last(),
+            rotate(),
         ],
         &[
             "done",

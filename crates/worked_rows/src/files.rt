@@ -1,9 +1,9 @@
 //! Files that are fetched. Their signatures and hashes were computed by Python's hmac and hashlib.
 use crate::lines::{
-    FETCH_DIRECTOR_ROOT, FETCH_IMAGE_1_ROOT, FETCH_IMAGE_02_ROOT, FETCH_IMAGE_SNAPSHOT,
-    FETCH_IMAGE_TARGETS, FETCH_IMAGE_TIMESTAMP, FOUND, IMAGE_Z, ROTATE, V1,
+    fetch_director_root, fetch_image_1_root, fetch_image_02_root, fetch_image_snapshot,
+    fetch_image_targets, fetch_image_timestamp, found, image_z, rotate, v1,
 };
-use crate::manifests::{V1_1_P1_1, V1_2_P1_1};
+use crate::manifests::{v1_1_p1_1, v1_2_p1_1};
 use crate::running::answers_as;
 use std::test::Fail;
 
@@ -12,13 +12,13 @@ fn files_of_the_image_repository(rt: HostRuntime) -> Result<(), Fail> {
     answers_as(
         &rt,
         &[
-            FOUND,
-            IMAGE_Z,
-            FETCH_IMAGE_TARGETS,
-            FETCH_IMAGE_SNAPSHOT,
-            FETCH_IMAGE_TIMESTAMP,
-            FETCH_IMAGE_1_ROOT,
-            FETCH_IMAGE_02_ROOT,
+            found(),
+            image_z(),
+            fetch_image_targets(),
+            fetch_image_snapshot(),
+            fetch_image_timestamp(),
+            fetch_image_1_root(),
+            fetch_image_02_root(),
         ],
         &[
             "done",
@@ -36,7 +36,14 @@ fn files_of_the_image_repository(rt: HostRuntime) -> Result<(), Fail> {
 fn root_signed_by_the_old_key_too(rt: HostRuntime) -> Result<(), Fail> {
     answers_as(
         &rt,
-        &[FOUND, V1, V1_1_P1_1, ROTATE, V1_2_P1_1, FETCH_DIRECTOR_ROOT],
+        &[
+            found(),
+            v1(),
+            v1_1_p1_1(),
+            rotate(),
+            v1_2_p1_1(),
+            fetch_director_root(),
+        ],
         &[
             "done",
             "done",

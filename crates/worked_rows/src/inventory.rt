@@ -1,11 +1,11 @@
 //! Images, vehicles and campaigns that are taken, and what comes before founding.
 use crate::lines::{
-    CLOSE_C1, CLOSE_C1_AT_THE_LAST_MOMENT, CLOSE_C1_TOO_LATE, DANCE, EMPTY, FOUND, IMAGE_A,
-    IMAGE_Z, IMAGE_Z_OF_LENGTH_1, NOPE, OPEN_C1_A, OPEN_C1_A_FOR_HP, OPEN_C1_A_FOR_V9, OPEN_C1_NO,
-    V1, V1_OF_OTHER_HARDWARE, V3_WITH_P1, V3_WITH_P3_TWICE,
+    close_c1, close_c1_at_the_last_moment, close_c1_too_late, dance, empty, found, image_a,
+    image_z, image_z_of_length_1, nope, open_c1_a, open_c1_a_for_hp, open_c1_a_for_v9, open_c1_no,
+    v1, v1_of_other_hardware, v3_with_p1, v3_with_p3_twice,
 };
 use crate::manifests::{
-    DELIVER_A_LIST, DELIVER_AN_EMPTY_OBJECT, DELIVER_NOTHING, V1_1_P1_1, V1_1_P1_1_FROM_P9,
+    deliver_a_list, deliver_an_empty_object, deliver_nothing, v1_1_p1_1, v1_1_p1_1_from_p9,
 };
 use crate::running::answers_as;
 use std::test::Fail;
@@ -14,7 +14,7 @@ use std::test::Fail;
 fn images_taken(rt: HostRuntime) -> Result<(), Fail> {
     answers_as(
         &rt,
-        &[FOUND, IMAGE_Z, IMAGE_Z, IMAGE_Z_OF_LENGTH_1],
+        &[found(), image_z(), image_z(), image_z_of_length_1()],
         &["done", "done", "already", "refused 19 ImageTaken"],
     )
 }
@@ -24,13 +24,13 @@ fn before_founding(rt: HostRuntime) -> Result<(), Fail> {
     answers_as(
         &rt,
         &[
-            V1_1_P1_1,
-            DELIVER_NOTHING,
-            DELIVER_A_LIST,
-            DELIVER_AN_EMPTY_OBJECT,
-            FOUND,
-            FOUND,
-            V1_1_P1_1,
+            v1_1_p1_1(),
+            deliver_nothing(),
+            deliver_a_list(),
+            deliver_an_empty_object(),
+            found(),
+            found(),
+            v1_1_p1_1(),
         ],
         &[
             "refused 8 NotFounded",
@@ -49,13 +49,13 @@ fn lines_that_are_no_commands(rt: HostRuntime) -> Result<(), Fail> {
     answers_as(
         &rt,
         &[
-            NOPE,
-            EMPTY,
-            DANCE,
-            CLOSE_C1_TOO_LATE,
-            CLOSE_C1_AT_THE_LAST_MOMENT,
-            FOUND,
-            CLOSE_C1,
+            nope(),
+            empty(),
+            dance(),
+            close_c1_too_late(),
+            close_c1_at_the_last_moment(),
+            found(),
+            close_c1(),
         ],
         &[
             "refused 5 NotJson",
@@ -73,13 +73,13 @@ fn vehicles_taken(rt: HostRuntime) -> Result<(), Fail> {
     answers_as(
         &rt,
         &[
-            FOUND,
-            V1,
-            V1,
-            V1_OF_OTHER_HARDWARE,
-            V3_WITH_P1,
-            V3_WITH_P3_TWICE,
-            V1_1_P1_1_FROM_P9,
+            found(),
+            v1(),
+            v1(),
+            v1_of_other_hardware(),
+            v3_with_p1(),
+            v3_with_p3_twice(),
+            v1_1_p1_1_from_p9(),
         ],
         &[
             "done",
@@ -98,16 +98,16 @@ fn campaigns(rt: HostRuntime) -> Result<(), Fail> {
     answers_as(
         &rt,
         &[
-            FOUND,
-            IMAGE_A,
-            OPEN_C1_A_FOR_V9,
-            OPEN_C1_NO,
-            OPEN_C1_A_FOR_HP,
-            OPEN_C1_A,
-            OPEN_C1_A,
-            CLOSE_C1,
-            CLOSE_C1,
-            OPEN_C1_A,
+            found(),
+            image_a(),
+            open_c1_a_for_v9(),
+            open_c1_no(),
+            open_c1_a_for_hp(),
+            open_c1_a(),
+            open_c1_a(),
+            close_c1(),
+            close_c1(),
+            open_c1_a(),
         ],
         &[
             "done",

@@ -1,5 +1,5 @@
 //! The limits of the register and of root versions.
-use crate::lines::{FOUND, ROTATE};
+use crate::lines::{found, rotate};
 use crate::running::called;
 use std::process::Abort;
 use std::test::Fail;
@@ -22,7 +22,7 @@ fn answers(
 #[test]
 fn images_and_roots(rt: HostRuntime) -> Result<(), Fail> {
     let mut desk = Desk::new(HmacSha256, rt.alloc());
-    answers(&rt, &mut desk, FOUND, "done")?;
+    answers(&rt, &mut desk, found(), "done")?;
     for i in 0..1025 {
         let line = format!(in rt.alloc();
             "{{\"do\":\"add_image\",\"at\":1767225600,\"file\":\"{i}.bin\",\"length\":0,\"sha256\":\"e3b0c44298fc1c149afbf4c8996fb92427ae41e4649b934ca495991b7852b855\",\"hardware\":[\"HS\"],\"release\":1}}"
@@ -40,7 +40,7 @@ fn images_and_roots(rt: HostRuntime) -> Result<(), Fail> {
         } else {
             "refused 30 RootFull"
         };
-        answers(&rt, &mut desk, ROTATE, printed)?;
+        answers(&rt, &mut desk, rotate(), printed)?;
     }
     Ok(())
 }

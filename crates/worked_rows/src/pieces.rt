@@ -1,6 +1,6 @@
 //! A script read a byte at a time, a reader that fails once, and a writer that fails once.
-use crate::lines::{FOUND, V1};
-use crate::manifests::V1_1_P1_1;
+use crate::lines::{found, v1};
+use crate::manifests::v1_1_p1_1;
 use crate::running::joined;
 use std::io;
 use std::io::{Read, Write};
@@ -57,7 +57,7 @@ fn printed(
     fails_with: usize,
     room: usize,
 ) -> Result<(Result<u32, Fault>, Vec<u8>), Fail> {
-    let script = joined(rt, &[FOUND, V1, V1_1_P1_1])?;
+    let script = joined(rt, &[found(), v1(), v1_1_p1_1()])?;
     let mut desk = Desk::new(HmacSha256, rt.alloc());
     let mut reader = Dripping {
         bytes: script.as_str().as_bytes(),

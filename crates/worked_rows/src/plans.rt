@@ -1,10 +1,10 @@
 //! Plans: releases, ties, needs, conflicts, and a kept reply after a rotation.
 use crate::lines::{
-    CLOSE_C1, FOUND, IMAGE_A, IMAGE_A7, IMAGE_B, IMAGE_OLD1, IMAGE_OLD2, IMAGE_P,
-    IMAGE_S_WITH_CONFLICT, IMAGE_S_WITH_NEED, OPEN_C1_A, OPEN_C1_B, OPEN_C1_S, OPEN_C2_A7,
-    OPEN_C2_P_FOR_HP, ROTATE, SHOW_V2, V2,
+    close_c1, found, image_a, image_a7, image_b, image_old1, image_old2, image_p,
+    image_s_with_conflict, image_s_with_need, open_c1_a, open_c1_b, open_c1_s, open_c2_a7,
+    open_c2_p_for_hp, rotate, show_v2, v2,
 };
-use crate::manifests::{V2_1_P2_1_S2_1, V2_1_P2_1_S2_1_OLD2, V2_2_P2_1_S2_1, V2_2_P2_1_S2_2_OLD1};
+use crate::manifests::{v2_1_p2_1_s2_1, v2_1_p2_1_s2_1_old2, v2_2_p2_1_s2_1, v2_2_p2_1_s2_2_old1};
 use crate::running::answers_as;
 use std::test::Fail;
 
@@ -13,15 +13,15 @@ fn equal_and_greater_releases(rt: HostRuntime) -> Result<(), Fail> {
     answers_as(
         &rt,
         &[
-            FOUND,
-            V2,
-            IMAGE_A,
-            IMAGE_OLD2,
-            IMAGE_OLD1,
-            OPEN_C1_A,
-            V2_1_P2_1_S2_1_OLD2,
-            V2_2_P2_1_S2_2_OLD1,
-            SHOW_V2,
+            found(),
+            v2(),
+            image_a(),
+            image_old2(),
+            image_old1(),
+            open_c1_a(),
+            v2_1_p2_1_s2_1_old2(),
+            v2_2_p2_1_s2_2_old1(),
+            show_v2(),
         ],
         &[
             "done",
@@ -42,13 +42,13 @@ fn tie_by_the_least_filename(rt: HostRuntime) -> Result<(), Fail> {
     answers_as(
         &rt,
         &[
-            FOUND,
-            V2,
-            IMAGE_B,
-            IMAGE_A7,
-            OPEN_C1_B,
-            OPEN_C2_A7,
-            V2_1_P2_1_S2_1,
+            found(),
+            v2(),
+            image_b(),
+            image_a7(),
+            open_c1_b(),
+            open_c2_a7(),
+            v2_1_p2_1_s2_1(),
         ],
         &[
             "done",
@@ -67,14 +67,14 @@ fn withheld_for_a_need(rt: HostRuntime) -> Result<(), Fail> {
     answers_as(
         &rt,
         &[
-            FOUND,
-            V2,
-            IMAGE_S_WITH_NEED,
-            IMAGE_P,
-            OPEN_C1_S,
-            V2_1_P2_1_S2_1,
-            OPEN_C2_P_FOR_HP,
-            V2_2_P2_1_S2_1,
+            found(),
+            v2(),
+            image_s_with_need(),
+            image_p(),
+            open_c1_s(),
+            v2_1_p2_1_s2_1(),
+            open_c2_p_for_hp(),
+            v2_2_p2_1_s2_1(),
         ],
         &[
             "done",
@@ -93,7 +93,13 @@ fn withheld_for_a_need(rt: HostRuntime) -> Result<(), Fail> {
 fn withheld_for_a_conflict(rt: HostRuntime) -> Result<(), Fail> {
     answers_as(
         &rt,
-        &[FOUND, V2, IMAGE_S_WITH_CONFLICT, OPEN_C1_S, V2_1_P2_1_S2_1],
+        &[
+            found(),
+            v2(),
+            image_s_with_conflict(),
+            open_c1_s(),
+            v2_1_p2_1_s2_1(),
+        ],
         &[
             "done",
             "done",
@@ -109,15 +115,15 @@ fn kept_reply_after_a_rotation(rt: HostRuntime) -> Result<(), Fail> {
     answers_as(
         &rt,
         &[
-            FOUND,
-            V2,
-            IMAGE_A,
-            OPEN_C1_A,
-            V2_1_P2_1_S2_1,
-            CLOSE_C1,
-            ROTATE,
-            V2_2_P2_1_S2_1,
-            V2_1_P2_1_S2_1,
+            found(),
+            v2(),
+            image_a(),
+            open_c1_a(),
+            v2_1_p2_1_s2_1(),
+            close_c1(),
+            rotate(),
+            v2_2_p2_1_s2_1(),
+            v2_1_p2_1_s2_1(),
         ],
         &[
             "done",

@@ -1,10 +1,13 @@
 //! Lines carried out at a desk: as a script, as one list of commands, and one by one.
-ghost use Rattle.std.specs.Prelude.{IsTrue, IfOk};
+ghost use Rattle.std.specs.Prelude.{IsTrue, IfOk, IfSome};
 ghost use Rattle.std.specs.List.{AllByRecursion};
 ghost use Rattle.up_machine.specs.Commands.{opens_running};
+ghost use Rattle.up_script.specs.AskedLines.{asks_running};
 
+use std::alloc::AllocError;
 use std::process::Abort;
 use std::test::Fail;
+use up_canon::refusal::Refusal;
 use up_desk::desk::Desk;
 use up_machine::answer::Answer;
 use up_machine::command::Command;
@@ -79,20 +82,34 @@ fn commands_of<'a>(
             continue;
         }
         let text = texts.next().unwrap_or(&"");
-        match asked_by(rt.alloc(), &HmacSha256, line.as_bytes()) {
-            Ok(
-                Asked {
-                    at,
-                    what: What::Call(command),
-                },
-            ) => {
-                commands.push((at.get(), command))?;
-                wanted.push(*text)?;
-            }
-            _ => {}
+        if let Some(command) = command_of(rt, line)? {
+            commands.push(command)?;
+            wanted.push(*text)?;
         }
     }
     Ok((commands, wanted))
+}
+
+/// The command of a line and its moment; none of a line that is none.
+fn command_of(rt: &impl AllocGlobal, line: &str) -> Result<Option<(u64, Command)>, Fail>
+    ensures { IfOk result (λ found. IfSome found (λ c. IsTrue (opens_running c.1))) }
+{
+    match asked_by(rt.alloc(), &HmacSha256, line.as_bytes()) {
+        Ok(asked) => Ok(asked_command(asked)),
+        Err(Refusal::Memory) => Err(Fail::from(AllocError)),
+        Err(_) => Ok(None),
+    }
+}
+
+fn asked_command(asked: Asked) -> Option<(u64, Command)>
+    requires { IsTrue (asks_running asked.what) }
+    ensures { IfSome result (λ c. IsTrue (opens_running c.1)) }
+{
+    let Asked { at, what } = asked;
+    match what {
+        What::Call(command) => Some((at.get(), command)),
+        What::Show(_) => None,
+    }
 }
 
 /// The desk's answer to a line that is a command.
@@ -101,11 +118,8 @@ pub(crate) fn called(
     desk: &mut Desk<HmacSha256>,
     line: &str,
 ) -> Result<Answer, Fail> {
-    match asked_by(rt.alloc(), &HmacSha256, line.as_bytes())? {
-        Asked {
-            at,
-            what: What::Call(command),
-        } => Ok(desk.call(rt.alloc(), at.get(), &command)),
-        Asked { .. } => Ok(Answer::Done),
+    match command_of(rt, line)? {
+        Some((at, command)) => Ok(desk.call(rt.alloc(), at, &command)),
+        None => Ok(Answer::Done),
     }
 }
