@@ -1,15 +1,15 @@
 -- What is served is what a command over the rows comes to.
 use Rattle.std.proofs.Common.{◌≡◌, ℕ, ◌<◌, ◌≤◌, List, Bool, true, false, Option, Some, None, Result, Ok, Err, refl, sym, ap, ◌∙◌, subst, arith}
-use Rattle.std.specs.Prelude.{⊤, nat_lt, if◌then◌else◌, codes, IfSome, option_and_then, MatchBool, IsTrue}
+use Rattle.std.specs.Prelude.{⊤, nat_lt, if◌then◌else◌, codes, length, IfSome, option_and_then, MatchBool, IsTrue}
 use Rattle.std.specs.List.{list_all}
 use Rattle.std.proofs.lemmas.Bool.Decides.{nat_tests}
 use Rattle.up_canon.specs.Moments.{last_command_moment}
 use Rattle.up_canon.specs.Steps.{and_then, refuse_if, value_of}
 use Rattle.up_canon.specs.Refusals.{is_memory}
 use Rattle.up_canon.specs.declared.refusal.Refusal.{Refusal}
-use Rattle.up_canon.specs.declared.refusal.Refusal.TheVariants.{MomentOutOfRange, BadShape}
+use Rattle.up_canon.specs.declared.refusal.Refusal.TheVariants.{MomentOutOfRange, TooLarge, BadShape}
 use Rattle.up_sign.specs.Schemes.{Rules}
-use Rattle.up_manifest.specs.Manifests.{incoming_in}
+use Rattle.up_manifest.specs.Manifests.{largest_body, incoming_in}
 use Rattle.up_machine.specs.declared.command.Command.{Command}
 use Rattle.up_machine.specs.declared.command.Command.TheVariants.{Found, Rotate, AddImage, Refresh, AddVehicle, OpenCampaign, CloseCampaign, Deliver, Fetch}
 use Rattle.up_machine.specs.declared.answer.Answer.{Answer}
@@ -165,6 +165,9 @@ answered k s new at c (Err r) stays fits sound h = record {
 
 -- ---- what is refused whether or not there is memory
 
+above : (n m : ℕ) → nat_lt n m ≡ true → n < m
+above n m h = grind (arith, nat_tests)
+
 pub key_outright : (k : Rules) (new : NewVehicleData) (c : Command) (result : Result Answer Refusal) → c ≡ AddVehicle new
     → (list_all (λ e. public_fits k e.public) new.ecus ≡ false → result ≡ Err (BadShape (codes "key"))) → IfSome (outright_in_time k c) (λ r. result ≡ Err r)
 key_outright k new c result is refused =
@@ -173,6 +176,15 @@ key_outright k new c result is refused =
     by_test : (t : Bool) → list_all (λ e. public_fits k e.public) new.ecus ≡ t → IfSome (if t then None else Some (BadShape (codes "key"))) (λ r. result ≡ Err r)
     by_test true is = tt
     by_test false is = refused is
+
+pub large_outright : (k : Rules) (body : List ℕ) (c : Command) (result : Result Answer Refusal) → c ≡ Deliver body
+    → (largest_body < length body → result ≡ Err TooLarge) → IfSome (outright_in_time k c) (λ r. result ≡ Err r)
+large_outright k body c result is refused =
+    subst (λ (d : Command). IfSome (outright_in_time k d) (λ r. result ≡ Err r)) (sym is) (by_test (nat_lt largest_body (length body)) refl)
+  where
+    by_test : (t : Bool) → nat_lt largest_body (length body) ≡ t → IfSome (if t then Some TooLarge else None) (λ r. result ≡ Err r)
+    by_test true is = refused (above largest_body (length body) is)
+    by_test false is = tt
 
 pub in_time_outright : (k : Rules) (at : ℕ) (c : Command) (result : Result Answer Refusal) → at ≤ last_command_moment
     → IfSome (outright_in_time k c) (λ r. result ≡ Err r) → IfSome (outright k at c) (λ r. result ≡ Err r)

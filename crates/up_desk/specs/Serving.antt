@@ -1,13 +1,13 @@
 -- What a desk answers, and the state that it leaves.
-use Rattle.std.specs.Prelude.{◌≡◌, ℕ, Bool, false, nat_lt, if◌then◌else◌, codes, Option, Some, None, MatchBool, ⊤, Result, Ok, Err}
+use Rattle.std.specs.Prelude.{◌≡◌, ℕ, Bool, false, nat_lt, if◌then◌else◌, codes, length, Option, Some, None, MatchBool, ⊤, Result, Ok, Err}
 use Rattle.std.specs.List.{list_all}
 use Rattle.up_canon.specs.Moments.{last_command_moment}
 use Rattle.up_canon.specs.Refusals.{is_memory}
 use Rattle.up_canon.specs.Steps.{◌>>=◌}
 use Rattle.up_canon.specs.declared.refusal.Refusal.{Refusal}
-use Rattle.up_canon.specs.declared.refusal.Refusal.TheVariants.{MomentOutOfRange, BadShape}
+use Rattle.up_canon.specs.declared.refusal.Refusal.TheVariants.{MomentOutOfRange, TooLarge, BadShape}
 use Rattle.up_sign.specs.Schemes.{Rules}
-use Rattle.up_manifest.specs.Manifests.{incoming_in}
+use Rattle.up_manifest.specs.Manifests.{largest_body, incoming_in}
 use Rattle.up_machine.specs.declared.command.Command.{Command}
 use Rattle.up_machine.specs.declared.command.Command.TheVariants.{AddVehicle, Deliver}
 use Rattle.up_machine.specs.declared.answer.Answer.{Answer}
@@ -35,8 +35,9 @@ IsAnswered a old new o = MatchBool (is_lost a) (new ≡ old) ((a ≡ o.answer) �
 
 -- ---- refusals that are answered whether or not there is memory
 
--- of a command in time: that of a new vehicle with a public part that doesn't fit
+-- of a command in time: that of a body that is too large, and that of a new vehicle with a public part that doesn't fit
 abbrev pub outright_in_time : Rules → Command → Option Refusal
+outright_in_time k (Deliver body) = if nat_lt largest_body (length body) then Some TooLarge else None
 outright_in_time k (AddVehicle new) = if list_all (λ e. public_fits k e.public) new.ecus then None else Some (BadShape (codes "key"))
 outright_in_time k c = None
 

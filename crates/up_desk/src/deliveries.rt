@@ -1,8 +1,9 @@
 //! Manifests that vehicles deliver.
-ghost use Rattle.std.specs.Prelude.{◌≡◌, ◌≤◌, IfOk, OnOk, OnErr, option_copied};
+ghost use Rattle.std.specs.Prelude.{◌≡◌, ◌≤◌, ◌<◌, length, IfOk, OnOk, OnErr, option_copied};
 ghost use Rattle.up_canon.specs.Moments.{last_command_moment};
+ghost use Rattle.up_canon.specs.declared.refusal.Refusal.TheVariants.{TooLarge};
 ghost use Rattle.up_canon.specs.Steps.{and_then};
-ghost use Rattle.up_manifest.specs.Manifests.{incoming_in};
+ghost use Rattle.up_manifest.specs.Manifests.{largest_body, incoming_in};
 ghost use Rattle.up_machine.specs.Rows.{reply_kept};
 ghost use Rattle.up_machine.specs.Decisions.{IsRead, decide_incoming, GivesDelivered};
 ghost use Rattle.up_desk.specs.Rows.{held, state_of, Stands, kept_with};
@@ -39,7 +40,8 @@ pub fn deliver<K: Scheme>(
 ) -> Result<Answer, Refusal>
     requires moment { at ≤ last_command_moment }
     requires stands { Stands (K.rules scheme.now) (held book.old) }
-    ensures { Leaves (K.rules scheme.now) (state_of (held book.old)) (held book.new) result
+    ensures large { largest_body < length body.now → result ≡ Err TooLarge }
+    ensures leaves { Leaves (K.rules scheme.now) (state_of (held book.old)) (held book.new) result
         (and_then (incoming_in body.now) (decide_incoming (K.rules scheme.now) (state_of (held book.old)) at)) }
 {
     let incoming = read_manifest(alloc, body.as_slice())?;

@@ -78,7 +78,8 @@ impl<K: Scheme> Desk<K> {
 
     /// Answers a command at a moment: as the plain machine does, but a repeat of an accepted manifest is answered the reply
     /// that was kept for it. Where memory is refused nothing changes; a moment past
-    /// 2100-01-01T00:00:00Z, and then a key of a new vehicle that doesn't fit, is refused as that whether or not there is memory.
+    /// 2100-01-01T00:00:00Z, a body of more than 262,144 bytes and a key of a new vehicle that
+    /// doesn't fit are refused as that whether or not there is memory.
     pub fn call(&mut self, alloc: Global, at: u64, command: &Command) -> Answer
         requires { IsTrue (opens_running command.now) }
         ensures served { IsAnswered result self.old.state self.new.state (serve (K.rules self.old.scheme) self.old.state at command.now) }

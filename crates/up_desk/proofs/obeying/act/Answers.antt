@@ -1,6 +1,6 @@
 use Rattle.up_machine.specs.declared.command.Command.TheVariants.{OpenCampaign, CloseCampaign}
 use Rattle.up_desk.specs.Rows.{held, state_of}
-use Rattle.up_desk.proofs.Serving.{of_command, of_delivery, key_outright}
+use Rattle.up_desk.proofs.Serving.{of_command, of_delivery, key_outright, large_outright}
 use Rattle.up_desk.proofs.obeying.act.Goals as goal
 
 pub returns-in-OpenCampaign-clause-leaves : goal.returns-in-OpenCampaign-clause-leaves
@@ -16,7 +16,10 @@ returns-in-CloseCampaign-clause-leaves g c =
 pub returns-in-Deliver-clause-leaves : goal.returns-in-Deliver-clause-leaves
 returns-in-Deliver-clause-leaves g c =
     of_delivery (g.K.Scheme.rules c.args.scheme.now) (state_of (held c.args.book.now)) (held c.deliver.new.book) c.deliver.result c.args.at c.args.command.now c.in-Deliver.body
-    c.in-Deliver.is c.requires.moment c.deliver.ensures
+    c.in-Deliver.is c.requires.moment c.deliver.ensures.leaves
 
 pub returns-in-AddVehicle-clause-outright : goal.returns-in-AddVehicle-clause-outright
 returns-in-AddVehicle-clause-outright g c = key_outright (g.K.Scheme.rules c.args.scheme.now) c.in-AddVehicle.new c.args.command.now _ c.in-AddVehicle.is c.add_vehicle.ensures.key
+
+pub returns-in-Deliver-clause-outright : goal.returns-in-Deliver-clause-outright
+returns-in-Deliver-clause-outright g c = large_outright (g.K.Scheme.rules c.args.scheme.now) c.in-Deliver.body c.args.command.now _ c.in-Deliver.is c.deliver.ensures.large
