@@ -1,5 +1,5 @@
 #!/usr/bin/env python3
-"""Runs the examples with the program that the gate has built, and compares what they print with what stands beside them.
+"""Runs the examples and the worked rows with the program that the gate has built, and compares what they print with what stands beside them.
 
     check.py PROGRAM
 """
@@ -24,7 +24,7 @@ def primary(*words, given):
 
 
 def scripts(program):
-    for folder in sorted(it.parent for it in HERE.glob("*/script")):
+    for folder in sorted(it.parent for it in [*HERE.glob("*/script"), *HERE.parent.glob("rows/*/script")]):
         wanted = (folder / "printed").read_text(encoding="ascii")
         yield folder.name, printed(program, (folder / "script").read_bytes()) == wanted
 
