@@ -55,7 +55,9 @@ def main(program):
     tried = [*scripts(program), *primaries(program), *pages()]
     for name, well in tried:
         print("example: %s: %s" % (name, "as it must be" if well else "DIFFERS"))
-    return 0 if all(well for _, well in tried) else 1
+    failed = sum(not well for _, well in tried)
+    print("%d passed, %d failed" % (len(tried) - failed, failed))
+    return 1 if failed else 0
 
 
 if __name__ == "__main__":
