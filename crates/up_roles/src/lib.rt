@@ -4,6 +4,8 @@
 mod copies;
 mod distinct;
 mod file;
+#[cfg(test)]
+mod hashed;
 pub mod laws;
 pub mod lifetimes;
 mod limits;
@@ -18,5 +20,7 @@ mod sealing;
 pub mod snapshot;
 pub mod targets;
 pub mod targets_text;
+#[cfg(test)]
+mod tests;
 pub mod timestamp;
 mod values;
