@@ -18,17 +18,12 @@ use Rattle.up_canon.specs.Readers.{fitting, ident_of, file_name_of, ident_in, wo
 use Rattle.up_canon.specs.Steps.{or_error, unless, value_of}
 use Rattle.up_canon.specs.declared.refusal.Refusal.TheVariants.{BadShape}
 use Rattle.up_sign.specs.Meaning.{HasText}
-use Rattle.up_sign.proofs.Members.{text_there, fits_there}
-use Rattle.up_sign.proofs.Steps.{bind-ok}
 use Rattle.up_roles.specs.Parts.{part_in, object_part, text_part, count_part, positive_part, ident_part, file_name_part, is_lower_digit, sha256_part}
 use Rattle.up_roles.specs.Payload.{repository_text, hashes_value, version_fits, name_fits, is_named, is_hash, is_moment, repository_of, repository_in, expires_in, head_in, vehicle_in}
 use Rattle.up_roles.specs.declared.repository.Repository.{Repository}
 use Rattle.up_roles.specs.declared.repository.Repository.TheVariants.{Director, Image}
 use Rattle.up_roles.proofs.Plain.{all-hex}
-
-pub unless-there : {E : Type 0} (b : Bool) (e : E) → b ≡ true → unless b e ≡ Ok tt
-unless-there true e h = refl
-unless-there false e h = cc
+use Rattle.up_roles.proofs.Steps.{bind-ok, unless-there, fits-there, text_in-there}
 
 -- ---- values of a kind
 
@@ -38,17 +33,17 @@ count_of-there name n h = rw h refl
 
 pub ident_of-there : (name t : List ℕ) → is_ident t ≡ true → ident_of name (string t) ≡ Ok t
 unfolding ident_of text_of
-ident_of-there name t h = bind-ok _ _ t refl ∙ fits_there is_ident name t h
+ident_of-there name t h = bind-ok _ _ t refl ∙ fits-there is_ident name t h
 
 file_name_of-there : (name t : List ℕ) → is_file_name t ≡ true → file_name_of name (string t) ≡ Ok t
 unfolding file_name_of text_of
-file_name_of-there name t h = bind-ok _ _ t refl ∙ fits_there is_file_name name t h
+file_name_of-there name t h = bind-ok _ _ t refl ∙ fits-there is_file_name name t h
 
 -- ---- members
 
 word_there : (word name : List ℕ) (d : Data) → HasText d name word → word_in word name d ≡ Ok tt
 unfolding word_in
-word_there word name d has = bind-ok _ _ word (text_there name d word has) ∙ unless-there _ _ ((bytes_decides word word).1 refl)
+word_there word name d has = bind-ok _ _ word (text_in-there name d word has) ∙ unless-there _ _ ((bytes_decides word word).1 refl)
 
 count_there : (name : List ℕ) (d : Data) (n : ℕ) → json.get name d ≡ Some (count_value n) → nat_le n max_count ≡ true → count_in name d ≡ Ok n
 unfolding count_in member_in
@@ -58,7 +53,7 @@ positive_there : (name : List ℕ) (d : Data) (n : ℕ) → json.get name d ≡ 
 unfolding positive_in
 positive_there name d n has h =
     let p = and_parts (nat_le 1 n) _ h in
-    bind-ok _ _ n (count_there name d n has p.1) ∙ fits_there (nat_le 1) name n p.0
+    bind-ok _ _ n (count_there name d n has p.1) ∙ fits-there (nat_le 1) name n p.0
 
 ident_there : (name : List ℕ) (d : Data) (t : Name) → HasText d name t → is_ident t ≡ true → ident_in name d ≡ Ok t
 unfolding ident_in member_in
@@ -86,7 +81,7 @@ pub positive_part-there : (fault name : List ℕ) (d : Data) (n : ℕ) → json.
 unfolding positive_part
 positive_part-there fault name d n has h =
     let p = and_parts (nat_le 1 n) _ h in
-    bind-ok _ _ n (count_part-there fault name d n has p.1) ∙ fits_there (nat_le 1) fault n p.0
+    bind-ok _ _ n (count_part-there fault name d n has p.1) ∙ fits-there (nat_le 1) fault n p.0
 
 pub ident_part-there : (fault name : List ℕ) (d : Data) (t : Name) → HasText d name t → is_ident t ≡ true → ident_part fault name d ≡ Ok t
 unfolding ident_part
@@ -132,13 +127,13 @@ repository-there Image = refl
 
 repository_there : (r : Repository) (d : Data) → HasText d (codes "repository") (repository_text r) → repository_in d ≡ Ok r
 unfolding repository_in
-repository_there r d has = bind-ok _ _ (repository_text r) (text_there (codes "repository") d (repository_text r) has) ∙ repository-there r
+repository_there r d has = bind-ok _ _ (repository_text r) (text_in-there (codes "repository") d (repository_text r) has) ∙ repository-there r
 
 expires_there : MomentsAreRead → (m : ℕ) (d : Data) → HasText d (codes "expires") (moment_text m) → is_moment m ≡ true → expires_in d ≡ Ok m
 unfolding expires_in
 expires_there moments m d has h =
     let le : m ≤ last_moment = grind (arith, nat_tests) in
-    bind-ok _ _ (moment_text m) (text_there (codes "expires") d (moment_text m) has) ∙ ap (or_error (BadShape (codes "expires"))) (moments m le)
+    bind-ok _ _ (moment_text m) (text_in-there (codes "expires") d (moment_text m) has) ∙ ap (or_error (BadShape (codes "expires"))) (moments m le)
 
 pub head_there : MomentsAreRead → (kind : List ℕ) (r : Repository) (version expires : ℕ) (d : Data) → HasHead kind r version expires d → version_fits version ≡ true → is_moment expires ≡ true
     → head_in kind d ≡ Ok (record { repository = r; version = version; expires = expires })

@@ -13,3 +13,4 @@ pub mod Lists
 pub mod ReadTargets
 pub mod Gathered
 pub mod ReadRoot
+pub mod Steps

@@ -8,9 +8,8 @@ use Rattle.std.proofs.lemmas.List.Folds.{list_all-append}
 use Rattle.serde_json.specs.Data.{Data, string}
 use Rattle.up_canon.specs.Build.{object_with, list_with, count_value, hex_value}
 use Rattle.up_canon.specs.Canon.{max_count, is_printable, is_printable_text, has_canon}
-use Rattle.up_canon.specs.Moments.{last_moment, moment_text}
+use Rattle.up_canon.specs.Moments.{last_moment, moment_text, MomentTextIsPlain}
 use Rattle.up_canon.specs.Names.{Name, is_from_to, is_ident, is_ident_byte, is_file_name, is_file_byte}
-use Rattle.up_canon.proofs.MomentTexts.{moments_are_plain}
 use Rattle.up_roles.specs.Payload.{IsCanonical, payload, payload_members, repository_text, hashes_value, version_fits, is_named, is_hash, is_moment}
 use Rattle.up_roles.specs.Root.{all_keys, key_member, role_value, roles_value, roles_members, root_more, root_payload, key_fits, role_fits, root_fits, root_is_typed}
 use Rattle.up_roles.specs.Snapshot.{snapshot_meta, snapshot_payload, snapshot_fits, snapshot_is_typed}
@@ -49,29 +48,29 @@ file_name-prints name h = all-more is_file_byte is_printable name file_byte-prin
 abbrev version-small : (version : ℕ) → version_fits version ≡ true → nat_le version max_count ≡ true
 version-small version h = (and_parts (nat_le 1 version) _ h).1
 
-moment-prints : (m : ℕ) → is_moment m ≡ true → is_printable_text (moment_text m) ≡ true
-moment-prints m h = let le : m ≤ last_moment = grind (arith, nat_tests) in (moments_are_plain m le).1
+moment-prints : MomentTextIsPlain → (m : ℕ) → is_moment m ≡ true → is_printable_text (moment_text m) ≡ true
+moment-prints moments m h = let le : m ≤ last_moment = grind (arith, nat_tests) in (moments m le).1
 
-plain-moment : (n m : ℕ) → is_moment m ≡ true → IsPlain n (string (moment_text m))
-plain-moment n m h = deeper 0 n _ (omega arith) (plain-string (moment_text m) (moment-prints m h))
+plain-moment : MomentTextIsPlain → (n m : ℕ) → is_moment m ≡ true → IsPlain n (string (moment_text m))
+plain-moment moments n m h = deeper 0 n _ (omega arith) (plain-string (moment_text m) (moment-prints moments m h))
 
 plain-repository : (n : ℕ) (r : Repository) → IsPlain n (string (repository_text r))
 plain-repository n Director = deeper 0 n _ (omega arith) (plain-string (codes "director") refl)
 plain-repository n Image = deeper 0 n _ (omega arith) (plain-string (codes "image") refl)
 
-plain-payload : (n : ℕ) (kind : List ℕ) (r : Repository) (version expires : ℕ) (vehicle : Option Name) (more : List (List ℕ × Data))
+plain-payload : MomentTextIsPlain → (n : ℕ) (kind : List ℕ) (r : Repository) (version expires : ℕ) (vehicle : Option Name) (more : List (List ℕ × Data))
     → is_printable_text kind ≡ true → version_fits version ≡ true → is_moment expires ≡ true → is_named vehicle ≡ true → AllMembers n more
     → IsPlain (suc n) (payload kind r version expires vehicle more)
-plain-payload n kind r version expires None more hk hv he hn h =
+plain-payload moments n kind r version expires None more hk hv he hn h =
     plain-object n (payload_members kind r version expires None more) (
       refl,
-      plain-moment n expires he,
+      plain-moment moments n expires he,
       (refl, plain-repository n r, (refl, deeper 0 n _ (omega arith) (plain-string kind hk), (refl, deeper 0 n _ (omega arith) (plain-count version (version-small version hv)), h))),
     )
-plain-payload n kind r version expires (Some name) more hk hv he hn h =
+plain-payload moments n kind r version expires (Some name) more hk hv he hn h =
     plain-object n (payload_members kind r version expires (Some name) more) (
       refl,
-      plain-moment n expires he,
+      plain-moment moments n expires he,
       (
         refl,
         plain-repository n r,
@@ -95,27 +94,27 @@ plain-hashes hash h = plain-object 0 ((codes "sha256", hex_value hash) ∷ []) (
 plain-version : (version : ℕ) → version_fits version ≡ true → IsPlain 0 (count_value version)
 plain-version version h = plain-count version (version-small version h)
 
-pub snapshot-canon : (file : SnapshotFile) → snapshot_fits file ≡ true → snapshot_is_typed file ≡ true → has_canon (snapshot_payload file) ≡ true
+pub snapshot-canon : MomentTextIsPlain → (file : SnapshotFile) → snapshot_fits file ≡ true → snapshot_is_typed file ≡ true → has_canon (snapshot_payload file) ≡ true
 unfolding snapshot_payload
-snapshot-canon file fits typed =
+snapshot-canon moments file fits typed =
     let f = and_parts _ _ fits in
     let t = and_parts _ _ typed in
     let entry : IsPlain 1 (object_with ((codes "version", count_value file.targets_version) ∷ [])) = plain-object 0 ((codes "version", count_value file.targets_version) ∷ []) (refl, plain-version file.targets_version f.1, tt) in
     let meta : IsPlain 2 (snapshot_meta file) = plain-object 1 ((codes "targets.json", object_with ((codes "version", count_value file.targets_version) ∷ [])) ∷ []) (refl, entry, tt) in
-    plain-canon 3 (snapshot_payload file) (omega arith) (plain-payload 2 (codes "snapshot") file.repository file.version file.expires file.vehicle ((codes "meta", snapshot_meta file) ∷ []) refl (and_parts _ _ f.0).0 t.0 t.1 (refl, meta, tt))
+    plain-canon 3 (snapshot_payload file) (omega arith) (plain-payload moments 2 (codes "snapshot") file.repository file.version file.expires file.vehicle ((codes "meta", snapshot_meta file) ∷ []) refl (and_parts _ _ f.0).0 t.0 t.1 (refl, meta, tt))
 
 -- ---- Timestamp
 
-pub timestamp-canon : (file : TimestampFile) → timestamp_fits file ≡ true → timestamp_is_typed file ≡ true → has_canon (timestamp_payload file) ≡ true
+pub timestamp-canon : MomentTextIsPlain → (file : TimestampFile) → timestamp_fits file ≡ true → timestamp_is_typed file ≡ true → has_canon (timestamp_payload file) ≡ true
 unfolding timestamp_payload
-timestamp-canon file fits typed =
+timestamp-canon moments file fits typed =
     let f = and_parts _ _ fits in
     let t = and_parts _ _ typed in
     let s = and_parts _ _ t.0 in
     let entry : IsPlain 2 (object_with ((codes "hashes", hashes_value file.snapshot_sha256) ∷ (codes "version", count_value file.snapshot_version) ∷ [])) =
     plain-object 1 ((codes "hashes", hashes_value file.snapshot_sha256) ∷ (codes "version", count_value file.snapshot_version) ∷ []) (refl, plain-hashes file.snapshot_sha256 t.1, (refl, deeper 0 1 _ (omega arith) (plain-version file.snapshot_version f.1), tt)) in
     let meta : IsPlain 3 (timestamp_meta file) = plain-object 2 ((codes "snapshot.json", object_with ((codes "hashes", hashes_value file.snapshot_sha256) ∷ (codes "version", count_value file.snapshot_version) ∷ [])) ∷ []) (refl, entry, tt) in
-    plain-canon 4 (timestamp_payload file) (omega arith) (plain-payload 3 (codes "timestamp") file.repository file.version file.expires file.vehicle ((codes "meta", timestamp_meta file) ∷ []) refl (and_parts _ _ f.0).0 s.0 s.1 (refl, meta, tt))
+    plain-canon 4 (timestamp_payload file) (omega arith) (plain-payload moments 3 (codes "timestamp") file.repository file.version file.expires file.vehicle ((codes "meta", timestamp_meta file) ∷ []) refl (and_parts _ _ f.0).0 s.0 s.1 (refl, meta, tt))
 
 -- ---- Targets
 
@@ -155,14 +154,14 @@ target_typed target ecu file size hash hardware release =
     let release' : nat_le target.release max_count ≡ true = grind (arith, nat_tests) in
     rw (ecu, file, size', hash, hardware, release') refl
 
-pub targets-canon : (file : TargetsFile) → targets_fits file ≡ true → targets_is_typed file ≡ true → has_canon (targets_payload file) ≡ true
+pub targets-canon : MomentTextIsPlain → (file : TargetsFile) → targets_fits file ≡ true → targets_is_typed file ≡ true → has_canon (targets_payload file) ≡ true
 unfolding targets_payload
-targets-canon file fits typed =
+targets-canon moments file fits typed =
     let t = and_parts _ _ typed in
     let s = and_parts _ _ t.0 in
     let f = and_parts _ _ (and_parts _ _ fits).0 in
     let list : IsPlain 3 (list_with (map target_value file.targets)) = plain-list 2 (map target_value file.targets) (all-plain 2 target_is_typed target_value file.targets plain-target t.1) in
-    plain-canon 4 (targets_payload file) (omega arith) (plain-payload 3 (codes "targets") file.repository file.version file.expires file.vehicle ((codes "targets", list_with (map target_value file.targets)) ∷ []) refl (and_parts _ _ f.0).0 s.0 s.1 (refl, list, tt))
+    plain-canon 4 (targets_payload file) (omega arith) (plain-payload moments 3 (codes "targets") file.repository file.version file.expires file.vehicle ((codes "targets", list_with (map target_value file.targets)) ∷ []) refl (and_parts _ _ f.0).0 s.0 s.1 (refl, list, tt))
 
 -- ---- Root
 
@@ -219,11 +218,11 @@ all_keys-fit file h =
       role_keys-fit file.timestamp h.timestamp,
     ) refl
 
-pub root-canon : (file : RootFile) → root_fits file ≡ true → root_is_typed file ≡ true → has_canon (root_payload file) ≡ true
+pub root-canon : MomentTextIsPlain → (file : RootFile) → root_fits file ≡ true → root_is_typed file ≡ true → has_canon (root_payload file) ≡ true
 unfolding root_payload
-root-canon file fits typed =
+root-canon moments file fits typed =
     let f = roles-fit file fits in
     let keys : IsPlain 2 (object_with (map key_member (all_keys file))) = plain-object 1 (map key_member (all_keys file)) (key_members (all_keys file) (all_keys-fit file f)) in
     let roles : IsPlain 3 (roles_value file) =
     plain-object 2 (roles_members file) (refl, plain-role file.root f.root, (refl, plain-role file.snapshot f.snapshot, (refl, plain-role file.targets f.targets, (refl, plain-role file.timestamp f.timestamp, tt)))) in
-    plain-canon 4 (root_payload file) (omega arith) (plain-payload 3 (codes "root") file.repository file.version file.expires None (root_more file) refl f.version typed refl (refl, deeper 2 3 _ (omega arith) keys, (refl, roles, tt)))
+    plain-canon 4 (root_payload file) (omega arith) (plain-payload moments 3 (codes "root") file.repository file.version file.expires None (root_more file) refl f.version typed refl (refl, deeper 2 3 _ (omega arith) keys, (refl, roles, tt)))

@@ -17,8 +17,6 @@ use Rattle.up_canon.specs.Names.{is_from_to, is_short_text}
 use Rattle.up_canon.specs.Steps.{each, or_error}
 use Rattle.up_canon.specs.declared.refusal.Refusal.TheVariants.{BadShape}
 use Rattle.up_sign.specs.Meaning.{HasText}
-use Rattle.up_sign.proofs.Members.{object_there, fits_there}
-use Rattle.up_sign.proofs.Steps.{bind-ok}
 use Rattle.up_roles.specs.Payload.{payload}
 use Rattle.up_roles.specs.Root.{all_keys, key_member, put_keys, role_value, roles_value, root_more, root_payload, key_fits, role_is_met, role_fits, root_fits, root_is_typed, keys_agree, shown_in, key_of, keys_in, chosen_key, role_in, has_key, is_used, root_of}
 use Rattle.up_roles.specs.declared.root.RootKey.{RootKey}
@@ -30,12 +28,13 @@ use Rattle.up_roles.proofs.Keys.{members_with-keys}
 use Rattle.up_roles.proofs.Lists.{each-there, few_part-there}
 use Rattle.up_roles.proofs.Plain.{both, all-more}
 use Rattle.up_roles.proofs.PlainFiles.{RolesFit, roles-fit, all_keys-fit}
+use Rattle.up_roles.proofs.Steps.{bind-ok, fits-there, object_in-there}
 
 -- ---- keys
 
 shown-there : (least most : ℕ) (name : List ℕ) (d : Data) (t : List ℕ) → HasText d name t → is_short_text least most t ≡ true → shown_in least most name d ≡ Ok t
 unfolding shown_in
-shown-there least most name d t has h = bind-ok _ _ t (text_part-there (codes "keys") name d t has) ∙ fits_there (is_short_text least most) (codes "keys") t h
+shown-there least most name d t has h = bind-ok _ _ t (text_part-there (codes "keys") name d t has) ∙ fits-there (is_short_text least most) (codes "keys") t h
 
 key-there : (key : RootKey) → key_fits key ≡ true → key_of (key_member key) ≡ Ok key
 unfolding key_of object_of
@@ -43,7 +42,7 @@ key-there key h =
     let p = and_parts _ _ h in
     let q = and_parts (is_short_text 1 128 key.keyid) _ p.0 in
     let d = (key_member key).1 in
-    bind-ok _ _ key.keyid (fits_there (is_short_text 1 128) (codes "keys") key.keyid q.0)
+    bind-ok _ _ key.keyid (fits-there (is_short_text 1 128) (codes "keys") key.keyid q.0)
     ∙ bind-ok _ _ d refl
     ∙ bind-ok _ _ key.method (shown-there 1 64 (codes "method") d key.method refl q.1)
     ∙ bind-ok _ _ key.shown (shown-there 0 1024 (codes "public") d key.shown refl p.1)
@@ -52,7 +51,7 @@ keys-there : (keys : List RootKey) (d : Data) → json.get (codes "keys") d ≡ 
 unfolding keys_in
 keys-there keys d has fits =
     let listed = keys-listed keys in
-    bind-ok _ _ (object (put_keys keys no_members)) (object_there (codes "keys") d (object (put_keys keys no_members)) (has ∙ ap (λ ms. Some (object ms)) (members_with-keys keys)) refl)
+    bind-ok _ _ (object (put_keys keys no_members)) (object_in-there (codes "keys") d (put_keys keys no_members) (has ∙ ap (λ ms. Some (object ms)) (members_with-keys keys)))
     ∙ ap (each key_of) listed
     ∙ each-there key_of key_member key_fits key-there (gathered keys) (all-gathered key_fits keys fits)
 
@@ -80,7 +79,7 @@ role-there all name role roles has h found =
     ∙ bind-ok _ _ ids (few_part-there 1 4 (codes "roles") (codes "keyids") d ids refl (ap (is_from_to 1 4) (length-map role.keys (λ (key : RootKey). string key.keyid)) ∙ q.0))
     ∙ bind-ok _ _ role.keys (chosen-there all role.keys found)
     ∙ bind-ok _ _ role.threshold (count_part-there (codes "roles") (codes "threshold") d role.threshold refl small)
-    ∙ fits_there role_is_met (codes "roles") role q.1
+    ∙ fits-there role_is_met (codes "roles") role q.1
 
 -- ---- each key is a role's
 
@@ -158,9 +157,9 @@ root-there moments file fits typed agree =
     let roles = roles_value file in
     bind-ok _ _ (record { repository = file.repository; version = file.version; expires = file.expires }) (head_there moments (codes "root") file.repository file.version file.expires d head f.version typed)
     ∙ bind-ok _ _ all (keys-there (all_keys file) d refl (all_keys-fit file f))
-    ∙ bind-ok _ _ roles (object_there (codes "roles") d roles refl refl)
+    ∙ bind-ok _ _ roles (object_in-there (codes "roles") d _ refl)
     ∙ bind-ok _ _ file.root (role-there all (codes "root") file.root roles refl f.root two.0)
     ∙ bind-ok _ _ file.targets (role-there all (codes "targets") file.targets roles refl f.targets two.1)
     ∙ bind-ok _ _ file.snapshot (role-there all (codes "snapshot") file.snapshot roles refl f.snapshot three.1)
     ∙ bind-ok _ _ file.timestamp (role-there all (codes "timestamp") file.timestamp roles refl f.timestamp found.1)
-    ∙ fits_there (λ (x : RootFile). list_all (is_used x) all) (codes "roles") file (all-gathered (is_used file) (all_keys file) (all-used file))
+    ∙ fits-there (λ (x : RootFile). list_all (is_used x) all) (codes "roles") file (all-gathered (is_used file) (all_keys file) (all-used file))

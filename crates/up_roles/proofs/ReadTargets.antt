@@ -13,8 +13,6 @@ use Rattle.up_canon.specs.Moments.{MomentsAreRead}
 use Rattle.up_canon.specs.Names.{Name, is_from_to, is_ident}
 use Rattle.up_canon.specs.Readers.{ident_of}
 use Rattle.up_sign.specs.Meaning.{HasText}
-use Rattle.up_sign.proofs.Members.{fits_there}
-use Rattle.up_sign.proofs.Steps.{bind-ok}
 use Rattle.up_roles.specs.Payload.{payload, hashes_value, are_distinct, name_fits, is_named}
 use Rattle.up_roles.specs.Targets.{target_value, target_fits, target_is_typed, targets_payload, targets_fits, targets_is_typed, hardware_fits, ecus_of, ecu_of, hardware_of, target_of, target_list_in, targets_of}
 use Rattle.up_roles.specs.declared.repository.Repository.{Repository}
@@ -22,7 +20,8 @@ use Rattle.up_roles.specs.declared.repository.Repository.TheVariants.{Director, 
 use Rattle.up_roles.specs.declared.targets.Target.{Target}
 use Rattle.up_roles.specs.declared.targets.TargetsFile.{TargetsFile}
 use Rattle.up_roles.proofs.Heads.{HasHead, HasVehicle, head_there, vehicle_there, ident_of-there, ident_part-there, file_name_part-there, count_part-there, sha256_part-there}
-use Rattle.up_roles.proofs.Lists.{each-there, all-both, list_in-there, few_part-there}
+use Rattle.up_roles.proofs.Lists.{each-there, all-both, few_part-there}
+use Rattle.up_roles.proofs.Steps.{bind-ok, fits-there, list_in-there}
 
 -- ---- one target
 
@@ -60,7 +59,7 @@ hardware-there d hardware has fits typed =
     let p = and_parts (is_from_to 1 16 (length hardware)) _ fits in
     bind-ok _ _ (map string hardware) (few_part-there 1 16 (codes "targets") (codes "hardware") d (map string hardware) has (ap (is_from_to 1 16) (length-map hardware string) ∙ p.0))
     ∙ bind-ok _ _ hardware (each-there (ident_of (codes "targets")) string is_ident (ident_of-there (codes "targets")) hardware typed)
-    ∙ fits_there are_distinct (codes "targets") hardware p.1
+    ∙ fits-there are_distinct (codes "targets") hardware p.1
 
 target-there : (r : Repository) (target : Target) → (target_fits r target && target_is_typed target) ≡ true → target_of r (target_value target) ≡ Ok target
 unfolding target_of object_of
@@ -100,7 +99,7 @@ unfolding target_list_in
 target_list-there r targets d has fits typed distinct =
     bind-ok _ _ (map target_value targets) (list_in-there (codes "targets") d (map target_value targets) has)
     ∙ bind-ok _ _ targets (each-there (target_of r) target_value (λ target. target_fits r target && target_is_typed target) (target-there r) targets (all-both (target_fits r) target_is_typed targets fits typed))
-    ∙ fits_there (λ ts. are_distinct (ecus_of ts)) (codes "targets") targets distinct
+    ∙ fits-there (λ ts. are_distinct (ecus_of ts)) (codes "targets") targets distinct
 
 pub targets-there : MomentsAreRead → (file : TargetsFile) → targets_fits file ≡ true → targets_is_typed file ≡ true → targets_of (targets_payload file) ≡ Ok file
 unfolding targets_of targets_payload

@@ -14,6 +14,7 @@ use crate::values::one_member;
 use serde_json::{Map, Value, json, put};
 use std::alloc::{AllocError, Global};
 use up_canon::bytes::Bytes;
+use up_canon::moment::moment_laws;
 use up_sign::scheme::Scheme;
 
 /// The text of the Root file: its envelope, signed with each secret in order.
@@ -30,6 +31,7 @@ pub fn root_text<K: Scheme>(
     ensures canonical { OnOk result (IsCanonical (root_payload file.now)) }
     ensures typed { OnOk result (root_is_typed file.now ≡ true) }
 {
+    moment_laws();
     let payload = root_value(alloc, file)?;
     sealed_text(alloc, scheme, secrets, &payload)
 }

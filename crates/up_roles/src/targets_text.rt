@@ -15,6 +15,7 @@ use serde_json::{Map, Value, put};
 use std::alloc::{AllocError, Global};
 use up_canon::bytes::Bytes;
 use up_canon::ident::Ident;
+use up_canon::moment::moment_laws;
 use up_sign::scheme::Scheme;
 
 /// The text of the Targets file: its envelope, signed with each secret in order.
@@ -31,6 +32,7 @@ pub fn targets_text<K: Scheme>(
     ensures canonical { OnOk result (IsCanonical (targets_payload file.now)) }
     ensures typed { OnOk result (targets_is_typed file.now ≡ true) }
 {
+    moment_laws();
     let payload = targets_value(alloc, file)?;
     sealed_text(alloc, scheme, secrets, &payload)
 }

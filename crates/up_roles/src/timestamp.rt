@@ -21,7 +21,7 @@ use up_canon::bytes::Bytes;
 use up_canon::fields::object_at;
 use up_canon::ident::Ident;
 use up_canon::listed::Duplicate;
-use up_canon::moment::Moment;
+use up_canon::moment::{Moment, moment_laws};
 use up_canon::refusal::Refusal;
 use up_sign::envelope::Envelope;
 use up_sign::scheme::Scheme;
@@ -113,6 +113,7 @@ pub fn timestamp_text<K: Scheme>(
     ensures canonical { OnOk result (IsCanonical (timestamp_payload file.now)) }
     ensures typed { OnOk result (timestamp_is_typed file.now ≡ true) }
 {
+    moment_laws();
     let payload = timestamp_value(alloc, file)?;
     sealed_text(alloc, scheme, secrets, &payload)
 }

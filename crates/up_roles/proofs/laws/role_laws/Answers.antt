@@ -13,22 +13,22 @@ pub returns-clause-root : goal.returns-clause-root
 unfolding root_text_of root_in root_payload
 returns-clause-root c = λ k secrets file signers fits typed agree small.
     let law : Lower = record { texts = c.envelope_laws.ensures.text; limits = c.envelope_laws.ensures.limits; moments = c.moment_laws.ensures.read } in
-    read-again root_of k secrets (root_payload file) file law signers (root-canon file fits typed) (search) (root-there law.moments file fits typed agree) small
+    read-again root_of k secrets (root_payload file) file law signers (root-canon c.moment_laws.ensures.plain file fits typed) (search) (root-there law.moments file fits typed agree) small
 
 pub returns-clause-targets : goal.returns-clause-targets
 unfolding targets_text_of targets_in targets_payload
 returns-clause-targets c = λ k secrets file signers fits typed small.
     let law : Lower = record { texts = c.envelope_laws.ensures.text; limits = c.envelope_laws.ensures.limits; moments = c.moment_laws.ensures.read } in
-    read-again targets_of k secrets (targets_payload file) file law signers (targets-canon file fits typed) (search) (targets-there law.moments file fits typed) small
+    read-again targets_of k secrets (targets_payload file) file law signers (targets-canon c.moment_laws.ensures.plain file fits typed) (search) (targets-there law.moments file fits typed) small
 
 pub returns-clause-snapshot : goal.returns-clause-snapshot
 unfolding snapshot_text_of snapshot_in snapshot_payload
 returns-clause-snapshot c = λ k secrets file signers fits typed small.
     let law : Lower = record { texts = c.envelope_laws.ensures.text; limits = c.envelope_laws.ensures.limits; moments = c.moment_laws.ensures.read } in
-    read-again snapshot_of k secrets (snapshot_payload file) file law signers (snapshot-canon file fits typed) (search) (snapshot-there law.moments file fits typed) small
+    read-again snapshot_of k secrets (snapshot_payload file) file law signers (snapshot-canon c.moment_laws.ensures.plain file fits typed) (search) (snapshot-there law.moments file fits typed) small
 
 pub returns-clause-timestamp : goal.returns-clause-timestamp
 unfolding timestamp_text_of timestamp_in timestamp_payload
 returns-clause-timestamp c = λ k secrets file signers fits typed small.
     let law : Lower = record { texts = c.envelope_laws.ensures.text; limits = c.envelope_laws.ensures.limits; moments = c.moment_laws.ensures.read } in
-    read-again timestamp_of k secrets (timestamp_payload file) file law signers (timestamp-canon file fits typed) (search) (timestamp-there law.moments file fits typed) small
+    read-again timestamp_of k secrets (timestamp_payload file) file law signers (timestamp-canon c.moment_laws.ensures.plain file fits typed) (search) (timestamp-there law.moments file fits typed) small

@@ -7,7 +7,7 @@ use Rattle.up_roles.proofs.PlainFiles.{canon_is, targets-canon}
 use Rattle.up_roles.proofs.targets_text.targets_text.Goals as goal
 
 pub sealed_text-requires-clause-canon : goal.sealed_text-requires-clause-canon
-sealed_text-requires-clause-canon g c = ap has_canon c.in_ok-payload.ensures.value ∙ targets-canon c.args.file.now c.requires.limits c.in_ok-payload.ensures.typed
+sealed_text-requires-clause-canon g c = ap has_canon c.in_ok-payload.ensures.value ∙ targets-canon c.moment_laws.ensures.plain c.args.file.now c.requires.limits c.in_ok-payload.ensures.typed
 
 pub returns-clause-value : goal.returns-clause-value
 unfolding targets_text_of
@@ -15,7 +15,7 @@ returns-clause-value g c =
     if_ok c.sealed_text.result _ _ (λ t h. h ∙ ap (sealed_text (g.K.Scheme.rules c.args.scheme.now) c.args.secrets.now) c.in_ok-payload.ensures.value) c.sealed_text.ensures
 
 pub returns-clause-canonical : goal.returns-clause-canonical
-returns-clause-canonical g c = on_ok c.sealed_text.result _ (canon_is (targets_payload c.args.file.now) (targets-canon c.args.file.now c.requires.limits c.in_ok-payload.ensures.typed))
+returns-clause-canonical g c = on_ok c.sealed_text.result _ (canon_is (targets_payload c.args.file.now) (targets-canon c.moment_laws.ensures.plain c.args.file.now c.requires.limits c.in_ok-payload.ensures.typed))
 
 pub returns-clause-typed : goal.returns-clause-typed
 returns-clause-typed g c = on_ok c.sealed_text.result _ c.in_ok-payload.ensures.typed
