@@ -5,6 +5,8 @@ pub mod building;
 pub mod manifest;
 pub mod reading;
 pub mod report;
+#[cfg(test)]
+mod tests;
 mod writing;
 
 ghost use Rattle.up_manifest.specs.Laws.{BodiesAreRead, BodiesMeanOneOrFail, SignedTextsMean};
