@@ -2,7 +2,7 @@
 use Rattle.std.specs.Prelude.{◌≡◌, ℕ, ◌≤◌, ◌++◌, List, [], ◌∷◌, IsTrue, length, map, codes, decimal, ⊤}
 use Rattle.std.specs.List.{list_all, join_with_byte}
 use Rattle.serde_json.specs.Data.{Data, string}
-use Rattle.up_canon.specs.Build.{object_with, list_with, count_value, hex_value}
+use Rattle.up_canon.specs.Build.{object_with, count_value, hex_value}
 use Rattle.up_canon.specs.Canon.{max_count, text, quoted}
 use Rattle.up_canon.specs.Moments.{last_moment, moment_text}
 use Rattle.up_canon.specs.Names.{is_ident, is_file_name, is_note}
@@ -13,17 +13,19 @@ use Rattle.up_sign.specs.declared.envelope.Envelope.{Envelope}
 use Rattle.up_manifest.specs.declared.report.Installed.{Installed}
 use Rattle.up_manifest.specs.declared.report.Report.{Report}
 use Rattle.up_manifest.specs.declared.report.SignedReport.{SignedReport}
-use Rattle.up_manifest.specs.declared.manifest.Manifest.{Manifest}
 use Rattle.up_manifest.specs.declared.manifest.Incoming.{Incoming}
 
 -- ---- reports
 
+-- the object of hashes, with SHA-256 (FIPS 180-4) alone, in lower case
 abbrev pub hashes_value : List ℕ → Data
 hashes_value sha256 = object_with ((codes "sha256", hex_value sha256) ∷ [])
 
+-- the object of an installed image
 abbrev pub installed_value : Installed → Data
 installed_value i = object_with ((codes "file", string i.file) ∷ (codes "hashes", hashes_value i.sha256) ∷ (codes "length", count_value i.length) ∷ [])
 
+-- a report's payload (Uptane Standard 2.1.0: ECU version report)
 abbrev pub report_value : Report → Data
 report_value r = object_with (
     (codes "attack", string r.attack) ∷ (codes "counter", count_value r.counter) ∷ (codes "ecu", string r.ecu) ∷

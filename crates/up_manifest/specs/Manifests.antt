@@ -1,8 +1,8 @@
 -- What a manifest's body means, or the first fault of it.
-use Rattle.std.specs.Prelude.{ℕ, List, nat_le, length, if◌then◌else◌, Option, None, option_and_then, Result, Ok, codes}
+use Rattle.std.specs.Prelude.{ℕ, List, Option, option_and_then, Result, Ok, codes}
 use Rattle.serde_json.specs.Data.{Data}
 use Rattle.serde_json.specs.Read.{read}
-use Rattle.up_canon.specs.Steps.{◌>>=◌, or_error, unless, each, value_of}
+use Rattle.up_canon.specs.Steps.{◌>>=◌, each, value_of}
 use Rattle.up_canon.specs.declared.refusal.Refusal.{Refusal}
 use Rattle.up_canon.specs.HexText.{sha256_in}
 use Rattle.up_canon.specs.JsonText.{value_within}
@@ -15,16 +15,17 @@ use Rattle.up_manifest.specs.declared.report.SignedReport.{SignedReport}
 use Rattle.up_manifest.specs.declared.manifest.Manifest.{Manifest}
 use Rattle.up_manifest.specs.declared.manifest.Incoming.{Incoming}
 
--- the bytes of a body
+-- how many bytes a body may have (this profile's limit)
 abbrev pub largest_body : ℕ
 largest_body = 262_144
 
--- the reports of a manifest
+-- how many reports a manifest may have (this profile's limit)
 abbrev pub most_reports : ℕ
 most_reports = 64
 
 -- ---- reports
 
+-- the installed image that an object tells: filename, length in bytes and SHA-256 (Uptane Standard 2.1.0: ECU version report)
 unfoldable pub installed_in : Data → Result Installed Refusal
 installed_in d = do
   file ← file_name_in (codes "file") d
@@ -33,6 +34,7 @@ installed_in d = do
   sha256 ← sha256_in (codes "sha256") hashes
   Ok (record { file = file; length = size; sha256 = sha256 })
 
+-- the report of a payload, its members read in the order of this profile
 unfoldable pub report_in : Data → Result Report Refusal
 report_in payload = do
   kind ← word_in (codes "report") (codes "type") payload
@@ -44,7 +46,7 @@ report_in payload = do
   installed ← installed_in image
   Ok (record { ecu = ecu; counter = counter; time = time; attack = attack; image = installed })
 
--- place is the name of the list that it stands in
+-- a report with its envelope; place is the name of the list that it stands in
 unfoldable pub signed_report_in : List ℕ → Data → Result SignedReport Refusal
 signed_report_in place d = do
   opened ← opened_in place d
@@ -53,11 +55,13 @@ signed_report_in place d = do
 
 -- ---- manifests
 
+-- the reports of a manifest, each whole before the next
 unfoldable pub reports_in : Data → Result (List SignedReport) Refusal
 reports_in payload = do
   listed ← list_within 0 most_reports (codes "reports") payload
   each (signed_report_in (codes "reports")) listed
 
+-- the manifest of a payload (Uptane Standard 2.1.0: vehicle version manifest), its own members before the reports
 unfoldable pub manifest_in : Data → Result Manifest Refusal
 manifest_in payload = do
   kind ← word_in (codes "manifest") (codes "type") payload

@@ -20,6 +20,7 @@ use Rattle.up_manifest.specs.declared.manifest.Incoming.{Incoming}
 abbrev pub HasCount : Data → List ℕ → ℕ → Type 0
 HasCount d name n = (json.get name d ≡ Some (number (unsigned n))) × (n ≤ max_count)
 
+-- o is the member of that name, which is an object
 abbrev pub HasObject : Data → List ℕ → Data → Type 0
 HasObject d name o = (members : Members) × (json.get name d ≡ Some (object members)) × (o ≡ object members)
 
