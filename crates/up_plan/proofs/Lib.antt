@@ -1,12 +1,14 @@
 pub mod Above
+pub mod BestOffers
 pub mod Causes
 pub mod Distinct
 pub mod Due
 pub mod FirstUnmet
 pub mod Firsts
 pub mod Greatest
+pub mod Items
 pub mod Members
-pub mod Offers
 pub mod Orders
+pub mod Parts
 pub mod PlanLaws
 pub mod Updates

@@ -1,4 +1,5 @@
 pub mod Images
 pub mod Campaigns
 pub mod Planning
+pub mod Offers
 pub mod Laws

@@ -6,6 +6,7 @@ pub mod campaign;
 pub mod image;
 pub mod laws;
 mod names;
+mod offers;
 pub mod plan;
 mod resulting;
 #[cfg(test)]

@@ -5,6 +5,7 @@ ghost use Rattle.up_plan.specs.Planning.{level as level_of, resulting as resulti
 use crate::assigned::Fitted;
 use crate::campaign::Item;
 use crate::image::Image;
+use crate::offers::offers;
 use crate::wanted::{level, registered, wanted};
 use std::alloc::{AllocError, Global};
 use std::marker::Model;
@@ -39,9 +40,10 @@ pub(crate) fn resulting_set<'a>(
 ) -> Result<Vec<Resulting<'a>>, AllocError>
     ensures { IfOk result (λ set. set.items ≡ resulting_of images.now (map (λ i. i.now) items.now) fitted.now) }
 {
+    let offers = offers(alloc, images, items)?;
     let mut set = Vec::with_capacity(alloc, fitted.len())?;
     for e in fitted {
-        let image = wanted(alloc, images, items, e)?;
+        let image = wanted(images, offers.as_slice(), e);
         set.push(with_wanted(images, e, image))?;
     }
     Ok(set)
