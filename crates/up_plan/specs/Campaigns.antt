@@ -1,5 +1,5 @@
 -- Campaigns, and their limits.
-use Rattle.std.specs.Prelude.{◌&&◌, List, Bool, true, not, length, Option, Some, None, codes, if◌then◌else◌}
+use Rattle.std.specs.Prelude.{List, Bool, true, not, length, is_none, Option, Some, None, codes, if◌then◌else◌}
 use Rattle.up_canon.specs.Names.{Name, is_from_to}
 use Rattle.up_plan.specs.declared.campaign.Reach.{Reach}
 use Rattle.up_plan.specs.declared.campaign.Reach.TheVariants.{All, Named}
@@ -20,12 +20,12 @@ reach_fits (Named vehicles) = is_from_to 1 1000 (length vehicles)
 abbrev pub items_fit : List Item → Bool
 items_fit items = is_from_to 1 16 (length items)
 
-abbrev pub campaign_fits : CampaignData → Bool
-campaign_fits campaign = reach_fits campaign.reach && items_fit campaign.items
-
 -- the first member that breaks its limit
 abbrev pub campaign_fault : CampaignData → Option Name
 campaign_fault campaign =
     if not (reach_fits campaign.reach) then Some (codes "vehicles")
     else if not (items_fit campaign.items) then Some (codes "items")
     else None
+
+abbrev pub campaign_fits : CampaignData → Bool
+campaign_fits campaign = is_none (campaign_fault campaign)

@@ -25,9 +25,6 @@ needs_fit needs = nat_le (length needs) 16
 abbrev pub conflicts_fit : Name → List Name → Bool
 conflicts_fit file conflicts = nat_le (length conflicts) 16 && not (list_any (bytes_eq file) conflicts)
 
-abbrev pub image_fits : ImageData → Bool
-image_fits image = hardware_fits image.hardware && needs_fit image.needs && conflicts_fit image.file image.conflicts
-
 -- the first member that breaks its limit
 abbrev pub image_fault : ImageData → Option Name
 image_fault image =
@@ -35,3 +32,6 @@ image_fault image =
     else if not (needs_fit image.needs) then Some (codes "needs")
     else if not (conflicts_fit image.file image.conflicts) then Some (codes "conflicts")
     else None
+
+abbrev pub image_fits : ImageData → Bool
+image_fits image = is_none (image_fault image)
