@@ -1,34 +1,53 @@
-//! A plan of the vehicle V2, compared as text.
+//! Plans of the vehicle V2, compared as text.
 use super::fixtures::{campaigns, fitted, ident, images, shown};
+use crate::assigned::Plan;
+use crate::image::Image;
 use crate::plan::plan;
 use std::alloc::Global;
 use std::process::Abort;
 use std::test::Fail;
 
-/// The two ECUs of V2 with images that aren't registered.
-pub(super) const P2: &str = "P2 HP factory.bin empty";
-
-pub(super) const S2: &str = "S2 HS factory.bin empty";
-
-/// The plan for these images, campaigns and ECUs, which is to be the text; the name tells the case.
-pub(super) fn check(
+/// The plan of each line, `NAME | CAMPAIGNS | ECUS | PLAN`, over these images.
+pub(super) fn check_all(
     rt: &impl Abort,
     alloc: Global,
-    name: &str,
-    lines: (&[&str], &[&str], &[&str]),
-    wanted: &str,
+    registered: &str,
+    cases: &str,
 ) -> Result<(), Fail> {
+    let images = images(alloc, registered)?;
+    for case in cases.lines() {
+        check(rt, alloc, images.as_slice(), case)?;
+    }
+    Ok(())
+}
+
+fn check(rt: &impl Abort, alloc: Global, images: &[Image], case: &str) -> Result<(), Fail> {
+    let mut parts = case.split('|');
+    let name = parts.next().ok_or("no name")?;
+    let campaigns = parts.next().ok_or("no campaigns")?;
+    let ecus = parts.next().ok_or("no ECUs")?;
+    let wanted = parts.next().ok_or("no plan")?;
+    let plan = planned(alloc, images, campaigns, ecus)?;
+    let text = shown(alloc, &plan)?;
+    assert_eq!(rt; text.as_str().trim(), wanted.trim(), "{name}");
+    Ok(())
+}
+
+/// The plan for V2 with these campaigns and ECUs.
+pub(super) fn planned(
+    alloc: Global,
+    images: &[Image],
+    opened: &str,
+    ecus: &str,
+) -> Result<Plan, Fail> {
     let vehicle = ident(alloc, "V2")?;
-    let images = images(alloc, lines.0)?;
-    let campaigns = campaigns(alloc, lines.1)?;
-    let fitted = fitted(alloc, lines.2)?;
-    let plan = plan(
+    let campaigns = campaigns(alloc, opened)?;
+    let fitted = fitted(alloc, ecus)?;
+    Ok(plan(
         alloc,
-        images.as_slice(),
+        images,
         campaigns.as_slice(),
         &vehicle,
         fitted.as_slice(),
-    )?;
-    assert_eq!(rt; shown(alloc, &plan)?.as_str(), wanted, "{name}");
-    Ok(())
+    )?)
 }

@@ -1,4 +1,4 @@
-//! Images, campaigns and ECUs from short lines, and a plan as text.
+//! Images, campaigns and ECUs from short texts, and a plan as text.
 use crate::assigned::{Cause, Fitted, Plan};
 use crate::campaign::{Campaign, Item, Reach};
 use crate::image::{Image, Need};
@@ -110,46 +110,57 @@ fn ecu(alloc: Global, line: &str) -> Result<Fitted, Fail> {
     })
 }
 
-pub(super) fn images(alloc: Global, lines: &[&str]) -> Result<Vec<Image>, Fail> {
+/// Images, parted by `;`.
+pub(super) fn images(alloc: Global, text: &str) -> Result<Vec<Image>, Fail> {
     let mut made = Vec::new(alloc);
-    for line in lines {
-        made.push(image(alloc, line)?)?;
+    for part in text.split(';') {
+        made.push(image(alloc, part)?)?;
     }
     Ok(made)
 }
 
-pub(super) fn campaigns(alloc: Global, lines: &[&str]) -> Result<Vec<Campaign>, Fail> {
+/// Campaigns, parted by `;`.
+pub(super) fn campaigns(alloc: Global, text: &str) -> Result<Vec<Campaign>, Fail> {
     let mut made = Vec::new(alloc);
-    for line in lines {
-        made.push(campaign(alloc, line)?)?;
+    for part in text.split(';') {
+        made.push(campaign(alloc, part)?)?;
     }
     Ok(made)
 }
 
-pub(super) fn fitted(alloc: Global, lines: &[&str]) -> Result<Vec<Fitted>, Fail> {
+/// ECUs, parted by `;`, or none.
+pub(super) fn fitted(alloc: Global, text: &str) -> Result<Vec<Fitted>, Fail> {
     let mut made = Vec::new(alloc);
-    for line in lines {
-        made.push(ecu(alloc, line)?)?;
+    if text.trim().is_empty() {
+        return Ok(made);
+    }
+    for part in text.split(';') {
+        made.push(ecu(alloc, part)?)?;
     }
     Ok(made)
 }
 
-/// `ECU=file` of each update, then the cause as `ECU need hardware` or `ECU conflict file`.
+/// `ECU=file` of each update, or the cause as `ECU need hardware` or `ECU conflict file`, or `nothing`.
 pub(super) fn shown(alloc: Global, plan: &Plan) -> Result<String, AllocError> {
+    match &plan.withheld {
+        None => updates(alloc, plan),
+        Some(Cause::Need { ecu, hardware }) => {
+            format!(in alloc; "{} need {}", ecu.text(), hardware.text())
+        }
+        Some(Cause::Conflict { ecu, file }) => {
+            format!(in alloc; "{} conflict {}", ecu.text(), file.text())
+        }
+    }
+}
+
+fn updates(alloc: Global, plan: &Plan) -> Result<String, AllocError> {
     let mut text = String::new(alloc);
     for a in plan.assigned.as_slice() {
         let part = format!(in alloc; "{}={} ", a.ecu.text(), a.file.text())?;
         text.push_str(part.as_str())?;
     }
-    let cause = match &plan.withheld {
-        None => String::new(alloc),
-        Some(Cause::Need { ecu, hardware }) => {
-            format!(in alloc; "{} need {}", ecu.text(), hardware.text())?
-        }
-        Some(Cause::Conflict { ecu, file }) => {
-            format!(in alloc; "{} conflict {}", ecu.text(), file.text())?
-        }
-    };
-    text.push_str(cause.as_str())?;
+    if text.is_empty() {
+        text.push_str("nothing")?;
+    }
     Ok(text)
 }
