@@ -29,7 +29,6 @@ fn moment(second: u64) -> Result<Moment, Refusal>
 }
 
 /// Tests the keys of the founding's row.
-#[tactic(auto, using(crate::proofs::Decided::keys_passed))]
 fn check_founding<K: Scheme>(
     alloc: Global,
     scheme: &K,
@@ -37,9 +36,16 @@ fn check_founding<K: Scheme>(
 ) -> Result<(), Refusal>
     ensures { OnOk result (IfSome founding.now (λ f. IsTrue (key_set_fits (K.rules scheme.now) f.keys))) }
 {
-    if let Some(old) = founding {
-        check_keys(alloc, scheme, &old.keys)?;
+    match founding {
+        Some(old) => check_fit(alloc, scheme, &old.keys),
+        None => Ok(()),
     }
+}
+
+fn check_fit<K: Scheme>(alloc: Global, scheme: &K, keys: &KeySet) -> Result<(), Refusal>
+    ensures { OnOk result (IsTrue (key_set_fits (K.rules scheme.now) keys.now)) }
+{
+    check_keys(alloc, scheme, keys)?;
     Ok(())
 }
 
