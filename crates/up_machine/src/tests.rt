@@ -7,8 +7,5 @@ mod deliveries;
 mod delivering;
 mod fixtures;
 mod hashed;
-mod register;
 mod role_keys;
-mod roots;
-mod taken_images;
 mod vehicles;

@@ -1,21 +1,12 @@
-//! Limits of new vehicles, and copies with ample memory.
-use crate::answer::{Answer, Reply};
+//! Limits of new vehicles, and copies of keys and vehicles with ample memory.
 use crate::command::Command;
 use crate::keys::{KeySet, RepoKeys, RoleSecrets};
-use crate::rows::{EcuRow, Founding, Kept, VehicleRow};
 use crate::vehicle::{NewEcu, NewVehicle};
 use std::alloc::Global;
-use std::process::Abort;
 use std::test::Fail;
 use up_canon::bytes::Bytes;
-use up_canon::count::Count;
-use up_canon::file_name::FileName;
 use up_canon::ident::Ident;
 use up_canon::listed::{Duplicate, Listed};
-use up_canon::moment::Moment;
-use up_canon::text::Text;
-use up_manifest::report::Installed;
-use up_plan::assigned::{Assigned, Cause, Plan};
 
 fn ident(alloc: Global, text: &str) -> Result<Ident, Fail> {
     Ok(Ident::new(text.to_string(alloc)?).ok_or("no identifier")?)
@@ -97,86 +88,5 @@ fn copies_of_keys_and_vehicles(rt: HostRuntime) -> Result<(), Fail> {
     };
     assert_eq!(rt; copied.vehicle.text(), "V1");
     assert_eq!(rt; copied.ecus.as_slice()[1].ecu.text(), "S1");
-    Ok(())
-}
-
-#[test]
-fn copies_of_answers_and_rows(rt: HostRuntime) -> Result<(), Fail> {
-    let alloc = rt.alloc();
-    let at = Moment::new(1767225600).ok_or("no moment")?;
-    let counter = Count::new(7).ok_or("no count")?;
-    let cause = Cause::Need {
-        ecu: ident(alloc, "S2")?,
-        hardware: ident(alloc, "HP")?,
-    };
-    let reply = Reply {
-        vehicle: ident(alloc, "V2")?,
-        version: 1,
-        targets: 0,
-        withheld: Some(cause),
-        text: Text::new("{}".to_string(alloc)?),
-    };
-    let Answer::Reply(copied) = Answer::Reply(reply).copy(alloc)? else {
-        return Err("another answer")?;
-    };
-    let Some(Cause::Need { ecu: _, hardware }) = copied.withheld else {
-        return Err("another cause")?;
-    };
-    assert_eq!(rt; hardware.text(), "HP");
-    let founding = Founding {
-        root: 2,
-        keys: KeySet {
-            director: roles(alloc, 1)?,
-            image: roles(alloc, 5)?,
-        },
-        image_version: 3,
-        stamp: at,
-    };
-    assert_eq!(rt; founding.copy(alloc)?.image_version, 3);
-    let row = VehicleRow {
-        vehicle: ident(alloc, "V2")?,
-        primary: ident(alloc, "P2")?,
-        version: 1,
-        last: counter,
-    };
-    assert_eq!(rt; row.copy(alloc)?.last.get(), 7);
-    let file = FileName::new("a.bin".to_string(alloc)?).ok_or("no filename")?;
-    let row = EcuRow {
-        ecu: ident(alloc, "P2")?,
-        hardware: ident(alloc, "HP")?,
-        public: Bytes::new(vec![in alloc; 9; 32]?),
-        installed: Some(Installed {
-            file: file.copy(alloc)?,
-            length: counter,
-            sha256: [0; 32],
-        }),
-        counter,
-        report: Some(Text::new("{}".to_string(alloc)?)),
-    };
-    let copied = row.copy(alloc)?;
-    let Some(image) = copied.installed else {
-        return Err("no image")?;
-    };
-    assert_eq!(rt; image.file.text(), "a.bin");
-    let assigned = Assigned {
-        ecu: ident(alloc, "P2")?,
-        file,
-    };
-    let row = Kept {
-        vehicle: ident(alloc, "V2")?,
-        counter,
-        version: 1,
-        at,
-        root: 1,
-        signed: Text::new("{}".to_string(alloc)?),
-        plan: Plan {
-            assigned: Listed::new(vec![in alloc; assigned]?),
-            withheld: None,
-        },
-        reply: Text::new("{\"version\":1}".to_string(alloc)?),
-    };
-    let copied = row.copy(alloc)?;
-    assert_eq!(rt; copied.reply.as_str(), "{\"version\":1}");
-    assert_eq!(rt; copied.plan.assigned.as_slice()[0].file.text(), "a.bin");
     Ok(())
 }

@@ -1,21 +1,17 @@
-//! The decisions after the tests that their conditions ask for.
+//! A founding, and the tests that the decisions' conditions ask for.
 ghost use Rattle.std.specs.Prelude.{◌≡◌, ◌≤◌, IfOk, IfSome, IsTrue, OnOk};
 ghost use Rattle.up_canon.specs.Moments.{last_command_moment};
 ghost use Rattle.up_machine.specs.Keys.{key_set_fits};
 
-use crate::decide_register::{decide_image, decide_refresh};
-use crate::decide_root::{decide_found, decide_rotate};
-use crate::decision::{Decision, RegisterRows, RootRows};
+use crate::decide_root::decide_found;
+use crate::decision::RootRows;
 use crate::key_checks::check_keys;
 use crate::keys::KeySet;
 use crate::rows::Founding;
 use std::alloc::Global;
-use up_canon::count::Count;
 use up_canon::moment::Moment;
 use up_canon::refusal::Refusal;
 use up_canon::table::Table;
-use up_plan::image::Image;
-use up_sign::hmac_sha256::HmacSha256;
 use up_sign::scheme::Scheme;
 
 /// A command's moment.
@@ -29,7 +25,6 @@ pub(super) fn moment(second: u64) -> Result<Moment, Refusal>
 }
 
 /// Tests the keys of the founding's row.
-#[tactic(auto, using(crate::proofs::Decided::keys_passed))]
 pub(super) fn check_founding<K: Scheme>(
     alloc: Global,
     scheme: &K,
@@ -37,9 +32,17 @@ pub(super) fn check_founding<K: Scheme>(
 ) -> Result<(), Refusal>
     ensures { OnOk result (IfSome founding.now (λ f. IsTrue (key_set_fits (K.rules scheme.now) f.keys))) }
 {
-    if let Some(old) = founding {
-        check_keys(alloc, scheme, &old.keys)?;
+    match founding {
+        Some(old) => check_fit(alloc, scheme, &old.keys),
+        None => Ok(()),
     }
+}
+
+#[tactic(auto, using(crate::proofs::Decided::keys_passed))]
+fn check_fit<K: Scheme>(alloc: Global, scheme: &K, keys: &KeySet) -> Result<(), Refusal>
+    ensures { OnOk result (IsTrue (key_set_fits (K.rules scheme.now) keys.now)) }
+{
+    check_keys(alloc, scheme, keys)?;
     Ok(())
 }
 
@@ -52,38 +55,4 @@ pub(super) fn found<K: Scheme>(
 ) -> Result<RootRows, Refusal> {
     let images = Table::new(alloc);
     decide_found(alloc, scheme, moment(at)?, keys, founding, &images)
-}
-
-pub(super) fn rotate<K: Scheme>(
-    alloc: Global,
-    scheme: &K,
-    at: u64,
-    keys: &KeySet,
-    founding: &Option<Founding>,
-) -> Result<RootRows, Refusal> {
-    check_founding(alloc, scheme, founding)?;
-    let images = Table::new(alloc);
-    decide_rotate(alloc, scheme, moment(at)?, keys, founding, &images)
-}
-
-pub(super) fn add(
-    alloc: Global,
-    at: u64,
-    image: &Image,
-    founding: &Option<Founding>,
-    images: &Table<Image>,
-) -> Result<Decision<RegisterRows>, Refusal> {
-    check_founding(alloc, &HmacSha256, founding)?;
-    decide_image(alloc, &HmacSha256, moment(at)?, image, founding, images)
-}
-
-pub(super) fn refresh(
-    alloc: Global,
-    at: u64,
-    version: Count,
-    founding: &Option<Founding>,
-    images: &Table<Image>,
-) -> Result<RegisterRows, Refusal> {
-    check_founding(alloc, &HmacSha256, founding)?;
-    decide_refresh(alloc, &HmacSha256, moment(at)?, version, founding, images)
 }
