@@ -38,7 +38,6 @@ pub(super) fn check_founding<K: Scheme>(
     }
 }
 
-#[tactic(auto, using(crate::proofs::Decided::keys_passed))]
 fn check_fit<K: Scheme>(alloc: Global, scheme: &K, keys: &KeySet) -> Result<(), Refusal>
     ensures { OnOk result (IsTrue (key_set_fits (K.rules scheme.now) keys.now)) }
 {
