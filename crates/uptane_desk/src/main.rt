@@ -1,9 +1,8 @@
 //! The program: runs a script over the repositories, or prints the length and the SHA-256 of a file.
 #![tactic(auto)]
 
-use std::env;
-use std::fs;
 use std::process::ExitCode;
+use std::{env, fs};
 use up_desk::desk::Desk;
 use up_lines::fault::{Cause, Fault};
 use up_service::digest::digest_stream;
