@@ -75,24 +75,23 @@ def tells(*told):
 
 
 def seen():
-    text = lines_of(HERE / "first_manifest" / "replies")[0]
-    answer = "DIFFERS: done in place of already"
-    reply = "DIFFERS: %s in place of {}" % text
-    number = "DIFFERS: 2 lines in place of 1"
+    def differs(had, wanted):
+        return "DIFFERS: %s in place of %s" % (json.dumps(had), json.dumps(wanted))
+
+    answer = differs("done\n", "already\n")
+    printed = "done\ndone\nreply V1 version 1 targets 0\n"
+    reply = differs(printed + lines_of(HERE / "first_manifest" / "replies")[0] + "\n", printed + "{}\n")
+    number = differs(2 * "refused 5 NotJson\n", "refused 5 NotJson\n")
     return "\n".join([
         tells("control of answer", answer, answer, answer, answer),
         tells("control of text", "3", "3", reply, reply),
         tells("control of number", number, number, "0", number),
-        "control of scheme: no scheme has the method none",
-        "",
+        "control of scheme: no such scheme",
     ]) + "\n"
 
 
-HEAD = "The rows of rows/, collected by rows/collected.py; src/telling.rt says what the marks mean.\n\n"
-
-
 def given():
-    return HEAD + "".join(row.given() for row in rows()) + controls()
+    return "\n" + "".join(row.given() for row in rows()) + controls()
 
 
 def wanted():

@@ -13,12 +13,14 @@ mod ways;
 use crate::telling::told;
 use std::io;
 
-/// Tells of each row on standard input. What stands before the first row says what the rows are.
+/// Tells of each row on standard input. Each begins with a line `row NAME` behind another line.
 fn main(rt: HostRuntime) -> io::Result<()> {
     let text = io::read_to_string(rt.alloc(), rt.stdin())?;
-    for row in text.as_str().split("\nrow ").skip(1) {
-        let line = told(rt.alloc(), row)?;
-        println!(rt; "{line}")?;
+    for row in text.as_str().split("\nrow ") {
+        if !row.is_empty() {
+            let line = told(rt.alloc(), row)?;
+            println!(rt; "{line}")?;
+        }
     }
     Ok(())
 }

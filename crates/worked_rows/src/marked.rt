@@ -1,8 +1,7 @@
 //! The lines of a row by their marks.
 use std::alloc::{AllocError, Global};
 
-/// The lines of a row that bear one of these marks, without it. A line is its mark, a space and the rest; the first line is the
-/// row's name.
+/// The lines of a row that bear one of these marks, without it. A line is its mark, a space and the rest.
 pub(crate) fn marked(alloc: Global, row: &str, marks: &str) -> Result<String, AllocError> {
     let mut out = String::new(alloc);
     for line in row.lines() {

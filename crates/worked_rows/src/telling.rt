@@ -13,11 +13,17 @@ use up_sign::scheme::Scheme;
 
 /// How many lines each way of carrying out the row answered as the row says, or where they differ.
 pub(crate) fn told(alloc: Global, row: &str) -> Result<String, AllocError> {
-    let name = row.lines().next().unwrap_or("");
-    match marked(alloc, row, "@")?.as_str() {
-        "hmac-sha256\n" => told_under(alloc, HmacSha256, name, row),
-        "sha256-tag\n" => told_under(alloc, Hashed, name, row),
-        method => format!(in alloc; "{name}: no scheme has the method {method}"),
+    match row.split_once('\n') {
+        Some((name, lines)) => told_of(alloc, name, lines),
+        None => format!(in alloc; "{row}: no lines"),
+    }
+}
+
+fn told_of(alloc: Global, name: &str, lines: &str) -> Result<String, AllocError> {
+    match marked(alloc, lines, "@")?.as_str() {
+        "hmac-sha256\n" => told_under(alloc, HmacSha256, name, lines),
+        "sha256-tag\n" => told_under(alloc, Hashed, name, lines),
+        _ => format!(in alloc; "{name}: no such scheme"),
     }
 }
 

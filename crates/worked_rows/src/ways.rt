@@ -1,6 +1,7 @@
 //! Rows as runs and as calls. Behind the line of a reply stands the reply's text.
 ghost use Rattle.std.specs.Prelude.{IsTrue};
 ghost use Rattle.up_machine.specs.Commands.{opens_running};
+ghost use Rattle.up_script.specs.AskedLines.{asks_running};
 
 use crate::commands::commands_of;
 use crate::marked::push_line;
@@ -10,7 +11,7 @@ use up_canon::refusal::Refusal;
 use up_desk::desk::Desk;
 use up_machine::answer::Answer;
 use up_machine::command::Command;
-use up_script::asked::{What, asked_by};
+use up_script::asked::{Asked, What, asked_by};
 use up_script::printed::{answer_text, push_ecu, refused_text, vehicle_text};
 use up_sign::scheme::Scheme;
 
@@ -66,15 +67,40 @@ fn push_called<K: Scheme>(
     line: &str,
 ) -> Result<(), AllocError> {
     match asked_by(alloc, desk.scheme(), line.as_bytes()) {
-        Ok(asked) => match &asked.what {
-            What::Call(command) => {
-                let answer = call_again(alloc, desk, asked.at.get(), command);
-                push_answer(alloc, out, &answer)
-            }
-            What::Show(vehicle) => push_view(alloc, desk, out, vehicle),
-        },
-        Err(refusal) => push_line(out, refused_text(alloc, &refusal)?.as_str()),
+        Ok(asked) => push_asked(alloc, desk, out, &asked),
+        Err(refusal) => push_refused(alloc, out, &refusal),
     }
+}
+
+fn push_refused(alloc: Global, out: &mut String, refusal: &Refusal) -> Result<(), AllocError> {
+    push_line(out, refused_text(alloc, refusal)?.as_str())
+}
+
+fn push_asked<K: Scheme>(
+    alloc: Global,
+    desk: &mut Desk<K>,
+    out: &mut String,
+    asked: &Asked,
+) -> Result<(), AllocError>
+    requires { IsTrue (asks_running asked.now.what) }
+{
+    match &asked.what {
+        What::Call(command) => push_answered(alloc, desk, out, asked.at.get(), command),
+        What::Show(vehicle) => push_view(alloc, desk, out, vehicle),
+    }
+}
+
+fn push_answered<K: Scheme>(
+    alloc: Global,
+    desk: &mut Desk<K>,
+    out: &mut String,
+    at: u64,
+    command: &Command,
+) -> Result<(), AllocError>
+    requires { IsTrue (opens_running command.now) }
+{
+    let answer = call_again(alloc, desk, at, command);
+    push_answer(alloc, out, &answer)
 }
 
 /// The desk's answer, and where memory was refused that of the same command called once more.
