@@ -6,4 +6,3 @@ pub mod Formats
 pub mod Reading
 pub mod Meaning
 pub mod Laws
-pub mod Hashed

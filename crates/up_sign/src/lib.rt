@@ -2,8 +2,6 @@
 #![tactic(auto)]
 
 pub mod envelope;
-#[cfg(test)]
-mod hashed;
 pub mod hmac_sha256;
 pub mod key_id;
 pub mod laws;
@@ -12,7 +10,5 @@ pub mod reading;
 mod reading_tests;
 pub mod scheme;
 pub mod seal;
-#[cfg(test)]
-mod tests;
 pub mod threshold;
 mod writing;

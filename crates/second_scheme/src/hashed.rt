@@ -1,14 +1,14 @@
 //! A second scheme, whose public parts are not its secrets.
-use crate::scheme::Scheme;
 use sha2::{Digest, Sha256};
 use std::alloc::{AllocError, Global};
+use up_sign::scheme::Scheme;
 
 /// Tags are hashes of the public part, itself a hash of the secret, and the message.
 #[derive(Clone, Copy, Debug)]
 pub struct Hashed;
 
 impl Scheme for Hashed {
-    ghost use Rattle.up_sign.specs.Hashed.{hashed, hashed_lawful};
+    ghost use Rattle.second_scheme.specs.Hashed.{hashed, hashed_lawful};
 
     ghost rules = { λ _. hashed };
 
@@ -45,7 +45,7 @@ impl Scheme for Hashed {
 
 ghost use Rattle.std.specs.Prelude.{◌≡◌, ◌++◌};
 ghost use Rattle.sha2.specs.Sha256.{sha256};
-ghost use Rattle.up_sign.specs.Hashed.{hashed_public as hashed_public_of};
+ghost use Rattle.second_scheme.specs.Hashed.{hashed_public as hashed_public_of};
 
 #[tactic(auto, unfolding(crate::specs::Hashed::hashed_public))]
 fn hashed_public(secret: &[u8]) -> [u8; 32]
