@@ -2,6 +2,7 @@
 ghost use Rattle.std.specs.Prelude.{IsTrue};
 
 use crate::fixtures::json;
+use second_scheme::hashed::Hashed;
 use std::alloc::{AllocError, Global};
 use std::process::Abort;
 use std::test::Fail;
@@ -147,4 +148,9 @@ fn check<K: Scheme>(
 #[test]
 fn worked_by_hmac(rt: HostRuntime) -> Result<(), Fail> {
     check(&rt, rt.alloc(), &HmacSha256, &[0x11; 32], by_hmac())
+}
+
+#[test]
+fn worked_by_hashes(rt: HostRuntime) -> Result<(), Fail> {
+    check(&rt, rt.alloc(), &Hashed, &[0x07; 8], by_hashes())
 }
