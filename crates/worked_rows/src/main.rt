@@ -1,0 +1,24 @@
+//! Worked rows: lists of lines, each with the answer that the rules give it. Each row is carried out as a script in one piece,
+//! as a script read one byte at a time, as one run over its commands, and by one call after another.
+#![tactic(auto)]
+
+mod commands;
+mod compared;
+mod marked;
+mod scripts;
+mod telling;
+mod trickle;
+mod ways;
+
+use crate::telling::told;
+use std::io;
+
+/// Tells of each row on standard input. What stands before the first row says what the rows are.
+fn main(rt: HostRuntime) -> io::Result<()> {
+    let text = io::read_to_string(rt.alloc(), rt.stdin())?;
+    for row in text.as_str().split("\nrow ").skip(1) {
+        let line = told(rt.alloc(), row)?;
+        println!(rt; "{line}")?;
+    }
+    Ok(())
+}

@@ -1,0 +1,117 @@
+//! Rows as runs and as calls. Behind the line of a reply stands the reply's text.
+ghost use Rattle.std.specs.Prelude.{IsTrue};
+ghost use Rattle.up_machine.specs.Commands.{opens_running};
+
+use crate::commands::commands_of;
+use crate::marked::push_line;
+use std::alloc::{AllocError, Global};
+use up_canon::ident::Ident;
+use up_canon::refusal::Refusal;
+use up_desk::desk::Desk;
+use up_machine::answer::Answer;
+use up_machine::command::Command;
+use up_script::asked::{What, asked_by};
+use up_script::printed::{answer_text, push_ecu, refused_text, vehicle_text};
+use up_sign::scheme::Scheme;
+
+/// The answers of one run over the lines, which are commands.
+pub(crate) fn by_run<K: Scheme>(
+    alloc: Global,
+    scheme: K,
+    lines: &str,
+) -> Result<String, AllocError> {
+    let commands = commands_of(alloc, &scheme, lines)?;
+    let mut desk = Desk::new(scheme, alloc);
+    let mut answers = Vec::new(alloc);
+    desk.run(alloc, commands.as_slice(), &mut answers)?;
+    all_answers(alloc, answers.as_slice())
+}
+
+fn all_answers(alloc: Global, answers: &[Answer]) -> Result<String, AllocError> {
+    let mut out = String::new(alloc);
+    for answer in answers {
+        push_answer(alloc, &mut out, answer)?;
+    }
+    Ok(out)
+}
+
+fn push_answer(alloc: Global, out: &mut String, answer: &Answer) -> Result<(), AllocError> {
+    push_line(out, answer_text(alloc, answer)?.as_str())?;
+    match answer {
+        Answer::Reply(reply) => push_line(out, reply.text.as_str()),
+        _ => Ok(()),
+    }
+}
+
+/// The answers of one call after another, a view by the calls that read.
+pub(crate) fn by_calls<K: Scheme>(
+    alloc: Global,
+    scheme: K,
+    lines: &str,
+) -> Result<String, AllocError> {
+    let mut desk = Desk::new(scheme, alloc);
+    let mut out = String::new(alloc);
+    for line in lines.lines() {
+        if !line.is_empty() {
+            push_called(alloc, &mut desk, &mut out, line)?;
+        }
+    }
+    Ok(out)
+}
+
+fn push_called<K: Scheme>(
+    alloc: Global,
+    desk: &mut Desk<K>,
+    out: &mut String,
+    line: &str,
+) -> Result<(), AllocError> {
+    match asked_by(alloc, desk.scheme(), line.as_bytes()) {
+        Ok(asked) => match &asked.what {
+            What::Call(command) => {
+                let answer = call_again(alloc, desk, asked.at.get(), command);
+                push_answer(alloc, out, &answer)
+            }
+            What::Show(vehicle) => push_view(alloc, desk, out, vehicle),
+        },
+        Err(refusal) => push_line(out, refused_text(alloc, &refusal)?.as_str()),
+    }
+}
+
+/// The desk's answer, and where memory was refused that of the same command called once more.
+fn call_again<K: Scheme>(alloc: Global, desk: &mut Desk<K>, at: u64, command: &Command) -> Answer
+    requires { IsTrue (opens_running command.now) }
+{
+    match desk.call(alloc, at, command) {
+        Answer::Refused(Refusal::Memory) => desk.call(alloc, at, command),
+        answer => answer,
+    }
+}
+
+fn push_view<K: Scheme>(
+    alloc: Global,
+    desk: &Desk<K>,
+    out: &mut String,
+    vehicle: &Ident,
+) -> Result<(), AllocError> {
+    let (Some(version), Some(ecus)) = (desk.version(vehicle), desk.ecus(alloc, vehicle)?) else {
+        return push_line(out, refused_text(alloc, &Refusal::UnknownVehicle)?.as_str());
+    };
+    let mut line = vehicle_text(alloc, vehicle, version)?;
+    push_ecus(alloc, desk, &mut line, vehicle, ecus.as_slice())?;
+    push_line(out, line.as_str())
+}
+
+fn push_ecus<K: Scheme>(
+    alloc: Global,
+    desk: &Desk<K>,
+    line: &mut String,
+    vehicle: &Ident,
+    ecus: &[Ident],
+) -> Result<(), AllocError> {
+    let plan = desk.assigned(alloc, vehicle)?;
+    for ecu in ecus {
+        let installed = desk.installed(alloc, ecu)?;
+        push_ecu(line, &plan, ecu, &installed)?;
+    }
+    Ok(())
+}
