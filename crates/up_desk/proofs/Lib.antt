@@ -12,3 +12,4 @@ pub mod Decided
 pub mod Fetching
 pub mod Runs
 pub mod Founding
+pub mod Outlasting

@@ -15,6 +15,8 @@ use Rattle.up_machine.specs.Repeats.{Sent, serve, after, thinned, expected}
 use Rattle.up_machine.specs.Sound.{IsSound}
 use Rattle.up_machine.specs.RepeatLaws.{AreCommands, RepeatsChangeNothing, ServedIsThinned}
 use Rattle.up_machine.specs.ApartLaws.{VehiclesStandApart}
+use Rattle.up_machine.specs.Laws.{KeptRepliesOutlastRuns}
+use Rattle.up_machine.specs.Replies.{kept_reply}
 use Rattle.up_desk.specs.Serving.{is_lost, IsAnswered, outright}
 use Rattle.up_desk.specs.Runs.{AreOutright, timed, sent, unless_lost, IsRun}
 
@@ -91,9 +93,9 @@ ran_served k old (c ∷ cs) (a ∷ answers) new ran =
     let whole = by_loss k old ran.0 new c a (sent cs answers) answers (is_lost a) ran.1 rest.told rest.state in
     record { count = ap suc rest.count; told = whole.told; state = whole.state; fits = (ran.2, rest.fits); due = (ran.3, rest.due) }
 
-pub ran_all : (k : Rules) (old : State) (cs : List (ℕ × Command)) (i : ℕ) (answers : List Answer) (new : State) → ServedIsThinned → RepeatsChangeNothing → VehiclesStandApart
+pub ran_all : (k : Rules) (old : State) (cs : List (ℕ × Command)) (i : ℕ) (answers : List Answer) (new : State) → ServedIsThinned → RepeatsChangeNothing → KeptRepliesOutlastRuns → VehiclesStandApart
     → IsSound k old → length cs ≤ i → Ran k old (take i cs) answers new → IsRun k old cs answers new
-ran_all k old cs i answers new thin same apart sound all ran =
+ran_all k old cs i answers new thin same outlast apart sound all ran =
     let whole = ran_served k old cs answers new (subst (λ (xs : List (ℕ × Command)). Ran k old xs answers new) (take_all i cs all) ran) in
     let state : new ≡ run k old (thinned k old (sent cs answers)) = whole.state ∙ thin k old (sent cs answers) in
     record {
@@ -102,6 +104,8 @@ ran_all k old cs i answers new thin same apart sound all ran =
       never_lost = whole.due;
       state = state;
       with_repeats = state ∙ same k old (sent cs answers) whole.fits sound;
+      stays = λ vehicle number reply kept.
+          subst (λ (s : State). kept_reply k s vehicle number ≡ Some reply) (sym state) (outlast k old (thinned k old (sent cs answers)) vehicle number reply sound kept);
       apart = λ name.
           let alone = apart k old name (sent cs answers) in
           (ap (λ (s : State). table.get s.vehicles name) whole.state ∙ alone.0, alone.1);

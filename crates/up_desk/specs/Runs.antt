@@ -9,7 +9,7 @@ use Rattle.up_machine.specs.declared.answer.Answer.TheVariants.{Refused}
 use Rattle.up_machine.specs.State.{State}
 use Rattle.up_machine.specs.Machine.{Timed, run}
 use Rattle.up_machine.specs.Repeats.{Sent, after, thinned, expected, not_lost, without_others, own_answers}
-use Rattle.up_desk.specs.Serving.{is_lost, outright}
+use Rattle.up_desk.specs.Serving.{is_lost, outright, RepliesStay}
 
 -- a command with its moment
 abbrev pub timed : ℕ × Command → Timed
@@ -32,13 +32,14 @@ AreOutright k (c ∷ cs) [] = ⊤
 AreOutright k (c ∷ cs) (a ∷ answers) = IfSome (outright k c.0 c.1) (λ r. a ≡ Refused r) × AreOutright k cs answers
 
 -- One answer for each command; each that isn't lost is the expected one; the state is the plain machine's after the list without what
--- was lost and without the repeats, which is also that after the list with them; and each vehicle, and the answers to its own
--- deliveries, are those of the list without other vehicles' deliveries.
+-- was lost and without the repeats, which is also that after the list with them; each reply that was kept is kept on; and each vehicle,
+-- and the answers to its own deliveries, are those of the list without other vehicles' deliveries.
 pub record IsRun (k : Rules) (old : State) (cs : List (ℕ × Command)) (answers : List Answer) (new : State) : Type 0 where
   pub count : length answers ≡ length cs
   pub told : map unless_lost answers ≡ expected k old (sent cs answers)
   pub never_lost : AreOutright k cs answers
   pub state : new ≡ run k old (thinned k old (sent cs answers))
   pub with_repeats : new ≡ run k old (not_lost (sent cs answers))
+  pub stays : RepliesStay k old new
   pub apart : (name : Name) → (table.get new.vehicles name ≡ table.get (after k old (without_others name (sent cs answers))).vehicles name)
       × (own_answers k old name (sent cs answers) ≡ own_answers k old name (without_others name (sent cs answers)))

@@ -2,6 +2,7 @@
 use Rattle.std.specs.Prelude.{◌≡◌, ℕ, Bool, false, nat_lt, if◌then◌else◌, codes, length, Option, Some, None, MatchBool, ⊤, Result, Ok, Err}
 use Rattle.std.specs.List.{list_all}
 use Rattle.up_canon.specs.Moments.{last_command_moment}
+use Rattle.up_canon.specs.Names.{Name}
 use Rattle.up_canon.specs.Refusals.{is_memory}
 use Rattle.up_canon.specs.Steps.{◌>>=◌}
 use Rattle.up_canon.specs.declared.refusal.Refusal.{Refusal}
@@ -12,11 +13,13 @@ use Rattle.up_machine.specs.declared.command.Command.{Command}
 use Rattle.up_machine.specs.declared.command.Command.TheVariants.{AddVehicle, Deliver}
 use Rattle.up_machine.specs.declared.answer.Answer.{Answer}
 use Rattle.up_machine.specs.declared.answer.Answer.TheVariants.{Refused}
+use Rattle.up_machine.specs.declared.answer.Reply.{Reply}
 use Rattle.up_machine.specs.Keys.{public_fits}
 use Rattle.up_machine.specs.State.{State}
 use Rattle.up_machine.specs.Deciding.{Outcome, check_moment}
 use Rattle.up_machine.specs.Decisions.{decide_incoming}
 use Rattle.up_machine.specs.Machine.{decide}
+use Rattle.up_machine.specs.Replies.{kept_reply}
 use Rattle.up_desk.specs.Rows.{Held, Shows}
 
 -- a scheme, and the state that is kept under it
@@ -32,6 +35,10 @@ is_lost _ = false
 -- the answer and the state are those of the outcome; where memory was refused the state is as before
 abbrev pub IsAnswered : Answer → State → State → Outcome → Type 0
 IsAnswered a old new o = MatchBool (is_lost a) (new ≡ old) ((a ≡ o.answer) × (new ≡ o.next))
+
+-- each reply that was kept is kept on, the same
+abbrev pub RepliesStay : Rules → State → State → Type 0
+RepliesStay k old new = (vehicle : Name) (number : ℕ) (reply : Reply) → kept_reply k old vehicle number ≡ Some reply → kept_reply k new vehicle number ≡ Some reply
 
 -- ---- refusals that are answered whether or not there is memory
 

@@ -8,7 +8,8 @@ ghost use Rattle.up_machine.specs.Repeats.{serve};
 ghost use Rattle.up_machine.specs.Reads.{ecus_of, version_of, installed as installed_in, assigned_to};
 ghost use Rattle.up_machine.specs.declared.answer.Answer.{Answer};
 ghost use Rattle.up_desk.specs.Runs.{IsRun};
-ghost use Rattle.up_desk.specs.Serving.{Holding, IsAnswered, outright as outright_of};
+ghost use Rattle.up_machine.specs.Sound.{IsSound};
+ghost use Rattle.up_desk.specs.Serving.{Holding, IsAnswered, RepliesStay, outright as outright_of};
 
 use crate::book::Book;
 use crate::obeying::{answer_of, keeps_limits, obey};
@@ -20,7 +21,9 @@ use up_canon::listed::Listed;
 use up_canon::table::Table;
 use up_machine::answer::Answer;
 use up_machine::command::Command;
-use up_machine::laws::{repeats_change_nothing, states_stay_sound, vehicles_stand_apart};
+use up_machine::laws::{
+    kept_replies_stay, repeats_change_nothing, states_stay_sound, vehicles_stand_apart,
+};
 use up_manifest::report::Installed;
 use up_plan::assigned::Plan;
 use up_sign::scheme::Scheme;
@@ -76,24 +79,34 @@ impl<K: Scheme> Desk<K> {
         &self.scheme
     }
 
+    /// The state is sound at any time: limits hold, keys fit, an ECU stands in one vehicle, what campaigns and plans name
+    /// exists, and each kept manifest is one of its vehicle, with counters that rise.
+    pub fn state_is_sound(&self)
+        ensures { IsSound (K.rules self.now.scheme) self.now.state }
+    {
+        let _ = &self.book;
+    }
+
     /// Answers a command at a moment: as the plain machine does, but a repeat of an accepted manifest is answered the reply
-    /// that was kept for it. Where memory is refused nothing changes; a moment past
+    /// that was kept for it, and each kept reply stays. Where memory is refused nothing changes; a moment past
     /// 2100-01-01T00:00:00Z, a body of more than 262,144 bytes and a key of a new vehicle that
     /// doesn't fit are refused as that whether or not there is memory.
     pub fn call(&mut self, alloc: Global, at: u64, command: &Command) -> Answer
         requires { IsTrue (opens_running command.now) }
         ensures served { IsAnswered result self.old.state self.new.state (serve (K.rules self.old.scheme) self.old.state at command.now) }
         ensures outright { IfSome (outright_of (K.rules self.old.scheme) at command.now) (λ r. result ≡ Refused r) }
+        ensures stays { RepliesStay (K.rules self.old.scheme) self.old.state self.new.state }
         ensures scheme { self.new.scheme ≡ self.old.scheme }
     {
         keeps_limits(command);
         repeats_change_nothing();
+        kept_replies_stay();
         answer_of(obey(&mut self.book, alloc, &self.scheme, at, command))
     }
 
     /// Answers commands one after another, each with its moment, and appends one answer for each: where some commands are
     /// repeated or lost (answered `Refused(Memory)`), the state is the plain machine's after the list without them, and each
-    /// other answer is the expected one. An error means that nothing was done.
+    /// other answer is the expected one; each kept reply stays. An error means that nothing was done.
     pub fn run(
         &mut self,
         alloc: Global,
@@ -108,6 +121,7 @@ impl<K: Scheme> Desk<K> {
     {
         let _ = &self.book;
         repeats_change_nothing();
+        kept_replies_stay();
         vehicles_stand_apart();
         answers.reserve(commands.len())?;
         for item in commands {

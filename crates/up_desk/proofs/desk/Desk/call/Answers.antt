@@ -3,7 +3,8 @@ use Rattle.std.specs.Prelude.{IfSome}
 use Rattle.up_machine.specs.declared.answer.Answer.TheVariants.{Refused}
 use Rattle.up_machine.specs.Repeats.{serve}
 use Rattle.up_desk.specs.Rows.{held, state_of}
-use Rattle.up_desk.specs.Serving.{IsAnswered, outright}
+use Rattle.up_desk.specs.Serving.{IsAnswered, RepliesStay, outright}
+use Rattle.up_desk.proofs.Outlasting.{answered_stays}
 use Rattle.up_desk.proofs.Serving.{answered, told_outright}
 use Rattle.up_desk.proofs.desk.Desk.call.Goals as goal
 
@@ -21,5 +22,7 @@ returns g c =
       served = subst (λ d. IsAnswered c.answer_of.result d.state (state_of (held c.obey.new.book)) (serve (g.K.Scheme.rules d.scheme) d.state c.args.at c.args.command.now)) c.self.view_is told;
       outright = subst (λ d. IfSome (outright (g.K.Scheme.rules d.scheme) c.args.at c.args.command.now) (λ r. c.answer_of.result ≡ Refused r)) c.self.view_is
           (told_outright _ c.obey.result _ c.answer_of.ensures c.obey.ensures.outright);
+      stays = subst (λ d. RepliesStay (g.K.Scheme.rules d.scheme) d.state (state_of (held c.obey.new.book))) c.self.view_is
+          (answered_stays _ _ _ c.args.at c.args.command.now _ c.repeats_change_nothing.ensures.served c.kept_replies_stay.ensures.run c.self.invariant.sound is.answered);
       scheme = ap (λ d. d.scheme) c.self.view_is;
     }

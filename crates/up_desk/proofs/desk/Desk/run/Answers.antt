@@ -24,6 +24,6 @@ returns-clause-ran g c =
     let kept = c.loop-item.invariant in (
       kept.ran.0,
       kept.ran.1,
-      ran_all _ _ c.args.commands.now c.loop-item.item-index _ _ c.repeats_change_nothing.ensures.served c.repeats_change_nothing.ensures.thinned
+      ran_all _ _ c.args.commands.now c.loop-item.item-index _ _ c.repeats_change_nothing.ensures.served c.repeats_change_nothing.ensures.thinned c.kept_replies_stay.ensures.run
           c.vehicles_stand_apart.ensures.apart (subst (λ d. IsSound (g.K.Scheme.rules d.scheme) d.state) c.self.view_is c.self.invariant.sound) c.loop-item-test.false kept.ran.2,
     )
