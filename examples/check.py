@@ -75,8 +75,9 @@ def first_reply(program, given, reply):
     """Whether the desk answers the Primary's manifest by this text."""
     found, vehicle = (HERE / "first_path" / "script").read_text(encoding="ascii").split("\n")[:2]
     manifest = primary("line", "1767225600", given=given)[1].strip()
-    told = ["> " + found, "< done", "> " + vehicle, "< done", "> " + manifest, "< reply V1 version 1 targets 0", "= " + reply.strip()]
-    ran = subprocess.run([program], input="\n".join(["row reply"] + told).encode(), capture_output=True, check=False)
+    told = ["", "row reply", "@ hmac-sha256", "> " + found, "< done", "> " + vehicle, "< done"]
+    told += ["> " + manifest, "< reply V1 version 1 targets 0", "= " + reply.strip(), ""]
+    ran = subprocess.run([program], input="\n".join(told).encode(), capture_output=True, check=False)
     return ran.returncode == 0 and ran.stdout == b"reply: script 3, by bytes 3, run 4, calls 4\n"
 
 
