@@ -71,6 +71,16 @@ def statuses(program):
         yield "the digest of abc", answers(program, ["digest", str(path)], b"", 0, wanted, b"")
 
 
+def limits(program):
+    """1,024 images and 64 root versions, and one more of each."""
+    row = (HERE.parent / "rows" / "kept_reply_after_a_rotation" / "script").read_text(encoding="ascii").split("\n")
+    rotate = next(line for line in row if '"do":"rotate"' in line)
+    image = '{"at":1767225600,"do":"add_image","file":"%d.bin","hardware":["HS"],"length":0,"release":1,"sha256":"%s"}'
+    script = row[:1] + [image % (number, 64 * "0") for number in range(1025)] + 64 * [rotate]
+    wanted = 1025 * ["done"] + ["refused 20 RegisterFull"] + 63 * ["done"] + ["refused 30 RootFull", ""]
+    yield "images and root versions at their limits", printed(program, "\n".join(script).encode()) == "\n".join(wanted)
+
+
 def first_reply(program, given, reply):
     """Whether the desk answers the Primary's manifest by this text."""
     found, vehicle = (HERE / "first_path" / "script").read_text(encoding="ascii").split("\n")[:2]
@@ -106,7 +116,7 @@ def pages():
 
 
 def main(program, rows):
-    tried = [*scripts(program), *all_rows(), *statuses(program), *primaries(program, rows), *pages()]
+    tried = [*scripts(program), *all_rows(), *statuses(program), *limits(program), *primaries(program, rows), *pages()]
     for name, well in tried:
         print("example: %s: %s" % (name, "as it must be" if well else "DIFFERS"))
     failed = sum(not well for _, well in tried)
