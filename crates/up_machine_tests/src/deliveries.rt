@@ -342,24 +342,22 @@ fn refusals_of_reports(rt: HostRuntime) -> Result<(), Fail> {
     Ok(())
 }
 
+/// What the first manifest is answered over this register.
+fn first_answer(alloc: Global, register: &Register) -> Result<String, Fail> {
+    let rows = vehicle(alloc, &HmacSha256)?;
+    let body = body(alloc, &HmacSha256, "1")?;
+    let body = body.as_str();
+    let answer = deliver(alloc, &HmacSha256, START, body, register, &rows, None);
+    match &answer {
+        Ok(_) => Ok(String::new(alloc)),
+        Err(refusal) => Ok(refusal.text(alloc)?),
+    }
+}
+
 #[test]
 fn manifests_before_founding(rt: HostRuntime) -> Result<(), Fail> {
     let alloc = rt.alloc();
     let register = register(alloc, None)?;
-    let rows = vehicle(alloc, &HmacSha256)?;
-    let body = body(alloc, &HmacSha256, "1")?;
-    let answer = deliver(
-        alloc,
-        &HmacSha256,
-        START,
-        body.as_str(),
-        &register,
-        &rows,
-        None,
-    );
-    let Err(refusal) = &answer else {
-        return Err("founded")?;
-    };
-    assert_eq!(rt; refusal.name(), "NotFounded");
+    assert_eq!(rt; first_answer(alloc, &register)?.as_str(), "NotFounded");
     Ok(())
 }

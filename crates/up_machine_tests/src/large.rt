@@ -1,8 +1,8 @@
 //! A vehicle of 32 ECUs is added and delivers a manifest, under two schemes.
 use crate::bodies::{manifest, report};
 use crate::decisions::{add_vehicle, deliver};
-use crate::deliveries::{accepted, ecu, has_factory, register};
-use crate::fixtures::{START, digest_of, founding, ident};
+use crate::deliveries::{accepted, ecu, has_factory, register, reply_digest};
+use crate::fixtures::{START, founding, ident};
 use crate::vehicles::added;
 use second_scheme::hashed::Hashed;
 use std::alloc::Global;
@@ -45,6 +45,30 @@ fn delivered<K: Scheme>(alloc: Global, scheme: &K, new: &NewVehicle) -> Result<A
     accepted(deliver(alloc, scheme, START, body.as_str(), &register, &rows, None)?)
 }
 
+/// Whether each ECU has the factory's image, and each but the Primary gets the campaign's.
+fn is_delivered(one: &AcceptedRows) -> bool {
+    let rows = one.vehicle.ecus.as_slice();
+    let plan = one.kept.plan.assigned.as_slice();
+    rows.len() == 32
+        && plan.len() == 31
+        && rows.iter().all(|row| has_factory(row))
+        && plan.iter().all(|assigned| assigned.file.text() == "a7.bin")
+}
+
+/// Whether the vehicle is there already, once it is added.
+fn is_there<K: Scheme>(
+    alloc: Global,
+    scheme: &K,
+    new: &NewVehicle,
+    one: &AcceptedRows,
+) -> Result<bool, Fail> {
+    let founding = founding(alloc, 1, 2)?;
+    let there = Some(&one.vehicle);
+    let marks = [true; 32];
+    let again = add_vehicle(alloc, scheme, new, &founding, there, &marks[..])?;
+    Ok(matches!(&again, Decision::Already))
+}
+
 fn check_vehicle<K: Scheme>(
     rt: &impl Abort,
     alloc: Global,
@@ -53,20 +77,9 @@ fn check_vehicle<K: Scheme>(
 ) -> Result<(), Fail> {
     let new = vehicle(alloc, scheme)?;
     let one = delivered(alloc, scheme, &new)?;
-    let rows = one.vehicle.ecus.as_slice();
-    assert_eq!(rt; rows.len(), 32);
-    assert!(rt; rows.iter().all(|row| has_factory(row)));
-    let plan = one.kept.plan.assigned.as_slice();
-    assert_eq!(rt; plan.len(), 31);
-    assert!(rt; plan.iter().all(|assigned| assigned.file.text() == "a7.bin"));
-    assert_eq!(rt; digest_of(alloc, &[&one.kept.reply])?.as_str(), reply);
-    let founding = founding(alloc, 1, 2)?;
-    let there = Some(&one.vehicle);
-    let marks = [true; 32];
-    let again = add_vehicle(alloc, scheme, &new, &founding, there, &marks[..])?;
-    let Decision::Already = &again else {
-        return Err("added twice")?;
-    };
+    assert!(rt; is_delivered(&one));
+    assert_eq!(rt; reply_digest(alloc, &one)?.as_str(), reply);
+    assert!(rt; is_there(alloc, scheme, &new, &one)?);
     Ok(())
 }
 

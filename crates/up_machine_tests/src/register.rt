@@ -35,6 +35,23 @@ fn new<K: Scheme>(
     }
 }
 
+/// The version after one image more.
+fn next_version<K: Scheme>(
+    rt: &impl Abort,
+    alloc: Global,
+    scheme: &K,
+    added: &Image,
+    images: &Table<Image>,
+    version: u64,
+    wanted: &str,
+) -> Result<u64, Fail> {
+    let old = founding(alloc, 1, version)?;
+    let rows = new(alloc, scheme, added, &old, images)?;
+    assert_eq!(rt; digest(alloc, &rows)?.as_str(), wanted);
+    let founding = &rows.founding;
+    Ok(founding.image_version)
+}
+
 /// Four images in another order than that of their filenames.
 fn check_images<K: Scheme>(
     rt: &impl Abort,
@@ -51,11 +68,8 @@ fn check_images<K: Scheme>(
         ("m.bin", "", "HP", 3, wanted[3]),
     ] {
         let added = image(alloc, name, content, hardware, release)?;
-        let old = founding(alloc, 1, version)?;
-        let rows = new(alloc, scheme, &added, &old, &images)?;
+        version = next_version(rt, alloc, scheme, &added, &images, version, wanted)?;
         put(&mut images, alloc, added)?;
-        version = rows.founding.image_version;
-        assert_eq!(rt; digest(alloc, &rows)?.as_str(), wanted, "{name}");
     }
     assert_eq!(rt; version, 5);
     Ok(())
@@ -157,27 +171,42 @@ fn answer(
     }
 }
 
-#[test]
-fn register_of_1024_images(rt: HostRuntime) -> Result<(), Fail> {
-    let alloc = rt.alloc();
+/// The answer at this version of the image repository.
+fn answer_at(
+    alloc: Global,
+    image: &Image,
+    version: u64,
+    images: &Table<Image>,
+) -> Result<&'static str, Fail> {
+    let founding = founding(alloc, 1, version)?;
+    Ok(answer(alloc, image, &founding, images))
+}
+
+fn images_but_one(alloc: Global) -> Result<Table<Image>, Fail> {
     let mut images = Table::new(alloc);
     for number in 0..1023 {
         let name = format!(in alloc; "{number}.bin")?;
-        put(
-            &mut images,
-            alloc,
-            image(alloc, name.as_str(), "", "HS", 1)?,
-        )?;
+        let image = image(alloc, name.as_str(), "", "HS", 1)?;
+        put(&mut images, alloc, image)?;
     }
-    let new = image(alloc, "1023.bin", "", "HS", 1)?;
-    let one_more = image(alloc, "1024.bin", "", "HS", 1)?;
-    let below = founding(alloc, 1, MOST - 1)?;
-    let limit = founding(alloc, 1, MOST)?;
-    assert_eq!(rt; answer(alloc, &new, &below, &images), "new");
-    assert_eq!(rt; answer(alloc, &new, &limit, &images), "VersionLimit");
-    put(&mut images, alloc, new.copy(alloc)?)?;
-    assert_eq!(rt; answer(alloc, &one_more, &below, &images), "RegisterFull");
-    assert_eq!(rt; answer(alloc, &one_more, &limit, &images), "RegisterFull");
-    assert_eq!(rt; answer(alloc, &new, &limit, &images), "already");
+    Ok(images)
+}
+
+fn check_full(rt: &impl Abort, alloc: Global, images: &Table<Image>) -> Result<(), Fail> {
+    let more = image(alloc, "1024.bin", "", "HS", 1)?;
+    assert_eq!(rt; answer_at(alloc, &more, MOST - 1, images)?, "RegisterFull");
+    assert_eq!(rt; answer_at(alloc, &more, MOST, images)?, "RegisterFull");
     Ok(())
+}
+
+#[test]
+fn register_of_1024_images(rt: HostRuntime) -> Result<(), Fail> {
+    let alloc = rt.alloc();
+    let mut images = images_but_one(alloc)?;
+    let new = image(alloc, "1023.bin", "", "HS", 1)?;
+    assert_eq!(rt; answer_at(alloc, &new, MOST - 1, &images)?, "new");
+    assert_eq!(rt; answer_at(alloc, &new, MOST, &images)?, "VersionLimit");
+    put(&mut images, alloc, new.copy(alloc)?)?;
+    assert_eq!(rt; answer_at(alloc, &new, MOST, &images)?, "already");
+    check_full(&rt, alloc, &images)
 }

@@ -9,6 +9,7 @@ use up_canon::listed::Duplicate;
 use up_canon::refusal::Refusal;
 use up_machine::decision::{RoleTexts, RootRows};
 use up_machine::keys::KeySet;
+use up_machine::rows::Founding;
 use up_sign::hmac_sha256::HmacSha256;
 use up_sign::scheme::Scheme;
 
@@ -31,23 +32,60 @@ fn is_at(rows: &RootRows, root: u64, image_version: u64, stamp: u64) -> bool {
         && rows.founding.stamp.get() == stamp
 }
 
+fn check_root(
+    rt: &impl Abort,
+    alloc: Global,
+    rows: &RootRows,
+    number: u64,
+    at: u64,
+    wanted: &str,
+) -> Result<(), Fail> {
+    assert!(rt; is_at(rows, number, number, at));
+    assert_eq!(rt; digest(alloc, rows)?.as_str(), wanted);
+    Ok(())
+}
+
+/// The rows of a rotation of these to the keys.
+fn rotated<K: Scheme>(
+    alloc: Global,
+    scheme: &K,
+    at: u64,
+    rows: &RootRows,
+    keys: &KeySet,
+) -> Result<RootRows, Fail> {
+    let founding = &rows.founding;
+    let old = Some(founding.copy(alloc)?);
+    Ok(rotate(alloc, scheme, at, keys, &old)?)
+}
+
+fn check_rotation<K: Scheme>(
+    rt: &impl Abort,
+    alloc: Global,
+    scheme: &K,
+    rows: &RootRows,
+    wanted: &str,
+) -> Result<(), Fail> {
+    let keys = key_set(alloc, 0x51)?;
+    let second = rotated(alloc, scheme, START + 86400, rows, &keys)?;
+    check_root(rt, alloc, &second, 2, START + 86400, wanted)
+}
+
+fn new_rows<K: Scheme>(alloc: Global, scheme: &K, keys: &KeySet) -> Result<RootRows, Fail> {
+    Ok(found(alloc, scheme, START, keys, &None)?)
+}
+
 /// A founding, and a rotation a day later to new keys.
 fn check_roots<K: Scheme>(
     rt: &impl Abort,
     alloc: Global,
     scheme: &K,
-    founded: &str,
-    rotated: &str,
+    wanted: &str,
+    next: &str,
 ) -> Result<(), Fail> {
-    let first = found(alloc, scheme, START, &key_set(alloc, 1)?, &None)?;
-    assert!(rt; is_at(&first, 1, 1, START));
-    assert_eq!(rt; digest(alloc, &first)?.as_str(), founded);
-    let old = Some(first.founding.copy(alloc)?);
-    let keys = key_set(alloc, 0x51)?;
-    let second = rotate(alloc, scheme, START + 86400, &keys, &old)?;
-    assert!(rt; is_at(&second, 2, 2, START + 86400));
-    assert_eq!(rt; digest(alloc, &second)?.as_str(), rotated);
-    Ok(())
+    let keys = key_set(alloc, 1)?;
+    let first = new_rows(alloc, scheme, &keys)?;
+    check_root(rt, alloc, &first, 1, START, wanted)?;
+    check_rotation(rt, alloc, scheme, &first, next)
 }
 
 #[test]
@@ -69,15 +107,24 @@ fn foundings_and_rotations(rt: HostRuntime) -> Result<(), Fail> {
     )
 }
 
+/// Keys of which the Director's root role has these.
+fn keys_with_root(alloc: Global, first: u8, bytes: &[u8], threshold: u32) -> Result<KeySet, Fail> {
+    let role = role_of(alloc, bytes, threshold)?;
+    let mut keys = key_set(alloc, first)?;
+    keys.director.root = role;
+    Ok(keys)
+}
+
 /// The Director's Root after one with two root keys, one of which is among its own two.
 fn overlapping<K: Scheme>(alloc: Global, scheme: &K) -> Result<String, Fail> {
-    let mut keys = key_set(alloc, 1)?;
-    keys.director.root = role_of(alloc, &[1, 9], 2)?;
-    let old = found(alloc, scheme, START, &keys, &None)?;
-    let mut keys = key_set(alloc, 0x51)?;
-    keys.director.root = role_of(alloc, &[0x51, 1], 1)?;
-    let old = Some(old.founding.copy(alloc)?);
-    let rows = rotate(alloc, scheme, START, &keys, &old)?;
+    let keys = keys_with_root(alloc, 1, &[1, 9], 2)?;
+    let first = new_rows(alloc, scheme, &keys)?;
+    overlapped(alloc, scheme, &first)
+}
+
+fn overlapped<K: Scheme>(alloc: Global, scheme: &K, first: &RootRows) -> Result<String, Fail> {
+    let keys = keys_with_root(alloc, 0x51, &[0x51, 1], 1)?;
+    let rows = rotated(alloc, scheme, START, first, &keys)?;
     Ok(digest_of(alloc, &[&rows.director])?)
 }
 
@@ -130,13 +177,21 @@ fn keys_of_a_role(rt: HostRuntime) -> Result<(), Fail> {
     Ok(())
 }
 
-fn second_founding(alloc: Global) -> Result<String, Fail> {
-    let keys = key_set(alloc, 1)?;
-    let old = founding(alloc, 1, 1)?;
-    match found(alloc, &HmacSha256, START, &keys, &old) {
+fn founding_over(
+    alloc: Global,
+    keys: &KeySet,
+    old: &Option<Founding>,
+) -> Result<String, AllocError> {
+    match found(alloc, &HmacSha256, START, keys, old) {
         Ok(_) => Ok(String::new(alloc)),
-        Err(refusal) => Ok(refusal.text(alloc)?),
+        Err(refusal) => refusal.text(alloc),
     }
+}
+
+fn second_founding(alloc: Global) -> Result<String, Fail> {
+    let old = founding(alloc, 1, 1)?;
+    let keys = key_set(alloc, 1)?;
+    Ok(founding_over(alloc, &keys, &old)?)
 }
 
 fn rotation_before_founding(alloc: Global) -> Result<String, Fail> {
