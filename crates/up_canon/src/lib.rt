@@ -19,14 +19,10 @@ pub mod moment;
 mod moment_form;
 pub mod name_readings;
 pub mod note;
-#[cfg(test)]
-mod reader_tests;
 pub mod readers;
 pub mod refusal;
 pub mod refusal_text;
 pub mod table;
-#[cfg(test)]
-mod tests;
 pub mod text;
 pub mod writing;
 

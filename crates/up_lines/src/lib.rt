@@ -9,8 +9,6 @@ pub mod limits;
 mod progress;
 mod reading;
 mod taking;
-#[cfg(test)]
-mod tests;
 mod written;
 
 ghost use Rattle.up_lines.specs.Lines.{WholeLinesFirst};

@@ -9,7 +9,5 @@ mod names;
 mod offers;
 pub mod plan;
 mod resulting;
-#[cfg(test)]
-mod tests;
 mod unmet;
 mod wanted;

@@ -6,8 +6,6 @@ pub mod hmac_sha256;
 pub mod key_id;
 pub mod laws;
 pub mod reading;
-#[cfg(test)]
-mod reading_tests;
 pub mod scheme;
 pub mod seal;
 pub mod threshold;

@@ -2,10 +2,11 @@
 ghost use Rattle.std.specs.Prelude.{IsTrue, IfOk, length, ◌≡◌};
 ghost use Rattle.up_sign.specs.Formats.{envelope_fits};
 
-use crate::hashed::Hashed;
+use second_scheme::hashed::Hashed;
 use serde_json::Value;
 use sha2::{Digest, Sha256};
 use std::alloc::{AllocError, Global};
+use std::process::Abort;
 use std::test::Fail;
 use up_canon::bytes::Bytes;
 use up_canon::listed::{Duplicate, Listed};
@@ -132,8 +133,13 @@ fn written_by<K: Scheme>(
     if envelope.text(alloc)?.as_str() != by_hand {
         return Ok(false);
     }
-    let read = read_envelope(alloc, &Value::from_str(alloc, by_hand)?)?;
-    Ok(are_equal(&read, &envelope) && are_equal(&read.copy(alloc)?, &envelope))
+    is_read_as(alloc, by_hand, &envelope)
+}
+
+// Whether the JSON is read as the envelope, and copied as it too.
+fn is_read_as(alloc: Global, json: &str, envelope: &Envelope) -> Result<bool, Fail> {
+    let read = read_envelope(alloc, &Value::from_str(alloc, json)?)?;
+    Ok(are_equal(&read, envelope) && are_equal(&read.copy(alloc)?, envelope))
 }
 
 fn are_equal(a: &Envelope, b: &Envelope) -> bool {
@@ -168,15 +174,30 @@ fn accepted_by<K: Scheme>(
 {
     let alloc = rt.alloc();
     let once = sealed_by(alloc, scheme, secret)?;
-    let envelope = if twice { doubled(alloc, once)? } else { once };
-    let own = Bytes::new(scheme.public(alloc, secret)?);
+    let public = Bytes::new(scheme.public(alloc, secret)?);
+    if twice {
+        let twofold = doubled(alloc, once)?;
+        accepted_under(alloc, scheme, public, threshold, &twofold)
+    } else {
+        accepted_under(alloc, scheme, public, threshold, &once)
+    }
+}
+
+// Whether the envelope is accepted under this public part and a stranger's.
+fn accepted_under<K: Scheme>(
+    alloc: Global,
+    scheme: &K,
+    own: Bytes,
+    threshold: u32,
+    envelope: &Envelope,
+) -> Result<bool, Fail> {
     let other = Bytes::new([0x66; 32].to_vec(alloc)?);
     if key_id_text(alloc, other.as_slice())?.as_str()
         == key_id_text(alloc, own.as_slice())?.as_str()
     {
         return Ok(false);
     }
-    Ok(accepts(scheme, &[own, other][..], threshold, &envelope))
+    Ok(accepts(scheme, &[own, other][..], threshold, envelope))
 }
 
 fn doubled(alloc: Global, envelope: Envelope) -> Result<Envelope, AllocError> {
@@ -217,24 +238,36 @@ fn thresholds(rt: HostRuntime) -> Result<(), Fail> {
     Ok(())
 }
 
-#[test]
-fn calls_of_a_scheme(rt: HostRuntime) -> Result<(), Fail> {
-    let alloc = rt.alloc();
-    let key = [0x11; 32];
+fn assert_fits(rt: &impl Abort, key: &[u8; 32]) {
     assert!(rt; HmacSha256.secret_fits(&key[..]) && HmacSha256.public_fits(&key[..]));
     assert!(rt; !HmacSha256.secret_fits(&key[..31]) && !HmacSha256.public_fits(&key[..31]));
     assert_eq!(rt; HmacSha256.method(), "hmac-sha256");
+}
+
+fn assert_shown(rt: &impl Abort, alloc: Global, key: &[u8; 32]) -> Result<(), Fail> {
     assert_eq!(rt; HmacSha256.shown(alloc, &key[..])?.as_str(), "");
     assert_eq!(rt; HmacSha256.public(alloc, &key[..])?.as_slice(), &key[..]);
-    let tag = HmacSha256.sign(alloc, &key[..], SIGNED.as_bytes())?;
+    assert_eq!(rt; Hashed.shown(alloc, &key[..])?.as_str(), "hash");
+    Ok(())
+}
+
+fn assert_verified(rt: &impl Abort, key: &[u8; 32], tag: &[u8]) {
+    assert!(rt; HmacSha256.verify(&key[..], SIGNED.as_bytes(), tag));
+    if let Some((_, most)) = tag.split_last() {
+        assert!(rt; !HmacSha256.verify(&key[..], SIGNED.as_bytes(), most));
+    }
+}
+
+#[test]
+fn calls_of_a_scheme(rt: HostRuntime) -> Result<(), Fail> {
+    let key = [0x11; 32];
+    assert_fits(&rt, &key);
+    assert_shown(&rt, rt.alloc(), &key)?;
+    let tag = HmacSha256.sign(rt.alloc(), &key[..], SIGNED.as_bytes())?;
     assert_eq!(rt;
         hex_of(&rt, tag.as_slice())?.as_str(),
         "1a5ca02a9c2a564896153cb84ae636a6349e5b78b1087185e3cb78d78284ca66"
     );
-    assert!(rt; HmacSha256.verify(&key[..], SIGNED.as_bytes(), tag.as_slice()));
-    assert_eq!(rt; Hashed.shown(alloc, &key[..])?.as_str(), "hash");
-    if let Some((_, most)) = tag.as_slice().split_last() {
-        assert!(rt; !HmacSha256.verify(&key[..], SIGNED.as_bytes(), most));
-    }
+    assert_verified(&rt, &key, tag.as_slice());
     Ok(())
 }

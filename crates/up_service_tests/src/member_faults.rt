@@ -136,10 +136,10 @@ const BENCHES: [(&str, &str); 16] = [
 
 #[test]
 fn images_and_campaigns(rt: HostRuntime) -> Result<(), Fail> {
-    are_refused(&rt, &IMAGES)
+    are_refused(&rt, rt.alloc(), &IMAGES)
 }
 
 #[test]
 fn reports_and_manifests(rt: HostRuntime) -> Result<(), Fail> {
-    are_refused(&rt, &BENCHES)
+    are_refused(&rt, rt.alloc(), &BENCHES)
 }

@@ -1,12 +1,12 @@
 //! Lines, readers and writers that fail, and limits.
-use crate::answer::Answer;
-use crate::fault::{Cause, Fault};
-use crate::limits::MOST_LINE_BYTES;
-use crate::run;
 use std::alloc::{AllocError, Global};
 use std::io;
 use std::io::{Read, Write};
 use std::test::Fail;
+use up_lines::answer::Answer;
+use up_lines::fault::{Cause, Fault};
+use up_lines::limits::MOST_LINE_BYTES;
+use up_lines::run;
 
 /// Answers each line by itself in brackets, and counts the lines.
 struct Bracket;

@@ -5,88 +5,95 @@ ghost use Rattle.up_canon.specs.Readers.{word_in, ident_in};
 ghost use Rattle.up_canon.specs.Refusals.{Gives};
 ghost use Rattle.up_canon.specs.Steps.{and_then};
 
-use crate::canonical::canonical;
-use crate::count::Count;
-use crate::ident::Ident;
-use crate::limits::word_at;
-use crate::listed::Duplicate;
-use crate::readers::ident_at;
-use crate::refusal::{Field, Refusal};
-use crate::table::Table;
-use crate::text::Text;
+use crate::fixtures::ident;
 use serde_json::{Map, Value};
-use std::alloc::Global;
+use std::alloc::{AllocError, Global};
 use std::process::Abort;
 use std::test::Fail;
+use up_canon::canonical::canonical;
+use up_canon::count::Count;
+use up_canon::ident::Ident;
+use up_canon::limits::word_at;
+use up_canon::listed::Duplicate;
+use up_canon::readers::ident_at;
+use up_canon::refusal::{Field, Refusal};
+use up_canon::table::Table;
+use up_canon::text::Text;
 
 // As a crate above reads a payload: the same steps in the definition and in the code.
-#[tactic(auto, unfolding(crate::specs::Steps::and_then))]
+#[tactic(auto, unfolding(up_canon::specs::Steps::and_then))]
 fn vehicle_in(alloc: Global, payload: &Map<String, Value>) -> Result<Ident, Refusal>
     ensures { let d = object_of_map payload.now.entries in
         Gives result (and_then (word_in (codes "manifest") (codes "type") d) (λ _. ident_in (codes "vehicle") d)) }
 {
     word_at(payload, "type", "manifest")?;
-    let vehicle = ident_at(alloc, payload, "vehicle")?;
-    Ok(vehicle)
+    ident_at(alloc, payload, "vehicle")
+}
+
+fn assert_vehicle(rt: &impl Abort, alloc: Global, value: &Value) -> Result<(), Fail> {
+    let payload = value.as_object().ok_or("no object")?;
+    assert_eq!(rt; vehicle_in(alloc, payload)?.text(), "V1");
+    Ok(())
 }
 
 #[test]
 fn reads_a_vehicle(rt: HostRuntime) -> Result<(), Fail> {
     let value = Value::from_str(rt.alloc(), "{\"type\":\"manifest\",\"vehicle\":\"V1\"}")?;
-    let payload = value.as_object().ok_or("no object")?;
-    let vehicle = vehicle_in(rt.alloc(), payload)?;
-    assert_eq!(rt; vehicle.text(), "V1");
-    Ok(())
+    assert_vehicle(&rt, rt.alloc(), &value)
 }
+
+/// The canonical text of the JSON, or `none`.
+fn canonical_of(alloc: Global, json: &str) -> Result<String, Fail> {
+    let value = Value::from_str(alloc, json)?;
+    match canonical(alloc, &value) {
+        Ok(text) => Ok(text),
+        Err(Refusal::NotCanonical) => Ok("none".to_string(alloc)?),
+        Err(refusal) => Err(refusal.into()),
+    }
+}
+
+const CANONICAL: [(&str, &str); 14] = [
+    (
+        "{\"b\":[1,true,null],\"a\":\"x\\\"y\"}",
+        "{\"a\":\"x\\\"y\",\"b\":[1,true,null]}",
+    ),
+    ("9007199254740991", "9007199254740991"),
+    ("9007199254740992", "none"),
+    ("1.0", "none"),
+    ("-1", "none"),
+    ("\"\u{e9}\"", "none"),
+    (
+        "[[[[[[[[[[[[[[[[]]]]]]]]]]]]]]]]",
+        "[[[[[[[[[[[[[[[[]]]]]]]]]]]]]]]]",
+    ),
+    ("[[[[[[[[[[[[[[[[[]]]]]]]]]]]]]]]]]", "none"),
+    ("{\"a\":1,\"a\":2}", "{\"a\":2}"),
+    ("\"\\u007f\"", "none"),
+    ("\"~ \\\\\"", "\"~ \\\\\""),
+    ("[\"\\n\"]", "none"),
+    ("{\"\u{e9}\":0}", "none"),
+    (" [ 0 , false ] ", "[0,false]"),
+];
 
 #[test]
 fn canonical_texts(rt: HostRuntime) -> Result<(), Fail> {
-    let rows = [
-        (
-            "{\"b\":[1,true,null],\"a\":\"x\\\"y\"}",
-            Some("{\"a\":\"x\\\"y\",\"b\":[1,true,null]}"),
-        ),
-        ("9007199254740991", Some("9007199254740991")),
-        ("9007199254740992", None),
-        ("1.0", None),
-        ("-1", None),
-        ("\"\u{e9}\"", None),
-        (
-            "[[[[[[[[[[[[[[[[]]]]]]]]]]]]]]]]",
-            Some("[[[[[[[[[[[[[[[[]]]]]]]]]]]]]]]]"),
-        ),
-        ("[[[[[[[[[[[[[[[[[]]]]]]]]]]]]]]]]]", None),
-        ("{\"a\":1,\"a\":2}", Some("{\"a\":2}")),
-        ("\"\\u007f\"", None),
-        ("\"~ \\\\\"", Some("\"~ \\\\\"")),
-        ("[\"\\n\"]", None),
-        ("{\"\u{e9}\":0}", None),
-        (" [ 0 , false ] ", Some("[0,false]")),
-    ];
-    for (json, wanted) in rows {
-        let value = Value::from_str(rt.alloc(), json)?;
-        let text = match canonical(rt.alloc(), &value) {
-            Err(Refusal::NotCanonical) => None,
-            other => Some(other?),
-        };
-        assert_eq!(rt; text.as_ref().map(|t| t.as_str()), wanted, "of {json}");
+    for (json, wanted) in CANONICAL.iter() {
+        let text = canonical_of(rt.alloc(), json)?;
+        assert_eq!(rt; text.as_str(), *wanted, "of {json}");
     }
     Ok(())
 }
 
-fn assert_printed(
-    rt: &impl Abort,
-    alloc: Global,
-    refusal: &Refusal,
-    wanted: &str,
-) -> Result<(), Fail> {
+/// The number and the text.
+fn printed(alloc: Global, refusal: &Refusal) -> Result<String, AllocError> {
     let text = refusal.text(alloc)?;
-    let printed = format!(in alloc; "{} {}", refusal.number(), text.as_str())?;
-    assert_eq!(rt; printed.as_str(), wanted);
+    format!(in alloc; "{} {}", refusal.number(), text.as_str())
+}
+
+/// Whether a refusal, and its copy, are printed as this.
+fn is_printed_as(alloc: Global, refusal: &Refusal, wanted: &str) -> Result<bool, AllocError> {
     let copied = refusal.copy(alloc)?;
-    assert_eq!(rt; copied.number(), refusal.number());
-    assert_eq!(rt; copied.text(alloc)?.as_str(), text.as_str());
-    Ok(())
+    Ok(printed(alloc, refusal)?.as_str() == wanted && printed(alloc, &copied)?.as_str() == wanted)
 }
 
 // The refusals without a value, as they are printed.
@@ -147,7 +154,10 @@ fn bare(place: usize) -> Refusal {
 #[test]
 fn bare_refusals(rt: HostRuntime) -> Result<(), Fail> {
     for (place, wanted) in BARE.iter().enumerate() {
-        assert_printed(&rt, rt.alloc(), &bare(place), wanted)?;
+        assert!(rt;
+            is_printed_as(rt.alloc(), &bare(place), wanted)?,
+            "{wanted}"
+        );
     }
     Ok(())
 }
@@ -164,8 +174,10 @@ const VALUED: [&str; 8] = [
     "23 EcuTaken S2",
 ];
 
-fn valued(place: usize, last: Count, ecu: Ident) -> Refusal {
-    match place {
+fn valued(alloc: Global, place: usize) -> Result<Refusal, Fail> {
+    let last = Count::new(9007199254740991).ok_or("no count")?;
+    let ecu = ident(alloc, "S2")?;
+    Ok(match place {
         0 => Refusal::BadShape(Field::new("signatures")),
         1 => Refusal::Stale(last),
         2 => Refusal::UnknownEcu(ecu),
@@ -174,32 +186,44 @@ fn valued(place: usize, last: Count, ecu: Ident) -> Refusal {
         5 => Refusal::BadReportSignature(ecu),
         6 => Refusal::ReportReplayed(ecu),
         _ => Refusal::EcuTaken(ecu),
-    }
+    })
 }
 
 #[test]
 fn valued_refusals(rt: HostRuntime) -> Result<(), Fail> {
-    let last = Count::new(9007199254740991).ok_or("no count")?;
-    let ecu = Ident::new("S2".to_string(rt.alloc())?).ok_or("no identifier")?;
     for (place, wanted) in VALUED.iter().enumerate() {
-        let refusal = valued(place, last, ecu.copy(rt.alloc())?);
-        assert_printed(&rt, rt.alloc(), &refusal, wanted)?;
+        let refusal = valued(rt.alloc(), place)?;
+        assert!(rt; is_printed_as(rt.alloc(), &refusal, wanted)?, "{wanted}");
     }
     Ok(())
 }
 
-#[test]
-fn keeps_values_in_the_order_of_their_names(rt: HostRuntime) -> Result<(), std::test::Fail> {
-    let alloc = rt.alloc();
+fn put(alloc: Global, table: &mut Table<u32>, name: &str, value: u32) -> Result<(), Fail> {
+    let name = Text::new(name.to_string(alloc)?);
+    Ok(table.insert(name, value)?)
+}
+
+/// A table of four insertions, two of them of one name.
+fn filled(alloc: Global) -> Result<Table<u32>, Fail> {
     let mut table = Table::new(alloc);
     for (name, value) in [("b.bin", 2), ("a.bin", 1), ("c.bin", 3), ("b.bin", 4)] {
-        table.insert(Text::new(name.to_string(alloc)?), value)?;
+        put(alloc, &mut table, name, value)?;
     }
+    Ok(table)
+}
+
+fn assert_kept(rt: &impl Abort, table: &Table<u32>) {
     assert_eq!(rt; table.len(), 3);
     assert_eq!(rt; table.values(), [1, 4, 3].as_slice());
     assert!(rt; table.contains("a.bin"));
     assert!(rt; !table.contains("a"));
     assert_eq!(rt; table.get("b.bin").copied(), Some(4));
     assert_eq!(rt; table.get("d.bin").copied(), None);
+}
+
+#[test]
+fn keeps_values_in_the_order_of_their_names(rt: HostRuntime) -> Result<(), Fail> {
+    let table = filled(rt.alloc())?;
+    assert_kept(&rt, &table);
     Ok(())
 }

@@ -1,10 +1,10 @@
 //! Words of the command line, and digests.
-use crate::digest::{DigestFault, digest_stream};
-use crate::job::Job;
-use crate::words::job;
 use std::io;
 use std::io::Read;
 use std::test::Fail;
+use up_service::digest::{DigestFault, digest_stream};
+use up_service::job::Job;
+use up_service::words::job;
 
 /// Gives three bytes, then fails.
 #[derive(Drop)]

@@ -1,8 +1,10 @@
 //! Lines of scripts that are refused by themselves, each with its first fault.
-use crate::script::run_script;
+use std::alloc::Global;
 use std::process::Abort;
 use std::test::Fail;
 use up_desk::desk::Desk;
+use up_lines::fault::Fault;
+use up_service::script::run_script;
 use up_sign::hmac_sha256::HmacSha256;
 
 /// Words and moments, and members of the shorter lines.
@@ -100,29 +102,41 @@ const KEYS: [(&str, &str); 12] = [
     ),
 ];
 
+/// How many lines a script of this line answers, and what it prints, from an empty desk.
+fn printed(alloc: Global, line: &str) -> (Result<u32, Fault>, Vec<u8>) {
+    let mut desk = Desk::new(HmacSha256, alloc);
+    let mut reader = line.as_bytes();
+    let mut written = Vec::new(alloc);
+    let ran = run_script(alloc, &mut desk, &mut reader, &mut written);
+    (ran, written)
+}
+
+fn assert_refused(rt: &impl Abort, alloc: Global, line: &str, fault: &str) -> Result<(), Fail> {
+    let wanted = format!(in alloc; "refused {fault}\n")?;
+    let (ran, written) = printed(alloc, line);
+    assert_eq!(rt; ran, Ok(1));
+    assert_eq!(rt; written.as_slice(), wanted.as_str().as_bytes());
+    Ok(())
+}
+
 /// Compares what each line by itself is answered.
-pub(crate) fn are_refused<R: Abort + AllocGlobal>(
-    rt: &R,
+pub(crate) fn are_refused(
+    rt: &impl Abort,
+    alloc: Global,
     table: &[(&str, &str)],
 ) -> Result<(), Fail> {
     for (line, fault) in table {
-        let mut desk = Desk::new(HmacSha256, rt.alloc());
-        let mut reader = line.as_bytes();
-        let mut written = Vec::new(rt.alloc());
-        let ran = run_script(rt.alloc(), &mut desk, &mut reader, &mut written);
-        let wanted = format!(in rt.alloc(); "refused {fault}\n")?;
-        assert_eq!(rt; ran, Ok(1));
-        assert_eq!(rt; written.as_slice(), wanted.as_str().as_bytes());
+        assert_refused(rt, alloc, line, fault)?;
     }
     Ok(())
 }
 
 #[test]
 fn words_and_moments(rt: HostRuntime) -> Result<(), Fail> {
-    are_refused(&rt, &WORDS)
+    are_refused(&rt, rt.alloc(), &WORDS)
 }
 
 #[test]
 fn keys_and_vehicles(rt: HostRuntime) -> Result<(), Fail> {
-    are_refused(&rt, &KEYS)
+    are_refused(&rt, rt.alloc(), &KEYS)
 }

@@ -1,5 +1,5 @@
 //! Needs and conflicts.
-use super::cases::check_all;
+use crate::cases::check_all;
 use std::test::Fail;
 
 const NEED_IMAGES: &str =

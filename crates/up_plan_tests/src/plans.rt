@@ -1,5 +1,5 @@
 //! Levels and wanted images.
-use super::cases::check_all;
+use crate::cases::check_all;
 use std::test::Fail;
 
 const LEVEL_IMAGES: &str =
