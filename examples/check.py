@@ -13,7 +13,7 @@ HERE = Path(__file__).resolve().parent
 sys.dont_write_bytecode = True
 sys.path.insert(0, str(HERE.parent / "rows"))
 import collected
-import replies
+import texts
 
 
 def printed(program, script):
@@ -43,9 +43,13 @@ def all_rows():
     folders = sorted(it.name for it in (HERE.parent / "rows").iterdir() if it.is_dir() and not it.name.startswith("_"))
     yield "rows/README.md lists each row", listed == folders == [row.name for row in collected.rows()]
     yield "crates/worked_rows has the rows of rows/", not collected.differing()
-    for name in replies.ROWS:
+    for name in texts.REPLIES:
         told = (HERE.parent / "rows" / name / "replies").read_text(encoding="ascii")
-        yield "replies of %s, from the formats" % name, told == replies.replies(name)
+        yield "replies of %s, from the formats" % name, told == texts.replies(name)
+    for name in texts.FILES:
+        lines = (HERE.parent / "rows" / name / "printed").read_text(encoding="ascii").split("\n")
+        told = "".join(line[5:] + "\n" for line in lines if line.startswith("file "))
+        yield "files of %s, from the formats" % name, told == texts.files(name)
 
 
 def answers(program, words, script, status, out, err):

@@ -5,17 +5,23 @@ use Rattle.std.specs.FinMap as table
 use Rattle.std.proofs.lemmas.Bool.{ne_eqb}
 use Rattle.std.proofs.lemmas.Bool.Decides.{nat_tests}
 use Rattle.std.specs.List.{cons_option}
-use Rattle.up_canon.specs.Names.{Name}
+use Rattle.up_canon.specs.Names.{Name, Table}
 use Rattle.up_sign.specs.Schemes.{Rules}
+use Rattle.up_manifest.specs.declared.manifest.Incoming.{Incoming}
 use Rattle.up_manifest.specs.declared.manifest.Manifest.{Manifest}
 use Rattle.up_manifest.specs.declared.report.SignedReport.{SignedReport}
 use Rattle.up_manifest.specs.Manifests.{manifest_of}
-use Rattle.up_plan.specs.Planning.{plan_of}
+use Rattle.up_plan.specs.declared.assigned.Fitted.{Fitted}
+use Rattle.up_plan.specs.declared.assigned.Plan.{Plan}
+use Rattle.up_plan.specs.Campaigns.{CampaignData}
+use Rattle.up_plan.specs.Images.{ImageData}
+use Rattle.up_plan.specs.Planning.{items_for, resulting, plan_from, plan_of}
 use Rattle.up_machine.specs.declared.rows.EcuRow.{EcuRow}
 use Rattle.up_machine.specs.declared.rows.Founding.{Founding}
 use Rattle.up_machine.specs.declared.rows.Kept.{Kept}
 use Rattle.up_machine.specs.declared.rows.VehicleRow.{VehicleRow}
 use Rattle.up_machine.specs.declared.rows.VehicleRows.{VehicleRows}
+use Rattle.up_machine.specs.declared.decision.AcceptedRows.{AcceptedRows}
 use Rattle.up_machine.specs.declared.vehicle.NewEcu.{NewEcu}
 use Rattle.up_machine.specs.State.{Entry, Vehicle, Root, State, root_at, version, last_counter, newest, report_of, last_report}
 use Rattle.up_machine.specs.Files.{role_texts}
@@ -75,6 +81,23 @@ row_accepted name v e later =
     let number : version v.entries + 1 ≡ version (v.entries ++ e ∷ []) = sym (length-append v.entries (e ∷ [])) in
     ap {B = VehicleRow} (λ n. record { vehicle = name; primary = v.primary; version = n; last = e.counter }) number
     ∙ ap {B = VehicleRow} (λ n. record { vehicle = name; primary = v.primary; version = version (v.entries ++ e ∷ []); last = n }) (sym (last_is v.entries e later))
+
+-- ---- the plan
+
+-- it depends on the campaigns through their items for the vehicle alone
+same_items : (images : List ImageData) (campaigns others : List CampaignData) (vehicle : Name) (fitted : List Fitted) → items_for campaigns vehicle ≡ items_for others vehicle
+    → plan_of images campaigns vehicle fitted ≡ plan_of images others vehicle fitted
+unfolding plan_of
+same_items images campaigns others vehicle fitted same = ap (λ items. plan_from (resulting images items fitted)) same
+
+pub accepted_alike : (k : Rules) (f : Founding) (rows : VehicleRows) (at : ℕ) (incoming : Incoming) (images : Table ImageData) (campaigns others : List CampaignData)
+    → items_for campaigns rows.vehicle.vehicle ≡ items_for others rows.vehicle.vehicle
+    → accepted_rows k f rows at incoming images campaigns ≡ accepted_rows k f rows at incoming images others
+accepted_alike k f rows at incoming images campaigns others same =
+    ap {B = AcceptedRows} (λ (plan : Plan). record {
+      vehicle = record { vehicle = accepted_row rows.vehicle incoming.manifest.counter; ecus = map (reported_row incoming.manifest.reports) rows.ecus };
+      kept = kept_of k f rows.vehicle at incoming images plan;
+    }) (same_items (table.values images) campaigns others rows.vehicle.vehicle (fitted_in incoming.manifest.reports rows.ecus) same)
 
 -- ---- the kept row
 

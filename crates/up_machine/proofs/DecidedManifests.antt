@@ -13,6 +13,7 @@ use Rattle.up_manifest.specs.Laws.{BodiesAreRead, SignedTextsMean}
 use Rattle.up_manifest.specs.Manifests.{manifest_of}
 use Rattle.up_plan.specs.Campaigns.{CampaignData}
 use Rattle.up_plan.specs.Images.{ImageData}
+use Rattle.up_plan.specs.Planning.{items_for}
 use Rattle.up_machine.specs.declared.answer.Answer.TheVariants.{Reply as Replied}
 use Rattle.up_machine.specs.declared.rows.Founding.{Founding}
 use Rattle.up_machine.specs.declared.rows.Kept.{Kept}
@@ -30,7 +31,7 @@ use Rattle.up_machine.proofs.Steps.{bind-ok, bind-err, map_some}
 use Rattle.up_machine.proofs.FoundedRow.{founded_by_row, check_by_row}
 use Rattle.up_machine.proofs.CheckedRows.{bind_same, bind_assoc, received_same, new_same}
 use Rattle.up_machine.proofs.FoundRepeats.{resolve_kept, resolved}
-use Rattle.up_machine.proofs.AcceptedManifests.{accepted_are}
+use Rattle.up_machine.proofs.AcceptedManifests.{accepted_alike, accepted_are}
 
 -- the rows that the decision is given are those of a sound state
 pub record Given (k : Rules) (s : State) (at : ℕ) (incoming : Incoming) (founding : Option Founding) (vehicle : Option VehicleRows) (kept : Option Kept) : Type 0 where
@@ -154,10 +155,11 @@ bad_manifest bodies texts k s at incoming founding vehicle kept f rows x e given
 
 pub is_accepted : BodiesAreRead → SignedTextsMean → (k : Rules) (s : State) (at : ℕ) (incoming : Incoming) (founding : Option Founding) (vehicle : Option VehicleRows) (kept : Option Kept) (f : Founding) (rows : VehicleRows)
     (images : Table ImageData) (campaigns : List CampaignData) (x y : ⊤)
-    → Given k s at incoming founding vehicle kept → founding ≡ Some f → vehicle ≡ Some rows → images ≡ s.images → campaigns ≡ table.values s.campaigns
+    → Given k s at incoming founding vehicle kept → founding ≡ Some f → vehicle ≡ Some rows → images ≡ s.images
+    → items_for campaigns incoming.manifest.vehicle ≡ items_for (table.values s.campaigns) incoming.manifest.vehicle
     → check_primary k rows incoming ≡ Ok x → is_some (repeated incoming kept) ≡ false → check_new_of k rows incoming.manifest ≡ Ok y → rows.vehicle.last < incoming.manifest.counter
     → GivesDelivered k s kept incoming.manifest.vehicle (Ok (Accepted (accepted_rows k f rows at incoming images campaigns))) (decide_incoming k s at incoming)
-is_accepted bodies texts k s at incoming founding vehicle kept f rows images campaigns x y given there is same_images same_campaigns good fresh passes later =
+is_accepted bodies texts k s at incoming founding vehicle kept f rows images campaigns x y given there is same_images same_items good fresh passes later =
     let h = by_vehicle s incoming vehicle rows given.of_vehicle is in
     let d : Received = record { vehicle = h.v; incoming = incoming } in
     let above : last_counter h.v.entries < incoming.manifest.counter = subst (λ (r : VehicleRows). r.vehicle.last < incoming.manifest.counter) (sym h.same) later in
@@ -165,8 +167,8 @@ is_accepted bodies texts k s at incoming founding vehicle kept f rows images cam
     let has = accepted_are k s at d f (sym given.founded ∙ there) above read in
     let comes = as_new bodies texts k s at incoming founding vehicle kept f rows x given there h good fresh ∙ bind-ok _ _ y passes in
     let same : accepted_rows k f (rows_of incoming.manifest.vehicle h.v) at incoming s.images (table.values s.campaigns) ≡ accepted_rows k f rows at incoming images campaigns =
-    ap (λ r. accepted_rows k f r at incoming s.images (table.values s.campaigns)) h.same
-    ∙ ap (λ i. accepted_rows k f rows at incoming i (table.values s.campaigns)) (sym same_images)
-    ∙ ap (accepted_rows k f rows at incoming images) (sym same_campaigns) in
+    ap (λ i. accepted_rows k f (rows_of incoming.manifest.vehicle h.v) at incoming i (table.values s.campaigns)) (sym same_images)
+    ∙ accepted_alike k f (rows_of incoming.manifest.vehicle h.v) at incoming images (table.values s.campaigns) campaigns (sym same_items)
+    ∙ ap (λ r. accepted_rows k f r at incoming images campaigns) h.same in
     subst (λ a. GivesDelivered k s kept incoming.manifest.vehicle (Ok (Accepted a)) (decide_incoming k s at incoming)) same
     (h.v, entry_of s at d, h.there, comes ∙ ap (λ reply. Ok (record { answer = Replied reply; next = with_entry s incoming.manifest.vehicle h.v (entry_of s at d) })) (sym (ap reply_kept has.kept)), has)

@@ -2,6 +2,7 @@
 ghost use Rattle.std.specs.Prelude.{◌≡◌, ◌≤◌, IfSome, IsTrue, is_some, option_copied};
 ghost use Rattle.std.specs.FinMap as table;
 ghost use Rattle.up_canon.specs.Moments.{last_command_moment};
+ghost use Rattle.up_plan.specs.Planning.{items_for};
 ghost use Rattle.up_machine.specs.Keys.{key_set_fits};
 ghost use Rattle.up_machine.specs.ManifestRows.{repeated};
 ghost use Rattle.up_machine.specs.State.{State};
@@ -26,7 +27,8 @@ use up_sign::scheme::Scheme;
 /// Decides on a manifest, as it was read, at a command's moment: `NotFounded`; `UnknownVehicle`; `WrongPrimary`;
 /// `BadManifestSignature`; then `Repeat` where the vehicle has accepted the same canonical signed text, and else `Stale`
 /// with the last counter, `UnknownEcu`, `DuplicateEcu`, `MissingEcu`, `BadReportSignature`, `ReportReplayed`; `Memory`.
-/// The rows are those of its vehicle, the kept one with its counter, and all images and campaigns.
+/// The rows are those of its vehicle, the kept one with its counter, all images, and campaigns whose items for the vehicle
+/// are those of all campaigns: the ones that run and reach it, in the order of their names, are enough.
 pub fn decide_manifest<K: Scheme>(
     alloc: Global,
     scheme: &K,
@@ -45,7 +47,8 @@ pub fn decide_manifest<K: Scheme>(
     ensures { (s : State) → IsSound (K.rules scheme.now) s → founding.now ≡ founding_row s
         → option_copied vehicle.entry ≡ vehicle_rows s incoming.now.manifest.vehicle
         → option_copied kept.entry ≡ kept_at (K.rules scheme.now) s incoming.now.manifest.vehicle incoming.now.manifest.counter
-        → images.now ≡ s.images → campaigns.now ≡ table.values s.campaigns
+        → images.now ≡ s.images
+        → items_for campaigns.now incoming.now.manifest.vehicle ≡ items_for (table.values s.campaigns) incoming.now.manifest.vehicle
         → GivesDelivered (K.rules scheme.now) s (option_copied kept.entry) incoming.now.manifest.vehicle result
         (decide_incoming (K.rules scheme.now) s at incoming.now) }
 {

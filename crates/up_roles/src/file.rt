@@ -1,6 +1,8 @@
 //! What the bytes of a file mean.
+ghost use Rattle.std.specs.Prelude.{◌≡◌, ◌<◌, Err, length};
 ghost use Rattle.up_canon.specs.Refusals.{Gives};
-ghost use Rattle.up_roles.specs.Payload.{file_in};
+ghost use Rattle.up_canon.specs.declared.refusal.Refusal.TheVariants.{TooLarge};
+ghost use Rattle.up_roles.specs.Payload.{largest_file, file_in};
 
 use serde_json::{Map, Value};
 use std::alloc::Global;
@@ -31,7 +33,8 @@ pub(crate) trait RoleFile: Drop {
 /// The file that the bytes mean, and its envelope.
 #[tactic(auto, unfolding(crate::specs::Payload::file_in, up_canon::specs::Steps::and_then))]
 pub(crate) fn read_file<F: RoleFile>(alloc: Global, bytes: &[u8]) -> Result<(F, Envelope), Refusal>
-    ensures { Gives result (file_in F.meaning bytes.now) }
+    ensures value { Gives result (file_in F.meaning bytes.now) }
+    ensures large { largest_file < length bytes.now → result ≡ Err TooLarge }
 {
     let value = value_within(alloc, bytes, LARGEST_FILE)?;
     let (envelope, payload) = open(alloc, &value, "body")?;

@@ -1,6 +1,9 @@
 //! Root files: the keys of the four roles of a repository, and their thresholds.
+ghost use Rattle.std.specs.Prelude.{◌≡◌, ◌<◌, Err, length};
 ghost use Rattle.up_canon.specs.Members.{object_of_map};
 ghost use Rattle.up_canon.specs.Refusals.{Gives};
+ghost use Rattle.up_canon.specs.declared.refusal.Refusal.TheVariants.{TooLarge};
+ghost use Rattle.up_roles.specs.Payload.{largest_file};
 ghost use Rattle.up_roles.specs.Root.{root_in, root_of};
 
 use crate::file::{RoleFile, read_file};
@@ -78,10 +81,12 @@ impl Duplicate for RootFile {
 }
 
 /// The Root file that the bytes mean, and its envelope. `TooLarge` above 4,194,304 bytes, `NotJson`, `BadShape` with the
-/// name of the first member at fault (of the envelope, then of the payload), `NotCanonical` between the two, `Memory`.
+/// name of the first member at fault (of the envelope, then of the payload), `NotCanonical` between the two, `Memory`,
+/// though never in place of `TooLarge`.
 #[tactic(auto, unfolding(crate::specs::Root::root_in))]
 pub fn read_root(alloc: Global, bytes: &[u8]) -> Result<(RootFile, Envelope), Refusal>
-    ensures { Gives result (root_in bytes.now) }
+    ensures value { Gives result (root_in bytes.now) }
+    ensures large { largest_file < length bytes.now → result ≡ Err TooLarge }
 {
     read_file(alloc, bytes)
 }

@@ -1,11 +1,12 @@
 //! Snapshot files: the version of the Targets file.
-ghost use Rattle.std.specs.Prelude.{◌≡◌, ◌≤◌, ◌∷◌, [], Ok, IsTrue, IfOk, OnOk, MatchResult, codes, length, string_bytes, true};
+ghost use Rattle.std.specs.Prelude.{◌≡◌, ◌<◌, ◌≤◌, ◌∷◌, [], Ok, Err, IsTrue, IfOk, OnOk, MatchResult, codes, length, string_bytes, true};
 ghost use Rattle.std.specs.List.{list_all};
 ghost use Rattle.serde_json.specs.View.{view, members_view};
 ghost use Rattle.up_canon.specs.Build.{members_with};
 ghost use Rattle.up_canon.specs.Members.{IsFault, object_of_map};
 ghost use Rattle.up_canon.specs.Refusals.{Gives};
-ghost use Rattle.up_roles.specs.Payload.{IsCanonical};
+ghost use Rattle.up_canon.specs.declared.refusal.Refusal.TheVariants.{TooLarge};
+ghost use Rattle.up_roles.specs.Payload.{largest_file, IsCanonical};
 ghost use Rattle.up_roles.specs.Snapshot.{snapshot_meta, snapshot_payload, snapshot_text_of, snapshot_fits, snapshot_is_typed, snapshot_in, snapshot_of, snapshot_entry_in};
 
 use crate::copies::copy_name;
@@ -49,10 +50,12 @@ impl Duplicate for SnapshotFile {
 }
 
 /// The Snapshot file that the bytes mean, and its envelope. `TooLarge` above 4,194,304 bytes, `NotJson`, `BadShape` with the
-/// name of the first member at fault (of the envelope, then of the payload), `NotCanonical` between the two, `Memory`.
+/// name of the first member at fault (of the envelope, then of the payload), `NotCanonical` between the two, `Memory`,
+/// though never in place of `TooLarge`.
 #[tactic(auto, unfolding(crate::specs::Snapshot::snapshot_in))]
 pub fn read_snapshot(alloc: Global, bytes: &[u8]) -> Result<(SnapshotFile, Envelope), Refusal>
-    ensures { Gives result (snapshot_in bytes.now) }
+    ensures value { Gives result (snapshot_in bytes.now) }
+    ensures large { largest_file < length bytes.now → result ≡ Err TooLarge }
 {
     read_file(alloc, bytes)
 }

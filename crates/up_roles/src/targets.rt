@@ -1,12 +1,13 @@
 //! Targets files: images, and in the Director repository the ECU that installs each.
-ghost use Rattle.std.specs.Prelude.{◌≡◌, ◌++◌, codes, not, option_to_list, List, IfOk};
+ghost use Rattle.std.specs.Prelude.{◌≡◌, ◌<◌, ◌++◌, Err, codes, length, not, option_to_list, List, IfOk};
 ghost use Rattle.serde_json.specs.View.{view};
 ghost use Rattle.up_canon.specs.Members.{object_of_map, values_of};
 ghost use Rattle.up_canon.specs.Names.{Name};
 ghost use Rattle.up_canon.specs.Readers.{ident_of as name_of};
 ghost use Rattle.up_canon.specs.Refusals.{Gives};
 ghost use Rattle.up_canon.specs.Steps.{each};
-ghost use Rattle.up_roles.specs.Payload.{are_distinct as are_distinct_names};
+ghost use Rattle.up_canon.specs.declared.refusal.Refusal.TheVariants.{TooLarge};
+ghost use Rattle.up_roles.specs.Payload.{largest_file, are_distinct as are_distinct_names};
 ghost use Rattle.up_roles.specs.Targets.{targets_in, targets_of, target_list_in, target_of, ecu_of, hardware_of, ecus_of, repeats_ecu, IsSeen};
 
 use crate::copies::copy_name;
@@ -77,10 +78,12 @@ impl Duplicate for TargetsFile {
 }
 
 /// The Targets file that the bytes mean, and its envelope. `TooLarge` above 4,194,304 bytes, `NotJson`, `BadShape` with the
-/// name of the first member at fault (of the envelope, then of the payload), `NotCanonical` between the two, `Memory`.
+/// name of the first member at fault (of the envelope, then of the payload), `NotCanonical` between the two, `Memory`,
+/// though never in place of `TooLarge`.
 #[tactic(auto, unfolding(crate::specs::Targets::targets_in))]
 pub fn read_targets(alloc: Global, bytes: &[u8]) -> Result<(TargetsFile, Envelope), Refusal>
-    ensures { Gives result (targets_in bytes.now) }
+    ensures value { Gives result (targets_in bytes.now) }
+    ensures large { largest_file < length bytes.now → result ≡ Err TooLarge }
 {
     read_file(alloc, bytes)
 }

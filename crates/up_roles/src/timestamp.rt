@@ -1,11 +1,12 @@
 //! Timestamp files: the version and the hash of the Snapshot file.
-ghost use Rattle.std.specs.Prelude.{◌≡◌, ◌≤◌, ◌∷◌, [], Ok, IsTrue, IfOk, OnOk, MatchResult, codes, length, string_bytes, true};
+ghost use Rattle.std.specs.Prelude.{◌≡◌, ◌<◌, ◌≤◌, ◌∷◌, [], Ok, Err, IsTrue, IfOk, OnOk, MatchResult, codes, length, string_bytes, true};
 ghost use Rattle.std.specs.List.{list_all};
 ghost use Rattle.serde_json.specs.View.{view, members_view};
 ghost use Rattle.up_canon.specs.Build.{members_with};
 ghost use Rattle.up_canon.specs.Members.{IsFault, object_of_map};
 ghost use Rattle.up_canon.specs.Refusals.{Gives};
-ghost use Rattle.up_roles.specs.Payload.{IsCanonical};
+ghost use Rattle.up_canon.specs.declared.refusal.Refusal.TheVariants.{TooLarge};
+ghost use Rattle.up_roles.specs.Payload.{largest_file, IsCanonical};
 ghost use Rattle.up_roles.specs.Timestamp.{meta_of, timestamp_payload, timestamp_text_of, timestamp_fits, timestamp_is_typed, timestamp_in, timestamp_of, timestamp_entry_in};
 
 use crate::copies::copy_name;
@@ -52,10 +53,12 @@ impl Duplicate for TimestampFile {
 }
 
 /// The Timestamp file that the bytes mean, and its envelope. `TooLarge` above 4,194,304 bytes, `NotJson`, `BadShape` with the
-/// name of the first member at fault (of the envelope, then of the payload), `NotCanonical` between the two, `Memory`.
+/// name of the first member at fault (of the envelope, then of the payload), `NotCanonical` between the two, `Memory`,
+/// though never in place of `TooLarge`.
 #[tactic(auto, unfolding(crate::specs::Timestamp::timestamp_in))]
 pub fn read_timestamp(alloc: Global, bytes: &[u8]) -> Result<(TimestampFile, Envelope), Refusal>
-    ensures { Gives result (timestamp_in bytes.now) }
+    ensures value { Gives result (timestamp_in bytes.now) }
+    ensures large { largest_file < length bytes.now → result ≡ Err TooLarge }
 {
     read_file(alloc, bytes)
 }

@@ -1,5 +1,6 @@
 use Rattle.std.proofs.Common.{sym, ap, ◌∙◌}
 use Rattle.std.specs.FinMap as table
+use Rattle.up_plan.specs.Planning.{items_for}
 use Rattle.up_machine.specs.Decisions.{AreSoundRows}
 use Rattle.up_desk.specs.Rows.{held, state_of}
 use Rattle.up_desk.proofs.Decided.{if_copied}
@@ -14,7 +15,7 @@ returns g c =
     c.decide_manifest.ensures (state_of (held c.args.book.now)) stands.sound stands.shows.founding
     (c.get-vehicle.ensures ∙ ap (table.get c.args.book.now.vehicles) c.text.ensures.value ∙ stands.shows.vehicles name)
     (c.requires.kept ∙ kept_found _ _ (held c.args.book.now) name c.args.incoming.now.manifest.counter stands.shows)
-    stands.shows.images (c.values-campaigns.ensures ∙ ap table.values stands.shows.campaigns)
+    stands.shows.images (ap (λ campaigns. items_for campaigns name) (c.values-campaigns.ensures ∙ ap table.values stands.shows.campaigns))
 
 pub decide_manifest-requires-clause-keys : goal.decide_manifest-requires-clause-keys
 decide_manifest-requires-clause-keys g c = founding_keys _ _ (held c.args.book.now) c.requires.stands

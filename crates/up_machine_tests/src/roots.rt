@@ -1,0 +1,94 @@
+//! Foundings and rotations.
+ghost use Rattle.std.specs.Prelude.{◌≤◌};
+ghost use Rattle.up_canon.specs.Moments.{last_command_moment};
+
+use crate::conditions::check_founding;
+use crate::digests::digest_of;
+use crate::refused::refused;
+use crate::register::{Register, founding_text, keep_founding};
+use std::alloc::{AllocError, Global};
+use up_canon::moment::Moment;
+use up_canon::refusal::Refusal;
+use up_machine::decide_root::{decide_found, decide_rotate};
+use up_machine::decision::RootRows;
+use up_machine::keys::KeySet;
+use up_sign::scheme::Scheme;
+
+/// The answer to a founding.
+pub(crate) fn found<K: Scheme>(
+    alloc: Global,
+    scheme: &K,
+    at: Moment,
+    register: &mut Register,
+    keys: KeySet,
+) -> Result<String, AllocError>
+    requires { at ≤ last_command_moment }
+{
+    let founding = &register.founding;
+    let decided = decide_found(alloc, scheme, at, &keys, founding, &register.images);
+    decided_on(alloc, register, decided)
+}
+
+/// The answer to a rotation.
+pub(crate) fn rotate<K: Scheme>(
+    alloc: Global,
+    scheme: &K,
+    at: Moment,
+    register: &mut Register,
+    keys: KeySet,
+) -> Result<String, AllocError>
+    requires { at ≤ last_command_moment }
+{
+    let decided = rotation(alloc, scheme, at, register, &keys);
+    decided_on(alloc, register, decided)
+}
+
+fn rotation<K: Scheme>(
+    alloc: Global,
+    scheme: &K,
+    at: Moment,
+    register: &Register,
+    keys: &KeySet,
+) -> Result<RootRows, Refusal>
+    requires { at ≤ last_command_moment }
+{
+    let founding = &register.founding;
+    check_founding(alloc, scheme, founding)?;
+    decide_rotate(alloc, scheme, at, keys, founding, &register.images)
+}
+
+fn decided_on(
+    alloc: Global,
+    register: &mut Register,
+    decided: Result<RootRows, Refusal>,
+) -> Result<String, AllocError> {
+    match decided {
+        Ok(rows) => new_root(alloc, register, rows),
+        Err(refusal) => refused(alloc, refusal),
+    }
+}
+
+/// Tells a new root version.
+fn new_root(alloc: Global, register: &mut Register, rows: RootRows) -> Result<String, AllocError> {
+    kept_root(alloc, register, &rows)
+}
+
+/// Keeps a new root version, and tells it with a digest of both Root files and of the image repository's three.
+fn kept_root(
+    alloc: Global,
+    register: &mut Register,
+    rows: &RootRows,
+) -> Result<String, AllocError> {
+    keep_founding(alloc, register, &rows.founding)?;
+
+    let files = &rows.files;
+    let texts = [
+        &rows.director,
+        &rows.image,
+        &files.targets,
+        &files.snapshot,
+        &files.timestamp,
+    ];
+    let digest = digest_of(alloc, &texts[..])?;
+    founding_text(alloc, &rows.founding, digest.as_str())
+}

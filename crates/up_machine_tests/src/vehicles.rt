@@ -1,0 +1,131 @@
+//! New vehicles.
+ghost use Rattle.std.specs.Prelude.{◌≤◌};
+ghost use Rattle.up_canon.specs.Moments.{last_command_moment};
+
+use crate::digests::digest_of;
+use crate::refused::refused;
+use crate::register::{Register, put_vehicle};
+use std::alloc::{AllocError, Global};
+use up_canon::moment::Moment;
+use up_canon::refusal::Refusal;
+use up_canon::text::Text;
+use up_machine::decide_vehicle::decide_vehicle;
+use up_machine::decision::Decision;
+use up_machine::rows::{EcuRow, VehicleRows};
+use up_machine::vehicle::NewVehicle;
+use up_sign::scheme::Scheme;
+
+/// The answer to a new vehicle.
+pub(crate) fn add_vehicle<K: Scheme>(
+    alloc: Global,
+    scheme: &K,
+    at: Moment,
+    register: &mut Register,
+    new: NewVehicle,
+) -> Result<String, AllocError>
+    requires { at ≤ last_command_moment }
+{
+    let decided = addition(alloc, scheme, at, register, &new);
+    decided_on(alloc, register, decided)
+}
+
+fn decided_on(
+    alloc: Global,
+    register: &mut Register,
+    decided: Result<Decision<VehicleRows>, Refusal>,
+) -> Result<String, AllocError> {
+    match decided {
+        Ok(Decision::Already) => "already".to_string(alloc),
+        Ok(Decision::New(rows)) => added(alloc, register, rows),
+        Err(refusal) => refused(alloc, refusal),
+    }
+}
+
+fn addition<K: Scheme>(
+    alloc: Global,
+    scheme: &K,
+    at: Moment,
+    register: &Register,
+    new: &NewVehicle,
+) -> Result<Decision<VehicleRows>, Refusal>
+    requires { at ≤ last_command_moment }
+{
+    let vehicles = &register.vehicles;
+    let marks = marks(alloc, vehicles.values(), new)?;
+    let name = &new.vehicle;
+    let old = vehicles.get(name.text());
+    let founding = &register.founding;
+    decide_vehicle(alloc, scheme, at, new, founding, old, marks.as_slice())
+}
+
+/// For each new ECU whether one of its name stands in a vehicle.
+fn marks(
+    alloc: Global,
+    vehicles: &[VehicleRows],
+    new: &NewVehicle,
+) -> Result<Vec<bool>, AllocError> {
+    let mut marks = Vec::new(alloc);
+    for ecu in new.ecus.as_slice() {
+        marks.push(is_recorded(vehicles, ecu.ecu.text()))?;
+    }
+    Ok(marks)
+}
+
+fn is_recorded(vehicles: &[VehicleRows], name: &str) -> bool {
+    vehicles.iter().any(|rows| has_ecu(rows, name))
+}
+
+fn has_ecu(rows: &VehicleRows, name: &str) -> bool {
+    rows.ecus
+        .as_slice()
+        .iter()
+        .any(|row| row.ecu.text() == name)
+}
+
+fn added(alloc: Global, register: &mut Register, rows: VehicleRows) -> Result<String, AllocError> {
+    let text = rows_text(alloc, &rows);
+    put_vehicle(alloc, &mut register.vehicles, rows)?;
+    text
+}
+
+/// A vehicle's row, and a digest of those of its ECUs.
+pub(crate) fn rows_text(alloc: Global, rows: &VehicleRows) -> Result<String, AllocError> {
+    let row = &rows.vehicle;
+    let (vehicle, primary, last) = (row.vehicle.text(), row.primary.text(), row.last.get());
+    let ecus = ecus_text(alloc, rows.ecus.as_slice())?;
+    let digest = digest_of(alloc, &[&ecus])?;
+    format!(in alloc;
+        "{vehicle} of {primary} version {} last {last} {digest}",
+        row.version
+    )
+}
+
+fn ecus_text(alloc: Global, rows: &[EcuRow]) -> Result<Text, AllocError> {
+    let mut text = String::new(alloc);
+    for row in rows {
+        text.push_str(ecu_text(alloc, row)?.as_str())?;
+    }
+    Ok(Text::new(text))
+}
+
+/// An ECU's name, hardware, public part, counter, installed image and last report, and a newline.
+fn ecu_text(alloc: Global, row: &EcuRow) -> Result<String, AllocError> {
+    let public = hex::encode(alloc, row.public.as_slice())?;
+    let (ecu, hardware, counter) = (row.ecu.text(), row.hardware.text(), row.counter.get());
+    let (file, report) = (installed_text(row), report_text(row));
+    format!(in alloc; "{ecu} {hardware} {public} {counter} {file} {report}\n")
+}
+
+fn installed_text(row: &EcuRow) -> &str {
+    match &row.installed {
+        Some(image) => image.file.text(),
+        None => "none",
+    }
+}
+
+fn report_text(row: &EcuRow) -> &str {
+    match &row.report {
+        Some(text) => text.as_str(),
+        None => "none",
+    }
+}
