@@ -1,16 +1,15 @@
 #!/usr/bin/env python3
-"""Collects the rows into what the program of `crates/worked_rows` reads, and what it has to write.
+"""Collects the rows of `rows/` into what the crate that carries them out reads, and what it has to write.
 
-    collected.py          tells whether that crate's stdin and stdout are the rows of this folder
-    collected.py write    writes them
+    collect_rows.py CRATE          tells whether that crate's stdin and stdout are the rows
+    collect_rows.py CRATE write    writes them
 """
 import json
 import sys
 from pathlib import Path
 
-HERE = Path(__file__).resolve().parent
-CRATE = HERE.parent / "crates" / "worked_rows"
-COMMANDS = ["found", "rotate", "add_vehicle", "add_image", "refresh", "open_campaign", "close_campaign", "deliver", "fetch", "bench"]
+ROWS = Path(__file__).resolve().parent.parent / "rows"
+COMMANDS = "found rotate add_vehicle add_image refresh open_campaign close_campaign deliver fetch bench".split()
 
 
 def lines_of(path):
@@ -27,6 +26,8 @@ def is_command(line):
 
 
 class Row:
+    """A row: its name, the method of its scheme, and its lines, each with the line that is printed and the text of its reply."""
+
     def __init__(self, folder):
         self.name = folder.name
         self.method = (lines_of(folder / "under") or ["hmac-sha256"])[0]
@@ -44,7 +45,8 @@ class Row:
         out = ["row " + self.name, "@ " + self.method]
         for line, answer, reply in self.steps:
             asks = is_command(line)
-            out += [("> " if asks else "? ") + line] + [("< " if asks else "! ") + answer] * bool(line) + ["= " + reply] * bool(reply)
+            out.append(("> " if asks else "? ") + line)
+            out += [("< " if asks else "! ") + answer] * bool(line) + ["= " + reply] * bool(reply)
         return "\n".join(out) + "\n"
 
     def wanted(self):
@@ -55,19 +57,20 @@ class Row:
 
 
 def rows():
-    return [Row(script.parent) for script in sorted(HERE.glob("*/script"))]
+    return [Row(script.parent) for script in sorted(ROWS.glob("*/script"))]
 
 
-# rows that are wrong on purpose: an answer, the text of a reply, the number of lines, a scheme; and what shows that the program sees it
 def controls():
-    found, vehicle, manifest = (step[0] for step in Row(HERE / "first_manifest").steps)
-    rows = [
+    """Rows that are wrong on purpose: an answer, the text of a reply, the number of lines, a scheme."""
+    found, vehicle, manifest = (step[0] for step in Row(ROWS / "first_manifest").steps)
+    started = ["> " + found, "< done", "> " + vehicle, "< done"]
+    wrong = [
         ["answer", "@ hmac-sha256", "> " + found, "< already"],
-        ["text", "@ hmac-sha256", "> " + found, "< done", "> " + vehicle, "< done", "> " + manifest, "< reply V1 version 1 targets 0", "= {}"],
+        ["text", "@ hmac-sha256", *started, "> " + manifest, "< reply V1 version 1 targets 0", "= {}"],
         ["number", "@ hmac-sha256", "? nope", "? nope", "! refused 5 NotJson"],
         ["scheme", "@ none"],
     ]
-    return "".join("row control of " + "\n".join(row) + "\n" for row in rows)
+    return "".join("row control of " + "\n".join(row) + "\n" for row in wrong)
 
 
 def tells(*told):
@@ -75,12 +78,14 @@ def tells(*told):
 
 
 def seen():
+    """What shows that the program sees each of the controls."""
+
     def differs(had, wanted):
         return "DIFFERS: %s in place of %s" % (json.dumps(had), json.dumps(wanted))
 
     answer = differs("done\n", "already\n")
     printed = "done\ndone\nreply V1 version 1 targets 0\n"
-    reply = differs(printed + lines_of(HERE / "first_manifest" / "replies")[0] + "\n", printed + "{}\n")
+    reply = differs(printed + lines_of(ROWS / "first_manifest" / "replies")[0] + "\n", printed + "{}\n")
     number = differs(2 * "refused 5 NotJson\n", "refused 5 NotJson\n")
     return "\n".join([
         tells("control of answer", answer, answer, answer, answer),
@@ -90,23 +95,28 @@ def seen():
     ]) + "\n"
 
 
-def given():
-    return "\n" + "".join(row.given() for row in rows()) + controls()
+def collected():
+    """The crate's files, and what each has to be."""
+    return {
+        "stdin": "\n" + "".join(row.given() for row in rows()) + controls(),
+        "stdout": "".join(row.wanted() for row in rows()) + seen(),
+    }
 
 
-def wanted():
-    return "".join(row.wanted() for row in rows()) + seen()
+def differing(crate):
+    """The files of the crate that aren't what the rows say."""
+    return [crate / name for name, text in collected().items() if (crate / name).read_text(encoding="ascii") != text]
 
 
-def differing():
-    """The files of the crate that aren't the rows of this folder."""
-    return [name for name, text in (("stdin", given()), ("stdout", wanted())) if (CRATE / name).read_text(encoding="ascii") != text]
+def main(crate, order="tell"):
+    crate = Path(crate)
+    if order == "write":
+        for name, text in collected().items():
+            (crate / name).write_text(text, encoding="ascii")
+    for path in differing(crate):
+        print("%s isn't what the rows say" % path)
+    return bool(differing(crate))
 
 
 if __name__ == "__main__":
-    if sys.argv[1:] == ["write"]:
-        (CRATE / "stdin").write_text(given(), encoding="ascii")
-        (CRATE / "stdout").write_text(wanted(), encoding="ascii")
-    for name in differing():
-        print("crates/worked_rows/%s isn't what rows/ says" % name)
-    sys.exit(bool(differing()))
+    sys.exit(main(*sys.argv[1:]))

@@ -1,9 +1,9 @@
 #!/usr/bin/env python3
-"""Prints the texts of the replies and of the fetched files that a row of this folder has to have, from the formats alone, by Python's
-hmac and hashlib.
+"""Prints the texts of the replies and of the fetched files that a row of `rows/` has to have, from the formats alone, by
+Python's hmac and hashlib.
 
-    texts.py replies ROW
-    texts.py files ROW
+    row_texts.py replies ROW
+    row_texts.py files ROW
 """
 import hashlib
 import hmac
@@ -12,7 +12,8 @@ import sys
 from datetime import datetime, timedelta, timezone
 
 ROLES = ["root", "targets", "snapshot", "timestamp"]
-# the byte of the Director's root key of a root version: its other roles' keys are of the bytes after it, then come the Image repository's
+# the byte of the Director's root key of a root version: its other roles' keys are of the bytes after it, then come those of
+# the Image repository
 FIRST = {1: 0x01, 2: 0x51}
 DAYS = {
     "director": {"root": 365, "targets": 7, "snapshot": 7, "timestamp": 7},
@@ -51,8 +52,8 @@ REPLIES = {
     "vehicle_of_32_ecus_under_a_second_scheme": 2 * [("V32", 1, 1, A7_FOR_31)],
 }
 
-# each fetched file of a row: a repository's Root with its version and how many hours after the founding it was made, or a role's file of
-# the Image repository with the root version, those hours, its own version, and the targets
+# each fetched file of a row: a repository's Root with its version and how many hours after the founding it was made, or a
+# role's file of the Image repository with the root version, those hours, its own version, and the targets
 FILES = {
     "files_of_the_image_repository": [(role, 1, 0, 2, [Z]) for role in ROLES[1:]] + [("image", 1, 0)],
     "root_signed_by_the_old_key_too": [("director", 2, 0)],

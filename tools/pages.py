@@ -1,0 +1,65 @@
+"""What the pages name is there: links and their headings, tests, refused edits, rows, and the texts of the Primary's page."""
+import re
+from pathlib import Path
+
+TOP = Path(__file__).resolve().parent.parent
+PAGES = ["README.md", "docs/*.md", "examples/**/README.md", "rows/README.md"]
+
+
+def pages():
+    return sorted(path for pattern in PAGES for path in TOP.glob(pattern))
+
+
+def anchors(page):
+    """The names by which links find the headings of a page."""
+    headings = re.findall(r"^#+ (.+)$", page.read_text(encoding="utf-8"), re.MULTILINE)
+    return {re.sub(r"[^\w\- ]", "", heading.lower()).replace(" ", "-") for heading in headings}
+
+
+def leads(page, link):
+    """Whether a link leads to a file, and to a heading of it where it names one."""
+    name, _, anchor = link.partition("#")
+    path = (page.parent / name).resolve() if name else page
+    return path.exists() and (not anchor or anchor in anchors(path))
+
+
+def links():
+    for page in pages():
+        for link in re.findall(r"\]\(([^)\s]+)\)", page.read_text(encoding="utf-8")):
+            if not link.startswith(("http:", "https:")):
+                yield "%s: the link %s" % (page.relative_to(TOP), link), leads(page, link)
+
+
+def named(label):
+    """The names behind a label of the page of proofs, up to the next label or the end of its promise."""
+    text = (TOP / "docs" / "PROOFS.md").read_text(encoding="utf-8")
+    parts = re.findall(r"\*%s\*(.*?)(?=\n  \*|\n- |\n\n|\n#)" % label, text, re.DOTALL)
+    return sorted({name for part in parts for name in re.findall(r"`([\w\-]+)`", part)})
+
+
+def proofs():
+    """Tests, edits and rows that the page of proofs names. The names of edits have hyphens, and crates of tests stand for their tests."""
+    code = "\n".join(path.read_text(encoding="utf-8") for path in TOP.glob("crates/*/src/**/*.rt"))
+    crates = {path.name for path in TOP.glob("crates/*")}
+    tests = set(re.findall(r"#\[test\]\s*fn (\w+)", code)) | crates
+    rows = {path.parent.name for path in TOP.glob("rows/*/script")}
+    edits = {path.stem for path in TOP.glob("crates/*/*/*.edit")}
+    for label, there in (("Tests", tests), ("Rows", rows), ("Edits", edits)):
+        for name in named(label):
+            if label != "Edits" or "-" in name:
+                yield "docs/PROOFS.md: %s: %s" % (label, name), name in there
+
+
+def primary():
+    page = (TOP / "docs" / "PRIMARY.md").read_text(encoding="utf-8")
+    for name in ("manifest.json", "reply.json"):
+        text = (TOP / "examples" / "primary" / name).read_text(encoding="ascii")
+        yield "docs/PRIMARY.md shows " + name, text.strip() in page
+
+
+def cases():
+    """Each of the names that lead nowhere, and what the pages show."""
+    found = [*links(), *proofs()]
+    yield "%d links, tests, rows and edits that the pages name" % len(found), all(well for _, well in found)
+    yield from ((name, well) for name, well in found if not well)
+    yield from primary()
