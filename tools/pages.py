@@ -30,24 +30,27 @@ def links():
                 yield "%s: the link %s" % (page.relative_to(TOP), link), leads(page, link)
 
 
-def named(label):
-    """The names behind a label of the page of proofs, up to the next label or the end of its promise."""
-    text = (TOP / "docs" / "PROOFS.md").read_text(encoding="utf-8")
-    parts = re.findall(r"\*%s\*(.*?)(?=\n  \*|\n- |\n\n|\n#)" % label, text, re.DOTALL)
-    return sorted({name for part in parts for name in re.findall(r"`([\w\-]+)`", part)})
+def promised():
+    """The names that the page of proofs and that on the Standard give, with what each names."""
+    proofs, standard = ((TOP / "docs" / name).read_text(encoding="utf-8") for name in ("PROOFS.md", "STANDARD.md"))
+    for label in ("Tests", "Rows", "Edits"):
+        for part in re.findall(r"\*%s\*(.*?)(?=\n  \*|\n- |\n\n|\n#)" % label, proofs, re.DOTALL):
+            yield from (("PROOFS.md", label, name) for name in re.findall(r"`([\w\-]+)`", part))
+    for part in re.findall(r"- Shown by:(.*?)(?=\n- |\n\n)", standard, re.DOTALL):
+        yield from (("STANDARD.md", "Tests, Rows", name) for name in re.findall(r"`([\w\-]+)`", part))
 
 
-def proofs():
-    """Tests, edits and rows that the page of proofs names. The names of edits have hyphens, and crates of tests stand for their tests."""
+def promises():
+    """Whether there are such tests, rows and edits. Crates of tests stand for their tests; the names of edits have hyphens."""
     code = "\n".join(path.read_text(encoding="utf-8") for path in TOP.glob("crates/*/src/**/*.rt"))
-    crates = {path.name for path in TOP.glob("crates/*")}
-    tests = set(re.findall(r"#\[test\]\s*fn (\w+)", code)) | crates
-    rows = {path.parent.name for path in TOP.glob("rows/*/script")}
-    edits = {path.stem for path in TOP.glob("crates/*/*/*.edit")}
-    for label, there in (("Tests", tests), ("Rows", rows), ("Edits", edits)):
-        for name in named(label):
-            if label != "Edits" or "-" in name:
-                yield "docs/PROOFS.md: %s: %s" % (label, name), name in there
+    there = {
+        "Tests": set(re.findall(r"#\[test\]\s*fn (\w+)", code)) | {path.name for path in TOP.glob("crates/*")},
+        "Rows": {path.parent.name for path in TOP.glob("rows/*/script")},
+        "Edits": {path.stem for path in TOP.glob("crates/*/*/*.edit")},
+    }
+    for page, labels, name in sorted(set(promised())):
+        if labels != "Edits" or "-" in name:
+            yield "docs/%s: %s" % (page, name), any(name in there[label] for label in labels.split(", "))
 
 
 def primary():
@@ -59,7 +62,7 @@ def primary():
 
 def cases():
     """Each of the names that lead nowhere, and what the pages show."""
-    found = [*links(), *proofs()]
+    found = [*links(), *promises()]
     yield "%d links, tests, rows and edits that the pages name" % len(found), all(well for _, well in found)
     yield from ((name, well) for name, well in found if not well)
     yield from primary()
