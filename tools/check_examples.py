@@ -101,7 +101,7 @@ def tried(program, rows):
 
 
 def main(program, rows):
-    gaps = list(expected_files.gaps())
+    gaps = ["%s isn't built" % it for it in (program, rows) if not Path(it).is_file()] + list(expected_files.gaps())
     for gap in gaps:
         print("example: " + gap)
     cases = [] if gaps else list(tried(program, rows))
