@@ -1,4 +1,4 @@
-"""What the pages name is there: links and their headings, tests, refused edits, rows, and the texts of the Primary's page."""
+"""What the pages name is there: links, headings, contracts, tests, refused edits, rows, and the texts of the Primary's page."""
 import re
 from pathlib import Path
 
@@ -33,24 +33,37 @@ def links():
 def promised():
     """The names that the page of proofs and that on the Standard give, with what each names."""
     proofs, standard = ((TOP / "docs" / name).read_text(encoding="utf-8") for name in ("PROOFS.md", "STANDARD.md"))
-    for label in ("Tests", "Rows", "Edits"):
+    for label in ("Contract", "Tests", "Rows", "Edits"):
         for part in re.findall(r"\*%s\*(.*?)(?=\n  \*|\n- |\n\n|\n#)" % label, proofs, re.DOTALL):
-            yield from (("PROOFS.md", label, name) for name in re.findall(r"`([\w\-]+)`", part))
-    for part in re.findall(r"- Shown by:(.*?)(?=\n- |\n\n)", standard, re.DOTALL):
-        yield from (("STANDARD.md", "Tests, Rows", name) for name in re.findall(r"`([\w\-]+)`", part))
+            yield from (("PROOFS.md", label, name) for name in re.findall(r"`([\w:\-]+)`", part))
+    for begins, label in (("Contract", "Contract"), ("Shown by", "Tests, Rows")):
+        for part in re.findall(r"- %s:(.*?)(?=\n- |\n\n)" % begins, standard, re.DOTALL):
+            yield from (("STANDARD.md", label, name) for name in re.findall(r"`([\w:]+)`", part))
 
 
-def promises():
-    """Whether there are such tests, rows and edits. Crates of tests stand for their tests; the names of edits have hyphens."""
-    code = "\n".join(path.read_text(encoding="utf-8") for path in TOP.glob("crates/*/src/**/*.rt"))
-    there = {
+def read_all(pattern):
+    return "\n".join(path.read_text(encoding="utf-8") for path in TOP.glob(pattern))
+
+
+def names_there():
+    """The functions, clauses, types and definitions of the crates, their tests, the rows, and the refused edits."""
+    code, specs = read_all("crates/*/src/**/*.rt"), read_all("crates/*/specs/*.antt")
+    contracts = re.findall(r"\b(?:fn|ensures|struct|enum|trait|mod) (\w+)", code)
+    return {
+        "Contract": set(contracts) | set(re.findall(r"\bpub (?:record |data )?(\w+)", specs)),
         "Tests": set(re.findall(r"#\[test\]\s*fn (\w+)", code)) | {path.name for path in TOP.glob("crates/*")},
         "Rows": {path.parent.name for path in TOP.glob("rows/*/script")},
         "Edits": {path.stem for path in TOP.glob("crates/*/*/*.edit")},
     }
+
+
+def promises():
+    """Whether what the pages name is there. Crates of tests stand for their tests; the names of edits have hyphens."""
+    there = names_there()
     for page, labels, name in sorted(set(promised())):
+        words = set(name.split("::"))
         if labels != "Edits" or "-" in name:
-            yield "docs/%s: %s" % (page, name), any(name in there[label] for label in labels.split(", "))
+            yield "docs/%s: %s" % (page, name), any(words <= there[label] for label in labels.split(", "))
 
 
 def primary():
@@ -63,6 +76,6 @@ def primary():
 def cases():
     """Each of the names that lead nowhere, and what the pages show."""
     found = [*links(), *promises()]
-    yield "%d links, tests, rows and edits that the pages name" % len(found), all(well for _, well in found)
+    yield "%d links and names of the pages" % len(found), all(well for _, well in found)
     yield from ((name, well) for name, well in found if not well)
     yield from primary()
