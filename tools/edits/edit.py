@@ -1,6 +1,5 @@
 """Edits: each turns the body of one function of a crate."""
 import collections
-import os
 import re
 from pathlib import Path
 
@@ -11,13 +10,15 @@ NAME = re.compile(r"[A-Za-z0-9_-][A-Za-z0-9_.-]*\.edit")
 
 
 class Edit:
-    """An edit of a crate: the function that it turns and the body that it makes, or in `why` the reason that it is none."""
+    """An edit of a crate: the file and the function that it turns and the body that it makes, or in `why` the reason that it is none."""
 
     def __init__(self, crate, folder, file, functions):
-        self.crate, self.label = crate, f"{crate}/{Path(file).stem}"
-        self.path = self.function = self.body = None
-        texts, self.why = rt.read_edit(file, folder) if NAME.fullmatch(Path(file).name) else (None, "its name is not of letters, digits, _, - and . with .edit at the end")
-        if not self.why:
+        self.label = f"{crate}/{Path(file).stem}"
+        self.path = self.function = self.body = texts = None
+        self.why = "its name is not of letters, digits, _, - and . with .edit at the end"
+        if NAME.fullmatch(Path(file).name):
+            texts, self.why = rt.read_edit(file, folder)
+        if texts:
             self.why = self._read(folder, texts, functions)
 
     def _read(self, folder, texts, functions):
@@ -28,24 +29,24 @@ class Edit:
         here, then, grown = functions[self.path], functions_in(new), len(new) - len(old)
         if then is None:
             return "what it makes is no text of Rattle"
-        for it in here:
-            body = new[it.opens : it.closes + grown]
+        places = [(it.name, it.opens, it.closes) for it in then]
+        for it in here if len(then) == len(here) else []:
             is_rest_kept = old[: it.opens] == new[: it.opens] and old[it.closes :] == new[it.closes + grown :]
-            if is_rest_kept and len(then) == len(here) and any((one.name, one.opens, one.closes) == (it.name, it.opens, it.closes + grown) for one in then):
-                self.function, self.body = it, body
-                return "a function of its own stands in the new body" if re.search(rb"\bfn\s+\w", body) else None
+            if is_rest_kept and (it.name, it.opens, it.closes + grown) in places:
+                self.function, self.body = it, new[it.opens : it.closes + grown]
+                return "a function of its own stands in the new body" if re.search(rb"\bfn\s+\w", self.body) else None
         return "it changes something else than the body of one function"
 
     def key(self):
-        """Two edits of one key are not tried together: those of one function, or of one cycle of calls."""
-        return self.crate, self.path, self.function.cycle or self.function.opens
+        """Edits of one key are not tried together: those of one name in one file, so that a line of the prover is of one edit, or of one cycle."""
+        return self.path, self.function.cycle or self.function.name
 
 
 def functions_below(folder):
-    """Returns the functions of each file in src/ of a crate's folder, by the file's path in it, or None where one is no text of Rattle."""
-    files = sorted(str(it) for it in Path(folder, "src").rglob("*.rt"))
+    """Returns the functions of each file in src/ of a crate's folder, by the file's path in it, or nothing where one is no text of Rattle."""
+    files = sorted(Path(folder, "src").rglob("*.rt"))
     tokens = tokens_of(files)
-    return None if tokens is None else {os.path.relpath(file, folder): functions_of(rows) for file, rows in zip(files, tokens)}
+    return {str(file.relative_to(folder)): functions_of(rows) for file, rows in zip(files, tokens or [])}
 
 
 def edits_in(crate, folder):
@@ -56,7 +57,7 @@ def edits_in(crate, folder):
 
 
 def groups_of(edits, most):
-    """Returns the edits in groups of different functions, of about the same size and at most `most` each."""
+    """Returns the edits in groups of different functions, of about the same size and of at most so many each."""
     rounds, times = collections.defaultdict(list), collections.Counter()
     for it in edits:
         rounds[times[it.key()]].append(it)
@@ -66,11 +67,11 @@ def groups_of(edits, most):
 
 
 def texts_with(folder, edits):
-    """Returns the texts (bytes) of this folder's files in which these edits of different functions are all made, by path."""
+    """Returns the texts (bytes) of the files of this folder in which the edits, of different functions, are all made, by path."""
     made = {}
     for path in {it.path for it in edits}:
         text = Path(folder, path).read_bytes()
-        # (by name and lines, since other bodies may have been left out of the text)
+        # (by name and lines, since other bodies may be left out of the text)
         here = {(it.name, it.lines): it for it in functions_in(text)}
         made[path] = with_bodies(text, [(here[it.function.name, it.function.lines], it.body) for it in edits if it.path == path])
     return made

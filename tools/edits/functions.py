@@ -1,6 +1,5 @@
 """The functions of a text of Rattle, found by rattle's own tokens."""
 import collections
-import os
 import re
 import subprocess
 import tempfile
@@ -89,7 +88,3 @@ def with_bodies(text, bodies):
         text = text[: function.opens] + body + text[function.closes :]
     return text
 
-
-def files_below(folder):
-    """Returns the paths of the files below this folder, in order."""
-    return sorted(f"{at}/{name}" for at, _, names in os.walk(folder) for name in names)
