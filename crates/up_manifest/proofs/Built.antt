@@ -18,7 +18,7 @@ use Rattle.up_manifest.specs.Manifests.{most_reports}
 use Rattle.up_manifest.specs.Meaning.{MeansSignedReport, MeansManifest, MeansBody}
 use Rattle.up_manifest.specs.declared.report.Report.{Report}
 use Rattle.up_manifest.specs.declared.manifest.Incoming.{Incoming}
-use Rattle.up_manifest.proofs.Printable.{ident_prints}
+use Rattle.up_canon.proofs.Printable.{ident_prints}
 use Rattle.up_manifest.proofs.Values.{canon_of, envelope_means, pair_value, report_signed, signed_report_means, zipped, manifest_value, manifest_value-text, manifest_plain, manifest_depth, manifest_means}
 use Rattle.up_manifest.proofs.Lengths.{envelope-length, manifest-length}
 
