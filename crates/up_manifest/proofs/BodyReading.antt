@@ -1,16 +1,15 @@
 -- What is read of a body is what it means.
-use Rattle.std.proofs.Common.{◌≡◌, ◌≤◌, ℕ, List, [], ◌∷◌, Bool, true, false, cond, Some, None, Result, Ok, Err, length, refl, ap, ap₂, ◌∙◌, subst, sym, arith}
+use Rattle.std.proofs.Common.{◌≡◌, ◌≤◌, ℕ, List, Bool, true, false, cond, Some, None, Result, Ok, Err, length, refl, ap, ap₂, ◌∙◌, subst, sym, arith}
 use Rattle.std.specs.Prelude.{IsUtf8, MatchResult, nat_le, codes}
 use Rattle.std.specs.Str.{is_utf8}
-use Rattle.std.specs.List.{list_all}
 use Rattle.std.proofs.lemmas.Str.{IsUtf8-from_is_utf8, is_utf8-from_IsUtf8}
 use Rattle.std.proofs.lemmas.Bool.Decides.{nat_tests}
-use Rattle.serde_json.specs.Data.{Data, array, object, Items, no_items, item, Members}
+use Rattle.serde_json.specs.Data.{Data, array, Items}
 use Rattle.serde_json.specs.Find as json
 use Rattle.serde_json.specs.Read.{read}
 use Rattle.up_canon.specs.JsonText.{value_in, value_within}
 use Rattle.up_canon.specs.Members.{items_list}
-use Rattle.up_canon.specs.Steps.{or_error, each}
+use Rattle.up_canon.specs.Steps.{each}
 use Rattle.up_canon.specs.declared.refusal.Refusal.{Refusal}
 use Rattle.up_sign.specs.Laws.{IsEnvelopeFault, ValuesMeanOneOrFail}
 use Rattle.up_canon.specs.Meaning.{EachMeans}

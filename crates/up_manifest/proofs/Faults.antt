@@ -1,5 +1,5 @@
 -- The faults that a body may have.
-use Rattle.std.proofs.Common.{ℕ, List, Result}
+use Rattle.std.proofs.Common.{ℕ, List}
 use Rattle.std.specs.Prelude.{codes}
 use Rattle.serde_json.specs.Data.{Data}
 use Rattle.up_canon.specs.declared.refusal.Refusal.{Refusal}

@@ -1,21 +1,20 @@
 -- The values that texts of envelopes, reports and manifests read as, and what they mean.
-use Rattle.std.proofs.Common.{◌≡◌, ℕ, zero, suc, lit<, lit≤, ◌+◌, ◌*◌, ◌<◌, ◌≤◌, max, List, [], ◌∷◌, ◌++◌, Bool, true, false, cond, Some, None, Ok, length, map, append_assoc, refl, sym, ap, ap₂, ◌∙◌, subst, arith}
-use Rattle.std.specs.Prelude.{◌&&◌, IsTrue, nat_le, slice_index, codes, decimal}
+use Rattle.std.proofs.Common.{◌≡◌, ℕ, zero, suc, lit<, lit≤, ◌+◌, ◌≤◌, List, [], ◌∷◌, ◌++◌, Bool, true, Some, length, map, append_assoc, refl, sym, ap, ap₂, ◌∙◌, subst, arith}
+use Rattle.std.specs.Prelude.{◌&&◌, IsTrue, nat_le, codes, decimal}
 use Rattle.std.specs.List.{list_all, join_with_byte}
 use Rattle.std.proofs.lemmas.Bool.{and_parts}
 use Rattle.std.proofs.lemmas.Bool.Decides.{nat_tests}
-use Rattle.std.proofs.lemmas.List.{length-map}
 use Rattle.hex.specs.Hex.{IsBytes, encode_lower, lower_digits}
 use Rattle.hex.proofs.HexLemmas.{length-encode_with, decode_of-encode_lower}
-use Rattle.serde_json.specs.Data.{Data, string, object, array, Items, no_items, item, Members, depth, items_depth}
+use Rattle.serde_json.specs.Data.{Data, string, depth, items_depth}
 use Rattle.serde_json.specs.View.{items_of}
-use Rattle.up_canon.specs.Build.{object_with, list_with, count_value, hex_value}
-use Rattle.up_canon.specs.Canon.{max_count, max_nesting, is_printable, is_printable_text, is_plain, items_are_plain, canon, text, items_text, quoted}
-use Rattle.up_canon.specs.Moments.{last_moment, moment_text, read_moment, MomentTextIsPlain, MomentsAreRead}
+use Rattle.up_canon.specs.Build.{object_with, list_with, count_value}
+use Rattle.up_canon.specs.Canon.{max_count, max_nesting, is_printable, is_printable_text, is_plain, items_are_plain, canon, text, quoted}
+use Rattle.up_canon.specs.Moments.{moment_text, MomentTextIsPlain, MomentsAreRead}
 use Rattle.up_canon.specs.Names.{is_from_to, is_short_text, is_ident}
 use Rattle.up_sign.specs.Formats.{signature_fits, envelope_fits, has_bytes, IsSigned, signature_value, envelope_text}
 use Rattle.up_sign.specs.Laws.{envelope_value, ValuesMeanOneOrFail, TextsAreRead}
-use Rattle.up_canon.specs.Meaning.{HasHex, EachMeans}
+use Rattle.up_canon.specs.Meaning.{EachMeans}
 use Rattle.up_sign.specs.Meaning.{MeansEnvelope}
 use Rattle.up_sign.specs.Schemes.{is_byte}
 use Rattle.up_sign.specs.declared.envelope.Signature.{Signature}
@@ -23,9 +22,7 @@ use Rattle.up_sign.specs.declared.envelope.Envelope.{Envelope}
 use Rattle.up_manifest.specs.Building.{hashes_value, installed_value, report_value, report_text, ReportFits, IsReportEnvelope, AreReportEnvelopes, listed, manifest_text, signed_reports}
 use Rattle.up_manifest.specs.Manifests.{most_reports}
 use Rattle.up_manifest.specs.Meaning.{MeansInstalled, MeansReport, MeansSignedReport, MeansManifest}
-use Rattle.up_manifest.specs.declared.report.Installed.{Installed}
 use Rattle.up_manifest.specs.declared.report.Report.{Report}
-use Rattle.up_manifest.specs.declared.report.SignedReport.{SignedReport}
 use Rattle.up_manifest.specs.declared.manifest.Manifest.{Manifest}
 use Rattle.up_manifest.proofs.BodyReading.{opened_read}
 use Rattle.up_canon.proofs.Joined.{listed_text}

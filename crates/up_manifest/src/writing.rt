@@ -11,7 +11,9 @@ use crate::report::{Installed, Report};
 use std::alloc::{AllocError, Global};
 use up_canon::ident::Ident;
 use up_canon::moment::{Moment, moment_laws};
-use up_canon::writing::{push_count, push_file_name, push_hex, push_ident, push_note, push_number, push_quoted};
+use up_canon::writing::{
+    push_count, push_file_name, push_hex, push_ident, push_note, push_number, push_quoted,
+};
 use up_sign::envelope::Envelope;
 
 /// The canonical text of a report.
