@@ -6,18 +6,17 @@ use Rattle.std.specs.FinMap as table
 use Rattle.std.proofs.lemmas.Bool.{and_parts}
 use Rattle.std.proofs.lemmas.Bool.Decides.{nat_tests}
 use Rattle.up_canon.specs.Canon.{is_printable}
-use Rattle.up_canon.specs.Names.{Name, Table, is_from_to, is_ident_byte, is_ident, first_repeated}
+use Rattle.up_canon.specs.Names.{Name, Table, is_from_to, is_ident_byte, is_ident, first_repeated, are_distinct, hardware_fits}
 use Rattle.up_canon.specs.Steps.{first_or_none}
 use Rattle.up_manifest.specs.declared.report.SignedReport.{SignedReport}
 use Rattle.up_roles.specs.declared.repository.Repository.TheVariants.{Director}
-use Rattle.up_roles.specs.Payload.{are_distinct}
 use Rattle.up_roles.specs.Targets.{target_fits, ecus_of}
 use Rattle.up_plan.specs.declared.assigned.Assigned.{Assigned}
 use Rattle.up_plan.specs.declared.assigned.Cause.{Cause}
 use Rattle.up_plan.specs.declared.assigned.Fitted.{Fitted}
 use Rattle.up_plan.specs.declared.campaign.Item.{Item}
 use Rattle.up_plan.specs.Campaigns.{CampaignData}
-use Rattle.up_plan.specs.Images.{ImageData, hardware_fits, image_fits}
+use Rattle.up_plan.specs.Images.{ImageData, image_fits}
 use Rattle.up_plan.specs.Planning.{Resulting, with_wanted, wanted, resulting, updates, unmet, plan_with, plan_of, items_for}
 use Rattle.up_machine.specs.declared.rows.EcuRow.{EcuRow}
 use Rattle.up_machine.specs.declared.rows.VehicleRows.{VehicleRows}

@@ -20,7 +20,7 @@ use Rattle.up_machine.specs.Deciding.{Outcome, check_moment, check_founded}
 use Rattle.up_machine.specs.Deliveries.{Received, is_signed_by, receive_manifest, receive, check_new, plan_in, entry_of, with_entry, accepted, decide_received, decide_delivery}
 use Rattle.up_machine.specs.Machine.{outcome_of, step}
 use Rattle.up_machine.specs.Repeats.{Repeat, repeat_in, repeat_of, served_as, serve}
-use Rattle.up_machine.proofs.Steps.{bind-ok, bind-err, same_ok}
+use Rattle.up_canon.proofs.Steps.{bind-ok, bind-err, same_ok}
 use Rattle.up_machine.proofs.Receiving.{received}
 
 -- the same state with another inventory

@@ -26,7 +26,7 @@ use Rattle.up_machine.specs.Machine.{Timed, decide, outcome_of, step, run}
 use Rattle.up_machine.specs.Repeats.{Repeat, entry_signed, repeat_in, repeat_of, served_as, serve, Sent, meet, after, stays, thinned, not_lost}
 use Rattle.up_machine.specs.Sound.{IsEntryOf, IsSound}
 use Rattle.up_machine.specs.RepeatLaws.{RepeatsAreStale, RepeatsGetKeptReplies, CountersFindRepeats, OlderCountersAreStale, RepeatsChangeNothing, ServedIsThinned, ServedStaysSound}
-use Rattle.up_machine.proofs.Steps.{bind-ok, bind-err, value_of_some, and_then_some, map_some, one_value}
+use Rattle.up_canon.proofs.Steps.{bind-ok, bind-err, value_of_some, and_then_some, map_some, one_value}
 use Rattle.up_machine.proofs.Lists.{each_at, none_passes}
 use Rattle.up_machine.proofs.Receiving.{received}
 use Rattle.up_machine.proofs.Counters.{told_apart, up_to_last}

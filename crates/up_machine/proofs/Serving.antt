@@ -10,7 +10,7 @@ use Rattle.up_machine.specs.State.{Root, State, root_at}
 use Rattle.up_machine.specs.declared.decision.RoleTexts.{RoleTexts}
 use Rattle.up_machine.specs.Files.{File, numbered_root_name, root_text_at, numbered_roots, latest_root, role_texts, image_making, latest_texts, texts_in, image_texts, files, file}
 use Rattle.up_machine.specs.SignedLaws.{IsRootText, IsImageText, IsServedText, ServedFilesAreKnown}
-use Rattle.up_machine.proofs.Steps.{map_some}
+use Rattle.up_canon.proofs.Steps.{map_some}
 use Rattle.up_machine.proofs.Installing.{found_is}
 use Rattle.up_machine.proofs.Repeating.{nth_at_place}
 

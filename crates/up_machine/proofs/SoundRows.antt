@@ -15,7 +15,7 @@ use Rattle.up_machine.specs.Rows.{ecu_row, rows_of}
 use Rattle.up_machine.specs.Decisions.{AreSoundRows, IsRead}
 use Rattle.up_machine.specs.RowLaws.{VehicleRowsAreSound}
 use Rattle.up_machine.proofs.Counters.{versions_are_counts}
-use Rattle.up_machine.proofs.Steps.{map_some}
+use Rattle.up_canon.proofs.Steps.{map_some}
 
 names_same : (v : Vehicle) (ecus : List NewEcu) → map (λ (row : EcuRow). row.ecu) (map (ecu_row v) ecus) ≡ ecu_names ecus
 names_same v [] = refl

@@ -14,7 +14,7 @@ use crate::new_files::register_rows;
 use crate::rows::Founding;
 use crate::same_image::same_image;
 use std::alloc::Global;
-use up_canon::count::Count;
+use up_canon::count::{Count, MAX_COUNT};
 use up_canon::moment::Moment;
 use up_canon::refusal::Refusal;
 use up_canon::table::Table;
@@ -50,7 +50,7 @@ pub fn decide_image<K: Scheme>(
     if images.len() >= 1024 {
         return Err(Refusal::RegisterFull);
     }
-    if old.image_version >= 9007199254740991 {
+    if old.image_version >= MAX_COUNT {
         return Err(Refusal::VersionLimit);
     }
     let targets = targets_with(alloc, images.values(), image)?;

@@ -14,6 +14,7 @@ use crate::keys::KeySet;
 use crate::new_files::root_rows;
 use crate::rows::Founding;
 use std::alloc::Global;
+use up_canon::count::MAX_COUNT;
 use up_canon::moment::Moment;
 use up_canon::refusal::Refusal;
 use up_canon::table::Table;
@@ -65,7 +66,7 @@ pub fn decide_rotate<K: Scheme>(
     if old.root >= 64 {
         return Err(Refusal::RootFull);
     }
-    if old.image_version >= 9007199254740991 {
+    if old.image_version >= MAX_COUNT {
         return Err(Refusal::VersionLimit);
     }
     let number = old.root + 1;

@@ -3,7 +3,7 @@ ghost use Rattle.std.specs.Prelude.{◌≡◌, ◌<◌, ◌≤◌, ◌++◌, IsT
 ghost use Rattle.std.specs.List.{list_all};
 ghost use Rattle.up_canon.specs.Canon.{max_count, quoted};
 ghost use Rattle.up_canon.specs.Moments.{last_command_moment};
-ghost use Rattle.up_roles.specs.Payload.{are_distinct};
+ghost use Rattle.up_canon.specs.Names.{are_distinct};
 ghost use Rattle.up_roles.specs.Targets.{target_fits, ecus_of};
 ghost use Rattle.up_roles.specs.declared.repository.Repository.TheVariants.{Director as TheDirector};
 ghost use Rattle.up_machine.specs.Files.{target_of};

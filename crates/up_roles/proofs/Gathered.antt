@@ -9,7 +9,7 @@ use Rattle.std.proofs.lemmas.Map.Text.{is_eq-slice_cmp}
 use Rattle.serde_json.specs.Data.{Data, Members, no_members, member, put}
 use Rattle.up_roles.specs.Root.{key_member, put_keys, agree, keys_agree, members_list}
 use Rattle.up_roles.specs.declared.root.RootKey.{RootKey}
-use Rattle.up_roles.proofs.Plain.{both}
+use Rattle.up_canon.proofs.Printable.{both}
 use Rattle.up_roles.proofs.Repeats.{bytes_eq-sym}
 
 -- the key in its place, instead of the one of its identifier

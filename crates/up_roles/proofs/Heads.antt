@@ -17,14 +17,14 @@ use Rattle.up_canon.specs.Names.{Name, is_ident, is_file_name}
 use Rattle.up_canon.specs.Readers.{fitting, ident_of, file_name_of, ident_in, word_in, positive_in}
 use Rattle.up_canon.specs.Steps.{or_error, unless, value_of}
 use Rattle.up_canon.specs.declared.refusal.Refusal.TheVariants.{BadShape}
-use Rattle.up_sign.specs.Meaning.{HasText}
-use Rattle.up_sign.proofs.Members.{text_there, fits_there}
-use Rattle.up_sign.proofs.Steps.{bind-ok}
+use Rattle.up_canon.specs.Meaning.{HasText}
+use Rattle.up_canon.proofs.Members.{text_there, fits_there}
+use Rattle.up_canon.proofs.Steps.{bind-ok}
 use Rattle.up_roles.specs.Parts.{part_in, object_part, text_part, count_part, positive_part, ident_part, file_name_part, is_lower_digit, sha256_part}
 use Rattle.up_roles.specs.Payload.{repository_text, hashes_value, version_fits, name_fits, is_named, is_hash, is_moment, repository_of, repository_in, expires_in, head_in, vehicle_in}
 use Rattle.up_roles.specs.declared.repository.Repository.{Repository}
 use Rattle.up_roles.specs.declared.repository.Repository.TheVariants.{Director, Image}
-use Rattle.up_roles.proofs.Plain.{all-hex}
+use Rattle.up_canon.proofs.Printable.{all-hex}
 
 pub unless-there : {E : Type 0} (b : Bool) (e : E) → b ≡ true → unless b e ≡ Ok tt
 unless-there true e h = refl

@@ -56,9 +56,6 @@ IsCanonical payload = canon payload ≡ Some (text payload)
 
 -- ---- limits
 
-abbrev pub are_distinct : List Name → Bool
-are_distinct names = is_none (first_repeated names)
-
 abbrev pub version_fits : ℕ → Bool
 version_fits version = is_from_to 1 max_count version
 

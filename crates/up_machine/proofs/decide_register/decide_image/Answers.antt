@@ -3,7 +3,7 @@ use Rattle.std.specs.Prelude.{IsTrue, IfSome, option_map, insert}
 use Rattle.std.specs.FinMap as table
 use Rattle.up_canon.specs.Canon.{max_count}
 use Rattle.up_machine.specs.Registers.{place_among}
-use Rattle.up_roles.specs.Payload.{are_distinct}
+use Rattle.up_canon.specs.Names.{are_distinct}
 use Rattle.up_roles.specs.Targets.{ecus_of}
 use Rattle.up_machine.specs.Keys.{key_set_fits}
 use Rattle.up_machine.specs.Files.{target_of}
