@@ -7,7 +7,7 @@ use Rattle.std.specs.Ordering.{nat_cmp}
 use Rattle.serde_json.specs.Data.{Data, string}
 use Rattle.up_canon.specs.Canon.{max_count}
 use Rattle.up_canon.specs.Members.{list_in, object_of}
-use Rattle.up_canon.specs.Names.{Name, is_from_to, is_ident, is_file_name, are_distinct}
+use Rattle.up_canon.specs.Names.{Name, is_ident, is_file_name, are_distinct, hardware_fits}
 use Rattle.up_canon.specs.Readers.{ident_of, fitting}
 use Rattle.up_canon.specs.Steps.{◌>>=◌, each}
 use Rattle.up_canon.specs.declared.refusal.Refusal.{Refusal}
