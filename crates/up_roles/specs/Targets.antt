@@ -1,5 +1,5 @@
 -- Targets files: images, and in the Director's the ECU that installs each.
-use Rattle.std.specs.Prelude.{◌≡◌, ℕ, ◌&&◌, List, [], ◌∷◌, Bool, nat_le, false, bytes_eq, option_map, option_to_list, length, map, filter_map, codes, Option, Some, None, Result, Ok}
+use Rattle.std.specs.Prelude.{◌≡◌, ℕ, ◌&&◌, List, [], ◌∷◌, Bool, nat_le, false, bytes_eq, option_map, option_to_list, map, filter_map, codes, Option, Some, None, Result, Ok}
 use Rattle.std.specs.BTreeSet.{BTreeSet, contains_by}
 use Rattle.std.specs.Cmp.Lexicographic.{slice_cmp}
 use Rattle.std.specs.List.{list_all, list_any}
