@@ -5,8 +5,7 @@ use Rattle.std.specs.List.{list_all, list_any, cons_option}
 use Rattle.std.specs.FinMap as table
 use Rattle.std.proofs.lemmas.Bool.{and_parts}
 use Rattle.std.proofs.lemmas.Bool.Decides.{nat_tests}
-use Rattle.up_canon.specs.Canon.{is_printable}
-use Rattle.up_canon.specs.Names.{Name, Table, is_from_to, is_ident_byte, is_ident, first_repeated, are_distinct, hardware_fits}
+use Rattle.up_canon.specs.Names.{Name, Table, first_repeated, are_distinct, hardware_fits}
 use Rattle.up_canon.specs.Steps.{first_or_none}
 use Rattle.up_manifest.specs.declared.report.SignedReport.{SignedReport}
 use Rattle.up_roles.specs.declared.repository.Repository.TheVariants.{Director}
@@ -35,18 +34,6 @@ hardware_first false name rest h = h
 
 pub fits : (ecu : Name) (image : ImageData) → image_fits image ≡ true → target_fits Director (target_of (Some ecu) image) ≡ true
 fits ecu image h = hardware_first (hardware_fits image.hardware) _ _ h
-
--- ---- names that are printed
-
-all_printable : (xs : List ℕ) → list_all is_ident_byte xs ≡ true → list_all is_printable xs ≡ true
-all_printable [] h = refl
-all_printable (x ∷ xs) h = let q = and_parts (is_ident_byte x) _ h in ap₂ (λ a b. a && b) (byte x q.0) (all_printable xs q.1)
-  where
-    byte : (x : ℕ) → is_ident_byte x ≡ true → is_printable x ≡ true
-    byte x h = grind (arith, nat_tests)
-
-pub ident_prints : (t : List ℕ) → is_ident t ≡ true → list_all is_printable t ≡ true
-ident_prints t h = let p = and_parts (is_from_to 1 64 (length t)) _ h in all_printable t p.1
 
 -- ---- no ECU stands twice
 

@@ -1,6 +1,6 @@
 -- The keys of a Root payload: each identifier once, in byte order.
-use Rattle.std.proofs.Common.{◌≡◌, ℕ, List, [], ◌∷◌, Bool, true, false, Ordering, Less, Equal, Greater, Option, Some, None, cond, nat_cmp, map, refl, ap, sym, ◌∙◌}
-use Rattle.std.specs.Prelude.{bytes_eq, not, ◌&&◌, ◌||◌}
+use Rattle.std.proofs.Common.{◌≡◌, ℕ, List, [], ◌∷◌, Bool, true, false, Ordering, Less, Equal, Greater, Option, Some, cond, nat_cmp, map, refl, ap, sym, ◌∙◌}
+use Rattle.std.specs.Prelude.{bytes_eq, ◌&&◌}
 use Rattle.std.specs.List.{list_all, find}
 use Rattle.std.specs.Ordering.{match_ordering, is_eq}
 use Rattle.std.specs.Cmp.Lexicographic.{slice_cmp, bytes_decides}

@@ -1,13 +1,13 @@
 -- Lists whose items are read one after another.
 use Rattle.std.proofs.Common.{◌≡◌, ℕ, List, [], ◌∷◌, Bool, true, Result, Ok, Some, length, map, refl, ◌∙◌}
-use Rattle.std.specs.Prelude.{codes, ◌&&◌}
+use Rattle.std.specs.Prelude.{◌&&◌}
 use Rattle.std.specs.List.{list_all}
 use Rattle.std.proofs.lemmas.Bool.{and_parts}
 use Rattle.serde_json.specs.Data.{Data}
 use Rattle.serde_json.specs.Find as json
 use Rattle.up_canon.proofs.Lists.{items_listed}
 use Rattle.up_canon.specs.Build.{list_with}
-use Rattle.up_canon.specs.Members.{list_of, list_in, items_list}
+use Rattle.up_canon.specs.Members.{list_of, list_in}
 use Rattle.up_canon.specs.Names.{is_from_to}
 use Rattle.up_canon.specs.Steps.{each}
 use Rattle.up_canon.specs.declared.refusal.Refusal.{Refusal}

@@ -9,7 +9,7 @@ use Rattle.serde_json.specs.Data.{Data, string}
 use Rattle.up_canon.specs.Build.{object_with, list_with, count_value, hex_value}
 use Rattle.up_canon.specs.Canon.{max_count, is_printable_text, has_canon}
 use Rattle.up_canon.specs.Moments.{last_moment, moment_text}
-use Rattle.up_canon.specs.Names.{Name, is_from_to, is_ident, is_file_name}
+use Rattle.up_canon.specs.Names.{Name, is_ident, is_file_name}
 use Rattle.up_canon.proofs.MomentTexts.{moments_are_plain}
 use Rattle.up_roles.specs.Payload.{IsCanonical, payload, payload_members, repository_text, hashes_value, version_fits, is_named, is_hash, is_moment}
 use Rattle.up_roles.specs.Root.{all_keys, key_member, role_value, roles_value, roles_members, root_more, root_payload, key_fits, role_fits, root_fits, root_is_typed}

@@ -1,16 +1,15 @@
 -- The payload of a file within its limits means the file.
-use Rattle.std.proofs.Common.{◌≡◌, ℕ, List, [], ◌∷◌, Bool, true, ◌&&◌, Option, Some, None, Ok, refl, ap, ◌∙◌}
+use Rattle.std.proofs.Common.{◌≡◌, ℕ, List, [], ◌∷◌, true, Option, Some, None, Ok, refl, ◌∙◌}
 use Rattle.std.specs.Prelude.{codes}
 use Rattle.std.proofs.lemmas.Bool.{and_parts}
 use Rattle.serde_json.specs.Data.{Data}
 use Rattle.serde_json.specs.Find as json
 use Rattle.up_canon.specs.Build.{object_with, count_value}
-use Rattle.up_canon.specs.Members.{object_in}
 use Rattle.up_canon.specs.Moments.{MomentsAreRead}
 use Rattle.up_canon.specs.Names.{Name}
 use Rattle.up_canon.proofs.Members.{object_there}
 use Rattle.up_canon.proofs.Steps.{bind-ok}
-use Rattle.up_roles.specs.Payload.{payload, hashes_value, version_fits, name_fits}
+use Rattle.up_roles.specs.Payload.{payload, hashes_value, version_fits}
 use Rattle.up_roles.specs.Snapshot.{snapshot_meta, snapshot_payload, snapshot_fits, snapshot_is_typed, snapshot_entry_in, snapshot_of}
 use Rattle.up_roles.specs.Timestamp.{timestamp_meta, timestamp_payload, timestamp_fits, timestamp_is_typed, timestamp_entry_in, timestamp_of}
 use Rattle.up_roles.specs.declared.repository.Repository.{Repository}

@@ -1,7 +1,7 @@
 -- The payload of a Root file within its limits means the file.
-use Rattle.std.proofs.Common.{◌≡◌, ℕ, ◌≤◌, List, [], ◌∷◌, ◌++◌, Bool, true, false, Option, Some, None, Ok, length, map, refl, ap, sym, ◌∙◌, arith}
+use Rattle.std.proofs.Common.{◌≡◌, ℕ, List, [], ◌∷◌, ◌++◌, Bool, true, false, Some, None, Ok, length, map, refl, ap, ◌∙◌, arith}
 use Rattle.std.specs.Prelude.{codes, nat_le, bytes_eq, ◌||◌}
-use Rattle.std.specs.List.{list_all, list_any, find}
+use Rattle.std.specs.List.{list_all, list_any}
 use Rattle.std.specs.Cmp.Lexicographic.{bytes_decides}
 use Rattle.std.proofs.lemmas.Bool.{and_parts}
 use Rattle.std.proofs.lemmas.Bool.Decides.{nat_tests}
@@ -9,7 +9,7 @@ use Rattle.std.proofs.lemmas.List.{length-map}
 use Rattle.std.proofs.lemmas.List.Folds.{list_all-append}
 use Rattle.serde_json.specs.Data.{Data, string, object, no_members}
 use Rattle.serde_json.specs.Find as json
-use Rattle.up_canon.specs.Build.{object_with, list_with, count_value}
+use Rattle.up_canon.specs.Build.{object_with}
 use Rattle.up_canon.specs.Canon.{max_count}
 use Rattle.up_canon.specs.Members.{object_of, text_of}
 use Rattle.up_canon.specs.Moments.{MomentsAreRead}
@@ -29,7 +29,7 @@ use Rattle.up_roles.proofs.Heads.{HasHead, head_there, object_part-there, text_p
 use Rattle.up_roles.proofs.Keys.{members_with-keys}
 use Rattle.up_roles.proofs.Lists.{each-there, few_part-there}
 use Rattle.up_canon.proofs.Printable.{both, all-more}
-use Rattle.up_roles.proofs.PlainFiles.{RolesFit, roles-fit, all_keys-fit}
+use Rattle.up_roles.proofs.PlainFiles.{roles-fit, all_keys-fit}
 
 -- ---- keys
 

@@ -1,13 +1,12 @@
 -- The payload of a Targets file within its limits means the file.
-use Rattle.std.proofs.Common.{◌≡◌, ℕ, List, [], ◌∷◌, Bool, true, ◌&&◌, Option, Some, None, Ok, length, map, refl, ap, ◌∙◌}
-use Rattle.std.specs.Prelude.{codes, nat_le}
+use Rattle.std.proofs.Common.{◌≡◌, ℕ, List, [], ◌∷◌, true, ◌&&◌, Option, Some, None, Ok, length, map, refl, ap, ◌∙◌}
+use Rattle.std.specs.Prelude.{codes}
 use Rattle.std.specs.List.{list_all}
 use Rattle.std.proofs.lemmas.Bool.{and_parts}
 use Rattle.std.proofs.lemmas.List.{length-map}
 use Rattle.serde_json.specs.Data.{Data, string}
 use Rattle.serde_json.specs.Find as json
 use Rattle.up_canon.specs.Build.{list_with, count_value}
-use Rattle.up_canon.specs.Canon.{max_count}
 use Rattle.up_canon.specs.Members.{object_of}
 use Rattle.up_canon.specs.Moments.{MomentsAreRead}
 use Rattle.up_canon.specs.Names.{Name, is_from_to, is_ident, are_distinct, hardware_fits}

@@ -1,12 +1,12 @@
 -- Names one after another, up to the first that stood before it.
 use Rattle.std.proofs.Common.{◌≡◌, ℕ, ◌+◌, ◌<◌, List, [], ◌∷◌, ◌++◌, Bool, true, false, Option, Some, None, length, get_or, take, drop, reverse, cond, nat_cmp, refl, ap, ap₂, ◌∙◌, sym, append-nil}
-use Rattle.std.specs.Prelude.{bytes_eq, map, is_none, not, option_to_list, ◌||◌}
+use Rattle.std.specs.Prelude.{bytes_eq, is_none, not, option_to_list, ◌||◌}
 use Rattle.std.specs.BTreeSet.{BTreeSet, contains_by}
 use Rattle.std.specs.Cmp.Lexicographic.{slice_cmp, bytes_decides}
 use Rattle.std.specs.List.{list_any}
 use Rattle.std.specs.Ordering.{is_eq}
 use Rattle.std.proofs.Math.Bool.{or-false}
-use Rattle.std.proofs.lemmas.List.{take_more, drop_more, reverse-append, map-append}
+use Rattle.std.proofs.lemmas.List.{take_more, drop_more, reverse-append}
 use Rattle.std.proofs.lemmas.List.Elements.{filter_map-append}
 use Rattle.std.proofs.lemmas.List.Folds.{list_any-append}
 use Rattle.std.proofs.lemmas.List.Sorted.{list_any-IsPermutation, IsPermutation-reverse}

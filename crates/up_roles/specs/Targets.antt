@@ -1,5 +1,5 @@
 -- Targets files: images, and in the Director's the ECU that installs each.
-use Rattle.std.specs.Prelude.{◌≡◌, ℕ, ◌&&◌, List, [], ◌∷◌, Bool, nat_le, false, bytes_eq, option_map, option_to_list, length, map, filter_map, codes, Option, Some, None, Result, Ok}
+use Rattle.std.specs.Prelude.{◌≡◌, ℕ, ◌&&◌, List, [], ◌∷◌, Bool, nat_le, false, bytes_eq, option_map, option_to_list, map, filter_map, codes, Option, Some, None, Result, Ok}
 use Rattle.std.specs.BTreeSet.{BTreeSet, contains_by}
 use Rattle.std.specs.Cmp.Lexicographic.{slice_cmp}
 use Rattle.std.specs.List.{list_all, list_any}
@@ -7,7 +7,7 @@ use Rattle.std.specs.Ordering.{nat_cmp}
 use Rattle.serde_json.specs.Data.{Data, string}
 use Rattle.up_canon.specs.Canon.{max_count}
 use Rattle.up_canon.specs.Members.{list_in, object_of}
-use Rattle.up_canon.specs.Names.{Name, is_from_to, is_ident, is_file_name, are_distinct}
+use Rattle.up_canon.specs.Names.{Name, is_ident, is_file_name, are_distinct, hardware_fits}
 use Rattle.up_canon.specs.Readers.{ident_of, fitting}
 use Rattle.up_canon.specs.Steps.{◌>>=◌, each}
 use Rattle.up_canon.specs.declared.refusal.Refusal.{Refusal}
