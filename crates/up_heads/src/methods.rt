@@ -1,6 +1,6 @@
 //! The methods that the routes know.
 ghost use Rattle.std.specs.Prelude.{◌≡◌};
-ghost use Rattle.up_heads.specs.Methods.{verb_of as verb};
+ghost use Rattle.up_heads.specs.Methods.{is_head_verb, verb_of as verb};
 
 use http::Method;
 
@@ -15,6 +15,15 @@ pub enum Verb {
     Head,
     /// Any other method.
     Other,
+}
+
+impl Verb {
+    /// Whether it is HEAD, whose answer has no body (RFC 9110, section 9.3.2).
+    pub fn is_head(self) -> bool
+        ensures { result ≡ is_head_verb self }
+    {
+        matches!(self, Verb::Head)
+    }
 }
 
 /// The method of this name.

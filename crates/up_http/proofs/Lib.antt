@@ -1,0 +1,4 @@
+pub mod HeadLaws
+pub mod TakenBytes
+pub mod FeedLaws
+pub mod StreamLaws
