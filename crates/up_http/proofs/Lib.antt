@@ -2,3 +2,4 @@ pub mod HeadLaws
 pub mod TakenBytes
 pub mod FeedLaws
 pub mod StreamLaws
+pub mod ServeLaws

@@ -1,7 +1,11 @@
-//! The requests of a stream of bytes, taken in pieces.
+//! The requests of a stream of bytes, taken in pieces, and their answers written to a writer.
 #![tactic(auto)]
 
 pub mod asked;
+pub mod fault;
 pub mod feeder;
 pub mod laws;
+mod progress;
+pub mod respond;
+pub mod serving;
 mod taking;
