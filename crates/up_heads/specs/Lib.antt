@@ -7,3 +7,4 @@ pub mod Routes
 pub mod Rows
 pub mod Planned
 pub mod Fronts
+pub mod Responses

@@ -8,4 +8,5 @@ mod framing;
 pub mod heads;
 pub mod methods;
 pub mod planned;
+pub mod responses;
 mod routes;

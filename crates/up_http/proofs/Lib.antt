@@ -3,3 +3,4 @@ pub mod TakenBytes
 pub mod FeedLaws
 pub mod StreamLaws
 pub mod ServeLaws
+pub mod InputLaws

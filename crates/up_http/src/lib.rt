@@ -8,4 +8,5 @@ pub mod laws;
 mod progress;
 pub mod respond;
 pub mod serving;
+pub mod stream;
 mod taking;

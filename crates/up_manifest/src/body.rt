@@ -55,7 +55,7 @@ impl Body {
         ensures ok { IfOk result (λ n. self.new ≡ record { size = self.old.size; bytes = self.old.bytes ++ take n piece.now }) }
         ensures err { OnErr result (self.new ≡ self.old) }
     {
-        let missing = self.size - self.items.len();
+        let missing = self.missing();
         let taken = if piece.len() < missing {
             piece.len()
         } else {
