@@ -8,6 +8,7 @@ pub mod Greatest
 pub mod Items
 pub mod Members
 pub mod Orders
+pub mod OtherImages
 pub mod Parts
 pub mod PlanLaws
 pub mod Updates

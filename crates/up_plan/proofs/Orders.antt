@@ -71,7 +71,7 @@ module _ {A : Type 0} (p : A → Bool) where
 
 -- ---- images in another order
 
-file_of : (hardware : Name) (installed : Installed) (x : ImageData) → is_reported hardware installed x ≡ true → bytes_eq x.file installed.file ≡ true
+pub file_of : (hardware : Name) (installed : Installed) (x : ImageData) → is_reported hardware installed x ≡ true → bytes_eq x.file installed.file ≡ true
 file_of hardware installed x h =
     let first = both_of (bytes_eq x.file installed.file && (x.length == installed.length) && bytes_eq x.sha256 installed.sha256) (is_for hardware x) h in
     let second = both_of (bytes_eq x.file installed.file && (x.length == installed.length)) (bytes_eq x.sha256 installed.sha256) first.0 in

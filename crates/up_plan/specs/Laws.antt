@@ -1,6 +1,6 @@
 -- What plans promise, in an operator's words.
-use Rattle.std.specs.Prelude.{◌≡◌, ◌<◌, ◌≤◌, ◌&&◌, ◌++◌, ◌⊎◌, List, [], ◌∷◌, Bool, true, false, Option, Some, None, MatchOption, IsSome, map, flat_map}
-use Rattle.std.specs.List.{All, Contains}
+use Rattle.std.specs.Prelude.{◌≡◌, ◌<◌, ◌≤◌, ◌&&◌, ◌++◌, ◌⊎◌, List, [], ◌∷◌, Bool, true, false, Option, Some, None, MatchOption, IsSome, filter, map, flat_map}
+use Rattle.std.specs.List.{All, Contains, list_all}
 use Rattle.std.specs.List.Sorted.{IsPermutation}
 use Rattle.up_canon.specs.Names.{Name}
 use Rattle.up_plan.specs.declared.assigned.Fitted.{Fitted}
@@ -128,3 +128,9 @@ HasDistinctFiles images = (a b : ImageData) → Contains images a → Contains i
 abbrev pub ImagesInAnyOrder : Type 0
 ImagesInAnyOrder = (images others : List ImageData) (campaigns : List CampaignData) (vehicle : Name) (fitted : List Fitted)
     → HasDistinctFiles images → IsPermutation images others → plan_of images campaigns vehicle fitted ≡ plan_of others campaigns vehicle fitted
+
+-- an image whose filename fails a test that the files of the vehicle's items and of the reported images pass
+abbrev pub OtherImagesChangeNothing : Type 0
+OtherImagesChangeNothing = (p : Name → Bool) (images others : List ImageData) (campaigns : List CampaignData) (vehicle : Name) (fitted : List Fitted)
+    → list_all (λ i. p i.file) (items_for campaigns vehicle) ≡ true → list_all (λ e. p e.image.file) fitted ≡ true
+    → filter (λ image. p image.file) images ≡ filter (λ image. p image.file) others → plan_of images campaigns vehicle fitted ≡ plan_of others campaigns vehicle fitted

@@ -1,5 +1,5 @@
 //! What plans promise, in an operator's words. Each function is empty: its contract is a theorem on the rule.
-ghost use Rattle.up_plan.specs.Laws.{AllOrNone, AssignedIsConsistent, AssignedIsDue, CampaignsInAnyOrder, ImagesInAnyOrder, NothingWanted, OthersChangeNothing, WantedIsDue, WithheldHasCause, WithheldIsFirstUnmet};
+ghost use Rattle.up_plan.specs.Laws.{AllOrNone, AssignedIsConsistent, AssignedIsDue, CampaignsInAnyOrder, ImagesInAnyOrder, NothingWanted, OtherImagesChangeNothing, OthersChangeNothing, WantedIsDue, WithheldHasCause, WithheldIsFirstUnmet};
 
 /// What an ECU wants is registered, offered for its hardware by a running campaign that reaches the vehicle, and above its
 /// level, and nothing above it is offered; an ECU that wants nothing has nothing above its level offered.
@@ -38,4 +38,10 @@ pub fn other_campaigns_change_nothing()
 pub fn order_changes_nothing()
     ensures campaigns { CampaignsInAnyOrder }
     ensures images { ImagesInAnyOrder }
+{}
+
+/// An image of which nothing speaks changes nothing: where a test of filenames is passed by the files of the vehicle's items
+/// and of the reported images, the images that fail it may be left out, or others put in their place.
+pub fn other_images_change_nothing()
+    ensures { OtherImagesChangeNothing }
 {}
