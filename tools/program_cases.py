@@ -13,6 +13,7 @@ NOT_JSON = b"refused 5 NotJson\n"
 # SHA-256 of `abc`, by FIPS 180-4
 ABC = b"3 ba7816bf8f01cfea414140de5dae2223b00361a396177a9cb410ff61f20015ad\n"
 LONGEST_LINE = 2_097_152
+LARGEST_FILE = 1_073_741_824
 MEBIBYTE = 1 << 20
 
 
@@ -85,6 +86,8 @@ def digests(program):
         yield "the digest of abc", answers(program, ["digest", path], b"", 0, ABC, b"")
         yield "a directory to digest", answers(program, ["digest", folder], b"", 4, b"", UNREAD)
         yield "a digest that can't be printed", into_full(program, ["digest", path], b"") == (0, b"")
+        os.truncate(path, LARGEST_FILE + 1)
+        yield "a file too large to digest", answers(program, ["digest", path], b"", 4, b"", UNREAD)
 
 
 def cases(program):
