@@ -26,6 +26,7 @@ use up_machine::laws::rows_are_sound;
 use up_machine::rows::Kept;
 use up_manifest::manifest::Incoming;
 use up_manifest::reading::read_manifest;
+use up_plan::assigned::Cause;
 use up_sign::scheme::Scheme;
 
 /// Takes in a manifest, or answers a repeat by the reply that was kept for it.
@@ -128,9 +129,18 @@ fn reply_of(alloc: Global, row: &Kept) -> Result<Reply, AllocError>
         vehicle: row.vehicle.copy(alloc)?,
         version: row.version,
         targets,
-        withheld: row.plan.withheld.copy(alloc)?,
+        withheld: copy_cause(alloc, &row.plan.withheld)?,
         text: row.reply.copy(alloc)?,
     })
+}
+
+fn copy_cause(alloc: Global, cause: &Option<Cause>) -> Result<Option<Cause>, AllocError>
+    ensures { IfOk result (λ copied. copied ≡ cause.now) }
+{
+    match cause {
+        Some(cause) => Ok(Some(cause.copy(alloc)?)),
+        None => Ok(None),
+    }
 }
 
 /// Keeps an accepted manifest: its row, and its vehicle's new rows. Room is made before the first change.

@@ -1,7 +1,9 @@
 //! Files of the repositories.
-ghost use Rattle.std.specs.Prelude.{◌≡◌, ◌≤◌, option_copied, find, bytes_eq};
+ghost use Rattle.std.specs.Prelude.{◌≡◌, ◌≤◌, is_none, option_copied, find, bytes_eq};
 ghost use Rattle.up_canon.specs.Moments.{last_command_moment};
 ghost use Rattle.up_canon.specs.Refusals.{Gives};
+ghost use Rattle.up_canon.specs.Steps.{refuse_if};
+ghost use Rattle.up_canon.specs.declared.refusal.Refusal.TheVariants.{NotFounded};
 ghost use Rattle.up_sign.specs.Schemes.{Rules};
 ghost use Rattle.up_machine.specs.Repositories.{decide_fetch as decide_fetch_in};
 ghost use Rattle.up_desk.specs.Rows.{held, state_of, Stands, text_in, row_named, text_among, text_held, text_for};
@@ -16,7 +18,7 @@ use up_canon::refusal::Refusal;
 use up_canon::text::Text;
 use up_machine::answer::Answer;
 use up_machine::decision::RoleTexts;
-use up_machine::founded::check_founded;
+use up_machine::rows::Founding;
 use up_roles::repository::Repository;
 
 /// The text of a file.
@@ -49,6 +51,15 @@ fn read_file(
     check_founded(&book.founding)?;
     let text = text_named(book, repository, name).ok_or(Refusal::UnknownFile)?;
     Ok(text.copy(alloc)?)
+}
+
+fn check_founded(founding: &Option<Founding>) -> Result<(), Refusal>
+    ensures { Gives result (refuse_if (is_none founding.now) NotFounded) }
+{
+    match founding {
+        Some(_) => Ok(()),
+        None => Err(Refusal::NotFounded),
+    }
 }
 
 /// The text of the file of this name.

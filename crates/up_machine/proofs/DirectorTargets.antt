@@ -1,10 +1,8 @@
 -- The Director's targets fit, and no ECU stands twice among them.
-use Rattle.std.proofs.Common.{◌≡◌, ℕ, List, [], ◌∷◌, Bool, true, false, cond, Option, Some, None, refl, sym, ap, ap₂, ◌∙◌, subst, length, arith}
-use Rattle.std.specs.Prelude.{◌&&◌, not, if◌then◌else◌, bytes_eq, map, filter, filter_map, option_map, is_none}
-use Rattle.std.specs.List.{list_all, list_any, cons_option}
+use Rattle.std.proofs.Common.{◌≡◌, List, [], ◌∷◌, Bool, true, false, cond, Option, Some, None, refl, sym, ap, ap₂, ◌∙◌, subst}
+use Rattle.std.specs.Prelude.{not, if◌then◌else◌, bytes_eq, map, filter, filter_map, option_map, is_none}
+use Rattle.std.specs.List.{list_any, cons_option}
 use Rattle.std.specs.FinMap as table
-use Rattle.std.proofs.lemmas.Bool.{and_parts}
-use Rattle.std.proofs.lemmas.Bool.Decides.{nat_tests}
 use Rattle.up_canon.specs.Names.{Name, Table, first_repeated, are_distinct, hardware_fits}
 use Rattle.up_canon.specs.Steps.{first_or_none}
 use Rattle.up_manifest.specs.declared.report.SignedReport.{SignedReport}
@@ -22,7 +20,6 @@ use Rattle.up_machine.specs.declared.rows.VehicleRows.{VehicleRows}
 use Rattle.up_machine.specs.Files.{target_of}
 use Rattle.up_machine.specs.State.{report_of}
 use Rattle.up_machine.specs.ManifestRows.{fitted_of, fitted_in, target_for, plan_by_rows}
-use Rattle.up_machine.proofs.Lists.{and_left}
 use Rattle.up_machine.proofs.DistinctNames.{Distinct, or_parts, distinct, once_of, distinct_some, map_same}
 
 -- ---- a target of an image that fits

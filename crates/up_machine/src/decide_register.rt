@@ -21,6 +21,9 @@ use up_canon::table::Table;
 use up_plan::image::Image;
 use up_sign::scheme::Scheme;
 
+/// How many images may be registered.
+const MAX_IMAGES: usize = 1024;
+
 /// Decides on a new image, at a command's moment: `NotFounded`; `Already` where an equal image is registered;
 /// `ImageTaken` where another one has its filename; `RegisterFull` at 1,024 images; `VersionLimit`; `Memory`.
 pub fn decide_image<K: Scheme>(
@@ -47,7 +50,7 @@ pub fn decide_image<K: Scheme>(
             Err(Refusal::ImageTaken)
         };
     }
-    if images.len() >= 1024 {
+    if images.len() >= MAX_IMAGES {
         return Err(Refusal::RegisterFull);
     }
     if old.image_version >= MAX_COUNT {

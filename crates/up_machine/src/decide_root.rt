@@ -21,6 +21,9 @@ use up_canon::table::Table;
 use up_plan::image::Image;
 use up_sign::scheme::Scheme;
 
+/// How many root versions there may be.
+const MAX_ROOTS: u64 = 64;
+
 /// Decides on a founding, at a command's moment: `BadShape` where a key doesn't fit, a key stands twice in a role or a
 /// threshold isn't 1 to the number of its keys; `AlreadyFounded`; `Memory`. The images are those of the state.
 pub fn decide_found<K: Scheme>(
@@ -63,7 +66,7 @@ pub fn decide_rotate<K: Scheme>(
     let Some(old) = founding else {
         return Err(Refusal::NotFounded);
     };
-    if old.root >= 64 {
+    if old.root >= MAX_ROOTS {
         return Err(Refusal::RootFull);
     }
     if old.image_version >= MAX_COUNT {

@@ -11,7 +11,7 @@ pub mod decide_root;
 pub mod decide_vehicle;
 pub mod decision;
 mod director_files;
-pub mod founded;
+mod founded;
 mod image_targets;
 pub mod key_checks;
 pub mod keys;
