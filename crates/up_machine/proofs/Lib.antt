@@ -2,6 +2,7 @@ pub mod Steps
 pub mod Tables
 pub mod Decided
 pub mod FoundedRow
+pub mod Fetched
 pub mod RepeatedNames
 pub mod OpenedCampaigns
 pub mod AddedVehicles
