@@ -1,6 +1,6 @@
 -- The text that is found among the rows is the file's.
 use Rattle.std.proofs.Common.{◌≡◌, ℕ, zero, suc, ◌+◌, ◌-◌, ◌≤◌, List, [], ◌∷◌, ◌++◌, Bool, true, false, cond, Option, Some, None, Result, Ok, Err, map, refl, sym, ap, ap₂, ◌∙◌, arith}
-use Rattle.std.specs.Prelude.{⊤, is_none, MatchBool, ◌≢◌, ◌==◌, option_map, option_to_list, find, length, slice_get, bytes_eq, codes, if◌then◌else◌}
+use Rattle.std.specs.Prelude.{⊤, MatchBool, ◌==◌, option_map, option_to_list, find, length, slice_get, bytes_eq, codes, if◌then◌else◌}
 use Rattle.std.specs.List.{enumerate_from}
 use Rattle.std.specs.Option.{option_or}
 use Rattle.std.proofs.lemmas.Bool.{ne_eqb}
@@ -11,7 +11,7 @@ use Rattle.up_sign.specs.Schemes.{Rules}
 use Rattle.up_roles.specs.declared.repository.Repository.{Repository}
 use Rattle.up_roles.specs.declared.repository.Repository.TheVariants.{Director, Image}
 use Rattle.up_machine.specs.declared.answer.Answer.TheVariants.{File as Told}
-use Rattle.up_machine.specs.State.{Root, State, nth, root_at}
+use Rattle.up_machine.specs.State.{Root, State, root_at}
 use Rattle.up_machine.specs.Files.{File, numbered_root_name, root_text_at, numbered_roots, latest_root, texts_in, image_texts, files, file}
 use Rattle.up_machine.specs.Deciding.{Outcome}
 use Rattle.up_machine.specs.Decisions.{GivesFile}
