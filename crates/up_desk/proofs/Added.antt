@@ -176,9 +176,9 @@ delivery_done k s b after name v e rows reply computed holds found decided has t
   ),
 )
 
-pub repeat_done : (k : Rules) (s : State) (b : Held) (row : Kept) (reply : Reply) (computed : Result Outcome Refusal) → Shows k s b
-    → computed ≡ Ok (record { answer = Replied (reply_kept row); next = s }) → reply ≡ reply_kept row → Leaves k s b (Ok (Replied reply)) computed
-repeat_done k s b row reply computed shows h told = (refl, (s, h ∙ ap (λ (r : Reply). Ok (record { answer = Replied r; next = s })) (sym told), shows))
+pub repeat_done : (k : Rules) (s : State) (b : Held) (reply : Reply) (computed : Result Outcome Refusal) → Shows k s b
+    → computed ≡ Ok (record { answer = Replied reply; next = s }) → Leaves k s b (Ok (Replied reply)) computed
+repeat_done k s b reply computed shows h = (refl, (s, h, shows))
 
 -- ---- a vehicle that is added has at most 32 ECUs
 

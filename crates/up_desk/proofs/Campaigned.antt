@@ -1,6 +1,6 @@
 -- The rows after a campaign was opened or closed are those of the next state.
-use Rattle.std.proofs.Common.{◌≡◌, ℕ, ◌∷◌, [], List, Option, Some, None, Ok, refl, sym, ap, ◌∙◌, subst}
-use Rattle.std.specs.Prelude.{option_map, is_some}
+use Rattle.std.proofs.Common.{◌≡◌, ℕ, ◌∷◌, [], List, Option, Some, None, Ok, refl, sym, ap, ap₂, ◌∙◌, subst}
+use Rattle.std.specs.Prelude.{map, option_map, is_some}
 use Rattle.std.specs.List.{AllByRecursion}
 use Rattle.std.specs.FinMap as table
 use Rattle.up_canon.specs.Names.{Name}
@@ -19,16 +19,16 @@ use Rattle.up_desk.specs.Changes.{with_campaign_row}
 use Rattle.up_desk.specs.Serving.{Leaves}
 
 -- what a campaign names is known in the tables as in the state
-pub knows : (k : Rules) (s : State) (b : Held) (campaign : CampaignData) → Shows k s b → Knows s campaign b.vehicles b.images
+pub knows : (k : Rules) (s : State) (b : Held) (campaign : CampaignData) → Shows k s b → Knows s campaign (map (table.contains_key b.vehicles) (named_in campaign.reach)) b.images
 knows k s b campaign h = record { of_vehicles = each_name (named_in campaign.reach); of_images = each_item campaign.items }
   where
     same_there : (o : Option Vehicle) (name : Name) → is_some (option_map (rows_of name) o) ≡ is_some o
     same_there None name = refl
     same_there (Some v) name = refl
 
-    each_name : (names : List Name) → AllByRecursion (λ name. table.contains_key b.vehicles name ≡ table.contains_key s.vehicles name) names
-    each_name [] = tt
-    each_name (name ∷ names) = (ap is_some (h.vehicles name) ∙ same_there (table.get s.vehicles name) name, each_name names)
+    each_name : (names : List Name) → map (table.contains_key b.vehicles) names ≡ map (table.contains_key s.vehicles) names
+    each_name [] = refl
+    each_name (name ∷ names) = ap₂ (λ known marks. known ∷ marks) (ap is_some (h.vehicles name) ∙ same_there (table.get s.vehicles name) name) (each_name names)
 
     each_item : (items : List Item) → AllByRecursion (λ (item : Item). table.get b.images item.file ≡ table.get s.images item.file) items
     each_item [] = tt

@@ -1,6 +1,6 @@
 -- What a decision that went through says.
-use Rattle.std.proofs.Common.{◌≡◌, Option, Some, None, Result, Ok, Bor, refl, ap, ◌∙◌, subst}
-use Rattle.std.specs.Prelude.{option_copied, IfSome}
+use Rattle.std.proofs.Common.{◌≡◌, Option, Some, None, Result, Ok, refl, ap, ◌∙◌, subst}
+use Rattle.std.specs.Prelude.{IfSome}
 use Rattle.std.specs.FinMap as table
 use Rattle.up_canon.specs.Names.{Name}
 use Rattle.up_canon.specs.declared.refusal.Refusal.{Refusal}
@@ -13,7 +13,7 @@ use Rattle.up_machine.specs.declared.answer.Answer.TheVariants.{Reply as Replied
 use Rattle.up_machine.specs.declared.decision.AcceptedRows.{AcceptedRows}
 use Rattle.up_machine.specs.declared.decision.Delivered.{Delivered}
 use Rattle.up_machine.specs.declared.decision.Delivered.TheVariants.{Repeat, Accepted}
-use Rattle.up_machine.specs.declared.rows.Kept.{Kept}
+use Rattle.up_machine.specs.declared.answer.Reply.{Reply}
 use Rattle.up_machine.specs.Deliveries.{with_entry}
 use Rattle.up_machine.specs.Rows.{reply_kept}
 use Rattle.up_machine.specs.State.{Entry, Vehicle, State}
@@ -45,19 +45,11 @@ when_closing s name (New other) row computed is h = let same : other ≡ row = c
 pub unchanged : (k : Rules) (s : State) (b : Held) (computed : Result Outcome Refusal) → Shows k s b → computed ≡ Ok (already s) → Leaves k s b (Ok Same) computed
 unchanged k s b computed shows h = (refl, (s, h, shows))
 
-pub when_repeated : (k : Rules) (s : State) (kept : Option Kept) (name : Name) (d : Delivered) (row : Kept) (computed : Result Outcome Refusal) → d ≡ Repeat → kept ≡ Some row
-    → GivesDelivered k s kept name (Ok d) computed → computed ≡ Ok (record { answer = Replied (reply_kept row); next = s })
-when_repeated k s None name Repeat row computed is there h = absurd h
-when_repeated k s (Some other) name Repeat row computed is there h =
-    let same : other ≡ row = cc in h ∙ ap (λ (r : Kept). Ok (record { answer = Replied (reply_kept r); next = s })) same
-when_repeated k s kept name (Accepted rows) row computed is there h = cc
-
--- no repeat without a kept row
-pub not_repeated : (k : Rules) (s : State) (kept : Option Kept) (name : Name) (d : Delivered) (computed : Result Outcome Refusal) → d ≡ Repeat → kept ≡ None
-    → GivesDelivered k s kept name (Ok d) computed → ⊥
-not_repeated k s None name Repeat computed is none h = h
-not_repeated k s (Some row) name Repeat computed is none h = cc
-not_repeated k s kept name (Accepted rows) computed is none h = cc
+pub when_repeated : (k : Rules) (s : State) (name : Name) (d : Delivered) (reply : Reply) (computed : Result Outcome Refusal) → d ≡ Repeat reply
+    → GivesDelivered k s name (Ok d) computed → computed ≡ Ok (record { answer = Replied reply; next = s })
+when_repeated k s name (Repeat other) reply computed is h =
+    let same : other ≡ reply = cc in h ∙ ap (λ (r : Reply). Ok (record { answer = Replied r; next = s })) same
+when_repeated k s name (Accepted rows) reply computed is h = cc
 
 -- the vehicle and the entry that an accepted manifest gives it
 pub record IsAccepted (k : Rules) (s : State) (name : Name) (rows : AcceptedRows) (computed : Result Outcome Refusal) : Type 0 where
@@ -67,14 +59,14 @@ pub record IsAccepted (k : Rules) (s : State) (name : Name) (rows : AcceptedRows
   pub decided : computed ≡ Ok (record { answer = Replied (reply_kept rows.kept); next = with_entry s name vehicle entry })
   pub has : HasAcceptedRows k s name vehicle entry rows
 
-pub when_accepted : (k : Rules) (s : State) (kept : Option Kept) (name : Name) (d : Delivered) (rows : AcceptedRows) (computed : Result Outcome Refusal) → d ≡ Accepted rows
-    → GivesDelivered k s kept name (Ok d) computed → IsAccepted k s name rows computed
-when_accepted k s kept name Repeat rows computed is h = cc
-when_accepted k s kept name (Accepted other) rows computed is h =
+pub when_accepted : (k : Rules) (s : State) (name : Name) (d : Delivered) (rows : AcceptedRows) (computed : Result Outcome Refusal) → d ≡ Accepted rows
+    → GivesDelivered k s name (Ok d) computed → IsAccepted k s name rows computed
+when_accepted k s name (Repeat reply) rows computed is h = cc
+when_accepted k s name (Accepted other) rows computed is h =
     let same : other ≡ rows = cc in
     subst (λ (r : AcceptedRows). IsAccepted k s name r computed) same (record { vehicle = h.0; entry = h.1; found = h.2; decided = h.3; has = h.4 })
 
--- what holds of each value that may be there holds of the one behind a reference
-pub if_copied : {T : Type 0} (P : T → Type 0) (o : Option (Bor T)) → ((x : T) → option_copied o ≡ Some x → P x) → IfSome o (λ r. P r.now)
-if_copied P None h = tt
-if_copied P (Some r) h = h r.now refl
+-- what holds of each value that may be there
+pub if_some : {T : Type 0} (P : T → Type 0) (o : Option T) → ((x : T) → o ≡ Some x → P x) → IfSome o P
+if_some P None h = tt
+if_some P (Some x) h = h x refl

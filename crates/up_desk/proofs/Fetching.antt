@@ -1,30 +1,23 @@
 -- The text that is found among the rows is the file's.
 use Rattle.std.proofs.Common.{◌≡◌, ℕ, zero, suc, ◌+◌, ◌-◌, ◌≤◌, List, [], ◌∷◌, ◌++◌, Bool, true, false, cond, Option, Some, None, Result, Ok, Err, map, refl, sym, ap, ap₂, ◌∙◌, arith}
-use Rattle.std.specs.Prelude.{⊤, is_none, MatchBool, ◌≢◌, ◌==◌, option_map, option_to_list, find, length, slice_get, bytes_eq, codes, if◌then◌else◌}
+use Rattle.std.specs.Prelude.{⊤, MatchBool, ◌==◌, option_map, option_to_list, find, length, slice_get, bytes_eq, codes, if◌then◌else◌}
 use Rattle.std.specs.List.{enumerate_from}
 use Rattle.std.specs.Option.{option_or}
 use Rattle.std.proofs.lemmas.Bool.{ne_eqb}
-use Rattle.up_canon.specs.Moments.{last_command_moment}
 use Rattle.up_canon.specs.Names.{Name}
-use Rattle.up_canon.specs.Refusals.{is_memory, Gives}
-use Rattle.up_canon.specs.Steps.{and_then, refuse_if, or_error}
+use Rattle.up_canon.specs.Refusals.{is_memory}
 use Rattle.up_canon.specs.declared.refusal.Refusal.{Refusal}
-use Rattle.up_canon.specs.declared.refusal.Refusal.TheVariants.{NotFounded, UnknownFile}
 use Rattle.up_sign.specs.Schemes.{Rules}
 use Rattle.up_roles.specs.declared.repository.Repository.{Repository}
 use Rattle.up_roles.specs.declared.repository.Repository.TheVariants.{Director, Image}
 use Rattle.up_machine.specs.declared.answer.Answer.TheVariants.{File as Told}
-use Rattle.up_machine.specs.State.{Root, State, nth, root_at}
+use Rattle.up_machine.specs.State.{Root, State, root_at}
 use Rattle.up_machine.specs.Files.{File, numbered_root_name, root_text_at, numbered_roots, latest_root, texts_in, image_texts, files, file}
-use Rattle.up_machine.specs.Deciding.{Outcome, check_moment, check_founded}
-use Rattle.up_machine.specs.Repositories.{decide_fetch}
-use Rattle.up_machine.specs.declared.rows.Founding.{Founding}
-use Rattle.up_machine.specs.Rows.{founding_row}
+use Rattle.up_machine.specs.Deciding.{Outcome}
+use Rattle.up_machine.specs.Decisions.{GivesFile}
 use Rattle.up_desk.specs.declared.book.RootRow.{RootRow}
-use Rattle.up_desk.specs.Rows.{Held, root_row, root_rows, text_in, row_named, text_among, text_held, text_for, Shows}
+use Rattle.up_desk.specs.Rows.{Held, root_row, root_rows, text_in, row_named, text_among, text_held, Shows}
 use Rattle.up_desk.specs.Serving.{Leaves}
-use Rattle.up_desk.proofs.Shown.{no_last}
-use Rattle.up_desk.proofs.Serving.{in_time, passed, stopped_at as stopped}
 
 -- ---- what is found in lists one after another
 
@@ -133,52 +126,14 @@ text_read k s b Image name h =
 
 -- ---- the command
 
-abbrev row_of : State → Root → Founding
-row_of s root = record { root = length s.roots; keys = root.keys; image_version = s.image_version; stamp = s.stamp }
+pub fetch_done : (k : Rules) (s : State) (b : Held) (text : List ℕ) (computed : Result Outcome Refusal) → Shows k s b
+    → GivesFile s (Ok text) computed → Leaves k s b (Ok (Told text)) computed
+fetch_done k s b text computed shows h = (refl, (s, h, shows))
 
-unfounded_row : (s : State) → founding_row s ≡ None → length s.roots ≡ 0
-unfounded_row s h = no_last s.roots (none_mapped (root_at s (length s.roots)) h)
+pub fetch_refused : (k : Rules) (s : State) (b : Held) (r : Refusal) (computed : Result Outcome Refusal) → Shows k s b
+    → GivesFile s (Err r) computed → Leaves k s b (Err r) computed
+fetch_refused k s b r computed shows h = (shows, by_memory (is_memory r))
   where
-    none_mapped : (o : Option Root) → option_map (row_of s) o ≡ None → o ≡ None
-    none_mapped None h = refl
-    none_mapped (Some root) h = cc
-
-founded_row : (s : State) (f : Founding) → founding_row s ≡ Some f → length s.roots ≢ 0
-founded_row s f h e =
-    let none : founding_row s ≡ None = ap (λ n. option_map (row_of s) (nth s.roots n)) e in
-    cc
-
-founded_alike : (s : State) (o : Option Founding) → o ≡ founding_row s → refuse_if (is_none o) NotFounded ≡ check_founded s
-founded_alike s None h = sym (ap (λ n. refuse_if (n == 0) NotFounded) (unfounded_row s (sym h)))
-founded_alike s (Some f) h = sym (ap (λ t. refuse_if t NotFounded) (ne_eqb (length s.roots) 0 (founded_row s f (sym h))))
-
--- the text that is answered
-told_as : State → Result (List ℕ) Refusal → Result Outcome Refusal
-told_as s r = and_then r (λ text. Ok (record { answer = Told text; next = s }))
-
-chained : {A B C : Type 0} (m : Result A Refusal) (f : Result B Refusal) (g : B → Result C Refusal) → and_then m (λ _. and_then f g) ≡ and_then (and_then m (λ _. f)) g
-unfolding and_then
-chained (Ok x) f g = refl
-chained (Err e) f g = refl
-
-fetched : (k : Rules) (s : State) (b : Held) (at : ℕ) (repository : Repository) (name : Name) → Shows k s b → at ≤ last_command_moment
-    → decide_fetch k s at repository name ≡ told_as s (text_for b repository name)
-unfolding decide_fetch told_as
-fetched k s b at repository name h moment =
-    passed (check_moment at) _ (in_time at moment)
-    ∙ chained (check_founded s) (or_error UnknownFile (file k s repository name)) (λ text. Ok (record { answer = Told text; next = s }))
-    ∙ ap₂ (λ (m : Result ⊤ Refusal) (o : Option (List ℕ)). told_as s (and_then m (λ _. or_error UnknownFile o))) (sym (founded_alike s b.founding h.founding)) (sym (text_read k s b repository name h))
-
-pub fetch_done : (k : Rules) (s : State) (b : Held) (at : ℕ) (repository : Repository) (name : Name) (text : List ℕ) → Shows k s b → at ≤ last_command_moment
-    → text_for b repository name ≡ Ok text → Leaves k s b (Ok (Told text)) (decide_fetch k s at repository name)
-unfolding told_as and_then
-fetch_done k s b at repository name text h moment is = (refl, (s, fetched k s b at repository name h moment ∙ ap (told_as s) is, h))
-
-pub fetch_refused : (k : Rules) (s : State) (b : Held) (at : ℕ) (repository : Repository) (name : Name) (r : Refusal) → Shows k s b → at ≤ last_command_moment
-    → Gives (Err r) (text_for b repository name) → Leaves k s b (Err r) (decide_fetch k s at repository name)
-unfolding told_as and_then
-fetch_refused k s b at repository name r h moment is = (h, by_memory (is_memory r) is)
-  where
-    by_memory : (t : Bool) → MatchBool t ⊤ (text_for b repository name ≡ Err r) → MatchBool t ⊤ (decide_fetch k s at repository name ≡ Err r)
-    by_memory true is = tt
-    by_memory false is = fetched k s b at repository name h moment ∙ stopped (text_for b repository name) _ r is
+    by_memory : (t : Bool) → MatchBool t ⊤ (computed ≡ Err r)
+    by_memory true = tt
+    by_memory false = h

@@ -1,12 +1,9 @@
 -- What the desk keeps: the rows of a state, and the state whose rows they are.
-use Rattle.std.specs.Prelude.{◌≡◌, ℕ, ◌==◌, ◌&&◌, Bool, List, [], find, codes, slice_get, length, ◌-◌, if◌then◌else◌, None, is_none, Result, option_and_then, Option, option_map, unwrap_or, map, filter, bytes_eq}
+use Rattle.std.specs.Prelude.{◌≡◌, ℕ, ◌==◌, ◌&&◌, Bool, List, [], find, codes, slice_get, length, ◌-◌, if◌then◌else◌, None, option_and_then, Option, option_map, unwrap_or, map, filter, bytes_eq}
 use Rattle.std.specs.List.{enumerate_from, list_any}
 use Rattle.std.specs.Option.{option_or}
 use Rattle.std.specs.FinMap as table
 use Rattle.up_canon.specs.Names.{Name, Table}
-use Rattle.up_canon.specs.Steps.{◌>>=◌, refuse_if, or_error}
-use Rattle.up_canon.specs.declared.refusal.Refusal.{Refusal}
-use Rattle.up_canon.specs.declared.refusal.Refusal.TheVariants.{NotFounded, UnknownFile}
 use Rattle.up_sign.specs.Schemes.{Rules}
 use Rattle.up_roles.specs.declared.repository.Repository.{Repository}
 use Rattle.up_roles.specs.declared.repository.Repository.TheVariants.{Director, Image}
@@ -107,12 +104,6 @@ other_text Image texts name = text_among texts name
 
 abbrev pub text_held : Held → Repository → Name → Option (List ℕ)
 text_held b repository name = option_or (option_map (text_in repository) (row_named name b.roots)) (other_text repository b.files name)
-
--- the text of a file, or the refusal that is due
-abbrev pub text_for : Held → Repository → Name → Result (List ℕ) Refusal
-text_for b repository name = do
-  not_founded ← refuse_if (is_none b.founding) NotFounded
-  or_error UnknownFile (text_held b repository name)
 
 -- the image in the first of these rows that is the ECU's
 abbrev pub installed_among : Name → List EcuRow → Option Installed

@@ -1,10 +1,9 @@
 //! Manifests that vehicles deliver.
-ghost use Rattle.std.specs.Prelude.{◌≡◌, ◌≤◌, ◌<◌, length, IfOk, OnOk, OnErr, option_copied};
+ghost use Rattle.std.specs.Prelude.{◌≡◌, ◌≤◌, ◌<◌, length, OnOk, OnErr, option_copied};
 ghost use Rattle.up_canon.specs.Moments.{last_command_moment};
 ghost use Rattle.up_canon.specs.declared.refusal.Refusal.TheVariants.{TooLarge};
 ghost use Rattle.up_canon.specs.Steps.{and_then};
 ghost use Rattle.up_manifest.specs.Manifests.{largest_body, incoming_in};
-ghost use Rattle.up_machine.specs.Rows.{reply_kept};
 ghost use Rattle.up_machine.specs.Decisions.{IsRead, decide_incoming, GivesDelivered};
 ghost use Rattle.up_desk.specs.Rows.{held, state_of, Stands, kept_with};
 ghost use Rattle.up_desk.specs.Changes.{with_accepted_rows};
@@ -16,17 +15,16 @@ use std::alloc::{AllocError, Global};
 use up_canon::bytes::Bytes;
 use up_canon::count::Count;
 use up_canon::ident::Ident;
-use up_canon::listed::Duplicate;
 use up_canon::moment::Moment;
 use up_canon::refusal::Refusal;
-use up_machine::answer::{Answer, Reply};
-use up_machine::decide_manifest::decide_manifest;
+use up_machine::answer::Answer;
+use up_machine::decide_manifest::{DeliveryRows, decide_manifest};
 use up_machine::decision::{AcceptedRows, Delivered};
+use up_machine::kept_reply::reply_of;
 use up_machine::laws::rows_are_sound;
 use up_machine::rows::Kept;
 use up_manifest::manifest::Incoming;
 use up_manifest::reading::read_manifest;
-use up_plan::assigned::Cause;
 use up_sign::scheme::Scheme;
 
 /// Takes in a manifest, or answers a repeat by the reply that was kept for it.
@@ -62,13 +60,8 @@ fn receive<K: Scheme>(
     ensures { Leaves (K.rules scheme.now) (state_of (held book.old)) (held book.new) result
         (decide_incoming (K.rules scheme.now) (state_of (held book.old)) at incoming.now) }
 {
-    let name = &incoming.manifest.vehicle;
-    let kept = find_kept(book.kept.as_slice(), name, incoming.manifest.counter);
-    match decide(book, alloc, scheme, at, incoming, kept)? {
-        Delivered::Repeat => match kept {
-            Some(row) => Ok(Answer::Reply(reply_of(alloc, row)?)),
-            None => unreachable!(),
-        },
+    match decide(book, alloc, scheme, at, incoming)? {
+        Delivered::Repeat(reply) => Ok(Answer::Reply(reply)),
         Delivered::Accepted(rows) => {
             let reply = reply_of(alloc, &rows.kept)?;
             accept(alloc, book, rows)?;
@@ -84,30 +77,24 @@ fn decide<K: Scheme>(
     scheme: &K,
     at: Moment,
     incoming: &Incoming,
-    kept: Option<&Kept>,
 ) -> Result<Delivered, Refusal>
     requires moment { at ≤ last_command_moment }
     requires read { IsRead incoming.now }
     requires stands { Stands (K.rules scheme.now) (held book.now) }
-    requires kept { option_copied kept ≡ kept_with incoming.now.manifest.vehicle incoming.now.manifest.counter book.now.kept.items }
     ensures { let s = state_of (held book.now) in
-        GivesDelivered (K.rules scheme.now) s (option_copied kept.entry) incoming.now.manifest.vehicle result
+        GivesDelivered (K.rules scheme.now) s incoming.now.manifest.vehicle result
         (decide_incoming (K.rules scheme.now) s at incoming.now) }
 {
     rows_are_sound();
-    let vehicle = book.vehicles.get(incoming.manifest.vehicle.text());
-    let campaigns = book.campaigns.values();
-    decide_manifest(
-        alloc,
-        scheme,
-        at,
-        incoming,
-        &book.founding,
-        vehicle,
-        kept,
-        &book.images,
-        campaigns,
-    )
+    let name = &incoming.manifest.vehicle;
+    let rows = DeliveryRows {
+        founding: book.founding.as_ref(),
+        vehicle: book.vehicles.get(name.text()),
+        kept: find_kept(book.kept.as_slice(), name, incoming.manifest.counter),
+        images: &book.images,
+        campaigns: book.campaigns.values(),
+    };
+    decide_manifest(alloc, scheme, at, incoming, &rows)
 }
 
 /// The vehicle's row with this counter.
@@ -116,31 +103,6 @@ pub fn find_kept<'a>(rows: &'a [Kept], vehicle: &Ident, counter: Count) -> Optio
 {
     rows.iter().find(|row| row.vehicle.text() == vehicle.text()
         && row.counter.get() == counter.get())
-}
-
-/// The reply that a row holds. A plan of more than 4294967295 images, which no state has, is answered as want of memory.
-fn reply_of(alloc: Global, row: &Kept) -> Result<Reply, AllocError>
-    ensures { IfOk result (λ reply. reply ≡ reply_kept row.now) }
-{
-    let Ok(targets) = u32::try_from(row.plan.assigned.as_slice().len()) else {
-        return Err(AllocError);
-    };
-    Ok(Reply {
-        vehicle: row.vehicle.copy(alloc)?,
-        version: row.version,
-        targets,
-        withheld: copy_cause(alloc, &row.plan.withheld)?,
-        text: row.reply.copy(alloc)?,
-    })
-}
-
-fn copy_cause(alloc: Global, cause: &Option<Cause>) -> Result<Option<Cause>, AllocError>
-    ensures { IfOk result (λ copied. copied ≡ cause.now) }
-{
-    match cause {
-        Some(cause) => Ok(Some(cause.copy(alloc)?)),
-        None => Ok(None),
-    }
 }
 
 /// Keeps an accepted manifest: its row, and its vehicle's new rows. Room is made before the first change.

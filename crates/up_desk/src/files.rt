@@ -1,24 +1,21 @@
 //! Files of the repositories.
-ghost use Rattle.std.specs.Prelude.{◌≡◌, ◌≤◌, is_none, option_copied, find, bytes_eq};
+ghost use Rattle.std.specs.Prelude.{◌≡◌, ◌≤◌, IfOk, option_copied, find, bytes_eq};
 ghost use Rattle.up_canon.specs.Moments.{last_command_moment};
-ghost use Rattle.up_canon.specs.Refusals.{Gives};
-ghost use Rattle.up_canon.specs.Steps.{refuse_if};
-ghost use Rattle.up_canon.specs.declared.refusal.Refusal.TheVariants.{NotFounded};
 ghost use Rattle.up_sign.specs.Schemes.{Rules};
 ghost use Rattle.up_machine.specs.Repositories.{decide_fetch as decide_fetch_in};
-ghost use Rattle.up_desk.specs.Rows.{held, state_of, Stands, text_in, row_named, text_among, text_held, text_for};
+ghost use Rattle.up_desk.specs.Rows.{held, state_of, Stands, text_in, row_named, text_among, text_held};
 ghost use Rattle.up_desk.specs.Serving.{Leaves};
 
 use crate::book::{Book, RootRow};
-use std::alloc::Global;
+use std::alloc::{AllocError, Global};
 use up_canon::file_name::FileName;
 use up_canon::listed::Duplicate;
 use up_canon::moment::Moment;
 use up_canon::refusal::Refusal;
 use up_canon::text::Text;
 use up_machine::answer::Answer;
+use up_machine::decide_fetch::decide_fetch;
 use up_machine::decision::RoleTexts;
-use up_machine::rows::Founding;
 use up_roles::repository::Repository;
 
 /// The text of a file.
@@ -33,32 +30,19 @@ pub fn fetch(
     ensures { (k : Rules) → Stands k (held book.now) → Leaves k (state_of (held book.now)) (held book.now) result
         (decide_fetch_in k (state_of (held book.now)) at repository name.now) }
 {
-    match read_file(book, alloc, repository, name) {
+    let text = copy_text(alloc, text_named(book, repository, name))?;
+    match decide_fetch(at, book.founding.is_some(), text) {
         Ok(text) => Ok(Answer::File(text)),
         Err(refusal) => Err(refusal),
     }
 }
 
-#[tactic(auto, unfolding(up_canon::specs::Steps::and_then))]
-fn read_file(
-    book: &Book,
-    alloc: Global,
-    repository: Repository,
-    name: &FileName,
-) -> Result<Text, Refusal>
-    ensures { Gives result (text_for (held book.now) repository name.now) }
+fn copy_text(alloc: Global, text: Option<&Text>) -> Result<Option<Text>, AllocError>
+    ensures { IfOk result (λ copied. copied ≡ option_copied text.entry) }
 {
-    check_founded(&book.founding)?;
-    let text = text_named(book, repository, name).ok_or(Refusal::UnknownFile)?;
-    Ok(text.copy(alloc)?)
-}
-
-fn check_founded(founding: &Option<Founding>) -> Result<(), Refusal>
-    ensures { Gives result (refuse_if (is_none founding.now) NotFounded) }
-{
-    match founding {
-        Some(_) => Ok(()),
-        None => Err(Refusal::NotFounded),
+    match text {
+        Some(text) => Ok(Some(text.copy(alloc)?)),
+        None => Ok(None),
     }
 }
 

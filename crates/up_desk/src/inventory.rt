@@ -67,7 +67,8 @@ fn decide<K: Scheme>(
     mark_recorded(&mut recorded, book.vehicles.values(), ecus);
     let marks = first_marks(&recorded, ecus.len());
     let old = book.vehicles.get(new.vehicle.text());
-    decide_vehicle(alloc, scheme, at, new, &book.founding, old, marks)
+    let is_founded = book.founding.is_some();
+    decide_vehicle(alloc, scheme, at, new, is_founded, old, marks)
 }
 
 fn first_marks(marks: &[bool], count: usize) -> &[bool]

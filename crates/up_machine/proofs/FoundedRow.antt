@@ -1,6 +1,6 @@
 -- The founding's row is there exactly where there is a root.
-use Rattle.std.proofs.Common.{◌≡◌, suc, ◌-◌, List, [], ◌∷◌, Option, Some, None, refl, sym, ap, ◌∙◌, length, arith}
-use Rattle.std.specs.Prelude.{◌==◌, slice_get, option_map, ⊤, Result, Ok, Err}
+use Rattle.std.proofs.Common.{◌≡◌, Bool, suc, ◌-◌, List, [], ◌∷◌, Option, Some, None, refl, sym, ap, ◌∙◌, length, arith}
+use Rattle.std.specs.Prelude.{◌==◌, not, is_some, slice_get, option_map, ⊤, Result, Ok, Err}
 use Rattle.std.proofs.lemmas.Bool.{ne_eqb}
 use Rattle.up_canon.specs.Steps.{refuse_if}
 use Rattle.up_canon.specs.declared.refusal.Refusal.{Refusal}
@@ -35,3 +35,14 @@ by_roots f (root ∷ roots) =
 
 pub founded_by_row : (s : State) → check_founded s ≡ check_by_row (founding_row s)
 founded_by_row s = by_roots (λ root. record { root = length s.roots; keys = root.keys; image_version = s.image_version; stamp = s.stamp }) s.roots
+
+-- what a mark says of the check
+abbrev pub check_by : Bool → Result ⊤ Refusal
+check_by is_founded = refuse_if (not is_founded) NotFounded
+
+by_mark : (o : Option Founding) → check_by_row o ≡ check_by (is_some o)
+by_mark None = refl
+by_mark (Some row) = refl
+
+pub founded_by_mark : (s : State) → check_founded s ≡ check_by (is_some (founding_row s))
+founded_by_mark s = founded_by_row s ∙ by_mark (founding_row s)

@@ -1,6 +1,7 @@
 pub mod Tables
 pub mod Decided
 pub mod FoundedRow
+pub mod Fetched
 pub mod OpenedCampaigns
 pub mod AddedVehicles
 pub mod Receiving

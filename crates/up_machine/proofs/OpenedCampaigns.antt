@@ -1,6 +1,6 @@
 -- What the rows that a campaign names say of the state where it is opened.
 use Rattle.std.proofs.Common.{◌≡◌, List, [], ◌∷◌, Bool, true, false, Ok, refl, sym, ap, ◌∙◌}
-use Rattle.std.specs.Prelude.{Option, Some, None, option_map, unwrap_or}
+use Rattle.std.specs.Prelude.{◌&&◌, Option, Some, None, map, option_map, unwrap_or}
 use Rattle.std.specs.List.{AllByRecursion, list_all}
 use Rattle.std.specs.FinMap as table
 use Rattle.up_canon.specs.Names.{Table}
@@ -12,12 +12,15 @@ use Rattle.up_plan.specs.declared.campaign.Reach.TheVariants.{All, Named}
 use Rattle.up_plan.specs.Campaigns.{CampaignData}
 use Rattle.up_plan.specs.Images.{ImageData}
 use Rattle.up_plan.specs.Planning.{is_for}
-use Rattle.up_machine.specs.declared.rows.VehicleRows.{VehicleRows}
 use Rattle.up_machine.specs.State.{State}
 use Rattle.up_machine.specs.Deciding.{Outcome, done}
 use Rattle.up_machine.specs.Inventory.{reach_is_known, has_its_image, has_its_hardware, with_campaign, decide_new_campaign}
 use Rattle.up_machine.specs.Decisions.{Knows, named_in, finds_image, finds_hardware, check_campaign}
 use Rattle.up_machine.proofs.Lists.{each_weaker}
+
+all_marked : {A : Type 0} (p : A → Bool) (xs : List A) → list_all (λ b. b) (map p xs) ≡ list_all p xs
+all_marked p [] = refl
+all_marked p (x ∷ xs) = ap (λ b. p x && b) (all_marked p xs)
 
 all_same : {A : Type 0} (p q : A → Bool) (xs : List A) → AllByRecursion (λ x. p x ≡ q x) xs → list_all p xs ≡ list_all q xs
 all_same p q [] h = refl
@@ -27,21 +30,22 @@ by_reach : (s : State) (reach : Reach) → list_all (table.contains_key s.vehicl
 by_reach s All = refl
 by_reach s (Named vehicles) = refl
 
-knows_vehicles : (s : State) (campaign : CampaignData) (vehicles : Table VehicleRows) (images : Table ImageData) → Knows s campaign vehicles images
-    → reach_is_known s campaign.reach ≡ list_all (table.contains_key vehicles) (named_in campaign.reach)
-knows_vehicles s campaign vehicles images knows = sym (by_reach s campaign.reach) ∙ sym (all_same _ _ (named_in campaign.reach) knows.of_vehicles)
+knows_vehicles : (s : State) (campaign : CampaignData) (known : List Bool) (images : Table ImageData) → Knows s campaign known images
+    → reach_is_known s campaign.reach ≡ list_all (λ b. b) known
+knows_vehicles s campaign known images knows =
+    sym (by_reach s campaign.reach) ∙ sym (all_marked (table.contains_key s.vehicles) (named_in campaign.reach)) ∙ ap (list_all (λ b. b)) (sym knows.of_vehicles)
 
 abbrev is_there : Option ImageData → Bool
 is_there None = false
 is_there (Some image) = true
 
-knows_images : (s : State) (campaign : CampaignData) (vehicles : Table VehicleRows) (images : Table ImageData) → Knows s campaign vehicles images
+knows_images : (s : State) (campaign : CampaignData) (known : List Bool) (images : Table ImageData) → Knows s campaign known images
     → list_all (has_its_image s) campaign.items ≡ list_all (finds_image images) campaign.items
-knows_images s campaign vehicles images knows = all_same (has_its_image s) (finds_image images) campaign.items (each_weaker _ _ (λ (item : Item) same. sym (ap is_there same)) campaign.items knows.of_images)
+knows_images s campaign known images knows = all_same (has_its_image s) (finds_image images) campaign.items (each_weaker _ _ (λ (item : Item) same. sym (ap is_there same)) campaign.items knows.of_images)
 
-knows_hardware : (s : State) (campaign : CampaignData) (vehicles : Table VehicleRows) (images : Table ImageData) → Knows s campaign vehicles images
+knows_hardware : (s : State) (campaign : CampaignData) (known : List Bool) (images : Table ImageData) → Knows s campaign known images
     → list_all (has_its_hardware s) campaign.items ≡ list_all (finds_hardware images) campaign.items
-knows_hardware s campaign vehicles images knows = all_same (has_its_hardware s) (finds_hardware images) campaign.items (each_weaker _ _ (λ (item : Item) same. sym (ap (λ o. unwrap_or (option_map (is_for item.hardware) o) false) same)) campaign.items knows.of_images)
+knows_hardware s campaign known images knows = all_same (has_its_hardware s) (finds_hardware images) campaign.items (each_weaker _ _ (λ (item : Item) same. sym (ap (λ o. unwrap_or (option_map (is_for item.hardware) o) false) same)) campaign.items knows.of_images)
 
 -- ---- the checks
 
@@ -61,8 +65,8 @@ steps_same true true true true true false o p q r = cc
 steps_same true true true true false true o p q r = cc
 
 -- the rows tell the first fault
-pub checked_rows : (s : State) (campaign : CampaignData) (vehicles : Table VehicleRows) (images : Table ImageData) → Knows s campaign vehicles images
-    → decide_new_campaign s campaign ≡ (check_campaign vehicles images campaign >>= (λ _. Ok (done (with_campaign s campaign))))
+pub checked_rows : (s : State) (campaign : CampaignData) (known : List Bool) (images : Table ImageData) → Knows s campaign known images
+    → decide_new_campaign s campaign ≡ (check_campaign known images campaign >>= (λ _. Ok (done (with_campaign s campaign))))
 unfolding decide_new_campaign check_campaign
-checked_rows s campaign vehicles images knows =
-    steps_same _ _ _ _ _ _ (done (with_campaign s campaign)) (knows_vehicles s campaign vehicles images knows) (knows_images s campaign vehicles images knows) (knows_hardware s campaign vehicles images knows)
+checked_rows s campaign known images knows =
+    steps_same _ _ _ _ _ _ (done (with_campaign s campaign)) (knows_vehicles s campaign known images knows) (knows_images s campaign known images knows) (knows_hardware s campaign known images knows)

@@ -1,5 +1,5 @@
 -- What decisions answer over the rows of a state: the rows of the plain machine's next state, `Already`, a repeat, or the refusal that is due.
-use Rattle.std.specs.Prelude.{◌≡◌, ℕ, ◌+◌, ◌≤◌, ◌++◌, List, [], ◌∷◌, Bool, false, Option, Some, None, option_map, unwrap_or, Result, Ok, Err, MatchBool, IsSomeAnd, length, map, ⊤}
+use Rattle.std.specs.Prelude.{◌≡◌, ℕ, ◌+◌, ◌≤◌, ◌++◌, List, [], ◌∷◌, Bool, false, Option, Some, None, option_map, unwrap_or, Result, Ok, Err, MatchBool, length, map, ⊤}
 use Rattle.std.specs.List.{AllByRecursion, list_all}
 use Rattle.std.specs.FinMap as table
 use Rattle.up_canon.specs.Names.{Name, Table, first_repeated}
@@ -9,6 +9,7 @@ use Rattle.up_canon.specs.declared.refusal.Refusal.{Refusal}
 use Rattle.up_canon.specs.declared.refusal.Refusal.TheVariants.{UnknownVehicle, UnknownImage, WrongHardware}
 use Rattle.up_sign.specs.Schemes.{Rules}
 use Rattle.up_manifest.specs.declared.manifest.Incoming.{Incoming}
+use Rattle.up_manifest.specs.declared.manifest.Manifest.{Manifest}
 use Rattle.up_manifest.specs.Manifests.{incoming_in}
 use Rattle.up_roles.specs.declared.repository.Repository.TheVariants.{Director, Image}
 use Rattle.up_plan.specs.declared.campaign.Item.{Item}
@@ -16,9 +17,10 @@ use Rattle.up_plan.specs.declared.campaign.Reach.{Reach}
 use Rattle.up_plan.specs.declared.campaign.Reach.TheVariants.{All, Named}
 use Rattle.up_plan.specs.Campaigns.{CampaignData}
 use Rattle.up_plan.specs.Images.{ImageData}
-use Rattle.up_plan.specs.Planning.{is_for}
+use Rattle.up_plan.specs.Planning.{is_for, items_for}
+use Rattle.up_machine.specs.declared.rows.Founding.{Founding}
 use Rattle.up_machine.specs.declared.rows.VehicleRows.{VehicleRows}
-use Rattle.up_machine.specs.declared.answer.Answer.TheVariants.{Reply as Replied}
+use Rattle.up_machine.specs.declared.answer.Answer.TheVariants.{Reply as Replied, File}
 use Rattle.up_machine.specs.declared.rows.Kept.{Kept}
 use Rattle.up_machine.specs.declared.decision.RootRows.{RootRows}
 use Rattle.up_machine.specs.declared.decision.RegisterRows.{RegisterRows}
@@ -34,7 +36,7 @@ use Rattle.up_machine.specs.Deliveries.{Received, receive_manifest, decide_recei
 use Rattle.up_machine.specs.Inventory.{with_campaign, closed}
 use Rattle.up_machine.specs.Repeats.{Repeat as KeptEntry, repeat_in}
 use Rattle.up_machine.specs.Replies.{reply_to}
-use Rattle.up_machine.specs.Rows.{founding_row, rows_of, kept_row, reply_kept}
+use Rattle.up_machine.specs.Rows.{founding_row, vehicle_rows, rows_of, kept_row, kept_at, reply_kept}
 
 -- ---- the rows of a next state
 
@@ -73,6 +75,11 @@ GivesDecision has s next (Ok Already) computed = computed ≡ Ok (already s)
 GivesDecision has s next (Ok (New rows)) computed = IsDone has next rows computed
 GivesDecision has s next (Err r) computed = MatchBool (is_memory r) ⊤ (computed ≡ Err r)
 
+-- the text that is answered, or the refusal that is due; nothing changes
+abbrev pub GivesFile : State → Result (List ℕ) Refusal → Result Outcome Refusal → Type 0
+GivesFile s (Ok text) computed = computed ≡ Ok (record { answer = File text; next = s })
+GivesFile s (Err r) computed = computed ≡ Err r
+
 -- ---- deliveries
 
 -- it is what some body means
@@ -93,15 +100,30 @@ pub record AreSoundRows (rows : VehicleRows) : Type 0 where
 unfoldable pub decide_incoming : Rules → State → ℕ → Incoming → Result Outcome Refusal
 decide_incoming k s at incoming = and_then (receive_manifest k s incoming) (λ r. resolve k s at r (repeat_in r))
 
--- a repeat is answered by the row that was kept; an accepted manifest by the row that is new
-abbrev pub GivesDelivered : Rules → State → Option Kept → Name → Result Delivered Refusal → Result Outcome Refusal → Type 0
-GivesDelivered k s kept name (Ok Repeat) computed =
-    IsSomeAnd kept (λ row. computed ≡ Ok (record { answer = Replied (reply_kept row); next = s }))
-GivesDelivered k s kept name (Ok (Accepted rows)) computed =
+-- the rows that the decision on a manifest is given
+pub record DeliveryData : Type 0 where
+  pub founding : Option Founding
+  pub vehicle : Option VehicleRows
+  pub kept : Option Kept
+  pub images : Table ImageData
+  pub campaigns : List CampaignData
+
+-- they are those of the state that this manifest needs: of the campaigns, the items for its vehicle count alone
+pub record AreRowsFor (k : Rules) (s : State) (manifest : Manifest) (rows : DeliveryData) : Type 0 where
+  pub founding : rows.founding ≡ founding_row s
+  pub vehicle : rows.vehicle ≡ vehicle_rows s manifest.vehicle
+  pub kept : rows.kept ≡ kept_at k s manifest.vehicle manifest.counter
+  pub images : rows.images ≡ s.images
+  pub campaigns : items_for rows.campaigns manifest.vehicle ≡ items_for (table.values s.campaigns) manifest.vehicle
+
+-- a repeat is answered the reply that was kept; an accepted manifest that of the row that is new
+abbrev pub GivesDelivered : Rules → State → Name → Result Delivered Refusal → Result Outcome Refusal → Type 0
+GivesDelivered k s name (Ok (Repeat reply)) computed = computed ≡ Ok (record { answer = Replied reply; next = s })
+GivesDelivered k s name (Ok (Accepted rows)) computed =
     (v : Vehicle) × (e : Entry) × (table.get s.vehicles name ≡ Some v)
     × (computed ≡ Ok (record { answer = Replied (reply_kept rows.kept); next = with_entry s name v e }))
     × HasAcceptedRows k s name v e rows
-GivesDelivered k s kept name (Err r) computed = MatchBool (is_memory r) ⊤ (computed ≡ Err r)
+GivesDelivered k s name (Err r) computed = MatchBool (is_memory r) ⊤ (computed ≡ Err r)
 
 -- ---- campaigns
 
@@ -110,9 +132,9 @@ abbrev pub named_in : Reach → List Name
 named_in All = []
 named_in (Named vehicles) = vehicles
 
--- the vehicles and images that a campaign names, as the state has them
-pub record Knows (s : State) (campaign : CampaignData) (vehicles : Table VehicleRows) (images : Table ImageData) : Type 0 where
-  pub of_vehicles : AllByRecursion (λ name. table.contains_key vehicles name ≡ table.contains_key s.vehicles name) (named_in campaign.reach)
+-- a mark for each vehicle that a campaign names, in order, whether it is in the inventory, and the images that it names
+pub record Knows (s : State) (campaign : CampaignData) (known : List Bool) (images : Table ImageData) : Type 0 where
+  pub of_vehicles : known ≡ map (table.contains_key s.vehicles) (named_in campaign.reach)
   pub of_images : AllByRecursion (λ item. table.get images item.file ≡ table.get s.images item.file) campaign.items
 
 -- an item's image is among these, and is for its hardware
@@ -123,9 +145,9 @@ abbrev pub finds_hardware : Table ImageData → Item → Bool
 finds_hardware images item = unwrap_or (option_map (is_for item.hardware) (table.get images item.file)) false
 
 -- the first fault of what a campaign names
-unfoldable pub check_campaign : Table VehicleRows → Table ImageData → CampaignData → Result ⊤ Refusal
-check_campaign vehicles images campaign = do
-  unknown_vehicle ← unless (list_all (table.contains_key vehicles) (named_in campaign.reach)) UnknownVehicle
+unfoldable pub check_campaign : List Bool → Table ImageData → CampaignData → Result ⊤ Refusal
+check_campaign known images campaign = do
+  unknown_vehicle ← unless (list_all (λ is_known. is_known) known) UnknownVehicle
   unknown_image ← unless (list_all (finds_image images) campaign.items) UnknownImage
   unless (list_all (finds_hardware images) campaign.items) WrongHardware
 

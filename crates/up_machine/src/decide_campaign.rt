@@ -1,5 +1,5 @@
 //! Decisions on campaigns.
-ghost use Rattle.std.specs.Prelude.{◌≡◌, ◌≤◌, option_copied};
+ghost use Rattle.std.specs.Prelude.{◌≡◌, ◌≤◌, is_some, option_copied};
 ghost use Rattle.std.specs.List.{list_all};
 ghost use Rattle.std.specs.FinMap as table;
 ghost use Rattle.up_canon.specs.Moments.{last_command_moment};
@@ -7,11 +7,10 @@ ghost use Rattle.up_plan.specs.Planning.{is_for as is_for_hardware};
 ghost use Rattle.up_machine.specs.State.{State};
 ghost use Rattle.up_machine.specs.Rows.{founding_row};
 ghost use Rattle.up_machine.specs.Inventory.{decide_new_campaign, decide_open as decide_open_in, decide_close as decide_close_in, with_campaign};
-ghost use Rattle.up_machine.specs.Decisions.{GivesDecision, GivesClosed, Knows, named_in, finds_image, finds_hardware, check_campaign};
+ghost use Rattle.up_machine.specs.Decisions.{GivesDecision, GivesClosed, Knows, finds_image, finds_hardware, check_campaign};
 
 use crate::decision::Decision;
 use crate::founded::check_founded;
-use crate::rows::{Founding, VehicleRows};
 use crate::same_campaign::same_campaign;
 use std::alloc::Global;
 use up_canon::ident::Ident;
@@ -19,28 +18,29 @@ use up_canon::listed::Duplicate;
 use up_canon::moment::Moment;
 use up_canon::refusal::Refusal;
 use up_canon::table::Table;
-use up_plan::campaign::{Campaign, Item, Reach};
+use up_plan::campaign::{Campaign, Item};
 use up_plan::image::Image;
 
 /// Decides on opening a campaign, at a command's moment: `NotFounded`; `Already` where an equal one is running;
-/// `CampaignTaken` where another one has its name; `UnknownVehicle`, `UnknownImage`, `WrongHardware`; `Memory`. Of the
-/// tables only the vehicles and the images that the campaign names are read.
+/// `CampaignTaken` where another one has its name; `UnknownVehicle`, `UnknownImage`, `WrongHardware`; `Memory`. For each
+/// vehicle that the campaign names, in order, it is told whether the inventory has it, and of the images only those that the
+/// campaign names are read.
 #[tactic(auto, unfolding(crate::specs::Inventory::decide_open, up_canon::specs::Steps::and_then))]
 pub fn decide_open(
     alloc: Global,
     at: Moment,
     campaign: &Campaign,
-    founding: &Option<Founding>,
+    is_founded: bool,
     old: Option<&Campaign>,
-    vehicles: &Table<VehicleRows>,
+    known: &[bool],
     images: &Table<Image>,
 ) -> Result<Decision<Campaign>, Refusal>
     requires { at ≤ last_command_moment }
-    ensures { (s : State) → founding.now ≡ founding_row s → option_copied old.entry ≡ table.get s.campaigns campaign.now.name
-        → Knows s campaign.now vehicles.now images.now
+    ensures { (s : State) → is_founded ≡ is_some (founding_row s) → option_copied old.entry ≡ table.get s.campaigns campaign.now.name
+        → Knows s campaign.now known.now images.now
         → GivesDecision (λ row. row ≡ campaign.now) s (with_campaign s campaign.now) result (decide_open_in s at campaign.now) }
 {
-    check_founded(founding)?;
+    check_founded(is_founded)?;
     match old {
         Some(old) => {
             if same_campaign(campaign, old) {
@@ -49,7 +49,7 @@ pub fn decide_open(
                 Err(Refusal::CampaignTaken)
             }
         }
-        None => decide_new(alloc, campaign, vehicles, images),
+        None => decide_new(alloc, campaign, known, images),
     }
 }
 
@@ -57,26 +57,22 @@ pub fn decide_open(
 fn decide_new(
     alloc: Global,
     campaign: &Campaign,
-    vehicles: &Table<VehicleRows>,
+    known: &[bool],
     images: &Table<Image>,
 ) -> Result<Decision<Campaign>, Refusal>
-    ensures { (s : State) → Knows s campaign.now vehicles.now images.now
+    ensures { (s : State) → Knows s campaign.now known.now images.now
         → GivesDecision (λ row. row ≡ campaign.now) s (with_campaign s campaign.now) result (decide_new_campaign s campaign.now) }
 {
-    check_new(campaign, vehicles, images)?;
+    check_new(campaign, known, images)?;
     Ok(Decision::New(campaign.copy(alloc)?))
 }
 
 /// Tests that the vehicles and images that the campaign names are there, and each image for its item's hardware.
 #[tactic(auto, unfolding(crate::specs::Decisions::check_campaign, up_canon::specs::Steps::and_then))]
-fn check_new(
-    campaign: &Campaign,
-    vehicles: &Table<VehicleRows>,
-    images: &Table<Image>,
-) -> Result<(), Refusal>
-    ensures { result ≡ check_campaign vehicles.now images.now campaign.now }
+fn check_new(campaign: &Campaign, known: &[bool], images: &Table<Image>) -> Result<(), Refusal>
+    ensures { result ≡ check_campaign known.now images.now campaign.now }
 {
-    if !knows_vehicles(&campaign.reach, vehicles) {
+    if !are_known(known) {
         return Err(Refusal::UnknownVehicle);
     }
     let items = campaign.items.as_slice();
@@ -89,16 +85,10 @@ fn check_new(
     Ok(())
 }
 
-fn knows_vehicles(reach: &Reach, vehicles: &Table<VehicleRows>) -> bool
-    ensures { result ≡ list_all (table.contains_key vehicles.now) (named_in reach.now) }
+fn are_known(known: &[bool]) -> bool
+    ensures { result ≡ list_all (λ is_known. is_known) known.now }
 {
-    match reach {
-        Reach::All => true,
-        Reach::Named(named) => named
-            .as_slice()
-            .iter()
-            .all(|name| vehicles.contains(name.text())),
-    }
+    known.iter().all(|is_known| *is_known)
 }
 
 fn has_images(images: &Table<Image>, items: &[Item]) -> bool
@@ -146,14 +136,14 @@ pub fn decide_close(
     alloc: Global,
     at: Moment,
     name: &Ident,
-    founding: &Option<Founding>,
+    is_founded: bool,
     campaign: Option<&Campaign>,
 ) -> Result<Decision<Campaign>, Refusal>
     requires { at ≤ last_command_moment }
-    ensures { (s : State) → founding.now ≡ founding_row s → option_copied campaign.entry ≡ table.get s.campaigns name.now
+    ensures { (s : State) → is_founded ≡ is_some (founding_row s) → option_copied campaign.entry ≡ table.get s.campaigns name.now
         → GivesClosed s name.now result (decide_close_in s at name.now) }
 {
-    check_founded(founding)?;
+    check_founded(is_founded)?;
     let Some(campaign) = campaign else {
         return Err(Refusal::UnknownCampaign);
     };

@@ -1,20 +1,19 @@
 //! The decision on a manifest that a vehicle delivers.
-ghost use Rattle.std.specs.Prelude.{◌≡◌, ◌≤◌, IfSome, IsTrue, is_some, option_copied};
-ghost use Rattle.std.specs.FinMap as table;
+ghost use Rattle.std.specs.Prelude.{◌≡◌, ◌≤◌, IfSome, IsTrue, option_copied};
 ghost use Rattle.up_canon.specs.Moments.{last_command_moment};
-ghost use Rattle.up_plan.specs.Planning.{items_for};
 ghost use Rattle.up_machine.specs.Keys.{key_set_fits};
-ghost use Rattle.up_machine.specs.ManifestRows.{repeated};
+ghost use Rattle.up_machine.specs.ManifestRows.{repeated as repeated_in};
 ghost use Rattle.up_machine.specs.State.{State};
 ghost use Rattle.up_machine.specs.Sound.{IsSound};
-ghost use Rattle.up_machine.specs.Rows.{founding_row, vehicle_rows, kept_at};
-ghost use Rattle.up_machine.specs.Decisions.{IsRead, AreSoundRows, decide_incoming, GivesDelivered};
+ghost use Rattle.up_machine.specs.Decisions.{IsRead, AreSoundRows, AreRowsFor, decide_incoming, GivesDelivered};
 
 use crate::acceptance::accepted_rows;
 use crate::decision::Delivered;
+use crate::kept_reply::reply_of;
 use crate::manifest_checks::{check_new, check_primary};
 use crate::rows::{Founding, Kept, VehicleRows};
 use std::alloc::Global;
+use std::marker::Model;
 use up_canon::moment::Moment;
 use up_canon::refusal::Refusal;
 use up_canon::table::Table;
@@ -24,58 +23,76 @@ use up_plan::campaign::Campaign;
 use up_plan::image::Image;
 use up_sign::scheme::Scheme;
 
+/// The rows that the decision on a manifest reads: the founding's, those of its vehicle, the one kept with its counter, all
+/// images, and campaigns whose items for the vehicle are those of all campaigns: the ones that run and reach it, in the
+/// order of their names, are enough.
+#[derive(Drop)]
+pub struct DeliveryRows<'a> {
+    pub founding: Option<&'a Founding>,
+    pub vehicle: Option<&'a VehicleRows>,
+    pub kept: Option<&'a Kept>,
+    pub images: &'a Table<Image>,
+    pub campaigns: &'a [Campaign],
+}
+
+impl<'a> Model for DeliveryRows<'a> {
+    ghost use Rattle.std.specs.Prelude.{option_copied};
+    ghost use Rattle.up_machine.specs.Decisions.{DeliveryData};
+
+    ghost Value = { DeliveryData };
+
+    ghost use Rattle.std.specs.Coded.{codes};
+    ghost use Rattle.std.specs.FinMap as table;
+
+    ghost coded = { Prim.hlevel (codes, table.code) };
+
+    ghost view = { λ a. record { founding = option_copied a.founding; vehicle = option_copied a.vehicle; kept = option_copied a.kept; images = a.images.now; campaigns = a.campaigns.now } };
+}
+
 /// Decides on a manifest, as it was read, at a command's moment: `NotFounded`; `UnknownVehicle`; `WrongPrimary`;
-/// `BadManifestSignature`; then `Repeat` where the vehicle has accepted the same canonical signed text, and else `Stale`
-/// with the last counter, `UnknownEcu`, `DuplicateEcu`, `MissingEcu`, `BadReportSignature`, `ReportReplayed`; `Memory`.
-/// The rows are those of its vehicle, the kept one with its counter, all images, and campaigns whose items for the vehicle
-/// are those of all campaigns: the ones that run and reach it, in the order of their names, are enough.
+/// `BadManifestSignature`; then the kept reply where the vehicle has accepted the same canonical signed text, and else
+/// `Stale` with the last counter, `UnknownEcu`, `DuplicateEcu`, `MissingEcu`, `BadReportSignature`, `ReportReplayed`;
+/// `Memory`.
 pub fn decide_manifest<K: Scheme>(
     alloc: Global,
     scheme: &K,
     at: Moment,
     incoming: &Incoming,
-    founding: &Option<Founding>,
-    vehicle: Option<&VehicleRows>,
-    kept: Option<&Kept>,
-    images: &Table<Image>,
-    campaigns: &[Campaign],
+    rows: &DeliveryRows,
 ) -> Result<Delivered, Refusal>
     requires moment { at ≤ last_command_moment }
     requires read { IsRead incoming.now }
-    requires keys { IfSome founding.now (λ f. IsTrue (key_set_fits (K.rules scheme.now) f.keys)) }
-    requires rows { IfSome vehicle (λ rows. AreSoundRows rows.now) }
-    ensures { (s : State) → IsSound (K.rules scheme.now) s → founding.now ≡ founding_row s
-        → option_copied vehicle.entry ≡ vehicle_rows s incoming.now.manifest.vehicle
-        → option_copied kept.entry ≡ kept_at (K.rules scheme.now) s incoming.now.manifest.vehicle incoming.now.manifest.counter
-        → images.now ≡ s.images
-        → items_for campaigns.now incoming.now.manifest.vehicle ≡ items_for (table.values s.campaigns) incoming.now.manifest.vehicle
-        → GivesDelivered (K.rules scheme.now) s (option_copied kept.entry) incoming.now.manifest.vehicle result
+    requires keys { IfSome rows.now.founding (λ f. IsTrue (key_set_fits (K.rules scheme.now) f.keys)) }
+    requires rows { IfSome rows.now.vehicle AreSoundRows }
+    ensures { (s : State) → IsSound (K.rules scheme.now) s → AreRowsFor (K.rules scheme.now) s incoming.now.manifest rows.now
+        → GivesDelivered (K.rules scheme.now) s incoming.now.manifest.vehicle result
         (decide_incoming (K.rules scheme.now) s at incoming.now) }
 {
     body_laws();
-    let Some(founding) = founding else {
+    let Some(founding) = rows.founding else {
         return Err(Refusal::NotFounded);
     };
-    let Some(rows) = vehicle else {
+    let Some(vehicle) = rows.vehicle else {
         return Err(Refusal::UnknownVehicle);
     };
-    check_primary(scheme, rows, incoming)?;
-    if is_repeat(incoming, kept) {
-        return Ok(Delivered::Repeat);
+    check_primary(scheme, vehicle, incoming)?;
+    if let Some(row) = repeated(incoming, rows.kept) {
+        return Ok(Delivered::Repeat(reply_of(alloc, row)?));
     }
-    check_new(alloc, scheme, rows, &incoming.manifest)?;
+    check_new(alloc, scheme, vehicle, &incoming.manifest)?;
+    let (images, campaigns) = (rows.images, rows.campaigns);
     let accepted = accepted_rows(
-        alloc, scheme, at, incoming, founding, rows, images, campaigns,
+        alloc, scheme, at, incoming, founding, vehicle, images, campaigns,
     )?;
     Ok(Delivered::Accepted(accepted))
 }
 
-/// Whether the kept row with the manifest's counter has the manifest's signed text.
-fn is_repeat(incoming: &Incoming, kept: Option<&Kept>) -> bool
-    ensures { result ≡ is_some (repeated incoming.now (option_copied kept.entry)) }
+/// The kept row with the manifest's counter, where it has the manifest's signed text.
+fn repeated<'a>(incoming: &Incoming, kept: Option<&'a Kept>) -> Option<&'a Kept>
+    ensures { option_copied result ≡ repeated_in incoming.now (option_copied kept.entry) }
 {
     match kept {
-        Some(row) => row.signed == incoming.envelope.signed,
-        None => false,
+        Some(row) if row.signed == incoming.envelope.signed => Some(row),
+        _ => None,
     }
 }

@@ -1,5 +1,5 @@
 //! Decisions on vehicles of the inventory.
-ghost use Rattle.std.specs.Prelude.{◌≡◌, ◌≤◌, [], map, option_copied, codes, false};
+ghost use Rattle.std.specs.Prelude.{◌≡◌, ◌≤◌, [], is_some, map, option_copied, codes, false};
 ghost use Rattle.std.specs.List.{list_all};
 ghost use Rattle.std.specs.FinMap as table;
 ghost use Rattle.up_canon.specs.Moments.{last_command_moment};
@@ -18,7 +18,7 @@ use crate::decision::Decision;
 use crate::founded::check_founded;
 use crate::new_vehicle::new_rows;
 use crate::public_keys::publics_fit;
-use crate::rows::{Founding, VehicleRows};
+use crate::rows::VehicleRows;
 use crate::same_vehicle::same_vehicle;
 use crate::vehicle::{NewEcu, NewVehicle};
 use std::alloc::Global;
@@ -39,19 +39,19 @@ pub fn decide_vehicle<K: Scheme>(
     scheme: &K,
     at: Moment,
     new: &NewVehicle,
-    founding: &Option<Founding>,
+    is_founded: bool,
     old: Option<&VehicleRows>,
     recorded: &[bool],
 ) -> Result<Decision<VehicleRows>, Refusal>
     requires { at ≤ last_command_moment }
     ensures key { list_all (λ e. public_fits (K.rules scheme.now) e.public) new.now.ecus ≡ false → result ≡ Err (BadShape (codes "key")) }
-    ensures decided { (s : State) → IsSound (K.rules scheme.now) s → founding.now ≡ founding_row s
+    ensures decided { (s : State) → IsSound (K.rules scheme.now) s → is_founded ≡ is_some (founding_row s)
         → option_copied old.entry ≡ vehicle_rows s new.now.vehicle → recorded.now ≡ map (is_recorded s) (ecu_names new.now.ecus)
         → GivesDecision (λ rows. rows ≡ rows_of new.now.vehicle (record { primary = new.now.primary; ecus = new.now.ecus; entries = [] })) s (with_vehicle s new.now) result
         (decide_vehicle_in (K.rules scheme.now) s at new.now) }
 {
     if publics_fit(scheme, new.ecus.as_slice()) {
-        decide_fitting(alloc, new, founding, old, recorded)
+        decide_fitting(alloc, new, is_founded, old, recorded)
     } else {
         Err(Refusal::from("key"))
     }
@@ -62,16 +62,16 @@ pub fn decide_vehicle<K: Scheme>(
 fn decide_fitting(
     alloc: Global,
     new: &NewVehicle,
-    founding: &Option<Founding>,
+    is_founded: bool,
     old: Option<&VehicleRows>,
     recorded: &[bool],
 ) -> Result<Decision<VehicleRows>, Refusal>
-    ensures { (s : State) → founding.now ≡ founding_row s
+    ensures { (s : State) → is_founded ≡ is_some (founding_row s)
         → option_copied old.entry ≡ vehicle_rows s new.now.vehicle → recorded.now ≡ map (is_recorded s) (ecu_names new.now.ecus)
         → GivesDecision (λ rows. rows ≡ rows_of new.now.vehicle (record { primary = new.now.primary; ecus = new.now.ecus; entries = [] })) s (with_vehicle s new.now) result
         (and_then (check_founded_in s) (λ _. where_new s (same_vehicle_of new.now) VehicleTaken (table.get s.vehicles new.now.vehicle) (decide_new_vehicle s new.now))) }
 {
-    check_founded(founding)?;
+    check_founded(is_founded)?;
     decide_named(alloc, new, old, recorded)
 }
 

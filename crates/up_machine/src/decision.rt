@@ -1,4 +1,5 @@
 //! What decisions answer: new rows, with all texts.
+use crate::answer::Reply;
 use crate::rows::{Founding, Kept, VehicleRows};
 use up_canon::text::Text;
 
@@ -46,8 +47,8 @@ pub enum Decision<N> {
 /// What a delivery comes to.
 #[derive(Drop)]
 pub enum Delivered {
-    /// The manifest was accepted before: the row that was kept for it answers it.
-    Repeat,
+    /// The manifest was accepted before: it is answered the reply that was kept for it.
+    Repeat(Reply),
     /// It is accepted.
     Accepted(AcceptedRows),
 }

@@ -8,9 +8,11 @@ use std::alloc::{AllocError, Global};
 use up_canon::ident::Ident;
 use up_canon::moment::Moment;
 use up_canon::refusal::Refusal;
+use up_canon::table::Table;
 use up_machine::decide_campaign::{decide_close, decide_open};
 use up_machine::decision::Decision;
-use up_plan::campaign::Campaign;
+use up_machine::rows::VehicleRows;
+use up_plan::campaign::{Campaign, Reach};
 
 /// The answer to opening a campaign.
 pub(crate) fn open(
@@ -21,17 +23,33 @@ pub(crate) fn open(
 ) -> Result<String, AllocError>
     requires { at ≤ last_command_moment }
 {
+    let known = known_vehicles(alloc, &register.vehicles, &campaign.reach)?;
     let name = &campaign.name;
     let decided = decide_open(
         alloc,
         at,
         &campaign,
-        &register.founding,
+        register.founding.is_some(),
         register.campaigns.get(name.text()),
-        &register.vehicles,
+        known.as_slice(),
         &register.images,
     );
     decided_on(alloc, register, decided)
+}
+
+/// For each vehicle that a campaign names whether it is among these.
+fn known_vehicles(
+    alloc: Global,
+    vehicles: &Table<VehicleRows>,
+    reach: &Reach,
+) -> Result<Vec<bool>, AllocError> {
+    let mut known = Vec::new(alloc);
+    if let Reach::Named(names) = reach {
+        for name in names.as_slice() {
+            known.push(vehicles.contains(name.text()))?;
+        }
+    }
+    Ok(known)
 }
 
 /// The answer to closing a campaign.
@@ -44,7 +62,7 @@ pub(crate) fn close(
     requires { at ≤ last_command_moment }
 {
     let old = register.campaigns.get(name.text());
-    let decided = decide_close(alloc, at, &name, &register.founding, old);
+    let decided = decide_close(alloc, at, &name, register.founding.is_some(), old);
     decided_on(alloc, register, decided)
 }
 

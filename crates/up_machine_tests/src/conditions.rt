@@ -1,5 +1,5 @@
 //! Tests of what decisions ask for.
-ghost use Rattle.std.specs.Prelude.{◌≡◌, ◌≤◌, IfOk, IfSome, IsTrue, OnOk, bytes_eq, is_none, map};
+ghost use Rattle.std.specs.Prelude.{◌≡◌, ◌≤◌, IfOk, IfSome, IsTrue, OnOk, bytes_eq, is_none, map, option_copied};
 ghost use Rattle.std.specs.List.{list_any};
 ghost use Rattle.up_canon.specs.Moments.{last_command_moment};
 ghost use Rattle.up_canon.specs.Names.{first_repeated};
@@ -58,7 +58,7 @@ pub(crate) fn read(alloc: Global, body: &[u8]) -> Result<Incoming, Refusal>
 
 /// Tests that a vehicle's version is at most its last counter, and that no ECU stands twice in it.
 pub(crate) fn check_rows(rows: Option<&VehicleRows>) -> Result<(), Refusal>
-    ensures { OnOk result (IfSome rows.entry (λ rows. AreSoundRows rows.now)) }
+    ensures { OnOk result (IfSome (option_copied rows.entry) AreSoundRows) }
 {
     match rows {
         Some(rows) => check_sound(rows),

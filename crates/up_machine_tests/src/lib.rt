@@ -15,6 +15,8 @@ mod conditions;
 #[cfg(test)]
 mod digests;
 #[cfg(test)]
+mod fetch_tests;
+#[cfg(test)]
 mod image_tests;
 #[cfg(test)]
 mod images;

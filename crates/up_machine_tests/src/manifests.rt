@@ -14,7 +14,8 @@ use up_canon::count::Count;
 use up_canon::ident::Ident;
 use up_canon::moment::Moment;
 use up_canon::refusal::Refusal;
-use up_machine::decide_manifest::decide_manifest;
+use up_machine::answer::Reply;
+use up_machine::decide_manifest::{DeliveryRows, decide_manifest};
 use up_machine::decision::{AcceptedRows, Delivered};
 use up_machine::rows::Kept;
 use up_manifest::manifest::Incoming;
@@ -85,27 +86,22 @@ fn decide<K: Scheme>(
     requires moment { at ≤ last_command_moment }
     requires read { IsRead incoming.now }
 {
-    let founding = &register.founding;
-    check_founding(alloc, scheme, founding)?;
+    check_founding(alloc, scheme, &register.founding)?;
     let manifest = &incoming.manifest;
-    let rows = register.vehicles.get(manifest.vehicle.text());
-    check_rows(rows)?;
-    let kept = find_kept(
-        register.kept.as_slice(),
-        &manifest.vehicle,
-        manifest.counter,
-    );
-    decide_manifest(
-        alloc,
-        scheme,
-        at,
-        incoming,
-        founding,
-        rows,
-        kept,
-        &register.images,
-        register.campaigns.values(),
-    )
+    let vehicle = register.vehicles.get(manifest.vehicle.text());
+    check_rows(vehicle)?;
+    let rows = DeliveryRows {
+        founding: register.founding.as_ref(),
+        vehicle,
+        kept: find_kept(
+            register.kept.as_slice(),
+            &manifest.vehicle,
+            manifest.counter,
+        ),
+        images: &register.images,
+        campaigns: register.campaigns.values(),
+    };
+    decide_manifest(alloc, scheme, at, incoming, &rows)
 }
 
 /// The row that is kept of a manifest of this vehicle with this counter.
@@ -120,10 +116,29 @@ fn decided_on(
     decided: Result<Delivered, Refusal>,
 ) -> Result<String, AllocError> {
     match decided {
-        Ok(Delivered::Repeat) => "repeat".to_string(alloc),
+        Ok(Delivered::Repeat(reply)) => repeat_text(alloc, register, &reply),
         Ok(Delivered::Accepted(rows)) => accepted(alloc, register, rows),
         Err(refusal) => refused(alloc, refusal),
     }
+}
+
+/// `repeat` where the reply is the one that was kept.
+fn repeat_text(alloc: Global, register: &Register, reply: &Reply) -> Result<String, AllocError> {
+    let is_kept = register
+        .kept
+        .as_slice()
+        .iter()
+        .any(|row| is_reply_of(reply, row));
+    let text = if is_kept { "repeat" } else { "another reply" };
+    text.to_string(alloc)
+}
+
+fn is_reply_of(reply: &Reply, row: &Kept) -> bool {
+    let targets = row.plan.assigned.as_slice().len();
+    reply.vehicle == row.vehicle
+        && reply.version == row.version
+        && reply.targets as usize == targets
+        && reply.text == row.reply
 }
 
 fn accepted(

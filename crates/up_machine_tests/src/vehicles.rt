@@ -54,8 +54,8 @@ fn addition<K: Scheme>(
     let marks = marks(alloc, vehicles.values(), new)?;
     let name = &new.vehicle;
     let old = vehicles.get(name.text());
-    let founding = &register.founding;
-    decide_vehicle(alloc, scheme, at, new, founding, old, marks.as_slice())
+    let is_founded = register.founding.is_some();
+    decide_vehicle(alloc, scheme, at, new, is_founded, old, marks.as_slice())
 }
 
 /// For each new ECU whether one of its name stands in a vehicle.

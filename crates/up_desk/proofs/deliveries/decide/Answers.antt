@@ -1,9 +1,10 @@
-use Rattle.std.proofs.Common.{sym, ap, ◌∙◌}
+use Rattle.std.proofs.Common.{sym, ap, ◌∙◌, subst}
+use Rattle.std.specs.Prelude.{IfSome, IsTrue}
 use Rattle.std.specs.FinMap as table
 use Rattle.up_plan.specs.Planning.{items_for}
-use Rattle.up_machine.specs.Decisions.{AreSoundRows}
-use Rattle.up_desk.specs.Rows.{held, state_of}
-use Rattle.up_desk.proofs.Decided.{if_copied}
+use Rattle.up_machine.specs.Keys.{key_set_fits}
+use Rattle.up_desk.specs.Rows.{held, state_of, kept_with}
+use Rattle.up_desk.proofs.Decided.{if_some}
 use Rattle.up_desk.proofs.Founding.{founding_keys}
 use Rattle.up_desk.proofs.Reading.{kept_found}
 use Rattle.up_desk.proofs.deliveries.decide.Goals as goal
@@ -12,17 +13,21 @@ pub returns : goal.returns
 returns g c =
     let stands = c.requires.stands in
     let name = c.args.incoming.now.manifest.vehicle in
-    c.decide_manifest.ensures (state_of (held c.args.book.now)) stands.sound stands.shows.founding
-    (c.get-vehicle.ensures ∙ ap (table.get c.args.book.now.vehicles) c.text.ensures.value ∙ stands.shows.vehicles name)
-    (c.requires.kept ∙ kept_found _ _ (held c.args.book.now) name c.args.incoming.now.manifest.counter stands.shows)
-    stands.shows.images (ap (λ campaigns. items_for campaigns name) (c.values-campaigns.ensures ∙ ap table.values stands.shows.campaigns))
+    c.decide_manifest.ensures (state_of (held c.args.book.now)) stands.sound (record {
+      founding = c.as_ref.ensures.value ∙ stands.shows.founding;
+      vehicle = c.get.ensures ∙ ap (table.get c.args.book.now.vehicles) c.text.ensures.value ∙ stands.shows.vehicles name;
+      kept = c.find_kept.ensures ∙ ap (kept_with name c.args.incoming.now.manifest.counter) c.as_slice.ensures.value ∙ kept_found _ _ (held c.args.book.now) name c.args.incoming.now.manifest.counter stands.shows;
+      images = stands.shows.images;
+      campaigns = ap (λ campaigns. items_for campaigns name) (c.values.ensures ∙ ap table.values stands.shows.campaigns);
+    })
 
 pub decide_manifest-requires-clause-keys : goal.decide_manifest-requires-clause-keys
-decide_manifest-requires-clause-keys g c = founding_keys _ _ (held c.args.book.now) c.requires.stands
+decide_manifest-requires-clause-keys g c =
+    subst (λ o. IfSome o (λ f. IsTrue (key_set_fits (g.K.Scheme.rules c.args.scheme.now) f.keys))) (sym c.as_ref.ensures.value) (founding_keys _ _ (held c.args.book.now) c.requires.stands)
 
 pub decide_manifest-requires-clause-rows : goal.decide_manifest-requires-clause-rows
 decide_manifest-requires-clause-rows g c =
     let stands = c.requires.stands in
     let name = c.args.incoming.now.manifest.vehicle in
-    let there = c.get-vehicle.ensures ∙ ap (table.get c.args.book.now.vehicles) c.text.ensures.value ∙ stands.shows.vehicles name in
-    if_copied AreSoundRows c.get-vehicle.result (λ rows is. c.rows_are_sound.ensures (g.K.Scheme.rules c.args.scheme.now) (state_of (held c.args.book.now)) name rows stands.sound (sym there ∙ is))
+    let there = c.get.ensures ∙ ap (table.get c.args.book.now.vehicles) c.text.ensures.value ∙ stands.shows.vehicles name in
+    if_some _ _ (λ rows is. c.rows_are_sound.ensures (g.K.Scheme.rules c.args.scheme.now) (state_of (held c.args.book.now)) name rows stands.sound (sym there ∙ is))

@@ -9,8 +9,8 @@ pub returns-in_err-check_new : goal.returns-in_err-check_new
 returns-in_err-check_new c = λ s knows.
     decision_refused _ s (with_campaign s c.args.campaign.now) c.from_residual.result c.in_err-check_new.field-0.0 (decide_new_campaign s c.args.campaign.now) c.from_residual.ensures.1
     (surely (decide_new_campaign s c.args.campaign.now) c.in_err-check_new.field-0.0
-    (checked_rows s c.args.campaign.now c.args.vehicles.now c.args.images.now knows ∙ bind-err _ _ _ (sym c.in_err-check_new.ensures)))
+    (checked_rows s c.args.campaign.now c.args.known.now c.args.images.now knows ∙ bind-err _ _ _ (sym c.in_err-check_new.ensures)))
 
 pub returns : goal.returns
 returns c = λ s knows.
-    (checked_rows s c.args.campaign.now c.args.vehicles.now c.args.images.now knows ∙ bind-ok _ _ _ (sym c.in_ok-check_new.ensures), c.in_ok-copy.ensures)
+    (checked_rows s c.args.campaign.now c.args.known.now c.args.images.now knows ∙ bind-ok _ _ _ (sym c.in_ok-check_new.ensures), c.in_ok-copy.ensures)
