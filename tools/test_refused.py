@@ -169,6 +169,12 @@ class Hashes(OnATree):
         self.turn("crates/low/proofs/Facts.antt", "three = 2", "three = 3")
         self.assertEqual(now(), ["low", "up"])
 
+    def test_it_is_the_same_asked_for_alone_and_with_others(self):
+        # (a lemma file that names another of its own crate, below a crate that is asked about too)
+        self.write("crates/low/proofs/Lib.antt", "pub mod Facts\nuse Rattle.low.proofs.Facts.{three}\n")
+        alone = hashes(crates_here(), ["low"])["low"]
+        self.assertEqual(hashes(crates_here(), ["low", "up"])["low"], alone)
+
     def test_a_proof_of_one_function_below_is_not_read_above(self):
         self.write("crates/up/proofs/Lib.antt", "use Rattle.low.proofs.Facts.{three}\n")
         now = self.changed()

@@ -73,7 +73,8 @@ def _hash(crate, shown):
     whole = [crate, *crate.below()] if crate.is_program else [crate]
     own = [(it.name, path, Path(it.folder, path).read_bytes()) for it in whole for path in _files(it.folder, (*rtlib.PARTS, "refused"))]
     below = [(it.name, it.said["deps"], shown[it.name].stated) for it in sorted(crate.below(), key=lambda it: it.name)]
-    lemmas = _lemmas([text.decode(errors="replace") for _, _, text in own] + [text for _, _, files in below for _, text in files], shown)
+    # (of the crates below alone: which others are asked about counts for nothing)
+    lemmas = _lemmas([text.decode(errors="replace") for _, _, text in own] + [text for _, _, files in below for _, text in files], {it.name: shown[it.name] for it in crate.below()})
     return hashlib.sha256(repr((identity(), crate.said["deps"], own, below, lemmas)).encode()).hexdigest()
 
 
