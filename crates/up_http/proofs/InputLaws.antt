@@ -1,5 +1,5 @@
 -- The requests of a whole input, one after another.
-use Rattle.std.proofs.Common.{◌≡◌, ℕ, ◌+◌, ◌<◌, Bool, true, false, List, [], ◌∷◌, ◌++◌, length, take, drop, Some, take-append-drop, zero-add, refl, sym, ap, ◌∙◌, subst}
+use Rattle.std.proofs.Common.{◌≡◌, ℕ, ◌+◌, ◌<◌, Bool, true, false, List, [], ◌∷◌, ◌++◌, length, take, drop, Some, take-append-drop, zero-add, sym, ap, ◌∙◌, subst}
 use Rattle.std.proofs.Math.Seq.{drop-drop}
 use Rattle.up_http.specs.Feeding.{Fed, Gives}
 use Rattle.up_http.specs.Requests.{First, Firsts, Requests}

@@ -5,9 +5,8 @@ use Rattle.std.specs.Io.KnownBytes.{Appends, Consumes, IsAtEnd}
 use Rattle.std.proofs.KnownBytes.{Appends-nil, Appends-trans}
 use Rattle.std.proofs.lemmas.List.Elements.{filter-append}
 use Rattle.std.proofs.Math.Seq.{take-take, drop-drop, take-add}
-use Rattle.up_lines.specs.Runs.{IsProperFront}
 use Rattle.up_http.specs.Requests.{First, Firsts, most_requests, most_request}
-use Rattle.up_http.specs.Feeding.{Fed, Waits}
+use Rattle.up_http.specs.Feeding.{Waits}
 use Rattle.up_http.specs.Serving.{Run, joined, is_call, calls, Sofar, Stopped, Finished, Breaks, IsBegun, Takes, Stops, Completes, Ran, told, most_bytes, IsNext, AnswersFirst, Unanswered}
 use Rattle.up_http.specs.declared.asked.Next.{Next}
 use Rattle.up_http.specs.declared.fault.Fault.{Fault}

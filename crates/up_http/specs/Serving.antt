@@ -1,5 +1,5 @@
 -- What a run over a stream leaves: answers, states, and what was written.
-use Rattle.std.specs.Prelude.{◌≡◌, ◌⊎◌, ℕ, ◌+◌, ◌*◌, ◌<◌, ◌≤◌, Bool, true, false, ⊤, Option, List, [], ◌∷◌, ◌++◌, length, filter, flat_map, Result, Ok, Err}
+use Rattle.std.specs.Prelude.{◌≡◌, ◌⊎◌, ℕ, ◌+◌, ◌*◌, ◌<◌, ◌≤◌, Bool, true, false, Option, List, [], ◌∷◌, ◌++◌, length, filter, flat_map, Result, Ok, Err}
 use Rattle.std.specs.Io.KnownBytes.{Appends, Consumes, IsAtEnd}
 use Rattle.up_lines.specs.Runs.{IsProperFront}
 use Rattle.up_http.specs.Requests.{First, Firsts, Requests, most_requests, most_request}

@@ -1,11 +1,8 @@
 //! A stream in pieces, and its requests.
-ghost use Rattle.std.specs.Prelude.{◌≡◌, ◌≤◌, ◌<◌, ◌+◌, ◌++◌, [], IfOk, OnErr, IfSome, IfNone, MatchOption, Some, None, false, true, take, drop, length, ℕ, List, Option, IsNone};
+ghost use Rattle.std.specs.Prelude.{◌≡◌, ◌≤◌, ◌<◌, ◌+◌, ◌++◌, [], IfOk, OnErr, Some, None, false, true, length, ℕ, Option};
 ghost use Rattle.up_http.specs.Feeding.{Fed, Feeds, Gives, Ends};
-ghost use Rattle.up_heads.specs.Framing.{framing};
-ghost use Rattle.up_heads.specs.Fronts.{IsFactsOf};
-ghost use Rattle.up_heads.specs.Heads.{Heads};
 ghost use Rattle.up_http.specs.Parts.{Begins, IsPlanOf, IsWaiting, IsWhole, Keeps, Settles, fed_of};
-ghost use Rattle.up_http.specs.Requests.{asked, ends_with, is_head, most_requests, with_body};
+ghost use Rattle.up_http.specs.Requests.{asked, ends_with, most_requests, with_body};
 ghost use Rattle.httparse.specs.Grammar.{RequestHead};
 
 use crate::asked::{Action, Next, Step, What};

@@ -1,9 +1,8 @@
 //! A stream that is read, and the answers to its requests.
-ghost use Rattle.std.specs.Prelude.{◌≡◌, ◌⊎◌, ◌≤◌, ◌<◌, ◌+◌, ◌++◌, [], ◌∷◌, ℕ, List, if◌then◌else◌, is_ok, IfOk, IfErr, IfSome, OnOk, OnErr, MatchOption, Some, None, false, true, take, length};
+ghost use Rattle.std.specs.Prelude.{◌≡◌, ◌≤◌, ◌<◌, ◌+◌, [], ◌∷◌, ℕ, List, if◌then◌else◌, is_ok, IfOk, IfErr, IfSome, OnOk, false, true, take};
 ghost use Rattle.std.specs.Io.KnownBytes.{Appends};
-ghost use Rattle.up_http.specs.Feeding.{Fed};
 ghost use Rattle.up_http.specs.Requests.{most_requests};
-ghost use Rattle.up_http.specs.Serving.{Ran, Finished, AnswersFirst, Stopped, Unanswered, Takes, Stops, Moves, Completes, IsFresh, calls, told};
+ghost use Rattle.up_http.specs.Serving.{Ran, Finished, AnswersFirst, Unanswered, Takes, Stops, Moves, Completes, IsFresh, calls, told};
 
 use crate::asked::{Next, What};
 use crate::fault::{Fault, ServeFault};
