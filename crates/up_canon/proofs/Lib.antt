@@ -4,7 +4,16 @@ pub mod MomentTexts
 pub mod MomentForm
 pub mod Lists
 pub mod Plain
+pub mod Printable
+pub mod PlainValues
+pub mod Ascii
 pub mod CanonicalText
 pub mod Written
+pub mod Joined
+pub mod Searches
 pub mod TableLemmas
 pub mod JsonTexts
+pub mod Repeated
+pub mod Steps
+pub mod Members
+pub mod Faults

@@ -9,3 +9,4 @@ pub mod Members
 pub mod Readers
 pub mod Build
 pub mod JsonText
+pub mod Meaning

@@ -1,5 +1,5 @@
 -- Names: identifiers, filenames, notes and other short texts, and tables that names are the keys of.
-use Rattle.std.specs.Prelude.{ℕ, ◌&&◌, ◌||◌, ◌==◌, List, [], ◌∷◌, Bool, nat_le, length, if◌then◌else◌, Option, Some, None, bytes_eq}
+use Rattle.std.specs.Prelude.{ℕ, ◌&&◌, ◌||◌, ◌==◌, List, [], ◌∷◌, Bool, nat_le, length, if◌then◌else◌, Option, Some, None, is_none, bytes_eq}
 use Rattle.std.specs.List.{list_all, list_any}
 use Rattle.std.specs.Ordering.{nat_cmp}
 use Rattle.std.specs.Cmp.Lexicographic.{slice_cmp}
@@ -50,3 +50,11 @@ first_repeated_after seen (name ∷ names) = if list_any (bytes_eq name) seen th
 -- the first name that stands twice
 abbrev pub first_repeated : List Name → Option Name
 first_repeated names = first_repeated_after [] names
+
+-- no name stands twice
+abbrev pub are_distinct : List Name → Bool
+are_distinct names = is_none (first_repeated names)
+
+-- the hardware that an image is for: 1 to 16 names, none twice
+abbrev pub hardware_fits : List Name → Bool
+hardware_fits hardware = is_from_to 1 16 (length hardware) && are_distinct hardware

@@ -4,7 +4,10 @@ ghost use Rattle.up_canon.specs.Canon.{max_count};
 
 use std::marker::Model;
 
-/// A whole number from 0 to 9007199254740991 (2^53-1), which every JSON reader takes exactly.
+/// The greatest whole number that every JSON reader takes exactly, 2^53-1 (RFC 8259, section 6).
+pub const MAX_COUNT: u64 = 9_007_199_254_740_991;
+
+/// A whole number from 0 to `MAX_COUNT`.
 #[derive(Clone, Copy, Debug, PartialEq, Eq, PartialOrd, Ord)]
 pub struct Count {
     number: u64,
@@ -28,7 +31,7 @@ impl Count {
     pub fn new(number: u64) -> Option<Count>
         ensures { MatchOption result (max_count < number) (λ count. (number ≤ max_count) × (count ≡ number)) }
     {
-        if number <= 9007199254740991 {
+        if number <= MAX_COUNT {
             Some(Count { number })
         } else {
             None

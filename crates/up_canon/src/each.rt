@@ -27,7 +27,8 @@ pub trait Reading {
         ensures { Gives result (meaning place.now (view value.now)) };
 }
 
-/// What each of the values means, in order, or the first fault of the first that has one.
+/// What each of the values means, in order, or the first fault of the first that has one. Memory is taken as they are
+/// read, so that a long list whose first item has a fault takes none for the others.
 #[tactic(auto, unfolding(crate::specs::Steps::each, crate::specs::Steps::and_then))]
 pub fn each_of<R: Reading>(
     alloc: Global,
@@ -36,7 +37,7 @@ pub fn each_of<R: Reading>(
 ) -> Result<Listed<R::Item>, Refusal>
     ensures { Gives result (each (R.meaning place.now) (values_of values.now)) }
 {
-    let mut read = Vec::with_capacity(alloc, values.len())?;
+    let mut read = Vec::new(alloc);
     for value in values {
         read.push(R::read(alloc, value, place)?)?;
     }

@@ -18,6 +18,7 @@ pub mod listed;
 pub mod moment;
 mod moment_form;
 pub mod name_readings;
+pub mod named;
 pub mod note;
 pub mod readers;
 pub mod refusal;

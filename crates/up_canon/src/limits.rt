@@ -37,7 +37,7 @@ pub fn short_text_at<'a>(
         (λ fault. IsFault (short_text_in least most name.now (object_of_map map.now.entries)) name.now fault.now) }
 {
     let text = text_at(map, name)?;
-    if is_short(text.as_bytes(), least, most) {
+    if is_short(text, least, most) {
         Ok(text)
     } else {
         Err(name)
@@ -89,8 +89,9 @@ pub fn list_within_at<'a>(
     }
 }
 
-fn is_short(text: &[u8], least: usize, most: usize) -> bool
+/// Whether the text is printable ASCII of so many bytes.
+pub fn is_short(text: &str, least: usize, most: usize) -> bool
     ensures { result ≡ is_short_text least most text.now }
 {
-    text.len() >= least && text.len() <= most && has_printable_bytes(text)
+    text.len() >= least && text.len() <= most && has_printable_bytes(text.as_bytes())
 }

@@ -11,6 +11,15 @@ pub trait Duplicate {
         ensures { IfOk result (λ copied. copied ≡ self.now) };
 }
 
+impl<T: Duplicate + Drop> Duplicate for Option<T> {
+    fn copy(&self, alloc: Global) -> Result<Option<T>, AllocError> {
+        match self {
+            Some(value) => Ok(Some(value.copy(alloc)?)),
+            None => Ok(None),
+        }
+    }
+}
+
 /// One after another, in order.
 #[derive(Debug, Drop)]
 pub struct Listed<T> {

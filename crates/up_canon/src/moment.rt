@@ -7,7 +7,13 @@ use crate::moment_form::{has_form, two_digits};
 use std::alloc::{AllocError, Global};
 use std::marker::Model;
 
-/// Whole seconds since 1970-01-01T00:00:00Z, up to 9999-12-31T23:59:59Z (253402300799).
+/// The last moment, 9999-12-31T23:59:59Z.
+pub const LAST_MOMENT: u64 = 253_402_300_799;
+
+/// The last moment that a command may have, 2100-01-01T00:00:00Z.
+pub const LAST_COMMAND_MOMENT: u64 = 4_102_444_800;
+
+/// Whole seconds since 1970-01-01T00:00:00Z, up to `LAST_MOMENT`.
 #[derive(Clone, Copy, Debug, PartialEq, Eq, PartialOrd, Ord)]
 pub struct Moment {
     second: u64,
@@ -31,7 +37,7 @@ impl Moment {
     pub fn new(second: u64) -> Option<Moment>
         ensures { MatchOption result (last_moment < second) (λ moment. (second ≤ last_moment) × (moment ≡ second)) }
     {
-        if second <= 253402300799 {
+        if second <= LAST_MOMENT {
             Some(Moment { second })
         } else {
             None

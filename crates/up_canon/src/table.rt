@@ -3,6 +3,7 @@ ghost use Rattle.std.specs.Prelude.{◌≡◌, ◌<◌, ◌≤◌, option_map, O
 ghost use Rattle.std.specs.FinMap as map;
 ghost use Rattle.std.specs.Ordering.{nat_cmp};
 ghost use Rattle.std.specs.Cmp.Lexicographic.{slice_cmp};
+ghost use Rattle.std.specs.List.Sorted.{IsStrictlySortedBy};
 ghost use Rattle.up_canon.specs.Tables.{place_of as place_of_name};
 
 use crate::text::Text;
@@ -100,18 +101,22 @@ impl<T: Drop> Table<T> {
     }
 }
 
-/// The place of the name, or the place where it would stand.
+/// The place of the name, or the place where it would stand: behind the last name at one comparison, so that names in
+/// their order are put in as many steps as there are, and elsewhere by halves.
 fn place_for(names: &[Text], name: &str) -> Result<usize, usize>
+    requires { IsStrictlySortedBy (slice_cmp nat_cmp) names.now }
     ensures { result ≡ place_of_name name.now names.now }
 {
-    for (place, other) in names.iter().enumerate() {
-        match name.cmp(other.as_str()) {
-            Ordering::Less => return Err(place),
-            Ordering::Equal => return Ok(place),
-            Ordering::Greater => {}
+    if let Some(last) = names.last() {
+        if last.as_str() < name {
+            return Err(names.len());
         }
     }
-    Err(names.len())
+    names.binary_search_by(
+        |other: &Text| -> Ordering
+            ensures { result ≡ slice_cmp nat_cmp other.now name.entry.now }
+        { other.as_str().cmp(name) },
+    )
 }
 
 /// Puts an item at its place, for which there is room.

@@ -16,7 +16,7 @@ use Rattle.up_machine.specs.Deciding.{done}
 use Rattle.up_machine.specs.Repositories.{stamped, with_root, decide_found, decide_rotate}
 use Rattle.up_machine.specs.Decisions.{HasRootRows}
 use Rattle.up_machine.specs.Laws.{IsLater}
-use Rattle.up_machine.proofs.Steps.{one_value}
+use Rattle.up_canon.proofs.Steps.{one_value}
 use Rattle.up_machine.proofs.Growing.{grow_outcome}
 use Rattle.up_desk.specs.declared.book.RootRow.{RootRow}
 use Rattle.up_desk.specs.Rows.{Held, root_row, Shows, Holds}

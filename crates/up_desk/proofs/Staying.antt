@@ -12,7 +12,7 @@ use Rattle.up_machine.specs.Files.{numbered_root_name, root_text}
 use Rattle.up_machine.specs.Rows.{kept_row}
 use Rattle.up_machine.specs.Sound.{IsSound, IsGrounded}
 use Rattle.up_machine.specs.Laws.{IsLater}
-use Rattle.up_machine.proofs.Keeping.{reply_stays}
+use Rattle.up_machine.proofs.Keeping.{reply_stays, slice_get-append}
 use Rattle.up_desk.specs.declared.book.RootRow.{RootRow}
 use Rattle.up_desk.specs.Rows.{root_row, kept_rows}
 
@@ -38,11 +38,6 @@ kept_stay k s next name sound later same =
     by_case (Some v) h = each_stays k s next name 1 v.entries later (sound.vehicles name v h).grounded
 
 -- ---- root versions
-
-slice_get-append : {A : Type 0} (xs ys : List A) (i : ℕ) → i < length xs → slice_get (xs ++ ys) i ≡ slice_get xs i
-slice_get-append [] ys i h = absurd (omega arith)
-slice_get-append (x ∷ xs) ys zero h = refl
-slice_get-append (x ∷ xs) ys (suc i) h = slice_get-append xs ys i (omega arith)
 
 nth_within : {A : Type 0} (xs ys : List A) (i : ℕ) → i ≤ length xs → nth (xs ++ ys) i ≡ nth xs i
 nth_within xs ys zero h = refl

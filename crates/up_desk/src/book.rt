@@ -9,7 +9,7 @@ use up_plan::campaign::Campaign;
 use up_plan::image::Image;
 
 /// A root version: the filename of its Root files, its keys, its moment, and the text of each repository's file.
-#[derive(Debug, Drop)]
+#[derive(Drop)]
 pub struct RootRow {
     pub name: Text,
     pub keys: KeySet,
@@ -20,7 +20,7 @@ pub struct RootRow {
 
 /// The rows of a state: the founding, the root versions in order, the registered images, the image repository's other files,
 /// the campaigns, the vehicles with their ECUs, and a row for each accepted manifest in the order of acceptance.
-#[derive(Debug, Drop)]
+#[derive(Drop)]
 pub struct Book {
     pub founding: Option<Founding>,
     pub roots: Vec<RootRow>,

@@ -13,7 +13,7 @@ use crate::inventory::add_vehicle;
 use crate::register::{add_image, refresh};
 use crate::roots::{found, rotate};
 use std::alloc::Global;
-use up_canon::moment::Moment;
+use up_canon::moment::{LAST_COMMAND_MOMENT, Moment};
 use up_canon::refusal::Refusal;
 use up_machine::answer::Answer;
 use up_machine::command::Command;
@@ -69,7 +69,7 @@ fn act<K: Scheme>(
 fn command_moment(at: u64) -> Option<Moment>
     ensures { MatchOption result (last_command_moment < at) (λ moment. (at ≤ last_command_moment) × (moment ≡ at)) }
 {
-    if at > 4102444800 {
+    if at > LAST_COMMAND_MOMENT {
         return None;
     }
     Moment::new(at)

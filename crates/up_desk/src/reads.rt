@@ -75,10 +75,7 @@ fn image_of(alloc: Global, row: Option<&EcuRow>) -> Result<Option<Installed>, Al
     ensures { IfOk result (λ found. found ≡ option_and_then (λ r. r.installed) (option_copied row.entry)) }
 {
     match row {
-        Some(row) => match &row.installed {
-            Some(image) => Ok(Some(image.copy(alloc)?)),
-            None => Ok(None),
-        },
+        Some(row) => row.installed.copy(alloc),
         None => Ok(None),
     }
 }

@@ -14,6 +14,7 @@ mod written;
 ghost use Rattle.up_lines.specs.Lines.{WholeLinesFirst};
 
 pub use reading::{read_piece, run};
+pub use written::{NotWritten, write_whole};
 
 /// The lines that are whole are answered first and as they are, whatever bytes follow.
 pub fn whole_lines_first()

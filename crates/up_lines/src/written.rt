@@ -7,10 +7,10 @@ use std::io::Write;
 
 /// The writer failed, or took no byte of what it was handed.
 #[derive(Clone, Copy, Debug, PartialEq, Eq, Drop)]
-pub(crate) struct NotWritten;
+pub struct NotWritten;
 
 /// Writes a text, from where the writer stopped if it takes it in parts. Nothing is tried again after a failure.
-pub(crate) fn write_whole<W: Write>(writer: &mut W, text: &[u8]) -> Result<(), NotWritten>
+pub fn write_whole<W: Write>(writer: &mut W, text: &[u8]) -> Result<(), NotWritten>
     ensures ok { OnOk result (Appends (W.contents writer.old) (W.contents writer.new) text.now) }
     ensures err { OnErr result ((front : List ℕ) × IsProperFront front text.now
         × Appends (W.contents writer.old) (W.contents writer.new) front) }

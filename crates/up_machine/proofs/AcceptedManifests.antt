@@ -30,7 +30,7 @@ use Rattle.up_machine.specs.Replies.{reply_making, reply_json, reply_text}
 use Rattle.up_machine.specs.Rows.{founding_row, ecu_row, vehicle_row, rows_of, kept_row}
 use Rattle.up_machine.specs.Decisions.{HasAcceptedRows}
 use Rattle.up_machine.specs.ManifestRows.{fitted_in, reported_row, accepted_row, reply_of, kept_of, plan_by_rows, accepted_rows, target_for}
-use Rattle.up_machine.proofs.Steps.{map_some}
+use Rattle.up_canon.proofs.Steps.{map_some}
 
 -- ---- the newest manifest
 

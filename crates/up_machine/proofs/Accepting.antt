@@ -14,7 +14,7 @@ use Rattle.up_machine.specs.Vehicles.{has_ecu}
 use Rattle.up_machine.specs.State.{Vehicle, State, last_counter}
 use Rattle.up_machine.specs.Deliveries.{Received, report_name, report_names, check_reports, check_new, plan_in, entry_of, with_entry}
 use Rattle.up_machine.specs.Sound.{IsEntryOf, IsGrounded, IsSound}
-use Rattle.up_machine.proofs.Steps.{first_ok, refuse_if_ok, refuse_first_ok}
+use Rattle.up_canon.proofs.Steps.{first_ok, refuse_if_ok, refuse_first_ok}
 use Rattle.up_machine.proofs.Lists.{all_pass, none_passes, not_true}
 use Rattle.up_machine.proofs.Values.{each_value}
 use Rattle.up_machine.proofs.Receiving.{IsReceived}

@@ -1,15 +1,14 @@
 -- What is served to one vehicle doesn't depend on what other vehicles deliver.
-use Rattle.std.proofs.Common.{◌≡◌, ℕ, List, [], ◌∷◌, Bool, true, false, cond, not, Option, Some, None, Result, Ok, Err, refl, sym, ap, ◌∙◌, subst}
-use Rattle.std.specs.Prelude.{⊤, ◌≢◌, ◌&&◌, ◌||◌, option_map, unwrap_or, is_some, find, map, filter, bytes_eq, length, ◌==◌, nat_le}
-use Rattle.std.specs.List.{list_any, list_all, AllByRecursion}
+use Rattle.std.proofs.Common.{◌≡◌, ℕ, List, [], Bool, true, false, cond, not, Option, Some, None, Result, Ok, Err, refl, sym, ap, ◌∙◌, subst}
+use Rattle.std.specs.Prelude.{⊤, ◌≢◌, option_map, unwrap_or, is_some, find, bytes_eq, length, ◌==◌, nat_le}
+use Rattle.std.specs.List.{list_any, list_all}
 use Rattle.std.specs.Ordering.{nat_cmp, eq_by_cmp}
 use Rattle.std.specs.Cmp.Lexicographic.{slice_cmp, bytes_decides}
 use Rattle.std.specs.FinMap as table
-use Rattle.up_canon.specs.Canon.{max_count}
 use Rattle.up_canon.specs.Names.{Name, Table, first_repeated}
 use Rattle.up_canon.specs.Steps.{and_then, ◌>>=◌, unless, refuse_if, refuse_first, or_error, value_of}
 use Rattle.up_canon.specs.declared.refusal.Refusal.{Refusal}
-use Rattle.up_canon.specs.declared.refusal.Refusal.TheVariants.{AlreadyFounded, ImageTaken, RegisterFull, VersionNotGreater, UnknownFile, RootFull, DuplicateEcu, VehicleTaken, EcuTaken, CampaignTaken, UnknownVehicle, UnknownCampaign, UnknownImage, WrongHardware, BadShape}
+use Rattle.up_canon.specs.declared.refusal.Refusal.TheVariants.{AlreadyFounded, ImageTaken, RegisterFull, VersionNotGreater, UnknownFile, RootFull, DuplicateEcu, VehicleTaken, EcuTaken, CampaignTaken, UnknownVehicle, UnknownCampaign, UnknownImage, WrongHardware}
 use Rattle.up_sign.specs.Schemes.{Rules}
 use Rattle.up_roles.specs.declared.repository.Repository.{Repository}
 use Rattle.up_roles.specs.declared.repository.Repository.TheVariants.{Director, Image}
@@ -22,18 +21,17 @@ use Rattle.up_plan.specs.Images.{ImageData}
 use Rattle.up_machine.specs.declared.keys.KeySet.{KeySet}
 use Rattle.up_machine.specs.declared.command.Command.{Command}
 use Rattle.up_machine.specs.declared.command.Command.TheVariants.{Found, Rotate, AddImage, Refresh, AddVehicle, OpenCampaign, CloseCampaign, Deliver, Fetch}
-use Rattle.up_machine.specs.declared.answer.Answer.{Answer}
 use Rattle.up_machine.specs.declared.answer.Answer.TheVariants.{Refused}
-use Rattle.up_machine.specs.Keys.{check_keys, public_fits}
+use Rattle.up_machine.specs.Keys.{check_keys}
 use Rattle.up_machine.specs.Vehicles.{NewVehicleData, has_ecu, ecu_names}
 use Rattle.up_machine.specs.State.{Vehicle, State, is_recorded}
 use Rattle.up_machine.specs.Files.{files, file}
 use Rattle.up_machine.specs.Deciding.{Outcome, done, already, where_new, check_moment, check_founded, check_version}
 use Rattle.up_machine.specs.Repositories.{same_image, decide_found, decide_rotate, decide_new_image, decide_image, decide_refresh, decide_fetch}
 use Rattle.up_machine.specs.Inventory.{same_vehicle, same_campaign, reach_is_known, has_its_image, has_its_hardware, closed, with_campaign, decide_new_vehicle, decide_vehicle, decide_new_campaign, decide_open, decide_close}
-use Rattle.up_machine.specs.Deliveries.{Received, receive, receive_manifest}
+use Rattle.up_machine.specs.Deliveries.{receive, receive_manifest}
 use Rattle.up_machine.specs.Machine.{decide, outcome_of, step}
-use Rattle.up_machine.specs.Repeats.{served_as, serve, vehicle_of}
+use Rattle.up_machine.specs.Repeats.{serve, vehicle_of}
 use Rattle.up_machine.proofs.Tables.{one_name, get_new, get_other}
 use Rattle.up_machine.proofs.Values.{found_any, any_found}
 use Rattle.up_machine.proofs.Lists.{not_true, find_alike, all_alike, both_ways}

@@ -22,7 +22,7 @@ use Rattle.up_machine.specs.Deliveries.{Received, receive_manifest, is_signed_by
 use Rattle.up_machine.specs.Rows.{ecu_row, rows_of}
 use Rattle.up_machine.specs.ManifestRows.{row_of, is_signed_by_row, check_primary, has_row, is_reported_in, follows, follows_its_row, check_reports_of, check_new_of}
 use Rattle.up_machine.proofs.Lists.{none_passes, not_true, find_alike}
-use Rattle.up_machine.proofs.Steps.{bind-ok, refuse_first_ok}
+use Rattle.up_canon.proofs.Steps.{bind-ok, refuse_first_ok}
 
 -- ---- lists of what is made of elements
 

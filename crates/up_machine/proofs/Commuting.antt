@@ -1,6 +1,6 @@
 -- Neighbouring deliveries of different vehicles may be exchanged.
-use Rattle.std.proofs.Common.{◌≡◌, ℕ, suc, List, [], ◌∷◌, ◌++◌, Bool, true, false, cond, Option, Some, None, Result, Ok, Err, refl, sym, ap, ◌∙◌, subst}
-use Rattle.std.specs.Prelude.{◌≢◌, option_map, length, map}
+use Rattle.std.proofs.Common.{◌≡◌, ℕ, suc, List, [], ◌∷◌, ◌++◌, Bool, true, false, Option, Some, None, Result, Ok, Err, refl, sym, ap, ◌∙◌, subst}
+use Rattle.std.specs.Prelude.{◌≢◌, option_map, length}
 use Rattle.std.specs.FinMap as table
 use Rattle.up_canon.specs.Names.{Name, Table}
 use Rattle.up_canon.specs.Steps.{value_of}
@@ -13,8 +13,7 @@ use Rattle.up_machine.specs.declared.command.Command.TheVariants.{Found, Rotate,
 use Rattle.up_machine.specs.declared.answer.Answer.{Answer}
 use Rattle.up_machine.specs.State.{Vehicle, State}
 use Rattle.up_machine.specs.Deciding.{Outcome}
-use Rattle.up_machine.specs.Machine.{Timed}
-use Rattle.up_machine.specs.Repeats.{serve, Sent, Met, meet, trace, after, expected, vehicle_of}
+use Rattle.up_machine.specs.Repeats.{Sent, meet, after, expected, vehicle_of}
 use Rattle.up_machine.specs.ApartLaws.{AreExchanged, DeliveriesCommute}
 use Rattle.up_machine.proofs.Tables.{get_other, insert_apart}
 use Rattle.up_machine.proofs.Effects.{with_vehicles, changed, Effect, effect}

@@ -24,7 +24,7 @@ use Rattle.up_machine.specs.Deciding.{Outcome, done, already, where_new, check_m
 use Rattle.up_machine.specs.Repositories.{stamped, with_root, with_image, decide_found, decide_rotate, decide_new_image, decide_image, decide_refresh, decide_fetch}
 use Rattle.up_machine.specs.Inventory.{with_vehicle, with_campaign, closed, reach_is_known, has_its_image, has_its_hardware, decide_new_vehicle, decide_vehicle, decide_new_campaign, decide_open, decide_close}
 use Rattle.up_machine.specs.Deliveries.{Received, receive, check_new, accepted, decide_received, decide_delivery}
-use Rattle.up_machine.proofs.Steps.{first_ok, same_ok, or_error_ok, refuse_if_ok, unless_ok, refuse_first_ok}
+use Rattle.up_canon.proofs.Steps.{first_ok, same_ok, or_error_ok, refuse_if_ok, unless_ok, refuse_first_ok}
 
 -- ---- checks that passed
 

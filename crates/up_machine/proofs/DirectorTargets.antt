@@ -1,30 +1,25 @@
 -- The Director's targets fit, and no ECU stands twice among them.
-use Rattle.std.proofs.Common.{◌≡◌, ℕ, List, [], ◌∷◌, Bool, true, false, cond, Option, Some, None, refl, sym, ap, ap₂, ◌∙◌, subst, length, arith}
-use Rattle.std.specs.Prelude.{◌&&◌, not, if◌then◌else◌, bytes_eq, map, filter, filter_map, option_map, is_none}
-use Rattle.std.specs.List.{list_all, list_any, cons_option}
+use Rattle.std.proofs.Common.{◌≡◌, List, [], ◌∷◌, Bool, true, false, cond, Option, Some, None, refl, sym, ap, ap₂, ◌∙◌, subst}
+use Rattle.std.specs.Prelude.{not, if◌then◌else◌, bytes_eq, map, filter, filter_map, option_map, is_none}
+use Rattle.std.specs.List.{list_any, cons_option}
 use Rattle.std.specs.FinMap as table
-use Rattle.std.proofs.lemmas.Bool.{and_parts}
-use Rattle.std.proofs.lemmas.Bool.Decides.{nat_tests}
-use Rattle.up_canon.specs.Canon.{is_printable}
-use Rattle.up_canon.specs.Names.{Name, Table, is_from_to, is_ident_byte, is_ident, first_repeated}
+use Rattle.up_canon.specs.Names.{Name, Table, first_repeated, are_distinct, hardware_fits}
 use Rattle.up_canon.specs.Steps.{first_or_none}
 use Rattle.up_manifest.specs.declared.report.SignedReport.{SignedReport}
 use Rattle.up_roles.specs.declared.repository.Repository.TheVariants.{Director}
-use Rattle.up_roles.specs.Payload.{are_distinct}
 use Rattle.up_roles.specs.Targets.{target_fits, ecus_of}
 use Rattle.up_plan.specs.declared.assigned.Assigned.{Assigned}
 use Rattle.up_plan.specs.declared.assigned.Cause.{Cause}
 use Rattle.up_plan.specs.declared.assigned.Fitted.{Fitted}
 use Rattle.up_plan.specs.declared.campaign.Item.{Item}
 use Rattle.up_plan.specs.Campaigns.{CampaignData}
-use Rattle.up_plan.specs.Images.{ImageData, hardware_fits, image_fits}
+use Rattle.up_plan.specs.Images.{ImageData, image_fits}
 use Rattle.up_plan.specs.Planning.{Resulting, with_wanted, wanted, resulting, updates, unmet, plan_with, plan_of, items_for}
 use Rattle.up_machine.specs.declared.rows.EcuRow.{EcuRow}
 use Rattle.up_machine.specs.declared.rows.VehicleRows.{VehicleRows}
 use Rattle.up_machine.specs.Files.{target_of}
 use Rattle.up_machine.specs.State.{report_of}
 use Rattle.up_machine.specs.ManifestRows.{fitted_of, fitted_in, target_for, plan_by_rows}
-use Rattle.up_machine.proofs.Lists.{and_left}
 use Rattle.up_machine.proofs.DistinctNames.{Distinct, or_parts, distinct, once_of, distinct_some, map_same}
 
 -- ---- a target of an image that fits
@@ -36,18 +31,6 @@ hardware_first false name rest h = h
 
 pub fits : (ecu : Name) (image : ImageData) → image_fits image ≡ true → target_fits Director (target_of (Some ecu) image) ≡ true
 fits ecu image h = hardware_first (hardware_fits image.hardware) _ _ h
-
--- ---- names that are printed
-
-all_printable : (xs : List ℕ) → list_all is_ident_byte xs ≡ true → list_all is_printable xs ≡ true
-all_printable [] h = refl
-all_printable (x ∷ xs) h = let q = and_parts (is_ident_byte x) _ h in ap₂ (λ a b. a && b) (byte x q.0) (all_printable xs q.1)
-  where
-    byte : (x : ℕ) → is_ident_byte x ≡ true → is_printable x ≡ true
-    byte x h = grind (arith, nat_tests)
-
-pub ident_prints : (t : List ℕ) → is_ident t ≡ true → list_all is_printable t ≡ true
-ident_prints t h = let p = and_parts (is_from_to 1 64 (length t)) _ h in all_printable t p.1
 
 -- ---- no ECU stands twice
 

@@ -1,5 +1,5 @@
 -- What serving a delivery does, said of its own vehicle alone.
-use Rattle.std.proofs.Common.{◌≡◌, ℕ, ◌+◌, List, [], ◌∷◌, ◌++◌, Bool, Option, Some, None, Result, Ok, Err, refl, sym, ap, ◌∙◌, subst}
+use Rattle.std.proofs.Common.{◌≡◌, ℕ, ◌+◌, List, [], ◌∷◌, ◌++◌, Option, Some, None, Result, Ok, Err, refl, sym, ap, ◌∙◌, subst}
 use Rattle.std.specs.Prelude.{⊤, option_map, option_and_then}
 use Rattle.std.specs.FinMap as table
 use Rattle.up_canon.specs.Names.{Name, Table}
@@ -19,8 +19,8 @@ use Rattle.up_machine.specs.Replies.{reply_text, reply_to}
 use Rattle.up_machine.specs.Deciding.{Outcome, check_moment, check_founded}
 use Rattle.up_machine.specs.Deliveries.{Received, is_signed_by, receive_manifest, receive, check_new, plan_in, entry_of, with_entry, accepted, decide_received, decide_delivery}
 use Rattle.up_machine.specs.Machine.{outcome_of, step}
-use Rattle.up_machine.specs.Repeats.{Repeat, repeat_in, repeat_of, served_as, serve}
-use Rattle.up_machine.proofs.Steps.{bind-ok, bind-err, same_ok}
+use Rattle.up_machine.specs.Repeats.{Repeat, repeat_in, served_as, serve}
+use Rattle.up_canon.proofs.Steps.{bind-ok, bind-err, same_ok}
 use Rattle.up_machine.proofs.Receiving.{received}
 
 -- the same state with another inventory

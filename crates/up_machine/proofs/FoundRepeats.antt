@@ -24,7 +24,7 @@ use Rattle.up_machine.specs.Rows.{kept_row, kept_at, reply_kept}
 use Rattle.up_machine.specs.Sound.{CountersRise, IsSound}
 use Rattle.up_machine.specs.Decisions.{resolve}
 use Rattle.up_machine.specs.ManifestRows.{repeated}
-use Rattle.up_machine.proofs.Steps.{bind-ok, one_value}
+use Rattle.up_canon.proofs.Steps.{bind-ok, one_value}
 use Rattle.up_machine.proofs.Lists.{none_passes}
 use Rattle.up_machine.proofs.Counters.{told_apart}
 use Rattle.up_machine.proofs.Repeating.{nth_at_place, place_of, found_by_counter}

@@ -16,7 +16,7 @@ use Rattle.up_machine.specs.Files.{root_text, role_texts, image_making, target_o
 use Rattle.up_machine.specs.Rows.{founding_row}
 use Rattle.up_machine.specs.Repositories.{stamped, with_root}
 use Rattle.up_machine.specs.Decisions.{HasRootRows, HasRegisterRows}
-use Rattle.up_machine.proofs.Steps.{map_some}
+use Rattle.up_canon.proofs.Steps.{map_some}
 use Rattle.up_machine.proofs.Keeping.{nth_stays}
 use Rattle.up_machine.proofs.Repeating.{nth_at_place}
 use Rattle.up_machine.proofs.Signing.{nth_there}

@@ -16,7 +16,7 @@ use Rattle.up_machine.specs.Inventory.{with_vehicle}
 use Rattle.up_machine.specs.Deliveries.{with_entry}
 use Rattle.up_machine.specs.Machine.{decide, outcome_of, step}
 use Rattle.up_machine.specs.Laws.{IsLater, LaterIsReflexive, LaterIsTransitive, StepsGrow, RunsGrow}
-use Rattle.up_machine.proofs.Steps.{one_value}
+use Rattle.up_canon.proofs.Steps.{one_value}
 use Rattle.up_machine.proofs.Tables.{one_name, get_new, kept_by_insert}
 use Rattle.up_machine.proofs.Decided.{found_ok, rotate_ok, image_ok, refresh_ok, vehicle_ok, open_ok, close_ok, delivery_ok, fetch_ok}
 use Rattle.up_machine.proofs.Receiving.{received}

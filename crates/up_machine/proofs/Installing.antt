@@ -10,7 +10,7 @@ use Rattle.up_machine.specs.State.{Vehicle, State, installed_on}
 use Rattle.up_machine.specs.Reads.{owner}
 use Rattle.up_machine.specs.Sound.{IsSound}
 use Rattle.up_machine.specs.ApartLaws.{InstalledIsOfTheVehicle}
-use Rattle.up_machine.proofs.Steps.{one_value}
+use Rattle.up_canon.proofs.Steps.{one_value}
 use Rattle.up_machine.proofs.Lists.{found_passes}
 use Rattle.up_machine.proofs.Values.{each_found, found_any}
 

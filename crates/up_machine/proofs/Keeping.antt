@@ -12,11 +12,11 @@ use Rattle.up_machine.specs.Files.{role_texts, target_of}
 use Rattle.up_machine.specs.Replies.{assigned_target, reply_making, reply_json, reply_text, reply_to}
 use Rattle.up_machine.specs.Sound.{IsGrounded}
 use Rattle.up_machine.specs.Laws.{IsLater, KeptRepliesStay, KeptRepliesOutlastRuns}
-use Rattle.up_machine.proofs.Steps.{and_then_some, map_some}
+use Rattle.up_canon.proofs.Steps.{and_then_some, map_some}
 use Rattle.up_machine.proofs.Lists.{each_at}
 use Rattle.up_machine.proofs.Growing.{grow_on}
 
-slice_get-append : {A : Type 0} (xs ys : List A) (i : ℕ) → i < length xs → slice_get (xs ++ ys) i ≡ slice_get xs i
+pub slice_get-append : {A : Type 0} (xs ys : List A) (i : ℕ) → i < length xs → slice_get (xs ++ ys) i ≡ slice_get xs i
 slice_get-append [] ys i h = absurd (omega arith)
 slice_get-append (x ∷ xs) ys zero h = refl
 slice_get-append (x ∷ xs) ys (suc i) h = slice_get-append xs ys i (omega arith)

@@ -1,9 +1,7 @@
-pub mod Steps
 pub mod Tables
 pub mod Decided
 pub mod FoundedRow
 pub mod Fetched
-pub mod RepeatedNames
 pub mod OpenedCampaigns
 pub mod AddedVehicles
 pub mod Receiving
@@ -26,7 +24,6 @@ pub mod Installing
 pub mod Signing
 pub mod Serving
 pub mod Makings
-pub mod Distinct
 pub mod RootMakings
 pub mod NewFiles
 pub mod FoundingRows

@@ -4,7 +4,7 @@ use Rattle.std.specs.Prelude.{⊤, map, IsTrue, MatchOption}
 use Rattle.up_sign.specs.Schemes.{Rules}
 use Rattle.up_roles.specs.declared.repository.Repository.{Repository}
 use Rattle.up_roles.specs.declared.repository.Repository.TheVariants.{Director, Image}
-use Rattle.up_roles.specs.Payload.{are_distinct}
+use Rattle.up_canon.specs.Names.{are_distinct}
 use Rattle.up_roles.specs.Targets.{ecus_of}
 use Rattle.up_plan.specs.Images.{ImageData}
 use Rattle.up_machine.specs.declared.keys.KeySet.{KeySet}

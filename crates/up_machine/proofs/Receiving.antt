@@ -9,7 +9,7 @@ use Rattle.up_manifest.specs.declared.manifest.Incoming.{Incoming}
 use Rattle.up_manifest.specs.Manifests.{incoming_in}
 use Rattle.up_machine.specs.State.{State}
 use Rattle.up_machine.specs.Deliveries.{Received, receive_manifest, receive, is_signed_by}
-use Rattle.up_machine.proofs.Steps.{first_ok, same_ok, or_error_ok, unless_ok}
+use Rattle.up_canon.proofs.Steps.{first_ok, same_ok, or_error_ok, unless_ok}
 use Rattle.up_machine.proofs.Decided.{in_time, is_founded}
 
 pub record IsReceivedManifest (k : Rules) (s : State) (incoming : Incoming) (r : Received) : Type 0 where

@@ -1,12 +1,11 @@
 -- A repeat is refused as stale by the plain machine, is answered its kept reply, and changes nothing.
-use Rattle.std.proofs.Common.{◌≡◌, ℕ, zero, suc, ◌+◌, ◌-◌, ◌<◌, ◌≤◌, List, [], ◌∷◌, Bool, true, false, cond, Option, Some, None, Result, Ok, Err, refl, sym, ap, ◌∙◌, subst, arith}
-use Rattle.std.specs.Prelude.{⊤, nat_le, bytes_eq, option_and_then, option_map, is_some, find, slice_get, IsTrue, ◌==◌}
+use Rattle.std.proofs.Common.{◌≡◌, ℕ, zero, suc, ◌+◌, ◌-◌, ◌≤◌, List, [], ◌∷◌, Bool, true, false, cond, Option, Some, None, Result, Ok, Err, refl, sym, ap, ◌∙◌, subst, arith}
+use Rattle.std.specs.Prelude.{nat_le, bytes_eq, option_and_then, option_map, is_some, find, slice_get, IsTrue}
 use Rattle.std.specs.List.{AllByRecursion, enumerate_from, cons_option}
 use Rattle.std.specs.Cmp.Lexicographic.{bytes_decides}
 use Rattle.std.specs.FinMap as table
 use Rattle.std.proofs.lemmas.Bool.{ne_eqb}
 use Rattle.std.proofs.lemmas.Bool.Decides.{nat_tests}
-use Rattle.up_canon.specs.Names.{Name}
 use Rattle.up_canon.specs.Steps.{value_of}
 use Rattle.up_canon.specs.declared.refusal.Refusal.{Refusal}
 use Rattle.up_canon.specs.declared.refusal.Refusal.TheVariants.{Stale}
@@ -22,15 +21,14 @@ use Rattle.up_machine.specs.State.{Entry, Vehicle, State, nth, last_counter}
 use Rattle.up_machine.specs.Replies.{reply_to}
 use Rattle.up_machine.specs.Deciding.{Outcome}
 use Rattle.up_machine.specs.Deliveries.{Received, receive, check_new, decide_received, decide_delivery}
-use Rattle.up_machine.specs.Machine.{Timed, decide, outcome_of, step, run}
-use Rattle.up_machine.specs.Repeats.{Repeat, entry_signed, repeat_in, repeat_of, served_as, serve, Sent, meet, after, stays, thinned, not_lost}
+use Rattle.up_machine.specs.Machine.{Timed, outcome_of, step, run}
+use Rattle.up_machine.specs.Repeats.{Repeat, entry_signed, repeat_in, repeat_of, served_as, serve, Sent, after, thinned, not_lost}
 use Rattle.up_machine.specs.Sound.{IsEntryOf, IsSound}
 use Rattle.up_machine.specs.RepeatLaws.{RepeatsAreStale, RepeatsGetKeptReplies, CountersFindRepeats, OlderCountersAreStale, RepeatsChangeNothing, ServedIsThinned, ServedStaysSound}
-use Rattle.up_machine.proofs.Steps.{bind-ok, bind-err, value_of_some, and_then_some, map_some, one_value}
+use Rattle.up_canon.proofs.Steps.{bind-ok, bind-err, value_of_some, and_then_some, map_some, one_value}
 use Rattle.up_machine.proofs.Lists.{each_at, none_passes}
 use Rattle.up_machine.proofs.Receiving.{received}
 use Rattle.up_machine.proofs.Counters.{told_apart, up_to_last}
-use Rattle.up_machine.proofs.Keeping.{nth_at}
 use Rattle.up_machine.proofs.Soundness.{stay}
 
 -- ---- entries by their text

@@ -17,7 +17,7 @@ use Rattle.up_machine.specs.State.{State}
 use Rattle.up_machine.specs.Deciding.{Outcome, done, already, where_new, check_moment, check_founded, check_version}
 use Rattle.up_machine.specs.Repositories.{stamped, with_root, with_image, same_image, decide_found, decide_rotate, decide_new_image, decide_image, decide_refresh}
 use Rattle.up_machine.specs.Decisions.{GivesRows}
-use Rattle.up_machine.proofs.Steps.{bind-ok, bind-err}
+use Rattle.up_canon.proofs.Steps.{bind-ok, bind-err}
 
 -- ---- checks
 

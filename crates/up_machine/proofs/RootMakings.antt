@@ -4,14 +4,14 @@ use Rattle.std.specs.Prelude.{◌&&◌, ⊤, length, map, filter, bytes_eq, is_n
 use Rattle.std.specs.List.{list_all, list_any}
 use Rattle.std.proofs.lemmas.List.{length-map, length-append}
 use Rattle.std.proofs.lemmas.List.Folds.{list_all-append, list_all-map}
-use Rattle.up_canon.specs.Names.{is_from_to, is_short_text, first_repeated}
+use Rattle.up_canon.specs.Names.{is_from_to, is_short_text, first_repeated, are_distinct}
 use Rattle.up_sign.specs.Schemes.{Rules, IsScheme}
 use Rattle.up_sign.specs.Formats.{signature_fits}
 use Rattle.up_sign.specs.Envelopes.{signature_of}
 use Rattle.up_sign.specs.Laws.{SealedFits}
 use Rattle.up_roles.specs.declared.repository.Repository.{Repository}
 use Rattle.up_roles.specs.declared.root.RootKey.{RootKey}
-use Rattle.up_roles.specs.Payload.{version_fits, are_distinct}
+use Rattle.up_roles.specs.Payload.{version_fits}
 use Rattle.up_roles.specs.Root.{key_fits, role_fits as root_role_fits, root_fits as root_file_fits, root_text_of}
 use Rattle.up_machine.specs.declared.keys.RoleSecrets.{RoleSecrets}
 use Rattle.up_machine.specs.declared.keys.KeySet.{KeySet}

@@ -1,16 +1,15 @@
 -- A vehicle and the answers to its own deliveries are those of the list without other vehicles' deliveries.
-use Rattle.std.proofs.Common.{◌≡◌, ℕ, List, [], ◌∷◌, Bool, true, false, cond, not, Option, Some, None, refl, sym, ap, ◌∙◌, subst}
+use Rattle.std.proofs.Common.{◌≡◌, List, [], ◌∷◌, Bool, true, false, cond, not, Option, Some, None, refl, sym, ap, ◌∙◌, subst}
 use Rattle.std.specs.Prelude.{option_map, unwrap_or, map, filter, bytes_eq}
 use Rattle.std.specs.FinMap as table
 use Rattle.up_canon.specs.Names.{Name, Table}
 use Rattle.up_sign.specs.Schemes.{Rules}
-use Rattle.up_machine.specs.declared.answer.Answer.{Answer}
 use Rattle.up_machine.specs.State.{Vehicle, State}
 use Rattle.up_machine.specs.Machine.{Timed}
 use Rattle.up_machine.specs.Repeats.{serve, Sent, Met, meet, trace, after, vehicle_of, delivers_own, delivers_other, without_others, own_answers}
 use Rattle.up_machine.specs.ApartLaws.{VehiclesStandApart}
 use Rattle.up_machine.proofs.Effects.{with_vehicles}
-use Rattle.up_machine.proofs.Apart.{AlikeTables, IsAlike, itself, ServedAlike, is_others, served_alike, other_alike}
+use Rattle.up_machine.proofs.Apart.{AlikeTables, IsAlike, itself, is_others, served_alike, other_alike}
 
 -- from two states that are alike, the whole list and the list without others' deliveries
 abbrev Same : Rules → Name → List Sent → State → State → Type 0

@@ -1,16 +1,14 @@
 -- Each text that is served is a Root file or one of the image repository's files.
-use Rattle.std.proofs.Common.{◌≡◌, ℕ, zero, suc, ◌+◌, ◌-◌, List, [], ◌∷◌, ◌++◌, Bool, true, false, cond, Option, Some, None, ◌⊎◌, inl, inr, refl, sym, ap, ◌∙◌, subst, arith}
+use Rattle.std.proofs.Common.{◌≡◌, ℕ, suc, ◌+◌, List, [], ◌∷◌, ◌++◌, Option, Some, None, ◌⊎◌, inl, inr, refl, subst, arith}
 use Rattle.std.specs.Prelude.{length, map, find, bytes_eq, slice_get, option_map, option_to_list, codes}
 use Rattle.std.specs.List.{AllByRecursion, enumerate_from}
-use Rattle.up_canon.specs.Names.{Name}
 use Rattle.up_sign.specs.Schemes.{Rules}
 use Rattle.up_roles.specs.declared.repository.Repository.{Repository}
 use Rattle.up_roles.specs.declared.repository.Repository.TheVariants.{Director, Image}
 use Rattle.up_machine.specs.State.{Root, State, root_at}
-use Rattle.up_machine.specs.declared.decision.RoleTexts.{RoleTexts}
-use Rattle.up_machine.specs.Files.{File, numbered_root_name, root_text_at, numbered_roots, latest_root, role_texts, image_making, latest_texts, texts_in, image_texts, files, file}
+use Rattle.up_machine.specs.Files.{File, numbered_root_name, root_text_at, numbered_roots, latest_root, role_texts, image_making, texts_in, image_texts, files}
 use Rattle.up_machine.specs.SignedLaws.{IsRootText, IsImageText, IsServedText, ServedFilesAreKnown}
-use Rattle.up_machine.proofs.Steps.{map_some}
+use Rattle.up_canon.proofs.Steps.{map_some}
 use Rattle.up_machine.proofs.Installing.{found_is}
 use Rattle.up_machine.proofs.Repeating.{nth_at_place}
 

@@ -1,35 +1,33 @@
 -- Every file is signed for its role.
-use Rattle.std.proofs.Common.{◌≡◌, ℕ, zero, suc, ◌+◌, ◌-◌, ◌≤◌, List, [], ◌∷◌, ◌++◌, Bool, true, false, cond, not, Option, Some, None, refl, sym, ap, ◌∙◌, subst, arith}
-use Rattle.std.specs.Prelude.{◌&&◌, ◌||◌, length, map, filter, nat_le, bytes_eq, fold, count_by, option_map, option_to_list, unwrap_or, is_none, IsTrue, codes, ◌==◌, slice_get}
+use Rattle.std.proofs.Common.{◌≡◌, ℕ, zero, suc, ◌+◌, ◌-◌, ◌≤◌, List, [], ◌∷◌, ◌++◌, Bool, true, false, cond, not, Option, Some, None, refl, sym, ap, ◌∙◌, arith}
+use Rattle.std.specs.Prelude.{◌&&◌, ◌||◌, length, map, filter, nat_le, bytes_eq, fold, option_map, option_to_list, unwrap_or, is_none, codes, slice_get}
 use Rattle.std.specs.List.{AllByRecursion, list_all, list_any}
 use Rattle.std.specs.Cmp.Lexicographic.{bytes_decides}
-use Rattle.std.specs.FinMap as table
 use Rattle.std.proofs.lemmas.Bool.{ne_eqb}
-use Rattle.std.proofs.lemmas.Bool.Decides.{nat_tests}
 use Rattle.std.proofs.lemmas.List.{length-map}
 use Rattle.up_canon.specs.Canon.{text}
 use Rattle.up_canon.specs.Names.{Name, is_from_to}
 use Rattle.up_sign.specs.Schemes.{Rules, IsScheme}
-use Rattle.up_sign.specs.Envelopes.{is_by, is_satisfied, is_accepted, signature_of, sealed}
+use Rattle.up_sign.specs.Envelopes.{is_by, is_satisfied, signature_of, sealed}
 use Rattle.up_sign.specs.Formats.{envelope_text}
 use Rattle.up_sign.specs.Hmac.{key_id}
 use Rattle.up_roles.specs.declared.repository.Repository.{Repository}
 use Rattle.up_roles.specs.declared.repository.Repository.TheVariants.{Director, Image}
 use Rattle.up_roles.specs.Payload.{sealed_text}
 use Rattle.up_roles.specs.Root.{root_payload, root_text_of}
-use Rattle.up_roles.specs.Targets.{targets_payload, targets_text_of}
-use Rattle.up_roles.specs.Snapshot.{snapshot_payload, snapshot_text_of}
-use Rattle.up_roles.specs.Timestamp.{timestamp_payload, timestamp_text_of}
+use Rattle.up_roles.specs.Targets.{targets_text_of}
+use Rattle.up_roles.specs.Snapshot.{snapshot_text_of}
+use Rattle.up_roles.specs.Timestamp.{timestamp_text_of}
 use Rattle.up_machine.specs.declared.keys.RoleSecrets.{RoleSecrets}
 use Rattle.up_machine.specs.declared.keys.RepoKeys.{RepoKeys}
 use Rattle.up_machine.specs.declared.keys.KeySet.{KeySet}
-use Rattle.up_machine.specs.Keys.{secret_fits, identifier, keys_fit, threshold_fits, role_fits, repository_fits, key_set_fits}
-use Rattle.up_machine.specs.State.{Entry, Vehicle, Root, State, nth, root_at}
-use Rattle.up_machine.specs.Files.{keys_of, root_secrets, root_signers, root_file, root_text, root_text_at, Making, targets_text, snapshot_text, timestamp_text, role_texts, image_making}
+use Rattle.up_machine.specs.Keys.{secret_fits, keys_fit, threshold_fits, role_fits, repository_fits, key_set_fits}
+use Rattle.up_machine.specs.State.{Entry, Root, State, nth, root_at}
+use Rattle.up_machine.specs.Files.{keys_of, root_signers, root_file, root_text, root_text_at, Making, targets_text, snapshot_text, timestamp_text, role_texts, image_making}
 use Rattle.up_machine.specs.Replies.{reply_making, reply_json, reply_text}
 use Rattle.up_machine.specs.Sound.{IsSoundRoot, IsGrounded, IsSound}
-use Rattle.up_machine.specs.SignedLaws.{IsAcceptedBy, IsSignedFor, root_role, RootsAreSigned, AreSignedFor, ImageFilesAreSigned, HasSignedFiles, RepliesAreSigned}
-use Rattle.up_machine.proofs.Lists.{and_left, and_right, all_weaker, each_passes, each_weaker}
+use Rattle.up_machine.specs.SignedLaws.{IsAcceptedBy, IsSignedFor, root_role, RootsAreSigned, AreSignedFor, ImageFilesAreSigned, RepliesAreSigned}
+use Rattle.up_machine.proofs.Lists.{and_left, and_right, each_weaker}
 use Rattle.up_machine.proofs.Keeping.{nth_at}
 
 -- ---- tests of bytes

@@ -24,7 +24,7 @@ use Rattle.up_machine.proofs.Counters.{versions_are_counts}
 use Rattle.up_machine.proofs.Keeping.{nth_at}
 use Rattle.up_machine.proofs.Lists.{and_left, and_right}
 use Rattle.up_machine.proofs.NewFiles.{both_sign}
-use Rattle.up_machine.proofs.Steps.{map_some}
+use Rattle.up_canon.proofs.Steps.{map_some}
 
 leb_of : {a b : ℕ} → a ≤ b → nat_le a b ≡ true
 leb_of h = grind (arith, nat_tests)

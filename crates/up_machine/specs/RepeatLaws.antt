@@ -1,5 +1,5 @@
 -- The laws of repeats: what they are answered, and that the list without them leads to the same state.
-use Rattle.std.specs.Prelude.{◌≡◌, ℕ, ◌≤◌, List, Option, Some, None, IsTrue, Ok}
+use Rattle.std.specs.Prelude.{◌≡◌, ℕ, ◌≤◌, List, Some, None, IsTrue, Ok}
 use Rattle.std.specs.List.{AllByRecursion}
 use Rattle.std.specs.FinMap as table
 use Rattle.up_canon.specs.declared.refusal.Refusal.TheVariants.{Stale}
@@ -10,7 +10,6 @@ use Rattle.up_machine.specs.declared.answer.Answer.TheVariants.{Refused}
 use Rattle.up_machine.specs.Commands.{is_command}
 use Rattle.up_machine.specs.State.{Entry, Vehicle, State, nth, last_counter}
 use Rattle.up_machine.specs.Replies.{reply_to, kept_reply}
-use Rattle.up_machine.specs.Deciding.{Outcome}
 use Rattle.up_machine.specs.Deliveries.{Received, receive}
 use Rattle.up_machine.specs.Machine.{step, run}
 use Rattle.up_machine.specs.Repeats.{Repeat, repeat_of, Sent, serve, after, thinned, not_lost}

@@ -1,7 +1,7 @@
 -- What decisions ask of the rows that they are given: those of a sound state have it, and other rows can be tested.
-use Rattle.std.specs.Prelude.{◌&&◌, Bool, length, map, is_none, nat_le}
+use Rattle.std.specs.Prelude.{◌&&◌, Bool, length, map, nat_le}
 use Rattle.std.specs.List.{list_all}
-use Rattle.up_canon.specs.Names.{is_from_to, first_repeated}
+use Rattle.up_canon.specs.Names.{is_from_to, are_distinct}
 use Rattle.up_sign.specs.Schemes.{Rules}
 use Rattle.up_machine.specs.declared.keys.RoleSecrets.{RoleSecrets}
 use Rattle.up_machine.specs.declared.keys.RepoKeys.{RepoKeys}
@@ -25,4 +25,4 @@ founding_fits k founding = all_can_sign k founding.keys
 
 -- the version is at most the last counter, and no ECU stands twice
 abbrev pub rows_fit : VehicleRows → Bool
-rows_fit rows = nat_le rows.vehicle.version rows.vehicle.last && is_none (first_repeated (map (λ row. row.ecu) rows.ecus))
+rows_fit rows = nat_le rows.vehicle.version rows.vehicle.last && are_distinct (map (λ row. row.ecu) rows.ecus)

@@ -1,5 +1,5 @@
 -- Every file is signed for its role: so many of the role's keys are satisfied.
-use Rattle.std.specs.Prelude.{◌≡◌, ℕ, ◌⊎◌, ◌-◌, List, [], ◌∷◌, Option, Some, None, IsTrue, map, length, option_map, option_to_list}
+use Rattle.std.specs.Prelude.{◌≡◌, ℕ, ◌⊎◌, ◌-◌, List, [], ◌∷◌, Some, IsTrue, map, length, option_map, option_to_list}
 use Rattle.std.specs.List.{AllByRecursion}
 use Rattle.std.specs.FinMap as table
 use Rattle.up_canon.specs.Names.{Name}
@@ -13,8 +13,8 @@ use Rattle.up_machine.specs.declared.keys.RoleSecrets.{RoleSecrets}
 use Rattle.up_machine.specs.declared.keys.RepoKeys.{RepoKeys}
 use Rattle.up_machine.specs.State.{Entry, Vehicle, Root, State, nth, root_at}
 use Rattle.up_machine.specs.declared.decision.RoleTexts.{RoleTexts}
-use Rattle.up_machine.specs.Files.{keys_of, Making, role_texts, root_text_at, image_making, file}
-use Rattle.up_machine.specs.Replies.{reply_making, reply_json, reply_text}
+use Rattle.up_machine.specs.Files.{keys_of, role_texts, root_text_at, image_making, file}
+use Rattle.up_machine.specs.Replies.{reply_json, reply_text}
 use Rattle.up_machine.specs.Sound.{IsSound}
 
 -- the envelope is accepted under the role's keys and threshold

@@ -19,15 +19,11 @@ pub struct Reply {
 
 impl Duplicate for Reply {
     fn copy(&self, alloc: Global) -> Result<Reply, AllocError> {
-        let withheld = match &self.withheld {
-            Some(cause) => Some(cause.copy(alloc)?),
-            None => None,
-        };
         Ok(Reply {
             vehicle: self.vehicle.copy(alloc)?,
             version: self.version,
             targets: self.targets,
-            withheld,
+            withheld: self.withheld.copy(alloc)?,
             text: self.text.copy(alloc)?,
         })
     }

@@ -12,7 +12,7 @@ use up_plan::image::Image;
 use up_roles::repository::Repository;
 
 /// A command of an operator, a vehicle or a reader.
-#[derive(Debug, Drop)]
+#[derive(Drop)]
 pub enum Command {
     /// Makes root version 1 of both repositories.
     Found(KeySet),

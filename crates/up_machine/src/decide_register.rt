@@ -14,12 +14,15 @@ use crate::new_files::register_rows;
 use crate::rows::Founding;
 use crate::same_image::same_image;
 use std::alloc::Global;
-use up_canon::count::Count;
+use up_canon::count::{Count, MAX_COUNT};
 use up_canon::moment::Moment;
 use up_canon::refusal::Refusal;
 use up_canon::table::Table;
 use up_plan::image::Image;
 use up_sign::scheme::Scheme;
+
+/// How many images may be registered.
+const MAX_IMAGES: usize = 1024;
 
 /// Decides on a new image, at a command's moment: `NotFounded`; `Already` where an equal image is registered;
 /// `ImageTaken` where another one has its filename; `RegisterFull` at 1,024 images; `VersionLimit`; `Memory`.
@@ -47,10 +50,10 @@ pub fn decide_image<K: Scheme>(
             Err(Refusal::ImageTaken)
         };
     }
-    if images.len() >= 1024 {
+    if images.len() >= MAX_IMAGES {
         return Err(Refusal::RegisterFull);
     }
-    if old.image_version >= 9007199254740991 {
+    if old.image_version >= MAX_COUNT {
         return Err(Refusal::VersionLimit);
     }
     let targets = targets_with(alloc, images.values(), image)?;

@@ -14,11 +14,15 @@ use crate::keys::KeySet;
 use crate::new_files::root_rows;
 use crate::rows::Founding;
 use std::alloc::Global;
+use up_canon::count::MAX_COUNT;
 use up_canon::moment::Moment;
 use up_canon::refusal::Refusal;
 use up_canon::table::Table;
 use up_plan::image::Image;
 use up_sign::scheme::Scheme;
+
+/// How many root versions there may be.
+const MAX_ROOTS: u64 = 64;
 
 /// Decides on a founding, at a command's moment: `BadShape` where a key doesn't fit, a key stands twice in a role or a
 /// threshold isn't 1 to the number of its keys; `AlreadyFounded`; `Memory`. The images are those of the state.
@@ -62,10 +66,10 @@ pub fn decide_rotate<K: Scheme>(
     let Some(old) = founding else {
         return Err(Refusal::NotFounded);
     };
-    if old.root >= 64 {
+    if old.root >= MAX_ROOTS {
         return Err(Refusal::RootFull);
     }
-    if old.image_version >= 9007199254740991 {
+    if old.image_version >= MAX_COUNT {
         return Err(Refusal::VersionLimit);
     }
     let number = old.root + 1;

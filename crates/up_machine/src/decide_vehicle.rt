@@ -1,9 +1,8 @@
 //! Decisions on vehicles of the inventory.
-ghost use Rattle.std.specs.Prelude.{◌≡◌, ◌≤◌, [], is_some, map, option_copied, bytes_eq, codes, false};
-ghost use Rattle.std.specs.List.{list_all, list_any};
+ghost use Rattle.std.specs.Prelude.{◌≡◌, ◌≤◌, [], is_some, map, option_copied, codes, false};
+ghost use Rattle.std.specs.List.{list_all};
 ghost use Rattle.std.specs.FinMap as table;
 ghost use Rattle.up_canon.specs.Moments.{last_command_moment};
-ghost use Rattle.up_canon.specs.Names.{first_repeated as first_repeated_name};
 ghost use Rattle.up_canon.specs.declared.refusal.Refusal.TheVariants.{BadShape, VehicleTaken};
 ghost use Rattle.up_canon.specs.Steps.{and_then};
 ghost use Rattle.up_machine.specs.Deciding.{check_founded as check_founded_in, where_new};
@@ -26,6 +25,7 @@ use std::alloc::Global;
 use up_canon::ident::Ident;
 use up_canon::listed::Duplicate;
 use up_canon::moment::Moment;
+use up_canon::named::first_repeated;
 use up_canon::refusal::Refusal;
 use up_sign::scheme::Scheme;
 
@@ -110,31 +110,13 @@ fn decide_new(
         (decide_new_vehicle s new.now) }
 {
     let ecus = new.ecus.as_slice();
-    if let Some(ecu) = first_repeated(ecus) {
-        return Err(Refusal::DuplicateEcu(ecu.copy(alloc)?));
+    if let Some(repeated) = first_repeated(ecus) {
+        return Err(Refusal::DuplicateEcu(repeated.ecu.copy(alloc)?));
     }
     if let Some(ecu) = first_recorded(ecus, recorded) {
         return Err(Refusal::EcuTaken(ecu.copy(alloc)?));
     }
     Ok(Decision::New(new_rows(alloc, new)?))
-}
-
-/// The first ECU that stood before it.
-fn first_repeated(ecus: &[NewEcu]) -> Option<&Ident>
-    ensures { option_copied result ≡ first_repeated_name (ecu_names ecus.now) }
-{
-    for (i, ecu) in ecus.iter().enumerate() {
-        if is_among(&ecus[..i], &ecu.ecu) {
-            return Some(&ecu.ecu);
-        }
-    }
-    None
-}
-
-fn is_among(ecus: &[NewEcu], name: &Ident) -> bool
-    ensures { result ≡ list_any (λ ecu. bytes_eq name.now ecu.ecu) ecus.now }
-{
-    ecus.iter().any(|ecu| *name == ecu.ecu)
 }
 
 /// The first ECU that stands in a vehicle.

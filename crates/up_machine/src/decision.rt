@@ -13,7 +13,7 @@ pub struct RoleTexts {
 
 /// What a new root version changes: the founding's row, the texts of both repositories' Root files, and the image
 /// repository's files.
-#[derive(Debug, Drop)]
+#[derive(Drop)]
 pub struct RootRows {
     pub founding: Founding,
     pub director: Text,
@@ -22,14 +22,14 @@ pub struct RootRows {
 }
 
 /// What a change of the register of images changes: the founding's row, and the image repository's files.
-#[derive(Debug, Drop)]
+#[derive(Drop)]
 pub struct RegisterRows {
     pub founding: Founding,
     pub files: RoleTexts,
 }
 
 /// What an accepted manifest changes: its vehicle's rows, and the row that is kept for it.
-#[derive(Debug, Drop)]
+#[derive(Drop)]
 pub struct AcceptedRows {
     pub vehicle: VehicleRows,
     pub kept: Kept,
@@ -45,7 +45,7 @@ pub enum Decision<N> {
 }
 
 /// What a delivery comes to.
-#[derive(Debug, Drop)]
+#[derive(Drop)]
 pub enum Delivered {
     /// The manifest was accepted before: it is answered the reply that was kept for it.
     Repeat(Reply),

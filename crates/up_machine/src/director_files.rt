@@ -1,9 +1,9 @@
 //! The Director's files for a vehicle, and the reply that holds them.
 ghost use Rattle.std.specs.Prelude.{◌≡◌, ◌<◌, ◌≤◌, ◌++◌, IsTrue, IfOk, Some, filter_map, string_bytes, true};
 ghost use Rattle.std.specs.List.{list_all};
-ghost use Rattle.up_canon.specs.Canon.{max_count, quoted};
+ghost use Rattle.up_canon.specs.Canon.{max_count};
 ghost use Rattle.up_canon.specs.Moments.{last_command_moment};
-ghost use Rattle.up_roles.specs.Payload.{are_distinct};
+ghost use Rattle.up_canon.specs.Names.{are_distinct};
 ghost use Rattle.up_roles.specs.Targets.{target_fits, ecus_of};
 ghost use Rattle.up_roles.specs.declared.repository.Repository.TheVariants.{Director as TheDirector};
 ghost use Rattle.up_machine.specs.Files.{target_of};
@@ -20,7 +20,7 @@ use up_canon::listed::{Duplicate, Listed};
 use up_canon::moment::Moment;
 use up_canon::table::Table;
 use up_canon::text::Text;
-use up_canon::writing::push_quoted;
+use up_canon::writing::push_ident;
 use up_plan::assigned::Assigned;
 use up_plan::image::Image;
 use up_roles::repository::Repository;
@@ -123,11 +123,4 @@ fn push_two(out: &mut String, first: &str, second: &str) -> Result<(), AllocErro
 {
     out.push_str(first)?;
     out.push_str(second)
-}
-
-#[tactic(auto, using(crate::proofs::DirectorTargets::ident_prints))]
-fn push_ident(out: &mut String, ident: &Ident) -> Result<(), AllocError>
-    ensures { IfOk result (λ _. string_bytes out.new ≡ string_bytes out.old ++ quoted ident.now) }
-{
-    push_quoted(out, ident.text())
 }

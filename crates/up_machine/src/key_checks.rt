@@ -1,6 +1,6 @@
 //! Checks of the keys of a founding or a rotation.
-ghost use Rattle.std.specs.Prelude.{◌≡◌, bytes_eq, map, is_none, IfOk};
-ghost use Rattle.std.specs.List.{list_all, list_any};
+ghost use Rattle.std.specs.Prelude.{◌≡◌, map, is_none, IfOk};
+ghost use Rattle.std.specs.List.{list_all};
 ghost use Rattle.up_canon.specs.Names.{first_repeated};
 ghost use Rattle.up_canon.specs.Refusals.{Gives};
 ghost use Rattle.up_machine.specs.Keys.{secret_fits as secret_fits_rule, identifier, check_role as check_role_rule, check_repository as check_repository_rule, check_keys as check_keys_rule};
@@ -8,6 +8,7 @@ ghost use Rattle.up_machine.specs.Keys.{secret_fits as secret_fits_rule, identif
 use crate::keys::{KeySet, RepoKeys, RoleSecrets};
 use std::alloc::{AllocError, Global};
 use up_canon::bytes::Bytes;
+use up_canon::named::are_distinct;
 use up_canon::refusal::Refusal;
 use up_canon::text::Text;
 use up_sign::key_id::key_id_text;
@@ -64,6 +65,7 @@ fn secret_fits<K: Scheme>(scheme: &K, secret: &[u8]) -> bool
     secret.len() >= 1 && secret.len() <= 256 && scheme.secret_fits(secret)
 }
 
+#[tactic(auto, using(up_canon::proofs::Repeated::names_themselves))]
 fn has_distinct_identifiers<K: Scheme>(
     alloc: Global,
     scheme: &K,
@@ -83,21 +85,4 @@ fn identifier_of<K: Scheme>(alloc: Global, scheme: &K, secret: &[u8]) -> Result<
 {
     let public = scheme.public(alloc, secret)?;
     key_id_text(alloc, public.as_slice())
-}
-
-fn are_distinct(names: &[Text]) -> bool
-    ensures { result ≡ is_none (first_repeated names.now) }
-{
-    for (i, name) in names.iter().enumerate() {
-        if has_name(&names[..i], name.as_str()) {
-            return false;
-        }
-    }
-    true
-}
-
-fn has_name(names: &[Text], text: &str) -> bool
-    ensures { result ≡ list_any (bytes_eq text.now) names.now }
-{
-    names.iter().any(|name| text == name.as_str())
 }

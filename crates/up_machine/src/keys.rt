@@ -4,7 +4,7 @@ use up_canon::bytes::Bytes;
 use up_canon::listed::{Duplicate, Listed};
 
 /// The secret keys of a role, 1 to 4 of 1 to 256 bytes each, and how many of them have to sign.
-#[derive(Debug, Drop)]
+#[derive(Drop)]
 pub struct RoleSecrets {
     pub keys: Listed<Bytes>,
     pub threshold: u32,
@@ -20,7 +20,7 @@ impl Duplicate for RoleSecrets {
 }
 
 /// The keys of the four roles of a repository.
-#[derive(Debug, Drop)]
+#[derive(Drop)]
 pub struct RepoKeys {
     pub root: RoleSecrets,
     pub targets: RoleSecrets,
@@ -40,7 +40,7 @@ impl Duplicate for RepoKeys {
 }
 
 /// The keys of both repositories, as one root version has them.
-#[derive(Debug, Drop)]
+#[derive(Drop)]
 pub struct KeySet {
     pub director: RepoKeys,
     pub image: RepoKeys,

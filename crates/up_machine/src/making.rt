@@ -3,7 +3,8 @@ ghost use Rattle.std.specs.Prelude.{◌≡◌, ◌+◌, ◌≤◌, IsTrue, IfOk}
 ghost use Rattle.std.specs.List.{list_all};
 ghost use Rattle.up_canon.specs.Moments.{last_command_moment};
 ghost use Rattle.up_roles.specs.Lifetimes.{lifetimes};
-ghost use Rattle.up_roles.specs.Payload.{are_distinct, version_fits, name_fits};
+ghost use Rattle.up_canon.specs.Names.{are_distinct};
+ghost use Rattle.up_roles.specs.Payload.{version_fits, name_fits};
 ghost use Rattle.up_roles.specs.Targets.{targets_text_of, targets_fits, target_fits, ecus_of};
 ghost use Rattle.up_roles.specs.Snapshot.{snapshot_text_of, snapshot_fits};
 ghost use Rattle.up_roles.specs.Timestamp.{timestamp_text_of, timestamp_fits};
@@ -52,14 +53,14 @@ pub fn role_texts<K: Scheme>(
         repository,
         version,
         expires: targets_expiry(repository, at),
-        vehicle: copy_vehicle(alloc, vehicle)?,
+        vehicle: vehicle.copy(alloc)?,
         targets,
     };
     let snapshot = SnapshotFile {
         repository,
         version,
         expires: snapshot_expiry(repository, at),
-        vehicle: copy_vehicle(alloc, vehicle)?,
+        vehicle: vehicle.copy(alloc)?,
         targets_version: version,
     };
     let snapshot = signed_snapshot(alloc, scheme, &keys.snapshot, &snapshot)?;
@@ -67,7 +68,7 @@ pub fn role_texts<K: Scheme>(
         repository,
         version,
         expires: timestamp_expiry(repository, at),
-        vehicle: copy_vehicle(alloc, vehicle)?,
+        vehicle: vehicle.copy(alloc)?,
         snapshot_version: version,
         snapshot_sha256: Sha256::digest(snapshot.as_str().as_bytes()),
     };
@@ -85,15 +86,6 @@ pub(crate) fn keys_of(repository: Repository, keys: &KeySet) -> &RepoKeys
     match repository {
         Repository::Director => &keys.director,
         Repository::Image => &keys.image,
-    }
-}
-
-fn copy_vehicle(alloc: Global, vehicle: &Option<Ident>) -> Result<Option<Ident>, AllocError>
-    ensures { IfOk result (λ copied. copied ≡ vehicle.now) }
-{
-    match vehicle {
-        Some(name) => Ok(Some(name.copy(alloc)?)),
-        None => Ok(None),
     }
 }
 

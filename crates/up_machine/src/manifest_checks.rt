@@ -1,10 +1,8 @@
 //! The checks of a manifest over the rows of its vehicle.
-ghost use Rattle.std.specs.Prelude.{◌≡◌, ◌<◌, ◌≤◌, OnOk, bytes_eq, find, not, option_copied};
-ghost use Rattle.std.specs.List.{list_any};
+ghost use Rattle.std.specs.Prelude.{◌≡◌, ◌<◌, ◌≤◌, OnOk, find, not, option_copied};
 ghost use Rattle.up_canon.specs.Canon.{max_count};
-ghost use Rattle.up_canon.specs.Names.{first_repeated as first_repeated_name};
 ghost use Rattle.up_canon.specs.Refusals.{Gives};
-ghost use Rattle.up_machine.specs.Deliveries.{report_name, report_names};
+ghost use Rattle.up_machine.specs.Deliveries.{report_name};
 ghost use Rattle.up_machine.specs.ManifestRows.{row_of as row_in, has_row as has_row_in, is_signed_by_row, is_reported_in, follows as follows_row, follows_its_row, check_primary as check_primary_in, check_reports_of, check_new_of};
 
 use crate::rows::{EcuRow, VehicleRows};
@@ -12,6 +10,7 @@ use std::alloc::Global;
 use std::slice;
 use up_canon::ident::Ident;
 use up_canon::listed::Duplicate;
+use up_canon::named::{first_repeated, has_name};
 use up_canon::refusal::Refusal;
 use up_manifest::manifest::{Incoming, Manifest};
 use up_manifest::report::SignedReport;
@@ -72,8 +71,8 @@ fn check_reports<K: Scheme>(
     if let Some(unknown) = first_unknown(rows, reports) {
         return Err(Refusal::UnknownEcu(unknown.report.ecu.copy(alloc)?));
     }
-    if let Some(ecu) = first_repeated(reports) {
-        return Err(Refusal::DuplicateEcu(ecu.copy(alloc)?));
+    if let Some(repeated) = first_repeated(reports) {
+        return Err(Refusal::DuplicateEcu(repeated.report.ecu.copy(alloc)?));
     }
     if let Some(row) = first_missing(rows, reports) {
         return Err(Refusal::MissingEcu(row.ecu.copy(alloc)?));
@@ -122,28 +121,10 @@ fn has_row(rows: &[EcuRow], report: &SignedReport) -> bool
     rows.iter().any(|row| row.ecu == report.report.ecu)
 }
 
-/// The first ECU of which a report stood before.
-fn first_repeated(reports: &[SignedReport]) -> Option<&Ident>
-    ensures { option_copied result ≡ first_repeated_name (report_names reports.now) }
-{
-    for (i, report) in reports.iter().enumerate() {
-        if is_among(&reports[..i], &report.report.ecu) {
-            return Some(&report.report.ecu);
-        }
-    }
-    None
-}
-
-fn is_among(reports: &[SignedReport], name: &Ident) -> bool
-    ensures { result ≡ list_any (λ r. bytes_eq name.now (report_name r)) reports.now }
-{
-    reports.iter().any(|report| *name == report.report.ecu)
-}
-
 fn is_reported(reports: &[SignedReport], row: &EcuRow) -> bool
     ensures { result ≡ is_reported_in reports.now row.now }
 {
-    is_among(reports, &row.ecu)
+    has_name(reports, row.ecu.text())
 }
 
 fn is_signed<K: Scheme>(scheme: &K, rows: &[EcuRow], report: &SignedReport) -> bool

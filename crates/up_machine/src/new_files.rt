@@ -3,7 +3,8 @@ ghost use Rattle.std.specs.Prelude.{◌≡◌, ◌≤◌, Option, IsTrue, IfOk, 
 ghost use Rattle.std.specs.List.{list_all};
 ghost use Rattle.up_canon.specs.Moments.{last_command_moment};
 ghost use Rattle.up_roles.specs.declared.repository.Repository.TheVariants.{Director, Image as ImageRepository};
-ghost use Rattle.up_roles.specs.Payload.{are_distinct, version_fits};
+ghost use Rattle.up_canon.specs.Names.{are_distinct};
+ghost use Rattle.up_roles.specs.Payload.{version_fits};
 ghost use Rattle.up_roles.specs.Targets.{target_fits, ecus_of};
 ghost use Rattle.up_machine.specs.Files.{role_texts as role_texts_of, root_text as root_text_of, target_of};
 ghost use Rattle.up_machine.specs.Keys.{key_set_fits};

@@ -6,13 +6,14 @@ use up_canon::count::Count;
 use up_canon::ident::Ident;
 use up_canon::listed::{Duplicate, Listed};
 use up_canon::moment::Moment;
+use up_canon::named::Named;
 use up_canon::text::Text;
 use up_manifest::report::Installed;
 use up_plan::assigned::Plan;
 
 /// The founded repositories: the last root version and its keys, the image repository's version, and the moment of the command
 /// that made the image repository's files.
-#[derive(Debug, Drop)]
+#[derive(Drop)]
 pub struct Founding {
     pub root: u64,
     pub keys: KeySet,
@@ -54,7 +55,7 @@ impl Duplicate for VehicleRow {
 
 /// An ECU: its hardware, the public part of its key, and of its last report the image, the counter and the canonical signed
 /// text; before a first report the counter is 0.
-#[derive(Debug, Drop)]
+#[derive(Drop)]
 pub struct EcuRow {
     pub ecu: Ident,
     pub hardware: Ident,
@@ -64,29 +65,29 @@ pub struct EcuRow {
     pub report: Option<Text>,
 }
 
+impl Named for EcuRow {
+    ghost name_of = { λ a. a.ecu };
+
+    fn name(&self) -> &str {
+        self.ecu.text()
+    }
+}
+
 impl Duplicate for EcuRow {
     fn copy(&self, alloc: Global) -> Result<EcuRow, AllocError> {
-        let installed = match &self.installed {
-            Some(image) => Some(image.copy(alloc)?),
-            None => None,
-        };
-        let report = match &self.report {
-            Some(text) => Some(text.copy(alloc)?),
-            None => None,
-        };
         Ok(EcuRow {
             ecu: self.ecu.copy(alloc)?,
             hardware: self.hardware.copy(alloc)?,
             public: self.public.copy(alloc)?,
-            installed,
+            installed: self.installed.copy(alloc)?,
             counter: self.counter,
-            report,
+            report: self.report.copy(alloc)?,
         })
     }
 }
 
 /// A vehicle with its ECUs in inventory order.
-#[derive(Debug, Drop)]
+#[derive(Drop)]
 pub struct VehicleRows {
     pub vehicle: VehicleRow,
     pub ecus: Listed<EcuRow>,

@@ -1,14 +1,12 @@
 //! What decisions ask of the rows that they are given. Those of a sound state have it (`laws::rows_are_sound`), and a caller
 //! that can't know whether its rows are such a state's can test them.
-ghost use Rattle.std.specs.Prelude.{◌≡◌, bytes_eq, is_none, map};
-ghost use Rattle.std.specs.List.{list_any};
-ghost use Rattle.up_canon.specs.Names.{first_repeated};
+ghost use Rattle.std.specs.Prelude.{◌≡◌};
 ghost use Rattle.up_machine.specs.RowsFit.{can_sign as can_sign_in, roles_can_sign as roles_can_sign_in, founding_fits as founding_fits_in, rows_fit as rows_fit_in};
 
 use crate::key_checks::secrets_fit;
 use crate::keys::{RepoKeys, RoleSecrets};
-use crate::rows::{EcuRow, Founding, VehicleRows};
-use up_canon::ident::Ident;
+use crate::rows::{Founding, VehicleRows};
+use up_canon::named::are_distinct;
 use up_sign::scheme::Scheme;
 
 /// Whether each role of both repositories has 1 to 4 secrets that the scheme takes. Identifiers and thresholds are not looked
@@ -40,21 +38,4 @@ pub fn rows_fit(rows: &VehicleRows) -> bool
     ensures { result ≡ rows_fit_in rows.now }
 {
     rows.vehicle.version <= rows.vehicle.last.get() && are_distinct(rows.ecus.as_slice())
-}
-
-fn are_distinct(rows: &[EcuRow]) -> bool
-    ensures { result ≡ is_none (first_repeated (map (λ row. row.ecu) rows.now)) }
-{
-    for (i, row) in rows.iter().enumerate() {
-        if is_among(&rows[..i], &row.ecu) {
-            return false;
-        }
-    }
-    true
-}
-
-fn is_among(rows: &[EcuRow], name: &Ident) -> bool
-    ensures { result ≡ list_any (λ row. bytes_eq name.now row.ecu) rows.now }
-{
-    rows.iter().any(|row| *name == row.ecu)
 }

@@ -7,13 +7,22 @@ use std::marker::Model;
 use up_canon::bytes::Bytes;
 use up_canon::ident::Ident;
 use up_canon::listed::{Duplicate, Listed};
+use up_canon::named::Named;
 
 /// An ECU of a vehicle: its identifier, its hardware and the public part of its key.
-#[derive(Debug, Drop)]
+#[derive(Drop)]
 pub struct NewEcu {
     pub ecu: Ident,
     pub hardware: Ident,
     pub public: Bytes,
+}
+
+impl Named for NewEcu {
+    ghost name_of = { λ a. a.ecu };
+
+    fn name(&self) -> &str {
+        self.ecu.text()
+    }
 }
 
 impl Duplicate for NewEcu {
@@ -27,7 +36,7 @@ impl Duplicate for NewEcu {
 }
 
 /// A vehicle: its identifier, its Primary, and its 1 to 32 ECUs in inventory order, of which the Primary is one.
-#[derive(Debug, Drop)]
+#[derive(Drop)]
 pub struct NewVehicle {
     pub vehicle: Ident,
     pub primary: Ident,

@@ -1,9 +1,9 @@
 -- What is built means what it was built of.
-use Rattle.std.proofs.Common.{◌≡◌, ℕ, ◌≤◌, zero, suc, ◌<◌, lit≤, List, [], ◌∷◌, Bool, true, Some, length, refl, sym, ap, ap₂, ◌∙◌, subst, arith}
-use Rattle.std.specs.Prelude.{◌&&◌, IsTrue, IsUtf8, slice_index, nat_le}
+use Rattle.std.proofs.Common.{◌≡◌, ℕ, ◌≤◌, suc, ◌<◌, lit≤, List, [], ◌∷◌, true, Some, length, refl, sym, ap, ap₂, ◌∙◌, subst, arith}
+use Rattle.std.specs.Prelude.{◌&&◌, IsTrue, IsUtf8, slice_index}
 use Rattle.std.specs.List.{list_all}
 use Rattle.std.proofs.lemmas.Bool.Decides.{nat_tests}
-use Rattle.serde_json.specs.Data.{Data, Members, object}
+use Rattle.serde_json.specs.Data.{Data}
 use Rattle.serde_json.specs.Read.{read}
 use Rattle.up_canon.specs.Canon.{max_count, canon}
 use Rattle.up_canon.specs.Moments.{MomentTextIsPlain, MomentsAreRead}
@@ -13,12 +13,11 @@ use Rattle.up_sign.specs.Formats.{envelope_text, IsSigned}
 use Rattle.up_sign.specs.Laws.{envelope_value, ValuesMeanOneOrFail, TextsAreRead, SealedFits}
 use Rattle.up_sign.specs.Schemes.{Rules, IsScheme, is_byte}
 use Rattle.up_sign.specs.declared.envelope.Envelope.{Envelope}
-use Rattle.up_manifest.specs.Building.{report_value, report_text, ReportFits, IsReportEnvelope, AreReportEnvelopes, manifest_text, sealed_manifest, signed_reports, built}
+use Rattle.up_manifest.specs.Building.{report_value, report_text, ReportFits, IsReportEnvelope, AreReportEnvelopes, manifest_text, sealed_manifest, built}
 use Rattle.up_manifest.specs.Manifests.{most_reports}
-use Rattle.up_manifest.specs.Meaning.{MeansSignedReport, MeansManifest, MeansBody}
+use Rattle.up_manifest.specs.Meaning.{MeansSignedReport, MeansBody}
 use Rattle.up_manifest.specs.declared.report.Report.{Report}
-use Rattle.up_manifest.specs.declared.manifest.Incoming.{Incoming}
-use Rattle.up_manifest.proofs.Printable.{ident_prints}
+use Rattle.up_canon.proofs.Printable.{ident_prints}
 use Rattle.up_manifest.proofs.Values.{canon_of, envelope_means, pair_value, report_signed, signed_report_means, zipped, manifest_value, manifest_value-text, manifest_plain, manifest_depth, manifest_means}
 use Rattle.up_manifest.proofs.Lengths.{envelope-length, manifest-length}
 

@@ -22,7 +22,7 @@ bodies_mean_one_or_fail law body = by_result (incoming_in body) refl
         (λ i. MeansBody body i × ((j : Incoming) → MeansBody body j → j ≡ i))
         (λ fault. IsBodyFault fault × ((j : Incoming) → MeansBody body j → ⊥))
     by_result (Ok i) e = (body_read law body i e, λ j m. let there = body_there law body j m in cc)
-    by_result (Err fault) e = (body_fails law body fault e, λ j m. let there = body_there law body j m in cc)
+    by_result (Err fault) e = ((body_fails law body).allowed fault e, λ j m. let there = body_there law body j m in cc)
 
 pub signed_texts_mean : ValuesMeanOneOrFail → CanonIsRead → SignedTextsMean
 unfolding manifest_of

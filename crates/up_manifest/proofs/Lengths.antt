@@ -1,5 +1,5 @@
 -- How long the texts of envelopes, reports and manifests are at most.
-use Rattle.std.proofs.Common.{◌≡◌, ℕ, zero, suc, lit<, lit≤, ◌+◌, ◌*◌, ◌^◌, ◌<◌, ◌≤◌, List, [], ◌∷◌, ◌++◌, Bool, true, false, cond, length, map, refl, sym, ap, ◌∙◌, arith, append_assoc, length-append}
+use Rattle.std.proofs.Common.{◌≡◌, ℕ, lit<, lit≤, ◌+◌, ◌*◌, ◌≤◌, List, [], ◌∷◌, ◌++◌, Bool, true, false, cond, length, map, refl, sym, ap, ◌∙◌, arith, append_assoc, length-append}
 use Rattle.std.specs.Prelude.{◌||◌, ◌==◌, nat_le, codes, decimal, flat_map}
 use Rattle.std.specs.List.{list_all, join_with_byte}
 use Rattle.std.proofs.lemmas.Bool.{and_parts}
@@ -7,10 +7,9 @@ use Rattle.std.proofs.lemmas.Bool.Decides.{nat_tests}
 use Rattle.std.proofs.lemmas.Fmt.{length-decimal-le}
 use Rattle.hex.specs.Hex.{encode_lower, lower_digits}
 use Rattle.hex.proofs.HexLemmas.{length-encode_with}
-use Rattle.serde_json.specs.View.{items_of}
 use Rattle.up_canon.specs.Build.{list_with}
-use Rattle.up_canon.specs.Canon.{max_count, text, quoted, escaped, items_text}
-use Rattle.up_canon.specs.Moments.{last_moment, moment_text, MomentTextIsPlain}
+use Rattle.up_canon.specs.Canon.{max_count, text, quoted, escaped}
+use Rattle.up_canon.specs.Moments.{moment_text, MomentTextIsPlain}
 use Rattle.up_canon.specs.Names.{is_from_to, is_short_text, is_ident}
 use Rattle.up_sign.specs.Formats.{signature_fits, envelope_fits, signature_value, envelope_text}
 use Rattle.up_sign.specs.declared.envelope.Signature.{Signature}

@@ -1,10 +1,6 @@
-pub mod Steps
-pub mod Members
 pub mod BodyReading
 pub mod Faults
 pub mod Laws
-pub mod Printable
-pub mod Joined
 pub mod Values
 pub mod Lengths
 pub mod Built

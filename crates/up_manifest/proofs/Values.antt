@@ -1,34 +1,32 @@
 -- The values that texts of envelopes, reports and manifests read as, and what they mean.
-use Rattle.std.proofs.Common.{◌≡◌, ℕ, zero, suc, lit<, lit≤, ◌+◌, ◌*◌, ◌<◌, ◌≤◌, max, List, [], ◌∷◌, ◌++◌, Bool, true, false, cond, Some, None, Ok, length, map, append_assoc, refl, sym, ap, ap₂, ◌∙◌, subst, arith}
-use Rattle.std.specs.Prelude.{◌&&◌, IsTrue, nat_le, slice_index, codes, decimal}
+use Rattle.std.proofs.Common.{◌≡◌, ℕ, zero, suc, lit<, lit≤, ◌+◌, ◌≤◌, List, [], ◌∷◌, ◌++◌, Bool, true, Some, length, map, append_assoc, refl, sym, ap, ap₂, ◌∙◌, subst, arith}
+use Rattle.std.specs.Prelude.{◌&&◌, IsTrue, nat_le, codes, decimal}
 use Rattle.std.specs.List.{list_all, join_with_byte}
 use Rattle.std.proofs.lemmas.Bool.{and_parts}
 use Rattle.std.proofs.lemmas.Bool.Decides.{nat_tests}
-use Rattle.std.proofs.lemmas.List.{length-map}
 use Rattle.hex.specs.Hex.{IsBytes, encode_lower, lower_digits}
 use Rattle.hex.proofs.HexLemmas.{length-encode_with, decode_of-encode_lower}
-use Rattle.serde_json.specs.Data.{Data, string, object, array, Items, no_items, item, Members, depth, items_depth}
+use Rattle.serde_json.specs.Data.{Data, string, depth, items_depth}
 use Rattle.serde_json.specs.View.{items_of}
-use Rattle.up_canon.specs.Build.{object_with, list_with, count_value, hex_value}
-use Rattle.up_canon.specs.Canon.{max_count, max_nesting, is_printable, is_printable_text, is_plain, items_are_plain, canon, text, items_text, quoted}
-use Rattle.up_canon.specs.Moments.{last_moment, moment_text, read_moment, MomentTextIsPlain, MomentsAreRead}
+use Rattle.up_canon.specs.Build.{object_with, list_with, count_value}
+use Rattle.up_canon.specs.Canon.{max_count, max_nesting, is_printable, is_printable_text, is_plain, items_are_plain, canon, text, quoted}
+use Rattle.up_canon.specs.Moments.{moment_text, MomentTextIsPlain, MomentsAreRead}
 use Rattle.up_canon.specs.Names.{is_from_to, is_short_text, is_ident}
 use Rattle.up_sign.specs.Formats.{signature_fits, envelope_fits, has_bytes, IsSigned, signature_value, envelope_text}
 use Rattle.up_sign.specs.Laws.{envelope_value, ValuesMeanOneOrFail, TextsAreRead}
-use Rattle.up_sign.specs.Meaning.{HasHex, EachMeans, MeansEnvelope}
+use Rattle.up_canon.specs.Meaning.{EachMeans}
+use Rattle.up_sign.specs.Meaning.{MeansEnvelope}
 use Rattle.up_sign.specs.Schemes.{is_byte}
 use Rattle.up_sign.specs.declared.envelope.Signature.{Signature}
 use Rattle.up_sign.specs.declared.envelope.Envelope.{Envelope}
 use Rattle.up_manifest.specs.Building.{hashes_value, installed_value, report_value, report_text, ReportFits, IsReportEnvelope, AreReportEnvelopes, listed, manifest_text, signed_reports}
 use Rattle.up_manifest.specs.Manifests.{most_reports}
 use Rattle.up_manifest.specs.Meaning.{MeansInstalled, MeansReport, MeansSignedReport, MeansManifest}
-use Rattle.up_manifest.specs.declared.report.Installed.{Installed}
 use Rattle.up_manifest.specs.declared.report.Report.{Report}
-use Rattle.up_manifest.specs.declared.report.SignedReport.{SignedReport}
 use Rattle.up_manifest.specs.declared.manifest.Manifest.{Manifest}
 use Rattle.up_manifest.proofs.BodyReading.{opened_read}
-use Rattle.up_manifest.proofs.Joined.{listed_text}
-use Rattle.up_manifest.proofs.Printable.{is_plain_text, ident_prints, file_name_prints, note_prints, are_printable-hex}
+use Rattle.up_canon.proofs.Joined.{listed_text}
+use Rattle.up_canon.proofs.Printable.{ident_prints, file_name_prints, note_prints, printable-hex}
 
 -- ---- canonical text
 
@@ -58,7 +56,7 @@ is_bytes (x ∷ xs) h zero = let p = and_parts (is_byte x) _ h in let test = p.0
 is_bytes (x ∷ xs) h (suc i) = let p = and_parts (is_byte x) _ h in is_bytes xs p.1 i
 
 hex_plain : (xs : List ℕ) → list_all is_byte xs ≡ true → is_printable_text (encode_lower xs) ≡ true
-hex_plain xs h = is_plain_text (encode_lower xs) (are_printable-hex xs h)
+hex_plain xs h = printable-hex xs h
 
 -- ---- envelopes
 
@@ -84,7 +82,7 @@ signature_parts s h =
     (p.0, q.0, grind (arith, nat_tests), grind (arith, nat_tests))
 
 short_plain : (least most : ℕ) (t : List ℕ) → is_short_text least most t ≡ true → is_printable_text t ≡ true
-short_plain least most t h = let p = and_parts (is_from_to least most (length t)) _ h in is_plain_text t p.1
+short_plain least most t h = let p = and_parts (is_from_to least most (length t)) _ h in p.1
 
 signature_plain : (s : Signature) → signature_fits s ≡ true → list_all is_byte s.sig ≡ true → is_plain (signature_value s) ≡ true
 unfolding signature_value
@@ -123,11 +121,11 @@ envelope_means law texts e payload h b signed = opened_read law [] (envelope_val
 
 installed_plain : (r : Report) → ReportFits r → is_plain (installed_value r.image) ≡ true
 installed_plain r h =
-    and_three _ _ _ (is_plain_text r.image.file (file_name_prints r.image.file h.file)) (ap (λ b. b && true) (hex_plain r.image.sha256 h.bytes)) (count_test r.image.length h.size)
+    and_three _ _ _ (file_name_prints r.image.file h.file) (ap (λ b. b && true) (hex_plain r.image.sha256 h.bytes)) (count_test r.image.length h.size)
 
 report_plain : MomentTextIsPlain → (r : Report) → ReportFits r → is_plain (report_value r) ≡ true
 report_plain law r h =
-    and_five _ _ _ _ _ (is_plain_text r.attack (note_prints r.attack h.attack)) (count_test r.counter h.counter) (is_plain_text r.ecu (ident_prints r.ecu h.ecu))
+    and_five _ _ _ _ _ (note_prints r.attack h.attack) (count_test r.counter h.counter) (ident_prints r.ecu h.ecu)
     (installed_plain r h) (law r.time h.time).1
 
 report_depth : (r : Report) → depth (report_value r) ≡ 3
@@ -246,7 +244,7 @@ manifest_value-text vehicle primary counter es rs h =
 pub manifest_plain : MomentTextIsPlain → (vehicle primary : List ℕ) (counter : ℕ) (es : List Envelope) (rs : List Report) → AreReportEnvelopes es rs
     → list_all is_printable vehicle ≡ true → list_all is_printable primary ≡ true → counter ≤ max_count → is_plain (manifest_value vehicle primary counter (zipped es rs)) ≡ true
 manifest_plain law vehicle primary counter es rs h v p n =
-    and_four _ _ _ _ (count_test counter n) (is_plain_text primary p) (pairs_plain law es rs h) (is_plain_text vehicle v)
+    and_four _ _ _ _ (count_test counter n) p (pairs_plain law es rs h) v
 
 pub manifest_depth : (vehicle primary : List ℕ) (counter : ℕ) (ps : List (Envelope × Report)) → depth (manifest_value vehicle primary counter ps) ≤ 6
 manifest_depth vehicle primary counter ps = omega (arith, pairs_depth ps)

@@ -2,7 +2,7 @@
 use Rattle.std.specs.Prelude.{◌≡◌, ℕ, ◌≤◌, ◌++◌, List, [], ◌∷◌, IsTrue, length, map, codes, decimal, ⊤}
 use Rattle.std.specs.List.{list_all, join_with_byte}
 use Rattle.serde_json.specs.Data.{Data, string}
-use Rattle.up_canon.specs.Build.{object_with, list_with, count_value, hex_value}
+use Rattle.up_canon.specs.Build.{object_with, count_value, hex_value}
 use Rattle.up_canon.specs.Canon.{max_count, text, quoted}
 use Rattle.up_canon.specs.Moments.{last_moment, moment_text}
 use Rattle.up_canon.specs.Names.{is_ident, is_file_name, is_note}
@@ -13,7 +13,6 @@ use Rattle.up_sign.specs.declared.envelope.Envelope.{Envelope}
 use Rattle.up_manifest.specs.declared.report.Installed.{Installed}
 use Rattle.up_manifest.specs.declared.report.Report.{Report}
 use Rattle.up_manifest.specs.declared.report.SignedReport.{SignedReport}
-use Rattle.up_manifest.specs.declared.manifest.Manifest.{Manifest}
 use Rattle.up_manifest.specs.declared.manifest.Incoming.{Incoming}
 
 -- ---- reports

@@ -2,3 +2,4 @@ pub mod Manifests
 pub mod Meaning
 pub mod Laws
 pub mod Building
+pub mod Bodies

@@ -1,8 +1,8 @@
 -- What a manifest's body means, or the first fault of it.
-use Rattle.std.specs.Prelude.{ℕ, List, nat_le, length, if◌then◌else◌, Option, None, option_and_then, Result, Ok, codes}
+use Rattle.std.specs.Prelude.{ℕ, List, Option, option_and_then, Result, Ok, codes}
 use Rattle.serde_json.specs.Data.{Data}
 use Rattle.serde_json.specs.Read.{read}
-use Rattle.up_canon.specs.Steps.{◌>>=◌, or_error, unless, each, value_of}
+use Rattle.up_canon.specs.Steps.{◌>>=◌, each, value_of}
 use Rattle.up_canon.specs.declared.refusal.Refusal.{Refusal}
 use Rattle.up_canon.specs.HexText.{sha256_in}
 use Rattle.up_canon.specs.JsonText.{value_within}

@@ -1,27 +1,18 @@
 -- What a manifest's body means, as a relation: which members its values have.
 use Rattle.std.specs.Prelude.{◌≡◌, ℕ, ◌≤◌, List, IsTrue, IsUtf8, length, Some, codes}
-use Rattle.serde_json.specs.Data.{unsigned, Data, number, array, object, Items, Members}
+use Rattle.serde_json.specs.Data.{Data, array, Items}
 use Rattle.serde_json.specs.Find as json
 use Rattle.serde_json.specs.Read.{read}
-use Rattle.up_canon.specs.Canon.{max_count}
 use Rattle.up_canon.specs.Names.{is_ident, is_file_name, is_note}
 use Rattle.up_canon.specs.Moments.{read_moment}
-use Rattle.up_sign.specs.Meaning.{HasText, HasHex, EachMeans, MeansEnvelope}
+use Rattle.up_canon.specs.Meaning.{HasText, HasCount, HasObject, HasHex, EachMeans}
+use Rattle.up_sign.specs.Meaning.{MeansEnvelope}
 use Rattle.up_manifest.specs.Manifests.{largest_body, most_reports}
 use Rattle.up_manifest.specs.declared.report.Installed.{Installed}
 use Rattle.up_manifest.specs.declared.report.Report.{Report}
 use Rattle.up_manifest.specs.declared.report.SignedReport.{SignedReport}
 use Rattle.up_manifest.specs.declared.manifest.Manifest.{Manifest}
 use Rattle.up_manifest.specs.declared.manifest.Incoming.{Incoming}
-
--- ---- members
-
--- a count is a whole number up to 2^53-1
-abbrev pub HasCount : Data → List ℕ → ℕ → Type 0
-HasCount d name n = (json.get name d ≡ Some (number (unsigned n))) × (n ≤ max_count)
-
-abbrev pub HasObject : Data → List ℕ → Data → Type 0
-HasObject d name o = (members : Members) × (json.get name d ≡ Some (object members)) × (o ≡ object members)
 
 -- ---- reports (Uptane Standard 2.1.0: the ECU version report)
 

@@ -1,6 +1,7 @@
 //! ECU version reports and vehicle version manifests.
 #![tactic(auto)]
 
+pub mod body;
 pub mod building;
 pub mod manifest;
 pub mod reading;

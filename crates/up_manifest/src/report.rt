@@ -5,6 +5,7 @@ use up_canon::file_name::FileName;
 use up_canon::ident::Ident;
 use up_canon::listed::Duplicate;
 use up_canon::moment::Moment;
+use up_canon::named::Named;
 use up_canon::note::Note;
 use up_sign::envelope::Envelope;
 
@@ -54,6 +55,14 @@ impl Duplicate for Report {
 pub struct SignedReport {
     pub report: Report,
     pub envelope: Envelope,
+}
+
+impl Named for SignedReport {
+    ghost name_of = { λ a. a.report.ecu };
+
+    fn name(&self) -> &str {
+        self.report.ecu.text()
+    }
 }
 
 impl Duplicate for SignedReport {

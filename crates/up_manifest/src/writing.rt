@@ -9,11 +9,11 @@ ghost use Rattle.up_manifest.specs.Building.{ReportFits, hashes_value, installed
 
 use crate::report::{Installed, Report};
 use std::alloc::{AllocError, Global};
-use up_canon::file_name::FileName;
 use up_canon::ident::Ident;
 use up_canon::moment::{Moment, moment_laws};
-use up_canon::note::Note;
-use up_canon::writing::{push_count, push_hex, push_quoted};
+use up_canon::writing::{
+    push_count, push_file_name, push_hex, push_ident, push_note, push_number, push_quoted,
+};
 use up_sign::envelope::Envelope;
 
 /// The canonical text of a report.
@@ -105,12 +105,6 @@ fn push_primary(
     Ok(())
 }
 
-fn push_number(alloc: Global, out: &mut String, number: u64) -> Result<(), AllocError>
-    ensures { IfOk result (λ _. string_bytes out.new ≡ string_bytes out.old ++ decimal number) }
-{
-    out.push_str(number.to_string(alloc)?.as_str())
-}
-
 fn push_envelopes(alloc: Global, out: &mut String, envelopes: &[Envelope]) -> Result<(), AllocError>
     requires { IsTrue (list_all envelope_fits envelopes.now) }
     ensures { IfOk result (λ _. string_bytes out.new ≡ string_bytes out.old ++ listed (map envelope_text envelopes.now)) }
@@ -124,27 +118,6 @@ fn push_envelopes(alloc: Global, out: &mut String, envelopes: &[Envelope]) -> Re
     }
     out.push(']')?;
     Ok(())
-}
-
-#[tactic(auto, using(crate::proofs::Printable::ident_prints))]
-fn push_ident(out: &mut String, ident: &Ident) -> Result<(), AllocError>
-    ensures { IfOk result (λ _. string_bytes out.new ≡ string_bytes out.old ++ quoted ident.now) }
-{
-    push_quoted(out, ident.text())
-}
-
-#[tactic(auto, using(crate::proofs::Printable::file_name_prints))]
-fn push_file_name(out: &mut String, file: &FileName) -> Result<(), AllocError>
-    ensures { IfOk result (λ _. string_bytes out.new ≡ string_bytes out.old ++ quoted file.now) }
-{
-    push_quoted(out, file.text())
-}
-
-#[tactic(auto, using(crate::proofs::Printable::note_prints))]
-fn push_note(out: &mut String, note: &Note) -> Result<(), AllocError>
-    ensures { IfOk result (λ _. string_bytes out.new ≡ string_bytes out.old ++ quoted note.now) }
-{
-    push_quoted(out, note.text())
 }
 
 fn push_moment(alloc: Global, out: &mut String, moment: Moment) -> Result<(), AllocError>

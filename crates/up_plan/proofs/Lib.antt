@@ -1,7 +1,6 @@
 pub mod Above
 pub mod BestOffers
 pub mod Causes
-pub mod Distinct
 pub mod Due
 pub mod FirstUnmet
 pub mod Firsts

@@ -1,7 +1,7 @@
 -- Images of the register, and their limits.
 use Rattle.std.specs.Prelude.{ℕ, ◌&&◌, List, Bool, nat_le, not, length, is_none, bytes_eq, Option, Some, None, codes, if◌then◌else◌}
 use Rattle.std.specs.List.{list_any}
-use Rattle.up_canon.specs.Names.{Name, is_from_to, first_repeated}
+use Rattle.up_canon.specs.Names.{Name, hardware_fits}
 use Rattle.up_plan.specs.declared.image.Need.{Need}
 
 -- what contracts see of an image
@@ -13,10 +13,6 @@ pub record ImageData : Type 0 where
   pub release : ℕ
   pub needs : List Need
   pub conflicts : List Name
-
--- 1 to 16 names of hardware, none twice
-abbrev pub hardware_fits : List Name → Bool
-hardware_fits hardware = is_from_to 1 16 (length hardware) && is_none (first_repeated hardware)
 
 abbrev pub needs_fit : List Need → Bool
 needs_fit needs = nat_le (length needs) 16

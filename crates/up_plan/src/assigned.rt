@@ -70,11 +70,9 @@ pub struct Plan {
 
 impl Duplicate for Plan {
     fn copy(&self, alloc: Global) -> Result<Plan, AllocError> {
-        let assigned = self.assigned.copy(alloc)?;
-        let withheld = match &self.withheld {
-            Some(cause) => Some(cause.copy(alloc)?),
-            None => None,
-        };
-        Ok(Plan { assigned, withheld })
+        Ok(Plan {
+            assigned: self.assigned.copy(alloc)?,
+            withheld: self.withheld.copy(alloc)?,
+        })
     }
 }

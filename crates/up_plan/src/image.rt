@@ -1,15 +1,14 @@
 //! Images of the register.
-ghost use Rattle.std.specs.Prelude.{◌≡◌, is_none};
-ghost use Rattle.up_canon.specs.Names.{first_repeated};
-ghost use Rattle.up_plan.specs.Images.{hardware_fits as hardware_fits_limits, conflicts_fit as conflicts_fit_limits};
+ghost use Rattle.std.specs.Prelude.{◌≡◌};
+ghost use Rattle.up_plan.specs.Images.{conflicts_fit as conflicts_fit_limits};
 
-use crate::names::{has_file, has_name};
 use std::alloc::{AllocError, Global};
 use std::marker::Model;
 use up_canon::count::Count;
 use up_canon::file_name::FileName;
 use up_canon::ident::Ident;
 use up_canon::listed::{Duplicate, Listed};
+use up_canon::named::{hardware_fits, has_name};
 
 /// A need of an image: every ECU of the vehicle with the hardware has at least the release.
 #[derive(Debug, Drop)]
@@ -26,6 +25,9 @@ impl Duplicate for Need {
         })
     }
 }
+
+/// How many needs, and how many conflicts, an image may have.
+const MAX_DEMANDS: usize = 16;
 
 /// A registered image: filename, length in bytes, SHA-256, the hardware that it is for (1 to 16, distinct), its release
 /// counter, and its needs and conflicts (0 to 16 each; its own filename is no conflict).
@@ -71,7 +73,7 @@ impl Image {
         if !hardware_fits(hardware.as_slice()) {
             return Err("hardware");
         }
-        if needs.len() > 16 {
+        if needs.len() > MAX_DEMANDS {
             return Err("needs");
         }
         if !conflicts_fit(&file, conflicts.as_slice()) {
@@ -103,28 +105,8 @@ impl Duplicate for Image {
     }
 }
 
-fn hardware_fits(hardware: &[Ident]) -> bool
-    ensures { result ≡ hardware_fits_limits hardware.now }
-{
-    if hardware.is_empty() || hardware.len() > 16 {
-        return false;
-    }
-    are_distinct(hardware)
-}
-
-fn are_distinct(names: &[Ident]) -> bool
-    ensures { result ≡ is_none (first_repeated names.now) }
-{
-    for (i, name) in names.iter().enumerate() {
-        if has_name(&names[..i], name) {
-            return false;
-        }
-    }
-    true
-}
-
 fn conflicts_fit(file: &FileName, conflicts: &[FileName]) -> bool
     ensures { result ≡ conflicts_fit_limits file.now conflicts.now }
 {
-    conflicts.len() <= 16 && !has_file(conflicts, file)
+    conflicts.len() <= MAX_DEMANDS && !has_name(conflicts, file.text())
 }

@@ -5,7 +5,6 @@ pub mod assigned;
 pub mod campaign;
 pub mod image;
 pub mod laws;
-mod names;
 mod offers;
 pub mod plan;
 mod resulting;

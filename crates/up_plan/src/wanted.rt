@@ -7,10 +7,10 @@ ghost use Rattle.up_plan.specs.Planning.{is_reported as is_reported_as, items_fo
 use crate::assigned::Fitted;
 use crate::campaign::{Campaign, Item, Reach};
 use crate::image::Image;
-use crate::names::has_name;
 use crate::offers::{Offer, greatest_for};
 use std::alloc::{AllocError, Global};
 use up_canon::ident::Ident;
+use up_canon::named::has_name;
 
 /// The registered image of what the ECU reports.
 pub(crate) fn registered<'a>(images: &'a [Image], e: &Fitted) -> Option<&'a Image>
@@ -25,7 +25,7 @@ fn is_reported(image: &Image, e: &Fitted) -> bool
     image.file.text() == e.image.file.text()
         && image.length.get() == e.image.length.get()
         && image.sha256 == e.image.sha256
-        && has_name(image.hardware.as_slice(), &e.hardware)
+        && has_name(image.hardware.as_slice(), e.hardware.text())
 }
 
 /// The release counter of the image, 0 where there is none.
@@ -60,7 +60,7 @@ fn reaches(reach: &Reach, vehicle: &Ident) -> bool
 {
     match reach {
         Reach::All => true,
-        Reach::Named(vehicles) => has_name(vehicles.as_slice(), vehicle),
+        Reach::Named(vehicles) => has_name(vehicles.as_slice(), vehicle.text()),
     }
 }
 

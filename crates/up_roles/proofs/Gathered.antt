@@ -1,6 +1,6 @@
 -- The keys of a Root payload: each identifier once, in byte order.
-use Rattle.std.proofs.Common.{◌≡◌, ℕ, List, [], ◌∷◌, Bool, true, false, Ordering, Less, Equal, Greater, Option, Some, None, cond, nat_cmp, map, refl, ap, sym, ◌∙◌}
-use Rattle.std.specs.Prelude.{bytes_eq, not, ◌&&◌, ◌||◌}
+use Rattle.std.proofs.Common.{◌≡◌, ℕ, List, [], ◌∷◌, Bool, true, false, Ordering, Less, Equal, Greater, Option, Some, cond, nat_cmp, map, refl, ap, sym, ◌∙◌}
+use Rattle.std.specs.Prelude.{bytes_eq, ◌&&◌}
 use Rattle.std.specs.List.{list_all, find}
 use Rattle.std.specs.Ordering.{match_ordering, is_eq}
 use Rattle.std.specs.Cmp.Lexicographic.{slice_cmp, bytes_decides}
@@ -9,7 +9,7 @@ use Rattle.std.proofs.lemmas.Map.Text.{is_eq-slice_cmp}
 use Rattle.serde_json.specs.Data.{Data, Members, no_members, member, put}
 use Rattle.up_roles.specs.Root.{key_member, put_keys, agree, keys_agree, members_list}
 use Rattle.up_roles.specs.declared.root.RootKey.{RootKey}
-use Rattle.up_roles.proofs.Plain.{both}
+use Rattle.up_canon.proofs.Printable.{both}
 use Rattle.up_roles.proofs.Repeats.{bytes_eq-sym}
 
 -- the key in its place, instead of the one of its identifier

@@ -1,6 +1,6 @@
 -- Members that were written are read again: those of every payload, and parts of them.
-use Rattle.std.proofs.Common.{◌≡◌, ℕ, zero, suc, ◌≤◌, List, [], ◌∷◌, Bool, true, false, Option, Some, None, Result, Ok, Err, length, refl, ap, ◌∙◌, arith}
-use Rattle.std.specs.Prelude.{codes, nat_le, nat_lt, bytes_eq, ◌==◌, ⊤}
+use Rattle.std.proofs.Common.{◌≡◌, ℕ, zero, suc, ◌≤◌, List, [], ◌∷◌, Bool, true, false, Option, Some, None, Ok, length, refl, ap, ◌∙◌, arith}
+use Rattle.std.specs.Prelude.{codes, nat_le, nat_lt, ◌==◌}
 use Rattle.std.specs.List.{list_all}
 use Rattle.std.specs.Cmp.Lexicographic.{bytes_decides}
 use Rattle.std.proofs.lemmas.Bool.{and_parts}
@@ -11,20 +11,20 @@ use Rattle.serde_json.specs.Data.{Data, string, object, Members}
 use Rattle.serde_json.specs.Find as json
 use Rattle.up_canon.specs.Build.{count_value}
 use Rattle.up_canon.specs.Canon.{max_count}
-use Rattle.up_canon.specs.Members.{text_of, count_of, object_of, member_in, text_in, count_in}
+use Rattle.up_canon.specs.Members.{text_of, count_of, object_of, member_in, count_in}
 use Rattle.up_canon.specs.Moments.{last_moment, moment_text, MomentsAreRead}
 use Rattle.up_canon.specs.Names.{Name, is_ident, is_file_name}
-use Rattle.up_canon.specs.Readers.{fitting, ident_of, file_name_of, ident_in, word_in, positive_in}
+use Rattle.up_canon.specs.Readers.{ident_of, file_name_of, ident_in, word_in, positive_in}
 use Rattle.up_canon.specs.Steps.{or_error, unless, value_of}
 use Rattle.up_canon.specs.declared.refusal.Refusal.TheVariants.{BadShape}
-use Rattle.up_sign.specs.Meaning.{HasText}
-use Rattle.up_sign.proofs.Members.{text_there, fits_there}
-use Rattle.up_sign.proofs.Steps.{bind-ok}
+use Rattle.up_canon.specs.Meaning.{HasText}
+use Rattle.up_canon.proofs.Members.{text_there, fits_there}
+use Rattle.up_canon.proofs.Steps.{bind-ok}
 use Rattle.up_roles.specs.Parts.{part_in, object_part, text_part, count_part, positive_part, ident_part, file_name_part, is_lower_digit, sha256_part}
 use Rattle.up_roles.specs.Payload.{repository_text, hashes_value, version_fits, name_fits, is_named, is_hash, is_moment, repository_of, repository_in, expires_in, head_in, vehicle_in}
 use Rattle.up_roles.specs.declared.repository.Repository.{Repository}
 use Rattle.up_roles.specs.declared.repository.Repository.TheVariants.{Director, Image}
-use Rattle.up_roles.proofs.Plain.{all-hex}
+use Rattle.up_canon.proofs.Printable.{all-hex}
 
 pub unless-there : {E : Type 0} (b : Bool) (e : E) → b ≡ true → unless b e ≡ Ok tt
 unless-there true e h = refl

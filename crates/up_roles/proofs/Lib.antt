@@ -2,10 +2,8 @@ pub mod Entries
 pub mod Hashes
 pub mod Keys
 pub mod Oks
-pub mod Plain
 pub mod PlainFiles
 pub mod Repeats
-pub mod Ascii
 pub mod ReadAgain
 pub mod Heads
 pub mod ReadFiles

@@ -1,21 +1,21 @@
 -- Lists whose items are read one after another.
 use Rattle.std.proofs.Common.{◌≡◌, ℕ, List, [], ◌∷◌, Bool, true, Result, Ok, Some, length, map, refl, ◌∙◌}
-use Rattle.std.specs.Prelude.{codes, ◌&&◌}
+use Rattle.std.specs.Prelude.{◌&&◌}
 use Rattle.std.specs.List.{list_all}
 use Rattle.std.proofs.lemmas.Bool.{and_parts}
 use Rattle.serde_json.specs.Data.{Data}
 use Rattle.serde_json.specs.Find as json
 use Rattle.up_canon.proofs.Lists.{items_listed}
 use Rattle.up_canon.specs.Build.{list_with}
-use Rattle.up_canon.specs.Members.{list_of, list_in, items_list}
+use Rattle.up_canon.specs.Members.{list_of, list_in}
 use Rattle.up_canon.specs.Names.{is_from_to}
 use Rattle.up_canon.specs.Steps.{each}
 use Rattle.up_canon.specs.declared.refusal.Refusal.{Refusal}
-use Rattle.up_sign.proofs.Members.{list_there, fits_there}
-use Rattle.up_sign.proofs.Steps.{bind-ok}
+use Rattle.up_canon.proofs.Members.{list_there, fits_there}
+use Rattle.up_canon.proofs.Steps.{bind-ok}
 use Rattle.up_roles.specs.Parts.{few_part}
 use Rattle.up_roles.proofs.Heads.{part-there}
-use Rattle.up_roles.proofs.Plain.{both}
+use Rattle.up_canon.proofs.Printable.{both}
 
 -- what each item was written as is read as the item
 pub each-there : {A B : Type 0} (step : B → Result A Refusal) (f : A → B) (p : A → Bool) → ((x : A) → p x ≡ true → step (f x) ≡ Ok x)

@@ -7,9 +7,9 @@ use Rattle.std.proofs.lemmas.Bool.Decides.{nat_tests}
 use Rattle.std.proofs.lemmas.List.Folds.{list_all-append}
 use Rattle.serde_json.specs.Data.{Data, string}
 use Rattle.up_canon.specs.Build.{object_with, list_with, count_value, hex_value}
-use Rattle.up_canon.specs.Canon.{max_count, is_printable, is_printable_text, has_canon}
+use Rattle.up_canon.specs.Canon.{max_count, is_printable_text, has_canon}
 use Rattle.up_canon.specs.Moments.{last_moment, moment_text}
-use Rattle.up_canon.specs.Names.{Name, is_from_to, is_ident, is_ident_byte, is_file_name, is_file_byte}
+use Rattle.up_canon.specs.Names.{Name, is_ident, is_file_name}
 use Rattle.up_canon.proofs.MomentTexts.{moments_are_plain}
 use Rattle.up_roles.specs.Payload.{IsCanonical, payload, payload_members, repository_text, hashes_value, version_fits, is_named, is_hash, is_moment}
 use Rattle.up_roles.specs.Root.{all_keys, key_member, role_value, roles_value, roles_members, root_more, root_payload, key_fits, role_fits, root_fits, root_is_typed}
@@ -25,24 +25,11 @@ use Rattle.up_roles.specs.declared.snapshot.SnapshotFile.{SnapshotFile}
 use Rattle.up_roles.specs.declared.targets.Target.{Target}
 use Rattle.up_roles.specs.declared.targets.TargetsFile.{TargetsFile}
 use Rattle.up_roles.specs.declared.timestamp.TimestampFile.{TimestampFile}
-use Rattle.up_roles.proofs.Plain.{IsPlain, AllMembers, AllItems, plain-object, plain-list, all-plain, plain-string, plain-count, deeper, plain-canon, all-more, printable-hex}
+use Rattle.up_canon.proofs.PlainValues.{IsPlain, AllMembers, AllItems, plain-object, plain-list, all-plain, plain-string, plain-count, deeper, plain-canon}
+use Rattle.up_canon.proofs.Printable.{ident_prints, file_name_prints, printable-hex}
 
 pub canon_is : (d : Data) → has_canon d ≡ true → IsCanonical d
 canon_is d h = rw h refl
-
--- ---- names
-
-ident_byte-prints : (x : ℕ) → is_ident_byte x ≡ true → is_printable x ≡ true
-ident_byte-prints x h = grind (arith, nat_tests)
-
-file_byte-prints : (x : ℕ) → is_file_byte x ≡ true → is_printable x ≡ true
-file_byte-prints x h = grind (arith, nat_tests)
-
-pub ident-prints : (name : Name) → is_ident name ≡ true → is_printable_text name ≡ true
-ident-prints name h = all-more is_ident_byte is_printable name ident_byte-prints (and_parts (is_from_to 1 64 (length name)) _ h).1
-
-pub file_name-prints : (name : Name) → is_file_name name ≡ true → is_printable_text name ≡ true
-file_name-prints name h = all-more is_file_byte is_printable name file_byte-prints (and_parts (is_from_to 1 128 (length name)) _ h).1
 
 -- ---- what payloads have in common
 
@@ -81,7 +68,7 @@ plain-payload n kind r version expires (Some name) more hk hv he hn h =
           (
             refl,
             deeper 0 n _ (omega arith) (plain-count version (version-small version hv)),
-            (refl, deeper 0 n _ (omega arith) (plain-string name (ident-prints name hn)), h),
+            (refl, deeper 0 n _ (omega arith) (plain-string name (ident_prints name hn)), h),
           ),
         ),
       ),
@@ -121,7 +108,7 @@ timestamp-canon file fits typed =
 
 ecu_members : (ecu : Option Name) → is_named ecu ≡ true → AllMembers 1 (option_to_list (option_map (λ name. (codes "ecu", string name)) ecu))
 ecu_members None h = tt
-ecu_members (Some name) h = (refl, deeper 0 1 _ (omega arith) (plain-string name (ident-prints name h)), tt)
+ecu_members (Some name) h = (refl, deeper 0 1 _ (omega arith) (plain-string name (ident_prints name h)), tt)
 
 plain-target : (target : Target) → target_is_typed target ≡ true → IsPlain 2 (target_value target)
 plain-target target typed =
@@ -132,10 +119,10 @@ plain-target target typed =
     let file = and_parts _ _ size.0 in
     plain-object 1 (target_members target) (
       refl,
-      deeper 0 1 _ (omega arith) (plain-string target.file (file_name-prints target.file file.1)),
+      deeper 0 1 _ (omega arith) (plain-string target.file (file_name_prints target.file file.1)),
       (
         refl,
-        plain-list 0 (map string target.hardware) (all-plain 0 is_ident string target.hardware (λ name h. plain-string name (ident-prints name h)) hardware.1),
+        plain-list 0 (map string target.hardware) (all-plain 0 is_ident string target.hardware (λ name h. plain-string name (ident_prints name h)) hardware.1),
         (
           refl,
           plain-hashes target.sha256 hash.1,

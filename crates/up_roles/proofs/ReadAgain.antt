@@ -22,12 +22,13 @@ use Rattle.up_sign.specs.Reading.{Opened, opened_in}
 use Rattle.up_sign.specs.Schemes.{Rules, is_byte}
 use Rattle.up_sign.specs.declared.envelope.Envelope.{Envelope}
 use Rattle.up_sign.specs.declared.envelope.Signature.{Signature}
-use Rattle.up_sign.proofs.Steps.{bind-ok}
+use Rattle.up_canon.proofs.Steps.{bind-ok}
 use Rattle.up_roles.specs.Laws.{AreSigners}
 use Rattle.up_roles.specs.Payload.{largest_file, sealed_text, file_in}
-use Rattle.up_roles.proofs.Ascii.{small-ascii, text-ascii}
+use Rattle.up_canon.proofs.Ascii.{small-ascii, text-ascii}
 use Rattle.up_roles.proofs.Heads.{unless-there}
-use Rattle.up_roles.proofs.Plain.{IsPlain, AllItems, plain-object, plain-list, plain-string, printable-hex}
+use Rattle.up_canon.proofs.PlainValues.{IsPlain, AllItems, plain-object, plain-list, plain-string}
+use Rattle.up_canon.proofs.Printable.{printable-hex}
 
 -- what is known of the crates below
 pub record Lower : Type 0 where

@@ -1,16 +1,15 @@
 -- The payload of a file within its limits means the file.
-use Rattle.std.proofs.Common.{◌≡◌, ℕ, List, [], ◌∷◌, Bool, true, ◌&&◌, Option, Some, None, Ok, refl, ap, ◌∙◌}
+use Rattle.std.proofs.Common.{◌≡◌, ℕ, List, [], ◌∷◌, true, Option, Some, None, Ok, refl, ◌∙◌}
 use Rattle.std.specs.Prelude.{codes}
 use Rattle.std.proofs.lemmas.Bool.{and_parts}
 use Rattle.serde_json.specs.Data.{Data}
 use Rattle.serde_json.specs.Find as json
 use Rattle.up_canon.specs.Build.{object_with, count_value}
-use Rattle.up_canon.specs.Members.{object_in}
 use Rattle.up_canon.specs.Moments.{MomentsAreRead}
 use Rattle.up_canon.specs.Names.{Name}
-use Rattle.up_sign.proofs.Members.{object_there}
-use Rattle.up_sign.proofs.Steps.{bind-ok}
-use Rattle.up_roles.specs.Payload.{payload, hashes_value, version_fits, name_fits}
+use Rattle.up_canon.proofs.Members.{object_there}
+use Rattle.up_canon.proofs.Steps.{bind-ok}
+use Rattle.up_roles.specs.Payload.{payload, hashes_value, version_fits}
 use Rattle.up_roles.specs.Snapshot.{snapshot_meta, snapshot_payload, snapshot_fits, snapshot_is_typed, snapshot_entry_in, snapshot_of}
 use Rattle.up_roles.specs.Timestamp.{timestamp_meta, timestamp_payload, timestamp_fits, timestamp_is_typed, timestamp_entry_in, timestamp_of}
 use Rattle.up_roles.specs.declared.repository.Repository.{Repository}
@@ -36,7 +35,7 @@ timestamp_entry file = object_with ((codes "hashes", hashes_value file.snapshot_
 timestamp_entry-there : (file : TimestampFile) (d : Data) → json.get (codes "meta") d ≡ Some (timestamp_meta file) → timestamp_entry_in d ≡ Ok (timestamp_entry file)
 unfolding timestamp_entry_in
 timestamp_entry-there file d has =
-    bind-ok _ _ (timestamp_meta file) (object_there (codes "meta") d (timestamp_meta file) has refl)
+    bind-ok _ _ (timestamp_meta file) (object_there (codes "meta") d (timestamp_meta file) (_, has, refl))
     ∙ object_part-there (codes "meta") (codes "snapshot.json") (timestamp_meta file) _ refl
 
 pub timestamp-there : MomentsAreRead → (file : TimestampFile) → timestamp_fits file ≡ true → timestamp_is_typed file ≡ true → timestamp_of (timestamp_payload file) ≡ Ok file
@@ -57,7 +56,7 @@ timestamp-there moments file fits typed =
 snapshot_entry-there : (file : SnapshotFile) (d : Data) → json.get (codes "meta") d ≡ Some (snapshot_meta file) → version_fits file.targets_version ≡ true → snapshot_entry_in d ≡ Ok file.targets_version
 unfolding snapshot_entry_in
 snapshot_entry-there file d has fits =
-    bind-ok _ _ (snapshot_meta file) (object_there (codes "meta") d (snapshot_meta file) has refl)
+    bind-ok _ _ (snapshot_meta file) (object_there (codes "meta") d (snapshot_meta file) (_, has, refl))
     ∙ bind-ok _ _ (object_with ((codes "version", count_value file.targets_version) ∷ [])) (object_part-there (codes "meta") (codes "targets.json") (snapshot_meta file) _ refl)
     ∙ positive_part-there (codes "meta") (codes "version") (object_with ((codes "version", count_value file.targets_version) ∷ [])) file.targets_version refl fits
 

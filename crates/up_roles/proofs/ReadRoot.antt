@@ -1,7 +1,7 @@
 -- The payload of a Root file within its limits means the file.
-use Rattle.std.proofs.Common.{◌≡◌, ℕ, ◌≤◌, List, [], ◌∷◌, ◌++◌, Bool, true, false, Option, Some, None, Ok, length, map, refl, ap, sym, ◌∙◌, arith}
+use Rattle.std.proofs.Common.{◌≡◌, ℕ, List, [], ◌∷◌, ◌++◌, Bool, true, false, Some, None, Ok, length, map, refl, ap, ◌∙◌, arith}
 use Rattle.std.specs.Prelude.{codes, nat_le, bytes_eq, ◌||◌}
-use Rattle.std.specs.List.{list_all, list_any, find}
+use Rattle.std.specs.List.{list_all, list_any}
 use Rattle.std.specs.Cmp.Lexicographic.{bytes_decides}
 use Rattle.std.proofs.lemmas.Bool.{and_parts}
 use Rattle.std.proofs.lemmas.Bool.Decides.{nat_tests}
@@ -9,16 +9,16 @@ use Rattle.std.proofs.lemmas.List.{length-map}
 use Rattle.std.proofs.lemmas.List.Folds.{list_all-append}
 use Rattle.serde_json.specs.Data.{Data, string, object, no_members}
 use Rattle.serde_json.specs.Find as json
-use Rattle.up_canon.specs.Build.{object_with, list_with, count_value}
+use Rattle.up_canon.specs.Build.{object_with}
 use Rattle.up_canon.specs.Canon.{max_count}
 use Rattle.up_canon.specs.Members.{object_of, text_of}
 use Rattle.up_canon.specs.Moments.{MomentsAreRead}
 use Rattle.up_canon.specs.Names.{is_from_to, is_short_text}
 use Rattle.up_canon.specs.Steps.{each, or_error}
 use Rattle.up_canon.specs.declared.refusal.Refusal.TheVariants.{BadShape}
-use Rattle.up_sign.specs.Meaning.{HasText}
-use Rattle.up_sign.proofs.Members.{object_there, fits_there}
-use Rattle.up_sign.proofs.Steps.{bind-ok}
+use Rattle.up_canon.specs.Meaning.{HasText}
+use Rattle.up_canon.proofs.Members.{object_there, fits_there}
+use Rattle.up_canon.proofs.Steps.{bind-ok}
 use Rattle.up_roles.specs.Payload.{payload}
 use Rattle.up_roles.specs.Root.{all_keys, key_member, put_keys, role_value, roles_value, root_more, root_payload, key_fits, role_is_met, role_fits, root_fits, root_is_typed, keys_agree, shown_in, key_of, keys_in, chosen_key, role_in, has_key, is_used, root_of}
 use Rattle.up_roles.specs.declared.root.RootKey.{RootKey}
@@ -28,8 +28,8 @@ use Rattle.up_roles.proofs.Gathered.{gathered, keys-listed, all-gathered, AreFou
 use Rattle.up_roles.proofs.Heads.{HasHead, head_there, object_part-there, text_part-there, count_part-there}
 use Rattle.up_roles.proofs.Keys.{members_with-keys}
 use Rattle.up_roles.proofs.Lists.{each-there, few_part-there}
-use Rattle.up_roles.proofs.Plain.{both, all-more}
-use Rattle.up_roles.proofs.PlainFiles.{RolesFit, roles-fit, all_keys-fit}
+use Rattle.up_canon.proofs.Printable.{both, all-more}
+use Rattle.up_roles.proofs.PlainFiles.{roles-fit, all_keys-fit}
 
 -- ---- keys
 
@@ -52,7 +52,7 @@ keys-there : (keys : List RootKey) (d : Data) → json.get (codes "keys") d ≡ 
 unfolding keys_in
 keys-there keys d has fits =
     let listed = keys-listed keys in
-    bind-ok _ _ (object (put_keys keys no_members)) (object_there (codes "keys") d (object (put_keys keys no_members)) (has ∙ ap (λ ms. Some (object ms)) (members_with-keys keys)) refl)
+    bind-ok _ _ (object (put_keys keys no_members)) (object_there (codes "keys") d (object (put_keys keys no_members)) (_, has ∙ ap (λ ms. Some (object ms)) (members_with-keys keys), refl))
     ∙ ap (each key_of) listed
     ∙ each-there key_of key_member key_fits key-there (gathered keys) (all-gathered key_fits keys fits)
 
@@ -158,7 +158,7 @@ root-there moments file fits typed agree =
     let roles = roles_value file in
     bind-ok _ _ (record { repository = file.repository; version = file.version; expires = file.expires }) (head_there moments (codes "root") file.repository file.version file.expires d head f.version typed)
     ∙ bind-ok _ _ all (keys-there (all_keys file) d refl (all_keys-fit file f))
-    ∙ bind-ok _ _ roles (object_there (codes "roles") d roles refl refl)
+    ∙ bind-ok _ _ roles (object_there (codes "roles") d roles (_, refl, refl))
     ∙ bind-ok _ _ file.root (role-there all (codes "root") file.root roles refl f.root two.0)
     ∙ bind-ok _ _ file.targets (role-there all (codes "targets") file.targets roles refl f.targets two.1)
     ∙ bind-ok _ _ file.snapshot (role-there all (codes "snapshot") file.snapshot roles refl f.snapshot three.1)

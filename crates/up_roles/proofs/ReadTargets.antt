@@ -1,22 +1,21 @@
 -- The payload of a Targets file within its limits means the file.
-use Rattle.std.proofs.Common.{◌≡◌, ℕ, List, [], ◌∷◌, Bool, true, ◌&&◌, Option, Some, None, Ok, length, map, refl, ap, ◌∙◌}
-use Rattle.std.specs.Prelude.{codes, nat_le}
+use Rattle.std.proofs.Common.{◌≡◌, ℕ, List, [], ◌∷◌, true, ◌&&◌, Option, Some, None, Ok, length, map, refl, ap, ◌∙◌}
+use Rattle.std.specs.Prelude.{codes}
 use Rattle.std.specs.List.{list_all}
 use Rattle.std.proofs.lemmas.Bool.{and_parts}
 use Rattle.std.proofs.lemmas.List.{length-map}
 use Rattle.serde_json.specs.Data.{Data, string}
 use Rattle.serde_json.specs.Find as json
 use Rattle.up_canon.specs.Build.{list_with, count_value}
-use Rattle.up_canon.specs.Canon.{max_count}
 use Rattle.up_canon.specs.Members.{object_of}
 use Rattle.up_canon.specs.Moments.{MomentsAreRead}
-use Rattle.up_canon.specs.Names.{Name, is_from_to, is_ident}
+use Rattle.up_canon.specs.Names.{Name, is_from_to, is_ident, are_distinct, hardware_fits}
 use Rattle.up_canon.specs.Readers.{ident_of}
-use Rattle.up_sign.specs.Meaning.{HasText}
-use Rattle.up_sign.proofs.Members.{fits_there}
-use Rattle.up_sign.proofs.Steps.{bind-ok}
-use Rattle.up_roles.specs.Payload.{payload, hashes_value, are_distinct, name_fits, is_named}
-use Rattle.up_roles.specs.Targets.{target_value, target_fits, target_is_typed, targets_payload, targets_fits, targets_is_typed, hardware_fits, ecus_of, ecu_of, hardware_of, target_of, target_list_in, targets_of}
+use Rattle.up_canon.specs.Meaning.{HasText}
+use Rattle.up_canon.proofs.Members.{fits_there}
+use Rattle.up_canon.proofs.Steps.{bind-ok}
+use Rattle.up_roles.specs.Payload.{payload, hashes_value, name_fits, is_named}
+use Rattle.up_roles.specs.Targets.{target_value, target_fits, target_is_typed, targets_payload, targets_fits, targets_is_typed, ecus_of, ecu_of, hardware_of, target_of, target_list_in, targets_of}
 use Rattle.up_roles.specs.declared.repository.Repository.{Repository}
 use Rattle.up_roles.specs.declared.repository.Repository.TheVariants.{Director, Image}
 use Rattle.up_roles.specs.declared.targets.Target.{Target}

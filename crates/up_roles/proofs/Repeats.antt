@@ -1,18 +1,17 @@
 -- Names one after another, up to the first that stood before it.
 use Rattle.std.proofs.Common.{◌≡◌, ℕ, ◌+◌, ◌<◌, List, [], ◌∷◌, ◌++◌, Bool, true, false, Option, Some, None, length, get_or, take, drop, reverse, cond, nat_cmp, refl, ap, ap₂, ◌∙◌, sym, append-nil}
-use Rattle.std.specs.Prelude.{bytes_eq, map, is_none, not, option_to_list, ◌||◌}
+use Rattle.std.specs.Prelude.{bytes_eq, is_none, not, option_to_list, ◌||◌}
 use Rattle.std.specs.BTreeSet.{BTreeSet, contains_by}
 use Rattle.std.specs.Cmp.Lexicographic.{slice_cmp, bytes_decides}
 use Rattle.std.specs.List.{list_any}
 use Rattle.std.specs.Ordering.{is_eq}
 use Rattle.std.proofs.Math.Bool.{or-false}
-use Rattle.std.proofs.lemmas.List.{take_more, drop_more, reverse-append, map-append}
+use Rattle.std.proofs.lemmas.List.{take_more, drop_more, reverse-append}
 use Rattle.std.proofs.lemmas.List.Elements.{filter_map-append}
 use Rattle.std.proofs.lemmas.List.Folds.{list_any-append}
 use Rattle.std.proofs.lemmas.List.Sorted.{list_any-IsPermutation, IsPermutation-reverse}
 use Rattle.std.proofs.lemmas.Map.Text.{is_eq-slice_cmp}
 use Rattle.up_canon.specs.Names.{Name, first_repeated_after}
-use Rattle.up_roles.specs.declared.root.RootKey.{RootKey}
 use Rattle.up_roles.specs.declared.targets.Target.{Target}
 use Rattle.up_roles.specs.Targets.{ecus_of, repeats_ecu, IsSeen}
 use denote.Ref.{Bor}
@@ -35,14 +34,6 @@ found : (seen rest : List Name) (x : Name) → list_any (bytes_eq x) seen ≡ tr
 found seen rest x old =
     let old' : list_any (bytes_eq x) (reverse seen) ≡ true = before seen x true old in
     rw old' refl
-
-pub name-passes : (names : List Name) (i : ℕ) (x : Name) → i < length names → x ≡ get_or names i x → list_any (bytes_eq x) (take i names) ≡ false
-    → left (take (i + 1) names) (drop (i + 1) names) ≡ left (take i names) (drop i names)
-name-passes names i x h at new = rw (drop_more names i x h, take_more names i x h, ← at) (passes (take i names) (drop (i + 1) names) x new)
-
-pub name-found : (names : List Name) (i : ℕ) (x : Name) → i < length names → x ≡ get_or names i x → list_any (bytes_eq x) (take i names) ≡ true
-    → left (take i names) (drop i names) ≡ Some x
-name-found names i x h at old = rw (drop_more names i x h, ← at) (found (take i names) (drop (i + 1) names) x old)
 
 -- ---- the ECUs of targets
 
@@ -120,21 +111,3 @@ pub added_is : (old new : BTreeSet (Bor Name)) (names : List Name) (ecu : Option
 added_is old new names ecu name t n e same seen fresh added =
     let there : ecu ≡ Some t = e ∙ ap Some (sym same) in
     rw there (fresh ∙ ap not (seen t), seen_more old new t names seen added)
-
--- ---- the identifiers of keys
-
-abbrev pub ids_of : List RootKey → List Name
-ids_of keys = map (λ key. key.keyid) keys
-
-ids_any : (name : Name) (keys : List RootKey) → list_any (bytes_eq name) (ids_of keys) ≡ list_any (λ key. bytes_eq name key.keyid) keys
-ids_any name [] = refl
-ids_any name (x ∷ keys) = ap (λ b. bytes_eq name x.keyid || b) (ids_any name keys)
-
-pub id-passes : (keys : List RootKey) (i : ℕ) (x : RootKey) → i < length keys → x ≡ get_or keys i x → list_any (λ key. bytes_eq x.keyid key.keyid) (take i keys) ≡ false
-    → left (ids_of (take (i + 1) keys)) (ids_of (drop (i + 1) keys)) ≡ left (ids_of (take i keys)) (ids_of (drop i keys))
-id-passes keys i x h at new =
-    rw (drop_more keys i x h, take_more keys i x h, ← at, map-append (λ (k : RootKey). k.keyid) (take i keys) (x ∷ [])) (passes (ids_of (take i keys)) (ids_of (drop (i + 1) keys)) x.keyid (ids_any x.keyid (take i keys) ∙ new))
-
-pub id-found : (keys : List RootKey) (i : ℕ) (x : RootKey) → i < length keys → x ≡ get_or keys i x → list_any (λ key. bytes_eq x.keyid key.keyid) (take i keys) ≡ true
-    → left (ids_of (take i keys)) (ids_of (drop i keys)) ≡ Some x.keyid
-id-found keys i x h at old = rw (drop_more keys i x h, ← at) (found (ids_of (take i keys)) (ids_of (drop (i + 1) keys)) x.keyid (ids_any x.keyid (take i keys) ∙ old))

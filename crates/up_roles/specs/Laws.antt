@@ -1,5 +1,5 @@
 -- Laws of role files: what was written is read again as the same file.
-use Rattle.std.specs.Prelude.{◌≡◌, ℕ, ◌≤◌, List, IsTrue, length, Result, Ok}
+use Rattle.std.specs.Prelude.{◌≡◌, ℕ, ◌≤◌, List, IsTrue, length, Ok}
 use Rattle.std.specs.List.{list_all}
 use Rattle.up_canon.specs.Canon.{text}
 use Rattle.up_sign.specs.Envelopes.{sealed}

@@ -1,5 +1,5 @@
 -- What the files of the four roles have in common: type, repository, version, expiry and vehicle, and the sealing.
-use Rattle.std.specs.Prelude.{◌≡◌, ℕ, ◌++◌, ◌&&◌, ◌==◌, List, [], ◌∷◌, Bool, true, false, nat_le, nat_lt, length, bytes_eq, if◌then◌else◌, Option, Some, None, is_none, option_map, option_to_list, codes, Result, Ok, Err}
+use Rattle.std.specs.Prelude.{◌≡◌, ℕ, ◌++◌, ◌&&◌, ◌==◌, List, [], ◌∷◌, Bool, true, false, nat_le, nat_lt, length, bytes_eq, if◌then◌else◌, Option, Some, None, option_map, option_to_list, codes, Result, Ok, Err}
 use Rattle.std.specs.List.{list_all}
 use Rattle.serde_json.specs.Data.{Data, string, Members, put}
 use Rattle.up_canon.specs.Build.{object_with, count_value, hex_value}
@@ -7,7 +7,7 @@ use Rattle.up_canon.specs.Canon.{canon, text, max_count}
 use Rattle.up_canon.specs.JsonText.{value_within}
 use Rattle.up_canon.specs.Members.{text_in}
 use Rattle.up_canon.specs.Moments.{moment_text, read_moment, last_moment}
-use Rattle.up_canon.specs.Names.{Name, is_from_to, is_ident, first_repeated}
+use Rattle.up_canon.specs.Names.{Name, is_from_to, is_ident}
 use Rattle.up_canon.specs.Readers.{ident_in, word_in, positive_in}
 use Rattle.up_canon.specs.Steps.{◌>>=◌, or_error}
 use Rattle.up_canon.specs.declared.refusal.Refusal.{Refusal}
@@ -55,9 +55,6 @@ abbrev pub IsCanonical : Data → Type 0
 IsCanonical payload = canon payload ≡ Some (text payload)
 
 -- ---- limits
-
-abbrev pub are_distinct : List Name → Bool
-are_distinct names = is_none (first_repeated names)
 
 abbrev pub version_fits : ℕ → Bool
 version_fits version = is_from_to 1 max_count version

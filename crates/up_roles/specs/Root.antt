@@ -8,7 +8,7 @@ use Rattle.serde_json.specs.View.{view}
 use Rattle.serde_json.specs.declared.value.Value.{Value}
 use Rattle.up_canon.specs.Build.{object_with, list_with, count_value}
 use Rattle.up_canon.specs.Members.{object_in, object_of, text_of}
-use Rattle.up_canon.specs.Names.{is_from_to, is_short_text}
+use Rattle.up_canon.specs.Names.{is_from_to, is_short_text, are_distinct}
 use Rattle.up_canon.specs.Readers.{fitting}
 use Rattle.up_canon.specs.Steps.{◌>>=◌, each, or_error}
 use Rattle.up_canon.specs.declared.refusal.Refusal.TheVariants.{BadShape}
@@ -16,7 +16,7 @@ use Rattle.up_canon.specs.declared.refusal.Refusal.{Refusal}
 use Rattle.up_sign.specs.Schemes.{Rules}
 use Rattle.up_sign.specs.declared.envelope.Envelope.{Envelope}
 use Rattle.up_roles.specs.Parts.{object_part, few_part, text_part, count_part}
-use Rattle.up_roles.specs.Payload.{payload, sealed_text, are_distinct, version_fits, is_moment, head_in, file_in}
+use Rattle.up_roles.specs.Payload.{payload, sealed_text, version_fits, is_moment, head_in, file_in}
 use Rattle.up_roles.specs.declared.root.RootKey.{RootKey}
 use Rattle.up_roles.specs.declared.root.RoleKeys.{RoleKeys}
 use Rattle.up_roles.specs.declared.root.RootFile.{RootFile}

@@ -1,5 +1,5 @@
 -- Targets files: images, and in the Director's the ECU that installs each.
-use Rattle.std.specs.Prelude.{◌≡◌, ℕ, ◌&&◌, List, [], ◌∷◌, Bool, nat_le, false, bytes_eq, option_map, option_to_list, length, map, filter_map, codes, Option, Some, None, Result, Ok}
+use Rattle.std.specs.Prelude.{◌≡◌, ℕ, ◌&&◌, List, [], ◌∷◌, Bool, nat_le, false, bytes_eq, option_map, option_to_list, map, filter_map, codes, Option, Some, None, Result, Ok}
 use Rattle.std.specs.BTreeSet.{BTreeSet, contains_by}
 use Rattle.std.specs.Cmp.Lexicographic.{slice_cmp}
 use Rattle.std.specs.List.{list_all, list_any}
@@ -7,7 +7,7 @@ use Rattle.std.specs.Ordering.{nat_cmp}
 use Rattle.serde_json.specs.Data.{Data, string}
 use Rattle.up_canon.specs.Canon.{max_count}
 use Rattle.up_canon.specs.Members.{list_in, object_of}
-use Rattle.up_canon.specs.Names.{Name, is_from_to, is_ident, is_file_name}
+use Rattle.up_canon.specs.Names.{Name, is_ident, is_file_name, are_distinct, hardware_fits}
 use Rattle.up_canon.specs.Readers.{ident_of, fitting}
 use Rattle.up_canon.specs.Steps.{◌>>=◌, each}
 use Rattle.up_canon.specs.declared.refusal.Refusal.{Refusal}
@@ -15,7 +15,7 @@ use Rattle.up_sign.specs.Schemes.{Rules}
 use Rattle.up_sign.specs.declared.envelope.Envelope.{Envelope}
 use Rattle.up_roles.specs.Parts.{few_part, ident_part, file_name_part, count_part, sha256_part}
 use Rattle.up_canon.specs.Build.{object_with, list_with, count_value}
-use Rattle.up_roles.specs.Payload.{payload, hashes_value, sealed_text, are_distinct, version_fits, name_fits, is_moment, is_named, is_hash, head_in, vehicle_in, file_in}
+use Rattle.up_roles.specs.Payload.{payload, hashes_value, sealed_text, version_fits, name_fits, is_moment, is_named, is_hash, head_in, vehicle_in, file_in}
 use Rattle.up_roles.specs.declared.repository.Repository.{Repository}
 use Rattle.up_roles.specs.declared.repository.Repository.TheVariants.{Director, Image}
 use Rattle.up_roles.specs.declared.targets.Target.{Target}
@@ -41,10 +41,6 @@ unfoldable pub targets_text_of : Rules → List (List ℕ) → TargetsFile → L
 targets_text_of k secrets file = sealed_text k secrets (targets_payload file)
 
 -- ---- its limits
-
--- 1 to 16 names of hardware, none twice
-abbrev pub hardware_fits : List Name → Bool
-hardware_fits hardware = is_from_to 1 16 (length hardware) && are_distinct hardware
 
 abbrev pub target_fits : Repository → Target → Bool
 target_fits repository target = name_fits repository target.ecu && hardware_fits target.hardware

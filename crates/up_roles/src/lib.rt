@@ -1,8 +1,6 @@
 //! Role metadata of both repositories: Root, Targets, Snapshot and Timestamp files.
 #![tactic(auto)]
 
-mod copies;
-mod distinct;
 mod file;
 pub mod laws;
 pub mod lifetimes;

@@ -4,22 +4,19 @@ ghost use Rattle.std.specs.List.{list_all};
 ghost use Rattle.up_roles.specs.Payload.{version_fits as version_fits_of, name_fits as name_fits_of};
 ghost use Rattle.up_roles.specs.Root.{key_fits as key_fits_of, role_is_met, role_fits as role_fits_of, root_fits};
 ghost use Rattle.up_roles.specs.Snapshot.{snapshot_fits};
-ghost use Rattle.up_roles.specs.Targets.{hardware_fits as hardware_fits_of, target_fits as target_fits_of, targets_fits};
+ghost use Rattle.up_roles.specs.Targets.{target_fits as target_fits_of, targets_fits};
 ghost use Rattle.up_roles.specs.Timestamp.{timestamp_fits};
 
-use crate::distinct::are_distinct;
 use crate::repository::Repository;
 use crate::root::{RoleKeys, RootFile, RootKey};
-use crate::root_keys::is_short;
-use crate::root_roles::has_distinct_ids;
 use crate::snapshot::SnapshotFile;
 use crate::targets::{Target, TargetsFile, has_distinct_ecus};
 use crate::timestamp::TimestampFile;
 use std::alloc::{AllocError, Global};
+use up_canon::count::MAX_COUNT;
 use up_canon::ident::Ident;
-
-/// The greatest version, 2^53-1.
-const LAST_VERSION: u64 = 9007199254740991;
+use up_canon::limits::is_short;
+use up_canon::named::{are_distinct, hardware_fits};
 
 impl RootFile {
     /// Whether the version is 1 to 2^53-1 and each role has 1 to 4 keys within their limits, with distinct
@@ -77,7 +74,7 @@ impl TimestampFile {
 fn version_fits(version: u64) -> bool
     ensures { result ≡ version_fits_of version }
 {
-    version >= 1 && version <= LAST_VERSION
+    version >= 1 && version <= MAX_COUNT
 }
 
 /// Whether the name is there exactly in the Director's.
@@ -104,7 +101,7 @@ fn is_met(role: &RoleKeys) -> bool
     ensures { result ≡ role_is_met role.now }
 {
     let keys = role.keys.as_slice();
-    has_distinct_ids(keys) && role.threshold >= 1 && role.threshold as usize <= keys.len()
+    are_distinct(keys) && role.threshold >= 1 && role.threshold as usize <= keys.len()
 }
 
 fn keys_fit(keys: &[RootKey]) -> bool
@@ -131,10 +128,4 @@ fn target_fits(repository: Repository, target: &Target) -> bool
     ensures { result ≡ target_fits_of repository target.now }
 {
     name_fits(repository, &target.ecu) && hardware_fits(target.hardware.as_slice())
-}
-
-fn hardware_fits(hardware: &[Ident]) -> bool
-    ensures { result ≡ hardware_fits_of hardware.now }
-{
-    hardware.len() >= 1 && hardware.len() <= 16 && are_distinct(hardware)
 }

@@ -16,6 +16,7 @@ use std::alloc::{AllocError, Global};
 use up_canon::fields::object_at;
 use up_canon::listed::{Duplicate, Listed};
 use up_canon::moment::Moment;
+use up_canon::named::Named;
 use up_canon::refusal::Refusal;
 use up_canon::text::Text;
 use up_sign::envelope::Envelope;
@@ -35,6 +36,14 @@ impl Duplicate for RootKey {
             method: self.method.copy(alloc)?,
             shown: self.shown.copy(alloc)?,
         })
+    }
+}
+
+impl Named for RootKey {
+    ghost name_of = { λ a. a.keyid };
+
+    fn name(&self) -> &str {
+        self.keyid.as_str()
     }
 }
 

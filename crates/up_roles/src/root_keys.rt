@@ -2,7 +2,6 @@
 ghost use Rattle.std.specs.Prelude.{◌≡◌, codes, MatchResult};
 ghost use Rattle.serde_json.specs.View.{view};
 ghost use Rattle.up_canon.specs.Members.{IsFault, object_of_map};
-ghost use Rattle.up_canon.specs.Names.{is_short_text as is_short_text_of};
 ghost use Rattle.up_canon.specs.Refusals.{Gives};
 ghost use Rattle.up_canon.specs.Steps.{each};
 ghost use Rattle.up_roles.specs.Root.{entries_of, shown_in, key_of, keys_in};
@@ -13,8 +12,8 @@ use serde_json::{Map, Value};
 use std::alloc::Global;
 use up_canon::fields::object_at;
 use up_canon::kinds::object_of;
+use up_canon::limits::is_short;
 use up_canon::listed::Listed;
-use up_canon::note::has_printable_bytes;
 use up_canon::refusal::Refusal;
 use up_canon::text::Text;
 
@@ -72,10 +71,4 @@ fn shown_at<'a>(
     } else {
         Err("keys")
     }
-}
-
-pub(crate) fn is_short(text: &str, least: usize, most: usize) -> bool
-    ensures { result ≡ is_short_text_of least most text.now }
-{
-    text.len() >= least && text.len() <= most && has_printable_bytes(text.as_bytes())
 }

@@ -1,12 +1,11 @@
 //! Reading the roles of a Root payload.
-ghost use Rattle.std.specs.Prelude.{◌≡◌, ◌≤◌, bytes_eq, codes, length, map, option_map, IfOk};
-ghost use Rattle.std.specs.List.{list_all, list_any, find};
+ghost use Rattle.std.specs.Prelude.{◌≡◌, ◌≤◌, bytes_eq, codes, length, option_map, IfOk};
+ghost use Rattle.std.specs.List.{list_all, find};
 ghost use Rattle.serde_json.specs.View.{view};
 ghost use Rattle.up_canon.specs.Members.{object_of_map, values_of};
 ghost use Rattle.up_canon.specs.Readers.{fitting};
 ghost use Rattle.up_canon.specs.Refusals.{Gives};
 ghost use Rattle.up_canon.specs.Steps.{each};
-ghost use Rattle.up_roles.specs.Payload.{are_distinct};
 ghost use Rattle.up_roles.specs.Root.{chosen_key, role_is_met as role_is_met_of, role_in, has_key as has_key_of, is_used as is_used_of};
 
 use crate::parts::{count_part, few_part, object_part};
@@ -15,6 +14,7 @@ use serde_json::{Map, Value};
 use std::alloc::Global;
 use up_canon::kinds::text_of;
 use up_canon::listed::{Duplicate, Listed};
+use up_canon::named::are_distinct;
 use up_canon::refusal::Refusal;
 
 /// The role of that name, of keys among these.
@@ -41,7 +41,7 @@ fn role_of(keys: Listed<RootKey>, threshold: u64) -> Result<RoleKeys, Refusal>
 {
     if threshold >= 1
         && threshold <= keys.as_slice().len() as u64
-        && has_distinct_ids(keys.as_slice())
+        && are_distinct(keys.as_slice())
     {
         Ok(RoleKeys {
             keys,
@@ -82,23 +82,6 @@ fn find_key<'a>(keys: &'a [RootKey], keyid: &str) -> Option<&'a RootKey>
     ensures { option_map (λ key. key.now) result ≡ find (λ key. bytes_eq key.keyid keyid.now) keys.now }
 {
     keys.iter().find(|key| key.keyid.as_str() == keyid)
-}
-
-pub(crate) fn has_distinct_ids(keys: &[RootKey]) -> bool
-    ensures { result ≡ are_distinct (map (λ key. key.keyid) keys.now) }
-{
-    for (i, key) in keys.iter().enumerate() {
-        if has_id(&keys[..i], key.keyid.as_str()) {
-            return false;
-        }
-    }
-    true
-}
-
-fn has_id(keys: &[RootKey], keyid: &str) -> bool
-    ensures { result ≡ list_any (λ key. bytes_eq keyid.now key.keyid) keys.now }
-{
-    keys.iter().any(|key| keyid == key.keyid.as_str())
 }
 
 /// Whether a role of the file has each of these keys.

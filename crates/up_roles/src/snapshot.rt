@@ -9,7 +9,6 @@ ghost use Rattle.up_canon.specs.declared.refusal.Refusal.TheVariants.{TooLarge};
 ghost use Rattle.up_roles.specs.Payload.{largest_file, IsCanonical};
 ghost use Rattle.up_roles.specs.Snapshot.{snapshot_meta, snapshot_payload, snapshot_text_of, snapshot_fits, snapshot_is_typed, snapshot_in, snapshot_of, snapshot_entry_in};
 
-use crate::copies::copy_name;
 use crate::file::{RoleFile, read_file};
 use crate::parts::{object_part, positive_part};
 use crate::payload::{Head, head_at, payload_value, vehicle_at};
@@ -43,7 +42,7 @@ impl Duplicate for SnapshotFile {
             repository: self.repository,
             version: self.version,
             expires: self.expires,
-            vehicle: copy_name(&self.vehicle, alloc)?,
+            vehicle: self.vehicle.copy(alloc)?,
             targets_version: self.targets_version,
         })
     }

@@ -2,16 +2,14 @@
 ghost use Rattle.std.specs.Prelude.{◌≡◌, ◌<◌, ◌++◌, Err, codes, length, not, option_to_list, List, IfOk};
 ghost use Rattle.serde_json.specs.View.{view};
 ghost use Rattle.up_canon.specs.Members.{object_of_map, values_of};
-ghost use Rattle.up_canon.specs.Names.{Name};
+ghost use Rattle.up_canon.specs.Names.{Name, are_distinct as are_distinct_names};
 ghost use Rattle.up_canon.specs.Readers.{ident_of as name_of};
 ghost use Rattle.up_canon.specs.Refusals.{Gives};
 ghost use Rattle.up_canon.specs.Steps.{each};
 ghost use Rattle.up_canon.specs.declared.refusal.Refusal.TheVariants.{TooLarge};
-ghost use Rattle.up_roles.specs.Payload.{largest_file, are_distinct as are_distinct_names};
+ghost use Rattle.up_roles.specs.Payload.{largest_file};
 ghost use Rattle.up_roles.specs.Targets.{targets_in, targets_of, target_list_in, target_of, ecu_of, hardware_of, ecus_of, repeats_ecu, IsSeen};
 
-use crate::copies::copy_name;
-use crate::distinct::are_distinct;
 use crate::file::{RoleFile, read_file};
 use crate::parts::{count_part, few_part, file_name_part, ident_part, sha256_part};
 use crate::payload::{head_at, vehicle_at};
@@ -26,6 +24,7 @@ use up_canon::ident::Ident;
 use up_canon::kinds::object_of;
 use up_canon::listed::{Duplicate, Listed};
 use up_canon::moment::Moment;
+use up_canon::named::are_distinct;
 use up_canon::readers::ident_of;
 use up_canon::refusal::Refusal;
 use up_sign::envelope::Envelope;
@@ -45,7 +44,7 @@ pub struct Target {
 impl Duplicate for Target {
     fn copy(&self, alloc: Global) -> Result<Target, AllocError> {
         Ok(Target {
-            ecu: copy_name(&self.ecu, alloc)?,
+            ecu: self.ecu.copy(alloc)?,
             file: self.file.copy(alloc)?,
             length: self.length,
             sha256: self.sha256,
@@ -71,7 +70,7 @@ impl Duplicate for TargetsFile {
             repository: self.repository,
             version: self.version,
             expires: self.expires,
-            vehicle: copy_name(&self.vehicle, alloc)?,
+            vehicle: self.vehicle.copy(alloc)?,
             targets: self.targets.copy(alloc)?,
         })
     }
@@ -130,6 +129,7 @@ fn target_list_at(
     Ok(targets)
 }
 
+/// Each target, in order. Memory is taken as they are read: a list of any length may stand there, which is no target.
 #[tactic(auto, unfolding(up_canon::specs::Steps::each, up_canon::specs::Steps::and_then))]
 fn each_target(
     alloc: Global,
@@ -138,7 +138,7 @@ fn each_target(
 ) -> Result<Listed<Target>, Refusal>
     ensures { Gives result (each (target_of repository) (values_of values.now)) }
 {
-    let mut targets = Vec::with_capacity(alloc, values.len())?;
+    let mut targets = Vec::new(alloc);
     for value in values {
         targets.push(target_at(alloc, repository, value)?)?;
     }
@@ -180,7 +180,7 @@ fn ecu_at(
     }
 }
 
-#[tactic(auto, unfolding(crate::specs::Targets::hardware_of, up_canon::specs::Steps::and_then))]
+#[tactic(auto, using(up_canon::proofs::Repeated::names_themselves), unfolding(crate::specs::Targets::hardware_of, up_canon::specs::Steps::and_then))]
 fn hardware_at(alloc: Global, map: &Map<String, Value>) -> Result<Listed<Ident>, Refusal>
     ensures { Gives result (hardware_of (object_of_map map.now.entries)) }
 {

@@ -9,7 +9,6 @@ ghost use Rattle.up_canon.specs.declared.refusal.Refusal.TheVariants.{TooLarge};
 ghost use Rattle.up_roles.specs.Payload.{largest_file, IsCanonical};
 ghost use Rattle.up_roles.specs.Timestamp.{meta_of, timestamp_payload, timestamp_text_of, timestamp_fits, timestamp_is_typed, timestamp_in, timestamp_of, timestamp_entry_in};
 
-use crate::copies::copy_name;
 use crate::file::{RoleFile, read_file};
 use crate::parts::{object_part, positive_part, sha256_part};
 use crate::payload::{Head, head_at, payload_value, vehicle_at};
@@ -45,7 +44,7 @@ impl Duplicate for TimestampFile {
             repository: self.repository,
             version: self.version,
             expires: self.expires,
-            vehicle: copy_name(&self.vehicle, alloc)?,
+            vehicle: self.vehicle.copy(alloc)?,
             snapshot_version: self.snapshot_version,
             snapshot_sha256: self.snapshot_sha256,
         })

@@ -12,7 +12,7 @@ ghost use Rattle.up_roles.specs.Payload.{is_hash, is_moment, is_named, hashes_va
 use serde_json::{Map, Value, json, put};
 use std::alloc::{AllocError, Global};
 use up_canon::ident::Ident;
-use up_canon::moment::Moment;
+use up_canon::moment::{LAST_MOMENT, Moment};
 
 /// A name as a text.
 pub(crate) fn name_value(alloc: Global, name: &Ident) -> Result<Value, AllocError>
@@ -56,7 +56,7 @@ pub(crate) fn moment_value(alloc: Global, moment: Moment) -> Result<Value, Alloc
     ensures typed { is_moment moment ≡ true }
 {
     let second = moment.get();
-    prove!(second <= 253402300799);
+    prove!(second <= LAST_MOMENT);
     Ok(Value::String(moment.text(alloc)?))
 }
 

@@ -22,14 +22,14 @@ use up_machine::command::Command;
 use up_sign::scheme::Scheme;
 
 /// What a line asks, and at which moment, in seconds since 1970-01-01T00:00:00Z.
-#[derive(Debug, Drop)]
+#[derive(Drop)]
 pub struct Asked {
     pub at: Count,
     pub what: What,
 }
 
 /// A command, or a view of a vehicle.
-#[derive(Debug, Drop)]
+#[derive(Drop)]
 pub enum What {
     /// A command.
     Call(Command),

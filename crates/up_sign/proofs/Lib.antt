@@ -1,9 +1,7 @@
 pub mod Arrays
-pub mod Written
+pub mod Differences
 pub mod Read
 pub mod Sealed
-pub mod Steps
-pub mod Members
 pub mod Meaning
 pub mod Faults
 pub mod Texts

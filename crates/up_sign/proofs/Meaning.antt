@@ -1,9 +1,10 @@
 -- What is read as an envelope is what the value means.
-use Rattle.std.proofs.Common.{◌≡◌, ℕ, List, [], ◌∷◌, true, Ok, length, refl, ap, ◌∙◌, subst, sym, arith}
+use Rattle.std.proofs.Common.{◌≡◌, ℕ, List, [], ◌∷◌, true, Some, Ok, length, refl, ap, ◌∙◌, subst, sym, arith}
 use Rattle.std.specs.Prelude.{codes}
 use Rattle.std.specs.List.{list_all}
-use Rattle.serde_json.specs.Data.{Data, object, Items, no_items, item, Members}
-use Rattle.up_canon.specs.Members.{items_list}
+use Rattle.serde_json.specs.Data.{Data, null, boolean, number, string, array, object, Items, no_items, item, Members}
+use Rattle.serde_json.specs.Find as json
+use Rattle.up_canon.specs.Members.{items_list, object_in}
 use Rattle.up_canon.specs.Steps.{or_error, each}
 use Rattle.up_canon.specs.declared.refusal.Refusal.TheVariants.{NotCanonical}
 use Rattle.up_canon.specs.Refusals.{canonical_text}
@@ -11,9 +12,10 @@ use Rattle.up_sign.specs.Formats.{is_object}
 use Rattle.up_sign.specs.declared.envelope.Signature.{Signature}
 use Rattle.up_sign.specs.declared.envelope.Envelope.{Envelope}
 use Rattle.up_sign.specs.Reading.{signature_in, signatures_in, signed_in, Opened, opened_in}
-use Rattle.up_sign.specs.Meaning.{EachMeans, MeansSignature, MeansEnvelope}
-use Rattle.up_sign.proofs.Steps.{first_ok, bind-ok, same_ok, or_error_ok, each_read, each_there, each_size}
-use Rattle.up_sign.proofs.Members.{object_read, object_there, short_text_read, short_text_there, list_within_read, list_within_there, hex_read, hex_there, self_read, self_there, has_member, fits_read, fits_there}
+use Rattle.up_canon.specs.Meaning.{HasObject, EachMeans}
+use Rattle.up_sign.specs.Meaning.{MeansSignature, MeansEnvelope}
+use Rattle.up_canon.proofs.Steps.{first_ok, bind-ok, same_ok, or_error_ok, each_read, each_there, each_size}
+use Rattle.up_canon.proofs.Members.{object_read, object_there, short_text_read, short_text_there, list_within_read, list_within_there, hex_read, hex_there, self_read, self_there, has_member, fits_read, fits_there}
 
 signature_read : (place : List ℕ) (d : Data) (s : Signature) → signature_in place d ≡ Ok s → MeansSignature d s
 unfolding signature_in
@@ -41,6 +43,18 @@ signatures_are_objects no_items (s ∷ ss) h = absurd h
 signatures_are_objects (item d ds) [] h = absurd h
 signatures_are_objects (item d ds) (s ∷ ss) h = rw (is_object_there d (has_member (codes "keyid") d _ h.0.keyid)) (signatures_are_objects ds ss h.1)
 
+signed_object : (name : List ℕ) (d o : Data) → object_in name d ≡ Ok o → (json.get name d ≡ Some o) × (is_object o ≡ true)
+signed_object name d o h = let has = object_read name d o h in (has.1 ∙ ap Some (sym has.2), is_object_there o (has.0, has.2))
+
+-- a member that is an object is the object of its members
+itself : (name : List ℕ) (d o : Data) → json.get name d ≡ Some o → is_object o ≡ true → HasObject d name o
+itself name d null has is = cc
+itself name d (boolean b) has is = cc
+itself name d (number n) has is = cc
+itself name d (string s) has is = cc
+itself name d (array ds) has is = cc
+itself name d (object ms) has is = (ms, has, refl)
+
 pub opened_read : (place : List ℕ) (d : Data) (o : Opened) → opened_in place d ≡ Ok o → MeansEnvelope d o.payload o.envelope
 unfolding opened_in signatures_in signed_in canonical_text
 opened_read place d o h =
@@ -59,8 +73,8 @@ opened_read place d o h =
       signatures = each_signature;
       some = omega arith;
       few = omega arith;
-      has_signed = (object_read (codes "signed") members payload f).0;
-      signed = (or_error_ok _ _ text g, (object_read (codes "signed") members payload f).1);
+      has_signed = (signed_object (codes "signed") members payload f).0;
+      signed = (or_error_ok _ _ text g, (signed_object (codes "signed") members payload f).1);
     } in
     subst (λ v. MeansEnvelope v o.payload o.envelope) (sym (self_read place d members x))
     (subst (λ o. MeansEnvelope members o.payload o.envelope) (same_ok _ _ h)
@@ -78,5 +92,5 @@ opened_there place d payload e h =
     ∙ bind-ok _ (each (signature_in (codes "signatures"))) (items_list h.listed) (fits_there (list_all is_object) (codes "signatures") (items_list h.listed) (signatures_are_objects h.listed e.signatures h.signatures))
     ∙ each_there (signature_in (codes "signatures")) MeansSignature (signature_there (codes "signatures")) h.listed e.signatures h.signatures)
     ∙ bind-ok _ _ (record { text = e.signed; payload = payload }) (
-    bind-ok _ _ _ (object_there (codes "signed") d payload h.has_signed h.signed.1)
+    bind-ok _ _ _ (object_there (codes "signed") d payload (itself (codes "signed") d payload h.has_signed h.signed.1))
     ∙ bind-ok _ _ _ (ap (or_error NotCanonical) h.signed.0))

@@ -1,13 +1,13 @@
 -- A sealed envelope is within the limits of the format.
-use Rattle.std.proofs.Common.{◌≡◌, ℕ, zero, suc, ◌/◌, ◌%◌, ◌<◌, ◌≤◌, List, [], ◌∷◌, true, length, map, Bool, refl, ap, ap₂, ◌∙◌, inl, inr, arith}
-use Rattle.std.specs.Prelude.{◌&&◌, IsTrue, slice_index, codes}
+use Rattle.std.proofs.Common.{◌≡◌, ℕ, ◌≤◌, List, [], ◌∷◌, true, length, map, refl, ap, ap₂, ◌∙◌, arith}
+use Rattle.std.specs.Prelude.{◌&&◌, IsTrue, codes}
 use Rattle.std.specs.List.{list_all}
-use Rattle.std.proofs.lemmas.Bool.{and_parts, cases_lt}
+use Rattle.std.proofs.lemmas.Bool.{and_parts}
 use Rattle.std.proofs.lemmas.List.{length-map}
 use Rattle.std.proofs.lemmas.Bool.Decides.{nat_tests}
-use Rattle.hex.specs.Hex.{encode_with, encode_lower, lower_digits}
+use Rattle.hex.specs.Hex.{lower_digits}
 use Rattle.hex.proofs.HexLemmas.{length-encode_with}
-use Rattle.up_canon.specs.Canon.{is_printable}
+use Rattle.up_canon.proofs.Printable.{both, printable-hex}
 use Rattle.up_canon.specs.Names.{is_from_to, is_short_text}
 use Rattle.up_sign.specs.Envelopes.{signature_of, sealed}
 use Rattle.up_sign.specs.Formats.{signature_fits, envelope_fits, has_bytes}
@@ -15,46 +15,11 @@ use Rattle.up_sign.specs.Hmac.{hmac, key_id}
 use Rattle.up_sign.specs.HmacLaws.{length-hmac, are_bytes-hmac}
 use Rattle.up_sign.specs.Schemes.{Rules, is_byte, IsScheme}
 
-both : (a b : Bool) → a ≡ true → b ≡ true → (a && b) ≡ true
-both a b h h' = ap₂ (λ x y. x && y) h h'
-
--- ---- hexadecimal digits are printable
-
-abbrev prints : ℕ → Bool
-prints d = is_printable (slice_index lower_digits d)
-
-abbrev all_print : ℕ → Bool
-all_print zero = true
-all_print (suc n) = prints n && all_print n
-
-prints-below : (n k : ℕ) → all_print n ≡ true → k < n → prints k ≡ true
-prints-below zero k h lt = absurd (omega arith)
-prints-below (suc n) k h lt =
-    let parts = and_parts (prints n) (all_print n) h in
-    elim (cases_lt k n) [
-      | inl below ↦ prints-below n k parts.1 below
-      | inr top ↦
-          let e : k ≡ n = omega arith in
-          rw e parts.0
-    ]
-
-pub are_printable-hex : (xs : List ℕ) → list_all is_byte xs ≡ true → list_all is_printable (encode_lower xs) ≡ true
-unfolding encode_with
-are_printable-hex [] h = refl
-are_printable-hex (b ∷ xs) h =
-    let parts = and_parts (is_byte b) (list_all is_byte xs) h in
-    let small : b < 256 = grind (arith, nat_tests) in
-    let high = prints-below 16 (b / 16) refl (omega arith) in
-    let low = prints-below 16 (b % 16) refl (omega arith) in
-    ap₂ (λ x y. x && y) high (ap₂ (λ x y. x && y) low (are_printable-hex xs parts.1))
-
--- ---- the limits
-
 key_id-fits : (p : List ℕ) → is_short_text 1 128 (key_id p) ≡ true
 key_id-fits p =
     let bytes = hmac p (codes "uptane-key-id") in
     let size : length (key_id p) ≡ 64 = omega (arith, length-encode_with lower_digits bytes, length-hmac p (codes "uptane-key-id")) in
-    both (is_from_to 1 128 (length (key_id p))) _ (ap (is_from_to 1 128) size) (are_printable-hex bytes (are_bytes-hmac p (codes "uptane-key-id")))
+    both (is_from_to 1 128 (length (key_id p))) _ (ap (is_from_to 1 128) size) (printable-hex bytes (are_bytes-hmac p (codes "uptane-key-id")))
 
 from_to : (n : ℕ) → 1 ≤ n → n ≤ 512 → is_from_to 1 512 n ≡ true
 from_to n low high = grind (arith, nat_tests)

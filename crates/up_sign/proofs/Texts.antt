@@ -10,16 +10,18 @@ use Rattle.serde_json.specs.Data.{Data, depth, items_depth}
 use Rattle.serde_json.specs.View.{items_of}
 use Rattle.serde_json.specs.Read.{read, max_depth}
 use Rattle.up_canon.specs.Build.{list_with}
-use Rattle.up_canon.specs.Canon.{is_printable, is_printable_text, is_plain, items_are_plain, has_canon, text, PlainIsRead}
+use Rattle.up_canon.specs.Canon.{is_printable_text, is_plain, items_are_plain, has_canon, text, PlainIsRead}
+use Rattle.up_canon.specs.Meaning.{EachMeans}
+use Rattle.up_canon.proofs.Members.{within}
+use Rattle.up_canon.proofs.Printable.{printable-hex}
 use Rattle.up_canon.specs.Names.{is_from_to, is_short_text}
 use Rattle.up_sign.specs.Formats.{signature_fits, signature_value, envelope_text, envelope_fits, has_bytes, IsSigned}
 use Rattle.up_sign.specs.Laws.{envelope_value, TextsAreRead}
-use Rattle.up_sign.specs.Meaning.{EachMeans, MeansSignature, MeansEnvelope}
+use Rattle.up_sign.specs.Meaning.{MeansSignature, MeansEnvelope}
 use Rattle.up_sign.specs.Schemes.{is_byte}
 use Rattle.up_sign.specs.declared.envelope.Signature.{Signature}
 use Rattle.up_sign.specs.declared.envelope.Envelope.{Envelope}
 use Rattle.up_sign.proofs.Meaning.{opened_there}
-use Rattle.up_sign.proofs.Sealed.{are_printable-hex}
 
 -- ---- its value means it
 
@@ -27,9 +29,6 @@ are_bytes : (xs : List ℕ) → list_all is_byte xs ≡ true → IsBytes xs
 are_bytes [] h i = omega arith
 are_bytes (x ∷ xs) h zero = let first = (and_parts (is_byte x) (list_all is_byte xs) h).0 in grind (arith, nat_tests)
 are_bytes (x ∷ xs) h (suc i) = are_bytes xs (and_parts (is_byte x) (list_all is_byte xs) h).1 i
-
-within : (least most n : ℕ) → is_from_to least most n ≡ true → (least ≤ n) × (n ≤ most)
-within least most n h = let p = and_parts (nat_le least n) _ h in let low = p.0 in let high = p.1 in (grind (arith, nat_tests), grind (arith, nat_tests))
 
 signature_means : (s : Signature) → signature_fits s ≡ true → list_all is_byte s.sig ≡ true → MeansSignature (signature_value s) s
 unfolding signature_value
@@ -71,19 +70,15 @@ value_means e payload fits bytes signed =
 
 -- ---- its text is read as its value
 
-printable_text : (s : List ℕ) → list_all is_printable s ≡ true → is_printable_text s ≡ true
-printable_text [] h = refl
-printable_text (x ∷ s) h = let p = and_parts (is_printable x) _ h in ap₂ (λ a b. a && b) p.0 (printable_text s p.1)
-
 short_is_printable : (least most : ℕ) (s : List ℕ) → is_short_text least most s ≡ true → is_printable_text s ≡ true
-short_is_printable least most s h = printable_text s (and_parts (is_from_to least most (length s)) _ h).1
+short_is_printable least most s h = (and_parts (is_from_to least most (length s)) _ h).1
 
 signature_is_plain : (s : Signature) → signature_fits s ≡ true → list_all is_byte s.sig ≡ true → is_plain (signature_value s) ≡ true
 unfolding signature_value
 signature_is_plain s fits bytes =
     let p = and_parts (is_short_text 1 128 s.keyid) _ fits in
     let q = and_parts (is_short_text 1 64 s.method) _ p.1 in
-    rw (short_is_printable 1 128 s.keyid p.0, short_is_printable 1 64 s.method q.0, printable_text (encode_lower s.sig) (are_printable-hex s.sig bytes)) refl
+    rw (short_is_printable 1 128 s.keyid p.0, short_is_printable 1 64 s.method q.0, printable-hex s.sig bytes) refl
 
 signatures_are_plain : (ss : List Signature) → list_all signature_fits ss ≡ true → list_all (λ s. list_all is_byte s.sig) ss ≡ true → items_are_plain (items_of (map signature_value ss)) ≡ true
 signatures_are_plain [] fits bytes = refl

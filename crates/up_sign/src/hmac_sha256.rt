@@ -1,5 +1,5 @@
 //! HMAC over SHA-256 (RFC 2104, FIPS 180-4), and the scheme of that name.
-ghost use Rattle.std.specs.Prelude.{◌≡◌, ℕ, length, map, bit_xor};
+ghost use Rattle.std.specs.Prelude.{◌≡◌, ℕ, length, map, bit_xor, bytes_eq};
 ghost use Rattle.up_sign.specs.Hmac.{hmac as hmac_of, block_key, inner_pad, outer_pad, key_id as key_id_of, hmac_sha256};
 
 use crate::scheme::Scheme;
@@ -35,8 +35,9 @@ impl Scheme for HmacSha256 {
         hmac(secret, message).to_vec(alloc)
     }
 
+    /// Whether the signature is the tag. The time that this takes doesn't depend on where they differ.
     fn verify(&self, public: &[u8], message: &[u8], signature: &[u8]) -> bool {
-        signature == &hmac(public, message)[..]
+        are_equal(signature, &hmac(public, message)[..])
     }
 
     fn shown(&self, alloc: Global, _public: &[u8]) -> Result<String, AllocError> {
@@ -59,6 +60,21 @@ pub fn hmac(key: &[u8], message: &[u8]) -> [u8; 32]
     outer.update(&masked(&block, 0x5c)[..]);
     outer.update(&inner.finalize()[..]);
     outer.finalize()
+}
+
+/// Whether the two are the same bytes. Where they are of one length, each byte is looked at, whatever the others are, so
+/// that the time says nothing of the place where a forged tag first goes wrong.
+fn are_equal(one: &[u8], other: &[u8]) -> bool
+    ensures { result ≡ bytes_eq one.now other.now }
+{
+    if one.len() != other.len() {
+        return false;
+    }
+    let mut difference = 0;
+    for (i, byte) in one.iter().enumerate() {
+        difference |= *byte ^ other[i];
+    }
+    difference == 0
 }
 
 fn block_of(key: &[u8]) -> [u8; 64]

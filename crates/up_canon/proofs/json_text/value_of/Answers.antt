@@ -1,6 +1,4 @@
-use Rattle.std.proofs.Common.{◌≡◌, ap, inl, inr}
-use Rattle.std.specs.Prelude.{◌⊎◌}
-use Rattle.up_canon.specs.Refusals.{is_memory}
+use Rattle.std.proofs.Common.{ap, inl, inr}
 use Rattle.up_canon.specs.Steps.{or_error}
 use Rattle.up_canon.specs.declared.refusal.Refusal.TheVariants.{NotJson}
 use Rattle.up_canon.proofs.JsonTexts.{value_in-some, value_in-none}

@@ -2,7 +2,7 @@ use Rattle.std.proofs.Common.{sym, ◌∙◌}
 use Rattle.up_machine.specs.Inventory.{with_campaign, decide_new_campaign}
 use Rattle.up_machine.proofs.OpenedCampaigns.{checked_rows}
 use Rattle.up_machine.proofs.Passing.{surely, decision_refused}
-use Rattle.up_machine.proofs.Steps.{bind-ok, bind-err}
+use Rattle.up_canon.proofs.Steps.{bind-ok, bind-err}
 use Rattle.up_machine.proofs.decide_campaign.decide_new.Goals as goal
 
 pub returns-in_err-check_new : goal.returns-in_err-check_new

@@ -3,7 +3,7 @@ use Rattle.std.specs.Prelude.{IsTrue, IfSome, option_map, insert}
 use Rattle.std.specs.FinMap as table
 use Rattle.up_canon.specs.Canon.{max_count}
 use Rattle.up_machine.specs.Registers.{place_among}
-use Rattle.up_roles.specs.Payload.{are_distinct}
+use Rattle.up_canon.specs.Names.{are_distinct}
 use Rattle.up_roles.specs.Targets.{ecus_of}
 use Rattle.up_machine.specs.RowsFit.{founding_fits}
 use Rattle.up_machine.specs.Files.{target_of}
@@ -37,29 +37,29 @@ returns-else-same_image g c s sound row images =
     let other : same_image c.args.image.now c.in-Some-get.other.now ≡ false = sym c.same_image.ensures ∙ c.if-same_image.false in
     image_taken s c.args.at c.args.image.now c.in-Some-get.other.now c.requires.moment (has_roots s c.in-Some.old there) found other
 
-pub returns-then-len-ge1024 : goal.returns-then-len-ge1024
-returns-then-len-ge1024 g c s sound row images =
+pub returns-then-len-ge-MAX_IMAGES : goal.returns-then-len-ge-MAX_IMAGES
+returns-then-len-ge-MAX_IMAGES g c s sound row images =
     let there = sym c.in-Some.is ∙ row in
     let name : c.text.result.now ≡ c.args.image.now.file = c.text.ensures.value ∙ ap (λ i. i.file) c.image.view_is in
     let none : table.get s.images c.args.image.now.file ≡ None =
     sym (ap (λ t. table.get t c.args.image.now.file) images) ∙ sym (ap (table.get c.args.images.now) name) ∙ sym c.get.ensures ∙ ap (option_map (λ v. v.now)) c.in_default-get.is in
     let size : c.len.result ≡ table.len s.images = c.len.ensures ∙ ap (λ t. table.len t) images in
-    let test = c.if-len-ge1024.true in
+    let test = c.if-len-ge-MAX_IMAGES.true in
     let full : 1024 ≤ table.len s.images = omega (arith, size, test) in
     image_full s c.args.at c.args.image.now c.requires.moment (has_roots s c.in-Some.old there) none full
 
-pub returns-then-old-ge9007199254740991 : goal.returns-then-old-ge9007199254740991
-returns-then-old-ge9007199254740991 g c s sound row images =
+pub returns-then-old-ge-MAX_COUNT : goal.returns-then-old-ge-MAX_COUNT
+returns-then-old-ge-MAX_COUNT g c s sound row images =
     let there = sym c.in-Some.is ∙ row in
     let of = founding_of s c.in-Some.old there in
     let name : c.text.result.now ≡ c.args.image.now.file = c.text.ensures.value ∙ ap (λ i. i.file) c.image.view_is in
     let none : table.get s.images c.args.image.now.file ≡ None =
     sym (ap (λ t. table.get t c.args.image.now.file) images) ∙ sym (ap (table.get c.args.images.now) name) ∙ sym c.get.ensures ∙ ap (option_map (λ v. v.now)) c.in_default-get.is in
     let size : c.len.result ≡ table.len s.images = c.len.ensures ∙ ap (λ t. table.len t) images in
-    let test = c.if-len-ge1024.false in
+    let test = c.if-len-ge-MAX_IMAGES.false in
     let room : table.len s.images < 1024 = omega (arith, size, test) in
     let version = ap (λ f. f.image_version) of.is in
-    let test = c.if-old-ge9007199254740991.true in
+    let test = c.if-old-ge-MAX_COUNT.true in
     let limit : max_count ≤ s.image_version = omega (arith, version, test) in
     image_limit s c.args.at c.args.image.now c.requires.moment (has_roots s c.in-Some.old there) none room limit
 
@@ -82,10 +82,10 @@ returns g c s sound row images =
     let none : table.get s.images c.args.image.now.file ≡ None =
     sym (ap (λ t. table.get t c.args.image.now.file) images) ∙ sym (ap (table.get c.args.images.now) name) ∙ sym c.get.ensures ∙ ap (option_map (λ v. v.now)) c.in_default-get.is in
     let size : c.len.result ≡ table.len s.images = c.len.ensures ∙ ap (λ t. table.len t) images in
-    let test = c.if-len-ge1024.false in
+    let test = c.if-len-ge-MAX_IMAGES.false in
     let room : table.len s.images < 1024 = omega (arith, size, test) in
     let version : c.in-Some.old.image_version ≡ s.image_version = ap (λ f. f.image_version) of.is in
-    let test = c.if-old-ge9007199254740991.false in
+    let test = c.if-old-ge-MAX_COUNT.false in
     let below : s.image_version < max_count = omega (arith, version, test) in
     let values : c.values.result.now ≡ table.values s.images = c.values.ensures ∙ ap (λ t. table.values t) images in
     let placed : insert c.values.result.now (place_among c.args.image.now.file c.values.result.now) c.args.image.now ≡ table.values (table.insert s.images c.args.image.now.file c.args.image.now) =

@@ -1,7 +1,7 @@
 use Rattle.std.proofs.Common.{◌<◌, ◌≤◌, map, None, sym, ap, ◌∙◌, subst, refl, arith}
 use Rattle.std.specs.Prelude.{IsTrue, IfSome}
 use Rattle.std.specs.FinMap as table
-use Rattle.up_roles.specs.Payload.{are_distinct}
+use Rattle.up_canon.specs.Names.{are_distinct}
 use Rattle.up_roles.specs.Targets.{ecus_of}
 use Rattle.up_machine.specs.RowsFit.{founding_fits}
 use Rattle.up_machine.specs.Files.{target_of}

@@ -18,24 +18,24 @@ pub returns-in_default : goal.returns-in_default
 returns-in_default g c s sound row images =
     rotate_unfounded (g.K.Scheme.rules c.args.scheme.now) s c.args.at c.args.keys.now c.requires.moment c.in_ok-check_keys.ensures (unfounded s (sym c.in_default.is ∙ row))
 
-pub returns-then-old-ge64 : goal.returns-then-old-ge64
-returns-then-old-ge64 g c s sound row images =
+pub returns-then-old-ge-MAX_ROOTS : goal.returns-then-old-ge-MAX_ROOTS
+returns-then-old-ge-MAX_ROOTS g c s sound row images =
     let there = sym c.in-Some.is ∙ row in
     let of = founding_of s c.in-Some.old there in
     let number : c.in-Some.old.root ≡ length s.roots = ap (λ f. f.root) of.is in
-    let test = c.if-old-ge64.true in
+    let test = c.if-old-ge-MAX_ROOTS.true in
     let full : 64 ≤ length s.roots = omega (arith, number, test) in
     rotate_full (g.K.Scheme.rules c.args.scheme.now) s c.args.at c.args.keys.now c.requires.moment c.in_ok-check_keys.ensures (has_roots s c.in-Some.old there) full
 
-pub returns-then-old-ge9007199254740991 : goal.returns-then-old-ge9007199254740991
-returns-then-old-ge9007199254740991 g c s sound row images =
+pub returns-then-old-ge-MAX_COUNT : goal.returns-then-old-ge-MAX_COUNT
+returns-then-old-ge-MAX_COUNT g c s sound row images =
     let there = sym c.in-Some.is ∙ row in
     let of = founding_of s c.in-Some.old there in
     let number : c.in-Some.old.root ≡ length s.roots = ap (λ f. f.root) of.is in
-    let test = c.if-old-ge64.false in
+    let test = c.if-old-ge-MAX_ROOTS.false in
     let room : length s.roots < 64 = omega (arith, number, test) in
     let version : c.in-Some.old.image_version ≡ s.image_version = ap (λ f. f.image_version) of.is in
-    let test = c.if-old-ge9007199254740991.true in
+    let test = c.if-old-ge-MAX_COUNT.true in
     let limit : max_count ≤ s.image_version = omega (arith, version, test) in
     rotate_limit (g.K.Scheme.rules c.args.scheme.now) s c.args.at c.args.keys.now c.requires.moment c.in_ok-check_keys.ensures (has_roots s c.in-Some.old there) room limit
 
@@ -50,10 +50,10 @@ returns g c s sound row images =
     let there = sym c.in-Some.is ∙ row in
     let of = founding_of s c.in-Some.old there in
     let number : c.in-Some.old.root ≡ length s.roots = ap (λ f. f.root) of.is in
-    let test = c.if-old-ge64.false in
+    let test = c.if-old-ge-MAX_ROOTS.false in
     let room : length s.roots < 64 = omega (arith, number, test) in
     let version : c.in-Some.old.image_version ≡ s.image_version = ap (λ f. f.image_version) of.is in
-    let test = c.if-old-ge9007199254740991.false in
+    let test = c.if-old-ge-MAX_COUNT.false in
     let below : s.image_version < max_count = omega (arith, version, test) in
     let next : c.in-Some.old.root + 1 ≡ 1 + length s.roots = omega (arith, number) in
     let rows = c.in_ok-root_rows.ensures (root_before s at keys) (old_before s at keys c.in-Some.old there) in

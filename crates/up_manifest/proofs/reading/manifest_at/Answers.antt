@@ -1,7 +1,7 @@
 use Rattle.std.proofs.Common.{subst, sym, ◌∙◌}
 use Rattle.up_canon.specs.Refusals.{Gives}
 use Rattle.up_manifest.specs.Manifests.{manifest_in}
-use Rattle.up_manifest.proofs.Steps.{bind-ok, gives_err}
+use Rattle.up_canon.proofs.Steps.{bind-ok, gives_err}
 use Rattle.up_manifest.proofs.reading.manifest_at.Goals as goal
 
 pub returns-in_err-vehicle : goal.returns-in_err-vehicle

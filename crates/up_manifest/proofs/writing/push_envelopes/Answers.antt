@@ -1,7 +1,7 @@
 use Rattle.std.proofs.Common.{arith}
 use Rattle.std.proofs.lemmas.Grind.{common_steps}
 use Rattle.up_sign.specs.Formats.{envelope_text}
-use Rattle.up_manifest.proofs.Joined.{separator_more, joined_more}
+use Rattle.up_canon.proofs.Joined.{separator_more, joined_more}
 use Rattle.up_manifest.proofs.writing.push_envelopes.Goals as goal
 
 pub loop-envelope-preserved : goal.loop-envelope-preserved

@@ -1,7 +1,7 @@
 use Rattle.std.proofs.Common.{◌≡◌, ◌∷◌, ◌++◌, take, map}
 use Rattle.std.specs.List.{join_with_byte}
 use Rattle.up_sign.specs.Formats.{envelope_text}
-use Rattle.up_manifest.proofs.Joined.{separator_after}
+use Rattle.up_canon.proofs.Joined.{separator_after}
 use Rattle.up_manifest.proofs.writing.push_envelopes.Given as goal
 
 -- a bracket and the envelopes so far stand behind what stood there

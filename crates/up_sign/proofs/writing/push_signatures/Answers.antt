@@ -2,7 +2,7 @@ use Rattle.std.proofs.Common.{arith}
 use Rattle.std.proofs.lemmas.Grind.{common_steps}
 use Rattle.up_canon.specs.Canon.{text}
 use Rattle.up_sign.specs.Formats.{signature_value}
-use Rattle.up_sign.proofs.Written.{separator_more, joined_more, listed_text}
+use Rattle.up_canon.proofs.Joined.{separator_more, joined_more, listed_text}
 use Rattle.up_sign.proofs.writing.push_signatures.Goals as goal
 
 pub loop-signature-preserved : goal.loop-signature-preserved

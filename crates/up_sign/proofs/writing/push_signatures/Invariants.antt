@@ -2,7 +2,7 @@ use Rattle.std.proofs.Common.{◌≡◌, ◌∷◌, ◌++◌, take, map}
 use Rattle.std.specs.List.{join_with_byte}
 use Rattle.up_canon.specs.Canon.{text}
 use Rattle.up_sign.specs.Formats.{signature_value}
-use Rattle.up_sign.proofs.Written.{separator_after}
+use Rattle.up_canon.proofs.Joined.{separator_after}
 use Rattle.up_sign.proofs.writing.push_signatures.Given as goal
 
 -- a bracket and the signatures so far stand behind what stood there

@@ -1,7 +1,14 @@
-use Rattle.std.proofs.Common.{◌<◌, length, ap, ◌∙◌, arith}
+use Rattle.std.proofs.Common.{◌<◌, length, sym, subst, ap, ◌∙◌, arith}
 use Rattle.std.specs.FinMap as map
+use Rattle.std.specs.List.Sorted.{IsStrictlySortedBy}
+use Rattle.std.specs.Ordering.{nat_cmp}
+use Rattle.std.specs.Cmp.Lexicographic.{slice_cmp}
+use Rattle.up_canon.proofs.Searches.{in_order_rise}
 use Rattle.up_canon.proofs.TableLemmas.{found_fits, found_at, get_placed}
 use Rattle.up_canon.proofs.table.Table.get.Goals as goal
+
+pub place_for-requires : goal.place_for-requires
+place_for-requires g c = subst (IsStrictlySortedBy (slice_cmp nat_cmp)) (sym c.as_slice.ensures.value) (in_order_rise _ c.self.inside.values.items c.self.invariant)
 
 pub index-requires : goal.index-requires
 index-requires g c =

@@ -1,9 +1,16 @@
-use Rattle.std.proofs.Common.{◌≡◌, ◌<◌, ◌≤◌, length, Ok, Err, ap, ap₂, ◌∙◌, arith}
+use Rattle.std.proofs.Common.{◌≡◌, ◌<◌, ◌≤◌, length, Ok, Err, sym, subst, ap, ap₂, ◌∙◌, arith}
 use Rattle.std.specs.FinMap as map
+use Rattle.std.specs.List.Sorted.{IsStrictlySortedBy}
+use Rattle.std.specs.Ordering.{nat_cmp}
+use Rattle.std.specs.Cmp.Lexicographic.{slice_cmp}
 use Rattle.std.specs.Prelude.{insert}
 use Rattle.up_canon.specs.Tables.{place_of}
+use Rattle.up_canon.proofs.Searches.{in_order_rise}
 use Rattle.up_canon.proofs.TableLemmas.{table_of, found_fits, missing_fits, in_order_placed, insert_placed}
 use Rattle.up_canon.proofs.table.Table.insert.Goals as goal
+
+pub place_for-requires : goal.place_for-requires
+place_for-requires g c = subst (IsStrictlySortedBy (slice_cmp nat_cmp)) (sym c.as_slice.ensures.value) (in_order_rise _ c.self.inside.values.items c.self.invariant)
 
 pub index_mut-requires : goal.index_mut-requires
 index_mut-requires g c =

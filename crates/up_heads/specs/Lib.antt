@@ -1,0 +1,10 @@
+pub mod Heads
+pub mod Methods
+pub mod Fields
+pub mod Framing
+pub mod Closing
+pub mod Routes
+pub mod Rows
+pub mod Planned
+pub mod Fronts
+pub mod Responses

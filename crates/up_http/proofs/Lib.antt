@@ -1,0 +1,6 @@
+pub mod HeadLaws
+pub mod TakenBytes
+pub mod FeedLaws
+pub mod StreamLaws
+pub mod ServeLaws
+pub mod InputLaws

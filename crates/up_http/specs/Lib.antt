@@ -1,0 +1,4 @@
+pub mod Requests
+pub mod Feeding
+pub mod Parts
+pub mod Serving

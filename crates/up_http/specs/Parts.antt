@@ -1,0 +1,95 @@
+-- What a feeder keeps.
+use Rattle.std.specs.Prelude.{◌≡◌, ℕ, ◌+◌, ◌<◌, ◌≤◌, Bool, true, false, ◌||◌, ◌==◌, Option, Some, None, Ok, List, [], ◌++◌, length, take}
+use Rattle.std.specs.List.{list_all}
+use Rattle.httparse.specs.Grammar.{RequestHead, HasNoRequest}
+use Rattle.up_heads.specs.Heads.{Heads, NeverHasHead, most_head}
+use Rattle.up_heads.specs.Framing.{framing}
+use Rattle.up_heads.specs.Closing.{closes}
+use Rattle.up_heads.specs.Planned.{planned}
+use Rattle.up_http.specs.Requests.{asked, is_head, most_requests, size_of}
+use Rattle.up_heads.specs.Fronts.{IsFactsOf}
+use Rattle.up_http.specs.Feeding.{Fed}
+use Rattle.up_http.specs.declared.asked.Next.{Next}
+use Rattle.up_heads.specs.declared.heads.Facts.{Facts}
+use Rattle.up_heads.specs.declared.heads.Front.{Front}
+use Rattle.up_heads.specs.declared.heads.Front.TheVariants.{Whole, Cut, Bad}
+use Rattle.up_http.specs.declared.taking.Taken.{Taken}
+use Rattle.up_http.specs.declared.feeder.Plan.{Plan}
+use Rattle.up_http.specs.declared.feeder.Waiting.{Waiting}
+use Rattle.up_http.specs.declared.feeder.Parts.{Parts}
+
+-- CR or LF
+abbrev pub is_newline : ℕ → Bool
+is_newline byte = byte == 13 || byte == 10
+
+-- bytes of a head that isn't whole: whether a byte of the request line is among them
+pub record Begins (bytes : List ℕ) (begun : Bool) : Type 0 where
+  pub none : HasNoRequest bytes
+  pub short : length bytes < most_head
+  pub blank : begun ≡ false → list_all is_newline bytes ≡ true
+
+-- the bytes are a head of which that is said
+abbrev pub IsWhole : List ℕ → Facts → Type 0
+IsWhole bytes facts = (head : RequestHead) × Heads bytes head [] × IsFactsOf bytes head facts
+
+-- how the bytes stand when one more was taken
+abbrev pub Reads : List ℕ → Bool → Front → Type 0
+Reads bytes begun (Whole facts) = IsWhole bytes facts
+Reads bytes begun Cut = HasNoRequest bytes × (begun ≡ false → list_all is_newline bytes ≡ true)
+Reads bytes begun Bad = NeverHasHead bytes
+
+-- how the bytes stand when so many more were taken
+abbrev pub Stands : List ℕ → List ℕ → Taken → Front → Type 0
+Stands bytes piece taken (Whole facts) = IsWhole bytes facts
+Stands bytes piece taken Cut = (taken.bytes ≡ length piece) × Begins bytes taken.begun
+Stands bytes piece taken Bad = NeverHasHead bytes
+
+-- bytes were taken to a head
+pub record Takes (old piece : List ℕ) (taken : Taken) (new : List ℕ) : Type 0 where
+  pub within : taken.bytes ≤ length piece
+  pub added : new ≡ old ++ take taken.bytes piece
+  pub bounded : length new ≤ most_head
+  pub stands : Stands new piece taken taken.front
+
+-- what is kept of a head that states this length of its body
+pub record IsPlanOf (head : RequestHead) (stated : Option ℕ) (plan : Plan) : Type 0 where
+  pub asks_is : plan.asks ≡ planned head stated
+  pub head_is : plan.head ≡ is_head head
+  pub closes_is : plan.closes ≡ closes head
+
+-- a whole head is kept, and a body of the length that it states, as far as it has come
+pub record IsWaiting (bytes : List ℕ) (waiting : Waiting) : Type 0 where
+  pub head : RequestHead
+  pub heads : Heads bytes head []
+  pub stated : Option ℕ
+  pub framing_is : framing head ≡ Ok stated
+  pub size_is : waiting.body.size ≡ size_of stated
+  pub plan_is : IsPlanOf head stated waiting.plan
+
+-- the bytes of a body
+abbrev pub body_of : Option Waiting → List ℕ
+body_of (Some waiting) = waiting.body.bytes
+body_of None = []
+
+-- what is shown of the parts
+abbrev pub fed_of : Parts → Fed
+fed_of parts = record { rest = parts.head.items ++ body_of parts.waiting; given = parts.given; ended = parts.ended }
+
+-- how far the next request has come
+abbrev pub Stage : List ℕ → Bool → Option Waiting → Type 0
+Stage head begun None = Begins head begun
+Stage head begun (Some waiting) = IsWaiting head waiting × (length waiting.body.bytes < waiting.body.size)
+
+-- what holds of the parts
+pub record Keeps (parts : Parts) : Type 0 where
+  pub few : parts.given ≤ most_requests
+  pub more : parts.ended ≡ false → parts.given < most_requests
+  pub stage : parts.ended ≡ false → Stage parts.head.items parts.begun parts.waiting
+
+-- a request whose head is whole is kept while its body isn't whole, and is given once that is
+abbrev pub Settles : List ℕ → Waiting → ℕ → Option Next → Fed → Type 0
+Settles bytes waiting given None new =
+    (length waiting.body.bytes < waiting.body.size) × (new ≡ record { rest = bytes ++ waiting.body.bytes; given = given; ended = false })
+Settles bytes waiting given (Some next) new =
+    (length waiting.body.bytes ≡ waiting.body.size) × (new ≡ record { rest = []; given = given + 1; ended = next.last })
+    × ((head : RequestHead) (stated : Option ℕ) → IsPlanOf head stated waiting.plan → next ≡ asked given head stated waiting.body.bytes)

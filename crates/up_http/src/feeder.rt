@@ -1,0 +1,339 @@
+//! A stream in pieces, and its requests.
+ghost use Rattle.std.specs.Prelude.{◌≡◌, ◌≤◌, ◌<◌, ◌+◌, ◌++◌, [], IfOk, OnErr, IfSome, IfNone, MatchOption, Some, None, false, true, take, drop, length, ℕ, List, Option, IsNone};
+ghost use Rattle.up_http.specs.Feeding.{Fed, Feeds, Gives, Ends};
+ghost use Rattle.up_heads.specs.Framing.{framing};
+ghost use Rattle.up_heads.specs.Fronts.{IsFactsOf};
+ghost use Rattle.up_heads.specs.Heads.{Heads};
+ghost use Rattle.up_http.specs.Parts.{Begins, IsPlanOf, IsWaiting, IsWhole, Keeps, Settles, fed_of};
+ghost use Rattle.up_http.specs.Requests.{asked, ends_with, is_head, most_requests, with_body};
+ghost use Rattle.httparse.specs.Grammar.{RequestHead};
+
+use crate::asked::{Action, Next, Step, What};
+use crate::taking::take_head;
+use std::alloc::{AllocError, Global};
+use std::marker::Model;
+use up_heads::check::Check;
+use up_heads::heads::{Facts, Front};
+use up_heads::planned::{Planned, plan_of};
+use up_manifest::body::Body;
+
+/// The most requests of a stream.
+const MOST_REQUESTS: u32 = 100;
+
+/// What is kept of a whole head.
+#[derive(Drop)]
+pub(crate) struct Plan {
+    /// What is asked, but for the body.
+    pub asks: Planned,
+    /// Whether the method is HEAD.
+    pub head: bool,
+    /// Whether the connection is closed behind the request.
+    pub closes: bool,
+}
+
+/// A request whose body isn't whole.
+#[derive(Drop)]
+pub(crate) struct Waiting {
+    pub plan: Plan,
+    pub body: Body,
+}
+
+/// What a feeder keeps.
+#[derive(Drop)]
+pub(crate) struct Parts {
+    pub alloc: Global,
+    /// The bytes of the head that is coming or is whole.
+    pub head: Vec<u8>,
+    /// Whether a byte of the request line is among them.
+    pub begun: bool,
+    /// Once the head is whole, what it says and its body.
+    pub waiting: Option<Waiting>,
+    /// How many requests were given.
+    pub given: u32,
+    /// Whether the stream has ended.
+    pub ended: bool,
+}
+
+/// A stream that comes in pieces.
+#[derive(Drop)]
+pub struct Feeder {
+    parts: Parts,
+}
+
+impl Model for Feeder {
+    ghost use Rattle.up_http.specs.Feeding.{Fed};
+    ghost use Rattle.up_http.specs.Parts.{Keeps, fed_of};
+
+    ghost Value = { Fed };
+
+    ghost view = { λ a. fed_of a.parts };
+
+    ghost invariant = { λ a. Keeps a.parts };
+}
+
+impl Feeder {
+    /// A stream of which nothing has come.
+    pub fn new(alloc: Global) -> Feeder
+        ensures { result ≡ record { rest = []; given = 0; ended = false } }
+    {
+        Feeder {
+            parts: Parts {
+                alloc,
+                head: Vec::new(alloc),
+                begun: false,
+                waiting: None,
+                given: 0,
+                ended: false,
+            },
+        }
+    }
+
+    /// Takes a piece, up to the end of the next request.
+    pub fn feed(&mut self, piece: &[u8]) -> Result<Step, AllocError>
+        ensures ok { IfOk result (λ step. Feeds self.old piece.now step.taken step.next self.new) }
+        ensures err { OnErr result (self.new ≡ self.old) }
+    {
+        feed_parts(&mut self.parts, piece)
+    }
+
+    /// Ends the stream: a rest that isn't empty is one bad request more.
+    pub fn end(&mut self) -> Option<Next>
+        ensures { Ends self.old result self.new }
+    {
+        end_parts(&mut self.parts)
+    }
+}
+
+/// What the stream gives at its end.
+fn end_parts(parts: &mut Parts) -> Option<Next>
+    requires { Keeps parts.old }
+    ensures kept { Keeps parts.new }
+    ensures ends { Ends (fed_of parts.old) result (fed_of parts.new) }
+{
+    if parts.ended {
+        return None;
+    }
+    if let Some(waiting) = parts.waiting.take() {
+        let head = waiting.plan.head;
+        return Some(give(parts, fixed(Check::BadRequest, head)));
+    }
+    if parts.head.is_empty() {
+        parts.ended = true;
+        return None;
+    }
+    Some(give(parts, fixed(Check::BadRequest, false)))
+}
+
+/// What the stream gives with the next piece.
+fn feed_parts(parts: &mut Parts, piece: &[u8]) -> Result<Step, AllocError>
+    requires { Keeps parts.old }
+    ensures kept { Keeps parts.new }
+    ensures ok { IfOk result (λ step. Feeds (fed_of parts.old) piece.now step.taken step.next (fed_of parts.new)) }
+    ensures err { OnErr result (fed_of parts.new ≡ fed_of parts.old) }
+{
+    if parts.ended {
+        return Ok(Step {
+            taken: 0,
+            next: None,
+        });
+    }
+    match parts.waiting.take() {
+        Some(waiting) => feed_body(parts, waiting, piece),
+        None => feed_head(parts, piece),
+    }
+}
+
+/// Takes a piece to the body of a whole head.
+fn feed_body(parts: &mut Parts, waiting: Waiting, piece: &[u8]) -> Result<Step, AllocError>
+    requires none { parts.old.waiting ≡ None }
+    requires open { parts.old.ended ≡ false }
+    requires few { parts.old.given < most_requests }
+    requires waits { IsWaiting parts.old.head.items waiting }
+    requires bounded { length waiting.body.bytes ≤ waiting.body.size }
+    ensures ok { IfOk result (λ step. Keeps parts.new × Gives (record { rest = parts.old.head.items ++ waiting.body.bytes; given = parts.old.given; ended = false })
+        piece.now step.taken step.next (fed_of parts.new)) }
+    ensures err { OnErr result (parts.new ≡ record parts.old { waiting = Some waiting }) }
+{
+    let mut waiting = waiting;
+    match waiting.body.feed(piece) {
+        Ok(taken) => Ok(Step {
+            taken,
+            next: settle(parts, waiting),
+        }),
+        Err(e) => {
+            parts.waiting = Some(waiting);
+            Err(e)
+        }
+    }
+}
+
+/// The request, if its body is whole; else it is kept.
+fn settle(parts: &mut Parts, waiting: Waiting) -> Option<Next>
+    requires none { parts.old.waiting ≡ None }
+    requires open { parts.old.ended ≡ false }
+    requires few { parts.old.given < most_requests }
+    requires waits { IsWaiting parts.old.head.items waiting }
+    requires bounded { length waiting.body.bytes ≤ waiting.body.size }
+    ensures kept { Keeps parts.new }
+    ensures settled { Settles parts.old.head.items waiting parts.old.given result (fed_of parts.new) }
+{
+    if waiting.body.missing() > 0 {
+        parts.waiting = Some(waiting);
+        return None;
+    }
+    let next = next_of(parts.given, waiting);
+    Some(give(parts, next))
+}
+
+/// What a whole request asks.
+fn next_of(given: u32, waiting: Waiting) -> Next
+    requires { given < most_requests }
+    ensures { (head : RequestHead) (stated : Option ℕ) → IsPlanOf head stated waiting.plan → result ≡ asked given head stated waiting.body.bytes }
+{
+    let Waiting { plan, body } = waiting;
+    let last = plan.closes || ends_stream(&plan.asks) || given + 1 >= MOST_REQUESTS;
+    Next {
+        what: joined(plan.asks, body),
+        head: plan.head,
+        last,
+    }
+}
+
+/// Whether the stream ends with what is asked, since nobody knows where its body ends.
+fn ends_stream(asks: &Planned) -> bool
+    ensures { result ≡ ends_with asks.now }
+{
+    matches!(asks, Planned::Fixed(Check::LengthRequired))
+}
+
+/// What is asked, with its body.
+fn joined(asks: Planned, body: Body) -> What
+    ensures { result ≡ with_body asks body.bytes }
+{
+    match asks {
+        Planned::Fixed(check) => What::Fixed(check),
+        Planned::Deliver => What::Call(Action::Deliver(body.into_bytes())),
+        Planned::FetchDirector(file) => What::Call(Action::FetchDirector(file)),
+        Planned::FetchImage(file) => What::Call(Action::FetchImage(file)),
+    }
+}
+
+/// Takes a piece to a head, and to the body behind it.
+fn feed_head(parts: &mut Parts, piece: &[u8]) -> Result<Step, AllocError>
+    requires none { parts.old.waiting ≡ None }
+    requires open { parts.old.ended ≡ false }
+    requires few { parts.old.given < most_requests }
+    requires begins { Begins parts.old.head.items parts.old.begun }
+    ensures kept { Keeps parts.new }
+    ensures ok { IfOk result (λ step. Feeds (fed_of parts.old) piece.now step.taken step.next (fed_of parts.new)) }
+    ensures err { OnErr result (fed_of parts.new ≡ fed_of parts.old) }
+{
+    let before = parts.head.len();
+    let taken = take_head(&mut parts.head, parts.begun, piece)?;
+    match taken.front {
+        Front::Cut => {
+            parts.begun = taken.begun;
+            Ok(Step {
+                taken: taken.bytes,
+                next: None,
+            })
+        }
+        Front::Bad => Ok(Step {
+            taken: taken.bytes,
+            next: Some(give(parts, fixed(Check::BadRequest, false))),
+        }),
+        Front::Whole(facts) => match facts.framing {
+            Err(check) => Ok(Step {
+                taken: taken.bytes,
+                next: Some(give(parts, fixed(check, facts.verb.is_head()))),
+            }),
+            Ok(stated) => match feed_whole(parts, &facts, stated, &piece[taken.bytes..]) {
+                Ok(step) => Ok(Step {
+                    taken: taken.bytes + step.taken,
+                    next: step.next,
+                }),
+                Err(e) => {
+                    parts.head.truncate(before);
+                    Err(e)
+                }
+            },
+        },
+    }
+}
+
+/// Takes a piece to the body of a head that has just become whole, and that states this length of it.
+fn feed_whole(
+    parts: &mut Parts,
+    facts: &Facts,
+    stated: Option<usize>,
+    piece: &[u8],
+) -> Result<Step, AllocError>
+    requires none { parts.old.waiting ≡ None }
+    requires open { parts.old.ended ≡ false }
+    requires few { parts.old.given < most_requests }
+    requires whole { IsWhole parts.old.head.items facts.now }
+    requires framed { facts.now.framing ≡ Ok stated }
+    ensures ok { IfOk result (λ step. Keeps parts.new × Gives (record { rest = parts.old.head.items; given = parts.old.given; ended = false })
+        piece.now step.taken step.next (fed_of parts.new)) }
+    ensures err { OnErr result (parts.new ≡ parts.old) }
+{
+    let waiting = begin(parts.alloc, parts.head.as_slice(), facts, stated)?;
+    match feed_body(parts, waiting, piece) {
+        Ok(step) => Ok(step),
+        Err(e) => {
+            parts.waiting = None;
+            Err(e)
+        }
+    }
+}
+
+/// What is kept of the head that the bytes are, and of its body, of which nothing has come.
+fn begin(
+    alloc: Global,
+    head: &[u8],
+    facts: &Facts,
+    stated: Option<usize>,
+) -> Result<Waiting, AllocError>
+    requires whole { IsWhole head.now facts.now }
+    requires framed { facts.now.framing ≡ Ok stated }
+    ensures waits { IfOk result (λ waiting. IsWaiting head.now waiting) }
+    ensures empty { IfOk result (λ waiting. waiting.body.bytes ≡ []) }
+{
+    let asks = plan_of(alloc, head, facts, stated)?;
+    let body = Body::new(alloc, stated.unwrap_or(0) as u64).unwrap();
+    Ok(Waiting {
+        plan: Plan {
+            asks,
+            head: facts.verb.is_head(),
+            closes: facts.closes,
+        },
+        body,
+    })
+}
+
+/// A fixed answer that ends the stream.
+fn fixed(check: Check, head: bool) -> Next
+    ensures { result ≡ record { what = What.Fixed check; head = head; last = true } }
+{
+    Next {
+        what: What::Fixed(check),
+        head,
+        last: true,
+    }
+}
+
+/// Forgets the bytes of the request that is given.
+fn give(parts: &mut Parts, next: Next) -> Next
+    requires few { parts.old.given < most_requests }
+    requires last { parts.old.given + 1 ≡ most_requests → next.last ≡ true }
+    ensures same { result ≡ next }
+    ensures kept { Keeps parts.new }
+    ensures fed { fed_of parts.new ≡ record { rest = []; given = parts.old.given + 1; ended = next.last } }
+{
+    parts.head.clear();
+    parts.begun = false;
+    parts.waiting = None;
+    parts.given += 1;
+    parts.ended = next.last;
+    next
+}

@@ -1,0 +1,12 @@
+//! The requests of a stream of bytes, taken in pieces, and their answers written to a writer.
+#![tactic(auto)]
+
+pub mod asked;
+pub mod fault;
+pub mod feeder;
+pub mod laws;
+mod progress;
+pub mod respond;
+pub mod serving;
+pub mod stream;
+mod taking;

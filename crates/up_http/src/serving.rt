@@ -1,0 +1,233 @@
+//! A stream that is read, and the answers to its requests.
+ghost use Rattle.std.specs.Prelude.{◌≡◌, ◌⊎◌, ◌≤◌, ◌<◌, ◌+◌, ◌++◌, [], ◌∷◌, ℕ, List, if◌then◌else◌, is_ok, IfOk, IfErr, IfSome, OnOk, OnErr, MatchOption, Some, None, false, true, take, length};
+ghost use Rattle.std.specs.Io.KnownBytes.{Appends};
+ghost use Rattle.up_http.specs.Feeding.{Fed};
+ghost use Rattle.up_http.specs.Requests.{most_requests};
+ghost use Rattle.up_http.specs.Serving.{Ran, Finished, AnswersFirst, Stopped, Unanswered, Takes, Stops, Moves, Completes, IsFresh, calls, told};
+
+use crate::asked::{Next, What};
+use crate::fault::{Fault, ServeFault};
+use crate::feeder::Feeder;
+use crate::progress::Progress;
+use crate::respond::Respond;
+use std::alloc::Global;
+use std::io::{Read, Write};
+use up_lines::{read_piece, write_whole};
+
+/// The most bytes that are read: so many requests of a head and a body of the greatest sizes.
+const MOST_BYTES: u64 = 27_852_800;
+
+/// How many bytes are read at once.
+const PIECE_BYTES: usize = 8_192;
+
+/// Answers a request.
+fn answer_next<S, A: Respond<S>, W: Write>(
+    alloc: Global,
+    responder: &A,
+    state: &mut S,
+    writer: &mut W,
+    next: &Next,
+) -> Result<(), Fault>
+    ensures ok { OnOk result ((text : List ℕ) × A.gives state.old next.now text state.new
+        × Appends (W.contents writer.old) (W.contents writer.new) text) }
+    ensures err { IfErr result (λ cause. Unanswered A.gives cause state.old next.now state.new (W.contents writer.old) (W.contents writer.new)) }
+{
+    let text = responder.respond(alloc, state, next)?;
+    match write_whole(writer, text.as_slice()) {
+        Ok(()) => Ok(()),
+        Err(_) => Err(Fault::Write),
+    }
+}
+
+/// One more request is handed on, if it is a command.
+fn count_call(called: u32, next: &Next) -> u32
+    requires { called < most_requests }
+    ensures sum { result ≡ called + calls (next.now ∷ []) }
+    ensures one { result ≤ called + 1 }
+{
+    match &next.what {
+        What::Call(_) => called + 1,
+        What::Fixed(_) => called,
+    }
+}
+
+/// Answers a request that the feeder gave, and counts it.
+fn answer_counted<S, A: Respond<S>, W: Write>(
+    alloc: Global,
+    responder: &A,
+    state: &mut S,
+    writer: &mut W,
+    called: &mut u32,
+    answered: &mut u32,
+    next: &Next,
+) -> Result<(), Fault>
+    requires calls_left { called.old < most_requests }
+    requires answers_left { answered.old < most_requests }
+    ensures called { called.new ≡ called.old + calls (next.now ∷ []) }
+    ensures one { called.new ≤ called.old + 1 }
+    ensures answered { answered.new ≡ (if is_ok result then answered.old + 1 else answered.old) }
+    ensures ok { OnOk result ((text : List ℕ) × A.gives state.old next.now text state.new
+        × Appends (W.contents writer.old) (W.contents writer.new) text) }
+    ensures err { IfErr result (λ cause. Unanswered A.gives cause state.old next.now state.new (W.contents writer.old) (W.contents writer.new)) }
+{
+    *called = count_call(*called, next);
+    answer_next(alloc, responder, state, writer, next)?;
+    *answered += 1;
+    Ok(())
+}
+
+/// Feeds the stream a piece, and answers the request that is whole then.
+fn serve_piece<S, A: Respond<S>, W: Write>(
+    alloc: Global,
+    responder: &A,
+    state: &mut S,
+    writer: &mut W,
+    progress: &mut Progress,
+    piece: &[u8],
+) -> Result<usize, Fault>
+    requires { progress.old.over ≡ false }
+    ensures taken { IfOk result (λ n. Moves n piece.now progress.old progress.new) }
+    ensures ok { IfOk result (λ n. Takes A.gives (take n piece.now) progress.old state.old (W.contents writer.old)
+        progress.new state.new (W.contents writer.new)) }
+    ensures err { IfErr result (λ cause. Stops A.gives cause false piece.now
+        progress.old state.old (W.contents writer.old) progress.new state.new (W.contents writer.new)) }
+{
+    let step = match progress.feeder.feed(piece) {
+        Ok(step) => step,
+        Err(_) => return Err(Fault::Memory),
+    };
+    let Some(next) = &step.next else {
+        return Ok(step.taken);
+    };
+    progress.over = next.last;
+    match answer_counted(
+        alloc,
+        responder,
+        state,
+        writer,
+        &mut progress.called,
+        &mut progress.answered,
+        next,
+    ) {
+        Ok(()) => Ok(step.taken),
+        Err(cause) => Err(cause),
+    }
+}
+
+/// Answers what is left at the input's end, if anything is.
+fn finish<S, A: Respond<S>, W: Write>(
+    alloc: Global,
+    responder: &A,
+    state: &mut S,
+    writer: &mut W,
+    progress: &mut Progress,
+) -> Result<(), Fault>
+    requires { progress.old.over ≡ false }
+    ensures ok { OnOk result (Completes A.gives progress.old state.old (W.contents writer.old)
+        progress.new state.new (W.contents writer.new)) }
+    ensures err { IfErr result (λ cause. Stops A.gives cause true [] progress.old state.old (W.contents writer.old)
+        progress.new state.new (W.contents writer.new)) }
+{
+    match progress.feeder.end() {
+        None => {
+            progress.over = true;
+            Ok(())
+        }
+        Some(next) => {
+            progress.over = true;
+            match answer_counted(
+                alloc,
+                responder,
+                state,
+                writer,
+                &mut progress.called,
+                &mut progress.answered,
+                &next,
+            ) {
+                Ok(()) => Ok(()),
+                Err(cause) => Err(cause),
+            }
+        }
+    }
+}
+
+/// Reads the stream and answers its requests, each as soon as it is whole, until it ends.
+fn serve_reads<S, A: Respond<S>, R: Read, W: Write>(
+    alloc: Global,
+    responder: &A,
+    state: &mut S,
+    reader: &mut R,
+    writer: &mut W,
+    progress: &mut Progress,
+) -> Result<(), Fault>
+    requires { IsFresh progress.old }
+    ensures { Ran A.gives state.old state.new (R.remaining reader.old) (R.remaining reader.new)
+        (W.contents writer.old) (W.contents writer.new) (told result progress.new) }
+{
+    let mut buffer = [0; PIECE_BYTES];
+    let mut most = MOST_BYTES;
+    let mut at = 0;
+    let mut filled = 0;
+    while !progress.over {
+        if at < filled {
+            match serve_piece(
+                alloc,
+                responder,
+                state,
+                writer,
+                progress,
+                &buffer[at..filled],
+            ) {
+                Ok(taken) => at += taken,
+                Err(cause) => return Err(cause),
+            }
+        } else {
+            match read_piece(reader, &mut buffer, most) {
+                Ok(0) => return finish(alloc, responder, state, writer, progress),
+                Ok(n) => {
+                    most -= n as u64;
+                    at = 0;
+                    filled = n;
+                }
+                Err(_) => return Err(Fault::Read),
+            }
+        }
+    }
+    Ok(())
+}
+
+/// Reads a stream and answers its requests, each as soon as it is whole, until the stream ends.
+///
+/// The number is that of the answers. At most 27,852,800 bytes are read; nothing is tried twice.
+pub fn serve<S, A: Respond<S>, R: Read, W: Write>(
+    alloc: Global,
+    responder: &A,
+    state: &mut S,
+    reader: &mut R,
+    writer: &mut W,
+) -> Result<u32, ServeFault>
+    // For any reader and writer: the bytes that came, what was answered of them, and what was written.
+    ensures ran { Ran A.gives state.old state.new (R.remaining reader.old) (R.remaining reader.new)
+        (W.contents writer.old) (W.contents writer.new) result }
+
+    // Where it is known what the reader has, by its requests.
+    ensures whole { IfOk result (λ answered. IfSome (R.remaining reader.old) (λ input.
+        Finished A.gives state.old (W.contents writer.old) input answered state.new (W.contents writer.new))) }
+    ensures front { IfErr result (λ fault. IfSome (R.remaining reader.old) (λ input.
+        AnswersFirst A.gives state.old (W.contents writer.old) input fault state.new (W.contents writer.new))) }
+{
+    let mut progress = Progress {
+        feeder: Feeder::new(alloc),
+        over: false,
+        called: 0,
+        answered: 0,
+    };
+    match serve_reads(alloc, responder, state, reader, writer, &mut progress) {
+        Ok(()) => Ok(progress.answered),
+        Err(cause) => Err(ServeFault {
+            cause,
+            called: progress.called,
+            answered: progress.answered,
+        }),
+    }
+}

@@ -1,0 +1,90 @@
+"""The functions of a text of Rattle, found by rattle's own tokens."""
+import collections
+import re
+import subprocess
+import tempfile
+
+from .kit import rtlib
+
+# A token without its place in the text: the line that it stands in, where it starts and ends (bytes), its kind and its words (a JSON string).
+Token = collections.namedtuple("Token", "line start end kind word")
+
+# An outermost function with a body, which lies between the bytes `opens` and `closes`. `lines` are its first and last, `cycle` is the cycle of calls
+# that it is in, or None, and `is_read_above` says that a crate above may read its body: that of a `const fn` or of a trait's default.
+Function = collections.namedtuple("Function", "name lines opens closes cycle is_read_above")
+
+ROW = re.compile(r'(?m)^(\d+) (\d+) (\d+) (\w+) "(.*)"$')
+CYCLE = re.compile(r"# \[ cycle \( (\w+) \)")
+
+
+def tokens_of(files):
+    """Returns the tokens of each of these .rt and .antt files, in one run of rattle, or None where it can't read one."""
+    if not files:
+        return []
+    ran = subprocess.run([rtlib.RATTLE, "fmt", "--tokens", *files], capture_output=True, check=False)
+    if ran.returncode:
+        return None
+    texts = re.split(r"(?m)^file \d+\n", ran.stdout.decode())[1:]
+    return [[Token(int(row[0]), int(row[1]), int(row[2]), row[3], row[4]) for row in ROW.findall(text)] for text in texts]
+
+
+def functions_in(text):
+    """Returns the functions of a text (bytes), or None where it is no text of Rattle."""
+    with tempfile.NamedTemporaryFile(suffix=".rt") as file:
+        file.write(text)
+        file.flush()
+        tokens = tokens_of([file.name])
+    return None if tokens is None else functions_of(tokens[0])
+
+
+def functions_of(tokens):
+    """Returns the functions among a text's tokens. What macros hold is passed over, and stays as it is."""
+    code, found, at, start, trait_ends = [it for it in tokens if it.kind == "Code"], [], 0, 0, 0
+    words = [it.word for it in code]
+    while at < len(words):
+        if words[at] == "fn" and re.fullmatch(r"\w+", "".join(words[at + 1 : at + 2])):
+            name, opens = words[at + 1], _next(words, at, "{;")
+            closes = _closing(words, opens) if words[opens : opens + 1] == ["{"] else len(words)
+            if closes < len(words):
+                cycle = CYCLE.search(" ".join(words[start:at]))
+                lines, is_read = (code[start].line, code[closes].line), at < trait_ends or "const" in words[start:at]
+                found.append(Function(name, lines, code[opens].end, code[closes].start, cycle and cycle[1], is_read))
+                opens = closes
+            at = start = opens + 1
+        elif words[at] == "!" and at and re.fullmatch(r"\w+", words[at - 1]):
+            opens = _next(words, at, "{([")
+            at = start = (_closing(words, opens) if opens < len(words) else opens) + 1
+        else:
+            if words[at] == "trait":
+                opens = _next(words, at, "{;")
+                trait_ends = max(trait_ends, _closing(words, opens) if words[opens : opens + 1] == ["{"] else 0)
+            at += 1
+            start = at if words[at - 1] in "{};" else start
+    return found
+
+
+def _next(words, at, among):
+    """Returns where the first of these marks stands from `at` on, outside parentheses and brackets, or the end."""
+    depth = 0
+    while at < len(words) and (depth or words[at] not in among):
+        depth += (words[at] in "([") - (words[at] in ")]")
+        at += 1
+    return at
+
+
+def _closing(words, at):
+    """Returns where what opens at `at` closes, or the end."""
+    depth = 0
+    for here in range(at, len(words)):
+        depth += (words[here] in "{([") - (words[here] in "})]")
+        if not depth:
+            return here
+    return len(words)
+
+
+def with_bodies(text, bodies):
+    """Returns the text (bytes) with these bodies, pairs of a function and the bytes between its braces, in place of its own."""
+    for function, body in sorted(bodies, key=lambda it: -it[0].opens):
+        text = text[: function.opens] + body + text[function.closes :]
+    return text
+

@@ -1,0 +1,87 @@
+"""The hash of what the verdicts on a crate's edits rest on.
+
+They rest on the crate's own texts, on the edits, on the kit, and on what the crate's check reads of the crates below. Of those rattle hands a
+library's check their public items and the private ones that these mention, "and no code", and their statements. So a hash covers
+
+- the crate's own src/, specs/, proofs/ and refused/, byte for byte, its libraries in crates.txt, and the line of `rt version`;
+- of each crate below its libraries, the tokens (so without comments and layout) of its specs/, and those of its src/ without the bodies of
+  functions. What may be computed with stays: constants, types, attributes, clauses, the bodies of `const fn` and of traits' defaults, macros, and
+  what calls of macros among items hold. That the clauses and signatures of private functions stay too is more than is read;
+- the lemma files in proofs/ of a crate below, as tokens, where something of all this names that crate's `proofs`. The files Invariants, Answers
+  and Proof belong to one function, and no crate above can name what they hold;
+- for a program, which is linked from the bodies below, all files of the crates below.
+"""
+import collections
+import hashlib
+import os
+import re
+from pathlib import Path
+
+from .functions import functions_of, tokens_of
+from .kit import identity, rtlib
+
+OF_A_FUNCTION = ("Invariants.antt", "Answers.antt", "Proof.antt")
+NAMES_PROOFS = re.compile(r"Rattle\.(\w+)\.proofs\b")
+
+# What a crate shows to those above: the texts of its src/ and specs/, and those of its lemma files, each with its path.
+Shown = collections.namedtuple("Shown", "stated lemmas")
+
+
+def count_of(folder):
+    """Returns the number of edits of the crate in this folder."""
+    return len([*Path(folder, "refused").glob("*.edit")])
+
+
+def hashes(crates, names):
+    """Returns for each of these crates that has edits, by name, their number and the hash."""
+    names = [it for it in names if count_of(crates[it].folder)]
+    shown = _shown({it.name: it for name in names for it in crates[name].below()})
+    return {it: (count_of(crates[it].folder), _hash(crates[it], shown)) for it in names}
+
+
+def _files(folder, parts):
+    """Returns the paths of the files in these parts of a crate's folder, as they are in it, in order."""
+    return sorted(str(it.relative_to(folder)) for part in parts for it in Path(folder, part).rglob("*") if it.is_file())
+
+
+def _shown(crates):
+    """Returns what each of these crates shows."""
+    read = [(name, it) for name in crates for it in _files(crates[name].folder, rtlib.PARTS) if os.path.basename(it) not in OF_A_FUNCTION]
+    tokens, shown = tokens_of([f"{crates[name].folder}/{path}" for name, path in read]), {it: Shown([], []) for it in crates}
+    if tokens is None:
+        raise SystemExit("refused: rattle can't read a text of a crate below")
+    for (name, path), rows in zip(read, tokens):
+        bodies = [(it.opens, it.closes) for it in functions_of(rows) if not it.is_read_above] if path.endswith(".rt") else []
+        shown[name][path.startswith("proofs/")].append((path, _words_outside(rows, bodies)))
+    return shown
+
+
+def _words_outside(rows, bodies):
+    """Returns the words of these tokens, less those inside the bodies, which are given in order as pairs of places."""
+    kept, bodies = [], iter(bodies)
+    opens, closes = next(bodies, (None, None))
+    for it in rows:
+        while opens is not None and it.start >= closes:
+            opens, closes = next(bodies, (None, None))
+        if opens is None or it.start < opens:
+            kept.append(f"{it.kind} {it.word}")
+    return "\n".join(kept)
+
+
+def _hash(crate, shown):
+    """Returns the hash of a crate, from its own files and what the crates below show."""
+    whole = [crate, *crate.below()] if crate.is_program else [crate]
+    own = [(it.name, path, Path(it.folder, path).read_bytes()) for it in whole for path in _files(it.folder, (*rtlib.PARTS, "refused"))]
+    below = [(it.name, it.said["deps"], shown[it.name].stated) for it in sorted(crate.below(), key=lambda it: it.name)]
+    # (of the crates below alone: which others are asked about counts for nothing)
+    lemmas = _lemmas([text.decode(errors="replace") for _, _, text in own] + [text for _, _, files in below for _, text in files], {it.name: shown[it.name] for it in crate.below()})
+    return hashlib.sha256(repr((identity(), crate.said["deps"], own, below, lemmas)).encode()).hexdigest()
+
+
+def _lemmas(texts, shown):
+    """Returns the lemma files of the crates below whose proofs these texts name, or those files in turn."""
+    named, more = set(), texts
+    while more:
+        found = {name for text in more for name in NAMES_PROOFS.findall(text) if name in shown} - named
+        named, more = named | found, [text for name in found for _, text in shown[name].lemmas]
+    return [(name, shown[name].lemmas) for name in sorted(named)]

@@ -1,0 +1,81 @@
+"""What the pages name is there: links, headings, contracts, tests, refused edits, rows, and the texts of the Primary's page."""
+import re
+from pathlib import Path
+
+TOP = Path(__file__).resolve().parent.parent
+PAGES = ["README.md", "docs/*.md", "examples/**/README.md", "rows/README.md"]
+
+
+def pages():
+    return sorted(path for pattern in PAGES for path in TOP.glob(pattern))
+
+
+def anchors(page):
+    """The names by which links find the headings of a page."""
+    headings = re.findall(r"^#+ (.+)$", page.read_text(encoding="utf-8"), re.MULTILINE)
+    return {re.sub(r"[^\w\- ]", "", heading.lower()).replace(" ", "-") for heading in headings}
+
+
+def leads(page, link):
+    """Whether a link leads to a file, and to a heading of it where it names one."""
+    name, _, anchor = link.partition("#")
+    path = (page.parent / name).resolve() if name else page
+    return path.exists() and (not anchor or anchor in anchors(path))
+
+
+def links():
+    for page in pages():
+        for link in re.findall(r"\]\(([^)\s]+)\)", page.read_text(encoding="utf-8")):
+            if not link.startswith(("http:", "https:")):
+                yield "%s: the link %s" % (page.relative_to(TOP), link), leads(page, link)
+
+
+def promised():
+    """The names that the page of proofs and that on the Standard give, with what each names."""
+    proofs, standard = ((TOP / "docs" / name).read_text(encoding="utf-8") for name in ("PROOFS.md", "STANDARD.md"))
+    for label in ("Contract", "Tests", "Rows", "Edits"):
+        for part in re.findall(r"\*%s\*(.*?)(?=\n  \*|\n- |\n\n|\n#)" % label, proofs, re.DOTALL):
+            yield from (("PROOFS.md", label, name) for name in re.findall(r"`([\w:\-]+)`", part))
+    for begins, label in (("Contract", "Contract"), ("Shown by", "Tests, Rows")):
+        for part in re.findall(r"- %s:(.*?)(?=\n- |\n\n)" % begins, standard, re.DOTALL):
+            yield from (("STANDARD.md", label, name) for name in re.findall(r"`([\w:]+)`", part))
+
+
+def read_all(pattern):
+    return "\n".join(path.read_text(encoding="utf-8") for path in TOP.glob(pattern))
+
+
+def names_there():
+    """The functions, clauses, types and definitions of the crates, their tests, the rows, and the refused edits."""
+    code, specs = read_all("crates/*/src/**/*.rt"), read_all("crates/*/specs/*.antt")
+    contracts = re.findall(r"\b(?:fn|ensures|struct|enum|trait|mod) (\w+)", code)
+    return {
+        "Contract": set(contracts) | set(re.findall(r"\bpub (?:record |data )?(\w+)", specs)),
+        "Tests": set(re.findall(r"#\[test\]\s*fn (\w+)", code)) | {path.name for path in TOP.glob("crates/*")},
+        "Rows": {path.parent.name for path in TOP.glob("rows/*/script")},
+        "Edits": {path.stem for path in TOP.glob("crates/*/*/*.edit")},
+    }
+
+
+def promises():
+    """Whether what the pages name is there. Crates of tests stand for their tests; the names of edits have hyphens."""
+    there = names_there()
+    for page, labels, name in sorted(set(promised())):
+        words = set(name.split("::"))
+        if labels != "Edits" or "-" in name:
+            yield "docs/%s: %s" % (page, name), any(words <= there[label] for label in labels.split(", "))
+
+
+def primary():
+    page = (TOP / "docs" / "PRIMARY.md").read_text(encoding="utf-8")
+    for name in ("manifest.json", "reply.json"):
+        text = (TOP / "examples" / "primary" / name).read_text(encoding="ascii")
+        yield "docs/PRIMARY.md shows " + name, text.strip() in page
+
+
+def cases():
+    """Each of the names that lead nowhere, and what the pages show."""
+    found = [*links(), *promises()]
+    yield "%d links and names of the pages" % len(found), all(well for _, well in found)
+    yield from ((name, well) for name, well in found if not well)
+    yield from primary()

@@ -1,0 +1,319 @@
+#!/usr/bin/env python3
+"""Tests of tools/refused: on texts, on hashes of small trees, and by the prover on a tiny crate."""
+import os
+import re
+import subprocess
+import sys
+import tempfile
+import unittest
+from pathlib import Path
+
+sys.dont_write_bytecode = True
+from edits import lock
+from edits.check import is_shown, refusals
+from edits.edit import edits_in, groups_of
+from edits.functions import Function, functions_in
+from edits.hashes import hashes
+from edits.kit import crates as crates_here
+
+TOOL = Path(__file__).resolve().parent / "refused"
+
+LOW = """//! A low crate.
+#![tactic(auto)]
+
+pub mod counts;
+"""
+COUNTS = """//! Counts.
+ghost use Rattle.std.specs.Prelude.{◌≡◌, nat_le, true};
+ghost use Rattle.low.specs.Numbers.{least};
+
+/// The least count.
+pub const LEAST: u64 = 3;
+
+pub trait Counted {
+    fn count(&self) -> u64 {
+        4
+    }
+}
+
+pub const fn doubled(a: u8) -> u16 {
+    a as u16 + a as u16
+}
+
+pub fn least_count() -> u64
+    ensures { result ≡ least }
+{
+    // a brace } in a comment, and "{" in a text
+    let count = LEAST;
+    count
+}
+
+pub fn reaches(a: u64, b: u64) -> bool
+    ensures { result ≡ nat_le b a }
+{
+    b <= a
+}
+
+pub fn same(a: u64) -> u64
+    ensures { result ≡ a }
+{
+    a
+}
+
+pub fn kept(items: Vec<u8>) -> Vec<u8>
+    ensures { result.items ≡ items.items }
+{
+    items
+}
+
+pub fn either(a: bool, b: bool) -> bool
+    requires { a ≡ true }
+    ensures { result ≡ true }
+{
+    a || b
+}
+"""
+UP = """//! An upper crate.
+#![tactic(auto)]
+
+pub fn two() -> u8 {
+    2
+}
+"""
+TREE = {
+    "crates.txt": "low:\nup: low\n",
+    "crates/low/src/lib.rt": LOW,
+    "crates/low/src/counts.rt": COUNTS,
+    "crates/low/specs/Lib.antt": "pub mod Numbers\n",
+    "crates/low/specs/Numbers.antt": "use Rattle.std.specs.Prelude.{ℕ}\n\n-- the least count\nabbrev pub least : ℕ\nleast = 3\n",
+    "crates/low/proofs/Lib.antt": "pub mod Facts\n",
+    "crates/low/proofs/Facts.antt": "use Rattle.std.specs.Prelude.{ℕ}\n\nabbrev pub three : ℕ\nthree = 3\n",
+    "crates/low/refused/another-least.edit": "file: src/counts.rt\nold: let count = LEAST;\nnew: let count = LEAST + 1;\n",
+    "crates/up/src/lib.rt": UP,
+    "crates/up/refused/three-told-as-two.edit": "file: src/lib.rt\nold:     2\nnew:     3\n",
+}
+
+
+def edit(old, new, file="src/counts.rt"):
+    return f"file: {file}\nold: {old}\nnew: {new}\n"
+
+
+class OnATree(unittest.TestCase):
+    """A test in a repository of two small crates, made anew."""
+
+    def setUp(self):
+        room = tempfile.TemporaryDirectory()
+        self.addCleanup(room.cleanup)
+        self.addCleanup(os.chdir, os.getcwd())
+        os.chdir(room.name)
+        for path, text in TREE.items():
+            self.write(path, text)
+
+    def write(self, path, text):
+        Path(path).parent.mkdir(parents=True, exist_ok=True)
+        Path(path).write_text(text, encoding="utf-8")
+
+    def turn(self, path, old, new):
+        text = Path(path).read_text(encoding="utf-8")
+        self.assertEqual(text.count(old), 1)
+        self.write(path, text.replace(old, new))
+
+    def tool(self, *words):
+        ran = subprocess.run([sys.executable, TOOL, *words], capture_output=True, text=True, check=False)
+        return ran.returncode, ran.stdout.splitlines(), ran.stderr
+
+
+class Hashes(OnATree):
+    """What a change makes of the hash of the crate that it stands in, and of the crate above."""
+
+    def changed(self):
+        before = hashes(crates_here(), ["low", "up"])
+
+        def now():
+            after = hashes(crates_here(), ["low", "up"])
+            return [name for name in ("low", "up") if after[name] != before[name]]
+
+        return now
+
+    def test_a_body_below_is_not_read_above(self):
+        now = self.changed()
+        self.turn("crates/low/src/counts.rt", "b <= a", "b <= a && true")
+        self.assertEqual(now(), ["low"])
+
+    def test_a_comment_below_is_not_read_above(self):
+        now = self.changed()
+        self.turn("crates/low/specs/Numbers.antt", "-- the least count", "-- the least of all counts")
+        self.turn("crates/low/src/counts.rt", "/// The least count.", "/// The least of all counts.")
+        self.assertEqual(now(), ["low"])
+
+    def test_what_crosses_the_boundary_is_read_above(self):
+        texts = [
+            ("src/counts.rt", "ensures { result ≡ a }", "ensures { a ≡ result }"),
+            ("src/counts.rt", "LEAST: u64 = 3", "LEAST: u64 = 4"),
+            ("src/counts.rt", "a as u16 + a as u16", "2 * (a as u16)"),
+            ("src/counts.rt", "        4", "        5"),
+            ("specs/Numbers.antt", "least = 3", "least = 4"),
+        ]
+        for path, old, new in texts:
+            with self.subTest(new):
+                now = self.changed()
+                self.turn(f"crates/low/{path}", old, new)
+                self.assertEqual(now(), ["low", "up"])
+
+    def test_a_lemma_below_is_read_above_where_it_is_named(self):
+        now = self.changed()
+        self.turn("crates/low/proofs/Facts.antt", "three = 3", "three = 2")
+        self.assertEqual(now(), ["low"])
+        self.write("crates/up/proofs/Lib.antt", "use Rattle.low.proofs.Facts.{three}\n")
+        now = self.changed()
+        self.turn("crates/low/proofs/Facts.antt", "three = 2", "three = 3")
+        self.assertEqual(now(), ["low", "up"])
+
+    def test_it_is_the_same_asked_for_alone_and_with_others(self):
+        # (a lemma file that names another of its own crate, below a crate that is asked about too)
+        self.write("crates/low/proofs/Lib.antt", "pub mod Facts\nuse Rattle.low.proofs.Facts.{three}\n")
+        alone = hashes(crates_here(), ["low"])["low"]
+        self.assertEqual(hashes(crates_here(), ["low", "up"])["low"], alone)
+
+    def test_a_proof_of_one_function_below_is_not_read_above(self):
+        self.write("crates/up/proofs/Lib.antt", "use Rattle.low.proofs.Facts.{three}\n")
+        now = self.changed()
+        self.write("crates/low/proofs/counts/same/Answers.antt", "-- none\n")
+        self.assertEqual(now(), ["low"])
+
+    def test_an_edit_and_a_file_of_its_own_are_read(self):
+        now = self.changed()
+        self.turn("crates/up/refused/three-told-as-two.edit", "3", "4")
+        self.assertEqual(now(), ["up"])
+        now = self.changed()
+        self.turn("crates/up/src/lib.rt", "2", "2 + 0")
+        self.assertEqual(now(), ["up"])
+
+    def test_owed_names_what_the_lock_lacks(self):
+        lock.write(crates_here(), hashes(crates_here(), ["low", "up"]))
+        self.assertEqual(self.tool("--owed"), (0, [], ""))
+        self.turn("crates/up/refused/three-told-as-two.edit", "3", "4")
+        self.assertEqual(self.tool("--owed")[:2], (1, ["up: its edits are to be judged: tools/refused up"]))
+        Path(lock.FILE).unlink()
+        self.assertEqual(len(self.tool("--owed")[1]), 2)
+
+    def test_a_crate_without_edits_is_not_owed(self):
+        lock.write(crates_here(), hashes(crates_here(), ["low", "up"]))
+        Path("crates/up/refused/three-told-as-two.edit").unlink()
+        self.assertEqual(self.tool("--owed")[:2], (0, []))
+        lock.write(crates_here(), {})
+        self.assertEqual([*lock.kept()], ["low"])
+
+
+class Texts(OnATree):
+    """Functions, edits and what the prover's lines say of them."""
+
+    def test_functions(self):
+        found = functions_in(COUNTS.encode())
+        self.assertEqual([it.name for it in found], ["count", "doubled", "least_count", "reaches", "same", "kept", "either"])
+        self.assertEqual([it.name for it in found if it.is_read_above], ["count", "doubled"])
+        self.assertIsNone(functions_in(b"fn broken() { \" }"))
+        macro = b"macro_rules! made { () => { fn inner() { 1 } } }\nmade! { fn more() { 2 } }\nfn outer() { fn inside() {} }\n"
+        self.assertEqual([it.name for it in functions_in(macro)], ["outer"])
+
+    def test_edits_of_something_else_than_one_body_are_bad(self):
+        texts = {
+            "a-constant": edit("LEAST: u64 = 3", "LEAST: u64 = 4"),
+            "a-signature": edit("pub fn same(a: u64)", "pub fn same(a: u32)"),
+            "a-definition": edit("least = 3", "least = 4", "specs/Numbers.antt"),
+            "two-bodies": edit("b <= a", "b < a") + "old: a || b\nnew: a\n",
+            "a-function-of-its-own": edit("a || b", "fn more() -> bool { true } more()"),
+            "no-such-text": edit("let total = 0;", "let total = 1;"),
+            "an-open-brace": edit("a || b", "a || { b"),
+        }
+        for name, text in texts.items():
+            self.write(f"crates/low/refused/{name}.edit", text)
+        bad = [it.label for it in edits_in("low", "crates/low") if it.why]
+        self.assertEqual(bad, [f"low/{name}" for name in sorted(texts)])
+
+    def test_groups_have_different_functions(self):
+        for name, body in (("less", "b < a"), ("more", "b > a"), ("always", "true")):
+            self.write(f"crates/low/refused/reaches-{name}.edit", edit("b <= a", body))
+        self.write("crates/low/refused/both.edit", edit("a || b", "a && b"))
+        edits = edits_in("low", "crates/low")
+        for most, sizes in ((16, [1, 1, 3]), (2, [1, 1, 1, 2]), (1, [1] * 5)):
+            groups = groups_of(edits, most)
+            self.assertEqual(sorted(map(len, groups)), sizes)
+            for group in groups:
+                self.assertEqual(len({it.function.name for it in group}), len(group))
+
+    def test_a_refusal_is_of_the_function_whose_goal_stays_open(self):
+        lines = [
+            "note: src/counts.rt:31:5: it is not proved that the result is so (`returns`); the facts known there allow other values",
+            "fn low::counts::reaches: no proof: expected answers in ./proofs/counts/reaches/Answers.antt; `search` did not prove `returns`",
+            "fn low::counts::same: no proof: it calls `low::counts::reaches`, which is not proved",
+            "proofs/counts/kept/Answers.antt:4:1: error: `returns`: the two types differ",
+            "proofs/counts/either/Answers.antt:4:1: error: `returns`: `more` is not in scope",
+            "fn low::counts::kept: not proved",
+            "fn low::counts::either: not proved",
+            "logic=not-proved",
+        ]
+        found = [*refusals(lines)]
+        self.assertEqual([it[0] for it in found], ["low::counts::reaches", "low::counts::kept"])
+        reaches = Function("reaches", (28, 32), 0, 0, None, False)
+        self.assertTrue(is_shown("src/counts.rt", reaches, *found[0][:2]))
+        self.assertFalse(is_shown("src/more.rt", reaches, *found[0][:2]))
+        self.assertFalse(is_shown("src/counts.rt", reaches._replace(lines=(40, 42)), *found[0][:2]))
+        self.assertFalse(is_shown("src/counts.rt", reaches._replace(name="same"), *found[0][:2]))
+        self.assertTrue(is_shown("src/counts.rt", reaches._replace(name="kept"), *found[1][:2]))
+
+
+class Verdicts(OnATree):
+    """By the prover: real edits beside some that change nothing and some that are broken, and then the real ones alone."""
+
+    REAL = {
+        "another-least": edit("let count = LEAST;", "let count = LEAST + 1;"),
+        "less-reached": edit("b <= a", "b < a"),
+    }
+    HARMLESS = {
+        "again-kept": edit("    items", "    let again = items; again"),
+        "exchanged": edit("a || b", "b || a"),
+    }
+    BROKEN = {
+        "moved-value": edit("    items", "    let again = items; drop(again); items"),
+        "no-operand": edit("a || b", "a || || ;; b"),
+        "unknown-name": edit("b <= a", "c <= a"),
+        "wrong-type": edit("let count = LEAST;", "let count = b\"3\";"),
+    }
+
+    def begun(self, edits, *words):
+        """Starts the tool in a tree of its own, whose low crate has these edits."""
+        self.setUp()
+        for file in Path("crates/low/refused").iterdir():
+            file.unlink()
+        Path("crates/up/refused/three-told-as-two.edit").unlink()
+        for name, text in edits.items():
+            self.write(f"crates/low/refused/{name}.edit", text)
+        words = [sys.executable, TOOL, "--jobs", "1", *words]
+        return os.getcwd(), subprocess.Popen(words, stdout=subprocess.PIPE, stderr=subprocess.DEVNULL, text=True)
+
+    def ended(self, folder, run):
+        """Returns how the tool ended: its status, what it said of each edit, its last line, and the crates in the lock."""
+        lines = run.communicate()[0].splitlines()
+        os.chdir(folder)
+        verdicts = {name: verdict for verdict, name in re.findall(r"(?m)^([A-Za-z ]+) low/([\w-]+):", "\n".join(lines))}
+        return run.returncode, verdicts, lines[-1], [*lock.kept()]
+
+    def test_verdicts(self):
+        wanted = [(self.REAL, "refused"), (self.HARMLESS, "NOT REFUSED"), (self.BROKEN, "BAD EDIT")]
+        wanted = {name: verdict for names, verdict in wanted for name in names}
+        # (side by side, since each waits for the prover)
+        all_kinds = self.begun({**self.REAL, **self.HARMLESS, **self.BROKEN}, "low")
+        real = self.begun(self.REAL, "low")
+        drawn = self.begun({**self.REAL, **self.HARMLESS}, "--drawn", "a word")
+        self.assertEqual(self.ended(*all_kinds), (1, wanted, "2 passed, 6 failed", []))
+        self.assertEqual(self.ended(*real), (0, {name: "refused" for name in self.REAL}, "2 passed, 0 failed", ["low"]))
+        known = {name: wanted[name] for name in (*self.REAL, *self.HARMLESS)}
+        self.assertEqual(self.ended(*drawn), (1, known, "2 passed, 2 failed", []))
+
+
+if __name__ == "__main__":
+    ran = unittest.main(exit=False, verbosity=2).result
+    failed = len(ran.failures) + len(ran.errors)
+    print(f"{ran.testsRun - failed} passed, {failed} failed")
+    sys.exit(1 if failed else 0)
