@@ -16,6 +16,7 @@ use up_canon::refusal::Refusal;
 use up_machine::answer::Answer;
 use up_machine::decide_register::{decide_image, decide_refresh};
 use up_machine::decision::{Decision, RegisterRows};
+use up_machine::laws::rows_are_sound;
 use up_plan::image::Image;
 use up_sign::scheme::Scheme;
 
@@ -32,6 +33,7 @@ pub fn add_image<K: Scheme>(
     ensures { Leaves (K.rules scheme.now) (state_of (held book.old)) (held book.new) result
         (decide_image_in (state_of (held book.old)) at image.now) }
 {
+    rows_are_sound();
     match decide_image(alloc, scheme, at, image, &book.founding, &book.images)? {
         Decision::Already => Ok(Answer::Already),
         Decision::New(rows) => {
@@ -54,6 +56,7 @@ pub fn refresh<K: Scheme>(
     ensures { Leaves (K.rules scheme.now) (state_of (held book.old)) (held book.new) result
         (decide_refresh_in (state_of (held book.old)) at version) }
 {
+    rows_are_sound();
     let rows = decide_refresh(alloc, scheme, at, version, &book.founding, &book.images)?;
     put_files(book, rows);
     Ok(Answer::Done)

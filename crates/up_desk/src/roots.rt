@@ -16,6 +16,7 @@ use up_machine::answer::Answer;
 use up_machine::decide_root::{decide_found, decide_rotate};
 use up_machine::decision::RootRows;
 use up_machine::keys::KeySet;
+use up_machine::laws::rows_are_sound;
 use up_sign::scheme::Scheme;
 
 /// Founds the repositories with these keys.
@@ -49,6 +50,7 @@ pub fn rotate<K: Scheme>(
     ensures { Leaves (K.rules scheme.now) (state_of (held book.old)) (held book.new) result
         (decide_rotate_in (K.rules scheme.now) (state_of (held book.old)) at keys.now) }
 {
+    rows_are_sound();
     let rows = decide_rotate(alloc, scheme, at, keys, &book.founding, &book.images)?;
     add_root(alloc, book, rows)?;
     Ok(Answer::Done)

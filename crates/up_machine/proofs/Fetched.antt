@@ -14,7 +14,7 @@ use Rattle.up_machine.specs.Files.{file}
 use Rattle.up_machine.specs.Rows.{founding_row}
 use Rattle.up_machine.specs.Deciding.{check_moment}
 use Rattle.up_machine.specs.Repositories.{decide_fetch}
-use Rattle.up_machine.proofs.Steps.{bind-ok, bind-err}
+use Rattle.up_canon.proofs.Steps.{bind-ok, bind-err}
 use Rattle.up_machine.proofs.FoundedRow.{check_by, founded_by_mark}
 
 in_time : (at : ℕ) → at ≤ last_command_moment → check_moment at ≡ Ok tt

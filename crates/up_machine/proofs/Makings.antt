@@ -1,5 +1,5 @@
 -- Which secrets sign the files of a role, and how long files last.
-use Rattle.std.proofs.Common.{◌≡◌, ◌≤◌, true, arith}
+use Rattle.std.proofs.Common.{◌≡◌, ◌≤◌, true, ap₂, arith}
 use Rattle.std.specs.Prelude.{◌&&◌, length, nat_le, is_none, IsTrue}
 use Rattle.std.specs.List.{list_all}
 use Rattle.std.proofs.lemmas.Bool.{leb-true}
@@ -11,22 +11,27 @@ use Rattle.up_roles.specs.Lifetimes.{lifetimes}
 use Rattle.up_machine.specs.declared.keys.RoleSecrets.{RoleSecrets}
 use Rattle.up_machine.specs.declared.keys.RepoKeys.{RepoKeys}
 use Rattle.up_machine.specs.Keys.{secret_fits, threshold_fits, role_fits, repository_fits}
+use Rattle.up_machine.specs.RowsFit.{can_sign, roles_can_sign}
 use Rattle.up_machine.proofs.Lists.{and_left, and_right, all_weaker}
 
 -- ---- secrets
 
-pub secrets_fit : (k : Rules) (role : RoleSecrets) → IsTrue (role_fits k role) → IsTrue (list_all k.secret_fits role.keys)
+-- a role that fits can sign
+pub role_signs : (k : Rules) (role : RoleSecrets) → IsTrue (role_fits k role) → IsTrue (can_sign k role)
+role_signs k role h = and_left _ (is_none _) (and_left _ (threshold_fits role) h)
+
+pub secrets_fit : (k : Rules) (role : RoleSecrets) → IsTrue (can_sign k role) → IsTrue (list_all k.secret_fits role.keys)
 secrets_fit k role h =
-    let each : list_all (secret_fits k) role.keys ≡ true = and_right (is_from_to 1 4 (length role.keys)) _ (and_left _ (is_none _) (and_left _ (threshold_fits role) h)) in
+    let each : list_all (secret_fits k) role.keys ≡ true = and_right (is_from_to 1 4 (length role.keys)) _ h in
     all_weaker (secret_fits k) k.secret_fits (λ s fit. and_right (is_from_to 1 256 (length s)) _ fit) role.keys each
 
-pub keys_are_few : (k : Rules) (role : RoleSecrets) → IsTrue (role_fits k role) → (1 ≤ length role.keys) × (length role.keys ≤ 4)
+pub keys_are_few : (k : Rules) (role : RoleSecrets) → IsTrue (can_sign k role) → (1 ≤ length role.keys) × (length role.keys ≤ 4)
 keys_are_few k role h =
-    let number : is_from_to 1 4 (length role.keys) ≡ true = and_left _ (list_all (secret_fits k) role.keys) (and_left _ (is_none _) (and_left _ (threshold_fits role) h)) in
+    let number : is_from_to 1 4 (length role.keys) ≡ true = and_left _ (list_all (secret_fits k) role.keys) h in
     (leb-true _ _ (and_left _ (nat_le (length role.keys) 4) number), leb-true _ _ (and_right (nat_le 1 (length role.keys)) _ number))
 
 -- few enough for an envelope
-pub secrets_are_few : (k : Rules) (role : RoleSecrets) → IsTrue (role_fits k role) → (1 ≤ length role.keys) × (length role.keys ≤ 8)
+pub secrets_are_few : (k : Rules) (role : RoleSecrets) → IsTrue (can_sign k role) → (1 ≤ length role.keys) × (length role.keys ≤ 8)
 secrets_are_few k role h = let few = keys_are_few k role h in (few.0, omega (arith, few.1))
 
 pub roles_fit : (k : Rules) (keys : RepoKeys) → IsTrue (repository_fits k keys)
@@ -37,6 +42,23 @@ roles_fit k keys h = (
   and_right (role_fits k keys.root && role_fits k keys.targets) _ (and_left _ _ h),
   and_right (role_fits k keys.root && role_fits k keys.targets && role_fits k keys.snapshot) _ h,
 )
+
+pub roles_sign : (k : Rules) (keys : RepoKeys) → IsTrue (roles_can_sign k keys)
+    → IsTrue (can_sign k keys.root) × IsTrue (can_sign k keys.targets) × IsTrue (can_sign k keys.snapshot) × IsTrue (can_sign k keys.timestamp)
+roles_sign k keys h = (
+  and_left _ _ (and_left _ _ (and_left _ _ h)),
+  and_right (can_sign k keys.root) _ (and_left _ _ (and_left _ _ h)),
+  and_right (can_sign k keys.root && can_sign k keys.targets) _ (and_left _ _ h),
+  and_right (can_sign k keys.root && can_sign k keys.targets && can_sign k keys.snapshot) _ h,
+)
+
+-- roles that fit can sign
+pub fitting_sign : (k : Rules) (keys : RepoKeys) → IsTrue (repository_fits k keys) → IsTrue (roles_can_sign k keys)
+fitting_sign k keys h =
+    let fit = roles_fit k keys h in
+    ap₂ (λ x y. x && y)
+    (ap₂ (λ x y. x && y) (ap₂ (λ x y. x && y) (role_signs k keys.root fit.0) (role_signs k keys.targets fit.1)) (role_signs k keys.snapshot fit.2))
+    (role_signs k keys.timestamp fit.3)
 
 -- ---- lifetimes
 

@@ -9,18 +9,27 @@ use Rattle.up_roles.specs.Targets.{ecus_of}
 use Rattle.up_plan.specs.Images.{ImageData}
 use Rattle.up_machine.specs.declared.keys.KeySet.{KeySet}
 use Rattle.up_machine.specs.Keys.{repository_fits, key_set_fits}
+use Rattle.up_machine.specs.RowsFit.{can_sign, roles_can_sign, all_can_sign}
 use Rattle.up_machine.specs.Files.{keys_of, target_of}
 use Rattle.up_machine.proofs.Lists.{and_left, and_right}
+use Rattle.up_machine.proofs.Makings.{roles_sign, fitting_sign}
 use denote.Ref.{Bor}
 
 pub both_fit : (k : Rules) (keys : KeySet) → IsTrue (key_set_fits k keys) → IsTrue (repository_fits k keys.director) × IsTrue (repository_fits k keys.image)
 both_fit k keys h = (and_left _ _ h, and_right (repository_fits k keys.director) _ h)
 
-pub both_fit_before : (k : Rules) (repository : Repository) (before : Option (Bor KeySet)) → MatchOption before ⊤ (λ b. IsTrue (key_set_fits k b.now))
-    → MatchOption before ⊤ (λ b. IsTrue (repository_fits k (keys_of repository b.now)))
-both_fit_before k repository None h = tt
-both_fit_before k Director (Some b) h = (both_fit k b.now h).0
-both_fit_before k Image (Some b) h = (both_fit k b.now h).1
+pub both_sign : (k : Rules) (keys : KeySet) → IsTrue (key_set_fits k keys) → IsTrue (roles_can_sign k keys.director) × IsTrue (roles_can_sign k keys.image)
+both_sign k keys h = let fit = both_fit k keys h in (fitting_sign k keys.director fit.0, fitting_sign k keys.image fit.1)
+
+-- each repository's roles can sign
+pub each_signs : (k : Rules) (keys : KeySet) → IsTrue (all_can_sign k keys) → IsTrue (roles_can_sign k keys.director) × IsTrue (roles_can_sign k keys.image)
+each_signs k keys h = (and_left _ _ h, and_right (roles_can_sign k keys.director) _ h)
+
+pub both_sign_before : (k : Rules) (repository : Repository) (before : Option (Bor KeySet)) → MatchOption before ⊤ (λ b. IsTrue (all_can_sign k b.now))
+    → MatchOption before ⊤ (λ b. IsTrue (can_sign k (keys_of repository b.now).root))
+both_sign_before k repository None h = tt
+both_sign_before k Director (Some b) h = (roles_sign k b.now.director (each_signs k b.now h).0).0
+both_sign_before k Image (Some b) h = (roles_sign k b.now.image (each_signs k b.now h).1).0
 
 -- the image repository's targets name no ECU
 none_named : (images : List ImageData) → ecus_of (map (target_of None) images) ≡ []

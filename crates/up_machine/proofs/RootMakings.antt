@@ -16,10 +16,11 @@ use Rattle.up_roles.specs.Root.{key_fits, role_fits as root_role_fits, root_fits
 use Rattle.up_machine.specs.declared.keys.RoleSecrets.{RoleSecrets}
 use Rattle.up_machine.specs.declared.keys.KeySet.{KeySet}
 use Rattle.up_machine.specs.Keys.{secret_fits, identifier, keys_fit, threshold_fits, role_fits, repository_fits}
+use Rattle.up_machine.specs.RowsFit.{can_sign}
 use Rattle.up_machine.specs.State.{Root}
 use Rattle.up_machine.specs.Files.{keys_of, root_key, role_keys, root_file, root_secrets, root_text}
 use Rattle.up_machine.proofs.Lists.{and_left, and_right, all_weaker, all_of_filter}
-use Rattle.up_machine.proofs.Makings.{secrets_fit, keys_are_few, roles_fit}
+use Rattle.up_machine.proofs.Makings.{role_signs, secrets_fit, keys_are_few, roles_fit}
 use denote.Ref.{Bor}
 
 both : (a b : Bool) → a ≡ true → b ≡ true → (a && b) ≡ true
@@ -74,13 +75,12 @@ pub record AreFew (k : Rules) (secrets : List (List ℕ)) : Type 0 where
   pub fit : list_all k.secret_fits secrets ≡ true
   pub few : length secrets ≤ 4
 
-pub old_are_few : (k : Rules) (repository : Repository) (before : Option (Bor KeySet)) → MatchOption before ⊤ (λ b. IsTrue (repository_fits k (keys_of repository b.now)))
+pub old_are_few : (k : Rules) (repository : Repository) (before : Option (Bor KeySet)) → MatchOption before ⊤ (λ b. IsTrue (can_sign k (keys_of repository b.now).root))
     → AreFew k (old_keys repository (option_copied before))
 old_are_few k repository None h = record { fit = refl; few = omega arith }
 old_are_few k repository (Some b) h =
     let root = (keys_of repository b.now).root in
-    let roles = roles_fit k (keys_of repository b.now) h in
-    record { fit = secrets_fit k root roles.0; few = (keys_are_few k root roles.0).1 }
+    record { fit = secrets_fit k root h; few = (keys_are_few k root h).1 }
 
 filter_is_shorter : {A : Type 0} (p : A → Bool) (xs : List A) → length (filter p xs) ≤ length xs
 filter_is_shorter p [] = omega arith
@@ -96,12 +96,12 @@ others own old = filter (λ secret. not (list_any (bytes_eq secret) own)) old
 pub signers_fit : (k : Rules) (role : RoleSecrets) (old : List (List ℕ)) → IsTrue (role_fits k role) → AreFew k old → IsTrue (list_all k.secret_fits (role.keys ++ others role.keys old))
 signers_fit k role old fits before =
     list_all-append k.secret_fits role.keys (others role.keys old)
-    ∙ both _ _ (secrets_fit k role fits) (all_of_filter k.secret_fits (λ secret. not (list_any (bytes_eq secret) role.keys)) old before.fit)
+    ∙ both _ _ (secrets_fit k role (role_signs k role fits)) (all_of_filter k.secret_fits (λ secret. not (list_any (bytes_eq secret) role.keys)) old before.fit)
 
 pub signers_are_few : (k : Rules) (role : RoleSecrets) (old : List (List ℕ)) → IsTrue (role_fits k role) → AreFew k old
     → (1 ≤ length (role.keys ++ others role.keys old)) × (length (role.keys ++ others role.keys old) ≤ 8)
 signers_are_few k role old fits before =
-    let own = keys_are_few k role fits in
+    let own = keys_are_few k role (role_signs k role fits) in
     let size = length-append role.keys (others role.keys old) in
     let shorter = filter_is_shorter (λ secret. not (list_any (bytes_eq secret) role.keys)) old in
     let few = before.few in

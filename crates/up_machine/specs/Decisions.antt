@@ -1,8 +1,8 @@
 -- What decisions answer over the rows of a state: the rows of the plain machine's next state, `Already`, a repeat, or the refusal that is due.
-use Rattle.std.specs.Prelude.{◌≡◌, ℕ, ◌+◌, ◌≤◌, ◌++◌, List, [], ◌∷◌, Bool, false, Option, Some, None, option_map, unwrap_or, Result, Ok, Err, MatchBool, length, map, ⊤}
+use Rattle.std.specs.Prelude.{◌≡◌, ℕ, ◌+◌, ◌++◌, List, [], ◌∷◌, Bool, false, Option, Some, None, option_map, unwrap_or, Result, Ok, Err, MatchBool, length, map, ⊤}
 use Rattle.std.specs.List.{AllByRecursion, list_all}
 use Rattle.std.specs.FinMap as table
-use Rattle.up_canon.specs.Names.{Name, Table, first_repeated}
+use Rattle.up_canon.specs.Names.{Name, Table}
 use Rattle.up_canon.specs.Steps.{and_then, ◌>>=◌, unless}
 use Rattle.up_canon.specs.Refusals.{is_memory}
 use Rattle.up_canon.specs.declared.refusal.Refusal.{Refusal}
@@ -90,11 +90,6 @@ IsRead incoming = (body : List ℕ) × (incoming_in body ≡ Ok incoming)
 abbrev pub resolve : Rules → State → ℕ → Received → Option KeptEntry → Result Outcome Refusal
 resolve k s at r (Some p) = Ok (record { answer = Replied (reply_to k s p.vehicle p.number p.entry); next = s })
 resolve k s at r None = decide_received k s at r
-
--- the rows of a sound state's vehicle: the version is at most the last counter, and no ECU stands twice
-pub record AreSoundRows (rows : VehicleRows) : Type 0 where
-  pub version : rows.vehicle.version ≤ rows.vehicle.last
-  pub once : first_repeated (map (λ row. row.ecu) rows.ecus) ≡ None
 
 -- what the delivery of a manifest comes to, once its moment was checked and its body read
 unfoldable pub decide_incoming : Rules → State → ℕ → Incoming → Result Outcome Refusal

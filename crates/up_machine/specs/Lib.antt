@@ -13,6 +13,7 @@ pub mod Repeats
 pub mod Sound
 pub mod Registers
 pub mod Rows
+pub mod RowsFit
 pub mod Decisions
 pub mod ManifestRows
 pub mod Reads

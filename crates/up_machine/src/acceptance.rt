@@ -3,7 +3,7 @@ ghost use Rattle.std.specs.Prelude.{◌≡◌, ◌<◌, ◌≤◌, ◌+◌, None
 ghost use Rattle.up_canon.specs.Canon.{max_count};
 ghost use Rattle.up_canon.specs.Moments.{last_command_moment};
 ghost use Rattle.up_canon.specs.Names.{first_repeated};
-ghost use Rattle.up_machine.specs.Keys.{repository_fits};
+ghost use Rattle.up_machine.specs.RowsFit.{roles_can_sign};
 ghost use Rattle.up_machine.specs.ManifestRows.{accepted_row as accepted_row_of, accepted_rows as accepted_rows_of, kept_of, plan_by_rows};
 
 use crate::decision::AcceptedRows;
@@ -35,7 +35,7 @@ pub(crate) fn accepted_rows<K: Scheme>(
     images: &Table<Image>,
     campaigns: &[Campaign],
 ) -> Result<AcceptedRows, AllocError>
-    requires keys { IsTrue (repository_fits (K.rules scheme.now) founding.now.keys.director) }
+    requires keys { IsTrue (roles_can_sign (K.rules scheme.now) founding.now.keys.director) }
     requires version { rows.now.vehicle.version < max_count }
     requires moment { at ≤ last_command_moment }
     requires once { first_repeated (map (λ row. row.ecu) rows.now.ecus) ≡ None }
@@ -91,7 +91,7 @@ fn kept_row<K: Scheme>(
     images: &Table<Image>,
     plan: Plan,
 ) -> Result<Kept, AllocError>
-    requires keys { IsTrue (repository_fits (K.rules scheme.now) founding.now.keys.director) }
+    requires keys { IsTrue (roles_can_sign (K.rules scheme.now) founding.now.keys.director) }
     requires version { row.now.version < max_count }
     requires moment { at ≤ last_command_moment }
     requires once { first_repeated (map (λ a. a.ecu) plan.assigned) ≡ None }

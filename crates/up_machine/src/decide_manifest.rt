@@ -1,11 +1,11 @@
 //! The decision on a manifest that a vehicle delivers.
 ghost use Rattle.std.specs.Prelude.{◌≡◌, ◌≤◌, IfSome, IsTrue, option_copied};
 ghost use Rattle.up_canon.specs.Moments.{last_command_moment};
-ghost use Rattle.up_machine.specs.Keys.{key_set_fits};
+ghost use Rattle.up_machine.specs.RowsFit.{founding_fits, rows_fit};
 ghost use Rattle.up_machine.specs.ManifestRows.{repeated as repeated_in};
 ghost use Rattle.up_machine.specs.State.{State};
 ghost use Rattle.up_machine.specs.Sound.{IsSound};
-ghost use Rattle.up_machine.specs.Decisions.{IsRead, AreSoundRows, AreRowsFor, decide_incoming, GivesDelivered};
+ghost use Rattle.up_machine.specs.Decisions.{IsRead, AreRowsFor, decide_incoming, GivesDelivered};
 
 use crate::acceptance::accepted_rows;
 use crate::decision::Delivered;
@@ -62,8 +62,8 @@ pub fn decide_manifest<K: Scheme>(
 ) -> Result<Delivered, Refusal>
     requires moment { at ≤ last_command_moment }
     requires read { IsRead incoming.now }
-    requires keys { IfSome rows.now.founding (λ f. IsTrue (key_set_fits (K.rules scheme.now) f.keys)) }
-    requires rows { IfSome rows.now.vehicle AreSoundRows }
+    requires keys { IfSome rows.now.founding (λ f. IsTrue (founding_fits (K.rules scheme.now) f)) }
+    requires rows { IfSome rows.now.vehicle (λ v. IsTrue (rows_fit v)) }
     ensures { (s : State) → IsSound (K.rules scheme.now) s → AreRowsFor (K.rules scheme.now) s incoming.now.manifest rows.now
         → GivesDelivered (K.rules scheme.now) s incoming.now.manifest.vehicle result
         (decide_incoming (K.rules scheme.now) s at incoming.now) }

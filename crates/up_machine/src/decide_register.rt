@@ -1,7 +1,7 @@
 //! Decisions on the register of images.
 ghost use Rattle.std.specs.Prelude.{◌≡◌, ◌+◌, ◌≤◌, IfSome, IsTrue};
 ghost use Rattle.up_canon.specs.Moments.{last_command_moment};
-ghost use Rattle.up_machine.specs.Keys.{key_set_fits};
+ghost use Rattle.up_machine.specs.RowsFit.{founding_fits};
 ghost use Rattle.up_machine.specs.State.{State};
 ghost use Rattle.up_machine.specs.Sound.{IsSound};
 ghost use Rattle.up_machine.specs.Rows.{founding_row};
@@ -35,7 +35,7 @@ pub fn decide_image<K: Scheme>(
     images: &Table<Image>,
 ) -> Result<Decision<RegisterRows>, Refusal>
     requires moment { at ≤ last_command_moment }
-    requires keys { IfSome founding.now (λ f. IsTrue (key_set_fits (K.rules scheme.now) f.keys)) }
+    requires keys { IfSome founding.now (λ f. IsTrue (founding_fits (K.rules scheme.now) f)) }
     ensures { (s : State) → IsSound (K.rules scheme.now) s → founding.now ≡ founding_row s → images.now ≡ s.images
         → GivesDecision (HasRegisterRows (K.rules scheme.now) (stamped (with_image s image.now) at (s.image_version + 1))) s (stamped (with_image s image.now) at (s.image_version + 1)) result
         (decide_image_in s at image.now) }
@@ -72,7 +72,7 @@ pub fn decide_refresh<K: Scheme>(
     images: &Table<Image>,
 ) -> Result<RegisterRows, Refusal>
     requires moment { at ≤ last_command_moment }
-    requires keys { IfSome founding.now (λ f. IsTrue (key_set_fits (K.rules scheme.now) f.keys)) }
+    requires keys { IfSome founding.now (λ f. IsTrue (founding_fits (K.rules scheme.now) f)) }
     ensures { (s : State) → IsSound (K.rules scheme.now) s → founding.now ≡ founding_row s → images.now ≡ s.images
         → GivesRows (HasRegisterRows (K.rules scheme.now) (stamped s at version)) (stamped s at version) result
         (decide_refresh_in s at version) }

@@ -1,7 +1,7 @@
 //! Decisions on new root versions: foundings and rotations.
 ghost use Rattle.std.specs.Prelude.{◌≡◌, ◌+◌, ◌≤◌, IfSome, IsTrue};
 ghost use Rattle.up_canon.specs.Moments.{last_command_moment};
-ghost use Rattle.up_machine.specs.Keys.{key_set_fits};
+ghost use Rattle.up_machine.specs.RowsFit.{founding_fits};
 ghost use Rattle.up_machine.specs.State.{State};
 ghost use Rattle.up_machine.specs.Sound.{IsSound};
 ghost use Rattle.up_machine.specs.Rows.{founding_row};
@@ -57,7 +57,7 @@ pub fn decide_rotate<K: Scheme>(
     images: &Table<Image>,
 ) -> Result<RootRows, Refusal>
     requires moment { at ≤ last_command_moment }
-    requires keys { IfSome founding.now (λ f. IsTrue (key_set_fits (K.rules scheme.now) f.keys)) }
+    requires keys { IfSome founding.now (λ f. IsTrue (founding_fits (K.rules scheme.now) f)) }
     ensures { (s : State) → IsSound (K.rules scheme.now) s → founding.now ≡ founding_row s → images.now ≡ s.images
         → GivesRows (HasRootRows (K.rules scheme.now) (stamped (with_root s at keys.now) at (s.image_version + 1))) (stamped (with_root s at keys.now) at (s.image_version + 1)) result
         (decide_rotate_in (K.rules scheme.now) s at keys.now) }

@@ -7,7 +7,7 @@ ghost use Rattle.up_canon.specs.Names.{are_distinct};
 ghost use Rattle.up_roles.specs.Targets.{target_fits, ecus_of};
 ghost use Rattle.up_roles.specs.declared.repository.Repository.TheVariants.{Director as TheDirector};
 ghost use Rattle.up_machine.specs.Files.{target_of};
-ghost use Rattle.up_machine.specs.Keys.{repository_fits};
+ghost use Rattle.up_machine.specs.RowsFit.{roles_can_sign};
 ghost use Rattle.up_machine.specs.ManifestRows.{target_for, reply_of};
 ghost use Rattle.up_machine.specs.Replies.{reply_json as reply_json_of};
 
@@ -70,7 +70,7 @@ pub(crate) fn reply_text<K: Scheme>(
     row: &VehicleRow,
     targets: Listed<Target>,
 ) -> Result<Text, AllocError>
-    requires keys { IsTrue (repository_fits (K.rules scheme.now) founding.now.keys.director) }
+    requires keys { IsTrue (roles_can_sign (K.rules scheme.now) founding.now.keys.director) }
     requires version { row.now.version < max_count }
     requires moment { at ≤ last_command_moment }
     requires targets { list_all (target_fits TheDirector) targets ≡ true }

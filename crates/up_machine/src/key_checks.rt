@@ -52,7 +52,7 @@ fn check_role<K: Scheme>(alloc: Global, scheme: &K, role: &RoleSecrets) -> Resul
     Ok(())
 }
 
-fn secrets_fit<K: Scheme>(scheme: &K, keys: &[Bytes]) -> bool
+pub(crate) fn secrets_fit<K: Scheme>(scheme: &K, keys: &[Bytes]) -> bool
     ensures { result ≡ list_all (secret_fits_rule (K.rules scheme.now)) keys.now }
 {
     keys.iter().all(|key| secret_fits(scheme, key.as_slice()))

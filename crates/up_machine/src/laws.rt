@@ -2,7 +2,7 @@
 ghost use Rattle.up_machine.specs.Laws.{RefusalsChangeNothing, AlreadyChangesNothing, EmptyIsSound, StepsStaySound, RunsStaySound, CountersTellEntries, VersionsAreCounts, LaterIsReflexive, LaterIsTransitive, StepsGrow, RunsGrow, KeptRepliesStay, KeptRepliesOutlastRuns};
 ghost use Rattle.up_machine.specs.RepeatLaws.{RepeatsAreStale, RepeatsGetKeptReplies, CountersFindRepeats, OlderCountersAreStale, RepeatsChangeNothing, ServedIsThinned, ServedStaysSound};
 ghost use Rattle.up_machine.specs.ApartLaws.{VehiclesStandApart, DeliveriesCommute, InstalledIsOfTheVehicle};
-ghost use Rattle.up_machine.specs.RowLaws.{VehicleRowsAreSound};
+ghost use Rattle.up_machine.specs.RowLaws.{FoundingRowFits, VehicleRowsFit};
 ghost use Rattle.up_machine.specs.SignedLaws.{RootsAreSigned, ImageFilesAreSigned, RepliesAreSigned, ServedFilesAreKnown};
 
 use up_manifest::body_laws;
@@ -81,7 +81,8 @@ pub fn files_are_signed()
     ensures served { ServedFilesAreKnown }
 {}
 
-/// The rows of a vehicle of a sound state fit what the decision on a manifest asks of them.
+/// The rows of a sound state have what decisions ask of them.
 pub fn rows_are_sound()
-    ensures { VehicleRowsAreSound }
+    ensures founding { FoundingRowFits }
+    ensures vehicles { VehicleRowsFit }
 {}

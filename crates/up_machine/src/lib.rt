@@ -26,6 +26,7 @@ mod public_keys;
 mod reported;
 pub mod root_making;
 pub mod rows;
+pub mod rows_fit;
 mod same_campaign;
 mod same_image;
 mod same_vehicle;

@@ -9,7 +9,7 @@ ghost use Rattle.up_roles.specs.Targets.{targets_text_of, targets_fits, target_f
 ghost use Rattle.up_roles.specs.Snapshot.{snapshot_text_of, snapshot_fits};
 ghost use Rattle.up_roles.specs.Timestamp.{timestamp_text_of, timestamp_fits};
 ghost use Rattle.up_machine.specs.Files.{keys_of as keys_in, role_texts as role_texts_of};
-ghost use Rattle.up_machine.specs.Keys.{role_fits, repository_fits};
+ghost use Rattle.up_machine.specs.RowsFit.{can_sign, roles_can_sign};
 
 use crate::decision::RoleTexts;
 use crate::keys::{KeySet, RepoKeys, RoleSecrets};
@@ -29,7 +29,7 @@ use up_sign::scheme::Scheme;
 
 /// The texts of a repository's Targets, Snapshot and Timestamp files of this version, signed with the keys of their roles.
 /// Each expires its lifetime after the moment. The Director's files name their vehicle, and each target its ECU.
-#[tactic(auto, unfolding(crate::specs::Files::targets_text, crate::specs::Files::snapshot_text, crate::specs::Files::timestamp_text), using(crate::proofs::Makings::roles_fit))]
+#[tactic(auto, unfolding(crate::specs::Files::targets_text, crate::specs::Files::snapshot_text, crate::specs::Files::timestamp_text), using(crate::proofs::Makings::roles_sign))]
 pub fn role_texts<K: Scheme>(
     alloc: Global,
     scheme: &K,
@@ -40,7 +40,7 @@ pub fn role_texts<K: Scheme>(
     at: Moment,
     targets: Listed<Target>,
 ) -> Result<RoleTexts, AllocError>
-    requires keys { IsTrue (repository_fits (K.rules scheme.now) (keys_in repository keys.now)) }
+    requires keys { IsTrue (roles_can_sign (K.rules scheme.now) (keys_in repository keys.now)) }
     requires version { IsTrue (version_fits version) }
     requires moment { at ≤ last_command_moment }
     requires vehicle { IsTrue (name_fits repository vehicle.now) }
@@ -96,7 +96,7 @@ fn signed_targets<K: Scheme>(
     role: &RoleSecrets,
     file: &TargetsFile,
 ) -> Result<Text, AllocError>
-    requires role { IsTrue (role_fits (K.rules scheme.now) role.now) }
+    requires role { IsTrue (can_sign (K.rules scheme.now) role.now) }
     requires limits { IsTrue (targets_fits file.now) }
     ensures { IfOk result (λ t. t ≡ targets_text_of (K.rules scheme.now) role.now.keys file.now) }
 {
@@ -110,7 +110,7 @@ fn signed_snapshot<K: Scheme>(
     role: &RoleSecrets,
     file: &SnapshotFile,
 ) -> Result<Text, AllocError>
-    requires role { IsTrue (role_fits (K.rules scheme.now) role.now) }
+    requires role { IsTrue (can_sign (K.rules scheme.now) role.now) }
     requires limits { IsTrue (snapshot_fits file.now) }
     ensures { IfOk result (λ t. t ≡ snapshot_text_of (K.rules scheme.now) role.now.keys file.now) }
 {
@@ -124,7 +124,7 @@ fn signed_timestamp<K: Scheme>(
     role: &RoleSecrets,
     file: &TimestampFile,
 ) -> Result<Text, AllocError>
-    requires role { IsTrue (role_fits (K.rules scheme.now) role.now) }
+    requires role { IsTrue (can_sign (K.rules scheme.now) role.now) }
     requires limits { IsTrue (timestamp_fits file.now) }
     ensures { IfOk result (λ t. t ≡ timestamp_text_of (K.rules scheme.now) role.now.keys file.now) }
 {

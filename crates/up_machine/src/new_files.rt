@@ -7,7 +7,8 @@ ghost use Rattle.up_canon.specs.Names.{are_distinct};
 ghost use Rattle.up_roles.specs.Payload.{version_fits};
 ghost use Rattle.up_roles.specs.Targets.{target_fits, ecus_of};
 ghost use Rattle.up_machine.specs.Files.{role_texts as role_texts_of, root_text as root_text_of, target_of};
-ghost use Rattle.up_machine.specs.Keys.{repository_fits, key_set_fits};
+ghost use Rattle.up_machine.specs.Keys.{key_set_fits};
+ghost use Rattle.up_machine.specs.RowsFit.{roles_can_sign, all_can_sign};
 ghost use Rattle.up_machine.specs.State.{Root};
 
 use crate::decision::{RegisterRows, RootRows};
@@ -33,7 +34,7 @@ pub(crate) fn register_rows<K: Scheme>(
     at: Moment,
     targets: Listed<Target>,
 ) -> Result<RegisterRows, AllocError>
-    requires keys { IsTrue (repository_fits (K.rules scheme.now) founding.now.keys.image) }
+    requires keys { IsTrue (roles_can_sign (K.rules scheme.now) founding.now.keys.image) }
     requires version { IsTrue (version_fits version) }
     requires moment { at ≤ last_command_moment }
     requires targets { IsTrue (list_all (target_fits ImageRepository) targets) }
@@ -61,7 +62,7 @@ pub(crate) fn register_rows<K: Scheme>(
 
 /// What a new root version makes: the founding's row, both repositories' Root files of this number, signed with the keys of
 /// the version before too, and the image repository's files with this version.
-#[tactic(auto, using(crate::proofs::NewFiles::both_fit, crate::proofs::NewFiles::both_fit_before, crate::proofs::NewFiles::no_ecus))]
+#[tactic(auto, using(crate::proofs::NewFiles::both_fit, crate::proofs::NewFiles::no_ecus))]
 pub(crate) fn root_rows<K: Scheme>(
     alloc: Global,
     scheme: &K,
@@ -73,7 +74,7 @@ pub(crate) fn root_rows<K: Scheme>(
     images: &[Image],
 ) -> Result<RootRows, AllocError>
     requires keys { IsTrue (key_set_fits (K.rules scheme.now) keys.now) }
-    requires before { MatchOption before ⊤ (λ b. IsTrue (key_set_fits (K.rules scheme.now) b.now)) }
+    requires before { MatchOption before ⊤ (λ b. IsTrue (all_can_sign (K.rules scheme.now) b.now)) }
     requires number { IsTrue (version_fits number) }
     requires version { IsTrue (version_fits version) }
     requires moment { at ≤ last_command_moment }

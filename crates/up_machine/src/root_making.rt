@@ -6,6 +6,7 @@ ghost use Rattle.up_roles.specs.Lifetimes.{lifetimes};
 ghost use Rattle.up_roles.specs.Payload.{version_fits};
 ghost use Rattle.up_machine.specs.Files.{keys_of as keys_in, root_key as root_key_of, role_keys as role_keys_of, root_file as root_file_of, root_text as root_text_of};
 ghost use Rattle.up_machine.specs.Keys.{repository_fits};
+ghost use Rattle.up_machine.specs.RowsFit.{can_sign};
 ghost use Rattle.up_machine.specs.State.{Root};
 
 use crate::keys::{KeySet, RoleSecrets};
@@ -36,7 +37,7 @@ pub fn root_text<K: Scheme>(
     before: Option<&KeySet>,
 ) -> Result<Text, AllocError>
     requires keys { IsTrue (repository_fits (K.rules scheme.now) (keys_in repository keys.now)) }
-    requires before { MatchOption before ⊤ (λ b. IsTrue (repository_fits (K.rules scheme.now) (keys_in repository b.now))) }
+    requires before { MatchOption before ⊤ (λ b. IsTrue (can_sign (K.rules scheme.now) (keys_in repository b.now).root)) }
     requires number { IsTrue (version_fits number) }
     requires moment { at ≤ last_command_moment }
     ensures { (b : Option Root) → option_map (λ r. r.keys) b ≡ option_copied before.entry

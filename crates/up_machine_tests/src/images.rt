@@ -56,7 +56,7 @@ fn addition<K: Scheme>(
     requires { at ≤ last_command_moment }
 {
     let founding = &register.founding;
-    check_founding(alloc, scheme, founding)?;
+    check_founding(scheme, founding)?;
     decide_image(alloc, scheme, at, image, founding, &register.images)
 }
 
@@ -103,7 +103,7 @@ fn refreshed<K: Scheme>(
     requires { at ≤ last_command_moment }
 {
     let founding = &register.founding;
-    check_founding(alloc, scheme, founding)?;
+    check_founding(scheme, founding)?;
     decide_refresh(alloc, scheme, at, version, founding, &register.images)
 }
 

@@ -86,7 +86,7 @@ fn decide<K: Scheme>(
     requires moment { at ≤ last_command_moment }
     requires read { IsRead incoming.now }
 {
-    check_founding(alloc, scheme, &register.founding)?;
+    check_founding(scheme, &register.founding)?;
     let manifest = &incoming.manifest;
     let vehicle = register.vehicles.get(manifest.vehicle.text());
     check_rows(vehicle)?;

@@ -53,7 +53,7 @@ fn rotation<K: Scheme>(
     requires { at ≤ last_command_moment }
 {
     let founding = &register.founding;
-    check_founding(alloc, scheme, founding)?;
+    check_founding(scheme, founding)?;
     decide_rotate(alloc, scheme, at, keys, founding, &register.images)
 }
 

@@ -1,11 +1,8 @@
-use Rattle.std.proofs.Common.{sym, ap, ◌∙◌, subst}
-use Rattle.std.specs.Prelude.{IfSome, IsTrue}
+use Rattle.std.proofs.Common.{sym, ap, ◌∙◌}
 use Rattle.std.specs.FinMap as table
 use Rattle.up_plan.specs.Planning.{items_for}
-use Rattle.up_machine.specs.Keys.{key_set_fits}
 use Rattle.up_desk.specs.Rows.{held, state_of, kept_with}
 use Rattle.up_desk.proofs.Decided.{if_some}
-use Rattle.up_desk.proofs.Founding.{founding_keys}
 use Rattle.up_desk.proofs.Reading.{kept_found}
 use Rattle.up_desk.proofs.deliveries.decide.Goals as goal
 
@@ -23,11 +20,12 @@ returns g c =
 
 pub decide_manifest-requires-clause-keys : goal.decide_manifest-requires-clause-keys
 decide_manifest-requires-clause-keys g c =
-    subst (λ o. IfSome o (λ f. IsTrue (key_set_fits (g.K.Scheme.rules c.args.scheme.now) f.keys))) (sym c.as_ref.ensures.value) (founding_keys _ _ (held c.args.book.now) c.requires.stands)
+    let stands = c.requires.stands in
+    if_some _ _ (λ f is. c.rows_are_sound.ensures.founding (g.K.Scheme.rules c.args.scheme.now) (state_of (held c.args.book.now)) f stands.sound (sym (c.as_ref.ensures.value ∙ stands.shows.founding) ∙ is))
 
 pub decide_manifest-requires-clause-rows : goal.decide_manifest-requires-clause-rows
 decide_manifest-requires-clause-rows g c =
     let stands = c.requires.stands in
     let name = c.args.incoming.now.manifest.vehicle in
     let there = c.get.ensures ∙ ap (table.get c.args.book.now.vehicles) c.text.ensures.value ∙ stands.shows.vehicles name in
-    if_some _ _ (λ rows is. c.rows_are_sound.ensures (g.K.Scheme.rules c.args.scheme.now) (state_of (held c.args.book.now)) name rows stands.sound (sym there ∙ is))
+    if_some _ _ (λ rows is. c.rows_are_sound.ensures.vehicles (g.K.Scheme.rules c.args.scheme.now) (state_of (held c.args.book.now)) name rows stands.sound (sym there ∙ is))

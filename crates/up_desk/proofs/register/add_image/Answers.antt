@@ -1,7 +1,7 @@
 use Rattle.up_desk.specs.Rows.{held, state_of}
 use Rattle.up_desk.proofs.Decided.{when_already, when_new, unchanged}
 use Rattle.up_desk.proofs.Registered.{image_done}
-use Rattle.up_desk.proofs.Founding.{founding_keys}
+use Rattle.up_desk.proofs.Founding.{founding_is_fit}
 use Rattle.up_desk.proofs.register.add_image.Goals as goal
 
 pub returns-in-Already : goal.returns-in-Already
@@ -17,4 +17,4 @@ returns-in_ok-register-in-New g c =
     image_done _ _ (held c.args.book.now) _ _ _ _ stands decided.0 decided.1 c.in_ok-register-in-New.ensures.ok
 
 pub decide_image-requires-clause-keys : goal.decide_image-requires-clause-keys
-decide_image-requires-clause-keys g c = founding_keys _ _ (held c.args.book.now) c.requires.stands
+decide_image-requires-clause-keys g c = founding_is_fit c.rows_are_sound.ensures.founding _ _ (held c.args.book.now) c.requires.stands

@@ -1,11 +1,12 @@
-use Rattle.std.proofs.Common.{Ok, subst, sym, ap, ◌∙◌}
+use Rattle.std.proofs.Common.{Ok, subst, sym, ap, ◌∙◌, arith}
 use Rattle.std.specs.Prelude.{option_copied, IfSome, IsTrue}
 use Rattle.up_machine.specs.declared.decision.Delivered.TheVariants.{Accepted}
 use Rattle.up_machine.specs.Decisions.{DeliveryData, decide_incoming, GivesDelivered}
-use Rattle.up_machine.specs.Keys.{key_set_fits}
+use Rattle.up_machine.specs.RowsFit.{founding_fits, rows_fit}
 use Rattle.up_machine.specs.ManifestRows.{check_new_of, repeated, accepted_rows}
 use Rattle.up_machine.proofs.DecidedManifests.{not_founded, unknown_vehicle, bad_primary, is_repeated, bad_manifest, is_accepted}
-use Rattle.up_machine.proofs.Lists.{and_left}
+use Rattle.up_machine.proofs.NewFiles.{each_signs}
+use Rattle.up_machine.proofs.SoundRows.{version_below, each_once}
 use Rattle.up_machine.proofs.Passing.{surely, so_too, delivery_refused}
 use Rattle.up_machine.proofs.decide_manifest.decide_manifest.Goals as goal
 
@@ -62,8 +63,23 @@ returns-in_err-check_new g c = λ s sound rows.
 pub accepted_rows-requires-clause-keys : goal.accepted_rows-requires-clause-keys
 accepted_rows-requires-clause-keys g c =
     let founding = ap (λ (d : DeliveryData). d.founding) (sym c.rows.view_is) ∙ ap option_copied c.in-Some.is in
-    let fits : IsTrue (key_set_fits (g.K.Scheme.rules c.args.scheme.now) c.in-Some.founding.now.keys) = subst (λ o. IfSome o (λ f. IsTrue (key_set_fits (g.K.Scheme.rules c.args.scheme.now) f.keys))) founding c.requires.keys in
-    and_left _ _ fits
+    let fits : IsTrue (founding_fits (g.K.Scheme.rules c.args.scheme.now) c.in-Some.founding.now) = subst (λ o. IfSome o (λ f. IsTrue (founding_fits (g.K.Scheme.rules c.args.scheme.now) f))) founding c.requires.keys in
+    (each_signs (g.K.Scheme.rules c.args.scheme.now) c.in-Some.founding.now.keys fits).0
+
+pub accepted_rows-requires-clause-version : goal.accepted_rows-requires-clause-version
+accepted_rows-requires-clause-version g c =
+    let vehicle = ap (λ (d : DeliveryData). d.vehicle) (sym c.rows.view_is) ∙ ap option_copied c.in-Some-vehicle.is in
+    let fits : IsTrue (rows_fit c.in-Some-vehicle.vehicle.now) = subst (λ o. IfSome o (λ v. IsTrue (rows_fit v))) vehicle c.requires.rows in
+    let below = version_below c.in-Some-vehicle.vehicle.now fits in
+    let later = c.in_ok-check_new.ensures.later in
+    let limit = c.in_ok-check_new.ensures.limit in
+    omega (arith, below, later, limit)
+
+pub accepted_rows-requires-clause-once : goal.accepted_rows-requires-clause-once
+accepted_rows-requires-clause-once g c =
+    let vehicle = ap (λ (d : DeliveryData). d.vehicle) (sym c.rows.view_is) ∙ ap option_copied c.in-Some-vehicle.is in
+    let fits : IsTrue (rows_fit c.in-Some-vehicle.vehicle.now) = subst (λ o. IfSome o (λ v. IsTrue (rows_fit v))) vehicle c.requires.rows in
+    each_once c.in-Some-vehicle.vehicle.now fits
 
 pub returns : goal.returns
 returns g c = λ s sound rows.

@@ -5,12 +5,12 @@ use Rattle.up_canon.specs.Canon.{max_count}
 use Rattle.up_machine.specs.Registers.{place_among}
 use Rattle.up_canon.specs.Names.{are_distinct}
 use Rattle.up_roles.specs.Targets.{ecus_of}
-use Rattle.up_machine.specs.Keys.{key_set_fits}
+use Rattle.up_machine.specs.RowsFit.{founding_fits}
 use Rattle.up_machine.specs.Files.{target_of}
 use Rattle.up_machine.specs.Repositories.{stamped, same_image, with_image}
 use Rattle.up_machine.specs.Decisions.{HasRegisterRows}
 use Rattle.up_machine.proofs.Registers.{values_insert}
-use Rattle.up_machine.proofs.NewFiles.{both_fit, no_ecus}
+use Rattle.up_machine.proofs.NewFiles.{each_signs, no_ecus}
 use Rattle.up_machine.proofs.FoundingRows.{founding_of, unfounded, has_roots, register_rows_hold}
 use Rattle.up_machine.proofs.RootDecisions.{image_unfounded, image_there, image_taken, image_full, image_limit, image_done}
 use Rattle.up_machine.proofs.decide_register.decide_image.Goals as goal
@@ -66,8 +66,8 @@ returns-then-old-ge-MAX_COUNT g c s sound row images =
 pub register_rows-requires-clause-keys : goal.register_rows-requires-clause-keys
 register_rows-requires-clause-keys g c =
     let k = g.K.Scheme.rules c.args.scheme.now in
-    let fits : IsTrue (key_set_fits k c.in-Some.old.keys) = subst (λ o. IfSome o (λ f. IsTrue (key_set_fits k f.keys))) c.in-Some.is c.requires.keys in
-    (both_fit k c.in-Some.old.keys fits).1
+    let fits : IsTrue (founding_fits k c.in-Some.old) = subst (λ o. IfSome o (λ f. IsTrue (founding_fits k f))) c.in-Some.is c.requires.keys in
+    (each_signs k c.in-Some.old.keys fits).1
 
 pub register_rows-requires-clause-ecus : goal.register_rows-requires-clause-ecus
 register_rows-requires-clause-ecus g c =

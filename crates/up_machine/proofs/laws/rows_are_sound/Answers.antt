@@ -1,5 +1,8 @@
-use Rattle.up_machine.proofs.SoundRows.{vehicle_rows_sound}
+use Rattle.up_machine.proofs.SoundRows.{founding_fits_in, vehicle_fits}
 use Rattle.up_machine.proofs.laws.rows_are_sound.Goals as goal
 
-pub returns : goal.returns
-returns c = vehicle_rows_sound
+pub returns-clause-founding : goal.returns-clause-founding
+returns-clause-founding c = founding_fits_in
+
+pub returns-clause-vehicles : goal.returns-clause-vehicles
+returns-clause-vehicles c = vehicle_fits
