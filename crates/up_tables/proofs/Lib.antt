@@ -13,6 +13,7 @@ pub mod ReadLemmas
 pub mod StateLemmas
 pub mod ByNameLemmas
 pub mod ImageLemmas
+pub mod VehicleLemmas
 pub mod ReturnLemmas
 pub mod KeyLemmas
 pub mod Casts

@@ -17,7 +17,7 @@ use Rattle.up_tables.specs.Rows.{bare}
 use Rattle.up_tables.specs.Tables.{up_schema}
 use Rattle.up_tables.specs.Stands.{IfClean, IsInside, IsOpen, HasTables, Reads}
 use Rattle.up_tables.proofs.ReadLemmas.{few_permutation}
-use Rattle.up_tables.proofs.StepLemmas.{shown_open}
+use Rattle.up_tables.proofs.StepLemmas.{shown_open, shown_after}
 use Rattle.up_tables.specs.declared.values.StoreFault.{StoreFault}
 
 -- what is told of a statement holds where it was carried out
@@ -25,6 +25,11 @@ pub on_done : {A B : Type 0} (P : Type 0) (written : Result A Error) (r : Result
 on_done P written (Err fault) h k = tt
 on_done P (Ok n) (Ok done) h k = k
 on_done P (Err e) (Ok done) h k = absurd (let e' = h in cc)
+
+pub on_answered : {A B : Type 0} (P : Type 0) (Q : A → Type 0) (answer : Result A Error) (r : Result B StoreFault) → OnOk r (IsOkAnd answer Q) → OnOk answer P → OnOk r P
+on_answered P Q answer (Err fault) h k = tt
+on_answered P Q (Ok v) (Ok x) h k = k
+on_answered P Q (Err e) (Ok x) h k = absurd h
 
 pub inside_after : (sql : List ℕ) (params : Row) (old new : State) (r : Result ℕ Error) → Survives old new (λ _. ⊥) → IfClean IsInside old
     → (HasCleanDisk new → IsTrue old.in_transaction → ExecutesInside 0 sql params old new r) → OnOk r (IfClean IsInside new)
@@ -87,3 +92,13 @@ module _ {X T : Type 0} (items : X → List Row) (part : Row → Row) (twice : (
 pub ok_then : {T E : Type 0} (P Q : T → Type 0) (r : Result T E) → ((x : T) → P x → Q x) → IfOk r P → IfOk r Q
 ok_then P Q (Ok x) f h = f x h
 ok_then P Q (Err e) f h = tt
+
+-- a write that shows rows, too, leaves the transaction open
+pub shown_inside : {X : Type 0} (items : X → List Row) (sql : List ℕ) (params : Row) (old new : State) (r : Result X Error) → Survives old new (λ _. ⊥) → IfClean IsInside old
+    → (HasCleanDisk new → IfOk r (λ rows. Shown sql params old new (items rows))) → OnOk r (IfClean IsInside new)
+shown_inside items sql params old new (Ok rows) survives inside ok = λ clean. let before : HasCleanDisk old = omega (arith, survives.clean) in (shown_after sql params old new (items rows) (ok clean)).1 ∙ inside before
+shown_inside items sql params old new (Err e) survives inside ok = tt
+
+pub shown_is_open : {X : Type 0} (items : X → List Row) (sql : List ℕ) (params : Row) (old new : State) (r : Result X Error) → (HasCleanDisk new → IfOk r (λ rows. Shown sql params old new (items rows))) → OnOk r (IfClean IsOpen new)
+shown_is_open items sql params old new (Ok rows) ok = λ clean. (shown_after sql params old new (items rows) (ok clean)).0
+shown_is_open items sql params old new (Err e) ok = tt

@@ -3,6 +3,8 @@ use Rattle.std.specs.Prelude.{◌<◌, ◌^◌, ℕ, pos, List, [], ◌∷◌, B
 use Rattle.sqlite.specs.declared.types.Value.TheVariants.{Int, Text, Blob}
 use Rattle.sqlite.specs.Order.{Row}
 use Rattle.up_tables.specs.declared.image.ImageRow.{ImageRow}
+use Rattle.up_tables.specs.declared.vehicle.VehicleRow.{VehicleRow}
+use Rattle.up_tables.specs.Lines.{vehicle_line}
 
 -- an image: what it is, the hardware that it is for, and its needs and conflicts as texts
 abbrev pub image_row : ImageRow → Row
@@ -14,3 +16,13 @@ image_places = 0 ∷ 1 ∷ 2 ∷ 3 ∷ 4 ∷ 5 ∷ 6 ∷ []
 pub record FitImage (i : ImageRow) : Type 0 where
   pub length : i.length < 2 ^ 63
   pub release_count : i.release_count < 2 ^ 63
+
+abbrev pub vehicle_row : VehicleRow → Row
+vehicle_row v = vehicle_line (string_bytes v.vehicle) (string_bytes v.primary_ecu) v.version v.last_counter
+
+abbrev pub vehicle_places : List ℕ
+vehicle_places = 0 ∷ 1 ∷ 2 ∷ 3 ∷ []
+
+pub record FitVehicle (v : VehicleRow) : Type 0 where
+  pub version : v.version < 2 ^ 63
+  pub last_counter : v.last_counter < 2 ^ 63

@@ -26,6 +26,10 @@ pub record AreNew (trees : Trees) : Type 0 where
 abbrev pub campaign_line : List ℕ → List ℕ → List ℕ → ℤ → Row
 campaign_line name reach items running = Text name ∷ Text reach ∷ Text items ∷ Int running ∷ []
 
+-- a vehicle: its Primary, how many manifests were accepted, and the last one's counter
+abbrev pub vehicle_line : List ℕ → List ℕ → ℕ → ℕ → Row
+vehicle_line name primary version last = Text name ∷ Text primary ∷ Int (pos version) ∷ Int (pos last) ∷ []
+
 -- an ECU that is recorded, and what it reported last: image and text are null before a first report
 pub record EcuLine : Type 0 where
   pub ecu : List ℕ

@@ -9,3 +9,4 @@ pub mod image;
 pub mod open;
 pub mod reading;
 pub mod values;
+pub mod vehicle;
