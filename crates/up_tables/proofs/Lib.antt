@@ -28,3 +28,4 @@ pub mod OursLemmas
 pub mod CrashLemmas
 pub mod CampaignSteps
 pub mod Typed
+pub mod KeptLemmas

@@ -52,7 +52,7 @@ use Rattle.up_tables.specs.Upserts.{Rewrites}
 use Rattle.up_tables.specs.declared.vehicle.VehicleRow.{VehicleRow}
 use Rattle.up_tables.specs.declared.values.StoreFault.{StoreFault}
 use Rattle.up_tables.proofs.AnswerLemmas.{over, equals_text, equals_int, answer_is, shows_passing}
-use Rattle.up_tables.proofs.ByNameLemmas.{listed_in}
+use Rattle.up_tables.proofs.ByNameLemmas.{listed_in, named_in}
 use Rattle.up_tables.proofs.Casts.{cast_int, cast_null}
 use Rattle.up_tables.proofs.CreateLemmas.{went}
 use Rattle.up_tables.proofs.EcuRows.{text_is, column_after}
@@ -125,13 +125,7 @@ find_plain = (refl, refl)
 pub finds_vehicle : {X : Type 0} (items : X → List Row) (answer : Result X Error) (r : Result (Option VehicleRow) StoreFault) (old new : State) (name : List ℕ)
     → IfOk r (λ found. IsOkAnd answer (λ v. map part (items v) ≡ map vehicle_row (option_to_list found))) → IfOk answer (λ v. Shown find_vehicle_text (Text name ∷ []) old new (items v))
     → IfOk r (λ found. (rows_of : List ℕ → List Row) → HasTables old → Lists 1 rows_of (old.now.trees 9) → map part (rows_of name) ≡ map vehicle_row (option_to_list found))
-finds_vehicle items answer r old new name h ran =
-    let rows = filter (has_text 0 name) (bare (old.now.trees 9)) in
-    let answers = answers_some up_schema find_vehicle_text 9 (equals 1 0 ∷ []) shown names (Text name ∷ []) (has_text 0 name) part
-    (λ x. and-true _ ∙ equals_text (column x 1) name ∙ ap (λ v. is_eq (value_cmp v (Text name))) (column_after x 0)) (λ x. rw (column_after x 0, column_after x 1, column_after x 2, column_after x 3) refl)
-    (λ db. refl) find_is.1 find_plain find_is.0 old new in
-    ok_then _ _ r (λ found is rows_of has lists. ap (map part) (sym (lists.parts name) ∙ bare_filter (has_text 1 name) (has_text 0 name) (λ x. ap (λ v. is_eq (value_cmp v (Text name))) (column_after x 0)) (old.now.trees 9)) ∙ is has)
-    (one_in items part (λ x. refl) vehicle_row find_vehicle_text (Text name ∷ []) old new rows answer r answers h ran)
+finds_vehicle items answer r old new name = named_in items vehicle_table 0 find_vehicle_text shown names part vehicle_row name find_is.0 find_is.1 find_plain (λ db. refl) (λ x. rw (column_after x 0, column_after x 1, column_after x 2, column_after x 3) refl) (λ x. refl) answer r old new
 
 -- ---- its numbers are set
 

@@ -3,6 +3,7 @@ use Rattle.std.specs.Prelude.{◌<◌, ◌^◌, ℕ, pos, List, [], ◌∷◌, B
 use Rattle.sqlite.specs.declared.types.Value.TheVariants.{Int, Text, Blob}
 use Rattle.sqlite.specs.Order.{Row}
 use Rattle.up_tables.specs.declared.image.ImageRow.{ImageRow}
+use Rattle.up_tables.specs.declared.kept.KeptRow.{KeptRow}
 use Rattle.up_tables.specs.declared.vehicle.VehicleRow.{VehicleRow}
 use Rattle.up_tables.specs.Lines.{vehicle_line}
 
@@ -26,3 +27,16 @@ vehicle_places = 0 ∷ 1 ∷ 2 ∷ 3 ∷ []
 pub record FitVehicle (v : VehicleRow) : Type 0 where
   pub version : v.version < 2 ^ 63
   pub last_counter : v.last_counter < 2 ^ 63
+
+-- an accepted manifest: when it came, under which root version, and what was planned and answered
+abbrev pub kept_row : KeptRow → Row
+kept_row k = Text (string_bytes k.vehicle) ∷ Int (pos k.counter) ∷ Int (pos k.version) ∷ Int (pos k.moment) ∷ Int (pos k.root) ∷ Text (string_bytes k.signed) ∷ Text (string_bytes k.plan_text) ∷ Text (string_bytes k.reply) ∷ []
+
+abbrev pub kept_places : List ℕ
+kept_places = 0 ∷ 1 ∷ 2 ∷ 3 ∷ 4 ∷ 5 ∷ 6 ∷ 7 ∷ []
+
+pub record FitKept (k : KeptRow) : Type 0 where
+  pub counter : k.counter < 2 ^ 63
+  pub version : k.version < 2 ^ 63
+  pub moment : k.moment < 2 ^ 63
+  pub root : k.root < 2 ^ 63
