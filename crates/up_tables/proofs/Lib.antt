@@ -29,3 +29,4 @@ pub mod CrashLemmas
 pub mod CampaignSteps
 pub mod Typed
 pub mod KeptLemmas
+pub mod CampaignLemmas

@@ -5,7 +5,8 @@ use Rattle.sqlite.specs.Order.{Row}
 use Rattle.up_tables.specs.declared.image.ImageRow.{ImageRow}
 use Rattle.up_tables.specs.declared.kept.KeptRow.{KeptRow}
 use Rattle.up_tables.specs.declared.vehicle.VehicleRow.{VehicleRow}
-use Rattle.up_tables.specs.Lines.{vehicle_line}
+use Rattle.up_tables.specs.Lines.{campaign_line, vehicle_line, yes_or_no}
+use Rattle.up_tables.specs.declared.campaign.CampaignRow.{CampaignRow}
 
 -- an image: what it is, the hardware that it is for, and its needs and conflicts as texts
 abbrev pub image_row : ImageRow → Row
@@ -17,6 +18,12 @@ image_places = 0 ∷ 1 ∷ 2 ∷ 3 ∷ 4 ∷ 5 ∷ 6 ∷ []
 pub record FitImage (i : ImageRow) : Type 0 where
   pub length : i.length < 2 ^ 63
   pub release_count : i.release_count < 2 ^ 63
+
+abbrev pub campaign_row : CampaignRow → Row
+campaign_row c = campaign_line (string_bytes c.name) (string_bytes c.reach) (string_bytes c.items) (yes_or_no c.running)
+
+abbrev pub campaign_places : List ℕ
+campaign_places = 0 ∷ 1 ∷ 2 ∷ 3 ∷ []
 
 abbrev pub vehicle_row : VehicleRow → Row
 vehicle_row v = vehicle_line (string_bytes v.vehicle) (string_bytes v.primary_ecu) v.version v.last_counter
