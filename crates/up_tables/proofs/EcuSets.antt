@@ -112,7 +112,7 @@ old_at i (o ∷ os) [] e same there = absurd same
 old_at zero (o ∷ os) (x ∷ es) e same there = let is : x ≡ e = cc in (o, inl refl, subst (IsSameEcu o) is same.0)
 old_at (suc i) (o ∷ os) (x ∷ es) e same there = let rest = old_at i os es e same.1 there in (rest.0, inr rest.1, rest.2)
 
-lists_same : (at : ℕ) (f g : List ℕ → List Row) (rows : List Row) → ((n : List ℕ) → f n ≡ g n) → Lists at f rows → Lists at g rows
+pub lists_same : (at : ℕ) (f g : List ℕ → List Row) (rows : List Row) → ((n : List ℕ) → f n ≡ g n) → Lists at f rows → Lists at g rows
 lists_same at f g rows same h = record { shaped = h.shaped; parts = λ n. h.parts n ∙ same n }
 
 first_same : (vehicle : List ℕ) (es olds : List EcuLine) (rows_of : List ℕ → List Row) → rows_of vehicle ≡ map ecu_row olds → (n : List ℕ) → rows_of n ≡ set_first vehicle es olds 0 rows_of n

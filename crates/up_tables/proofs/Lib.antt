@@ -30,3 +30,9 @@ pub mod CampaignSteps
 pub mod Typed
 pub mod KeptLemmas
 pub mod CampaignLemmas
+pub mod EcuInserts
+pub mod EcuReads
+pub mod FileSteps
+pub mod FileLemmas
+pub mod MetaReads
+pub mod RoleKeyLemmas

@@ -4,8 +4,12 @@ use Rattle.sqlite.specs.declared.types.Value.TheVariants.{Int, Text, Blob}
 use Rattle.sqlite.specs.Order.{Row}
 use Rattle.up_tables.specs.declared.image.ImageRow.{ImageRow}
 use Rattle.up_tables.specs.declared.kept.KeptRow.{KeptRow}
+use Rattle.up_tables.specs.declared.repo_file.FileRow.{FileRow}
+use Rattle.up_tables.specs.Rows.{with_only_at}
 use Rattle.up_tables.specs.declared.vehicle.VehicleRow.{VehicleRow}
-use Rattle.up_tables.specs.Lines.{campaign_line, vehicle_line, yes_or_no}
+use Rattle.up_tables.specs.Lines.{meta_row, campaign_line, vehicle_line, yes_or_no}
+use Rattle.up_tables.specs.declared.meta.MetaRow.{MetaRow}
+use Rattle.up_tables.specs.declared.role_key.RoleKeyRow.{RoleKeyRow}
 use Rattle.up_tables.specs.declared.campaign.CampaignRow.{CampaignRow}
 
 -- an image: what it is, the hardware that it is for, and its needs and conflicts as texts
@@ -47,3 +51,42 @@ pub record FitKept (k : KeptRow) : Type 0 where
   pub version : k.version < 2 ^ 63
   pub moment : k.moment < 2 ^ 63
   pub root : k.root < 2 ^ 63
+
+-- a file that is served
+abbrev pub file_row : FileRow → Row
+file_row f = Text (string_bytes f.repository) ∷ Text (string_bytes f.name) ∷ Text (string_bytes f.body) ∷ []
+
+abbrev pub file_places : List ℕ
+file_places = 0 ∷ 1 ∷ 2 ∷ []
+
+-- each of the files, in turn, has its text alone
+abbrev pub set_files : List FileRow → (List ℕ → List ℕ → List Row) → List ℕ → List ℕ → List Row
+set_files [] rows_of = rows_of
+set_files (f ∷ fs) rows_of = set_files fs (with_only_at (string_bytes f.repository) (string_bytes f.name) (file_row f) rows_of)
+
+-- the row of `meta` with these numbers, and what a read of it is of
+abbrev pub meta_of : MetaRow → Row
+meta_of m = meta_row m.root m.image_version m.stamp
+
+abbrev pub meta_values : MetaRow → Row
+meta_values m = Int (pos m.root) ∷ Int (pos m.image_version) ∷ Int (pos m.stamp) ∷ []
+
+abbrev pub meta_places : List ℕ
+meta_places = 0 ∷ 1 ∷ 2 ∷ []
+
+pub record FitMeta (m : MetaRow) : Type 0 where
+  pub root : m.root < 2 ^ 63
+  pub image_version : m.image_version < 2 ^ 63
+  pub stamp : m.stamp < 2 ^ 63
+
+-- a key of a role in a root version, at its place there, with the role's threshold
+abbrev pub role_key_row : RoleKeyRow → Row
+role_key_row k = Int (pos k.root) ∷ Text (string_bytes k.repository) ∷ Text (string_bytes k.role) ∷ Int (pos k.place) ∷ Blob k.secret.items ∷ Int (pos k.threshold) ∷ []
+
+abbrev pub role_key_places : List ℕ
+role_key_places = 0 ∷ 1 ∷ 2 ∷ 3 ∷ 4 ∷ 5 ∷ []
+
+pub record FitRoleKey (k : RoleKeyRow) : Type 0 where
+  pub root : k.root < 2 ^ 63
+  pub place : k.place < 2 ^ 63
+  pub threshold : k.threshold < 2 ^ 63

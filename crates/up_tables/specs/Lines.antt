@@ -1,5 +1,5 @@
 -- Rows of the tables, column by column.
-use Rattle.std.specs.Prelude.{pos, codes, false, take, drop, ◌++◌, ◌≡◌, ◌&&◌, if◌then◌else◌, ℕ, ℤ, Bool, List, [], ◌∷◌, map, bytes_eq}
+use Rattle.std.specs.Prelude.{pos, suc, codes, false, take, drop, ◌++◌, ◌≡◌, ◌&&◌, if◌then◌else◌, ℕ, ℤ, Bool, List, [], ◌∷◌, map, bytes_eq}
 use Rattle.sqlite.specs.declared.types.Value.{Value}
 use Rattle.sqlite.specs.declared.types.Value.TheVariants.{Null, Int, Text, Blob}
 use Rattle.sqlite.specs.Order.{Row}
@@ -64,6 +64,11 @@ pub record IsSameEcu (a b : EcuLine) : Type 0 where
   pub place : a.place ≡ b.place
   pub hardware : a.hardware ≡ b.hardware
   pub public_key : a.public_key ≡ b.public_key
+
+-- ECUs of the vehicle, in order of their places, which count from this one on
+abbrev pub AreInPlace : List ℕ → ℕ → List EcuLine → Type 0
+AreInPlace vehicle place [] = Unit {0}
+AreInPlace vehicle place (e ∷ es) = (e.vehicle ≡ vehicle) × (e.place ≡ pos place) × AreInPlace vehicle (suc place) es
 
 -- the row stands in place of the one with that text at that place
 abbrev pub swapped : ℕ → List ℕ → Row → List Row → List Row

@@ -5,7 +5,7 @@ ghost use Rattle.std.specs.Option.{option_to_list};
 ghost use Rattle.std.specs.Result.{IsOkAnd};
 ghost use Rattle.up_tables.specs.Rows.{columns_at};
 
-use crate::values::{StoreFault, fault_of};
+use crate::values::{StoreFault, fault_of, text_at};
 use sqlite::{Error, Row};
 use std::alloc::Global;
 
@@ -23,6 +23,20 @@ pub trait Decode: Sized {
     /// Reads it; `Store` where a column isn't of its kind.
     fn decode(row: &Row) -> Result<Self, StoreFault>
         ensures { IfOk result (λ x. columns_at places row.now ≡ values x) };
+}
+
+/// A text, the one column that is read.
+impl Decode for String {
+    ghost use Rattle.std.specs.Prelude.{◌∷◌, [], string_bytes};
+    ghost use Rattle.sqlite.specs.declared.types.Value.TheVariants.{Text};
+
+    ghost places = { 0 ∷ [] };
+
+    ghost values = { λ text. Text (string_bytes text) ∷ [] };
+
+    fn decode(row: &Row) -> Result<String, StoreFault> {
+        text_at(row, 0)
+    }
 }
 
 /// What is read of the one row of an answer, none of none; `Store` where there are more.
