@@ -16,7 +16,6 @@ use Rattle.sqlite.specs.Edit.{next_rowid}
 use Rattle.sqlite.specs.State.{State, Shown}
 use Rattle.sqlite.specs.Table.{Table}
 use Rattle.sqlite.specs.Tree.{Trees, put_row, IsTable}
-use Rattle.sqlite_keyed.proofs.ListLemmas.{filter_same, map_same}
 use Rattle.sqlite_trees.specs.View.{IsShaped}
 use Rattle.sqlite_trees.specs.declared.store.Shape.TheVariants.{Table as TableShape}
 use Rattle.up_tables.specs.Rows.{bare, has_text, rows_with, with_row}

@@ -1,10 +1,10 @@
 -- The statements on campaigns that put rows in and read them.
-use Rattle.std.proofs.Common.{◌≡◌, ◌==◌, ℕ, ℤ, pos, List, [], ◌∷◌, ◌++◌, map, filter, Bool, true, false, ◌&&◌, if◌then◌else◌, length, Some, None, Ok, Err, Result, OnOk, IfOk, Option, IsTrue, refl, sym, ap, subst, ◌∙◌, codes, string_bytes, append-nil, bytes_eq, drop}
+use Rattle.std.proofs.Common.{◌≡◌, ◌==◌, ℕ, pos, List, [], ◌∷◌, map, filter, Bool, true, false, length, Result, OnOk, IfOk, Option, IsTrue, refl, ap, ◌∙◌, codes, string_bytes, append-nil, bytes_eq, drop}
 use Rattle.std.specs.Option.{option_to_list}
 use Rattle.std.specs.Result.{IsOkAnd}
 use Rattle.std.specs.Ordering.{is_eq}
 use Rattle.std.proofs.Math.Bool.{and-true}
-use Rattle.sqlite.specs.declared.types.Value.TheVariants.{Null, Int, Text, Blob}
+use Rattle.sqlite.specs.declared.types.Value.TheVariants.{Null, Int, Text}
 use Rattle.sqlite.specs.declared.error.Error.{Error}
 use Rattle.sqlite.specs.Order.{Row, column, value_cmp}
 use Rattle.sqlite.specs.Term.{Term, lit, col, op2}
@@ -20,10 +20,10 @@ use Rattle.sqlite_schema.specs.declared.schema.Keys.TheVariants.{Enforced}
 use Rattle.sqlite_sql.specs.declared.ops.BinaryOp.TheVariants.{Compare}
 use Rattle.sqlite_sql.specs.declared.ops.CompareOp.TheVariants.{Eq}
 use Rattle.sqlite_value.specs.declared.keys.Collation.TheVariants.{Binary}
-use Rattle.up_tables.specs.Rows.{bare, columns_at, has_text, has_number, with_row}
-use Rattle.up_tables.specs.Stands.{Lists, ListsAll, IfClean, IsInside, Alters, HasTables}
+use Rattle.up_tables.specs.Rows.{columns_at, has_number, with_row}
+use Rattle.up_tables.specs.Stands.{Lists, IfClean, IsInside, Alters, HasTables}
 use Rattle.up_tables.specs.declared.values.StoreFault.{StoreFault}
-use Rattle.up_tables.proofs.AnswerLemmas.{over, equals_text, equals_int}
+use Rattle.up_tables.proofs.AnswerLemmas.{over, equals_int}
 use Rattle.up_tables.proofs.Casts.{cast_int, cast_null}
 use Rattle.up_tables.proofs.EcuRows.{text_is, column_after}
 use Rattle.up_tables.proofs.EcuUpsert.{equals}

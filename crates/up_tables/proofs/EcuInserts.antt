@@ -1,7 +1,7 @@
 -- The rows of a vehicle's ECUs are put in, one after another.
-use Rattle.std.proofs.Common.{◌≡◌, ℕ, zero, suc, ◌+◌, List, [], ◌∷◌, ◌++◌, map, take, length, slice_get, Some, Ok, Err, Result, OnOk, IsTrue, Bool, true, false, if◌then◌else◌, refl, sym, ap, subst, ◌∙◌, codes, append-nil, append_assoc, bytes_eq, arith}
+use Rattle.std.proofs.Common.{◌≡◌, ℕ, zero, suc, ◌+◌, List, [], ◌∷◌, ◌++◌, map, take, length, slice_get, Some, Result, OnOk, IsTrue, Bool, true, false, if◌then◌else◌, refl, sym, ap, subst, ◌∙◌, codes, append-nil, append_assoc, bytes_eq, arith}
 use Rattle.std.proofs.lemmas.List.{map-append}
-use Rattle.sqlite.specs.declared.types.Value.TheVariants.{Null, Text}
+use Rattle.sqlite.specs.declared.types.Value.TheVariants.{Null}
 use Rattle.sqlite.specs.declared.error.Error.{Error}
 use Rattle.sqlite.specs.Order.{Row}
 use Rattle.sqlite.specs.Source.TheVariants.{Values}

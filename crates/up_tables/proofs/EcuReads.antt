@@ -1,5 +1,5 @@
 -- The ECUs of a vehicle in order of place, and the vehicle of an ECU.
-use Rattle.std.proofs.Common.{◌≡◌, ◌<◌, ℕ, zero, suc, ℤ, pos, List, [], ◌∷◌, map, filter, drop, Bool, true, false, cond, ◌||◌, Option, Some, None, Ok, Err, Result, OnOk, IfOk, refl, sym, ap, ap₂, subst, ◌∙◌, arith, codes, option_map, bytes_eq}
+use Rattle.std.proofs.Common.{◌≡◌, ◌<◌, ℕ, suc, pos, List, [], ◌∷◌, map, filter, drop, Bool, true, false, cond, Option, Some, None, Result, IfOk, refl, sym, ap, ap₂, subst, ◌∙◌, arith, codes, option_map}
 use Rattle.std.specs.List.{AllByRecursion, list_all, list_any}
 use Rattle.std.specs.List.Sorted.{IsPermutation}
 use Rattle.std.specs.Option.{option_to_list}

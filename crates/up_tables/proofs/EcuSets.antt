@@ -1,5 +1,5 @@
 -- The rows of a vehicle's ECUs are set, one after another.
-use Rattle.std.proofs.Common.{◌≡◌, ◌≢◌, inl, inr, ℕ, zero, suc, ℤ, List, [], ◌∷◌, ◌++◌, map, take, drop, length, slice_get, Some, None, Option, Ok, Err, Result, OnOk, IsTrue, Bool, true, false, if◌then◌else◌, refl, sym, ap, ap₂, subst, ◌∙◌, bytes_eq, arith, append-nil, ◌+◌}
+use Rattle.std.proofs.Common.{◌≡◌, ◌≢◌, inl, inr, ℕ, zero, suc, List, [], ◌∷◌, ◌++◌, map, take, drop, length, slice_get, Some, Ok, Err, Result, OnOk, IsTrue, Bool, true, false, if◌then◌else◌, refl, sym, ap, subst, ◌∙◌, bytes_eq, arith, ◌+◌}
 use Rattle.std.specs.List.{AllByRecursion}
 use Rattle.sqlite.specs.declared.types.Value.TheVariants.{Int, Text}
 use Rattle.sqlite.specs.declared.error.Error.{Error}

@@ -1,33 +1,23 @@
 -- Files that are served: one after another is set, and one is read.
-use Rattle.std.proofs.Common.{◌≡◌, ◌≤◌, ◌+◌, ◌==◌, zero, suc, take, slice_get, arith, ℕ, ℤ, pos, List, [], ◌∷◌, ◌++◌, map, filter, Bool, true, false, ◌&&◌, if◌then◌else◌, length, Some, None, Ok, Err, Result, OnOk, IfOk, Option, IsTrue, refl, sym, ap, subst, ◌∙◌, codes, string_bytes, append-nil, bytes_eq, drop}
+use Rattle.std.proofs.Common.{◌≡◌, ◌≤◌, ◌+◌, suc, take, slice_get, arith, ℕ, List, [], ◌∷◌, ◌++◌, map, filter, Bool, true, false, ◌&&◌, if◌then◌else◌, length, Some, Result, IfOk, Option, refl, sym, ap, subst, ◌∙◌, codes, string_bytes, bytes_eq, drop}
 use Rattle.std.specs.Option.{option_to_list}
 use Rattle.std.specs.Result.{IsOkAnd}
-use Rattle.std.specs.Ordering.{is_eq}
 use Rattle.std.proofs.Math.Bool.{and-true}
-use Rattle.sqlite.specs.declared.types.Value.TheVariants.{Null, Int, Text, Blob}
+use Rattle.sqlite.specs.declared.types.Value.TheVariants.{Text}
 use Rattle.sqlite.specs.declared.error.Error.{Error}
-use Rattle.sqlite.specs.Order.{Row, column, value_cmp}
-use Rattle.sqlite.specs.Term.{Term, lit, col, op2}
-use Rattle.sqlite.specs.Cast.{cast_row}
-use Rattle.sqlite.specs.Source.TheVariants.{Values}
-use Rattle.sqlite.specs.Command.TheVariants.{Insert, Select}
+use Rattle.sqlite.specs.Order.{Row, column}
+use Rattle.sqlite.specs.Term.{Term, col}
+use Rattle.sqlite.specs.Command.TheVariants.{Select}
 use Rattle.sqlite.specs.Listing.{understood, reads_listing}
-use Rattle.sqlite.specs.State.{State, HasCleanDisk, Survives, ExecutesInside, Shown}
+use Rattle.sqlite.specs.State.{State, Shown}
 use Rattle.sqlite.proofs.Callers.{IsPlain, command_of}
 use Rattle.sqlite_tied.specs.Compute.{everything}
-use Rattle.sqlite_rules.specs.Action.{works}
-use Rattle.sqlite_schema.specs.declared.schema.Keys.TheVariants.{Enforced}
-use Rattle.sqlite_sql.specs.declared.ops.BinaryOp.TheVariants.{Compare}
-use Rattle.sqlite_sql.specs.declared.ops.CompareOp.TheVariants.{Eq}
-use Rattle.sqlite_value.specs.declared.keys.Collation.TheVariants.{Binary}
-use Rattle.up_tables.specs.Rows.{bare, columns_at, has_text, has_number, with_row}
-use Rattle.up_tables.specs.Stands.{Lists, ListsAll, IfClean, IsInside, Alters, HasTables}
+use Rattle.up_tables.specs.Rows.{bare, columns_at, has_text}
+use Rattle.up_tables.specs.Stands.{IsInside, Alters, HasTables}
 use Rattle.up_tables.specs.declared.values.StoreFault.{StoreFault}
-use Rattle.up_tables.proofs.AnswerLemmas.{over, equals_text, equals_int}
-use Rattle.up_tables.proofs.Casts.{cast_int, cast_null}
-use Rattle.up_tables.proofs.EcuRows.{text_is, column_after}
+use Rattle.up_tables.proofs.AnswerLemmas.{over, equals_text}
+use Rattle.up_tables.proofs.EcuRows.{column_after}
 use Rattle.up_tables.proofs.EcuUpsert.{equals}
-use Rattle.up_tables.proofs.InsertLemmas.{inserts_in}
 use Rattle.up_tables.specs.Tables.{up_schema, repo_file_table}
 use Rattle.up_tables.specs.Rows.{has_texts, with_only_at}
 use Rattle.up_tables.specs.Forms.{file_row, file_places, set_files}

@@ -1,7 +1,5 @@
 -- What the upsert of a file's row does.
-use Rattle.std.proofs.Common.{◌≡◌, ◌≢◌, ◌≤◌, ◌==◌, inl, inr, arith, ℕ, ℤ, pos, List, [], ◌∷◌, ◌++◌, map, filter, Bool, true, false, ◌&&◌, if◌then◌else◌, length, Some, None, Ok, Err, Result, OnOk, IfOk, Option, IsTrue, refl, sym, ap, subst, ◌∙◌, codes, string_bytes, append-nil, bytes_eq, drop}
-use Rattle.std.specs.Option.{option_to_list}
-use Rattle.std.specs.Result.{IsOkAnd}
+use Rattle.std.proofs.Common.{◌≡◌, ◌≢◌, ◌≤◌, ◌==◌, inl, inr, arith, ℕ, ℤ, List, [], ◌∷◌, ◌++◌, map, filter, Bool, true, false, ◌&&◌, if◌then◌else◌, length, Some, None, Ok, Err, Result, OnOk, Option, IsTrue, refl, sym, ap, subst, ◌∙◌, codes, append-nil, bytes_eq, drop}
 use Rattle.std.specs.Ordering.{is_eq}
 use Rattle.std.proofs.Math.Bool.{and-true}
 use Rattle.sqlite.specs.declared.types.Value.TheVariants.{Null, Int, Text, Blob}
@@ -11,23 +9,18 @@ use Rattle.sqlite.specs.Term.{Term, lit, col, eval_all, holds}
 use Rattle.sqlite.specs.Cast.{cast_row}
 use Rattle.sqlite.specs.Source.TheVariants.{Values}
 use Rattle.sqlite.specs.Command.TheVariants.{InsertOr}
-use Rattle.sqlite.specs.Listing.{understood, reads_listing}
+use Rattle.sqlite.specs.Listing.{understood}
 use Rattle.sqlite.specs.State.{State, mode_of, HasCleanDisk, Survives, Executes, ExecutesInside}
 use Rattle.sqlite.proofs.Callers.{IsPlain, command_of, statement_of, one_step, one_permutation, runs_as}
 use Rattle.sqlite_tied.specs.Compute.{everything}
 use Rattle.sqlite_rules.specs.Action.{works}
 use Rattle.sqlite_schema.specs.declared.schema.Keys.TheVariants.{Enforced}
-use Rattle.sqlite_sql.specs.declared.ops.BinaryOp.TheVariants.{Compare}
-use Rattle.sqlite_sql.specs.declared.ops.CompareOp.TheVariants.{Eq}
-use Rattle.sqlite_value.specs.declared.keys.Collation.TheVariants.{Binary}
-use Rattle.up_tables.specs.Rows.{bare, columns_at, has_text, has_number, with_row}
-use Rattle.up_tables.specs.Stands.{Lists, ListsAll, IfClean, IsInside, Alters, HasTables}
-use Rattle.up_tables.specs.declared.values.StoreFault.{StoreFault}
+use Rattle.up_tables.specs.Rows.{bare, has_text}
+use Rattle.up_tables.specs.Stands.{IfClean, IsInside, Alters, HasTables}
 use Rattle.up_tables.proofs.AnswerLemmas.{over, equals_text, equals_int}
 use Rattle.up_tables.proofs.Casts.{cast_int, cast_null}
-use Rattle.up_tables.proofs.EcuRows.{text_is, column_after}
+use Rattle.up_tables.proofs.EcuRows.{text_is}
 use Rattle.up_tables.proofs.EcuUpsert.{equals}
-use Rattle.up_tables.proofs.InsertLemmas.{inserts_in}
 use Rattle.std.specs.List.{AllByRecursion, list_all}
 use Rattle.std.specs.List.Sorted.{IsPermutation}
 use Rattle.std.proofs.Math.Bool.{or-false}
@@ -41,7 +34,7 @@ use Rattle.sqlite.specs.Rows.{Written, Task, TriesEach, Tries, Upserts, Puts, Ed
 use Rattle.sqlite.specs.Tree.{Trees, put_row, without_rowid, has_rowid, rowid, IsTable}
 use Rattle.sqlite_keyed.proofs.ListLemmas.{filter_same, filter_none}
 use Rattle.sqlite_rules.specs.Calls.{ids_of}
-use Rattle.sqlite_rules.specs.Keys.{conflicts, AreConflicts}
+use Rattle.sqlite_rules.specs.Keys.{conflicts}
 use Rattle.sqlite_rules.specs.Lists.{Has}
 use Rattle.sqlite_rules.proofs.ListLemmas.{all_has, all_from, has_kept}
 use Rattle.sqlite_rules.proofs.ProbeLemmas.{mapped_has}
@@ -58,7 +51,7 @@ use Rattle.up_tables.specs.Stands.{ListsPairs}
 use Rattle.up_tables.proofs.AnswerLemmas.{answer_is, shows_passing}
 use Rattle.up_tables.proofs.AppendLemmas.{appended_by, shaped_next}
 use Rattle.up_tables.proofs.CreateLemmas.{went, same_value}
-use Rattle.up_tables.proofs.EcuRows.{own_text, same_text}
+use Rattle.up_tables.proofs.EcuRows.{same_text}
 use Rattle.up_tables.proofs.EcuSteps.{with_id}
 use Rattle.up_tables.proofs.InsertLemmas.{concluded}
 use Rattle.up_tables.proofs.OnlyLemmas.{rewritten_shaped, part_in, part_out}

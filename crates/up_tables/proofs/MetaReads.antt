@@ -1,15 +1,13 @@
 -- The row of `meta` is read and set.
-use Rattle.std.proofs.Common.{◌≡◌, ◌==◌, inl, arith, ℕ, ℤ, pos, List, [], ◌∷◌, ◌++◌, map, filter, Bool, true, false, ◌&&◌, if◌then◌else◌, length, Some, None, Ok, Err, Result, OnOk, IfOk, Option, IsTrue, refl, sym, ap, subst, ◌∙◌, codes, string_bytes, append-nil, bytes_eq, drop}
+use Rattle.std.proofs.Common.{◌≡◌, ◌==◌, arith, ℕ, pos, List, [], ◌∷◌, map, filter, Bool, true, false, length, Some, None, Ok, Err, Result, OnOk, IfOk, Option, IsTrue, refl, sym, ap, subst, ◌∙◌, codes, drop}
 use Rattle.std.specs.Option.{option_to_list}
 use Rattle.std.specs.Result.{IsOkAnd}
-use Rattle.std.specs.Ordering.{is_eq}
 use Rattle.std.proofs.Math.Bool.{and-true}
-use Rattle.sqlite.specs.declared.types.Value.TheVariants.{Null, Int, Text, Blob}
+use Rattle.sqlite.specs.declared.types.Value.TheVariants.{Null, Int}
 use Rattle.sqlite.specs.declared.error.Error.{Error}
 use Rattle.sqlite.specs.Order.{Row, column, value_cmp}
 use Rattle.sqlite.specs.Term.{Term, lit, col, op2, eval_all, holds}
 use Rattle.sqlite.specs.Cast.{cast_row}
-use Rattle.sqlite.specs.Source.TheVariants.{Values}
 use Rattle.sqlite.specs.Command.TheVariants.{Select, Update}
 use Rattle.sqlite.specs.Listing.{understood, reads_listing}
 use Rattle.sqlite.specs.State.{State, HasCleanDisk, Survives, ExecutesInside, Shown}
@@ -20,14 +18,11 @@ use Rattle.sqlite_schema.specs.declared.schema.Keys.TheVariants.{Enforced}
 use Rattle.sqlite_sql.specs.declared.ops.BinaryOp.TheVariants.{Compare}
 use Rattle.sqlite_sql.specs.declared.ops.CompareOp.TheVariants.{Eq}
 use Rattle.sqlite_value.specs.declared.keys.Collation.TheVariants.{Binary}
-use Rattle.up_tables.specs.Rows.{bare, columns_at, has_text, has_number, with_row}
-use Rattle.up_tables.specs.Stands.{Lists, ListsAll, IfClean, IsInside, Alters, HasTables}
+use Rattle.up_tables.specs.Rows.{columns_at}
+use Rattle.up_tables.specs.Stands.{IfClean, IsInside, Alters, HasTables}
 use Rattle.up_tables.specs.declared.values.StoreFault.{StoreFault}
-use Rattle.up_tables.proofs.AnswerLemmas.{over, equals_text, equals_int}
+use Rattle.up_tables.proofs.AnswerLemmas.{over, equals_int}
 use Rattle.up_tables.proofs.Casts.{cast_int, cast_null}
-use Rattle.up_tables.proofs.EcuRows.{text_is, column_after}
-use Rattle.up_tables.proofs.EcuUpsert.{equals}
-use Rattle.up_tables.proofs.InsertLemmas.{inserts_in}
 use Rattle.std.specs.List.{list_all}
 use Rattle.std.specs.List.Sorted.{IsPermutation}
 use Rattle.sqlite.specs.Effect.{Answers}
@@ -40,11 +35,8 @@ use Rattle.up_tables.specs.declared.meta.MetaRow.{MetaRow}
 use Rattle.up_tables.proofs.AnswerLemmas.{answer_is, shows_passing}
 use Rattle.up_tables.proofs.OthersLemmas.{others_stay}
 use Rattle.up_tables.proofs.PlaceLemmas.{itself}
-use Rattle.up_tables.proofs.ReadLemmas.{few_permutation}
-use Rattle.up_tables.proofs.StateLemmas.{one_in, ok_then}
 use Rattle.up_tables.proofs.UpdateLemmas.{updates_row}
 use Rattle.sqlite.proofs.Callers.{reads_as}
-use Rattle.sqlite_keyed.proofs.ListLemmas.{filter_same}
 
 abbrev is_one : Term
 is_one = op2 (Compare Eq Binary) (col 1 0) (lit (Int (pos 1)))

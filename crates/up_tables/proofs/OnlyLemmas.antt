@@ -1,8 +1,8 @@
 -- A row is written under the rowid of the one that was there.
-use Rattle.std.proofs.Common.{◌≡◌, inl, inr, ℕ, suc, ℤ, List, [], ◌∷◌, map, filter, drop, length, Bool, true, false, not, ◌&&◌, cond, IsTrue, if◌then◌else◌, refl, sym, ap, subst, ◌∙◌, bytes_eq, arith}
+use Rattle.std.proofs.Common.{◌≡◌, inl, inr, ℕ, ℤ, List, [], ◌∷◌, filter, length, Bool, true, false, not, IsTrue, if◌then◌else◌, refl, sym, ap, ◌∙◌, bytes_eq, arith}
 use Rattle.std.specs.List.{AllByRecursion}
 use Rattle.std.specs.declared.cmp.Ordering.TheVariants.{Less}
-use Rattle.sqlite.specs.declared.types.Value.TheVariants.{Int, Text}
+use Rattle.sqlite.specs.declared.types.Value.TheVariants.{Int}
 use Rattle.sqlite.specs.Order.{Row, value_cmp}
 use Rattle.sqlite.specs.Tree.{put_row, without_rowid, has_rowid, rowid}
 use Rattle.sqlite_rules.specs.Lists.{Has}
@@ -11,8 +11,8 @@ use Rattle.sqlite_keyed.proofs.ListLemmas.{all_weaker, ascending-filter, all-fil
 use Rattle.sqlite_trees.specs.View.{IsShaped, is_int}
 use Rattle.sqlite_trees.specs.declared.store.Shape.TheVariants.{Table}
 use Rattle.sqlite_trees.proofs.TreeLemmas.{IsShaped-put_row}
-use Rattle.up_tables.specs.Rows.{has_text, bare, rows_with, with_only, with_only_at, has_texts}
-use Rattle.up_tables.proofs.EcuRows.{text_is, own_text, same_text}
+use Rattle.up_tables.specs.Rows.{has_text, bare, rows_with, with_only}
+use Rattle.up_tables.proofs.EcuRows.{same_text}
 use Rattle.up_tables.proofs.PlaceLemmas.{replaced, put_back, unique, filter-replaced, any_has, itself, unmoved}
 
 -- a part of one row, which is replaced

@@ -1,13 +1,13 @@
 -- What a query on one table answers, of any table whose rows are shown without their rowids.
-use Rattle.std.proofs.Common.{◌≡◌, ◌≤◌, ℕ, suc, List, [], ◌∷◌, map, filter, length, Bool, true, false, cond, ◌&&◌, Option, Some, None, Result, Ok, Err, IfOk, refl, sym, ap, subst, ◌∙◌, drop, arith}
+use Rattle.std.proofs.Common.{◌≡◌, ◌≤◌, ℕ, List, [], ◌∷◌, map, filter, length, Bool, true, false, cond, ◌&&◌, refl, sym, ap, subst, ◌∙◌, drop, arith}
 use Rattle.std.specs.List.{list_all}
 use Rattle.std.specs.List.Sorted.{IsPermutation}
 use Rattle.std.specs.declared.cmp.Ordering.TheVariants.{Less}
-use Rattle.std.proofs.lemmas.List.Sorted.{length_permutation, IsPermutation-map}
+use Rattle.std.proofs.lemmas.List.Sorted.{length_permutation}
 use Rattle.sqlite.specs.declared.types.Value.TheVariants.{Null}
 use Rattle.sqlite.specs.Order.{Row, column, value_cmp}
 use Rattle.sqlite.specs.Term.{Term, col, eval_all, holds}
-use Rattle.sqlite.specs.Query.{Output, output_cmp}
+use Rattle.sqlite.specs.Query.{output_cmp}
 use Rattle.sqlite.specs.Tree.{Trees, IsAscending, IsTable, rowid}
 use Rattle.sqlite.specs.Program.{overlay}
 use Rattle.std.specs.List.{AllByRecursion}
@@ -21,9 +21,9 @@ use Rattle.sqlite_value.specs.declared.keys.Collation.TheVariants.{Binary}
 use Rattle.sqlite.proofs.Callers.{IsPlain, command_of, reads_as, one_permutation}
 use Rattle.sqlite_sql.proofs.QueryLemmas.{output_cmp_total}
 use Rattle.sqlite_keyed.proofs.SortLemmas.{sorted_unique}
-use Rattle.sqlite_keyed.proofs.ListLemmas.{map-map, map_same, ascending-map, ascending-filter}
+use Rattle.sqlite_keyed.proofs.ListLemmas.{map-map, ascending-map, ascending-filter}
 use Rattle.up_tables.specs.Rows.{bare}
-use Rattle.up_tables.proofs.AnswerLemmas.{over, outputs, IsOrder, answer_is, shows_passing}
+use Rattle.up_tables.proofs.AnswerLemmas.{over, outputs, answer_is, shows_passing}
 
 -- tests and columns of the rows without their rowids
 pub picked_bare : {A : Type 0} (p' p : Row → Bool) (f' f : Row → A) → ((r : Row) → p' r ≡ p (drop 1 r)) → ((r : Row) → f' r ≡ f (drop 1 r)) → (rows : List Row) → map f' (filter p' rows) ≡ map f (filter p (bare rows))

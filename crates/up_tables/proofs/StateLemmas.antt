@@ -1,19 +1,16 @@
 -- What a statement within a transaction leaves, whatever it wrote or read.
-use Rattle.std.proofs.Common.{◌≡◌, ◌≤◌, ℕ, List, [], ◌∷◌, map, filter, length, Bool, subst, ap, refl, Option, None, Some, Ok, Err, Result, IfOk, OnOk, IsTrue, sym, arith, ◌∙◌}
+use Rattle.std.proofs.Common.{◌≡◌, ◌≤◌, ℕ, List, map, length, subst, ap, Option, None, Some, Ok, Err, Result, IfOk, OnOk, IsTrue, sym, arith, ◌∙◌}
 use Rattle.std.specs.Result.{IsOk, IsOkAnd}
 use Rattle.sqlite.specs.declared.error.Error.{Error}
 use Rattle.sqlite.specs.Order.{Row}
 use Rattle.sqlite.specs.Listing.{understood}
-use Rattle.sqlite.specs.State.{State, HasCleanDisk, Survives, ExecutesInside, Shown, ShowsRows, IsUnchanged}
+use Rattle.sqlite.specs.State.{State, HasCleanDisk, Survives, ExecutesInside, Shown, ShowsRows}
 use Rattle.sqlite.proofs.Callers.{IsPlain}
-use Rattle.sqlite_resolve.specs.declared.compiled.Compiled.{Compiled}
-use Rattle.sqlite_schema.specs.declared.command.Returning.{Returning}
 use Rattle.std.specs.Option.{option_to_list}
 use Rattle.std.specs.List.Sorted.{IsPermutation}
 use Rattle.std.proofs.lemmas.List.Sorted.{IsPermutation-map}
 use Rattle.sqlite.specs.Clock.{timed}
 use Rattle.sqlite_keyed.proofs.ListLemmas.{map-map, map_same}
-use Rattle.up_tables.specs.Rows.{bare}
 use Rattle.up_tables.specs.Tables.{up_schema}
 use Rattle.up_tables.specs.Stands.{IfClean, IsInside, IsOpen, HasTables, Reads}
 use Rattle.up_tables.proofs.ReadLemmas.{few_permutation}

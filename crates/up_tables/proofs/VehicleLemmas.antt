@@ -4,7 +4,6 @@ use Rattle.std.specs.List.{AllByRecursion, list_all}
 use Rattle.std.specs.List.Sorted.{IsPermutation}
 use Rattle.std.specs.Option.{option_to_list}
 use Rattle.std.specs.Result.{IsOkAnd}
-use Rattle.std.specs.Ordering.{is_eq}
 use Rattle.std.proofs.Math.Bool.{and-true, or-false}
 use Rattle.sqlite.specs.declared.types.Value.{Value}
 use Rattle.sqlite.specs.declared.types.Value.TheVariants.{Null, Int, Text}
@@ -44,7 +43,7 @@ use Rattle.sqlite_trees.specs.declared.store.Shape.TheVariants.{Table}
 use Rattle.sqlite_value.specs.Keys.{first_key}
 use Rattle.sqlite_value.specs.declared.keys.Collation.TheVariants.{Binary}
 use Rattle.up_tables.specs.Tables.{up_schema, vehicle_table}
-use Rattle.up_tables.specs.Rows.{bare, columns_at, has_text, rows_with, with_row, with_only}
+use Rattle.up_tables.specs.Rows.{columns_at, has_text, rows_with, with_row, with_only}
 use Rattle.up_tables.specs.Lines.{vehicle_line}
 use Rattle.up_tables.specs.Forms.{vehicle_row, vehicle_places}
 use Rattle.up_tables.specs.Stands.{Lists, IfClean, IsInside, Alters, HasTables}
@@ -62,9 +61,7 @@ use Rattle.up_tables.proofs.InsertLemmas.{inserts_in}
 use Rattle.up_tables.proofs.OnlyLemmas.{rewritten_shaped, rewritten_parts}
 use Rattle.up_tables.proofs.OthersLemmas.{others_stay}
 use Rattle.up_tables.proofs.PlaceLemmas.{only}
-use Rattle.up_tables.proofs.ReadLemmas.{answers_some, bare_filter}
 use Rattle.up_tables.proofs.ReturnLemmas.{IsShowing, writes_as}
-use Rattle.up_tables.proofs.StateLemmas.{one_in, ok_then}
 use Rattle.up_tables.proofs.StepLemmas.{shown_open, shown_after}
 use Rattle.up_tables.proofs.UpsertLemmas.{upserted, tried_each, tried, resolved, updated, showing}
 

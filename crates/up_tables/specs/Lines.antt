@@ -1,5 +1,5 @@
 -- Rows of the tables, column by column.
-use Rattle.std.specs.Prelude.{pos, suc, codes, false, take, drop, ◌++◌, ◌≡◌, ◌&&◌, if◌then◌else◌, ℕ, ℤ, Bool, List, [], ◌∷◌, map, bytes_eq}
+use Rattle.std.specs.Prelude.{pos, suc, codes, false, take, drop, ◌++◌, ◌≡◌, if◌then◌else◌, ℕ, ℤ, Bool, List, [], ◌∷◌, map, bytes_eq}
 use Rattle.sqlite.specs.declared.types.Value.{Value}
 use Rattle.sqlite.specs.declared.types.Value.TheVariants.{Null, Int, Text, Blob}
 use Rattle.sqlite.specs.Order.{Row}

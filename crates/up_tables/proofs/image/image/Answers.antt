@@ -1,5 +1,4 @@
 use Rattle.sqlite.specs.Held.{state}
-use Rattle.up_tables.specs.Forms.{image_row}
 use Rattle.up_tables.proofs.ImageLemmas.{find_image_text, find_plain, finds_image}
 use Rattle.up_tables.proofs.StateLemmas.{reads_in}
 use Rattle.up_tables.proofs.StepLemmas.{queries}

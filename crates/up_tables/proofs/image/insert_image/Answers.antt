@@ -1,6 +1,5 @@
 use Rattle.sqlite.specs.Held.{state}
-use Rattle.up_tables.specs.Forms.{image_row}
-use Rattle.up_tables.proofs.ImageLemmas.{insert_image_text, image_inserts}
+use Rattle.up_tables.proofs.ImageLemmas.{image_inserts}
 use Rattle.up_tables.proofs.StateLemmas.{on_done, inside_after, open_after}
 use Rattle.up_tables.proofs.image.insert_image.Goals as goal
 

@@ -1,7 +1,7 @@
-use Rattle.std.proofs.Common.{◌≡◌, subst, arith, rules, sym}
+use Rattle.std.proofs.Common.{◌≡◌, subst, arith, rules}
 use Rattle.sqlite.specs.Held.{state}
 use Rattle.sqlite.specs.State.{HasCleanDisk}
-use Rattle.up_tables.specs.Ours.{IsOurs, NamesUs}
+use Rattle.up_tables.specs.Ours.{NamesUs}
 use Rattle.up_tables.proofs.OursLemmas.{ours_then, before_begun}
 use Rattle.up_tables.proofs.open.names_us.Goals as goal
 
