@@ -27,7 +27,6 @@ pub mod TransactionLemmas
 pub mod OursLemmas
 pub mod CrashLemmas
 pub mod CampaignSteps
-pub mod Typed
 pub mod KeptLemmas
 pub mod CampaignLemmas
 pub mod EcuInserts
@@ -36,3 +35,4 @@ pub mod FileSteps
 pub mod FileLemmas
 pub mod MetaReads
 pub mod RoleKeyLemmas
+pub mod ListedLemmas

@@ -9,3 +9,4 @@ pub mod Ours
 pub mod Ecus
 pub mod Forms
 pub mod Crashes
+pub mod Listed

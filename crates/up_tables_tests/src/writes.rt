@@ -58,8 +58,8 @@ pub(crate) fn write_root<S: Alter>(
     meta: &MetaRow,
     keys: &[RoleKeyRow],
 ) -> Result<(), StoreFault>
-    requires { FitMeta meta.now }
-    requires { All FitRoleKey keys.now }
+    requires meta { FitMeta meta.now }
+    requires keys { All FitRoleKey keys.now }
 {
     if !conn.is_autocommit() {
         return Err(StoreFault::Store);
@@ -76,7 +76,7 @@ pub(crate) fn write_files<S: Alter>(
     meta: &MetaRow,
     files: &[FileRow],
 ) -> Result<(), StoreFault>
-    requires { FitMeta meta.now }
+    requires meta { FitMeta meta.now }
 {
     if !conn.is_autocommit() {
         return Err(StoreFault::Store);
@@ -93,9 +93,9 @@ pub(crate) fn write_vehicle<S: Alter>(
     vehicle: &VehicleRow,
     ecus: &[EcuRow],
 ) -> Result<(), StoreFault>
-    requires { FitVehicle vehicle.now }
-    requires { length ecus.now < 2 ^ 63 }
-    requires { All FitEcu ecus.now }
+    requires vehicle { FitVehicle vehicle.now }
+    requires few { length ecus.now < 2 ^ 63 }
+    requires ecus { All FitEcu ecus.now }
 {
     if !conn.is_autocommit() {
         return Err(StoreFault::Store);
@@ -113,10 +113,10 @@ pub(crate) fn write_accept<S: Alter>(
     ecus: &[EcuRow],
     kept: &KeptRow,
 ) -> Result<(), StoreFault>
-    requires { FitVehicle vehicle.now }
-    requires { length ecus.now < 2 ^ 63 }
-    requires { All FitEcu ecus.now }
-    requires { FitKept kept.now }
+    requires vehicle { FitVehicle vehicle.now }
+    requires few { length ecus.now < 2 ^ 63 }
+    requires ecus { All FitEcu ecus.now }
+    requires kept { FitKept kept.now }
 {
     if !conn.is_autocommit() {
         return Err(StoreFault::Store);
