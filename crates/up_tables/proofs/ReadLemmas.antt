@@ -87,7 +87,7 @@ module _ (schema : Schema) (text : List ℕ) (tree : ℕ) (tests shown : List Te
       let order = over 0 [] [] by_rowid in
       let rise : IsAscending (λ a b. output_cmp order a b ≡ Less) (outputs tests shown by_rowid params all) =
       ascending-map (λ a b. output_cmp order a b ≡ Less) (λ r. (column r 0 ∷ [], eval_all shown (params ∷ r ∷ []))) passing
-          (risen passing (ascending-filter (λ a b. value_cmp (rowid a) (rowid b) ≡ Less) _ all (subst IsTable (sym (base old.now.trees)) table))) in
+      (risen passing (ascending-filter (λ a b. value_cmp (rowid a) (rowid b) ≡ Less) _ all (subst IsTable (sym (base old.now.trees)) table))) in
       let ordered : answer.ordered ≡ outputs tests shown by_rowid params all = sorted_unique (output_cmp order) (output_cmp_total order) _ answer.ordered rise answer.same answer.sorted in
       answer.shown ∙ ap (map (λ o. o.1)) ordered ∙ map-map (λ o. o.1) _ passing ∙ picked_bare _ q _ part meets shows all ∙ ap (λ xs. map part (filter q (bare xs))) (base old.now.trees)
     where

@@ -10,3 +10,4 @@ pub mod Ecus
 pub mod Forms
 pub mod Crashes
 pub mod Listed
+pub mod Faults

@@ -68,10 +68,7 @@ pub fn insert_campaign<S: Alter>(
 }
 
 /// Says in its row that a campaign that is there doesn't run.
-pub fn close_campaign<S: Alter>(
-    tx: &mut Transaction<'_, S>,
-    name: &str,
-) -> Result<(), StoreFault>
+pub fn close_campaign<S: Alter>(tx: &mut Transaction<'_, S>, name: &str) -> Result<(), StoreFault>
     requires mode { IfClean IsInside (state S.Store tx.old.conn.now) }
     ensures same_reference { tx.new.conn.ghost_name ≡ tx.old.conn.ghost_name }
     ensures closed { HasCleanDisk (state S.Store tx.new.conn.now) → OnOk result ((rows_of : List ℕ → List Values) (reach : List ℕ) (items : List ℕ) (running : ℤ) → HasTables (state S.Store tx.old.conn.now)
@@ -118,8 +115,11 @@ pub fn running_campaigns<S: Alter>(
     ensures reads { HasCleanDisk (state S.Store tx.new.conn.now) → OnOk result (HasTables (state S.Store tx.old.conn.now) → Reads (state S.Store tx.old.conn.now) (state S.Store tx.new.conn.now)) }
     ensures steps { Steps (state S.Store tx.old.conn.now) (state S.Store tx.new.conn.now) }
 {
-    each_row(alloc, tx.query_all(
-        "SELECT name, reach, items, running FROM campaign WHERE running = 1 ORDER BY rowid",
-        &[],
-    ))
+    each_row(
+        alloc,
+        tx.query_all(
+            "SELECT name, reach, items, running FROM campaign WHERE running = 1 ORDER BY rowid",
+            &[],
+        ),
+    )
 }

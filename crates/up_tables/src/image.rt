@@ -107,8 +107,11 @@ pub fn images<S: Alter>(
     ensures reads { HasCleanDisk (state S.Store tx.new.conn.now) → OnOk result (HasTables (state S.Store tx.old.conn.now) → Reads (state S.Store tx.old.conn.now) (state S.Store tx.new.conn.now)) }
     ensures steps { Steps (state S.Store tx.old.conn.now) (state S.Store tx.new.conn.now) }
 {
-    each_row(alloc, tx.query_all(
-        "SELECT file, length, sha256, hardware, release_count, needs, conflicts FROM image ORDER BY rowid",
-        &[],
-    ))
+    each_row(
+        alloc,
+        tx.query_all(
+            "SELECT file, length, sha256, hardware, release_count, needs, conflicts FROM image ORDER BY rowid",
+            &[],
+        ),
+    )
 }

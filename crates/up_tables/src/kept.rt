@@ -49,10 +49,7 @@ impl Decode for KeptRow {
 }
 
 /// Puts in the row of an accepted manifest, behind those of its vehicle; `Store` where one has its counter or its version.
-pub fn insert_kept<S: Alter>(
-    tx: &mut Transaction<'_, S>,
-    kept: &KeptRow,
-) -> Result<(), StoreFault>
+pub fn insert_kept<S: Alter>(tx: &mut Transaction<'_, S>, kept: &KeptRow) -> Result<(), StoreFault>
     requires fit { FitKept kept.now }
     requires mode { IfClean IsInside (state S.Store tx.old.conn.now) }
     ensures same_reference { tx.new.conn.ghost_name ≡ tx.old.conn.ghost_name }

@@ -37,10 +37,7 @@ impl Decode for MetaRow {
 }
 
 /// Sets what `meta` says of the founding.
-pub fn update_meta<S: Alter>(
-    tx: &mut Transaction<'_, S>,
-    meta: &MetaRow,
-) -> Result<(), StoreFault>
+pub fn update_meta<S: Alter>(tx: &mut Transaction<'_, S>, meta: &MetaRow) -> Result<(), StoreFault>
     requires fit { FitMeta meta.now }
     requires mode { IfClean IsInside (state S.Store tx.old.conn.now) }
     ensures same_reference { tx.new.conn.ghost_name ≡ tx.old.conn.ghost_name }

@@ -1,8 +1,9 @@
 //! Rows that are read.
 
-ghost use Rattle.std.specs.Prelude.{◌≡◌, map, IfOk};
+ghost use Rattle.std.specs.Prelude.{◌≡◌, Err, map, IfOk, IfErr};
 ghost use Rattle.std.specs.Option.{option_to_list};
 ghost use Rattle.std.specs.Result.{IsOkAnd};
+ghost use Rattle.up_tables.specs.Faults.{store_fault};
 ghost use Rattle.up_tables.specs.Rows.{columns_at};
 
 use crate::values::{StoreFault, fault_of, text_at};
@@ -43,7 +44,8 @@ impl Decode for String {
 pub fn at_most_one<T: Decode + Drop>(
     answer: Result<Vec<Row>, Error>,
 ) -> Result<Option<T>, StoreFault>
-    ensures { IfOk result (λ found. IsOkAnd answer (λ rows. map (columns_at T.places) rows.items ≡ map T.values (option_to_list found))) }
+    ensures ok { IfOk result (λ found. IsOkAnd answer (λ rows. map (columns_at T.places) rows.items ≡ map T.values (option_to_list found))) }
+    ensures fault { IfErr answer (λ e. result ≡ Err (store_fault e)) }
 {
     match answer {
         Ok(rows) => only(&rows),
@@ -70,7 +72,8 @@ pub fn each_row<T: Decode + Drop>(
     alloc: Global,
     answer: Result<Vec<Row>, Error>,
 ) -> Result<Vec<T>, StoreFault>
-    ensures { IfOk result (λ read. IsOkAnd answer (λ rows. map (columns_at T.places) rows.items ≡ map T.values read.items)) }
+    ensures ok { IfOk result (λ read. IsOkAnd answer (λ rows. map (columns_at T.places) rows.items ≡ map T.values read.items)) }
+    ensures fault { IfErr answer (λ e. result ≡ Err (store_fault e)) }
 {
     match answer {
         Ok(rows) => each_of(alloc, &rows),

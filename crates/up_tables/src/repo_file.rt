@@ -39,10 +39,7 @@ impl Decode for FileRow {
 }
 
 /// Sets the text of a file, which may be there or not.
-fn upsert_file<S: Alter>(
-    tx: &mut Transaction<'_, S>,
-    file: &FileRow,
-) -> Result<(), StoreFault>
+fn upsert_file<S: Alter>(tx: &mut Transaction<'_, S>, file: &FileRow) -> Result<(), StoreFault>
     requires mode { IfClean IsInside (state S.Store tx.old.conn.now) }
     ensures same_reference { tx.new.conn.ghost_name ≡ tx.old.conn.ghost_name }
     ensures set { HasCleanDisk (state S.Store tx.new.conn.now) → OnOk result ((rows_of : List ℕ → List ℕ → List Values) → HasTables (state S.Store tx.old.conn.now)

@@ -108,10 +108,13 @@ pub fn role_keys_of<S: Alter>(
     ensures reads { HasCleanDisk (state S.Store tx.new.conn.now) → OnOk result (HasTables (state S.Store tx.old.conn.now) → Reads (state S.Store tx.old.conn.now) (state S.Store tx.new.conn.now)) }
     ensures steps { Steps (state S.Store tx.old.conn.now) (state S.Store tx.new.conn.now) }
 {
-    each_row(alloc, tx.query_all(
-        "SELECT root, repository, role, place, secret, threshold FROM role_key WHERE root = ?1 ORDER BY rowid",
-        &[number(root)],
-    ))
+    each_row(
+        alloc,
+        tx.query_all(
+            "SELECT root, repository, role, place, secret, threshold FROM role_key WHERE root = ?1 ORDER BY rowid",
+            &[number(root)],
+        ),
+    )
 }
 
 /// The keys of all root versions, in the order in which they were put in.
@@ -126,8 +129,11 @@ pub fn role_keys<S: Alter>(
     ensures reads { HasCleanDisk (state S.Store tx.new.conn.now) → OnOk result (HasTables (state S.Store tx.old.conn.now) → Reads (state S.Store tx.old.conn.now) (state S.Store tx.new.conn.now)) }
     ensures steps { Steps (state S.Store tx.old.conn.now) (state S.Store tx.new.conn.now) }
 {
-    each_row(alloc, tx.query_all(
-        "SELECT root, repository, role, place, secret, threshold FROM role_key ORDER BY rowid",
-        &[],
-    ))
+    each_row(
+        alloc,
+        tx.query_all(
+            "SELECT root, repository, role, place, secret, threshold FROM role_key ORDER BY rowid",
+            &[],
+        ),
+    )
 }

@@ -1,11 +1,12 @@
 //! Values as they are bound and read, and faults.
 
-ghost use Rattle.std.specs.Prelude.{◌≡◌, ◌<◌, ◌^◌, pos, OnOk, IfOk, string_bytes};
+ghost use Rattle.std.specs.Prelude.{◌≡◌, ◌<◌, ◌^◌, pos, Err, OnOk, IfOk, IfErr, string_bytes};
 ghost use Rattle.std.specs.Result.{IsOk};
 ghost use Rattle.sqlite.specs.Order.{column};
 ghost use Rattle.sqlite.specs.Values.{bound_value, or_null};
 ghost use Rattle.sqlite.specs.Value.{owned};
 ghost use Rattle.sqlite.specs.declared.types.Value.TheVariants.{Int, Text, Blob};
+ghost use Rattle.up_tables.specs.Faults.{store_fault};
 ghost use Rattle.up_tables.specs.Lines.{yes_or_no};
 
 use sqlite::{Error, ErrorCode, Row};
@@ -43,17 +44,21 @@ impl<T: Drop> From<AllocFailed<T>> for StoreFault {
     }
 }
 
-/// What is told of an error of the database.
-pub fn fault_of(error: Error) -> StoreFault {
+/// What is told of an error of the database: `Memory` where memory was refused, else `Store`.
+pub fn fault_of(error: Error) -> StoreFault
+    ensures { result ≡ store_fault error }
+{
     match error {
         Error::SqliteFailure(ErrorCode::OutOfMemory) => StoreFault::Memory,
         _ => StoreFault::Store,
     }
 }
 
-/// Whether a statement was carried out.
+/// Whether a statement was carried out, and else what is told of its error.
 pub fn done(written: Result<usize, Error>) -> Result<(), StoreFault>
-    ensures { OnOk result (IsOk written) }
+    ensures ok { OnOk result (IsOk written) }
+    ensures went { OnOk written (IsOk result) }
+    ensures fault { IfErr written (λ e. result ≡ Err (store_fault e)) }
 {
     match written {
         Ok(_) => Ok(()),

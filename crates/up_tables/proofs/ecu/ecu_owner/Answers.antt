@@ -7,11 +7,11 @@ use Rattle.up_tables.proofs.ecu.ecu_owner.Goals as goal
 
 pub returns-clause-found : goal.returns-clause-found
 returns-clause-found g c clean =
-    finds_owner (λ s. string_bytes s) (λ v. v.items) c.query_all.result c.at_most_one.result (state g.S.Store c.args.tx.now.conn.now) (state g.S.Store c.query_all.new.self.conn.now) c.args.ecu.now c.at_most_one.ensures (rw c.words.ensures at (c.query_all.ensures.ok clean))
+    finds_owner (λ s. string_bytes s) (λ v. v.items) c.query_all.result c.at_most_one.result (state g.S.Store c.args.tx.now.conn.now) (state g.S.Store c.query_all.new.self.conn.now) c.args.ecu.now c.at_most_one.ensures.ok (rw c.words.ensures at (c.query_all.ensures.ok clean))
 
 pub returns-clause-reads : goal.returns-clause-reads
 returns-clause-reads g c clean =
-    reads_in (λ v. v.items) find_owner_text _ (state g.S.Store c.args.tx.now.conn.now) (state g.S.Store c.query_all.new.self.conn.now) c.query_all.result c.at_most_one.result _ owner_plain c.at_most_one.ensures (c.query_all.ensures.ok clean)
+    reads_in (λ v. v.items) find_owner_text _ (state g.S.Store c.args.tx.now.conn.now) (state g.S.Store c.query_all.new.self.conn.now) c.query_all.result c.at_most_one.result _ owner_plain c.at_most_one.ensures.ok (c.query_all.ensures.ok clean)
 
 pub returns-clause-steps : goal.returns-clause-steps
 returns-clause-steps g c =

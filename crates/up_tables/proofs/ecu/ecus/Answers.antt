@@ -6,11 +6,11 @@ use Rattle.up_tables.proofs.ecu.ecus.Goals as goal
 
 pub returns-clause-found : goal.returns-clause-found
 returns-clause-found g c clean =
-    finds_ecus (λ v. v.items) (λ v. v.items) c.query_all.result c.each_row.result (state g.S.Store c.args.tx.now.conn.now) (state g.S.Store c.query_all.new.self.conn.now) c.args.vehicle.now c.each_row.ensures (rw c.words.ensures at (c.query_all.ensures.ok clean))
+    finds_ecus (λ v. v.items) (λ v. v.items) c.query_all.result c.each_row.result (state g.S.Store c.args.tx.now.conn.now) (state g.S.Store c.query_all.new.self.conn.now) c.args.vehicle.now c.each_row.ensures.ok (rw c.words.ensures at (c.query_all.ensures.ok clean))
 
 pub returns-clause-reads : goal.returns-clause-reads
 returns-clause-reads g c clean =
-    reads_in (λ v. v.items) list_ecus_text _ (state g.S.Store c.args.tx.now.conn.now) (state g.S.Store c.query_all.new.self.conn.now) c.query_all.result c.each_row.result _ list_plain c.each_row.ensures (c.query_all.ensures.ok clean)
+    reads_in (λ v. v.items) list_ecus_text _ (state g.S.Store c.args.tx.now.conn.now) (state g.S.Store c.query_all.new.self.conn.now) c.query_all.result c.each_row.result _ list_plain c.each_row.ensures.ok (c.query_all.ensures.ok clean)
 
 pub returns-clause-steps : goal.returns-clause-steps
 returns-clause-steps g c =
