@@ -54,9 +54,7 @@ pub(crate) fn read_running<S: Alter>(
     running_campaigns(&mut conn.transaction(), alloc)
 }
 
-pub(crate) fn read_meta<S: Alter>(
-    conn: &mut Connection<S>,
-) -> Result<Option<MetaRow>, StoreFault> {
+pub(crate) fn read_meta<S: Alter>(conn: &mut Connection<S>) -> Result<Option<MetaRow>, StoreFault> {
     if !conn.is_autocommit() {
         return Err(StoreFault::Store);
     }
