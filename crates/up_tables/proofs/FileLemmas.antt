@@ -1,0 +1,118 @@
+-- Files that are served: one after another is set, and one is read.
+use Rattle.std.proofs.Common.{◌≡◌, ◌≤◌, ◌+◌, suc, take, slice_get, arith, ℕ, List, [], ◌∷◌, ◌++◌, map, filter, Bool, true, false, ◌&&◌, if◌then◌else◌, length, Some, Result, IfOk, Option, refl, sym, ap, subst, ◌∙◌, codes, string_bytes, bytes_eq, drop}
+use Rattle.std.specs.Option.{option_to_list}
+use Rattle.std.specs.Result.{IsOkAnd}
+use Rattle.std.proofs.Math.Bool.{and-true}
+use Rattle.sqlite.specs.declared.types.Value.TheVariants.{Text}
+use Rattle.sqlite.specs.declared.error.Error.{Error}
+use Rattle.sqlite.specs.Order.{Row, column}
+use Rattle.sqlite.specs.Term.{Term, col}
+use Rattle.sqlite.specs.Command.TheVariants.{Select}
+use Rattle.sqlite.specs.Listing.{understood, reads_listing}
+use Rattle.sqlite.specs.State.{State, Shown}
+use Rattle.sqlite.proofs.Callers.{IsPlain, command_of}
+use Rattle.sqlite_tied.specs.Compute.{everything}
+use Rattle.up_tables.specs.Rows.{bare, columns_at, has_text}
+use Rattle.up_tables.specs.Stands.{IsInside, Alters, HasTables}
+use Rattle.up_tables.specs.declared.values.StoreFault.{StoreFault}
+use Rattle.up_tables.proofs.AnswerLemmas.{over, equals_text}
+use Rattle.up_tables.proofs.EcuRows.{column_after}
+use Rattle.up_tables.proofs.EcuUpsert.{equals}
+use Rattle.up_tables.specs.Tables.{up_schema, repo_file_table}
+use Rattle.up_tables.specs.Rows.{has_texts, with_only_at}
+use Rattle.up_tables.specs.Forms.{file_row, file_places, set_files}
+use Rattle.up_tables.specs.Stands.{ListsPairs, IsOpen}
+use Rattle.up_tables.specs.declared.repo_file.FileRow.{FileRow}
+use Rattle.up_tables.proofs.EcuInserts.{take_next, take_whole}
+use Rattle.up_tables.proofs.OthersLemmas.{others_same, others_then}
+use Rattle.up_tables.proofs.ReadLemmas.{answers_some, bare_filter}
+use Rattle.up_tables.proofs.StateLemmas.{one_in, ok_then}
+
+-- ---- one after another
+
+-- what a loop over the files has set when it comes to one of them
+abbrev pub SetSoFar : List FileRow → ℕ → State → State → Type 0
+SetSoFar fs i old new = (rows_of : List ℕ → List ℕ → List Row) → HasTables old → ListsPairs rows_of (old.now.trees 3) → ((repository name : List ℕ) → length (rows_of repository name) ≤ 1)
+    → Alters repo_file_table (ListsPairs (set_files (take i fs) rows_of)) old new
+
+one_few : (first second : List ℕ) (row : Row) (rows_of : List ℕ → List ℕ → List Row) → ((m n : List ℕ) → length (rows_of m n) ≤ 1) → (m n : List ℕ) → length (with_only_at first second row rows_of m n) ≤ 1
+one_few first second row rows_of few m n = go (bytes_eq first m && bytes_eq second n)
+  where
+    go : (b : Bool) → length (if b then row ∷ [] else rows_of m n) ≤ 1
+    go true = omega arith
+    go false = few m n
+
+all_few : (fs : List FileRow) (rows_of : List ℕ → List ℕ → List Row) → ((m n : List ℕ) → length (rows_of m n) ≤ 1) → (m n : List ℕ) → length (set_files fs rows_of m n) ≤ 1
+all_few [] rows_of few = few
+all_few (f ∷ fs) rows_of few = all_few fs (with_only_at (string_bytes f.repository) (string_bytes f.name) (file_row f) rows_of) (one_few (string_bytes f.repository) (string_bytes f.name) (file_row f) rows_of few)
+
+set_last : (fs : List FileRow) (f : FileRow) (rows_of : List ℕ → List ℕ → List Row) → set_files (fs ++ f ∷ []) rows_of ≡ with_only_at (string_bytes f.repository) (string_bytes f.name) (file_row f) (set_files fs rows_of)
+set_last [] f rows_of = refl
+set_last (x ∷ fs) f rows_of = set_last fs f (with_only_at (string_bytes x.repository) (string_bytes x.name) (file_row x) rows_of)
+
+pub none_set : (fs : List FileRow) (s : State) → IsInside s → IsOpen s → SetSoFar fs 0 s s
+none_set fs s inside is_open rows_of has lists few =
+    let here = has is_open in
+    record { was_open = is_open; is_open = is_open; mode = inside; schema_is = here.schema_is; sound = here.sound; rows = lists; others = others_same repo_file_table s.now.trees }
+
+pub next_set : (fs : List FileRow) (i : ℕ) (f : FileRow) (old mid new : State) → slice_get fs i ≡ Some f → SetSoFar fs i old mid
+    → ((rows_of : List ℕ → List ℕ → List Row) → HasTables mid → ListsPairs rows_of (mid.now.trees 3) → length (rows_of (string_bytes f.repository) (string_bytes f.name)) ≤ 1
+    → Alters repo_file_table (ListsPairs (with_only_at (string_bytes f.repository) (string_bytes f.name) (file_row f) rows_of)) mid new)
+    → SetSoFar fs (i + 1) old new
+next_set fs i f old mid new there so_far sets rows_of has lists few =
+    let before = so_far rows_of has lists few in
+    let after = sets (set_files (take i fs) rows_of) (λ _. record { schema_is = before.schema_is; sound = before.sound; rows = tt }) before.rows (all_few (take i fs) rows_of few _ _) in
+    let next : suc i ≡ i + 1 = omega arith in
+    let same : take (suc i) fs ≡ take (i + 1) fs = ap (λ k. take k fs) next in
+    let all : with_only_at (string_bytes f.repository) (string_bytes f.name) (file_row f) (set_files (take i fs) rows_of) ≡ set_files (take (i + 1) fs) rows_of =
+    sym (set_last (take i fs) f rows_of) ∙ ap (λ xs. set_files xs rows_of) (take_next i fs f there ∙ same) in
+    record {
+      was_open = before.was_open;
+      is_open = after.is_open;
+      mode = after.mode;
+      schema_is = after.schema_is;
+      sound = after.sound;
+      rows = subst (λ g. ListsPairs g (new.now.trees 3)) all after.rows;
+      others = others_then repo_file_table old.now.trees mid.now.trees new.now.trees before.others after.others;
+    }
+
+pub all_set : (fs : List FileRow) (i : ℕ) (old new : State) → i ≡ length fs → SetSoFar fs i old new
+    → (rows_of : List ℕ → List ℕ → List Row) → HasTables old → ListsPairs rows_of (old.now.trees 3) → ((repository name : List ℕ) → length (rows_of repository name) ≤ 1)
+    → Alters repo_file_table (ListsPairs (set_files fs rows_of)) old new
+all_set fs i old new end so_far rows_of has lists few =
+    subst (λ xs. Alters repo_file_table (ListsPairs (set_files xs rows_of)) old new) (ap (λ k. take k fs) end ∙ take_whole fs) (so_far rows_of has lists few)
+
+-- ---- read
+
+abbrev part : Row → Row
+part = columns_at file_places
+
+abbrev shown : List Term
+shown = col 1 1 ∷ col 1 2 ∷ col 1 3 ∷ []
+
+abbrev names : List (List ℕ)
+names = codes "repository" ∷ codes "name" ∷ codes "body" ∷ []
+
+abbrev pub find_file_text : List ℕ
+find_file_text = codes "SELECT repository, name, body FROM repo_file WHERE repository = ?1 AND name = ?2"
+
+find_is : (command_of (understood up_schema find_file_text) ≡ Select (record { lets = []; body = over 3 (equals 1 0 ∷ equals 2 1 ∷ []) shown [] }) names) × (reads_listing up_schema find_file_text ≡ false)
+unfolding understood everything
+find_is = (refl, refl)
+
+pub find_plain : IsPlain (understood up_schema find_file_text)
+unfolding understood everything
+find_plain = (refl, refl)
+
+pub finds_file : {X : Type 0} (items : X → List Row) (answer : Result X Error) (r : Result (Option FileRow) StoreFault) (old new : State) (repository name : List ℕ)
+    → IfOk r (λ found. IsOkAnd answer (λ v. map part (items v) ≡ map file_row (option_to_list found))) → IfOk answer (λ v. Shown find_file_text (Text repository ∷ Text name ∷ []) old new (items v))
+    → IfOk r (λ found. (rows_of : List ℕ → List ℕ → List Row) → HasTables old → ListsPairs rows_of (old.now.trees 3) → map part (rows_of repository name) ≡ map file_row (option_to_list found))
+finds_file items answer r old new repository name h ran =
+    let params = Text repository ∷ Text name ∷ [] in
+    let q : Row → Bool = λ x. has_text 0 repository x && has_text 1 name x in
+    let test : (x : Row) → has_texts 1 repository 2 name x ≡ q (drop 1 x) = λ x. rw (column_after x 0, column_after x 1) refl in
+    let answers = answers_some up_schema find_file_text 3 (equals 1 0 ∷ equals 2 1 ∷ []) shown names params q part
+    (λ x. rw (equals_text (column x 1) repository, equals_text (column x 2) name, column_after x 0, column_after x 1) (ap (λ b. has_text 0 repository (drop 1 x) && b) (and-true _)))
+    (λ x. rw (column_after x 0, column_after x 1, column_after x 2) refl) (λ db. refl) find_is.1 find_plain find_is.0 old new in
+    ok_then _ _ r (λ found is rows_of has lists. ap (map part) (sym (lists.parts repository name) ∙ bare_filter (has_texts 1 repository 2 name) q test (old.now.trees 3)) ∙ is has)
+    (one_in items part part (λ x. refl) file_row find_file_text params old new (filter q (bare (old.now.trees 3))) answer r answers h ran)

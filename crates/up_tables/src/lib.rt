@@ -1,0 +1,16 @@
+//! The tables of the two repositories.
+#![tactic(auto)]
+
+pub mod campaign;
+pub mod crash;
+pub mod create;
+pub mod ecu;
+pub mod image;
+pub mod kept;
+pub mod meta;
+pub mod open;
+pub mod reading;
+pub mod repo_file;
+pub mod role_key;
+pub mod values;
+pub mod vehicle;

@@ -1,0 +1,139 @@
+//! The rows of the keys of roles.
+
+ghost use Rattle.std.specs.Prelude.{◌≡◌, ◌<◌, ◌∷◌, [], ◌++◌, ◌^◌, ℕ, List, pos, map, filter, All, OnOk, IfOk};
+ghost use Rattle.sqlite.specs.Held.{state};
+ghost use Rattle.sqlite.specs.State.{HasCleanDisk};
+ghost use Rattle.sqlite.specs.Order.{Row as Values};
+ghost use Rattle.up_tables.specs.Tables.{role_key_table};
+ghost use Rattle.up_tables.specs.Rows.{columns_at, has_number};
+ghost use Rattle.up_tables.specs.Forms.{role_key_places, role_key_row, FitRoleKey};
+ghost use Rattle.up_tables.specs.Stands.{IfClean, IsInside, IsOpen, HasTables, Alters, ListsAll, Reads, Steps};
+
+use crate::reading::{Decode, each_row};
+use crate::values::{StoreFault, bytes, bytes_at, done, number, number_at, text_at, words};
+use sqlite::{Alter, Row, Transaction};
+use std::alloc::Global;
+
+/// A row of `role_key`: a key of a role in a root version of a repository, its place among the role's keys, and the role's threshold.
+#[derive(Drop)]
+pub struct RoleKeyRow {
+    pub root: u64,
+    pub repository: String,
+    pub role: String,
+    pub place: u64,
+    pub secret: Vec<u8>,
+    pub threshold: u64,
+}
+
+impl Decode for RoleKeyRow {
+    ghost use Rattle.up_tables.specs.Forms.{role_key_places, role_key_row};
+
+    ghost places = { role_key_places };
+
+    ghost values = { role_key_row };
+
+    fn decode(row: &Row) -> Result<RoleKeyRow, StoreFault> {
+        Ok(RoleKeyRow {
+            root: number_at(row, 0)?,
+            repository: text_at(row, 1)?,
+            role: text_at(row, 2)?,
+            place: number_at(row, 3)?,
+            secret: bytes_at(row, 4)?,
+            threshold: number_at(row, 5)?,
+        })
+    }
+}
+
+/// Puts in the row of a key, behind the others; `Store` where one has its place.
+fn insert_role_key<S: Alter>(
+    tx: &mut Transaction<'_, S>,
+    key: &RoleKeyRow,
+) -> Result<(), StoreFault>
+    requires fit { FitRoleKey key.now }
+    requires mode { IfClean IsInside (state S.Store tx.old.conn.now) }
+    ensures same_reference { tx.new.conn.ghost_name ≡ tx.old.conn.ghost_name }
+    ensures inserted { HasCleanDisk (state S.Store tx.new.conn.now) → OnOk result ((all : List Values) → HasTables (state S.Store tx.old.conn.now)
+        → ListsAll all ((state S.Store tx.old.conn.now).now.trees role_key_table.tree)
+        → Alters role_key_table (ListsAll (all ++ role_key_row key.now ∷ [])) (state S.Store tx.old.conn.now) (state S.Store tx.new.conn.now)) }
+    ensures inside { OnOk result (IfClean IsInside (state S.Store tx.new.conn.now)) }
+    ensures open { OnOk result (IfClean IsOpen (state S.Store tx.new.conn.now)) }
+    ensures steps { Steps (state S.Store tx.old.conn.now) (state S.Store tx.new.conn.now) }
+{
+    done(tx.execute(
+        "INSERT INTO role_key (root, repository, role, place, secret, threshold) VALUES (?1, ?2, ?3, ?4, ?5, ?6)",
+        &[
+            number(key.root),
+            words(key.repository.as_str()),
+            words(key.role.as_str()),
+            number(key.place),
+            bytes(key.secret.as_slice()),
+            number(key.threshold),
+        ],
+    ))
+}
+
+/// Puts in the rows of keys, one after another, behind the others.
+pub fn insert_role_keys<S: Alter>(
+    tx: &mut Transaction<'_, S>,
+    keys: &[RoleKeyRow],
+) -> Result<(), StoreFault>
+    requires fit { All FitRoleKey keys.now }
+    requires mode { IfClean IsInside (state S.Store tx.old.conn.now) }
+    requires open { IfClean IsOpen (state S.Store tx.old.conn.now) }
+    ensures same_reference { tx.new.conn.ghost_name ≡ tx.old.conn.ghost_name }
+    ensures inserted { HasCleanDisk (state S.Store tx.new.conn.now) → OnOk result ((all : List Values) → HasTables (state S.Store tx.old.conn.now)
+        → ListsAll all ((state S.Store tx.old.conn.now).now.trees role_key_table.tree)
+        → Alters role_key_table (ListsAll (all ++ map role_key_row keys.now)) (state S.Store tx.old.conn.now) (state S.Store tx.new.conn.now)) }
+    ensures inside { OnOk result (IfClean IsInside (state S.Store tx.new.conn.now)) }
+    ensures open { OnOk result (IfClean IsOpen (state S.Store tx.new.conn.now)) }
+    ensures steps { Steps (state S.Store tx.old.conn.now) (state S.Store tx.new.conn.now) }
+{
+    for key in keys {
+        insert_role_key(tx, key)?;
+    }
+    Ok(())
+}
+
+/// The keys of a root version, in the order in which they were put in.
+pub fn role_keys_of<S: Alter>(
+    tx: &mut Transaction<'_, S>,
+    alloc: Global,
+    root: u64,
+) -> Result<Vec<RoleKeyRow>, StoreFault>
+    requires root { root < 2 ^ 63 }
+    requires mode { IfClean IsInside (state S.Store tx.old.conn.now) }
+    ensures same_reference { tx.new.conn.ghost_name ≡ tx.old.conn.ghost_name }
+    ensures found { HasCleanDisk (state S.Store tx.new.conn.now) → IfOk result (λ found. (all : List Values) → HasTables (state S.Store tx.old.conn.now)
+        → ListsAll all ((state S.Store tx.old.conn.now).now.trees role_key_table.tree) → map (columns_at role_key_places) (filter (has_number 0 (pos root)) all) ≡ map role_key_row found.items) }
+    ensures reads { HasCleanDisk (state S.Store tx.new.conn.now) → OnOk result (HasTables (state S.Store tx.old.conn.now) → Reads (state S.Store tx.old.conn.now) (state S.Store tx.new.conn.now)) }
+    ensures steps { Steps (state S.Store tx.old.conn.now) (state S.Store tx.new.conn.now) }
+{
+    each_row(
+        alloc,
+        tx.query_all(
+            "SELECT root, repository, role, place, secret, threshold FROM role_key WHERE root = ?1 ORDER BY rowid",
+            &[number(root)],
+        ),
+    )
+}
+
+/// The keys of all root versions, in the order in which they were put in.
+pub fn role_keys<S: Alter>(
+    tx: &mut Transaction<'_, S>,
+    alloc: Global,
+) -> Result<Vec<RoleKeyRow>, StoreFault>
+    requires mode { IfClean IsInside (state S.Store tx.old.conn.now) }
+    ensures same_reference { tx.new.conn.ghost_name ≡ tx.old.conn.ghost_name }
+    ensures found { HasCleanDisk (state S.Store tx.new.conn.now) → IfOk result (λ found. (all : List Values) → HasTables (state S.Store tx.old.conn.now)
+        → ListsAll all ((state S.Store tx.old.conn.now).now.trees role_key_table.tree) → map (columns_at role_key_places) all ≡ map role_key_row found.items) }
+    ensures reads { HasCleanDisk (state S.Store tx.new.conn.now) → OnOk result (HasTables (state S.Store tx.old.conn.now) → Reads (state S.Store tx.old.conn.now) (state S.Store tx.new.conn.now)) }
+    ensures steps { Steps (state S.Store tx.old.conn.now) (state S.Store tx.new.conn.now) }
+{
+    each_row(
+        alloc,
+        tx.query_all(
+            "SELECT root, repository, role, place, secret, threshold FROM role_key ORDER BY rowid",
+            &[],
+        ),
+    )
+}
