@@ -15,9 +15,9 @@ use up_http::serving::serve;
 struct Empty;
 
 impl Respond<u32> for Empty {
-    ghost use Rattle.std.specs.Prelude.{⊤};
+    ghost use Rattle.std.specs.Prelude.{◌≡◌};
 
-    ghost gives = { λ _ _ _ _. ⊤ };
+    ghost gives = { λ _ _ text _. text ≡ text };
 
     fn respond(&self, alloc: Global, state: &mut u32, next: &Next) -> Result<Vec<u8>, AllocError> {
         let text = answer(alloc, next)?;
@@ -149,38 +149,40 @@ fn ends_at_one_failure(rt: HostRuntime) -> Result<(), Fail> {
     Ok(())
 }
 
+/// Inputs and the answers to them, with `|` for the end of a line.
+const ANSWERS: [(&str, &str); 8] = [
+    ("", ""),
+    (NO_FILE, NO_FILE_ANSWER),
+    (
+        "GET /image/root.json HTTP/1.1||",
+        "HTTP/1.1 400 Bad Request|Content-Type: application/json|Content-Length: 32|Connection: close||{\"error\":0,\"text\":\"bad request\"}",
+    ),
+    (
+        "GET /director/manifest HTTP/1.1|Host: d||",
+        "HTTP/1.1 405 Method Not Allowed|Content-Type: application/json|Content-Length: 39|Allow: POST||{\"error\":0,\"text\":\"method not allowed\"}",
+    ),
+    (
+        "POST /director/manifest HTTP/1.1|Host: d|Content-Length: 262145||",
+        "HTTP/1.1 413 Payload Too Large|Content-Type: application/json|Content-Length: 29|Connection: close||{\"error\":4,\"text\":\"TooLarge\"}",
+    ),
+    (
+        "POST /director/manifest HTTP/1.1|Host: d||",
+        "HTTP/1.1 411 Length Required|Content-Type: application/json|Content-Length: 36|Connection: close||{\"error\":0,\"text\":\"length required\"}",
+    ),
+    (
+        "GET /image/a HTTP/1.1|Host: d|Transfer-Encoding: chunked||",
+        "HTTP/1.1 501 Not Implemented|Content-Type: application/json|Content-Length: 36|Connection: close||{\"error\":0,\"text\":\"not implemented\"}",
+    ),
+    (
+        "HEAD /image/a HTTP/1.1|Host: d|Connection: close||",
+        "HTTP/1.1 405 Method Not Allowed|Content-Type: application/json|Content-Length: 39|Allow: GET|Connection: close||",
+    ),
+];
+
 #[test]
 fn answers_in_bytes(rt: HostRuntime) -> Result<(), Fail> {
     let alloc = rt.alloc();
-    let table: [(&str, &str); 8] = [
-        ("", ""),
-        (NO_FILE, NO_FILE_ANSWER),
-        (
-            "GET /image/root.json HTTP/1.1||",
-            "HTTP/1.1 400 Bad Request|Content-Type: application/json|Content-Length: 32|Connection: close||{\"error\":0,\"text\":\"bad request\"}",
-        ),
-        (
-            "GET /director/manifest HTTP/1.1|Host: d||",
-            "HTTP/1.1 405 Method Not Allowed|Content-Type: application/json|Content-Length: 39|Allow: POST||{\"error\":0,\"text\":\"method not allowed\"}",
-        ),
-        (
-            "POST /director/manifest HTTP/1.1|Host: d|Content-Length: 262145||",
-            "HTTP/1.1 413 Payload Too Large|Content-Type: application/json|Content-Length: 29|Connection: close||{\"error\":4,\"text\":\"TooLarge\"}",
-        ),
-        (
-            "POST /director/manifest HTTP/1.1|Host: d||",
-            "HTTP/1.1 411 Length Required|Content-Type: application/json|Content-Length: 36|Connection: close||{\"error\":0,\"text\":\"length required\"}",
-        ),
-        (
-            "GET /image/a HTTP/1.1|Host: d|Transfer-Encoding: chunked||",
-            "HTTP/1.1 501 Not Implemented|Content-Type: application/json|Content-Length: 36|Connection: close||{\"error\":0,\"text\":\"not implemented\"}",
-        ),
-        (
-            "HEAD /image/a HTTP/1.1|Host: d|Connection: close||",
-            "HTTP/1.1 405 Method Not Allowed|Content-Type: application/json|Content-Length: 39|Allow: GET|Connection: close||",
-        ),
-    ];
-    for (input, wanted) in table {
+    for (input, wanted) in ANSWERS {
         let text = lines(alloc, input)?;
         for step in [1, 1_000] {
             let (_, written, _) = shaky_run(alloc, text.as_str(), (step, 0), (0, 0));
