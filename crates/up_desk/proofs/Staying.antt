@@ -1,6 +1,6 @@
 -- Rows of root versions and kept rows stay where the state grows.
-use Rattle.std.proofs.Common.{◌≡◌, ℕ, zero, suc, ◌+◌, ◌-◌, ◌<◌, ◌≤◌, List, [], ◌∷◌, ◌++◌, cond, Option, Some, None, map, refl, ap, ap₂, ◌∙◌, arith}
-use Rattle.std.specs.Prelude.{option_map, unwrap_or, length, slice_get, ◌==◌}
+use Rattle.std.proofs.Common.{◌≡◌, ℕ, zero, suc, ◌+◌, ◌-◌, ◌≤◌, List, [], ◌∷◌, ◌++◌, cond, Option, Some, None, map, refl, ap, ap₂, ◌∙◌, arith}
+use Rattle.std.specs.Prelude.{option_map, unwrap_or, length, ◌==◌}
 use Rattle.std.specs.List.{AllByRecursion, enumerate_from}
 use Rattle.std.specs.FinMap as table
 use Rattle.up_canon.specs.Names.{Name}

@@ -10,7 +10,6 @@ use Rattle.up_canon.specs.declared.refusal.Refusal.TheVariants.{NotJson}
 use Rattle.up_sign.specs.Schemes.{Rules}
 use Rattle.up_roles.specs.Payload.{repository_in}
 use Rattle.up_machine.specs.Commands.{opens_running}
-use Rattle.up_machine.specs.declared.command.Command.{Command}
 use Rattle.up_machine.specs.declared.command.Command.TheVariants as command
 use Rattle.up_script.specs.declared.asked.Asked.{Asked}
 use Rattle.up_script.specs.declared.asked.What.{What}

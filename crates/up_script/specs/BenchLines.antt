@@ -16,7 +16,6 @@ use Rattle.up_sign.specs.declared.envelope.Envelope.{Envelope}
 use Rattle.up_manifest.specs.Building.{report_text, sealed_manifest}
 use Rattle.up_manifest.specs.Manifests.{most_reports}
 use Rattle.up_manifest.specs.declared.report.Installed.{Installed}
-use Rattle.up_manifest.specs.declared.report.Report.{Report}
 
 -- a secret key, 1 to 256 bytes that the scheme takes
 unfoldable pub secret_in : Rules → Data → Result (List ℕ) Refusal

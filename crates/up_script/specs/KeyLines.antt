@@ -1,5 +1,5 @@
 -- The keys of a line that founds or rotates.
-use Rattle.std.specs.Prelude.{ℕ, ◌^◌, List, Bool, nat_lt, Result, Ok, codes}
+use Rattle.std.specs.Prelude.{ℕ, ◌^◌, List, nat_lt, Result, Ok, codes}
 use Rattle.serde_json.specs.Data.{Data}
 use Rattle.up_canon.specs.HexText.{hex_of}
 use Rattle.up_canon.specs.Members.{object_in, list_in, count_in}

@@ -1,4 +1,4 @@
-use Rattle.std.proofs.Common.{ℕ, ◌≤◌, arith, ap, length}
+use Rattle.std.proofs.Common.{◌≤◌, arith, ap, length}
 use Rattle.std.specs.Prelude.{codes}
 use Rattle.up_script.proofs.Limits.{positive_read, values_read}
 use Rattle.up_script.proofs.bench_line.bench_at.Goals as goal
