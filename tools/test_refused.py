@@ -249,18 +249,22 @@ class Texts(OnATree):
             "fn low::counts::same: no proof: it calls `low::counts::reaches`, which is not proved",
             "proofs/counts/kept/Answers.antt:4:1: error: `returns`: the two types differ",
             "proofs/counts/either/Answers.antt:4:1: error: `returns`: `more` is not in scope",
+            "note: src/counts.rt:50:5: `search` found no proof (`invariant_of-table-2`)",
+            "fn low::counts::placed: no proof: expected answers in ./proofs/counts/placed/Answers.antt; `search` did not prove `invariant_of-table-2`",
             "fn low::counts::kept: not proved",
             "fn low::counts::either: not proved",
             "logic=not-proved",
         ]
         found = [*refusals(lines)]
-        self.assertEqual([it[0] for it in found], ["low::counts::reaches", "low::counts::kept"])
+        self.assertEqual([it[0] for it in found], ["low::counts::reaches", "low::counts::placed", "low::counts::kept"])
         reaches = Function("reaches", (28, 32), 0, 0, None, False)
         self.assertTrue(is_shown("src/counts.rt", reaches, *found[0][:2]))
         self.assertFalse(is_shown("src/more.rt", reaches, *found[0][:2]))
         self.assertFalse(is_shown("src/counts.rt", reaches._replace(lines=(40, 42)), *found[0][:2]))
         self.assertFalse(is_shown("src/counts.rt", reaches._replace(name="same"), *found[0][:2]))
-        self.assertTrue(is_shown("src/counts.rt", reaches._replace(name="kept"), *found[1][:2]))
+        placed = reaches._replace(name="placed", lines=(48, 52))
+        self.assertTrue(is_shown("src/counts.rt", placed, *found[1][:2]))
+        self.assertTrue(is_shown("src/counts.rt", reaches._replace(name="kept"), *found[2][:2]))
 
 
 class Verdicts(OnATree):

@@ -13,7 +13,7 @@ from .functions import with_bodies
 from .kit import rt, rtlib
 
 # A note that places a goal which stays open: its file, its line and its name.
-GOAL = re.compile(r"note: (?:\./)?(src/\S+?):(\d+):\d+: it is not proved .*?\(`([^`]+)`\)")
+GOAL = re.compile(r"note: (?:\./)?(src/\S+?):(\d+):\d+: (?:it is not proved .*?|`search` found no proof )\(`([^`]+)`\)")
 # A term that antt refuses in a function's own folder of proofs/.
 TERM = re.compile(r"(?:\./)?proofs/(\S+)/[^/:\s]+:\d+:\d+: error: (.*)")
 # An error in the code, and where.
