@@ -28,6 +28,11 @@ on_answered P Q answer (Err fault) h k = tt
 on_answered P Q (Ok v) (Ok x) h k = k
 on_answered P Q (Err e) (Ok x) h k = absurd h
 
+pub on_read : {X T : Type 0} (P : Type 0) (Q : T → X → Type 0) (answer : Result X Error) (r : Result T StoreFault) → IfOk r (λ found. IsOkAnd answer (Q found)) → OnOk answer P → OnOk r P
+on_read P Q answer (Err fault) h k = tt
+on_read P Q (Ok v) (Ok found) h k = k
+on_read P Q (Err e) (Ok found) h k = absurd h
+
 pub inside_after : (sql : List ℕ) (params : Row) (old new : State) (r : Result ℕ Error) → Survives old new (λ _. ⊥) → IfClean IsInside old
     → (HasCleanDisk new → IsTrue old.in_transaction → ExecutesInside 0 sql params old new r) → OnOk r (IfClean IsInside new)
 inside_after sql params old new (Err e) survives inside ran = tt

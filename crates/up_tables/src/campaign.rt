@@ -94,6 +94,8 @@ pub fn campaign<S: Alter>(
     ensures found { HasCleanDisk (state S.Store tx.new.conn.now) → IfOk result (λ found. (rows_of : List ℕ → List Values) → HasTables (state S.Store tx.old.conn.now)
         → Lists 1 rows_of ((state S.Store tx.old.conn.now).now.trees campaign_table.tree) → map (columns_at campaign_places) (rows_of name.now) ≡ map campaign_row (option_to_list found)) }
     ensures reads { HasCleanDisk (state S.Store tx.new.conn.now) → OnOk result (HasTables (state S.Store tx.old.conn.now) → Reads (state S.Store tx.old.conn.now) (state S.Store tx.new.conn.now)) }
+    ensures inside { OnOk result (IfClean IsInside (state S.Store tx.new.conn.now)) }
+    ensures open { OnOk result (IfClean IsOpen (state S.Store tx.new.conn.now)) }
     ensures steps { Steps (state S.Store tx.old.conn.now) (state S.Store tx.new.conn.now) }
 {
     at_most_one(tx.query_all(
@@ -113,6 +115,8 @@ pub fn running_campaigns<S: Alter>(
         → Lists 1 rows_of ((state S.Store tx.old.conn.now).now.trees campaign_table.tree)
         → (name : List ℕ) → map (columns_at campaign_places) (filter (has_number 3 (pos 1)) (rows_of name)) ≡ map campaign_row (filter (λ c. bytes_eq (string_bytes c.name) name) found.items)) }
     ensures reads { HasCleanDisk (state S.Store tx.new.conn.now) → OnOk result (HasTables (state S.Store tx.old.conn.now) → Reads (state S.Store tx.old.conn.now) (state S.Store tx.new.conn.now)) }
+    ensures inside { OnOk result (IfClean IsInside (state S.Store tx.new.conn.now)) }
+    ensures open { OnOk result (IfClean IsOpen (state S.Store tx.new.conn.now)) }
     ensures steps { Steps (state S.Store tx.old.conn.now) (state S.Store tx.new.conn.now) }
 {
     each_row(

@@ -86,6 +86,8 @@ pub fn image<S: Alter>(
     ensures found { HasCleanDisk (state S.Store tx.new.conn.now) → IfOk result (λ found. (rows_of : List ℕ → List Values) → HasTables (state S.Store tx.old.conn.now)
         → Lists 1 rows_of ((state S.Store tx.old.conn.now).now.trees image_table.tree) → map (columns_at image_places) (rows_of file.now) ≡ map image_row (option_to_list found)) }
     ensures reads { HasCleanDisk (state S.Store tx.new.conn.now) → OnOk result (HasTables (state S.Store tx.old.conn.now) → Reads (state S.Store tx.old.conn.now) (state S.Store tx.new.conn.now)) }
+    ensures inside { OnOk result (IfClean IsInside (state S.Store tx.new.conn.now)) }
+    ensures open { OnOk result (IfClean IsOpen (state S.Store tx.new.conn.now)) }
     ensures steps { Steps (state S.Store tx.old.conn.now) (state S.Store tx.new.conn.now) }
 {
     at_most_one(tx.query_all(
@@ -105,6 +107,8 @@ pub fn images<S: Alter>(
         → Lists 1 rows_of ((state S.Store tx.old.conn.now).now.trees image_table.tree)
         → (name : List ℕ) → map (columns_at image_places) (rows_of name) ≡ map image_row (filter (λ i. bytes_eq (string_bytes i.file) name) found.items)) }
     ensures reads { HasCleanDisk (state S.Store tx.new.conn.now) → OnOk result (HasTables (state S.Store tx.old.conn.now) → Reads (state S.Store tx.old.conn.now) (state S.Store tx.new.conn.now)) }
+    ensures inside { OnOk result (IfClean IsInside (state S.Store tx.new.conn.now)) }
+    ensures open { OnOk result (IfClean IsOpen (state S.Store tx.new.conn.now)) }
     ensures steps { Steps (state S.Store tx.old.conn.now) (state S.Store tx.new.conn.now) }
 {
     each_row(

@@ -88,6 +88,8 @@ pub fn kept<S: Alter>(
         → Lists 1 rows_of ((state S.Store tx.old.conn.now).now.trees kept_table.tree)
         → map (columns_at kept_places) (filter (has_number 1 (pos counter)) (rows_of vehicle.now)) ≡ map kept_row (option_to_list found)) }
     ensures reads { HasCleanDisk (state S.Store tx.new.conn.now) → OnOk result (HasTables (state S.Store tx.old.conn.now) → Reads (state S.Store tx.old.conn.now) (state S.Store tx.new.conn.now)) }
+    ensures inside { OnOk result (IfClean IsInside (state S.Store tx.new.conn.now)) }
+    ensures open { OnOk result (IfClean IsOpen (state S.Store tx.new.conn.now)) }
     ensures steps { Steps (state S.Store tx.old.conn.now) (state S.Store tx.new.conn.now) }
 {
     at_most_one(tx.query_all(

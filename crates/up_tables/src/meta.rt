@@ -65,6 +65,8 @@ pub fn meta<S: Alter>(tx: &mut Transaction<'_, S>) -> Result<Option<MetaRow>, St
     ensures found { HasCleanDisk (state S.Store tx.new.conn.now) → IfOk result (λ found. (root : ℕ) (image_version : ℕ) (stamp : ℕ) → HasTables (state S.Store tx.old.conn.now)
         → (state S.Store tx.old.conn.now).now.trees meta_table.tree ≡ meta_row root image_version stamp ∷ [] → found ≡ Some (record { root = root; image_version = image_version; stamp = stamp })) }
     ensures reads { HasCleanDisk (state S.Store tx.new.conn.now) → OnOk result (HasTables (state S.Store tx.old.conn.now) → Reads (state S.Store tx.old.conn.now) (state S.Store tx.new.conn.now)) }
+    ensures inside { OnOk result (IfClean IsInside (state S.Store tx.new.conn.now)) }
+    ensures open { OnOk result (IfClean IsOpen (state S.Store tx.new.conn.now)) }
     ensures steps { Steps (state S.Store tx.old.conn.now) (state S.Store tx.new.conn.now) }
 {
     at_most_one(tx.query_all(

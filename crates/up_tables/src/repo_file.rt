@@ -91,6 +91,8 @@ pub fn file<S: Alter>(
     ensures found { HasCleanDisk (state S.Store tx.new.conn.now) → IfOk result (λ found. (rows_of : List ℕ → List ℕ → List Values) → HasTables (state S.Store tx.old.conn.now)
         → ListsPairs rows_of ((state S.Store tx.old.conn.now).now.trees repo_file_table.tree) → map (columns_at file_places) (rows_of repository.now name.now) ≡ map file_row (option_to_list found)) }
     ensures reads { HasCleanDisk (state S.Store tx.new.conn.now) → OnOk result (HasTables (state S.Store tx.old.conn.now) → Reads (state S.Store tx.old.conn.now) (state S.Store tx.new.conn.now)) }
+    ensures inside { OnOk result (IfClean IsInside (state S.Store tx.new.conn.now)) }
+    ensures open { OnOk result (IfClean IsOpen (state S.Store tx.new.conn.now)) }
     ensures steps { Steps (state S.Store tx.old.conn.now) (state S.Store tx.new.conn.now) }
 {
     at_most_one(tx.query_all(

@@ -106,6 +106,8 @@ pub fn role_keys_of<S: Alter>(
     ensures found { HasCleanDisk (state S.Store tx.new.conn.now) → IfOk result (λ found. (all : List Values) → HasTables (state S.Store tx.old.conn.now)
         → ListsAll all ((state S.Store tx.old.conn.now).now.trees role_key_table.tree) → map (columns_at role_key_places) (filter (has_number 0 (pos root)) all) ≡ map role_key_row found.items) }
     ensures reads { HasCleanDisk (state S.Store tx.new.conn.now) → OnOk result (HasTables (state S.Store tx.old.conn.now) → Reads (state S.Store tx.old.conn.now) (state S.Store tx.new.conn.now)) }
+    ensures inside { OnOk result (IfClean IsInside (state S.Store tx.new.conn.now)) }
+    ensures open { OnOk result (IfClean IsOpen (state S.Store tx.new.conn.now)) }
     ensures steps { Steps (state S.Store tx.old.conn.now) (state S.Store tx.new.conn.now) }
 {
     each_row(
@@ -127,6 +129,8 @@ pub fn role_keys<S: Alter>(
     ensures found { HasCleanDisk (state S.Store tx.new.conn.now) → IfOk result (λ found. (all : List Values) → HasTables (state S.Store tx.old.conn.now)
         → ListsAll all ((state S.Store tx.old.conn.now).now.trees role_key_table.tree) → map (columns_at role_key_places) all ≡ map role_key_row found.items) }
     ensures reads { HasCleanDisk (state S.Store tx.new.conn.now) → OnOk result (HasTables (state S.Store tx.old.conn.now) → Reads (state S.Store tx.old.conn.now) (state S.Store tx.new.conn.now)) }
+    ensures inside { OnOk result (IfClean IsInside (state S.Store tx.new.conn.now)) }
+    ensures open { OnOk result (IfClean IsOpen (state S.Store tx.new.conn.now)) }
     ensures steps { Steps (state S.Store tx.old.conn.now) (state S.Store tx.new.conn.now) }
 {
     each_row(

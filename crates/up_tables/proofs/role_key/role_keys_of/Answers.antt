@@ -1,6 +1,6 @@
 use Rattle.sqlite.specs.Held.{state}
 use Rattle.up_tables.proofs.RoleKeyLemmas.{keys_of_text, keys_of_plain, finds_keys_of}
-use Rattle.up_tables.proofs.StateLemmas.{reads_in}
+use Rattle.up_tables.proofs.StateLemmas.{on_read, reads_in, shown_inside, shown_is_open}
 use Rattle.up_tables.proofs.StepLemmas.{queries}
 use Rattle.up_tables.proofs.role_key.role_keys_of.Goals as goal
 
@@ -15,3 +15,11 @@ returns-clause-reads g c clean =
 pub returns-clause-steps : goal.returns-clause-steps
 returns-clause-steps g c =
     queries (λ v. v.items) _ _ (state g.S.Store c.args.tx.now.conn.now) (state g.S.Store c.query_all.new.self.conn.now) c.query_all.result c.requires.mode c.query_all.ensures.survives c.query_all.ensures.ok c.query_all.ensures.err
+
+pub returns-clause-inside : goal.returns-clause-inside
+returns-clause-inside g c =
+    on_read _ _ c.query_all.result c.each_row.result c.each_row.ensures.ok (shown_inside (λ v. v.items) _ _ (state g.S.Store c.args.tx.now.conn.now) (state g.S.Store c.query_all.new.self.conn.now) c.query_all.result c.query_all.ensures.survives c.requires.mode c.query_all.ensures.ok)
+
+pub returns-clause-open : goal.returns-clause-open
+returns-clause-open g c =
+    on_read _ _ c.query_all.result c.each_row.result c.each_row.ensures.ok (shown_is_open (λ v. v.items) _ _ (state g.S.Store c.args.tx.now.conn.now) (state g.S.Store c.query_all.new.self.conn.now) c.query_all.result c.query_all.ensures.ok)
