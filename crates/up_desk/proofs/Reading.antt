@@ -1,12 +1,13 @@
 -- What the rows tell is what the state tells.
-use Rattle.std.proofs.Common.{◌≡◌, ℕ, ◌+◌, List, [], ◌∷◌, Bool, true, false, cond, Option, Some, None, map, refl, ap, ◌∙◌}
+use Rattle.std.proofs.Common.{◌≡◌, ℕ, ◌+◌, List, [], ◌∷◌, Bool, true, false, cond, Option, Some, None, map, refl, sym, ap, ◌∙◌, subst}
 use Rattle.std.specs.Prelude.{◌==◌, ◌&&◌, ◌||◌, option_map, option_and_then, unwrap_or, find, filter, bytes_eq}
-use Rattle.std.specs.List.{enumerate_from}
+use Rattle.std.specs.List.{AllByRecursion, enumerate_from}
 use Rattle.std.specs.Cmp.Lexicographic.{bytes_decides}
 use Rattle.std.specs.FinMap as table
 use Rattle.up_canon.specs.Names.{Name, Table}
 use Rattle.up_sign.specs.Schemes.{Rules}
 use Rattle.up_manifest.specs.declared.report.Installed.{Installed}
+use Rattle.up_plan.specs.Images.{ImageData}
 use Rattle.up_machine.specs.declared.rows.EcuRow.{EcuRow}
 use Rattle.up_machine.specs.declared.rows.VehicleRows.{VehicleRows}
 use Rattle.up_machine.specs.declared.rows.Kept.{Kept}
@@ -15,7 +16,8 @@ use Rattle.up_machine.specs.Vehicles.{has_ecu, ecu_names}
 use Rattle.up_machine.specs.State.{Entry, Vehicle, State, last_counter, plan_for, installed_on}
 use Rattle.up_machine.specs.Reads.{ecus_of, installed, assigned_to}
 use Rattle.up_machine.specs.Rows.{ecu_row, rows_of, kept_row, kept_at}
-use Rattle.up_desk.specs.Rows.{Held, kept_with, stands_among, installed_among, plan_held, Shows}
+use Rattle.up_machine.specs.Decisions.{AreImagesOf}
+use Rattle.up_desk.specs.Rows.{Held, Holds, kept_with, stands_among, installed_among, plan_held, Shows}
 use Rattle.up_desk.proofs.Tables.{changed, entries_changed}
 use Rattle.up_desk.proofs.Staying.{rows_for}
 use Rattle.up_desk.proofs.Added.{among_rows, all_rows}
@@ -127,3 +129,15 @@ assigned_read k s b name h =
         ap (option_map (λ (row : Kept). row.plan)) (kept_found k s b name (last_counter v.entries) h
         ∙ ap (option_and_then (λ (w : Vehicle). option_map (λ (e : ℕ × Entry). kept_row k s name e.0 e.1) (find (λ (e : ℕ × Entry). e.1.counter == last_counter v.entries) (enumerate_from 1 w.entries)))) is)
         ∙ plan_row k s name (last_counter v.entries) 1 v.entries
+
+-- ---- the images of a manifest's files
+
+each_same : (images : Table ImageData) (files : List Name) → AllByRecursion (λ file. table.get images file ≡ table.get images file) files
+each_same images [] = tt
+each_same images (file ∷ files) = (refl, each_same images files)
+
+-- all images have those of any files
+pub all_images : (k : Rules) (s : State) (b : Held) (files : List Name) → Holds k s b → AreImagesOf files b.images s.images
+all_images k s b files holds =
+    subst (λ images. AreImagesOf files images s.images) (sym holds.shows.images)
+    (record { named = λ file image is. (holds.sound.repositories.each_image file image is).named; same = each_same s.images files })

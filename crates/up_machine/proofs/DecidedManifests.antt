@@ -10,6 +10,7 @@ use Rattle.up_sign.specs.Schemes.{Rules}
 use Rattle.up_manifest.specs.declared.manifest.Incoming.{Incoming}
 use Rattle.up_manifest.specs.Laws.{BodiesAreRead, SignedTextsMean}
 use Rattle.up_manifest.specs.Manifests.{manifest_of}
+use Rattle.up_plan.specs.Laws.{OtherImagesChangeNothing}
 use Rattle.up_machine.specs.declared.answer.Answer.TheVariants.{Reply as Replied}
 use Rattle.up_machine.specs.declared.rows.Founding.{Founding}
 use Rattle.up_machine.specs.declared.rows.Kept.{Kept}
@@ -28,6 +29,7 @@ use Rattle.up_machine.proofs.FoundedRow.{founded_by_row, check_by_row}
 use Rattle.up_machine.proofs.CheckedRows.{bind_same, bind_assoc, received_same, new_same}
 use Rattle.up_machine.proofs.FoundRepeats.{resolve_kept, resolved}
 use Rattle.up_machine.proofs.AcceptedManifests.{accepted_alike, accepted_are}
+use Rattle.up_machine.proofs.NamedImages.{images_alike}
 
 -- the rows that the decision is given are those of a sound state
 pub record Given (k : Rules) (s : State) (at : ℕ) (incoming : Incoming) (rows : DeliveryData) : Type 0 where
@@ -139,11 +141,11 @@ bad_manifest bodies texts k s at incoming rows f vehicle x e given there is good
     let h = by_vehicle s incoming rows.vehicle vehicle given.of_state.vehicle is in
     as_new bodies texts k s at incoming rows f vehicle x given there h good fresh ∙ bind-err _ _ e bad
 
-pub is_accepted : BodiesAreRead → SignedTextsMean → (k : Rules) (s : State) (at : ℕ) (incoming : Incoming) (rows : DeliveryData) (f : Founding) (vehicle : VehicleRows) (x y : ⊤)
+pub is_accepted : OtherImagesChangeNothing → BodiesAreRead → SignedTextsMean → (k : Rules) (s : State) (at : ℕ) (incoming : Incoming) (rows : DeliveryData) (f : Founding) (vehicle : VehicleRows) (x y : ⊤)
     → Given k s at incoming rows → rows.founding ≡ Some f → rows.vehicle ≡ Some vehicle → check_primary k vehicle incoming ≡ Ok x → repeated incoming rows.kept ≡ None
     → check_new_of k vehicle incoming.manifest ≡ Ok y → vehicle.vehicle.last < incoming.manifest.counter
     → GivesDelivered k s incoming.manifest.vehicle (Ok (Accepted (accepted_rows k f vehicle at incoming rows.images rows.campaigns))) (decide_incoming k s at incoming)
-is_accepted bodies texts k s at incoming rows f vehicle x y given there is good fresh passes later =
+is_accepted others bodies texts k s at incoming rows f vehicle x y given there is good fresh passes later =
     let h = by_vehicle s incoming rows.vehicle vehicle given.of_state.vehicle is in
     let d : Received = record { vehicle = h.v; incoming = incoming } in
     let above : last_counter h.v.entries < incoming.manifest.counter = subst (λ (r : VehicleRows). r.vehicle.last < incoming.manifest.counter) (sym h.same) later in
@@ -151,8 +153,9 @@ is_accepted bodies texts k s at incoming rows f vehicle x y given there is good 
     let has = accepted_are k s at d f (sym given.of_state.founding ∙ there) above read in
     let comes = as_new bodies texts k s at incoming rows f vehicle x given there h good fresh ∙ bind-ok _ _ y passes in
     let same : accepted_rows k f (rows_of incoming.manifest.vehicle h.v) at incoming s.images (table.values s.campaigns) ≡ accepted_rows k f vehicle at incoming rows.images rows.campaigns =
-    ap (λ i. accepted_rows k f (rows_of incoming.manifest.vehicle h.v) at incoming i (table.values s.campaigns)) (sym given.of_state.images)
-    ∙ accepted_alike k f (rows_of incoming.manifest.vehicle h.v) at incoming rows.images (table.values s.campaigns) rows.campaigns (sym given.of_state.campaigns)
+    accepted_alike k f (rows_of incoming.manifest.vehicle h.v) at incoming s.images (table.values s.campaigns) rows.campaigns (sym given.of_state.campaigns)
+    ∙ images_alike others rows.campaigns (rows_of incoming.manifest.vehicle h.v) incoming k f at rows.images s.images given.of_state.images
+    (λ file image is. (given.sound.repositories.each_image file image is).named)
     ∙ ap (λ r. accepted_rows k f r at incoming rows.images rows.campaigns) h.same in
     subst (λ a. GivesDelivered k s incoming.manifest.vehicle (Ok (Accepted a)) (decide_incoming k s at incoming)) same
     (h.v, entry_of s at d, h.there, comes ∙ ap (λ reply. Ok (record { answer = Replied reply; next = with_entry s incoming.manifest.vehicle h.v (entry_of s at d) })) (sym (ap reply_kept has.kept)), has)

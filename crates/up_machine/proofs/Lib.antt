@@ -36,5 +36,6 @@ pub mod Passing
 pub mod CheckedRows
 pub mod FoundRepeats
 pub mod AcceptedManifests
+pub mod NamedImages
 pub mod DecidedManifests
 pub mod SoundRows

@@ -10,6 +10,7 @@ use Rattle.up_canon.specs.declared.refusal.Refusal.TheVariants.{UnknownVehicle, 
 use Rattle.up_sign.specs.Schemes.{Rules}
 use Rattle.up_manifest.specs.declared.manifest.Incoming.{Incoming}
 use Rattle.up_manifest.specs.declared.manifest.Manifest.{Manifest}
+use Rattle.up_manifest.specs.declared.report.SignedReport.{SignedReport}
 use Rattle.up_manifest.specs.Manifests.{incoming_in}
 use Rattle.up_roles.specs.declared.repository.Repository.TheVariants.{Director, Image}
 use Rattle.up_plan.specs.declared.campaign.Item.{Item}
@@ -103,12 +104,22 @@ pub record DeliveryData : Type 0 where
   pub images : Table ImageData
   pub campaigns : List CampaignData
 
--- they are those of the state that this manifest needs: of the campaigns, the items for its vehicle count alone
+-- the files that the items for a vehicle and its reports name
+abbrev pub files_named : List CampaignData → Name → List SignedReport → List Name
+files_named campaigns vehicle reports = map (λ i. i.file) (items_for campaigns vehicle) ++ map (λ r. r.report.image.file) reports
+
+-- each image stands under its own filename, and at each of these files there is what is registered
+pub record AreImagesOf (files : List Name) (images registered : Table ImageData) : Type 0 where
+  pub named : (file : Name) (image : ImageData) → table.get images file ≡ Some image → image.file ≡ file
+  pub same : AllByRecursion (λ file. table.get images file ≡ table.get registered file) files
+
+-- they are those of the state that this manifest needs: of the campaigns the items for its vehicle count alone, and of the images
+-- those of the files that these items and the reports name
 pub record AreRowsFor (k : Rules) (s : State) (manifest : Manifest) (rows : DeliveryData) : Type 0 where
   pub founding : rows.founding ≡ founding_row s
   pub vehicle : rows.vehicle ≡ vehicle_rows s manifest.vehicle
   pub kept : rows.kept ≡ kept_at k s manifest.vehicle manifest.counter
-  pub images : rows.images ≡ s.images
+  pub images : AreImagesOf (files_named rows.campaigns manifest.vehicle manifest.reports) rows.images s.images
   pub campaigns : items_for rows.campaigns manifest.vehicle ≡ items_for (table.values s.campaigns) manifest.vehicle
 
 -- a repeat is answered the reply that was kept; an accepted manifest that of the row that is new

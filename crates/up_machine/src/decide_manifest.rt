@@ -21,11 +21,13 @@ use up_manifest::body_laws;
 use up_manifest::manifest::Incoming;
 use up_plan::campaign::Campaign;
 use up_plan::image::Image;
+use up_plan::laws::other_images_change_nothing;
 use up_sign::scheme::Scheme;
 
-/// The rows that the decision on a manifest reads: the founding's, those of its vehicle, the one kept with its counter, all
-/// images, and campaigns whose items for the vehicle are those of all campaigns: the ones that run and reach it, in the
-/// order of their names, are enough.
+/// The rows that the decision on a manifest reads: the founding's, those of its vehicle, the one kept with its counter,
+/// campaigns whose items for the vehicle are those of all campaigns (the ones that run and reach it, in the order of their
+/// names, are enough), and of the images, each under its filename, those of the files that these items and the manifest's
+/// reports name.
 #[derive(Drop)]
 pub struct DeliveryRows<'a> {
     pub founding: Option<&'a Founding>,
@@ -69,6 +71,7 @@ pub fn decide_manifest<K: Scheme>(
         (decide_incoming (K.rules scheme.now) s at incoming.now) }
 {
     body_laws();
+    other_images_change_nothing();
     let Some(founding) = rows.founding else {
         return Err(Refusal::NotFounded);
     };

@@ -3,7 +3,7 @@ use Rattle.std.specs.FinMap as table
 use Rattle.up_plan.specs.Planning.{items_for}
 use Rattle.up_desk.specs.Rows.{held, state_of, kept_with}
 use Rattle.up_desk.proofs.Decided.{if_some}
-use Rattle.up_desk.proofs.Reading.{kept_found}
+use Rattle.up_desk.proofs.Reading.{kept_found, all_images}
 use Rattle.up_desk.proofs.deliveries.decide.Goals as goal
 
 pub returns : goal.returns
@@ -14,7 +14,7 @@ returns g c =
       founding = c.as_ref.ensures.value ∙ stands.shows.founding;
       vehicle = c.get.ensures ∙ ap (table.get c.args.book.now.vehicles) c.text.ensures.value ∙ stands.shows.vehicles name;
       kept = c.find_kept.ensures ∙ ap (kept_with name c.args.incoming.now.manifest.counter) c.as_slice.ensures.value ∙ kept_found _ _ (held c.args.book.now) name c.args.incoming.now.manifest.counter stands.shows;
-      images = stands.shows.images;
+      images = all_images _ _ (held c.args.book.now) _ stands;
       campaigns = ap (λ campaigns. items_for campaigns name) (c.values.ensures ∙ ap table.values stands.shows.campaigns);
     })
 

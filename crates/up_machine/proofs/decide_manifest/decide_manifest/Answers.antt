@@ -90,7 +90,7 @@ returns g c = λ s sound rows.
     let tables = ap (λ (d : DeliveryData). accepted_rows (g.K.Scheme.rules c.args.scheme.now) c.in-Some.founding.now c.in-Some-vehicle.vehicle.now c.args.at c.args.incoming.now d.images d.campaigns) c.rows.view_is in
     subst (λ a. GivesDelivered (g.K.Scheme.rules c.args.scheme.now) s c.args.incoming.now.manifest.vehicle (Ok (Accepted a)) (decide_incoming (g.K.Scheme.rules c.args.scheme.now) s c.args.at c.args.incoming.now))
     (sym (c.in_ok-accepted.ensures ∙ tables))
-    (is_accepted c.body_laws.ensures.read c.body_laws.ensures.signed (g.K.Scheme.rules c.args.scheme.now) s c.args.at c.args.incoming.now c.args.rows.now
+    (is_accepted c.other_images_change_nothing.ensures c.body_laws.ensures.read c.body_laws.ensures.signed (g.K.Scheme.rules c.args.scheme.now) s c.args.at c.args.incoming.now c.args.rows.now
     c.in-Some.founding.now c.in-Some-vehicle.vehicle.now c.in_ok-check_primary.field-0 c.in_ok-check_new.field-0
     (record { sound = sound; moment = c.requires.moment; read = c.requires.read; of_state = rows })
     founding vehicle (sym c.in_ok-check_primary.ensures) fresh
