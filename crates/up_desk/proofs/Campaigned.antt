@@ -1,5 +1,5 @@
 -- The rows after a campaign was opened or closed are those of the next state.
-use Rattle.std.proofs.Common.{◌≡◌, ℕ, ◌∷◌, [], List, Option, Some, None, Ok, refl, sym, ap, ◌∙◌, subst}
+use Rattle.std.proofs.Common.{◌≡◌, ℕ, ◌∷◌, [], List, Option, Some, None, Ok, refl, ap, ◌∙◌}
 use Rattle.std.specs.Prelude.{option_map, is_some}
 use Rattle.std.specs.List.{AllByRecursion}
 use Rattle.std.specs.FinMap as table
@@ -11,16 +11,17 @@ use Rattle.up_machine.specs.declared.answer.Answer.TheVariants.{Done}
 use Rattle.up_machine.specs.State.{Vehicle, State}
 use Rattle.up_machine.specs.Deciding.{done}
 use Rattle.up_machine.specs.Inventory.{with_campaign, decide_open, decide_close}
-use Rattle.up_machine.specs.Replies.{reply_text}
 use Rattle.up_machine.specs.Rows.{rows_of}
 use Rattle.up_machine.specs.Decisions.{Knows, named_in}
-use Rattle.up_desk.specs.Rows.{Held, Shows, Holds}
-use Rattle.up_desk.specs.Changes.{with_campaign_row}
+use Rattle.up_rows.specs.StateRows.{StateRows, rows_of_state}
+use Rattle.up_rows.specs.Changes.{with_campaign_row}
+use Rattle.up_rows.specs.Laws.{VehiclesAreFound, CampaignsAreWritten}
+use Rattle.up_desk.specs.Books.{AreRowsOf}
 use Rattle.up_desk.specs.Serving.{Leaves}
 
--- what a campaign names is known in the tables as in the state
-pub knows : (k : Rules) (s : State) (b : Held) (campaign : CampaignData) → Shows k s b → Knows s campaign b.vehicles b.images
-knows k s b campaign h = record { of_vehicles = each_name (named_in campaign.reach); of_images = each_item campaign.items }
+-- what a campaign names is known in the rows as in the state
+pub knows : (k : Rules) (s : State) (b : StateRows) (campaign : CampaignData) → VehiclesAreFound → b ≡ rows_of_state k s → Knows s campaign b.vehicles b.images
+knows k s b campaign found are = record { of_vehicles = each_name (named_in campaign.reach); of_images = each_item campaign.items }
   where
     same_there : (o : Option Vehicle) (name : Name) → is_some (option_map (rows_of name) o) ≡ is_some o
     same_there None name = refl
@@ -28,31 +29,23 @@ knows k s b campaign h = record { of_vehicles = each_name (named_in campaign.rea
 
     each_name : (names : List Name) → AllByRecursion (λ name. table.contains_key b.vehicles name ≡ table.contains_key s.vehicles name) names
     each_name [] = tt
-    each_name (name ∷ names) = (ap is_some (h.vehicles name) ∙ same_there (table.get s.vehicles name) name, each_name names)
+    each_name (name ∷ names) =
+        (ap (λ (r : StateRows). is_some (table.get r.vehicles name)) are ∙ ap is_some (found k s name) ∙ same_there (table.get s.vehicles name) name, each_name names)
 
     each_item : (items : List Item) → AllByRecursion (λ (item : Item). table.get b.images item.file ≡ table.get s.images item.file) items
     each_item [] = tt
-    each_item (item ∷ items) = (ap (λ t. table.get t item.file) h.images, each_item items)
+    each_item (item ∷ items) = (ap (λ (r : StateRows). table.get r.images item.file) are, each_item items)
 
-campaigned : (k : Rules) (s : State) (b : Held) (campaign : CampaignData) → Shows k s b → Shows k (with_campaign s campaign) (with_campaign_row b campaign)
-unfolding reply_text
-campaigned k s b campaign h = record {
-  founding = h.founding;
-  roots = h.roots;
-  images = h.images;
-  files = h.files;
-  campaigns = ap (λ t. table.insert t campaign.name campaign) h.campaigns;
-  vehicles = h.vehicles;
-  kept = h.kept;
-}
+written : (k : Rules) (s : State) (b new : StateRows) (row : CampaignData) → CampaignsAreWritten → b ≡ rows_of_state k s → new ≡ with_campaign_row b row
+    → new ≡ rows_of_state k (with_campaign s row)
+written k s b new row law are is = is ∙ ap (λ (r : StateRows). with_campaign_row r row) are ∙ law k s row
 
-pub open_done : (k : Rules) (s : State) (b new : Held) (at : ℕ) (campaign row : CampaignData) → Holds k s b
+pub open_done : (k : Rules) (s : State) (b new : StateRows) (at : ℕ) (campaign row : CampaignData) → CampaignsAreWritten → AreRowsOf k s b
     → decide_open s at campaign ≡ Ok (done (with_campaign s campaign)) → row ≡ campaign
     → new ≡ with_campaign_row b row → Leaves k s new (Ok Done) (decide_open s at campaign)
-open_done k s b new at campaign row holds decided same is =
-    (refl, (with_campaign s campaign, decided, subst (Shows k (with_campaign s campaign)) (sym (is ∙ ap (with_campaign_row b) same)) (campaigned k s b campaign holds.shows)))
+open_done k s b new at campaign row law old decided same is =
+    (refl, (with_campaign s campaign, decided, written k s b new campaign law old.are (is ∙ ap (with_campaign_row b) same)))
 
-pub close_done : (k : Rules) (s : State) (b new : Held) (at : ℕ) (name : Name) (row : CampaignData) → Holds k s b
+pub close_done : (k : Rules) (s : State) (b new : StateRows) (at : ℕ) (name : Name) (row : CampaignData) → CampaignsAreWritten → AreRowsOf k s b
     → decide_close s at name ≡ Ok (done (with_campaign s row)) → new ≡ with_campaign_row b row → Leaves k s new (Ok Done) (decide_close s at name)
-close_done k s b new at name row holds decided is =
-    (refl, (with_campaign s row, decided, subst (Shows k (with_campaign s row)) (sym is) (campaigned k s b row holds.shows)))
+close_done k s b new at name row law old decided is = (refl, (with_campaign s row, decided, written k s b new row law old.are is))

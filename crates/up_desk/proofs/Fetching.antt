@@ -1,9 +1,6 @@
--- The text that is found among the rows is the file's.
-use Rattle.std.proofs.Common.{◌≡◌, ℕ, zero, suc, ◌+◌, ◌-◌, ◌≤◌, List, [], ◌∷◌, ◌++◌, Bool, true, false, cond, Option, Some, None, Result, Ok, Err, map, refl, sym, ap, ap₂, ◌∙◌, arith}
-use Rattle.std.specs.Prelude.{⊤, is_none, MatchBool, ◌≢◌, ◌==◌, option_map, option_to_list, find, length, slice_get, bytes_eq, codes, if◌then◌else◌}
-use Rattle.std.specs.List.{enumerate_from}
-use Rattle.std.specs.Option.{option_or}
-use Rattle.std.proofs.lemmas.Bool.{ne_eqb}
+-- A file that is fetched is the state's.
+use Rattle.std.proofs.Common.{◌≡◌, ℕ, ◌≤◌, List, Bool, true, false, Option, Some, None, Result, Ok, Err, refl, sym, ap, ap₂, ◌∙◌}
+use Rattle.std.specs.Prelude.{⊤, is_none, MatchBool}
 use Rattle.up_canon.specs.Moments.{last_command_moment}
 use Rattle.up_canon.specs.Names.{Name}
 use Rattle.up_canon.specs.Refusals.{is_memory, Gives}
@@ -12,145 +9,22 @@ use Rattle.up_canon.specs.declared.refusal.Refusal.{Refusal}
 use Rattle.up_canon.specs.declared.refusal.Refusal.TheVariants.{NotFounded, UnknownFile}
 use Rattle.up_sign.specs.Schemes.{Rules}
 use Rattle.up_roles.specs.declared.repository.Repository.{Repository}
-use Rattle.up_roles.specs.declared.repository.Repository.TheVariants.{Director, Image}
 use Rattle.up_machine.specs.declared.answer.Answer.TheVariants.{File as Told}
-use Rattle.up_machine.specs.State.{Root, State, nth, root_at}
-use Rattle.up_machine.specs.Files.{File, numbered_root_name, root_text_at, numbered_roots, latest_root, texts_in, image_texts, files, file}
+use Rattle.up_machine.specs.State.{State}
+use Rattle.up_machine.specs.Files.{file}
 use Rattle.up_machine.specs.Deciding.{Outcome, check_moment, check_founded}
 use Rattle.up_machine.specs.Repositories.{decide_fetch}
 use Rattle.up_machine.specs.declared.rows.Founding.{Founding}
 use Rattle.up_machine.specs.Rows.{founding_row}
-use Rattle.up_desk.specs.declared.book.RootRow.{RootRow}
-use Rattle.up_desk.specs.Rows.{Held, root_row, root_rows, text_in, row_named, text_among, text_held, text_for, Shows}
+use Rattle.up_rows.specs.StateRows.{StateRows, rows_of_state}
+use Rattle.up_rows.specs.Lookups.{text_held}
+use Rattle.up_rows.specs.Laws.{FilesAreFound, FoundedIsFound}
+use Rattle.up_desk.specs.Books.{text_for}
 use Rattle.up_desk.specs.Serving.{Leaves}
-use Rattle.up_desk.proofs.Shown.{no_last}
 use Rattle.up_desk.proofs.Serving.{in_time, passed, stopped_at as stopped}
 
--- ---- what is found in lists one after another
-
-abbrev named : Name → File → Bool
-named name f = bytes_eq f.0 name
-
-abbrev found_in : Name → List File → Option (List ℕ)
-found_in name fs = option_map (λ (f : File). f.1) (find (named name) fs)
-
-either_found : (name : Name) (fs gs : List File) → found_in name (fs ++ gs) ≡ option_or (found_in name fs) (found_in name gs)
-either_found name [] gs = refl
-either_found name (f ∷ fs) gs = by_test (named name f) (either_found name fs gs)
-  where
-    by_test : (t : Bool) → found_in name (fs ++ gs) ≡ option_or (found_in name fs) (found_in name gs)
-        → option_map (λ (f : File). f.1) (cond t (Some f) (find (named name) (fs ++ gs))) ≡ option_or (option_map (λ (f : File). f.1) (cond t (Some f) (find (named name) fs))) (found_in name gs)
-    by_test true more = refl
-    by_test false more = more
-
-or_mapped : {A B : Type 0} (f : A → B) (o p : Option A) → option_map f (option_or o p) ≡ option_or (option_map f o) (option_map f p)
-or_mapped f None p = refl
-or_mapped f (Some x) p = refl
-
--- ---- Root files
-
-text_of_row : (k : Rules) (s : State) (repository : Repository) (i : ℕ) (root : Root) → text_in repository (root_row k s i root) ≡ root_text_at k s repository i root
-text_of_row k s Director i root = refl
-text_of_row k s Image i root = refl
-
-numbered_found : (k : Rules) (s : State) (repository : Repository) (name : Name) (n : ℕ) (roots : List Root)
-    → found_in name (map (λ (r : ℕ × Root). (numbered_root_name r.0, root_text_at k s repository r.0 r.1)) (enumerate_from n roots))
-    ≡ option_map (text_in repository) (find (λ (row : RootRow). bytes_eq row.name name) (map (λ (r : ℕ × Root). root_row k s r.0 r.1) (enumerate_from n roots)))
-numbered_found k s repository name n [] = refl
-numbered_found k s repository name n (root ∷ roots) = by_test (bytes_eq (numbered_root_name n) name) (numbered_found k s repository name (n + 1) roots)
-  where
-    by_test : (t : Bool)
-        → found_in name (map (λ (r : ℕ × Root). (numbered_root_name r.0, root_text_at k s repository r.0 r.1)) (enumerate_from (n + 1) roots))
-        ≡ option_map (text_in repository) (find (λ (row : RootRow). bytes_eq row.name name) (map (λ (r : ℕ × Root). root_row k s r.0 r.1) (enumerate_from (n + 1) roots)))
-        → option_map (λ (f : File). f.1) (cond t (Some (numbered_root_name n, root_text_at k s repository n root)) (find (named name) (map (λ (r : ℕ × Root). (numbered_root_name r.0, root_text_at k s repository r.0 r.1)) (enumerate_from (n + 1) roots))))
-        ≡ option_map (text_in repository) (cond t (Some (root_row k s n root)) (find (λ (row : RootRow). bytes_eq row.name name) (map (λ (r : ℕ × Root). root_row k s r.0 r.1) (enumerate_from (n + 1) roots))))
-    by_test true more = ap Some (sym (text_of_row k s repository n root))
-    by_test false more = more
-
-length_numbered : {A B : Type 0} (f : ℕ × A → B) (n : ℕ) (xs : List A) → length (map f (enumerate_from n xs)) ≡ length xs
-length_numbered f n [] = refl
-length_numbered f n (x ∷ xs) = ap suc (length_numbered f (n + 1) xs)
-
-item_numbered : {A B : Type 0} (f : ℕ × A → B) (n i : ℕ) (xs : List A) → slice_get (map f (enumerate_from n xs)) i ≡ option_map (λ x. f (n + i, x)) (slice_get xs i)
-item_numbered f n i [] = refl
-item_numbered f n zero (x ∷ xs) = ap (λ m. Some (f (m, x))) (none n)
-  where
-    none : (n : ℕ) → n ≡ n + 0
-    none n = omega arith
-item_numbered f n (suc i) (x ∷ xs) = item_numbered f (n + 1) i xs ∙ ap (λ m. option_map (λ y. f (m, y)) (slice_get xs i)) (later n i)
-  where
-    later : (n i : ℕ) → n + 1 + i ≡ n + suc i
-    later n i = omega arith
-
-last_row : (k : Rules) (s : State) (roots : List Root)
-    → slice_get (map (λ (r : ℕ × Root). root_row k s r.0 r.1) (enumerate_from 1 roots)) (length (map (λ (r : ℕ × Root). root_row k s r.0 r.1) (enumerate_from 1 roots)) - 1)
-    ≡ option_map (λ (root : Root). root_row k s (length roots) root) (if length roots == 0 then None else slice_get roots (length roots - 1))
-last_row k s [] = refl
-last_row k s (root ∷ roots) =
-    let some = ne_eqb (length (root ∷ roots)) 0 (λ e. omega arith) in
-    ap (λ i. slice_get (map (λ (r : ℕ × Root). root_row k s r.0 r.1) (enumerate_from 1 (root ∷ roots))) (i - 1)) (length_numbered (λ (r : ℕ × Root). root_row k s r.0 r.1) 1 (root ∷ roots))
-    ∙ item_numbered (λ (r : ℕ × Root). root_row k s r.0 r.1) 1 (length (root ∷ roots) - 1) (root ∷ roots)
-    ∙ ap (λ i. option_map (λ (x : Root). root_row k s i x) (slice_get (root ∷ roots) (length (root ∷ roots) - 1))) (back (length (root ∷ roots)) (omega arith))
-    ∙ ap (λ t. option_map (λ (x : Root). root_row k s (length (root ∷ roots)) x) (cond t None (slice_get (root ∷ roots) (length (root ∷ roots) - 1)))) (sym some)
-  where
-    back : (n : ℕ) → 1 ≤ n → 1 + (n - 1) ≡ n
-    back n h = omega arith
-
-latest_found : (k : Rules) (s : State) (repository : Repository) (name : Name) (o : Option Root)
-    → found_in name (option_to_list (option_map (λ (root : Root). (codes "root.json", root_text_at k s repository (length s.roots) root)) o))
-    ≡ option_map (text_in repository) (if bytes_eq (codes "root.json") name then option_map (λ (root : Root). root_row k s (length s.roots) root) o else None)
-latest_found k s repository name None = by_test (bytes_eq (codes "root.json") name)
-  where
-    by_test : (t : Bool) → None ≡ option_map (text_in repository) (cond t None None)
-    by_test true = refl
-    by_test false = refl
-latest_found k s repository name (Some root) = by_test (bytes_eq (codes "root.json") name)
-  where
-    by_test : (t : Bool) → option_map (λ (f : File). f.1) (cond t (Some (codes "root.json", root_text_at k s repository (length s.roots) root)) None)
-        ≡ option_map (text_in repository) (cond t (Some (root_row k s (length s.roots) root)) None)
-    by_test true = ap Some (sym (text_of_row k s repository (length s.roots) root))
-    by_test false = refl
-
-roots_found : (k : Rules) (s : State) (repository : Repository) (name : Name) (rows : List RootRow) → rows ≡ root_rows k s
-    → found_in name (latest_root k s repository ++ numbered_roots k s repository) ≡ option_map (text_in repository) (row_named name rows)
-roots_found k s repository name rows is =
-    either_found name (latest_root k s repository) (numbered_roots k s repository)
-    ∙ ap₂ option_or (latest_found k s repository name (root_at s (length s.roots))
-    ∙ ap (λ (o : Option RootRow). option_map (text_in repository) (if bytes_eq (codes "root.json") name then o else None)) (sym (last_row k s s.roots)))
-    (numbered_found k s repository name 1 s.roots)
-    ∙ sym (or_mapped (text_in repository) _ _) ∙ ap (λ (r : List RootRow). option_map (text_in repository) (row_named name r)) (sym is)
-
-pub text_read : (k : Rules) (s : State) (b : Held) (repository : Repository) (name : Name) → Shows k s b → text_held b repository name ≡ file k s repository name
-unfolding files
-text_read k s b Director name h = nothing_more _ ∙ sym (roots_found k s Director name b.roots h.roots)
-  where
-    nothing_more : (o : Option (List ℕ)) → option_or o None ≡ o
-    nothing_more None = refl
-    nothing_more (Some x) = refl
-text_read k s b Image name h =
-    ap₂ option_or (sym (roots_found k s Image name b.roots h.roots)) (ap (λ o. text_among o name) h.files)
-    ∙ sym (either_found name (latest_root k s Image ++ numbered_roots k s Image) (texts_in (image_texts k s)))
-
--- ---- the command
-
-abbrev row_of : State → Root → Founding
-row_of s root = record { root = length s.roots; keys = root.keys; image_version = s.image_version; stamp = s.stamp }
-
-unfounded_row : (s : State) → founding_row s ≡ None → length s.roots ≡ 0
-unfounded_row s h = no_last s.roots (none_mapped (root_at s (length s.roots)) h)
-  where
-    none_mapped : (o : Option Root) → option_map (row_of s) o ≡ None → o ≡ None
-    none_mapped None h = refl
-    none_mapped (Some root) h = cc
-
-founded_row : (s : State) (f : Founding) → founding_row s ≡ Some f → length s.roots ≢ 0
-founded_row s f h e =
-    let none : founding_row s ≡ None = ap (λ n. option_map (row_of s) (nth s.roots n)) e in
-    cc
-
-founded_alike : (s : State) (o : Option Founding) → o ≡ founding_row s → refuse_if (is_none o) NotFounded ≡ check_founded s
-founded_alike s None h = sym (ap (λ n. refuse_if (n == 0) NotFounded) (unfounded_row s (sym h)))
-founded_alike s (Some f) h = sym (ap (λ t. refuse_if t NotFounded) (ne_eqb (length s.roots) 0 (founded_row s f (sym h))))
+founded_alike : (s : State) (o : Option Founding) → FoundedIsFound → o ≡ founding_row s → refuse_if (is_none o) NotFounded ≡ check_founded s
+founded_alike s o founded h = ap (λ t. refuse_if t NotFounded) (ap is_none h ∙ founded s)
 
 -- the text that is answered
 told_as : State → Result (List ℕ) Refusal → Result Outcome Refusal
@@ -161,24 +35,24 @@ unfolding and_then
 chained (Ok x) f g = refl
 chained (Err e) f g = refl
 
-fetched : (k : Rules) (s : State) (b : Held) (at : ℕ) (repository : Repository) (name : Name) → Shows k s b → at ≤ last_command_moment
+fetched : (k : Rules) (s : State) (b : StateRows) (at : ℕ) (repository : Repository) (name : Name) → FilesAreFound → FoundedIsFound → b ≡ rows_of_state k s → at ≤ last_command_moment
     → decide_fetch k s at repository name ≡ told_as s (text_for b repository name)
 unfolding decide_fetch told_as
-fetched k s b at repository name h moment =
+fetched k s b at repository name files founded h moment =
     passed (check_moment at) _ (in_time at moment)
     ∙ chained (check_founded s) (or_error UnknownFile (file k s repository name)) (λ text. Ok (record { answer = Told text; next = s }))
-    ∙ ap₂ (λ (m : Result ⊤ Refusal) (o : Option (List ℕ)). told_as s (and_then m (λ _. or_error UnknownFile o))) (sym (founded_alike s b.founding h.founding)) (sym (text_read k s b repository name h))
+    ∙ ap₂ (λ (m : Result ⊤ Refusal) (o : Option (List ℕ)). told_as s (and_then m (λ _. or_error UnknownFile o))) (sym (founded_alike s b.founding founded (ap (λ (r : StateRows). r.founding) h))) (sym (ap (λ (r : StateRows). text_held r repository name) h ∙ files k s repository name))
 
-pub fetch_done : (k : Rules) (s : State) (b : Held) (at : ℕ) (repository : Repository) (name : Name) (text : List ℕ) → Shows k s b → at ≤ last_command_moment
+pub fetch_done : (k : Rules) (s : State) (b : StateRows) (at : ℕ) (repository : Repository) (name : Name) (text : List ℕ) → FilesAreFound → FoundedIsFound → b ≡ rows_of_state k s → at ≤ last_command_moment
     → text_for b repository name ≡ Ok text → Leaves k s b (Ok (Told text)) (decide_fetch k s at repository name)
 unfolding told_as and_then
-fetch_done k s b at repository name text h moment is = (refl, (s, fetched k s b at repository name h moment ∙ ap (told_as s) is, h))
+fetch_done k s b at repository name text files founded h moment is = (refl, (s, fetched k s b at repository name files founded h moment ∙ ap (told_as s) is, h))
 
-pub fetch_refused : (k : Rules) (s : State) (b : Held) (at : ℕ) (repository : Repository) (name : Name) (r : Refusal) → Shows k s b → at ≤ last_command_moment
+pub fetch_refused : (k : Rules) (s : State) (b : StateRows) (at : ℕ) (repository : Repository) (name : Name) (r : Refusal) → FilesAreFound → FoundedIsFound → b ≡ rows_of_state k s → at ≤ last_command_moment
     → Gives (Err r) (text_for b repository name) → Leaves k s b (Err r) (decide_fetch k s at repository name)
 unfolding told_as and_then
-fetch_refused k s b at repository name r h moment is = (h, by_memory (is_memory r) is)
+fetch_refused k s b at repository name r files founded h moment is = (h, by_memory (is_memory r) is)
   where
     by_memory : (t : Bool) → MatchBool t ⊤ (text_for b repository name ≡ Err r) → MatchBool t ⊤ (decide_fetch k s at repository name ≡ Err r)
     by_memory true is = tt
-    by_memory false is = fetched k s b at repository name h moment ∙ stopped (text_for b repository name) _ r is
+    by_memory false is = fetched k s b at repository name files founded h moment ∙ stopped (text_for b repository name) _ r is

@@ -1,5 +1,5 @@
 -- The keys of the founding's row fit.
-use Rattle.std.proofs.Common.{◌≡◌, Option, Some, None, refl, sym, subst}
+use Rattle.std.proofs.Common.{◌≡◌, Option, Some, None, refl, sym, ap, subst}
 use Rattle.std.specs.Prelude.{length, option_map, IsTrue, IfSome}
 use Rattle.up_sign.specs.Schemes.{Rules}
 use Rattle.up_machine.specs.declared.rows.Founding.{Founding}
@@ -7,7 +7,8 @@ use Rattle.up_machine.specs.Keys.{key_set_fits}
 use Rattle.up_machine.specs.State.{Root, State, root_at}
 use Rattle.up_machine.specs.Sound.{IsSoundRoot, IsSound}
 use Rattle.up_machine.proofs.Keeping.{nth_at}
-use Rattle.up_desk.specs.Rows.{Held, Holds}
+use Rattle.up_rows.specs.StateRows.{StateRows}
+use Rattle.up_desk.specs.Books.{AreRowsOf}
 
 abbrev row_of : State → Root → Founding
 row_of s root = record { root = length s.roots; keys = root.keys; image_version = s.image_version; stamp = s.stamp }
@@ -16,6 +17,6 @@ of_last : (k : Rules) (s : State) (o : Option Root) → root_at s (length s.root
 of_last k s None h sound = tt
 of_last k s (Some root) h sound = (nth_at (IsSoundRoot k) s.roots (length s.roots) root sound.repositories.each_root h).keys
 
-pub founding_keys : (k : Rules) (s : State) (b : Held) → Holds k s b → IfSome b.founding (λ f. IsTrue (key_set_fits k f.keys))
+pub founding_keys : (k : Rules) (s : State) (b : StateRows) → AreRowsOf k s b → IfSome b.founding (λ f. IsTrue (key_set_fits k f.keys))
 founding_keys k s b h =
-    subst (λ (o : Option Founding). IfSome o (λ f. IsTrue (key_set_fits k f.keys))) (sym h.shows.founding) (of_last k s (root_at s (length s.roots)) refl h.sound)
+    subst (λ (o : Option Founding). IfSome o (λ f. IsTrue (key_set_fits k f.keys))) (sym (ap (λ (r : StateRows). r.founding) h.are)) (of_last k s (root_at s (length s.roots)) refl h.sound)

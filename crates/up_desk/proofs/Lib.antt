@@ -1,13 +1,10 @@
-pub mod Tables
-pub mod Shown
-pub mod Numbered
-pub mod Staying
+pub mod Consistent
+pub mod Kept
 pub mod Rooted
 pub mod Registered
 pub mod Added
 pub mod Campaigned
 pub mod Serving
-pub mod Reading
 pub mod Decided
 pub mod Fetching
 pub mod Runs

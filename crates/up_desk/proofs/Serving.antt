@@ -28,9 +28,11 @@ use Rattle.up_machine.specs.Machine.{decide, outcome_of, step}
 use Rattle.up_machine.specs.Repeats.{Repeat, repeat_in, repeat_of, served_as, serve}
 use Rattle.up_machine.specs.Sound.{IsSound}
 use Rattle.up_machine.specs.RepeatLaws.{ServedStaysSound}
-use Rattle.up_desk.specs.Rows.{Held, state_of, Stands}
+use Rattle.up_rows.specs.StateRows.{StateRows, rows_of_state, state_of_rows}
+use Rattle.up_rows.specs.Laws.{RowsTellTheState}
+use Rattle.up_desk.specs.Books.{AreRowsOf, AreConsistent}
 use Rattle.up_desk.specs.Serving.{is_lost, IsAnswered, told, served, outright_in_time, outright, Leaves}
-use Rattle.up_desk.proofs.Shown.{determined, settled}
+use Rattle.up_desk.proofs.Consistent.{determined, consistent}
 
 -- ---- the moment
 
@@ -75,10 +77,10 @@ pub delivery_served : (k : Rules) (s : State) (at : ℕ) (body : List ℕ) → a
 unfolding and_then
 delivery_served k s at body h = sym (ap (λ (m : Result ⊤ Refusal). and_then m (λ _. and_then (incoming_in body) (decide_incoming k s at))) (in_time at h))
 
-pub of_command : (k : Rules) (s : State) (new : Held) (r : Result Answer Refusal) (at : ℕ) (c d : Command) → c ≡ d → Leaves k s new r (served k s at d) → Leaves k s new r (served k s at c)
+pub of_command : (k : Rules) (s : State) (new : StateRows) (r : Result Answer Refusal) (at : ℕ) (c d : Command) → c ≡ d → Leaves k s new r (served k s at d) → Leaves k s new r (served k s at c)
 of_command k s new r at c d is h = subst (λ (e : Command). Leaves k s new r (served k s at e)) (sym is) h
 
-pub of_delivery : (k : Rules) (s : State) (new : Held) (r : Result Answer Refusal) (at : ℕ) (c : Command) (body : List ℕ) → c ≡ Deliver body → at ≤ last_command_moment
+pub of_delivery : (k : Rules) (s : State) (new : StateRows) (r : Result Answer Refusal) (at : ℕ) (c : Command) (body : List ℕ) → c ≡ Deliver body → at ≤ last_command_moment
     → Leaves k s new r (and_then (incoming_in body) (decide_incoming k s at)) → Leaves k s new r (served k s at c)
 of_delivery k s new r at c body is moment h = of_command k s new r at c (Deliver body) is (subst (λ (o : Result Outcome Refusal). Leaves k s new r o) (delivery_served k s at body moment) h)
 
@@ -131,36 +133,36 @@ served_is k s at (Fetch repository name) = refl
 
 -- ---- one call
 
-pub record IsServed (k : Rules) (s : State) (at : ℕ) (c : Command) (a : Answer) (new : Held) : Type 0 where
-  pub answered : IsAnswered a s (state_of new) (serve k s at c)
-  pub stands : Stands k new
+pub record IsServed (k : Rules) (s : State) (at : ℕ) (c : Command) (a : Answer) (new : StateRows) : Type 0 where
+  pub answered : IsAnswered a s (state_of_rows new) (serve k s at c)
+  pub consistent : AreConsistent k new
 
-by_memory : (k : Rules) (s : State) (at : ℕ) (c : Command) (r : Refusal) (new : Held) → state_of new ≡ s
+by_memory : (k : Rules) (s : State) (at : ℕ) (c : Command) (r : Refusal) (new : StateRows) → state_of_rows new ≡ s
     → (b : Bool) → MatchBool b ⊤ (served k s at c ≡ Err r)
-    → MatchBool b (state_of new ≡ s) ((Refused r ≡ (serve k s at c).answer) × (state_of new ≡ (serve k s at c).next))
+    → MatchBool b (state_of_rows new ≡ s) ((Refused r ≡ (serve k s at c).answer) × (state_of_rows new ≡ (serve k s at c).next))
 by_memory k s at c r new same true h = same
 by_memory k s at c r new same false h =
     let is : serve k s at c ≡ record { answer = Refused r; next = s } = served_is k s at c ∙ ap (outcome_of s) h in
     (sym (ap (λ (o : Outcome). o.answer) is), same ∙ sym (ap (λ (o : Outcome). o.next) is))
 
-done_as : (k : Rules) (s next : State) (at : ℕ) (c : Command) (a : Answer) (new : Held) → state_of new ≡ next → serve k s at c ≡ record { answer = a; next = next }
-    → (b : Bool) → b ≡ false → MatchBool b (state_of new ≡ s) ((a ≡ (serve k s at c).answer) × (state_of new ≡ (serve k s at c).next))
+done_as : (k : Rules) (s next : State) (at : ℕ) (c : Command) (a : Answer) (new : StateRows) → state_of_rows new ≡ next → serve k s at c ≡ record { answer = a; next = next }
+    → (b : Bool) → b ≡ false → MatchBool b (state_of_rows new ≡ s) ((a ≡ (serve k s at c).answer) × (state_of_rows new ≡ (serve k s at c).next))
 done_as k s next at c a new same is true h = cc
 done_as k s next at c a new same is false h = (sym (ap (λ (o : Outcome). o.answer) is), same ∙ sym (ap (λ (o : Outcome). o.next) is))
 
-pub answered : (k : Rules) (s : State) (new : Held) (at : ℕ) (c : Command) (r : Result Answer Refusal) → ServedStaysSound → IsTrue (is_command c) → IsSound k s
+pub answered : (k : Rules) (s : State) (new : StateRows) (at : ℕ) (c : Command) (r : Result Answer Refusal) → RowsTellTheState → ServedStaysSound → IsTrue (is_command c) → IsSound k s
     → Leaves k s new r (served k s at c) → IsServed k s at c (told r) new
-answered k s new at c (Ok a) stays fits sound h =
+answered k s new at c (Ok a) told stays fits sound h =
     let next : State = h.1.0 in
     let is : serve k s at c ≡ record { answer = a; next = next } = served_is k s at c ∙ ap (outcome_of s) h.1.1 in
     let next_sound : IsSound k next = subst (λ (o : Outcome). IsSound k o.next) is (stays k s at c fits sound) in
     record {
-      answered = done_as k s next at c a new (determined k next new next_sound h.1.2) is (is_lost a) h.0;
-      stands = settled k next new next_sound h.1.2;
+      answered = done_as k s next at c a new (determined k next new told next_sound h.1.2) is (is_lost a) h.0;
+      consistent = consistent k next new told next_sound h.1.2;
     }
-answered k s new at c (Err r) stays fits sound h = record {
-  answered = by_memory k s at c r new (determined k s new sound h.0) (is_memory r) h.1;
-  stands = settled k s new sound h.0;
+answered k s new at c (Err r) told stays fits sound h = record {
+  answered = by_memory k s at c r new (determined k s new told sound h.0) (is_memory r) h.1;
+  consistent = consistent k s new told sound h.0;
 }
 
 -- ---- what is refused whether or not there is memory

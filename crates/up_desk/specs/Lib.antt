@@ -1,5 +1,3 @@
-pub mod Tables
-pub mod Rows
-pub mod Changes
+pub mod Books
 pub mod Serving
 pub mod Runs

@@ -3,8 +3,9 @@ ghost use Rattle.std.specs.Prelude.{◌≡◌, ◌≤◌, OnOk, OnErr};
 ghost use Rattle.up_canon.specs.Moments.{last_command_moment};
 ghost use Rattle.up_sign.specs.Schemes.{Rules};
 ghost use Rattle.up_machine.specs.Inventory.{decide_open as decide_open_in, decide_close as decide_close_in};
-ghost use Rattle.up_desk.specs.Rows.{held, state_of, Stands};
-ghost use Rattle.up_desk.specs.Changes.{with_campaign_row};
+ghost use Rattle.up_rows.specs.StateRows.{state_of_rows};
+ghost use Rattle.up_desk.specs.Books.{book_rows, AreConsistent};
+ghost use Rattle.up_rows.specs.Changes.{with_campaign_row};
 ghost use Rattle.up_desk.specs.Serving.{Leaves};
 
 use crate::book::Book;
@@ -18,6 +19,7 @@ use up_machine::answer::Answer;
 use up_machine::decide_campaign::{decide_close, decide_open};
 use up_machine::decision::Decision;
 use up_plan::campaign::Campaign;
+use up_rows::laws::{campaigns_are_written, rows_are_found};
 
 /// Opens a campaign.
 pub fn open(
@@ -27,9 +29,11 @@ pub fn open(
     campaign: &Campaign,
 ) -> Result<Answer, Refusal>
     requires { at ≤ last_command_moment }
-    ensures { (k : Rules) → Stands k (held book.old) → Leaves k (state_of (held book.old)) (held book.new) result
-        (decide_open_in (state_of (held book.old)) at campaign.now) }
+    ensures { (k : Rules) → AreConsistent k (book_rows book.old) → Leaves k (state_of_rows (book_rows book.old)) (book_rows book.new) result
+        (decide_open_in (state_of_rows (book_rows book.old)) at campaign.now) }
 {
+    rows_are_found();
+    campaigns_are_written();
     let old = book.campaigns.get(campaign.name.text());
     match decide_open(
         alloc,
@@ -51,9 +55,10 @@ pub fn open(
 /// Closes the campaign of this name.
 pub fn close(book: &mut Book, alloc: Global, at: Moment, name: &Ident) -> Result<Answer, Refusal>
     requires { at ≤ last_command_moment }
-    ensures { (k : Rules) → Stands k (held book.old) → Leaves k (state_of (held book.old)) (held book.new) result
-        (decide_close_in (state_of (held book.old)) at name.now) }
+    ensures { (k : Rules) → AreConsistent k (book_rows book.old) → Leaves k (state_of_rows (book_rows book.old)) (book_rows book.new) result
+        (decide_close_in (state_of_rows (book_rows book.old)) at name.now) }
 {
+    campaigns_are_written();
     let campaign = book.campaigns.get(name.text());
     match decide_close(alloc, at, name, &book.founding, campaign)? {
         Decision::Already => Ok(Answer::Already),
@@ -66,8 +71,8 @@ pub fn close(book: &mut Book, alloc: Global, at: Moment, name: &Ident) -> Result
 
 /// Keeps a campaign under its name.
 fn put_campaign(alloc: Global, book: &mut Book, campaign: Campaign) -> Result<(), AllocError>
-    ensures ok { OnOk result (held book.new ≡ with_campaign_row (held book.old) campaign) }
-    ensures err { OnErr result (held book.new ≡ held book.old) }
+    ensures ok { OnOk result (book_rows book.new ≡ with_campaign_row (book_rows book.old) campaign) }
+    ensures err { OnErr result (book_rows book.new ≡ book_rows book.old) }
 {
     let name = text_of(alloc, campaign.name.text())?;
     book.campaigns.insert(name, campaign)?;

@@ -6,8 +6,9 @@ ghost use Rattle.up_canon.specs.Steps.{and_then};
 ghost use Rattle.up_manifest.specs.Manifests.{largest_body, incoming_in};
 ghost use Rattle.up_machine.specs.Rows.{reply_kept};
 ghost use Rattle.up_machine.specs.Decisions.{IsRead, decide_incoming, GivesDelivered};
-ghost use Rattle.up_desk.specs.Rows.{held, state_of, Stands, kept_with};
-ghost use Rattle.up_desk.specs.Changes.{with_accepted_rows};
+ghost use Rattle.up_rows.specs.StateRows.{state_of_rows};
+ghost use Rattle.up_desk.specs.Books.{book_rows, AreConsistent, kept_among};
+ghost use Rattle.up_rows.specs.Changes.{with_accepted_rows};
 ghost use Rattle.up_desk.specs.Serving.{Leaves};
 
 use crate::book::Book;
@@ -27,6 +28,7 @@ use up_machine::rows::Kept;
 use up_manifest::manifest::Incoming;
 use up_manifest::reading::read_manifest;
 use up_plan::assigned::Cause;
+use up_rows::laws::{manifests_are_added, rows_are_found};
 use up_sign::scheme::Scheme;
 
 /// Takes in a manifest, or answers a repeat by the reply that was kept for it.
@@ -39,10 +41,10 @@ pub fn deliver<K: Scheme>(
     body: &Bytes,
 ) -> Result<Answer, Refusal>
     requires moment { at ≤ last_command_moment }
-    requires stands { Stands (K.rules scheme.now) (held book.old) }
+    requires consistent { AreConsistent (K.rules scheme.now) (book_rows book.old) }
     ensures large { largest_body < length body.now → result ≡ Err TooLarge }
-    ensures leaves { Leaves (K.rules scheme.now) (state_of (held book.old)) (held book.new) result
-        (and_then (incoming_in body.now) (decide_incoming (K.rules scheme.now) (state_of (held book.old)) at)) }
+    ensures leaves { Leaves (K.rules scheme.now) (state_of_rows (book_rows book.old)) (book_rows book.new) result
+        (and_then (incoming_in body.now) (decide_incoming (K.rules scheme.now) (state_of_rows (book_rows book.old)) at)) }
 {
     let incoming = read_manifest(alloc, body.as_slice())?;
     receive(book, alloc, scheme, at, &incoming)
@@ -58,10 +60,11 @@ fn receive<K: Scheme>(
 ) -> Result<Answer, Refusal>
     requires moment { at ≤ last_command_moment }
     requires read { IsRead incoming.now }
-    requires stands { Stands (K.rules scheme.now) (held book.old) }
-    ensures { Leaves (K.rules scheme.now) (state_of (held book.old)) (held book.new) result
-        (decide_incoming (K.rules scheme.now) (state_of (held book.old)) at incoming.now) }
+    requires consistent { AreConsistent (K.rules scheme.now) (book_rows book.old) }
+    ensures { Leaves (K.rules scheme.now) (state_of_rows (book_rows book.old)) (book_rows book.new) result
+        (decide_incoming (K.rules scheme.now) (state_of_rows (book_rows book.old)) at incoming.now) }
 {
+    manifests_are_added();
     let name = &incoming.manifest.vehicle;
     let kept = find_kept(book.kept.as_slice(), name, incoming.manifest.counter);
     match decide(book, alloc, scheme, at, incoming, kept)? {
@@ -88,13 +91,14 @@ fn decide<K: Scheme>(
 ) -> Result<Delivered, Refusal>
     requires moment { at ≤ last_command_moment }
     requires read { IsRead incoming.now }
-    requires stands { Stands (K.rules scheme.now) (held book.now) }
-    requires kept { option_copied kept ≡ kept_with incoming.now.manifest.vehicle incoming.now.manifest.counter book.now.kept.items }
-    ensures { let s = state_of (held book.now) in
+    requires consistent { AreConsistent (K.rules scheme.now) (book_rows book.now) }
+    requires kept { option_copied kept ≡ kept_among incoming.now.manifest.vehicle incoming.now.manifest.counter book.now.kept.items }
+    ensures { let s = state_of_rows (book_rows book.now) in
         GivesDelivered (K.rules scheme.now) s (option_copied kept.entry) incoming.now.manifest.vehicle result
         (decide_incoming (K.rules scheme.now) s at incoming.now) }
 {
     rows_are_sound();
+    rows_are_found();
     let vehicle = book.vehicles.get(incoming.manifest.vehicle.text());
     let campaigns = book.campaigns.values();
     decide_manifest(
@@ -112,7 +116,7 @@ fn decide<K: Scheme>(
 
 /// The vehicle's row with this counter.
 pub fn find_kept<'a>(rows: &'a [Kept], vehicle: &Ident, counter: Count) -> Option<&'a Kept>
-    ensures { option_copied result ≡ kept_with vehicle.now counter rows.now }
+    ensures { option_copied result ≡ kept_among vehicle.now counter rows.now }
 {
     rows.iter().find(|row| row.vehicle.text() == vehicle.text()
         && row.counter.get() == counter.get())
@@ -145,8 +149,8 @@ fn copy_cause(alloc: Global, cause: &Option<Cause>) -> Result<Option<Cause>, All
 
 /// Keeps an accepted manifest: its row, and its vehicle's new rows. Room is made before the first change.
 fn accept(alloc: Global, book: &mut Book, rows: AcceptedRows) -> Result<(), AllocError>
-    ensures ok { OnOk result (held book.new ≡ with_accepted_rows (held book.old) rows) }
-    ensures err { OnErr result (held book.new ≡ held book.old) }
+    ensures ok { OnOk result (book_rows book.new ≡ with_accepted_rows (book_rows book.old) rows) }
+    ensures err { OnErr result (book_rows book.new ≡ book_rows book.old) }
 {
     let AcceptedRows { vehicle, kept } = rows;
     let name = text_of(alloc, vehicle.vehicle.vehicle.text())?;

@@ -9,7 +9,7 @@ ghost use Rattle.up_machine.specs.Reads.{ecus_of, version_of, installed as insta
 ghost use Rattle.up_machine.specs.declared.answer.Answer.{Answer};
 ghost use Rattle.up_desk.specs.Runs.{IsRun};
 ghost use Rattle.up_machine.specs.Sound.{IsSound};
-ghost use Rattle.up_desk.specs.Serving.{Holding, IsAnswered, RepliesStay, outright as outright_of};
+ghost use Rattle.up_desk.specs.Serving.{IsAnswered, RepliesStay, outright as outright_of};
 
 use crate::book::Book;
 use crate::obeying::{answer_of, keeps_limits, obey};
@@ -26,6 +26,7 @@ use up_machine::laws::{
 };
 use up_manifest::report::Installed;
 use up_plan::assigned::Plan;
+use up_rows::laws::{rows_tell_the_state, views_are_told};
 use up_sign::scheme::Scheme;
 
 /// The Image and the Director repository under one scheme, whose rows are kept in memory.
@@ -36,20 +37,22 @@ pub struct Desk<K: Scheme> {
 }
 
 impl<K: Scheme> Model for Desk<K> {
-    ghost use Rattle.up_desk.specs.Serving.{Holding};
+    ghost use Rattle.up_desk.specs.Serving.{DeskView};
 
-    ghost Value = { Holding K };
+    ghost Value = { DeskView K };
 
     ghost use Rattle.std.specs.Coded.{codes};
     ghost use Rattle.std.specs.FinMap as table;
 
     ghost coded = { Prim.hlevel (codes, table.code) };
 
-    ghost use Rattle.up_desk.specs.Rows.{held, state_of, Holds};
+    ghost use Rattle.up_rows.specs.StateRows.{state_of_rows};
 
-    ghost view = { λ a. record { scheme = a.scheme; state = state_of (held a.book) } };
+    ghost use Rattle.up_desk.specs.Books.{book_rows, AreConsistent};
 
-    ghost invariant = { λ a. Holds (K.rules a.scheme) (state_of (held a.book)) (held a.book) };
+    ghost view = { λ a. record { scheme = a.scheme; state = state_of_rows (book_rows a.book) } };
+
+    ghost invariant = { λ a. AreConsistent (K.rules a.scheme) (book_rows a.book) };
 }
 
 impl<K: Scheme> Desk<K> {
@@ -58,6 +61,7 @@ impl<K: Scheme> Desk<K> {
         ensures { result ≡ record { scheme = scheme; state = empty_state } }
     {
         states_stay_sound();
+        rows_tell_the_state();
         Desk {
             scheme,
             book: Book {
@@ -101,6 +105,7 @@ impl<K: Scheme> Desk<K> {
         keeps_limits(command);
         repeats_change_nothing();
         kept_replies_stay();
+        rows_tell_the_state();
         answer_of(obey(&mut self.book, alloc, &self.scheme, at, command))
     }
 
@@ -136,6 +141,7 @@ impl<K: Scheme> Desk<K> {
     pub fn ecus(&self, alloc: Global, vehicle: &Ident) -> Result<Option<Listed<Ident>>, AllocError>
         ensures { IfOk result (λ found. found ≡ ecus_of self.now.state vehicle.now) }
     {
+        views_are_told();
         ecus_in(&self.book, alloc, vehicle)
     }
 
@@ -143,6 +149,7 @@ impl<K: Scheme> Desk<K> {
     pub fn version(&self, vehicle: &Ident) -> Option<u64>
         ensures { result ≡ version_of self.now.state vehicle.now }
     {
+        views_are_told();
         version_in(&self.book, vehicle)
     }
 
@@ -150,6 +157,7 @@ impl<K: Scheme> Desk<K> {
     pub fn installed(&self, alloc: Global, ecu: &Ident) -> Result<Option<Installed>, AllocError>
         ensures { IfOk result (λ found. found ≡ installed_in self.now.state ecu.now) }
     {
+        views_are_told();
         installed_of(&self.book, alloc, ecu)
     }
 
@@ -157,6 +165,7 @@ impl<K: Scheme> Desk<K> {
     pub fn assigned(&self, alloc: Global, vehicle: &Ident) -> Result<Option<Plan>, AllocError>
         ensures { IfOk result (λ found. found ≡ assigned_to self.now.state vehicle.now) }
     {
+        views_are_told();
         assigned_in(&self.book, alloc, vehicle)
     }
 }

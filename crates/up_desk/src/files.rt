@@ -6,10 +6,12 @@ ghost use Rattle.up_canon.specs.Steps.{refuse_if};
 ghost use Rattle.up_canon.specs.declared.refusal.Refusal.TheVariants.{NotFounded};
 ghost use Rattle.up_sign.specs.Schemes.{Rules};
 ghost use Rattle.up_machine.specs.Repositories.{decide_fetch as decide_fetch_in};
-ghost use Rattle.up_desk.specs.Rows.{held, state_of, Stands, text_in, row_named, text_among, text_held, text_for};
+ghost use Rattle.up_rows.specs.StateRows.{state_of_rows};
+ghost use Rattle.up_rows.specs.Lookups.{text_in, row_named, text_among, text_held};
+ghost use Rattle.up_desk.specs.Books.{book_rows, AreConsistent, text_for};
 ghost use Rattle.up_desk.specs.Serving.{Leaves};
 
-use crate::book::{Book, RootRow};
+use crate::book::Book;
 use std::alloc::Global;
 use up_canon::file_name::FileName;
 use up_canon::listed::Duplicate;
@@ -20,6 +22,8 @@ use up_machine::answer::Answer;
 use up_machine::decision::RoleTexts;
 use up_machine::rows::Founding;
 use up_roles::repository::Repository;
+use up_rows::laws::rows_are_found;
+use up_rows::root_row::RootRow;
 
 /// The text of a file.
 pub fn fetch(
@@ -30,9 +34,10 @@ pub fn fetch(
     name: &FileName,
 ) -> Result<Answer, Refusal>
     requires { at ≤ last_command_moment }
-    ensures { (k : Rules) → Stands k (held book.now) → Leaves k (state_of (held book.now)) (held book.now) result
-        (decide_fetch_in k (state_of (held book.now)) at repository name.now) }
+    ensures { (k : Rules) → AreConsistent k (book_rows book.now) → Leaves k (state_of_rows (book_rows book.now)) (book_rows book.now) result
+        (decide_fetch_in k (state_of_rows (book_rows book.now)) at repository name.now) }
 {
+    rows_are_found();
     match read_file(book, alloc, repository, name) {
         Ok(text) => Ok(Answer::File(text)),
         Err(refusal) => Err(refusal),
@@ -46,7 +51,7 @@ fn read_file(
     repository: Repository,
     name: &FileName,
 ) -> Result<Text, Refusal>
-    ensures { Gives result (text_for (held book.now) repository name.now) }
+    ensures { Gives result (text_for (book_rows book.now) repository name.now) }
 {
     check_founded(&book.founding)?;
     let text = text_named(book, repository, name).ok_or(Refusal::UnknownFile)?;
@@ -64,7 +69,7 @@ fn check_founded(founding: &Option<Founding>) -> Result<(), Refusal>
 
 /// The text of the file of this name.
 fn text_named<'a>(book: &'a Book, repository: Repository, name: &FileName) -> Option<&'a Text>
-    ensures { option_copied result ≡ text_held (held book.now) repository name.now }
+    ensures { option_copied result ≡ text_held (book_rows book.now) repository name.now }
 {
     match root_named(book.roots.as_slice(), name) {
         Some(row) => Some(root_text(row, repository)),

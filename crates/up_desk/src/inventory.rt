@@ -7,8 +7,10 @@ ghost use Rattle.up_canon.specs.Moments.{last_command_moment};
 ghost use Rattle.up_machine.specs.Inventory.{decide_vehicle as decide_vehicle_in, with_vehicle};
 ghost use Rattle.up_machine.specs.Rows.{rows_of};
 ghost use Rattle.up_machine.specs.Decisions.{GivesDecision};
-ghost use Rattle.up_desk.specs.Rows.{held, state_of, Stands, has_ecu_row, stands_among};
-ghost use Rattle.up_desk.specs.Changes.{with_vehicle_rows};
+ghost use Rattle.up_rows.specs.StateRows.{state_of_rows};
+ghost use Rattle.up_rows.specs.Lookups.{has_ecu_row, stands_among};
+ghost use Rattle.up_desk.specs.Books.{book_rows, AreConsistent};
+ghost use Rattle.up_rows.specs.Changes.{with_vehicle_rows};
 ghost use Rattle.up_desk.specs.Serving.{Leaves};
 
 use crate::book::Book;
@@ -22,6 +24,7 @@ use up_machine::decide_vehicle::decide_vehicle;
 use up_machine::decision::Decision;
 use up_machine::rows::VehicleRows;
 use up_machine::vehicle::{NewEcu, NewVehicle};
+use up_rows::laws::{rows_are_found, vehicles_are_added};
 use up_sign::scheme::Scheme;
 
 /// Adds a vehicle.
@@ -33,11 +36,12 @@ pub fn add_vehicle<K: Scheme>(
     new: &NewVehicle,
 ) -> Result<Answer, Refusal>
     requires moment { at ≤ last_command_moment }
-    requires stands { Stands (K.rules scheme.now) (held book.old) }
+    requires consistent { AreConsistent (K.rules scheme.now) (book_rows book.old) }
     ensures key { list_all (λ e. public_fits (K.rules scheme.now) e.public) new.now.ecus ≡ false → result ≡ Err (BadShape (codes "key")) }
-    ensures leaves { Leaves (K.rules scheme.now) (state_of (held book.old)) (held book.new) result
-        (decide_vehicle_in (K.rules scheme.now) (state_of (held book.old)) at new.now) }
+    ensures leaves { Leaves (K.rules scheme.now) (state_of_rows (book_rows book.old)) (book_rows book.new) result
+        (decide_vehicle_in (K.rules scheme.now) (state_of_rows (book_rows book.old)) at new.now) }
 {
+    vehicles_are_added();
     match decide(book, alloc, scheme, at, new)? {
         Decision::Already => Ok(Answer::Already),
         Decision::New(rows) => {
@@ -56,12 +60,13 @@ fn decide<K: Scheme>(
     new: &NewVehicle,
 ) -> Result<Decision<VehicleRows>, Refusal>
     requires moment { at ≤ last_command_moment }
-    requires stands { Stands (K.rules scheme.now) (held book.now) }
+    requires consistent { AreConsistent (K.rules scheme.now) (book_rows book.now) }
     ensures key { list_all (λ e. public_fits (K.rules scheme.now) e.public) new.now.ecus ≡ false → result ≡ Err (BadShape (codes "key")) }
-    ensures decided { let s = state_of (held book.now) in
+    ensures decided { let s = state_of_rows (book_rows book.now) in
         GivesDecision (λ rows. rows ≡ rows_of new.now.vehicle (record { primary = new.now.primary; ecus = new.now.ecus; entries = [] })) s (with_vehicle s new.now) result
         (decide_vehicle_in (K.rules scheme.now) s at new.now) }
 {
+    rows_are_found();
     let ecus = new.ecus.as_slice();
     let mut recorded = [false; 32];
     mark_recorded(&mut recorded, book.vehicles.values(), ecus);
@@ -106,8 +111,8 @@ pub fn stands_in(rows: &VehicleRows, ecu: &Ident) -> bool
 
 /// Keeps a vehicle under its name.
 fn put_vehicle(alloc: Global, book: &mut Book, rows: VehicleRows) -> Result<(), AllocError>
-    ensures ok { OnOk result (held book.new ≡ with_vehicle_rows (held book.old) rows) }
-    ensures err { OnErr result (held book.new ≡ held book.old) }
+    ensures ok { OnOk result (book_rows book.new ≡ with_vehicle_rows (book_rows book.old) rows) }
+    ensures err { OnErr result (book_rows book.new ≡ book_rows book.old) }
 {
     let name = text_of(alloc, rows.vehicle.vehicle.text())?;
     book.vehicles.insert(name, rows)?;

@@ -2,7 +2,8 @@
 ghost use Rattle.std.specs.Prelude.{◌≡◌, ◌≤◌, ◌<◌, IsTrue, IfSome, MatchOption};
 ghost use Rattle.up_canon.specs.Moments.{last_command_moment};
 ghost use Rattle.up_machine.specs.Commands.{is_command, opens_running};
-ghost use Rattle.up_desk.specs.Rows.{held, state_of, Stands};
+ghost use Rattle.up_rows.specs.StateRows.{state_of_rows};
+ghost use Rattle.up_desk.specs.Books.{book_rows, AreConsistent};
 ghost use Rattle.up_desk.specs.Serving.{Leaves, served, outright as outright_of, outright_in_time, told};
 
 use crate::book::Book;
@@ -27,9 +28,9 @@ pub fn obey<K: Scheme>(
     at: u64,
     command: &Command,
 ) -> Result<Answer, Refusal>
-    requires { Stands (K.rules scheme.now) (held book.old) }
-    ensures leaves { Leaves (K.rules scheme.now) (state_of (held book.old)) (held book.new) result
-        (served (K.rules scheme.now) (state_of (held book.old)) at command.now) }
+    requires { AreConsistent (K.rules scheme.now) (book_rows book.old) }
+    ensures leaves { Leaves (K.rules scheme.now) (state_of_rows (book_rows book.old)) (book_rows book.new) result
+        (served (K.rules scheme.now) (state_of_rows (book_rows book.old)) at command.now) }
     ensures outright { IfSome (outright_of (K.rules scheme.now) at command.now) (λ r. result ≡ Err r) }
 {
     match command_moment(at) {
@@ -47,9 +48,9 @@ fn act<K: Scheme>(
     command: &Command,
 ) -> Result<Answer, Refusal>
     requires moment { at ≤ last_command_moment }
-    requires stands { Stands (K.rules scheme.now) (held book.old) }
-    ensures leaves { Leaves (K.rules scheme.now) (state_of (held book.old)) (held book.new) result
-        (served (K.rules scheme.now) (state_of (held book.old)) at command.now) }
+    requires consistent { AreConsistent (K.rules scheme.now) (book_rows book.old) }
+    ensures leaves { Leaves (K.rules scheme.now) (state_of_rows (book_rows book.old)) (book_rows book.new) result
+        (served (K.rules scheme.now) (state_of_rows (book_rows book.old)) at command.now) }
     ensures outright { IfSome (outright_in_time (K.rules scheme.now) command.now) (λ r. result ≡ Err r) }
 {
     match command {

@@ -1,7 +1,8 @@
 //! What is read of the inventory.
 ghost use Rattle.std.specs.Prelude.{◌≡◌, IfOk, option_map, option_and_then, option_copied, map, find, bytes_eq};
 ghost use Rattle.std.specs.FinMap as table;
-ghost use Rattle.up_desk.specs.Rows.{held, kept_with, stands_among, installed_among, plan_held};
+ghost use Rattle.up_rows.specs.Lookups.{stands_among, installed_among};
+ghost use Rattle.up_desk.specs.Books.{plan_in};
 
 use crate::book::Book;
 use crate::deliveries::find_kept;
@@ -85,7 +86,7 @@ fn image_of(alloc: Global, row: Option<&EcuRow>) -> Result<Option<Installed>, Al
 
 /// The plan of the vehicle's row with its greatest counter.
 pub fn assigned_in(book: &Book, alloc: Global, vehicle: &Ident) -> Result<Option<Plan>, AllocError>
-    ensures { IfOk result (λ found. found ≡ plan_held (held book.now) vehicle.now) }
+    ensures { IfOk result (λ found. found ≡ plan_in book.now vehicle.now) }
 {
     let Some(rows) = book.vehicles.get(vehicle.text()) else {
         return Ok(None);

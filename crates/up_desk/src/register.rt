@@ -2,8 +2,9 @@
 ghost use Rattle.std.specs.Prelude.{◌≡◌, ◌≤◌, OnOk, OnErr};
 ghost use Rattle.up_canon.specs.Moments.{last_command_moment};
 ghost use Rattle.up_machine.specs.Repositories.{decide_image as decide_image_in, decide_refresh as decide_refresh_in};
-ghost use Rattle.up_desk.specs.Rows.{held, state_of, Stands};
-ghost use Rattle.up_desk.specs.Changes.{with_register_rows, with_image_rows};
+ghost use Rattle.up_rows.specs.StateRows.{state_of_rows};
+ghost use Rattle.up_desk.specs.Books.{book_rows, AreConsistent};
+ghost use Rattle.up_rows.specs.Changes.{with_register_rows, with_image_rows};
 ghost use Rattle.up_desk.specs.Serving.{Leaves};
 
 use crate::book::Book;
@@ -17,6 +18,7 @@ use up_machine::answer::Answer;
 use up_machine::decide_register::{decide_image, decide_refresh};
 use up_machine::decision::{Decision, RegisterRows};
 use up_plan::image::Image;
+use up_rows::laws::images_are_added;
 use up_sign::scheme::Scheme;
 
 /// Registers an image.
@@ -28,10 +30,11 @@ pub fn add_image<K: Scheme>(
     image: &Image,
 ) -> Result<Answer, Refusal>
     requires moment { at ≤ last_command_moment }
-    requires stands { Stands (K.rules scheme.now) (held book.old) }
-    ensures { Leaves (K.rules scheme.now) (state_of (held book.old)) (held book.new) result
-        (decide_image_in (state_of (held book.old)) at image.now) }
+    requires consistent { AreConsistent (K.rules scheme.now) (book_rows book.old) }
+    ensures { Leaves (K.rules scheme.now) (state_of_rows (book_rows book.old)) (book_rows book.new) result
+        (decide_image_in (state_of_rows (book_rows book.old)) at image.now) }
 {
+    images_are_added();
     match decide_image(alloc, scheme, at, image, &book.founding, &book.images)? {
         Decision::Already => Ok(Answer::Already),
         Decision::New(rows) => {
@@ -50,10 +53,11 @@ pub fn refresh<K: Scheme>(
     version: Count,
 ) -> Result<Answer, Refusal>
     requires moment { at ≤ last_command_moment }
-    requires stands { Stands (K.rules scheme.now) (held book.old) }
-    ensures { Leaves (K.rules scheme.now) (state_of (held book.old)) (held book.new) result
-        (decide_refresh_in (state_of (held book.old)) at version) }
+    requires consistent { AreConsistent (K.rules scheme.now) (book_rows book.old) }
+    ensures { Leaves (K.rules scheme.now) (state_of_rows (book_rows book.old)) (book_rows book.new) result
+        (decide_refresh_in (state_of_rows (book_rows book.old)) at version) }
 {
+    images_are_added();
     let rows = decide_refresh(alloc, scheme, at, version, &book.founding, &book.images)?;
     put_files(book, rows);
     Ok(Answer::Done)
@@ -66,8 +70,8 @@ fn register(
     image: &Image,
     rows: RegisterRows,
 ) -> Result<(), AllocError>
-    ensures ok { OnOk result (held book.new ≡ with_image_rows (held book.old) image.now rows) }
-    ensures err { OnErr result (held book.new ≡ held book.old) }
+    ensures ok { OnOk result (book_rows book.new ≡ with_image_rows (book_rows book.old) image.now rows) }
+    ensures err { OnErr result (book_rows book.new ≡ book_rows book.old) }
 {
     let name = text_of(alloc, image.file.text())?;
     book.images.insert(name, image.copy(alloc)?)?;
@@ -77,7 +81,7 @@ fn register(
 
 /// Keeps the image repository's new files.
 fn put_files(book: &mut Book, rows: RegisterRows)
-    ensures { held book.new ≡ with_register_rows (held book.old) rows }
+    ensures { book_rows book.new ≡ with_register_rows (book_rows book.old) rows }
 {
     let RegisterRows { founding, files } = rows;
     book.founding = Some(founding);

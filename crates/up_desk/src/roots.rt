@@ -2,11 +2,12 @@
 ghost use Rattle.std.specs.Prelude.{◌≡◌, ◌≤◌, OnOk, OnErr};
 ghost use Rattle.up_canon.specs.Moments.{last_command_moment};
 ghost use Rattle.up_machine.specs.Repositories.{decide_found as decide_found_in, decide_rotate as decide_rotate_in};
-ghost use Rattle.up_desk.specs.Rows.{held, state_of, Stands};
-ghost use Rattle.up_desk.specs.Changes.{with_root_rows};
+ghost use Rattle.up_rows.specs.StateRows.{state_of_rows};
+ghost use Rattle.up_desk.specs.Books.{book_rows, AreConsistent};
+ghost use Rattle.up_rows.specs.Changes.{with_root_rows};
 ghost use Rattle.up_desk.specs.Serving.{Leaves};
 
-use crate::book::{Book, RootRow};
+use crate::book::Book;
 use crate::texts::root_name;
 use std::alloc::{AllocError, Global};
 use up_canon::listed::Duplicate;
@@ -16,6 +17,8 @@ use up_machine::answer::Answer;
 use up_machine::decide_root::{decide_found, decide_rotate};
 use up_machine::decision::RootRows;
 use up_machine::keys::KeySet;
+use up_rows::laws::roots_are_added;
+use up_rows::root_row::RootRow;
 use up_sign::scheme::Scheme;
 
 /// Founds the repositories with these keys.
@@ -27,10 +30,11 @@ pub fn found<K: Scheme>(
     keys: &KeySet,
 ) -> Result<Answer, Refusal>
     requires moment { at ≤ last_command_moment }
-    requires stands { Stands (K.rules scheme.now) (held book.old) }
-    ensures { Leaves (K.rules scheme.now) (state_of (held book.old)) (held book.new) result
-        (decide_found_in (K.rules scheme.now) (state_of (held book.old)) at keys.now) }
+    requires consistent { AreConsistent (K.rules scheme.now) (book_rows book.old) }
+    ensures { Leaves (K.rules scheme.now) (state_of_rows (book_rows book.old)) (book_rows book.new) result
+        (decide_found_in (K.rules scheme.now) (state_of_rows (book_rows book.old)) at keys.now) }
 {
+    roots_are_added();
     let rows = decide_found(alloc, scheme, at, keys, &book.founding, &book.images)?;
     add_root(alloc, book, rows)?;
     Ok(Answer::Done)
@@ -45,10 +49,11 @@ pub fn rotate<K: Scheme>(
     keys: &KeySet,
 ) -> Result<Answer, Refusal>
     requires moment { at ≤ last_command_moment }
-    requires stands { Stands (K.rules scheme.now) (held book.old) }
-    ensures { Leaves (K.rules scheme.now) (state_of (held book.old)) (held book.new) result
-        (decide_rotate_in (K.rules scheme.now) (state_of (held book.old)) at keys.now) }
+    requires consistent { AreConsistent (K.rules scheme.now) (book_rows book.old) }
+    ensures { Leaves (K.rules scheme.now) (state_of_rows (book_rows book.old)) (book_rows book.new) result
+        (decide_rotate_in (K.rules scheme.now) (state_of_rows (book_rows book.old)) at keys.now) }
 {
+    roots_are_added();
     let rows = decide_rotate(alloc, scheme, at, keys, &book.founding, &book.images)?;
     add_root(alloc, book, rows)?;
     Ok(Answer::Done)
@@ -56,8 +61,8 @@ pub fn rotate<K: Scheme>(
 
 /// Keeps one more root version.
 fn add_root(alloc: Global, book: &mut Book, rows: RootRows) -> Result<(), AllocError>
-    ensures ok { OnOk result (held book.new ≡ with_root_rows (held book.old) rows) }
-    ensures err { OnErr result (held book.new ≡ held book.old) }
+    ensures ok { OnOk result (book_rows book.new ≡ with_root_rows (book_rows book.old) rows) }
+    ensures err { OnErr result (book_rows book.new ≡ book_rows book.old) }
 {
     let RootRows {
         founding,

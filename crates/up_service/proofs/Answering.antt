@@ -9,7 +9,7 @@ use Rattle.up_machine.specs.declared.answer.Answer.{Answer}
 use Rattle.up_machine.specs.declared.answer.Answer.TheVariants.{Done, Already, Reply, File, Refused}
 use Rattle.up_machine.specs.Deciding.{Outcome}
 use Rattle.up_machine.specs.State.{State}
-use Rattle.up_desk.specs.Serving.{Holding, IsAnswered, is_lost}
+use Rattle.up_desk.specs.Serving.{DeskView, IsAnswered, is_lost}
 use Rattle.up_script.specs.PrintedLines.{answer_text}
 use Rattle.up_service.specs.LineAnswers.{line_answer, IsAnswer, IsStopped, Lines}
 
@@ -72,7 +72,7 @@ pub on_err : {T E P : Type 0} (r : Result T E) → P → OnErr r P
 on_err (Ok x) p = tt
 on_err (Err e) p = p
 
-pub stopped : {K : Type 0} (rules : K → Rules) (old new : Holding K) (line : List ℕ) → new.scheme ≡ old.scheme → IsStopped (line_answer (rules old.scheme) old.state line) old.state new.state
+pub stopped : {K : Type 0} (rules : K → Rules) (old new : DeskView K) (line : List ℕ) → new.scheme ≡ old.scheme → IsStopped (line_answer (rules old.scheme) old.state line) old.state new.state
     → (new ≡ old) ⊎ ((text : List ℕ) × Lines rules old line text new)
 stopped rules old new line scheme (inl same) = inl (λ i. record { scheme = scheme i; state = same i })
 stopped rules old new line scheme (inr next) = inr ((line_answer (rules old.scheme) old.state line).text, (scheme, inl (refl, next)))

@@ -9,7 +9,7 @@ use Rattle.up_machine.specs.declared.command.Command.{Command}
 use Rattle.up_machine.specs.Reads.{ecus_of, version_of, installed, assigned_to}
 use Rattle.up_machine.specs.Repeats.{serve}
 use Rattle.up_machine.specs.State.{State}
-use Rattle.up_desk.specs.Serving.{Holding}
+use Rattle.up_desk.specs.Serving.{DeskView}
 use Rattle.up_script.specs.AskedLines.{asked_in}
 use Rattle.up_script.specs.PrintedLines.{answer_text, refused_text, vehicle_text, ecu_text}
 use Rattle.up_script.specs.declared.asked.Asked.{Asked}
@@ -72,5 +72,5 @@ abbrev pub IsStopped : Answered → State → State → Type 0
 IsStopped a old new = (new ≡ old) ⊎ (new ≡ a.next)
 
 -- what a desk may answer a line, and how it leaves it
-abbrev pub Lines : {K : Type 0} → (K → Rules) → Holding K → List ℕ → List ℕ → Holding K → Type 0
+abbrev pub Lines : {K : Type 0} → (K → Rules) → DeskView K → List ℕ → List ℕ → DeskView K → Type 0
 Lines rules old line text new = (new.scheme ≡ old.scheme) × IsAnswer (line_answer (rules old.scheme) old.state line) old.state text new.state

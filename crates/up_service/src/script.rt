@@ -2,7 +2,7 @@
 ghost use Rattle.std.specs.Prelude.{◌≡◌, IfOk, IfErr, IfSome, true, false};
 ghost use Rattle.up_lines.specs.Lines.{lines_of, fits, asked};
 ghost use Rattle.up_lines.specs.Runs.{Ran, Finished, AnswersFirst};
-ghost use Rattle.up_desk.specs.Serving.{Holding};
+ghost use Rattle.up_desk.specs.Serving.{DeskView};
 ghost use Rattle.up_service.specs.LineAnswers.{Lines};
 
 use crate::line_answer::Scripter;

@@ -1,21 +1,22 @@
 use Rattle.up_machine.specs.declared.command.Command.TheVariants.{OpenCampaign, CloseCampaign}
-use Rattle.up_desk.specs.Rows.{held, state_of}
+use Rattle.up_rows.specs.StateRows.{StateRows, state_of_rows}
+use Rattle.up_desk.specs.Books.{book_rows}
 use Rattle.up_desk.proofs.Serving.{of_command, of_delivery, key_outright, large_outright}
 use Rattle.up_desk.proofs.obeying.act.Goals as goal
 
 pub returns-in-OpenCampaign-clause-leaves : goal.returns-in-OpenCampaign-clause-leaves
 returns-in-OpenCampaign-clause-leaves g c =
-    of_command (g.K.Scheme.rules c.args.scheme.now) (state_of (held c.args.book.now)) (held c.open.new.book) c.open.result c.args.at c.args.command.now (OpenCampaign c.in-OpenCampaign.campaign)
-    c.in-OpenCampaign.is (c.open.ensures (g.K.Scheme.rules c.args.scheme.now) c.requires.stands)
+    of_command (g.K.Scheme.rules c.args.scheme.now) (state_of_rows (book_rows c.args.book.now)) (book_rows c.open.new.book) c.open.result c.args.at c.args.command.now (OpenCampaign c.in-OpenCampaign.campaign)
+    c.in-OpenCampaign.is (c.open.ensures (g.K.Scheme.rules c.args.scheme.now) c.requires.consistent)
 
 pub returns-in-CloseCampaign-clause-leaves : goal.returns-in-CloseCampaign-clause-leaves
 returns-in-CloseCampaign-clause-leaves g c =
-    of_command (g.K.Scheme.rules c.args.scheme.now) (state_of (held c.args.book.now)) (held c.close.new.book) c.close.result c.args.at c.args.command.now (CloseCampaign c.in-CloseCampaign.name)
-    c.in-CloseCampaign.is (c.close.ensures (g.K.Scheme.rules c.args.scheme.now) c.requires.stands)
+    of_command (g.K.Scheme.rules c.args.scheme.now) (state_of_rows (book_rows c.args.book.now)) (book_rows c.close.new.book) c.close.result c.args.at c.args.command.now (CloseCampaign c.in-CloseCampaign.name)
+    c.in-CloseCampaign.is (c.close.ensures (g.K.Scheme.rules c.args.scheme.now) c.requires.consistent)
 
 pub returns-in-Deliver-clause-leaves : goal.returns-in-Deliver-clause-leaves
 returns-in-Deliver-clause-leaves g c =
-    of_delivery (g.K.Scheme.rules c.args.scheme.now) (state_of (held c.args.book.now)) (held c.deliver.new.book) c.deliver.result c.args.at c.args.command.now c.in-Deliver.body
+    of_delivery (g.K.Scheme.rules c.args.scheme.now) (state_of_rows (book_rows c.args.book.now)) (book_rows c.deliver.new.book) c.deliver.result c.args.at c.args.command.now c.in-Deliver.body
     c.in-Deliver.is c.requires.moment c.deliver.ensures.leaves
 
 pub returns-in-AddVehicle-clause-outright : goal.returns-in-AddVehicle-clause-outright

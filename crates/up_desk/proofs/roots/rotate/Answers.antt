@@ -1,13 +1,14 @@
-use Rattle.up_desk.specs.Rows.{held, state_of}
+use Rattle.up_rows.specs.StateRows.{StateRows, state_of_rows}
+use Rattle.up_desk.specs.Books.{book_rows}
 use Rattle.up_desk.proofs.Rooted.{rotate_done}
 use Rattle.up_desk.proofs.Founding.{founding_keys}
 use Rattle.up_desk.proofs.roots.rotate.Goals as goal
 
 pub returns : goal.returns
 returns g c =
-    let stands = c.requires.stands in
-    let decided = c.in_ok-rows.ensures (state_of (held c.args.book.now)) stands.sound stands.shows.founding stands.shows.images in
-    rotate_done _ _ (held c.args.book.now) _ _ _ c.in_ok-rows.rows stands decided.0 decided.1 c.in_ok-add_root.ensures.ok
+    let consistent = c.requires.consistent in
+    let decided = c.in_ok-rows.ensures (state_of_rows (book_rows c.args.book.now)) consistent.sound (ap (λ (r : StateRows). r.founding) consistent.are) (ap (λ (r : StateRows). r.images) consistent.are) in
+    rotate_done _ _ (book_rows c.args.book.now) _ _ _ c.in_ok-rows.rows c.roots_are_added.ensures consistent decided.0 decided.1 c.in_ok-add_root.ensures.ok
 
 pub decide_rotate-requires-clause-keys : goal.decide_rotate-requires-clause-keys
-decide_rotate-requires-clause-keys g c = founding_keys _ _ (held c.args.book.now) c.requires.stands
+decide_rotate-requires-clause-keys g c = founding_keys _ _ (book_rows c.args.book.now) c.requires.consistent

@@ -1,8 +1,9 @@
 use Rattle.std.proofs.Common.{ap, ◌∙◌}
 use Rattle.up_machine.specs.Reads.{assigned_to}
-use Rattle.up_desk.proofs.Reading.{assigned_read}
-use Rattle.up_desk.proofs.Shown.{same_if_ok}
+use Rattle.up_rows.specs.Lookups.{plan_told}
+use Rattle.up_desk.proofs.Kept.{plan_found}
+use Rattle.up_desk.proofs.Kept.{same_if_ok}
 use Rattle.up_desk.proofs.desk.Desk.assigned.Goals as goal
 
 pub returns : goal.returns
-returns g c = same_if_ok _ _ _ c.assigned_in.ensures (assigned_read (g.K.Scheme.rules c.self.inside.scheme) _ _ c.args.vehicle.now c.self.invariant.shows ∙ ap (λ d. assigned_to d.state c.args.vehicle.now) c.self.view_is)
+returns g c = same_if_ok _ _ _ c.assigned_in.ensures (plan_found c.self.inside.book c.args.vehicle.now ∙ ap (λ r. plan_told r c.args.vehicle.now) c.self.invariant.are ∙ c.views_are_told.ensures.assigned (g.K.Scheme.rules c.self.inside.scheme) _ c.args.vehicle.now ∙ ap (λ d. assigned_to d.state c.args.vehicle.now) c.self.view_is)

@@ -13,8 +13,8 @@ use Rattle.up_machine.specs.Rows.{kept_row}
 use Rattle.up_machine.specs.Sound.{IsSound, IsGrounded}
 use Rattle.up_machine.specs.Laws.{IsLater}
 use Rattle.up_machine.proofs.Keeping.{reply_stays}
-use Rattle.up_desk.specs.declared.book.RootRow.{RootRow}
-use Rattle.up_desk.specs.Rows.{root_row, kept_rows}
+use Rattle.up_rows.specs.declared.root_row.RootRow.{RootRow}
+use Rattle.up_rows.specs.StateRows.{root_row, kept_rows}
 
 -- ---- kept rows
 

@@ -8,7 +8,7 @@ use Rattle.std.specs.FinMap.Entries.{below_all, is_sorted}
 use Rattle.std.specs.FinMap.Entries as entries
 use Rattle.up_canon.specs.Names.{Name, Table}
 use Rattle.up_machine.proofs.Tables.{one_name}
-use Rattle.up_desk.specs.Tables.{each_value}
+use Rattle.up_rows.specs.Tables.{each_value}
 
 abbrev pub changed : {X Y : Type 0} → (Name → X → Y) → Name × X → Name × Y
 changed f e = (e.0, f e.0 e.1)

@@ -1,0 +1,57 @@
+-- The rows that a desk keeps, and the state that they tell.
+use Rattle.std.specs.Prelude.{◌≡◌, ℕ, ◌==◌, ◌&&◌, List, Option, option_and_then, option_map, Result, is_none, find, filter, bytes_eq}
+use Rattle.std.specs.FinMap as table
+use Rattle.up_canon.specs.Names.{Name}
+use Rattle.up_canon.specs.Steps.{◌>>=◌, refuse_if, or_error}
+use Rattle.up_canon.specs.declared.refusal.Refusal.{Refusal}
+use Rattle.up_canon.specs.declared.refusal.Refusal.TheVariants.{NotFounded, UnknownFile}
+use Rattle.up_sign.specs.Schemes.{Rules}
+use Rattle.up_roles.specs.declared.repository.Repository.{Repository}
+use Rattle.up_plan.specs.declared.assigned.Plan.{Plan}
+use Rattle.up_machine.specs.declared.rows.Kept.{Kept}
+use Rattle.up_machine.specs.State.{State}
+use Rattle.up_machine.specs.Sound.{IsSound}
+use Rattle.up_rows.specs.StateRows.{StateRows, rows_of_state, state_of_rows}
+use Rattle.up_rows.specs.Lookups.{text_held}
+use Rattle.up_desk.specs.declared.book.Book.{Book}
+
+-- the kept rows of one vehicle
+abbrev pub kept_of : Name → List Kept → List Kept
+kept_of name rows = filter (λ row. bytes_eq row.vehicle name) rows
+
+-- the vehicle's first row with this counter
+abbrev pub kept_among : Name → ℕ → List Kept → Option Kept
+kept_among name counter rows = find (λ row. bytes_eq row.vehicle name && (row.counter == counter)) rows
+
+-- the rows in a book
+abbrev pub book_rows : Book → StateRows
+book_rows b = record {
+  founding = b.founding;
+  roots = b.roots.items;
+  images = b.images;
+  files = b.files;
+  campaigns = b.campaigns;
+  vehicles = b.vehicles;
+  kept = λ name. kept_of name b.kept.items;
+}
+
+-- the state is sound, and these are its rows
+pub record AreRowsOf (k : Rules) (s : State) (rows : StateRows) : Type 0 where
+  pub sound : IsSound k s
+  pub are : rows ≡ rows_of_state k s
+
+-- these are the rows of a sound state, which they tell
+abbrev pub AreConsistent : Rules → StateRows → Type 0
+AreConsistent k rows = AreRowsOf k (state_of_rows rows) rows
+
+-- ---- what is looked up
+
+-- the plan of the vehicle's row with its greatest counter
+abbrev pub plan_in : Book → Name → Option Plan
+plan_in b name = option_and_then (λ rows. option_map (λ row. row.plan) (kept_among name rows.vehicle.last b.kept.items)) (table.get b.vehicles name)
+
+-- the text of a file, or the refusal that is due
+abbrev pub text_for : StateRows → Repository → Name → Result (List ℕ) Refusal
+text_for rows repository name = do
+  not_founded ← refuse_if (is_none rows.founding) NotFounded
+  or_error UnknownFile (text_held rows repository name)
