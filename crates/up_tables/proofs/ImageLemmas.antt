@@ -1,0 +1,117 @@
+-- The statements on images.
+use Rattle.std.proofs.Common.{◌≡◌, ◌==◌, ℕ, pos, List, [], ◌∷◌, map, filter, Bool, true, false, length, Ok, Err, Result, OnOk, IfOk, Option, IsTrue, refl, sym, ap, ◌∙◌, codes, string_bytes, append-nil, bytes_eq}
+use Rattle.std.specs.Option.{option_to_list}
+use Rattle.std.specs.Result.{IsOkAnd}
+use Rattle.std.specs.Ordering.{is_eq}
+use Rattle.std.proofs.Math.Bool.{and-true}
+use Rattle.sqlite.specs.declared.types.Value.TheVariants.{Null, Int, Text, Blob}
+use Rattle.sqlite.specs.declared.error.Error.{Error}
+use Rattle.sqlite.specs.Order.{Row, column, value_cmp}
+use Rattle.sqlite.specs.Term.{Term, lit, col}
+use Rattle.sqlite.specs.Cast.{cast_row}
+use Rattle.sqlite.specs.Source.TheVariants.{Values}
+use Rattle.sqlite.specs.Command.TheVariants.{Insert, Select}
+use Rattle.sqlite.specs.Listing.{understood, reads_listing}
+use Rattle.sqlite.specs.State.{State, HasCleanDisk, Survives, ExecutesInside, Shown}
+use Rattle.sqlite.proofs.Callers.{IsPlain, command_of}
+use Rattle.sqlite_tied.specs.Compute.{everything}
+use Rattle.sqlite_rules.specs.Action.{works}
+use Rattle.sqlite_schema.specs.declared.schema.Keys.TheVariants.{Enforced}
+use Rattle.up_tables.specs.Tables.{up_schema, image_table}
+use Rattle.up_tables.specs.Rows.{bare, columns_at, has_text, with_row}
+use Rattle.up_tables.specs.Forms.{image_row, image_places}
+use Rattle.up_tables.specs.Stands.{Lists, IfClean, IsInside, Alters, HasTables}
+use Rattle.up_tables.specs.declared.image.ImageRow.{ImageRow}
+use Rattle.up_tables.specs.declared.values.StoreFault.{StoreFault}
+use Rattle.up_tables.proofs.AnswerLemmas.{over, equals_text}
+use Rattle.up_tables.proofs.ByNameLemmas.{listed_in, all_in, filter_true}
+use Rattle.up_tables.proofs.Casts.{cast_int, cast_null}
+use Rattle.up_tables.proofs.EcuRows.{text_is, column_after}
+use Rattle.up_tables.proofs.EcuUpsert.{equals}
+use Rattle.up_tables.proofs.InsertLemmas.{inserts_in}
+use Rattle.up_tables.proofs.ReadLemmas.{answers_some, answers_all, bare_filter, by_rowid}
+use Rattle.up_tables.proofs.StateLemmas.{one_in, ok_then}
+
+-- ---- put in
+
+abbrev pub insert_image_text : List ℕ
+insert_image_text = codes "INSERT INTO image (file, length, sha256, hardware, release_count, needs, conflicts) VALUES (?1, ?2, ?3, ?4, ?5, ?6, ?7)"
+
+abbrev terms : List Term
+terms = lit Null ∷ col 0 0 ∷ col 0 1 ∷ col 0 2 ∷ col 0 3 ∷ col 0 4 ∷ col 0 5 ∷ col 0 6 ∷ []
+
+insert_is : (command_of (understood up_schema insert_image_text) ≡ Insert 3 (Values terms 8)) × IsPlain (understood up_schema insert_image_text)
+unfolding understood everything
+insert_is = (refl, (refl, refl))
+
+idle : (olds news : List Row) → works up_schema Enforced 0 5 olds news ≡ []
+idle olds news = go (length news == 0) refl
+  where
+    go : (b : Bool) → (length news == 0) ≡ b → works up_schema Enforced 0 5 olds news ≡ []
+    go true e = rw e refl
+    go false e = rw e refl
+
+casts : (i : ImageRow) → cast_row image_table (Null ∷ image_row i) ≡ Null ∷ image_row i
+casts i = rw (cast_null, cast_int (pos i.length), cast_int (pos i.release_count)) refl
+
+pub image_inserts : (r : Result ℕ Error) (old new : State) (i : ImageRow) → Survives old new (λ _. ⊥) → IfClean IsInside old
+    → (HasCleanDisk new → IsTrue old.in_transaction → ExecutesInside 0 insert_image_text (image_row i) old new r)
+    → HasCleanDisk new → OnOk r ((rows_of : List ℕ → List Row) → HasTables old → Lists 1 rows_of (old.now.trees 5) → Alters image_table (Lists 1 (with_row (string_bytes i.file) (image_row i) rows_of)) old new)
+image_inserts r old new i survives inside ran clean =
+    listed_in image_table 1 (string_bytes i.file) (image_row i) old new r (λ x n. text_is (string_bytes i.file) n)
+    (inserts_in insert_image_text 3 image_table terms 8 (image_row i) (image_row i) insert_is.0 insert_is.1 refl refl (append-nil _) refl (casts i) idle r old new survives inside ran clean)
+
+-- ---- read
+
+abbrev part : Row → Row
+part = columns_at image_places
+
+abbrev shown : List Term
+shown = col 1 1 ∷ col 1 2 ∷ col 1 3 ∷ col 1 4 ∷ col 1 5 ∷ col 1 6 ∷ col 1 7 ∷ []
+
+abbrev names : List (List ℕ)
+names = codes "file" ∷ codes "length" ∷ codes "sha256" ∷ codes "hardware" ∷ codes "release_count" ∷ codes "needs" ∷ codes "conflicts" ∷ []
+
+shows : (params r : Row) → Rattle.sqlite.specs.Term.eval_all shown (params ∷ r ∷ []) ≡ part (Rattle.std.proofs.Common.drop 1 r)
+shows params r = rw (column_after r 0, column_after r 1, column_after r 2, column_after r 3, column_after r 4, column_after r 5, column_after r 6) refl
+
+abbrev pub find_image_text : List ℕ
+find_image_text = codes "SELECT file, length, sha256, hardware, release_count, needs, conflicts FROM image WHERE file = ?1"
+
+find_is : (command_of (understood up_schema find_image_text) ≡ Select (record { lets = []; body = over 5 (equals 1 0 ∷ []) shown [] }) names) × (reads_listing up_schema find_image_text ≡ false)
+unfolding understood everything
+find_is = (refl, refl)
+
+pub find_plain : IsPlain (understood up_schema find_image_text)
+unfolding understood everything
+find_plain = (refl, refl)
+
+pub finds_image : {X : Type 0} (items : X → List Row) (answer : Result X Error) (r : Result (Option ImageRow) StoreFault) (old new : State) (file : List ℕ)
+    → IfOk r (λ found. IsOkAnd answer (λ v. map part (items v) ≡ map image_row (option_to_list found))) → IfOk answer (λ v. Shown find_image_text (Text file ∷ []) old new (items v))
+    → IfOk r (λ found. (rows_of : List ℕ → List Row) → HasTables old → Lists 1 rows_of (old.now.trees 5) → map part (rows_of file) ≡ map image_row (option_to_list found))
+finds_image items answer r old new file h ran =
+    let rows = filter (has_text 0 file) (bare (old.now.trees 5)) in
+    let answers = answers_some up_schema find_image_text 5 (equals 1 0 ∷ []) shown names (Text file ∷ []) (has_text 0 file) part
+    (λ x. and-true _ ∙ equals_text (column x 1) file ∙ ap (λ v. is_eq (value_cmp v (Text file))) (column_after x 0)) (shows (Text file ∷ [])) (λ db. refl) find_is.1 find_plain find_is.0 old new in
+    ok_then _ _ r (λ found is rows_of has lists. ap (map part) (sym (lists.parts file) ∙ bare_filter (has_text 1 file) (has_text 0 file) (λ x. ap (λ v. is_eq (value_cmp v (Text file))) (column_after x 0)) (old.now.trees 5)) ∙ is has)
+    (one_in items part (λ x. refl) image_row find_image_text (Text file ∷ []) old new rows answer r answers h ran)
+
+abbrev pub all_images_text : List ℕ
+all_images_text = codes "SELECT file, length, sha256, hardware, release_count, needs, conflicts FROM image ORDER BY rowid"
+
+all_is : (command_of (understood up_schema all_images_text) ≡ Select (record { lets = []; body = over 5 [] shown by_rowid }) names) × (reads_listing up_schema all_images_text ≡ false)
+unfolding understood everything
+all_is = (refl, refl)
+
+pub all_plain : IsPlain (understood up_schema all_images_text)
+unfolding understood everything
+all_plain = (refl, refl)
+
+pub finds_images : {X R : Type 0} (items : X → List Row) (list : R → List ImageRow) (answer : Result X Error) (r : Result R StoreFault) (old new : State)
+    → IfOk r (λ found. IsOkAnd answer (λ v. map part (items v) ≡ map image_row (list found))) → IfOk answer (λ v. Shown all_images_text [] old new (items v))
+    → IfOk r (λ found. (rows_of : List ℕ → List Row) → HasTables old → Lists 1 rows_of (old.now.trees 5)
+    → (name : List ℕ) → map part (rows_of name) ≡ map image_row (filter (λ i. bytes_eq (string_bytes i.file) name) (list found)))
+finds_images items list answer r old new h ran =
+    ok_then _ _ r (λ found is rows_of has lists name. ap (map part) (sym (filter_true (rows_of name))) ∙ is rows_of has lists name)
+    (all_in items list image_table all_images_text part image_row (λ i. string_bytes i.file) (λ _. true) (λ x. refl) (λ x n. refl) (λ x n. text_is (string_bytes x.file) n) answer r old new
+    (λ shown' has table. answers_all up_schema all_images_text 5 [] shown names [] (λ _. true) part (λ x. refl) (shows []) (λ db. refl) all_is.1 all_plain all_is.0 old new shown' has table) h ran)

@@ -1,0 +1,89 @@
+-- What a statement within a transaction leaves, whatever it wrote or read.
+use Rattle.std.proofs.Common.{◌≡◌, ◌≤◌, ℕ, List, [], ◌∷◌, map, filter, length, Bool, subst, ap, refl, Option, None, Some, Ok, Err, Result, IfOk, OnOk, IsTrue, sym, arith, ◌∙◌}
+use Rattle.std.specs.Result.{IsOk, IsOkAnd}
+use Rattle.sqlite.specs.declared.error.Error.{Error}
+use Rattle.sqlite.specs.Order.{Row}
+use Rattle.sqlite.specs.Listing.{understood}
+use Rattle.sqlite.specs.State.{State, HasCleanDisk, Survives, ExecutesInside, Shown, ShowsRows, IsUnchanged}
+use Rattle.sqlite.proofs.Callers.{IsPlain}
+use Rattle.sqlite_resolve.specs.declared.compiled.Compiled.{Compiled}
+use Rattle.sqlite_schema.specs.declared.command.Returning.{Returning}
+use Rattle.std.specs.Option.{option_to_list}
+use Rattle.std.specs.List.Sorted.{IsPermutation}
+use Rattle.std.proofs.lemmas.List.Sorted.{IsPermutation-map}
+use Rattle.sqlite.specs.Clock.{timed}
+use Rattle.sqlite_keyed.proofs.ListLemmas.{map-map, map_same}
+use Rattle.up_tables.specs.Rows.{bare}
+use Rattle.up_tables.specs.Tables.{up_schema}
+use Rattle.up_tables.specs.Stands.{IfClean, IsInside, IsOpen, HasTables, Reads}
+use Rattle.up_tables.proofs.ReadLemmas.{few_permutation}
+use Rattle.up_tables.proofs.StepLemmas.{shown_open}
+use Rattle.up_tables.specs.declared.values.StoreFault.{StoreFault}
+
+-- what is told of a statement holds where it was carried out
+pub on_done : {A B : Type 0} (P : Type 0) (written : Result A Error) (r : Result B StoreFault) → OnOk r (IsOk written) → OnOk written P → OnOk r P
+on_done P written (Err fault) h k = tt
+on_done P (Ok n) (Ok done) h k = k
+on_done P (Err e) (Ok done) h k = absurd (let e' = h in cc)
+
+pub inside_after : (sql : List ℕ) (params : Row) (old new : State) (r : Result ℕ Error) → Survives old new (λ _. ⊥) → IfClean IsInside old
+    → (HasCleanDisk new → IsTrue old.in_transaction → ExecutesInside 0 sql params old new r) → OnOk r (IfClean IsInside new)
+inside_after sql params old new (Err e) survives inside ran = tt
+inside_after sql params old new (Ok n) survives inside ran = λ clean. let before : HasCleanDisk old = omega (arith, survives.clean) in (ran clean (inside before)).1.mode
+
+pub open_after : (sql : List ℕ) (params : Row) (old new : State) (r : Result ℕ Error) → Survives old new (λ _. ⊥) → IfClean IsInside old
+    → (HasCleanDisk new → IsTrue old.in_transaction → ExecutesInside 0 sql params old new r) → OnOk r (IfClean IsOpen new)
+open_after sql params old new (Err e) survives inside ran = tt
+open_after sql params old new (Ok n) survives inside ran = λ clean. let before : HasCleanDisk old = omega (arith, survives.clean) in (ran clean (inside before)).1.is_open
+
+-- ---- reads
+
+plain_reads : (sql : List ℕ) (params : Row) (old new : State) (rows : List Row) → IsPlain (understood old.now.schema sql) → Shown sql params old new rows → Reads old new
+unfolding Shown
+plain_reads sql params old new rows plain h =
+    let none = (subst IsPlain h.1.is plain).0 in
+    let it : ShowsRows old new sql h.0 (timed params h.0.formats h.1.now) rows None = subst (ShowsRows old new sql h.0 (timed params h.0.formats h.1.now) rows) none h.2 in
+    record { was_open = it.3.0.was_open; is_open = it.3.0.is_open; mode = it.3.0.mode; now_is = it.3.0.now_is }
+
+-- a read that answered
+pub reads_in : {X T : Type 0} (items : X → List Row) (sql : List ℕ) (params : Row) (old new : State) (answer : Result X Error) (r : Result T StoreFault) (Q : T → X → Type 0) → IsPlain (understood up_schema sql)
+    → IfOk r (λ found. IsOkAnd answer (Q found)) → IfOk answer (λ v. Shown sql params old new (items v)) → OnOk r (HasTables old → Reads old new)
+reads_in items sql params old new answer (Err fault) Q plain h shown = tt
+reads_in items sql params old new (Ok v) (Ok found) Q plain h shown = λ has.
+    let here = has (shown_open sql params old new (items v) shown) in
+    plain_reads sql params old new (items v) (subst (λ s. IsPlain (understood s sql)) (sym here.schema_is) plain) shown
+reads_in items sql params old new (Err e) (Ok found) Q plain h shown = absurd h
+
+module _ {X T : Type 0} (items : X → List Row) (part : Row → Row) (twice : (r : Row) → part (part r) ≡ part r) (values : T → Row) (sql : List ℕ) (params : Row) (old new : State) where
+  -- the answer, of at most one row, is what the rows show
+  pub one_in : (rows : List Row) (answer : Result X Error) (r : Result (Option T) StoreFault) → ((shown : List Row) → old.now.schema ≡ up_schema → Shown sql params old new shown → IsPermutation (map part rows) shown)
+      → IfOk r (λ found. IsOkAnd answer (λ v. map part (items v) ≡ map values (option_to_list found))) → IfOk answer (λ v. Shown sql params old new (items v))
+      → IfOk r (λ found. HasTables old → map part rows ≡ map values (option_to_list found))
+  one_in rows answer (Err fault) answers h shown = tt
+  one_in rows (Ok v) (Ok found) answers h shown = λ has.
+      let here = has (shown_open sql params old new (items v) shown) in
+      let same = answers (items v) here.schema_is shown in
+      let again : map part (map part rows) ≡ map part rows = map-map part part rows ∙ map_same _ _ twice rows in
+      let both : IsPermutation (map part rows) (map values (option_to_list found)) =
+      subst (λ xs. IsPermutation xs (map values (option_to_list found))) again (subst (IsPermutation (map part (map part rows))) h (IsPermutation-map part (map part rows) (items v) same)) in
+      few_permutation (map part rows) (map values (option_to_list found)) both (few found)
+    where
+      few : (o : Option T) → length (map values (option_to_list o)) ≤ 1
+      few None = omega arith
+      few (Some x) = omega arith
+  one_in rows (Err e) (Ok found) answers h shown = absurd h
+
+  -- the answer is what each of the rows shows
+  pub each_in : {R : Type 0} (H : Type 0) (list : R → List T) (rows : List Row) (answer : Result X Error) (r : Result R StoreFault) → ((shown : List Row) → H → old.now.schema ≡ up_schema → Shown sql params old new shown → shown ≡ map part rows)
+      → IfOk r (λ found. IsOkAnd answer (λ v. map part (items v) ≡ map values (list found))) → IfOk answer (λ v. Shown sql params old new (items v))
+      → IfOk r (λ found. H → HasTables old → map part rows ≡ map values (list found))
+  each_in H list rows answer (Err fault) answers h shown = tt
+  each_in H list rows (Ok v) (Ok found) answers h shown = λ given has.
+      let here = has (shown_open sql params old new (items v) shown) in
+      let same = answers (items v) given here.schema_is shown in
+      sym (map-map part part rows ∙ map_same _ _ twice rows) ∙ ap (map part) (sym same) ∙ h
+  each_in H list rows (Err e) (Ok found) answers h shown = absurd h
+
+pub ok_then : {T E : Type 0} (P Q : T → Type 0) (r : Result T E) → ((x : T) → P x → Q x) → IfOk r P → IfOk r Q
+ok_then P Q (Ok x) f h = f x h
+ok_then P Q (Err e) f h = tt

@@ -1,0 +1,11 @@
+pub mod Tables
+pub mod Rows
+pub mod Stands
+pub mod Makes
+pub mod Inserts
+pub mod Upserts
+pub mod Lines
+pub mod Ours
+pub mod Ecus
+pub mod Forms
+pub mod Crashes

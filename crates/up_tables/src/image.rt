@@ -1,0 +1,114 @@
+//! The rows of images.
+
+ghost use Rattle.std.specs.Prelude.{◌≡◌, ℕ, List, map, filter, bytes_eq, string_bytes, OnOk, IfOk};
+ghost use Rattle.std.specs.Option.{option_to_list};
+ghost use Rattle.sqlite.specs.Held.{state};
+ghost use Rattle.sqlite.specs.State.{HasCleanDisk};
+ghost use Rattle.sqlite.specs.Order.{Row as Values};
+ghost use Rattle.up_tables.specs.Tables.{image_table};
+ghost use Rattle.up_tables.specs.Rows.{columns_at, with_row};
+ghost use Rattle.up_tables.specs.Forms.{image_places, image_row, FitImage};
+ghost use Rattle.up_tables.specs.Stands.{IfClean, IsInside, IsOpen, HasTables, Alters, Lists, Reads, Steps};
+
+use crate::reading::{Decode, at_most_one, each_row};
+use crate::values::{StoreFault, bytes, bytes_at, done, number, number_at, text_at, words};
+use sqlite::{Alter, Row, Transaction};
+use std::alloc::Global;
+
+/// A row of `image`: lengths in bytes, lists as canonical JSON.
+#[derive(Drop)]
+pub struct ImageRow {
+    pub file: String,
+    pub length: u64,
+    pub sha256: Vec<u8>,
+    pub hardware: String,
+    pub release_count: u64,
+    pub needs: String,
+    pub conflicts: String,
+}
+
+impl Decode for ImageRow {
+    ghost use Rattle.up_tables.specs.Forms.{image_places, image_row};
+
+    ghost places = { image_places };
+
+    ghost values = { image_row };
+
+    fn decode(row: &Row) -> Result<ImageRow, StoreFault> {
+        Ok(ImageRow {
+            file: text_at(row, 0)?,
+            length: number_at(row, 1)?,
+            sha256: bytes_at(row, 2)?,
+            hardware: text_at(row, 3)?,
+            release_count: number_at(row, 4)?,
+            needs: text_at(row, 5)?,
+            conflicts: text_at(row, 6)?,
+        })
+    }
+}
+
+/// Puts in the row of an image; `Store` where one has its name.
+pub fn insert_image<S: Alter>(
+    tx: &mut Transaction<'_, S>,
+    image: &ImageRow,
+) -> Result<(), StoreFault>
+    requires fit { FitImage image.now }
+    requires mode { IfClean IsInside (state S.Store tx.old.conn.now) }
+    ensures same_reference { tx.new.conn.ghost_name ≡ tx.old.conn.ghost_name }
+    ensures inserted { HasCleanDisk (state S.Store tx.new.conn.now) → OnOk result ((rows_of : List ℕ → List Values) → HasTables (state S.Store tx.old.conn.now)
+        → Lists 1 rows_of ((state S.Store tx.old.conn.now).now.trees image_table.tree)
+        → Alters image_table (Lists 1 (with_row (string_bytes image.now.file) (image_row image.now) rows_of)) (state S.Store tx.old.conn.now) (state S.Store tx.new.conn.now)) }
+    ensures inside { OnOk result (IfClean IsInside (state S.Store tx.new.conn.now)) }
+    ensures open { OnOk result (IfClean IsOpen (state S.Store tx.new.conn.now)) }
+    ensures steps { Steps (state S.Store tx.old.conn.now) (state S.Store tx.new.conn.now) }
+{
+    done(tx.execute(
+        "INSERT INTO image (file, length, sha256, hardware, release_count, needs, conflicts) VALUES (?1, ?2, ?3, ?4, ?5, ?6, ?7)",
+        &[
+            words(image.file.as_str()),
+            number(image.length),
+            bytes(image.sha256.as_slice()),
+            words(image.hardware.as_str()),
+            number(image.release_count),
+            words(image.needs.as_str()),
+            words(image.conflicts.as_str()),
+        ],
+    ))
+}
+
+/// The image of this name, none where there is none.
+pub fn image<S: Alter>(
+    tx: &mut Transaction<'_, S>,
+    file: &str,
+) -> Result<Option<ImageRow>, StoreFault>
+    requires mode { IfClean IsInside (state S.Store tx.old.conn.now) }
+    ensures same_reference { tx.new.conn.ghost_name ≡ tx.old.conn.ghost_name }
+    ensures found { HasCleanDisk (state S.Store tx.new.conn.now) → IfOk result (λ found. (rows_of : List ℕ → List Values) → HasTables (state S.Store tx.old.conn.now)
+        → Lists 1 rows_of ((state S.Store tx.old.conn.now).now.trees image_table.tree) → map (columns_at image_places) (rows_of file.now) ≡ map image_row (option_to_list found)) }
+    ensures reads { HasCleanDisk (state S.Store tx.new.conn.now) → OnOk result (HasTables (state S.Store tx.old.conn.now) → Reads (state S.Store tx.old.conn.now) (state S.Store tx.new.conn.now)) }
+    ensures steps { Steps (state S.Store tx.old.conn.now) (state S.Store tx.new.conn.now) }
+{
+    at_most_one(tx.query_all(
+        "SELECT file, length, sha256, hardware, release_count, needs, conflicts FROM image WHERE file = ?1",
+        &[words(file)],
+    ))
+}
+
+/// All images, in the order of the table: of each name those that have it.
+pub fn images<S: Alter>(
+    tx: &mut Transaction<'_, S>,
+    alloc: Global,
+) -> Result<Vec<ImageRow>, StoreFault>
+    requires mode { IfClean IsInside (state S.Store tx.old.conn.now) }
+    ensures same_reference { tx.new.conn.ghost_name ≡ tx.old.conn.ghost_name }
+    ensures found { HasCleanDisk (state S.Store tx.new.conn.now) → IfOk result (λ found. (rows_of : List ℕ → List Values) → HasTables (state S.Store tx.old.conn.now)
+        → Lists 1 rows_of ((state S.Store tx.old.conn.now).now.trees image_table.tree)
+        → (name : List ℕ) → map (columns_at image_places) (rows_of name) ≡ map image_row (filter (λ i. bytes_eq (string_bytes i.file) name) found.items)) }
+    ensures reads { HasCleanDisk (state S.Store tx.new.conn.now) → OnOk result (HasTables (state S.Store tx.old.conn.now) → Reads (state S.Store tx.old.conn.now) (state S.Store tx.new.conn.now)) }
+    ensures steps { Steps (state S.Store tx.old.conn.now) (state S.Store tx.new.conn.now) }
+{
+    each_row(alloc, tx.query_all(
+        "SELECT file, length, sha256, hardware, release_count, needs, conflicts FROM image ORDER BY rowid",
+        &[],
+    ))
+}

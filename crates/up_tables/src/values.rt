@@ -1,0 +1,146 @@
+//! Values as they are bound and read, and faults.
+
+ghost use Rattle.std.specs.Prelude.{◌≡◌, ◌<◌, ◌^◌, pos, OnOk, IfOk, string_bytes};
+ghost use Rattle.std.specs.Result.{IsOk};
+ghost use Rattle.sqlite.specs.Order.{column};
+ghost use Rattle.sqlite.specs.Values.{bound_value, or_null};
+ghost use Rattle.sqlite.specs.Value.{owned};
+ghost use Rattle.sqlite.specs.declared.types.Value.TheVariants.{Int, Text, Blob};
+
+use sqlite::{Error, ErrorCode, Row};
+use sqlite_value::value::ValueRef;
+use std::alloc::{AllocError, AllocFailed};
+
+/// Why the tables are not read or written.
+#[derive(Clone, Copy, Debug, PartialEq, Eq)]
+pub enum StoreFault {
+    /// Memory was refused.
+    Memory,
+    /// The database refused, or a row isn't one that this product writes.
+    Store,
+}
+
+impl From<AllocError> for StoreFault {
+    ghost use Rattle.std.specs.Prelude.{◌≡◌};
+    ghost use Rattle.up_tables.specs.declared.values.StoreFault.TheVariants.{Memory};
+
+    ghost from_gives = { λ _ fault. fault ≡ Memory };
+
+    fn from(_: AllocError) -> StoreFault {
+        StoreFault::Memory
+    }
+}
+
+impl<T: Drop> From<AllocFailed<T>> for StoreFault {
+    ghost use Rattle.std.specs.Prelude.{◌≡◌};
+    ghost use Rattle.up_tables.specs.declared.values.StoreFault.TheVariants.{Memory};
+
+    ghost from_gives = { λ _ fault. fault ≡ Memory };
+
+    fn from(_: AllocFailed<T>) -> StoreFault {
+        StoreFault::Memory
+    }
+}
+
+/// What is told of an error of the database.
+pub fn fault_of(error: Error) -> StoreFault {
+    match error {
+        Error::SqliteFailure(ErrorCode::OutOfMemory) => StoreFault::Memory,
+        _ => StoreFault::Store,
+    }
+}
+
+/// Whether a statement was carried out.
+pub fn done(written: Result<usize, Error>) -> Result<(), StoreFault>
+    ensures { OnOk result (IsOk written) }
+{
+    match written {
+        Ok(_) => Ok(()),
+        Err(error) => Err(fault_of(error)),
+    }
+}
+
+/// A number as it is bound.
+pub fn number<'a>(n: u64) -> ValueRef<'a>
+    requires { n < 2 ^ 63 }
+    ensures { bound_value (owned result) ≡ Int (pos n) }
+{
+    ValueRef::Int(n as i64)
+}
+
+/// A text as it is bound.
+pub fn words<'a>(text: &'a str) -> ValueRef<'a>
+    ensures { bound_value (owned result) ≡ Text text.now }
+{
+    ValueRef::Text(text.as_bytes())
+}
+
+/// Bytes as they are bound.
+pub fn bytes<'a>(blob: &'a [u8]) -> ValueRef<'a>
+    ensures { bound_value (owned result) ≡ Blob blob.now }
+{
+    ValueRef::Blob(blob)
+}
+
+/// The number in a column; `Store` where it has none.
+pub fn number_at(row: &Row, at: usize) -> Result<u64, StoreFault>
+    ensures { IfOk result (λ n. column row.now at ≡ Int (pos n)) }
+{
+    match row.get::<u64>(at) {
+        Ok(n) => Ok(n),
+        Err(error) => Err(fault_of(error)),
+    }
+}
+
+/// The text in a column; `Store` where it has none.
+pub fn text_at(row: &Row, at: usize) -> Result<String, StoreFault>
+    ensures { IfOk result (λ s. column row.now at ≡ Text (string_bytes s)) }
+{
+    match row.get::<String>(at) {
+        Ok(text) => Ok(text),
+        Err(error) => Err(fault_of(error)),
+    }
+}
+
+/// The bytes in a column; `Store` where it has none.
+pub fn bytes_at(row: &Row, at: usize) -> Result<Vec<u8>, StoreFault>
+    ensures { IfOk result (λ b. column row.now at ≡ Blob b.items) }
+{
+    match row.get::<Vec<u8>>(at) {
+        Ok(blob) => Ok(blob),
+        Err(error) => Err(fault_of(error)),
+    }
+}
+
+/// The number in a column, none where it is null; `Store` where it has anything else.
+pub fn number_or_null_at(row: &Row, at: usize) -> Result<Option<u64>, StoreFault>
+    ensures { IfOk result (λ o. column row.now at ≡ or_null (λ n. Int (pos n)) o) }
+{
+    match row.get::<Option<u64>>(at) {
+        Ok(Some(n)) => Ok(Some(n)),
+        Ok(None) => Ok(None),
+        Err(error) => Err(fault_of(error)),
+    }
+}
+
+/// The text in a column, none where it is null; `Store` where it has anything else.
+pub fn text_or_null_at(row: &Row, at: usize) -> Result<Option<String>, StoreFault>
+    ensures { IfOk result (λ o. column row.now at ≡ or_null (λ s. Text (string_bytes s)) o) }
+{
+    match row.get::<Option<String>>(at) {
+        Ok(Some(text)) => Ok(Some(text)),
+        Ok(None) => Ok(None),
+        Err(error) => Err(fault_of(error)),
+    }
+}
+
+/// The bytes in a column, none where it is null; `Store` where it has anything else.
+pub fn bytes_or_null_at(row: &Row, at: usize) -> Result<Option<Vec<u8>>, StoreFault>
+    ensures { IfOk result (λ o. column row.now at ≡ or_null (λ b. Blob b.items) o) }
+{
+    match row.get::<Option<Vec<u8>>>(at) {
+        Ok(Some(blob)) => Ok(Some(blob)),
+        Ok(None) => Ok(None),
+        Err(error) => Err(fault_of(error)),
+    }
+}
