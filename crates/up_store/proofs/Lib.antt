@@ -1,0 +1,2 @@
+pub mod NewTables
+pub mod Created

@@ -1,0 +1,5 @@
+pub mod Lines
+pub mod Listing
+pub mod Connections
+pub mod Fitting
+pub mod Found

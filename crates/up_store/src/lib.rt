@@ -1,0 +1,9 @@
+//! The state of the two repositories in the tables of a database.
+#![tactic(auto)]
+
+mod campaigns;
+mod images;
+mod manifests;
+mod roots;
+pub mod store;
+mod vehicles;
