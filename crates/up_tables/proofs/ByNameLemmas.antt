@@ -1,14 +1,21 @@
 -- Tables that list rows by name: a row is put in, and all are read.
-use Rattle.std.proofs.Common.{◌≡◌, ℕ, List, [], ◌∷◌, ◌++◌, map, filter, Bool, true, false, cond, ◌&&◌, if◌then◌else◌, Ok, Err, Result, OnOk, IfOk, refl, sym, ap, ◌∙◌, drop, append-nil, bytes_eq}
+use Rattle.std.proofs.Common.{◌≡◌, ℕ, suc, List, [], ◌∷◌, ◌++◌, map, filter, Bool, true, false, cond, ◌&&◌, if◌then◌else◌, Option, Ok, Err, Result, OnOk, IfOk, refl, sym, ap, ◌∙◌, drop, append-nil, bytes_eq}
 use Rattle.std.specs.Ordering.{is_eq}
 use Rattle.sqlite.specs.declared.types.Value.{Value}
 use Rattle.sqlite.specs.declared.types.Value.TheVariants.{Int, Text}
 use Rattle.sqlite.specs.declared.error.Error.{Error}
-use Rattle.sqlite.specs.Order.{Row, value_cmp}
+use Rattle.sqlite.specs.Order.{Row, column, value_cmp}
+use Rattle.sqlite.specs.Term.{Term, eval_all}
+use Rattle.sqlite.specs.Program.{overlay}
+use Rattle.sqlite.specs.Command.TheVariants.{Select}
+use Rattle.sqlite.specs.Listing.{understood, reads_listing}
+use Rattle.sqlite.proofs.Callers.{IsPlain, command_of}
+use Rattle.std.proofs.Math.Bool.{and-true}
+use Rattle.std.specs.Option.{option_to_list}
 use Rattle.sqlite.specs.Edit.{next_rowid}
 use Rattle.sqlite.specs.State.{State, Shown}
 use Rattle.sqlite.specs.Table.{Table}
-use Rattle.sqlite.specs.Tree.{put_row, IsTable}
+use Rattle.sqlite.specs.Tree.{Trees, put_row, IsTable}
 use Rattle.sqlite_keyed.proofs.ListLemmas.{filter_same, map_same}
 use Rattle.sqlite_trees.specs.View.{IsShaped}
 use Rattle.sqlite_trees.specs.declared.store.Shape.TheVariants.{Table as TableShape}
@@ -17,8 +24,10 @@ use Rattle.up_tables.specs.Stands.{Lists, ListsAll, Alters, HasTables}
 use Rattle.up_tables.proofs.AppendLemmas.{appended, shaped_next, put_next}
 use Rattle.up_tables.proofs.EcuRows.{column_after}
 use Rattle.up_tables.proofs.OthersLemmas.{alters_to}
-use Rattle.up_tables.proofs.ReadLemmas.{bare_filter}
-use Rattle.up_tables.proofs.StateLemmas.{each_in, ok_then}
+use Rattle.up_tables.proofs.AnswerLemmas.{over, equals_text}
+use Rattle.up_tables.proofs.EcuUpsert.{equals}
+use Rattle.up_tables.proofs.ReadLemmas.{bare_filter, answers_some}
+use Rattle.up_tables.proofs.StateLemmas.{one_in, each_in, ok_then}
 use Rattle.up_tables.specs.Tables.{up_schema}
 use Rattle.up_tables.specs.declared.values.StoreFault.{StoreFault}
 use Rattle.std.specs.Result.{IsOkAnd}
@@ -55,6 +64,21 @@ added_in table row old new (Ok count) h = λ all has lists. alters_to table _ _ 
       every = ap bare (is ∙ put_next (old.now.trees table.tree) row lists.shaped) ∙ map-append (drop 1) (old.now.trees table.tree) (_ ∷ []) ∙ ap (λ xs. xs ++ row ∷ []) lists.every;
     }) (h has)
 
+-- ---- the row of a name is read
+
+-- a query by the text in a column, that shows all columns
+module _ {X T : Type 0} (items : X → List Row) (table : Table) (at : ℕ) (sql : List ℕ) (shown : List Term) (names : List (List ℕ)) (part : Row → Row) (values : T → Row) (name : List ℕ)
+    (is : command_of (understood up_schema sql) ≡ Select (record { lets = []; body = over table.tree (equals (suc at) 0 ∷ []) shown [] }) names) (unlisted : reads_listing up_schema sql ≡ false) (plain : IsPlain (understood up_schema sql))
+    (base : (db : Trees) → overlay db [] table.tree ≡ db table.tree) (shows : (r : Row) → eval_all shown ((Text name ∷ []) ∷ r ∷ []) ≡ part (drop 1 r)) (whole : (r : Row) → part (part r) ≡ part r) where
+  pub named_in : (answer : Result X Error) (r : Result (Option T) StoreFault) (old new : State) → IfOk r (λ found. IsOkAnd answer (λ v. map part (items v) ≡ map values (option_to_list found)))
+      → IfOk answer (λ v. Shown sql (Text name ∷ []) old new (items v))
+      → IfOk r (λ found. (rows_of : List ℕ → List Row) → HasTables old → Lists (suc at) rows_of (old.now.trees table.tree) → map part (rows_of name) ≡ map values (option_to_list found))
+  named_in answer r old new h ran =
+      let test : (x : Row) → has_text (suc at) name x ≡ has_text at name (drop 1 x) = λ x. ap (λ v. is_eq (value_cmp v (Text name))) (column_after x at) in
+      let answers = answers_some up_schema sql table.tree (equals (suc at) 0 ∷ []) shown names (Text name ∷ []) (has_text at name) part (λ x. and-true _ ∙ equals_text (column x (suc at)) name ∙ test x) shows base unlisted plain is old new in
+      ok_then _ _ r (λ found it rows_of has lists. ap (map part) (sym (lists.parts name) ∙ bare_filter (has_text (suc at) name) (has_text at name) test (old.now.trees table.tree)) ∙ it has)
+      (one_in items part part whole values sql (Text name ∷ []) old new (filter (has_text at name) (bare (old.now.trees table.tree))) answer r answers h ran)
+
 -- ---- all rows are read
 
 filter_swap : {A : Type 0} (p q : A → Bool) (xs : List A) → filter p (filter q xs) ≡ filter q (filter p xs)
@@ -90,7 +114,7 @@ filter_true [] = refl
 filter_true (x ∷ xs) = ap (λ ys. x ∷ ys) (filter_true xs)
 
 -- a query on the whole table, by rowid, whose rows are told apart by their first column
-module _ {X R T : Type 0} (items : X → List Row) (list : R → List T) (table : Table) (sql : List ℕ) (part : Row → Row) (values : T → Row) (name_of : T → List ℕ) (q : Row → Bool) (twice : (r : Row) → part (part r) ≡ part r)
+module _ {X R T : Type 0} (items : X → List Row) (list : R → List T) (table : Table) (sql : List ℕ) (part : Row → Row) (values : T → Row) (name_of : T → List ℕ) (q : Row → Bool) (whole : (r : Row) → part (part r) ≡ part r)
     (keeps : (r : Row) (n : List ℕ) → has_text 0 n (part r) ≡ has_text 0 n r) (named : (x : T) (n : List ℕ) → has_text 0 n (values x) ≡ bytes_eq (name_of x) n) where
   pub all_in : (answer : Result X Error) (r : Result R StoreFault) (old new : State)
       → ((shown : List Row) → old.now.schema ≡ up_schema → IsTable (old.now.trees table.tree) → Shown sql [] old new shown → shown ≡ map part (filter q (bare (old.now.trees table.tree))))
@@ -99,4 +123,4 @@ module _ {X R T : Type 0} (items : X → List Row) (list : R → List T) (table 
       → (name : List ℕ) → map part (filter q (rows_of name)) ≡ map values (filter (λ x. bytes_eq (name_of x) name) (list found)))
   all_in answer r old new answers h ran =
       ok_then _ _ r (λ found is rows_of has lists name. named_parts part values name_of q (old.now.trees table.tree) rows_of (list found) keeps named lists (is lists.shaped has) name)
-      (each_in items part twice values sql [] old new (IsShaped TableShape (old.now.trees table.tree)) list (filter q (bare (old.now.trees table.tree))) answer r (λ shown shaped has. answers shown has shaped.0) h ran)
+      (each_in items part part whole values sql [] old new (IsShaped TableShape (old.now.trees table.tree)) list (filter q (bare (old.now.trees table.tree))) answer r (λ shown shaped has. answers shown has shaped.0) h ran)

@@ -24,7 +24,7 @@ use Rattle.up_tables.specs.Stands.{Lists, IfClean, IsInside, Alters, HasTables}
 use Rattle.up_tables.specs.declared.image.ImageRow.{ImageRow}
 use Rattle.up_tables.specs.declared.values.StoreFault.{StoreFault}
 use Rattle.up_tables.proofs.AnswerLemmas.{over, equals_text}
-use Rattle.up_tables.proofs.ByNameLemmas.{listed_in, all_in, filter_true}
+use Rattle.up_tables.proofs.ByNameLemmas.{listed_in, named_in, all_in, filter_true}
 use Rattle.up_tables.proofs.Casts.{cast_int, cast_null}
 use Rattle.up_tables.proofs.EcuRows.{text_is, column_after}
 use Rattle.up_tables.proofs.EcuUpsert.{equals}
@@ -89,12 +89,7 @@ find_plain = (refl, refl)
 pub finds_image : {X : Type 0} (items : X → List Row) (answer : Result X Error) (r : Result (Option ImageRow) StoreFault) (old new : State) (file : List ℕ)
     → IfOk r (λ found. IsOkAnd answer (λ v. map part (items v) ≡ map image_row (option_to_list found))) → IfOk answer (λ v. Shown find_image_text (Text file ∷ []) old new (items v))
     → IfOk r (λ found. (rows_of : List ℕ → List Row) → HasTables old → Lists 1 rows_of (old.now.trees 5) → map part (rows_of file) ≡ map image_row (option_to_list found))
-finds_image items answer r old new file h ran =
-    let rows = filter (has_text 0 file) (bare (old.now.trees 5)) in
-    let answers = answers_some up_schema find_image_text 5 (equals 1 0 ∷ []) shown names (Text file ∷ []) (has_text 0 file) part
-    (λ x. and-true _ ∙ equals_text (column x 1) file ∙ ap (λ v. is_eq (value_cmp v (Text file))) (column_after x 0)) (shows (Text file ∷ [])) (λ db. refl) find_is.1 find_plain find_is.0 old new in
-    ok_then _ _ r (λ found is rows_of has lists. ap (map part) (sym (lists.parts file) ∙ bare_filter (has_text 1 file) (has_text 0 file) (λ x. ap (λ v. is_eq (value_cmp v (Text file))) (column_after x 0)) (old.now.trees 5)) ∙ is has)
-    (one_in items part (λ x. refl) image_row find_image_text (Text file ∷ []) old new rows answer r answers h ran)
+finds_image items answer r old new file = named_in items image_table 0 find_image_text shown names part image_row file find_is.0 find_is.1 find_plain (λ db. refl) (shows (Text file ∷ [])) (λ x. refl) answer r old new
 
 abbrev pub all_images_text : List ℕ
 all_images_text = codes "SELECT file, length, sha256, hardware, release_count, needs, conflicts FROM image ORDER BY rowid"

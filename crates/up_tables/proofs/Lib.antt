@@ -13,6 +13,7 @@ pub mod ReadLemmas
 pub mod StateLemmas
 pub mod ByNameLemmas
 pub mod ImageLemmas
+pub mod VehicleLemmas
 pub mod ReturnLemmas
 pub mod KeyLemmas
 pub mod Casts
@@ -27,3 +28,5 @@ pub mod OursLemmas
 pub mod CrashLemmas
 pub mod CampaignSteps
 pub mod Typed
+pub mod KeptLemmas
+pub mod CampaignLemmas

@@ -22,9 +22,17 @@ pub record AreNew (trees : Trees) : Type 0 where
   pub meta : trees 0 ≡ meta_row 0 0 0 ∷ []
   pub others : AllByRecursion (λ t. trees t.tree ≡ []) (role_key_table ∷ repo_file_table ∷ image_table ∷ campaign_table ∷ vehicle_table ∷ ecu_table ∷ kept_table ∷ [])
 
+-- yes and no as numbers
+abbrev pub yes_or_no : Bool → ℤ
+yes_or_no b = pos (if b then 1 else 0)
+
 -- a campaign: its reach and its items are texts, and 1 says that it runs
 abbrev pub campaign_line : List ℕ → List ℕ → List ℕ → ℤ → Row
 campaign_line name reach items running = Text name ∷ Text reach ∷ Text items ∷ Int running ∷ []
+
+-- a vehicle: its Primary, how many manifests were accepted, and the last one's counter
+abbrev pub vehicle_line : List ℕ → List ℕ → ℕ → ℕ → Row
+vehicle_line name primary version last = Text name ∷ Text primary ∷ Int (pos version) ∷ Int (pos last) ∷ []
 
 -- an ECU that is recorded, and what it reported last: image and text are null before a first report
 pub record EcuLine : Type 0 where

@@ -6,6 +6,8 @@ pub mod crash;
 pub mod create;
 pub mod ecu;
 pub mod image;
+pub mod kept;
 pub mod open;
 pub mod reading;
 pub mod values;
+pub mod vehicle;

@@ -6,6 +6,7 @@ ghost use Rattle.sqlite.specs.Order.{column};
 ghost use Rattle.sqlite.specs.Values.{bound_value, or_null};
 ghost use Rattle.sqlite.specs.Value.{owned};
 ghost use Rattle.sqlite.specs.declared.types.Value.TheVariants.{Int, Text, Blob};
+ghost use Rattle.up_tables.specs.Lines.{yes_or_no};
 
 use sqlite::{Error, ErrorCode, Row};
 use sqlite_value::value::ValueRef;
@@ -68,6 +69,13 @@ pub fn number<'a>(n: u64) -> ValueRef<'a>
     ValueRef::Int(n as i64)
 }
 
+/// Yes or no as it is bound.
+pub fn flag<'a>(yes: bool) -> ValueRef<'a>
+    ensures { bound_value (owned result) ≡ Int (yes_or_no yes) }
+{
+    if yes { number(1) } else { number(0) }
+}
+
 /// A text as it is bound.
 pub fn words<'a>(text: &'a str) -> ValueRef<'a>
     ensures { bound_value (owned result) ≡ Text text.now }
@@ -89,6 +97,18 @@ pub fn number_at(row: &Row, at: usize) -> Result<u64, StoreFault>
     match row.get::<u64>(at) {
         Ok(n) => Ok(n),
         Err(error) => Err(fault_of(error)),
+    }
+}
+
+/// Yes or no in a column; `Store` where it has another number, or none.
+pub fn flag_at(row: &Row, at: usize) -> Result<bool, StoreFault>
+    ensures { IfOk result (λ yes. column row.now at ≡ Int (yes_or_no yes)) }
+{
+    match number_at(row, at) {
+        Ok(0) => Ok(false),
+        Ok(1) => Ok(true),
+        Ok(_) => Err(StoreFault::Store),
+        Err(fault) => Err(fault),
     }
 }
 

@@ -1,0 +1,119 @@
+-- The statements on campaigns that put rows in and read them.
+use Rattle.std.proofs.Common.{◌≡◌, ◌==◌, ℕ, ℤ, pos, List, [], ◌∷◌, ◌++◌, map, filter, Bool, true, false, ◌&&◌, if◌then◌else◌, length, Some, None, Ok, Err, Result, OnOk, IfOk, Option, IsTrue, refl, sym, ap, subst, ◌∙◌, codes, string_bytes, append-nil, bytes_eq, drop}
+use Rattle.std.specs.Option.{option_to_list}
+use Rattle.std.specs.Result.{IsOkAnd}
+use Rattle.std.specs.Ordering.{is_eq}
+use Rattle.std.proofs.Math.Bool.{and-true}
+use Rattle.sqlite.specs.declared.types.Value.TheVariants.{Null, Int, Text, Blob}
+use Rattle.sqlite.specs.declared.error.Error.{Error}
+use Rattle.sqlite.specs.Order.{Row, column, value_cmp}
+use Rattle.sqlite.specs.Term.{Term, lit, col, op2}
+use Rattle.sqlite.specs.Cast.{cast_row}
+use Rattle.sqlite.specs.Source.TheVariants.{Values}
+use Rattle.sqlite.specs.Command.TheVariants.{Insert, Select}
+use Rattle.sqlite.specs.Listing.{understood, reads_listing}
+use Rattle.sqlite.specs.State.{State, HasCleanDisk, Survives, ExecutesInside, Shown}
+use Rattle.sqlite.proofs.Callers.{IsPlain, command_of}
+use Rattle.sqlite_tied.specs.Compute.{everything}
+use Rattle.sqlite_rules.specs.Action.{works}
+use Rattle.sqlite_schema.specs.declared.schema.Keys.TheVariants.{Enforced}
+use Rattle.sqlite_sql.specs.declared.ops.BinaryOp.TheVariants.{Compare}
+use Rattle.sqlite_sql.specs.declared.ops.CompareOp.TheVariants.{Eq}
+use Rattle.sqlite_value.specs.declared.keys.Collation.TheVariants.{Binary}
+use Rattle.up_tables.specs.Rows.{bare, columns_at, has_text, has_number, with_row}
+use Rattle.up_tables.specs.Stands.{Lists, ListsAll, IfClean, IsInside, Alters, HasTables}
+use Rattle.up_tables.specs.declared.values.StoreFault.{StoreFault}
+use Rattle.up_tables.proofs.AnswerLemmas.{over, equals_text, equals_int}
+use Rattle.up_tables.proofs.Casts.{cast_int, cast_null}
+use Rattle.up_tables.proofs.EcuRows.{text_is, column_after}
+use Rattle.up_tables.proofs.EcuUpsert.{equals}
+use Rattle.up_tables.proofs.InsertLemmas.{inserts_in}
+use Rattle.up_tables.specs.Tables.{up_schema, campaign_table}
+use Rattle.up_tables.specs.Forms.{campaign_row, campaign_places}
+use Rattle.up_tables.specs.Lines.{yes_or_no}
+use Rattle.up_tables.specs.declared.campaign.CampaignRow.{CampaignRow}
+use Rattle.up_tables.proofs.ByNameLemmas.{listed_in, named_in, all_in}
+use Rattle.up_tables.proofs.ReadLemmas.{answers_all, by_rowid}
+
+-- ---- put in
+
+abbrev pub insert_campaign_text : List ℕ
+insert_campaign_text = codes "INSERT INTO campaign (name, reach, items, running) VALUES (?1, ?2, ?3, ?4)"
+
+abbrev terms : List Term
+terms = lit Null ∷ col 0 0 ∷ col 0 1 ∷ col 0 2 ∷ col 0 3 ∷ []
+
+insert_is : (command_of (understood up_schema insert_campaign_text) ≡ Insert 4 (Values terms 5)) × IsPlain (understood up_schema insert_campaign_text)
+unfolding understood everything
+insert_is = (refl, (refl, refl))
+
+idle : (olds news : List Row) → works up_schema Enforced 0 7 olds news ≡ []
+idle olds news = go (length news == 0) refl
+  where
+    go : (b : Bool) → (length news == 0) ≡ b → works up_schema Enforced 0 7 olds news ≡ []
+    go true e = rw e refl
+    go false e = rw e refl
+
+casts : (c : CampaignRow) → cast_row campaign_table (Null ∷ campaign_row c) ≡ Null ∷ campaign_row c
+casts c = rw (cast_null, cast_int (yes_or_no c.running)) refl
+
+pub campaign_inserts : (r : Result ℕ Error) (old new : State) (c : CampaignRow) → Survives old new (λ _. ⊥) → IfClean IsInside old
+    → (HasCleanDisk new → IsTrue old.in_transaction → ExecutesInside 0 insert_campaign_text (campaign_row c) old new r)
+    → HasCleanDisk new → OnOk r ((rows_of : List ℕ → List Row) → HasTables old → Lists 1 rows_of (old.now.trees 7) → Alters campaign_table (Lists 1 (with_row (string_bytes c.name) (campaign_row c) rows_of)) old new)
+campaign_inserts r old new c survives inside ran clean =
+    listed_in campaign_table 1 (string_bytes c.name) (campaign_row c) old new r (λ x n. text_is (string_bytes c.name) n)
+    (inserts_in insert_campaign_text 4 campaign_table terms 5 (campaign_row c) (campaign_row c) insert_is.0 insert_is.1 refl refl (append-nil _) refl (casts c) idle r old new survives inside ran clean)
+
+-- ---- read
+
+abbrev part : Row → Row
+part = columns_at campaign_places
+
+abbrev shown : List Term
+shown = col 1 1 ∷ col 1 2 ∷ col 1 3 ∷ col 1 4 ∷ []
+
+abbrev names : List (List ℕ)
+names = codes "name" ∷ codes "reach" ∷ codes "items" ∷ codes "running" ∷ []
+
+shows : (params r : Row) → Rattle.sqlite.specs.Term.eval_all shown (params ∷ r ∷ []) ≡ part (drop 1 r)
+shows params r = rw (column_after r 0, column_after r 1, column_after r 2, column_after r 3) refl
+
+abbrev pub find_campaign_text : List ℕ
+find_campaign_text = codes "SELECT name, reach, items, running FROM campaign WHERE name = ?1"
+
+find_is : (command_of (understood up_schema find_campaign_text) ≡ Select (record { lets = []; body = over 7 (equals 1 0 ∷ []) shown [] }) names) × (reads_listing up_schema find_campaign_text ≡ false)
+unfolding understood everything
+find_is = (refl, refl)
+
+pub find_plain : IsPlain (understood up_schema find_campaign_text)
+unfolding understood everything
+find_plain = (refl, refl)
+
+pub finds_campaign : {X : Type 0} (items : X → List Row) (answer : Result X Error) (r : Result (Option CampaignRow) StoreFault) (old new : State) (name : List ℕ)
+    → IfOk r (λ found. IsOkAnd answer (λ v. map part (items v) ≡ map campaign_row (option_to_list found))) → IfOk answer (λ v. Shown find_campaign_text (Text name ∷ []) old new (items v))
+    → IfOk r (λ found. (rows_of : List ℕ → List Row) → HasTables old → Lists 1 rows_of (old.now.trees 7) → map part (rows_of name) ≡ map campaign_row (option_to_list found))
+finds_campaign items answer r old new name h ran =
+    named_in items campaign_table 0 find_campaign_text shown names part campaign_row name find_is.0 find_is.1 find_plain (λ db. refl) (shows (Text name ∷ [])) (λ x. refl) answer r old new h ran
+
+abbrev pub running_text : List ℕ
+running_text = codes "SELECT name, reach, items, running FROM campaign WHERE running = 1 ORDER BY rowid"
+
+abbrev runs : Term
+runs = op2 (Compare Eq Binary) (col 1 4) (lit (Int (pos 1)))
+
+running_is : (command_of (understood up_schema running_text) ≡ Select (record { lets = []; body = over 7 (runs ∷ []) shown by_rowid }) names) × (reads_listing up_schema running_text ≡ false)
+unfolding understood everything
+running_is = (refl, refl)
+
+pub running_plain : IsPlain (understood up_schema running_text)
+unfolding understood everything
+running_plain = (refl, refl)
+
+pub finds_running : {X R : Type 0} (items : X → List Row) (list : R → List CampaignRow) (answer : Result X Error) (r : Result R StoreFault) (old new : State)
+    → IfOk r (λ found. IsOkAnd answer (λ v. map part (items v) ≡ map campaign_row (list found))) → IfOk answer (λ v. Shown running_text [] old new (items v))
+    → IfOk r (λ found. (rows_of : List ℕ → List Row) → HasTables old → Lists 1 rows_of (old.now.trees 7)
+    → (name : List ℕ) → map part (filter (has_number 3 (pos 1)) (rows_of name)) ≡ map campaign_row (filter (λ c. bytes_eq (string_bytes c.name) name) (list found)))
+finds_running items list answer r old new h ran =
+    all_in items list campaign_table running_text part campaign_row (λ c. string_bytes c.name) (has_number 3 (pos 1)) (λ x. refl) (λ x n. refl) (λ x n. text_is (string_bytes x.name) n) answer r old new
+    (λ rows has table. answers_all up_schema running_text 7 (runs ∷ []) shown names [] (has_number 3 (pos 1)) part
+    (λ x. and-true _ ∙ equals_int (column x 4) (pos 1) ∙ ap (λ v. is_eq (value_cmp v (Int (pos 1)))) (column_after x 3)) (shows []) (λ db. refl) running_is.1 running_plain running_is.0 old new rows has table) h ran

@@ -1,0 +1,102 @@
+-- The statements on kept manifests.
+use Rattle.std.proofs.Common.{◌≡◌, ◌==◌, ℕ, ℤ, pos, List, [], ◌∷◌, ◌++◌, map, filter, Bool, true, false, ◌&&◌, if◌then◌else◌, length, Some, None, Ok, Err, Result, OnOk, IfOk, Option, IsTrue, refl, sym, ap, subst, ◌∙◌, codes, string_bytes, append-nil, bytes_eq, drop}
+use Rattle.std.specs.Option.{option_to_list}
+use Rattle.std.specs.Result.{IsOkAnd}
+use Rattle.std.specs.Ordering.{is_eq}
+use Rattle.std.proofs.Math.Bool.{and-true}
+use Rattle.sqlite.specs.declared.types.Value.TheVariants.{Null, Int, Text, Blob}
+use Rattle.sqlite.specs.declared.error.Error.{Error}
+use Rattle.sqlite.specs.Order.{Row, column, value_cmp}
+use Rattle.sqlite.specs.Term.{Term, lit, col, op2}
+use Rattle.sqlite.specs.Cast.{cast_row}
+use Rattle.sqlite.specs.Source.TheVariants.{Values}
+use Rattle.sqlite.specs.Command.TheVariants.{Insert, Select}
+use Rattle.sqlite.specs.Listing.{understood, reads_listing}
+use Rattle.sqlite.specs.State.{State, HasCleanDisk, Survives, ExecutesInside, Shown}
+use Rattle.sqlite.proofs.Callers.{IsPlain, command_of}
+use Rattle.sqlite_tied.specs.Compute.{everything}
+use Rattle.sqlite_rules.specs.Action.{works}
+use Rattle.sqlite_schema.specs.declared.schema.Keys.TheVariants.{Enforced}
+use Rattle.sqlite_sql.specs.declared.ops.BinaryOp.TheVariants.{Compare}
+use Rattle.sqlite_sql.specs.declared.ops.CompareOp.TheVariants.{Eq}
+use Rattle.sqlite_value.specs.declared.keys.Collation.TheVariants.{Binary}
+use Rattle.up_tables.specs.Rows.{bare, columns_at, has_text, has_number, with_row}
+use Rattle.up_tables.specs.Stands.{Lists, ListsAll, IfClean, IsInside, Alters, HasTables}
+use Rattle.up_tables.specs.declared.values.StoreFault.{StoreFault}
+use Rattle.up_tables.proofs.AnswerLemmas.{over, equals_text, equals_int}
+use Rattle.up_tables.proofs.Casts.{cast_int, cast_null}
+use Rattle.up_tables.proofs.EcuRows.{text_is, column_after}
+use Rattle.up_tables.proofs.EcuUpsert.{equals}
+use Rattle.up_tables.proofs.InsertLemmas.{inserts_in}
+use Rattle.up_tables.specs.Tables.{up_schema, kept_table}
+use Rattle.up_tables.specs.Forms.{kept_row, kept_places}
+use Rattle.up_tables.specs.declared.kept.KeptRow.{KeptRow}
+use Rattle.up_tables.proofs.ByNameLemmas.{listed_in}
+use Rattle.up_tables.proofs.ReadLemmas.{answers_some, bare_filter, filter_both}
+use Rattle.up_tables.proofs.StateLemmas.{one_in, ok_then}
+
+-- ---- put in
+
+abbrev pub insert_kept_text : List ℕ
+insert_kept_text = codes "INSERT INTO kept (vehicle, counter, version, moment, root, signed, plan_text, reply) VALUES (?1, ?2, ?3, ?4, ?5, ?6, ?7, ?8)"
+
+abbrev terms : List Term
+terms = lit Null ∷ col 0 0 ∷ col 0 1 ∷ col 0 2 ∷ col 0 3 ∷ col 0 4 ∷ col 0 5 ∷ col 0 6 ∷ col 0 7 ∷ []
+
+insert_is : (command_of (understood up_schema insert_kept_text) ≡ Insert 7 (Values terms 9)) × IsPlain (understood up_schema insert_kept_text)
+unfolding understood everything
+insert_is = (refl, (refl, refl))
+
+idle : (olds news : List Row) → works up_schema Enforced 0 14 olds news ≡ []
+idle olds news = go (length news == 0) refl
+  where
+    go : (b : Bool) → (length news == 0) ≡ b → works up_schema Enforced 0 14 olds news ≡ []
+    go true e = rw e refl
+    go false e = rw e refl
+
+casts : (k : KeptRow) → cast_row kept_table (Null ∷ kept_row k) ≡ Null ∷ kept_row k
+casts k = rw (cast_null, cast_int (pos k.counter), cast_int (pos k.version), cast_int (pos k.moment), cast_int (pos k.root)) refl
+
+pub kept_inserts : (r : Result ℕ Error) (old new : State) (k : KeptRow) → Survives old new (λ _. ⊥) → IfClean IsInside old
+    → (HasCleanDisk new → IsTrue old.in_transaction → ExecutesInside 0 insert_kept_text (kept_row k) old new r)
+    → HasCleanDisk new → OnOk r ((rows_of : List ℕ → List Row) → HasTables old → Lists 1 rows_of (old.now.trees 14) → Alters kept_table (Lists 1 (with_row (string_bytes k.vehicle) (kept_row k) rows_of)) old new)
+kept_inserts r old new k survives inside ran clean =
+    listed_in kept_table 1 (string_bytes k.vehicle) (kept_row k) old new r (λ x n. text_is (string_bytes k.vehicle) n)
+    (inserts_in insert_kept_text 7 kept_table terms 9 (kept_row k) (kept_row k) insert_is.0 insert_is.1 refl refl (append-nil _) refl (casts k) idle r old new survives inside ran clean)
+
+-- ---- read
+
+abbrev part : Row → Row
+part = columns_at kept_places
+
+abbrev shown : List Term
+shown = col 1 1 ∷ col 1 2 ∷ col 1 3 ∷ col 1 4 ∷ col 1 5 ∷ col 1 6 ∷ col 1 7 ∷ col 1 8 ∷ []
+
+abbrev names : List (List ℕ)
+names = codes "vehicle" ∷ codes "counter" ∷ codes "version" ∷ codes "moment" ∷ codes "root" ∷ codes "signed" ∷ codes "plan_text" ∷ codes "reply" ∷ []
+
+abbrev pub find_kept_text : List ℕ
+find_kept_text = codes "SELECT vehicle, counter, version, moment, root, signed, plan_text, reply FROM kept WHERE vehicle = ?1 AND counter = ?2"
+
+find_is : (command_of (understood up_schema find_kept_text) ≡ Select (record { lets = []; body = over 14 (equals 1 0 ∷ equals 2 1 ∷ []) shown [] }) names) × (reads_listing up_schema find_kept_text ≡ false)
+unfolding understood everything
+find_is = (refl, refl)
+
+pub find_plain : IsPlain (understood up_schema find_kept_text)
+unfolding understood everything
+find_plain = (refl, refl)
+
+pub finds_kept : {X : Type 0} (items : X → List Row) (answer : Result X Error) (r : Result (Option KeptRow) StoreFault) (old new : State) (vehicle : List ℕ) (counter : ℕ)
+    → IfOk r (λ found. IsOkAnd answer (λ v. map part (items v) ≡ map kept_row (option_to_list found))) → IfOk answer (λ v. Shown find_kept_text (Text vehicle ∷ Int (pos counter) ∷ []) old new (items v))
+    → IfOk r (λ found. (rows_of : List ℕ → List Row) → HasTables old → Lists 1 rows_of (old.now.trees 14) → map part (filter (has_number 1 (pos counter)) (rows_of vehicle)) ≡ map kept_row (option_to_list found))
+finds_kept items answer r old new vehicle counter h ran =
+    let params = Text vehicle ∷ Int (pos counter) ∷ [] in
+    let q : Row → Bool = λ x. has_text 0 vehicle x && has_number 1 (pos counter) x in
+    let test : (x : Row) → has_text 1 vehicle x ≡ has_text 0 vehicle (drop 1 x) = λ x. ap (λ v. is_eq (value_cmp v (Text vehicle))) (column_after x 0) in
+    let answers = answers_some up_schema find_kept_text 14 (equals 1 0 ∷ equals 2 1 ∷ []) shown names params q part
+    (λ x. rw (equals_text (column x 1) vehicle, equals_int (column x 2) (pos counter), column_after x 0, column_after x 1) (ap (λ b. has_text 0 vehicle (drop 1 x) && b) (and-true _)))
+    (λ x. rw (column_after x 0, column_after x 1, column_after x 2, column_after x 3, column_after x 4, column_after x 5, column_after x 6, column_after x 7) refl) (λ db. refl) find_is.1 find_plain find_is.0 old new in
+    ok_then _ _ r (λ found is rows_of has lists.
+    ap (λ xs. map part (filter (has_number 1 (pos counter)) xs)) (sym (lists.parts vehicle) ∙ bare_filter (has_text 1 vehicle) (has_text 0 vehicle) test (old.now.trees 14))
+    ∙ ap (map part) (sym (filter_both (has_text 0 vehicle) (has_number 1 (pos counter)) (bare (old.now.trees 14)))) ∙ is has)
+    (one_in items part part (λ x. refl) kept_row find_kept_text params old new (filter q (bare (old.now.trees 14))) answer r answers h ran)

@@ -1,0 +1,100 @@
+//! The rows of kept manifests.
+
+ghost use Rattle.std.specs.Prelude.{◌≡◌, ◌<◌, ◌^◌, ℕ, pos, List, map, filter, string_bytes, OnOk, IfOk};
+ghost use Rattle.std.specs.Option.{option_to_list};
+ghost use Rattle.sqlite.specs.Held.{state};
+ghost use Rattle.sqlite.specs.State.{HasCleanDisk};
+ghost use Rattle.sqlite.specs.Order.{Row as Values};
+ghost use Rattle.up_tables.specs.Tables.{kept_table};
+ghost use Rattle.up_tables.specs.Rows.{columns_at, has_number, with_row};
+ghost use Rattle.up_tables.specs.Forms.{kept_places, kept_row, FitKept};
+ghost use Rattle.up_tables.specs.Stands.{IfClean, IsInside, IsOpen, HasTables, Alters, Lists, Reads, Steps};
+
+use crate::reading::{Decode, at_most_one};
+use crate::values::{StoreFault, done, number, number_at, text_at, words};
+use sqlite::{Alter, Row, Transaction};
+
+/// A row of `kept`: an accepted manifest of a vehicle, with what was planned and answered. The moment is in seconds, the plan canonical JSON.
+#[derive(Drop)]
+pub struct KeptRow {
+    pub vehicle: String,
+    pub counter: u64,
+    pub version: u64,
+    pub moment: u64,
+    pub root: u64,
+    pub signed: String,
+    pub plan_text: String,
+    pub reply: String,
+}
+
+impl Decode for KeptRow {
+    ghost use Rattle.up_tables.specs.Forms.{kept_places, kept_row};
+
+    ghost places = { kept_places };
+
+    ghost values = { kept_row };
+
+    fn decode(row: &Row) -> Result<KeptRow, StoreFault> {
+        Ok(KeptRow {
+            vehicle: text_at(row, 0)?,
+            counter: number_at(row, 1)?,
+            version: number_at(row, 2)?,
+            moment: number_at(row, 3)?,
+            root: number_at(row, 4)?,
+            signed: text_at(row, 5)?,
+            plan_text: text_at(row, 6)?,
+            reply: text_at(row, 7)?,
+        })
+    }
+}
+
+/// Puts in the row of an accepted manifest, behind those of its vehicle; `Store` where one has its counter or its version.
+pub fn insert_kept<S: Alter>(
+    tx: &mut Transaction<'_, S>,
+    kept: &KeptRow,
+) -> Result<(), StoreFault>
+    requires fit { FitKept kept.now }
+    requires mode { IfClean IsInside (state S.Store tx.old.conn.now) }
+    ensures same_reference { tx.new.conn.ghost_name ≡ tx.old.conn.ghost_name }
+    ensures inserted { HasCleanDisk (state S.Store tx.new.conn.now) → OnOk result ((rows_of : List ℕ → List Values) → HasTables (state S.Store tx.old.conn.now)
+        → Lists 1 rows_of ((state S.Store tx.old.conn.now).now.trees kept_table.tree)
+        → Alters kept_table (Lists 1 (with_row (string_bytes kept.now.vehicle) (kept_row kept.now) rows_of)) (state S.Store tx.old.conn.now) (state S.Store tx.new.conn.now)) }
+    ensures inside { OnOk result (IfClean IsInside (state S.Store tx.new.conn.now)) }
+    ensures open { OnOk result (IfClean IsOpen (state S.Store tx.new.conn.now)) }
+    ensures steps { Steps (state S.Store tx.old.conn.now) (state S.Store tx.new.conn.now) }
+{
+    done(tx.execute(
+        "INSERT INTO kept (vehicle, counter, version, moment, root, signed, plan_text, reply) VALUES (?1, ?2, ?3, ?4, ?5, ?6, ?7, ?8)",
+        &[
+            words(kept.vehicle.as_str()),
+            number(kept.counter),
+            number(kept.version),
+            number(kept.moment),
+            number(kept.root),
+            words(kept.signed.as_str()),
+            words(kept.plan_text.as_str()),
+            words(kept.reply.as_str()),
+        ],
+    ))
+}
+
+/// The accepted manifest of a vehicle with this counter, none where there is none.
+pub fn kept<S: Alter>(
+    tx: &mut Transaction<'_, S>,
+    vehicle: &str,
+    counter: u64,
+) -> Result<Option<KeptRow>, StoreFault>
+    requires counter { counter < 2 ^ 63 }
+    requires mode { IfClean IsInside (state S.Store tx.old.conn.now) }
+    ensures same_reference { tx.new.conn.ghost_name ≡ tx.old.conn.ghost_name }
+    ensures found { HasCleanDisk (state S.Store tx.new.conn.now) → IfOk result (λ found. (rows_of : List ℕ → List Values) → HasTables (state S.Store tx.old.conn.now)
+        → Lists 1 rows_of ((state S.Store tx.old.conn.now).now.trees kept_table.tree)
+        → map (columns_at kept_places) (filter (has_number 1 (pos counter)) (rows_of vehicle.now)) ≡ map kept_row (option_to_list found)) }
+    ensures reads { HasCleanDisk (state S.Store tx.new.conn.now) → OnOk result (HasTables (state S.Store tx.old.conn.now) → Reads (state S.Store tx.old.conn.now) (state S.Store tx.new.conn.now)) }
+    ensures steps { Steps (state S.Store tx.old.conn.now) (state S.Store tx.new.conn.now) }
+{
+    at_most_one(tx.query_all(
+        "SELECT vehicle, counter, version, moment, root, signed, plan_text, reply FROM kept WHERE vehicle = ?1 AND counter = ?2",
+        &[words(vehicle), number(counter)],
+    ))
+}
