@@ -20,7 +20,8 @@ use Rattle.up_machine.specs.State.{Entry, Vehicle, State}
 use Rattle.up_machine.specs.Deciding.{Outcome, done, already}
 use Rattle.up_machine.specs.Inventory.{with_campaign}
 use Rattle.up_machine.specs.Decisions.{IsDone, GivesDecision, GivesClosed, HasAcceptedRows, GivesDelivered}
-use Rattle.up_rows.specs.StateRows.{StateRows, rows_of_state}
+use Rattle.up_rows.specs.StateRows.{StateRows}
+use Rattle.up_desk.specs.Books.{AreRowsOf}
 use Rattle.up_desk.specs.Serving.{Leaves}
 
 pub when_already : {R : Type 0} (has : R → Type 0) (s next : State) (d : Decision R) (computed : Result Outcome Refusal) → d ≡ Already → GivesDecision has s next (Ok d) computed
@@ -42,7 +43,7 @@ pub when_closing : (s : State) (name : Name) (d : Decision CampaignData) (row : 
 when_closing s name Already row computed is h = cc
 when_closing s name (New other) row computed is h = let same : other ≡ row = cc in h.3 ∙ ap (λ (c : CampaignData). Ok (done (with_campaign s c))) same
 
-pub unchanged : (k : Rules) (s : State) (b : StateRows) (computed : Result Outcome Refusal) → b ≡ rows_of_state k s → computed ≡ Ok (already s) → Leaves k s b (Ok Same) computed
+pub unchanged : (k : Rules) (s : State) (b : StateRows) (computed : Result Outcome Refusal) → AreRowsOf k s b → computed ≡ Ok (already s) → Leaves k s b (Ok Same) computed
 unchanged k s b computed are h = (refl, (s, h, are))
 
 pub when_repeated : (k : Rules) (s : State) (kept : Option Kept) (name : Name) (d : Delivered) (row : Kept) (computed : Result Outcome Refusal) → d ≡ Repeat → kept ≡ Some row

@@ -8,7 +8,7 @@ use Rattle.up_machine.specs.State.{Root, State, root_at}
 use Rattle.up_machine.specs.Sound.{IsSoundRoot, IsSound}
 use Rattle.up_machine.proofs.Keeping.{nth_at}
 use Rattle.up_rows.specs.StateRows.{StateRows}
-use Rattle.up_desk.specs.Books.{AreRowsOf}
+use Rattle.up_desk.specs.Books.{KeepsState}
 
 abbrev row_of : State → Root → Founding
 row_of s root = record { root = length s.roots; keys = root.keys; image_version = s.image_version; stamp = s.stamp }
@@ -17,6 +17,6 @@ of_last : (k : Rules) (s : State) (o : Option Root) → root_at s (length s.root
 of_last k s None h sound = tt
 of_last k s (Some root) h sound = (nth_at (IsSoundRoot k) s.roots (length s.roots) root sound.repositories.each_root h).keys
 
-pub founding_keys : (k : Rules) (s : State) (b : StateRows) → AreRowsOf k s b → IfSome b.founding (λ f. IsTrue (key_set_fits k f.keys))
+pub founding_keys : (k : Rules) (s : State) (b : StateRows) → KeepsState k s b → IfSome b.founding (λ f. IsTrue (key_set_fits k f.keys))
 founding_keys k s b h =
-    subst (λ (o : Option Founding). IfSome o (λ f. IsTrue (key_set_fits k f.keys))) (sym (ap (λ (r : StateRows). r.founding) h.are)) (of_last k s (root_at s (length s.roots)) refl h.sound)
+    subst (λ (o : Option Founding). IfSome o (λ f. IsTrue (key_set_fits k f.keys))) (sym (ap (λ (r : StateRows). r.founding) h.rows_of.same)) (of_last k s (root_at s (length s.roots)) refl h.sound)

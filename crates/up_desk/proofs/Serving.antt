@@ -28,9 +28,9 @@ use Rattle.up_machine.specs.Machine.{decide, outcome_of, step}
 use Rattle.up_machine.specs.Repeats.{Repeat, repeat_in, repeat_of, served_as, serve}
 use Rattle.up_machine.specs.Sound.{IsSound}
 use Rattle.up_machine.specs.RepeatLaws.{ServedStaysSound}
-use Rattle.up_rows.specs.StateRows.{StateRows, rows_of_state, state_of_rows}
+use Rattle.up_rows.specs.StateRows.{StateRows, state_of_rows}
 use Rattle.up_rows.specs.Laws.{RowsTellTheState}
-use Rattle.up_desk.specs.Books.{AreRowsOf, AreConsistent}
+use Rattle.up_desk.specs.Books.{AreConsistent}
 use Rattle.up_desk.specs.Serving.{is_lost, IsAnswered, told, served, outright_in_time, outright, Leaves}
 use Rattle.up_desk.proofs.Consistent.{determined, consistent}
 

@@ -20,7 +20,8 @@ use Rattle.up_machine.specs.Deciding.{Outcome, check_moment}
 use Rattle.up_machine.specs.Decisions.{decide_incoming}
 use Rattle.up_machine.specs.Machine.{decide}
 use Rattle.up_machine.specs.Replies.{kept_reply}
-use Rattle.up_rows.specs.StateRows.{StateRows, rows_of_state}
+use Rattle.up_rows.specs.StateRows.{StateRows}
+use Rattle.up_desk.specs.Books.{AreRowsOf}
 
 -- a scheme, and the state that is kept under it
 pub record DeskView (K : Type 0) : Type 0 where
@@ -70,5 +71,5 @@ served k s at c = decide k s at c
 -- what is kept are the rows of the outcome that was computed; of a refusal, or where memory was refused, those of the state
 abbrev pub Leaves : Rules → State → StateRows → Result Answer Refusal → Result Outcome Refusal → Type 0
 Leaves k s new (Ok answer) computed =
-    (is_lost answer ≡ false) × ((next : State) × (computed ≡ Ok (record { answer = answer; next = next })) × (new ≡ rows_of_state k next))
-Leaves k s new (Err r) computed = (new ≡ rows_of_state k s) × MatchBool (is_memory r) ⊤ (computed ≡ Err r)
+    (is_lost answer ≡ false) × ((next : State) × (computed ≡ Ok (record { answer = answer; next = next })) × AreRowsOf k next new)
+Leaves k s new (Err r) computed = AreRowsOf k s new × MatchBool (is_memory r) ⊤ (computed ≡ Err r)

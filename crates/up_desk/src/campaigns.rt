@@ -2,7 +2,8 @@
 ghost use Rattle.std.specs.Prelude.{◌≡◌, ◌≤◌, OnOk, OnErr};
 ghost use Rattle.up_canon.specs.Moments.{last_command_moment};
 ghost use Rattle.up_sign.specs.Schemes.{Rules};
-ghost use Rattle.up_machine.specs.Inventory.{decide_open as decide_open_in, decide_close as decide_close_in};
+ghost use Rattle.up_machine.specs.Inventory.{decide_open as decide_open_in, decide_close as decide_close_in, with_campaign};
+ghost use Rattle.up_machine.specs.Decisions.{GivesDecision};
 ghost use Rattle.up_rows.specs.StateRows.{state_of_rows};
 ghost use Rattle.up_desk.specs.Books.{book_rows, AreConsistent};
 ghost use Rattle.up_rows.specs.Changes.{with_campaign_row};
@@ -32,10 +33,30 @@ pub fn open(
     ensures { (k : Rules) → AreConsistent k (book_rows book.old) → Leaves k (state_of_rows (book_rows book.old)) (book_rows book.new) result
         (decide_open_in (state_of_rows (book_rows book.old)) at campaign.now) }
 {
-    rows_are_found();
     campaigns_are_written();
+    match decide(book, alloc, at, campaign)? {
+        Decision::Already => Ok(Answer::Already),
+        Decision::New(campaign) => {
+            put_campaign(alloc, book, campaign)?;
+            Ok(Answer::Done)
+        }
+    }
+}
+
+/// Decides on a new campaign over its rows.
+fn decide(
+    book: &Book,
+    alloc: Global,
+    at: Moment,
+    campaign: &Campaign,
+) -> Result<Decision<Campaign>, Refusal>
+    requires { at ≤ last_command_moment }
+    ensures { (k : Rules) → AreConsistent k (book_rows book.now) → GivesDecision (λ row. row ≡ campaign.now) (state_of_rows (book_rows book.now))
+        (with_campaign (state_of_rows (book_rows book.now)) campaign.now) result (decide_open_in (state_of_rows (book_rows book.now)) at campaign.now) }
+{
+    rows_are_found();
     let old = book.campaigns.get(campaign.name.text());
-    match decide_open(
+    decide_open(
         alloc,
         at,
         campaign,
@@ -43,13 +64,7 @@ pub fn open(
         old,
         &book.vehicles,
         &book.images,
-    )? {
-        Decision::Already => Ok(Answer::Already),
-        Decision::New(campaign) => {
-            put_campaign(alloc, book, campaign)?;
-            Ok(Answer::Done)
-        }
-    }
+    )
 }
 
 /// Closes the campaign of this name.

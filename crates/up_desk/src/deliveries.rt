@@ -7,8 +7,7 @@ ghost use Rattle.up_manifest.specs.Manifests.{largest_body, incoming_in};
 ghost use Rattle.up_machine.specs.Rows.{reply_kept};
 ghost use Rattle.up_machine.specs.Decisions.{IsRead, decide_incoming, GivesDelivered};
 ghost use Rattle.up_rows.specs.StateRows.{state_of_rows};
-ghost use Rattle.up_desk.specs.Books.{book_rows, AreConsistent, kept_among};
-ghost use Rattle.up_rows.specs.Changes.{with_accepted_rows};
+ghost use Rattle.up_desk.specs.Books.{book_rows, AreConsistent, kept_among, with_accepted};
 ghost use Rattle.up_desk.specs.Serving.{Leaves};
 
 use crate::book::Book;
@@ -149,7 +148,7 @@ fn copy_cause(alloc: Global, cause: &Option<Cause>) -> Result<Option<Cause>, All
 
 /// Keeps an accepted manifest: its row, and its vehicle's new rows. Room is made before the first change.
 fn accept(alloc: Global, book: &mut Book, rows: AcceptedRows) -> Result<(), AllocError>
-    ensures ok { OnOk result (book_rows book.new ≡ with_accepted_rows (book_rows book.old) rows) }
+    ensures ok { OnOk result (book_rows book.new ≡ with_accepted book.old rows) }
     ensures err { OnErr result (book_rows book.new ≡ book_rows book.old) }
 {
     let AcceptedRows { vehicle, kept } = rows;

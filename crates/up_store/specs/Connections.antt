@@ -6,7 +6,7 @@ use Rattle.sqlite.specs.Tree.{Trees}
 use Rattle.up_sign.specs.Schemes.{Rules}
 use Rattle.up_machine.specs.State.{State}
 use Rattle.up_rows.specs.StateRows.{StateRows, rows_of_state}
-use Rattle.up_tables.specs.Stands.{IfClean, Stands, Holds, LeavesOnly}
+use Rattle.up_tables.specs.Stands.{IfClean, Stands, IsWithin, GoesOn, Holds, LeavesOnly}
 use Rattle.up_tables.specs.Tables.{up_schema}
 use Rattle.up_store.specs.Listing.{ListsRows}
 
@@ -34,12 +34,21 @@ NeedsOpen old new result = HasCleanDisk new → OnOk result (IsTrue old.is_open)
 abbrev pub Answers : {A E : Type 0} → (StateRows → A) → Connected → Connected → Result A E → Type 0
 Answers told old new result = HasCleanDisk new → IfOk result (λ found. (rows : StateRows) → IfClean (KeepsRows rows) old → found ≡ told rows)
 
+-- a step of a read, within its transaction
+abbrev pub FindsRows : {A E : Type 0} → (StateRows → A) → Connected → Connected → Result A E → Type 0
+FindsRows told old new result = HasCleanDisk new → IfOk result (λ found. (rows : StateRows) → IsWithin up_schema (ListsRows rows) old → found ≡ told rows)
+
 -- ---- writes
 
 -- the tables list these rows, and they fit what is written
 pub record MayWrite (rows : StateRows) (fit : Type 0) (s : Connected) : Type 0 where
   pub keeps : IfClean (KeepsRows rows) s
   pub fits : HasCleanDisk s → fit
+
+-- a step of a write, within its transaction
+abbrev pub PutsRows : {A E : Type 0} → (StateRows → Type 0) → (StateRows → StateRows) → Connected → Connected → Result A E → Type 0
+PutsRows fits next old new result =
+    HasCleanDisk new → OnOk result ((rows : StateRows) → IsWithin up_schema (ListsRows rows) old → fits rows → GoesOn up_schema (ListsRows (next rows)) new)
 
 -- where it goes through, the tables list the next rows
 abbrev pub TakesRows : {A E : Type 0} → (StateRows → Type 0) → (StateRows → StateRows) → Connected → Connected → Result A E → Type 0

@@ -4,6 +4,7 @@
 mod campaigns;
 mod images;
 mod manifests;
+mod reading;
 mod roots;
 pub mod store;
 mod vehicles;

@@ -4,7 +4,7 @@ use Rattle.up_desk.proofs.Added.{vehicle_done}
 use Rattle.up_desk.proofs.inventory.add_vehicle.Goals as goal
 
 pub returns-in-Already-clause-leaves : goal.returns-in-Already-clause-leaves
-returns-in-Already-clause-leaves g c = unchanged _ _ (book_rows c.args.book.now) _ c.requires.consistent.are (when_already _ _ _ _ _ c.in-Already.is c.in_ok-decide.ensures.decided)
+returns-in-Already-clause-leaves g c = unchanged _ _ (book_rows c.args.book.now) _ c.requires.consistent.rows_of (when_already _ _ _ _ _ c.in-Already.is c.in_ok-decide.ensures.decided)
 
 pub returns-in_ok-put_vehicle-in-New-clause-leaves : goal.returns-in_ok-put_vehicle-in-New-clause-leaves
 returns-in_ok-put_vehicle-in-New-clause-leaves g c =

@@ -1,5 +1,5 @@
 use Rattle.std.proofs.Common.{◌≡◌, take, map}
-use Rattle.up_desk.specs.Rows.{has_ecu_row}
+use Rattle.up_rows.specs.Lookups.{has_ecu_row}
 use Rattle.up_desk.proofs.inventory.mark_recorded.Given as goal
 
 -- the ECUs so far are marked

@@ -5,7 +5,7 @@ use Rattle.up_desk.proofs.obeying.obey.Goals as goal
 
 pub returns-in-None : goal.returns-in-None
 returns-in-None g c = record {
-  leaves = (c.requires.are, late_served _ _ _ _ c.in-None.ensures);
+  leaves = (c.requires.rows_of, late_served _ _ _ _ c.in-None.ensures);
   outright = late_outright (g.K.Scheme.rules c.args.scheme.now) c.args.at c.args.command.now (Err MomentOutOfRange) c.in-None.ensures refl;
 }
 

@@ -1,9 +1,11 @@
 use Rattle.std.proofs.Common.{ap, ◌∙◌}
 use Rattle.up_machine.specs.Reads.{assigned_to}
+use Rattle.up_rows.specs.StateRows.{StateRows, state_of_rows}
 use Rattle.up_rows.specs.Lookups.{plan_told}
 use Rattle.up_desk.proofs.Kept.{plan_found}
 use Rattle.up_desk.proofs.Kept.{same_if_ok}
+use Rattle.up_desk.specs.Books.{book_rows}
 use Rattle.up_desk.proofs.desk.Desk.assigned.Goals as goal
 
 pub returns : goal.returns
-returns g c = same_if_ok _ _ _ c.assigned_in.ensures (plan_found c.self.inside.book c.args.vehicle.now ∙ ap (λ r. plan_told r c.args.vehicle.now) c.self.invariant.are ∙ c.views_are_told.ensures.assigned (g.K.Scheme.rules c.self.inside.scheme) _ c.args.vehicle.now ∙ ap (λ d. assigned_to d.state c.args.vehicle.now) c.self.view_is)
+returns g c = same_if_ok _ _ _ c.assigned_in.ensures (plan_found c.self.inside.book c.args.vehicle.now ∙ ap (λ (r : StateRows). plan_told r c.args.vehicle.now) c.self.invariant.rows_of.same ∙ c.views_are_told.ensures.assigned (g.K.Scheme.rules c.self.inside.scheme) (state_of_rows (book_rows c.self.inside.book)) c.args.vehicle.now ∙ ap (λ d. assigned_to d.state c.args.vehicle.now) c.self.view_is)
