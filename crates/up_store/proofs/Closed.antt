@@ -44,10 +44,10 @@ only_inserted t name x lines row is n = by_test (bytes_eq name n) ∙ sym (ap li
     by_test true = sym is
     by_test false = refl
 
-runs : CampaignData → ℤ
+abbrev runs : CampaignData → ℤ
 runs c = pos (if c.running then 1 else 0)
 
-pub puts_closed : (r : Result (Rattle.std.specs.Prelude.Unit {0}) StoreFault) (new : CampaignData) (before after : Connected)
+pub puts_closed : {A : Type 0} (r : Result A StoreFault) (new : CampaignData) (before after : Connected)
     → OnOk r ((rows_of : List ℕ → List Row) (reach items : List ℕ) (running : ℤ) → HasTables before → Lists 1 rows_of (before.now.trees campaign_table.tree) → rows_of new.name ≡ campaign_line new.name reach items running ∷ []
     → Alters campaign_table (Lists 1 (with_only new.name (campaign_line new.name reach items (pos 0)) rows_of)) before after)
     → OnOk r (IsTrue before.is_open) → OnOk r ((rows : StateRows) → IsWithin up_schema (ListsRows rows) before → IsClosing new rows → GoesOn up_schema (ListsRows (with_campaign_row rows new)) after)

@@ -3,4 +3,3 @@ pub mod Created
 pub mod Others
 pub mod Closed
 pub mod Written
-pub mod Vehicles

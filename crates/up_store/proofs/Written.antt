@@ -21,9 +21,9 @@ module _ {S : Type 0} (g : Ghosts S) (old first mid : Held S) (rows next : State
 -- where nothing is refused the connection was open
 pub was_open : {S A E : Type 0} (g : Ghosts S) (old first mid : Held S) (r : Result A E) → first ≡ record old { in_transaction = true } → Steps (state g first) (state g mid)
     → HasCleanDisk (state g mid) → OnOk r (IfClean IsOpen (state g mid)) → OnOk r (IsTrue (state g old).is_open)
-was_open g old first mid (Err e) begun steps clean open = tt
-was_open g old first mid (Ok x) begun steps clean open = subst (λ h. IsTrue (state g h).is_open) begun ((steps.kept clean).was_open (open clean))
+was_open g old first mid (Err e) begun steps clean opened = tt
+was_open g old first mid (Ok x) begun steps clean opened = subst (λ h. IsTrue (state g h).is_open) begun ((steps.kept clean).was_open (opened clean))
 
 pub open_before : {A E : Type 0} (before after : State) (r : Result A E) → Steps before after → HasCleanDisk after → OnOk r (IfClean IsOpen after) → OnOk r (IsTrue before.is_open)
-open_before before after (Err e) steps clean open = tt
-open_before before after (Ok x) steps clean open = (steps.kept clean).was_open (open clean)
+open_before before after (Err e) steps clean opened = tt
+open_before before after (Ok x) steps clean opened = (steps.kept clean).was_open (opened clean)

@@ -3,4 +3,3 @@ pub mod Listing
 pub mod Connections
 pub mod Fitting
 pub mod Found
-pub mod Shown

@@ -86,10 +86,7 @@ impl<D: Alter> Store<D> {
 }
 
 /// Says in its row that a campaign doesn't run.
-fn put_closed<D: Alter>(
-    tx: &mut Transaction<'_, D>,
-    closed: &Campaign,
-) -> Result<(), StoreFault>
+fn put_closed<D: Alter>(tx: &mut Transaction<'_, D>, closed: &Campaign) -> Result<(), StoreFault>
     requires mode { IfClean IsInside (state D.Store tx.old.conn.now) }
     ensures same_reference { tx.new.conn.ghost_name ≡ tx.old.conn.ghost_name }
     ensures put { PutsRows (IsClosing closed.now) (λ rows. with_campaign_row rows closed.now) (state D.Store tx.old.conn.now) (state D.Store tx.new.conn.now) result }

@@ -4,7 +4,6 @@
 mod campaigns;
 mod images;
 mod manifests;
-mod reading;
 mod roots;
 pub mod store;
 mod vehicles;
