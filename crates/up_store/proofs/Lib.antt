@@ -3,3 +3,4 @@ pub mod Created
 pub mod Others
 pub mod Closed
 pub mod Written
+pub mod VehicleReads

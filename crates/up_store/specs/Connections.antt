@@ -34,6 +34,10 @@ NeedsOpen old new result = HasCleanDisk new → OnOk result (IsTrue old.is_open)
 abbrev pub Answers : {A E : Type 0} → (StateRows → A) → Connected → Connected → Result A E → Type 0
 Answers told old new result = HasCleanDisk new → IfOk result (λ found. (rows : StateRows) → IfClean (KeepsRows rows) old → found ≡ told rows)
 
+-- a step of a read, within its transaction
+abbrev pub FindsRows : {A E : Type 0} → (StateRows → A) → Connected → Connected → Result A E → Type 0
+FindsRows told old new result = HasCleanDisk new → IfOk result (λ found. (rows : StateRows) → IsWithin up_schema (ListsRows rows) old → found ≡ told rows)
+
 -- ---- writes
 
 -- the tables list these rows, and they fit what is written

@@ -4,6 +4,8 @@
 mod campaigns;
 mod images;
 mod manifests;
+mod reading;
 mod roots;
+pub mod stopping;
 pub mod store;
 mod vehicles;
