@@ -1,7 +1,7 @@
 #!/usr/bin/env python3
 """Runs the examples and the worked rows with the programs that the gate has built, and compares what they print with what stands beside them.
 
-    check.py PROGRAM ROWS      PROGRAM is uptane_desk, ROWS is worked_rows
+    check.py PROGRAM ROWS      PROGRAM is uptane_desk, ROWS is up_test_worked_rows
 """
 import re
 import subprocess
@@ -42,7 +42,7 @@ def all_rows():
     listed = re.findall(r"^\| `(\w+)` \|", page, re.MULTILINE)
     folders = sorted(it.name for it in (HERE.parent / "rows").iterdir() if it.is_dir() and not it.name.startswith("_"))
     yield "rows/README.md lists each row", listed == folders == [row.name for row in collected.rows()]
-    yield "crates/worked_rows has the rows of rows/", not collected.differing()
+    yield "crates/up_test_worked_rows has the rows of rows/", not collected.differing()
     for name in texts.REPLIES:
         told = (HERE.parent / "rows" / name / "replies").read_text(encoding="ascii")
         yield "replies of %s, from the formats" % name, told == texts.replies(name)

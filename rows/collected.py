@@ -1,5 +1,5 @@
 #!/usr/bin/env python3
-"""Collects the rows into what the program of `crates/worked_rows` reads, and what it has to write.
+"""Collects the rows into what the program of `crates/up_test_worked_rows` reads, and what it has to write.
 
     collected.py          tells whether that crate's stdin and stdout are the rows of this folder
     collected.py write    writes them
@@ -9,7 +9,7 @@ import sys
 from pathlib import Path
 
 HERE = Path(__file__).resolve().parent
-CRATE = HERE.parent / "crates" / "worked_rows"
+CRATE = HERE.parent / "crates" / "up_test_worked_rows"
 COMMANDS = ["found", "rotate", "add_vehicle", "add_image", "refresh", "open_campaign", "close_campaign", "deliver", "fetch", "bench"]
 
 
@@ -18,7 +18,7 @@ def lines_of(path):
 
 
 def is_command(line):
-    """Whether a line asks the desk something. In the rows no line of these words has a faulty member."""
+    """Whether a line asks the desk something. No line of these words has a faulty member, but in rows that are unread."""
     try:
         value = json.loads(line)
     except ValueError:
@@ -29,6 +29,7 @@ def is_command(line):
 class Row:
     def __init__(self, folder):
         self.name = folder.name
+        self.is_unread = (folder / "unread").exists()
         self.method = (lines_of(folder / "under") or ["hmac-sha256"])[0]
         printed = iter(lines_of(folder / "printed"))
         replies = iter(lines_of(folder / "replies"))
@@ -40,16 +41,19 @@ class Row:
         if list(printed) or list(replies):
             raise SystemExit("row %s: more answers than lines" % self.name)
 
+    def asks(self, line):
+        return not self.is_unread and is_command(line)
+
     def given(self):
         out = ["row " + self.name, "@ " + self.method]
         for line, answer, reply in self.steps:
-            asks = is_command(line)
+            asks = self.asks(line)
             out += [("> " if asks else "? ") + line] + [("< " if asks else "! ") + answer] * bool(line) + ["= " + reply] * bool(reply)
         return "\n".join(out) + "\n"
 
     def wanted(self):
         answered = [step for step in self.steps if step[0]]
-        asked = [step for step in answered if is_command(step[0])]
+        asked = [step for step in answered if self.asks(step[0])]
         texts = sum(bool(reply) for _, _, reply in answered)
         return tells(self.name, len(answered), len(answered), len(asked) + texts, len(answered) + texts) + "\n"
 
@@ -108,5 +112,5 @@ if __name__ == "__main__":
         (CRATE / "stdin").write_text(given(), encoding="ascii")
         (CRATE / "stdout").write_text(wanted(), encoding="ascii")
     for name in differing():
-        print("crates/worked_rows/%s isn't what rows/ says" % name)
+        print("crates/up_test_worked_rows/%s isn't what rows/ says" % name)
     sys.exit(bool(differing()))
