@@ -1,8 +1,8 @@
 use Rattle.std.proofs.Common.{ap, sym, ◌∙◌}
 use Rattle.std.specs.Prelude.{is_none}
 use Rattle.up_machine.specs.declared.rows.EcuRow.{EcuRow}
-use Rattle.up_machine_tests.proofs.RepeatedNames.{repeated-passes, repeated-found}
-use Rattle.up_machine_tests.proofs.conditions.are_distinct.Goals as goal
+use Rattle.up_test_decisions.proofs.RepeatedNames.{repeated-passes, repeated-found}
+use Rattle.up_test_decisions.proofs.conditions.are_distinct.Goals as goal
 
 pub loop-i-preserved : goal.loop-i-preserved
 loop-i-preserved c =
