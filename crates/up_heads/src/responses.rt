@@ -77,11 +77,23 @@ fn error_text(alloc: Global, number: u32, text: &str) -> Result<String, AllocErr
 }
 
 /// The response to a request that fails a check.
-pub fn check_response(alloc: Global, check: Check, last: bool, head: bool) -> Result<String, AllocError>
+pub fn check_response(
+    alloc: Global,
+    check: Check,
+    last: bool,
+    head: bool,
+) -> Result<String, AllocError>
     ensures { IfOk result (λ text. string_bytes text ≡ check_response_of check last head) }
 {
     let body = error_text(alloc, check_number(check), check_text(check))?;
-    response_text(alloc, check_status(check), check_allow(check), last, head, body.as_str())
+    response_text(
+        alloc,
+        check_status(check),
+        check_allow(check),
+        last,
+        head,
+        body.as_str(),
+    )
 }
 
 /// The status of a check.
@@ -113,7 +125,11 @@ fn check_allow(check: Check) -> Option<Allow>
 fn check_number(check: Check) -> u32
     ensures { result ≡ (check_row check).number }
 {
-    if matches!(check, Check::TooLarge) { 4 } else { 0 }
+    if matches!(check, Check::TooLarge) {
+        4
+    } else {
+        0
+    }
 }
 
 /// The words of a check.
@@ -131,13 +147,25 @@ fn check_text(check: Check) -> &'static str
 }
 
 /// The response to a request that is refused.
-pub fn refusal_response(alloc: Global, refusal: &Refusal, last: bool, head: bool) -> Result<String, AllocError>
+pub fn refusal_response(
+    alloc: Global,
+    refusal: &Refusal,
+    last: bool,
+    head: bool,
+) -> Result<String, AllocError>
     ensures { IfOk result (λ text. string_bytes text ≡ refusal_response_of refusal.now last head) }
 {
     let number = refusal.number();
     let text = refusal.text(alloc)?;
     let body = error_text(alloc, number, text.as_str())?;
-    response_text(alloc, refusal_status(number), None, last, head, body.as_str())
+    response_text(
+        alloc,
+        refusal_status(number),
+        None,
+        last,
+        head,
+        body.as_str(),
+    )
 }
 
 /// The status of a refusal, by its number.
