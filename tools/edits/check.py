@@ -24,7 +24,7 @@ GONE = re.compile(r"has no field|has no `|not in scope|is no name|not admitted")
 FUNCTION = re.compile(r"fn (\S+): (.*)")
 ITEM = re.compile(r"(?:fn|struct|enum|trait|impl) \S+: ")
 OPEN_GOALS = re.compile(r"`search` did not prove ([^;]*)")
-WAITS = re.compile(r"no proof: it calls `[^`]+`, which is not proved")
+WAITS = re.compile(r"no proof: it calls `.+`, which (?:is|are) not proved")
 NO_VERDICT = re.compile(r"(?m)^fn \S+: could not tell|^rattle: no verdict")
 # How the last line begins where antt's run has ended and not all is proved: of a whole crate, and of the functions that it was asked for.
 NOT_PROVED = ("logic=not-proved", "only=")
@@ -72,6 +72,12 @@ class Bench:
             if not mine or is_refused or not all(it.startswith("proved") or WAITS.fullmatch(it) for it in mine):
                 return f"{path}, {function.name} is not proved as it stands: {said.why or ' | '.join(mine)[:200] or 'no line tells of it'}"
         return said.why
+
+    def prove_anew(self, jobs):
+        """Proves the whole crate as it stands, from nothing. Returns why no edit can be judged on it, or None."""
+        os.mkdir(self.kept)
+        said = self.check({}, self.kept, jobs, "as it stands, from nothing")
+        return None if said.status == 0 else f"{self.crate.name} is not proved as it stands: {said.why or _first_error(said.lines)}"
 
     def _leave_out_all_but(self, functions):
         """Leaves out the bodies of the functions that have neither the name nor the cycle of one of these, and what proofs/ has for them."""
