@@ -9,7 +9,8 @@ use crate::rows::{campaign, ecu, file, image, kept, role_key, vehicle};
 use crate::writes::{
     write_accept, write_campaign, write_close, write_files, write_image, write_root, write_vehicle,
 };
-use sqlite::Connection;
+use sqlite::{Alter, Connection};
+use std::alloc::Global;
 use std::test::Fail;
 use up_tables::meta::MetaRow;
 use up_tables::values::StoreFault;
@@ -119,16 +120,7 @@ fn manifests_are_accepted(rt: HostRuntime) -> Result<(), Fail> {
         ecu_names(rt.alloc(), &read_ecus(&mut conn, rt.alloc())?)?.as_str(),
         "P1= A1= "
     );
-    let told = vec![in rt.alloc();
-        ecu(rt.alloc(), "P1", Some("p.bin"))?,
-        ecu(rt.alloc(), "A1", None)?,
-    ]?;
-    write_accept(
-        &mut conn,
-        &vehicle(rt.alloc(), "P1", 1)?,
-        &told,
-        &kept(rt.alloc(), 1)?,
-    )?;
+    accept_report(rt.alloc(), &mut conn)?;
     assert_eq!(rt;
         ecu_names(rt.alloc(), &read_ecus(&mut conn, rt.alloc())?)?.as_str(),
         "P1=p.bin A1= "
@@ -143,6 +135,13 @@ fn manifests_are_accepted(rt: HostRuntime) -> Result<(), Fail> {
         "reply"
     );
     assert!(rt; read_kept(&mut conn, 2)?.is_none());
+    Ok(())
+}
+
+/// The vehicle's first manifest, in which its Primary reports an image.
+fn accept_report<S: Alter>(alloc: Global, conn: &mut Connection<S>) -> Result<(), Fail> {
+    let told = vec![in alloc; ecu(alloc, "P1", Some("p.bin"))?, ecu(alloc, "A1", None)?]?;
+    write_accept(conn, &vehicle(alloc, "P1", 1)?, &told, &kept(alloc, 1)?)?;
     Ok(())
 }
 
