@@ -7,7 +7,7 @@
 use crate::answers::answer;
 use crate::lines::in_full;
 use crate::register::{Register, set_versions};
-use second_scheme::hashed::Hashed;
+use up_test_scheme::hashed::Hashed;
 use std::alloc::{AllocError, Global};
 use std::process::Abort;
 use std::test::Fail;

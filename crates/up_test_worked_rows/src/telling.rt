@@ -6,10 +6,10 @@ use crate::compared::compared;
 use crate::marked::marked;
 use crate::scripts::by_script;
 use crate::ways::{by_calls, by_run};
-use second_scheme::hashed::Hashed;
 use std::alloc::{AllocError, Global};
 use up_sign::hmac_sha256::HmacSha256;
 use up_sign::scheme::Scheme;
+use up_test_scheme::hashed::Hashed;
 
 /// How many lines each way of carrying out the row answered as the row says, or where they differ.
 pub(crate) fn told(alloc: Global, row: &str) -> Result<String, AllocError> {

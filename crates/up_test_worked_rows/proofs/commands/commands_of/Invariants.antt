@@ -1,7 +1,7 @@
 use Rattle.std.proofs.Common.{IsTrue}
 use Rattle.std.specs.List.{AllByRecursion}
 use Rattle.up_machine.specs.Commands.{opens_running}
-use Rattle.worked_rows.proofs.commands.commands_of.Given as goal
+use Rattle.up_test_worked_rows.proofs.commands.commands_of.Given as goal
 
 -- the campaigns that the commands so far open are running
 abbrev pub invariant-loop-line : goal.invariant-loop-line

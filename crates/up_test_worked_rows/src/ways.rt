@@ -1,5 +1,6 @@
 //! Rows as runs and as calls. Behind the line of a reply stands the reply's text.
 ghost use Rattle.std.specs.Prelude.{IsTrue};
+ghost use Rattle.std.specs.List.{AllByRecursion};
 ghost use Rattle.up_machine.specs.Commands.{opens_running};
 ghost use Rattle.up_script.specs.AskedLines.{asks_running};
 
@@ -7,6 +8,7 @@ use crate::commands::commands_of;
 use crate::marked::push_line;
 use std::alloc::{AllocError, Global};
 use up_canon::ident::Ident;
+use up_canon::listed::Duplicate;
 use up_canon::refusal::Refusal;
 use up_desk::desk::Desk;
 use up_machine::answer::Answer;
@@ -21,11 +23,24 @@ pub(crate) fn by_run<K: Scheme>(
     scheme: K,
     lines: &str,
 ) -> Result<String, AllocError> {
-    let commands = commands_of(alloc, &scheme, lines)?;
-    let mut desk = Desk::new(scheme, alloc);
+    match commands_of(alloc, &scheme, lines) {
+        Ok(commands) => run_at(alloc, &mut Desk::new(scheme, alloc), commands.as_slice()),
+        Err(refused) => Err(refused),
+    }
+}
+
+fn run_at<K: Scheme>(
+    alloc: Global,
+    desk: &mut Desk<K>,
+    commands: &[(u64, Command)],
+) -> Result<String, AllocError>
+    requires { AllByRecursion (λ c. IsTrue (opens_running c.1)) commands.now }
+{
     let mut answers = Vec::new(alloc);
-    desk.run(alloc, commands.as_slice(), &mut answers)?;
-    all_answers(alloc, answers.as_slice())
+    match desk.run(alloc, commands, &mut answers) {
+        Ok(()) => all_answers(alloc, answers.as_slice()),
+        Err(refused) => Err(refused),
+    }
 }
 
 fn all_answers(alloc: Global, answers: &[Answer]) -> Result<String, AllocError> {
@@ -50,11 +65,18 @@ pub(crate) fn by_calls<K: Scheme>(
     scheme: K,
     lines: &str,
 ) -> Result<String, AllocError> {
-    let mut desk = Desk::new(scheme, alloc);
+    called_at(alloc, &mut Desk::new(scheme, alloc), lines)
+}
+
+fn called_at<K: Scheme>(
+    alloc: Global,
+    desk: &mut Desk<K>,
+    lines: &str,
+) -> Result<String, AllocError> {
     let mut out = String::new(alloc);
     for line in lines.lines() {
         if !line.is_empty() {
-            push_called(alloc, &mut desk, &mut out, line)?;
+            push_called(alloc, desk, &mut out, line)?;
         }
     }
     Ok(out)
@@ -90,6 +112,7 @@ fn push_asked<K: Scheme>(
     }
 }
 
+/// Calls the desk with a copy of the command, and tells a copy of its answer.
 fn push_answered<K: Scheme>(
     alloc: Global,
     desk: &mut Desk<K>,
@@ -99,8 +122,14 @@ fn push_answered<K: Scheme>(
 ) -> Result<(), AllocError>
     requires { IsTrue (opens_running command.now) }
 {
-    let answer = call_again(alloc, desk, at, command);
-    push_answer(alloc, out, &answer)
+    let copied = command.copy(alloc)?;
+    let answer = call_again(alloc, desk, at, &copied);
+    push_copy(alloc, out, &answer)
+}
+
+fn push_copy(alloc: Global, out: &mut String, answer: &Answer) -> Result<(), AllocError> {
+    let copied = answer.copy(alloc)?;
+    push_answer(alloc, out, &copied)
 }
 
 /// The desk's answer, and where memory was refused that of the same command called once more.
