@@ -12,12 +12,13 @@ use std::alloc::{AllocError, Global};
 use up_canon::bytes::Bytes;
 use up_canon::count::Count;
 use up_canon::ident::Ident;
+use up_canon::listed::Duplicate;
 use up_canon::moment::Moment;
 use up_canon::refusal::Refusal;
 use up_machine::answer::Reply;
 use up_machine::decide_manifest::{DeliveryRows, decide_manifest};
 use up_machine::decision::{AcceptedRows, Delivered};
-use up_machine::rows::Kept;
+use up_machine::rows::{Kept, VehicleRows};
 use up_manifest::manifest::Incoming;
 use up_plan::assigned::Plan;
 use up_sign::scheme::Scheme;
@@ -146,19 +147,26 @@ fn accepted(
     register: &mut Register,
     rows: AcceptedRows,
 ) -> Result<String, AllocError> {
-    let text = accepted_text(alloc, &rows);
-    keep_accepted(alloc, register, rows)?;
-    text
+    keep_copies(alloc, register, &rows)?;
+    accepted_text(alloc, &rows)
 }
 
-fn keep_accepted(
+/// Keeps copies of the rows, over which later decisions are made.
+fn keep_copies(
     alloc: Global,
     register: &mut Register,
-    rows: AcceptedRows,
+    rows: &AcceptedRows,
 ) -> Result<(), AllocError> {
-    let AcceptedRows { vehicle, kept } = rows;
-    register.kept.push(kept)?;
+    register.kept.push(rows.kept.copy(alloc)?)?;
+    let vehicle = copied(alloc, &rows.vehicle)?;
     put_vehicle(alloc, &mut register.vehicles, vehicle)
+}
+
+fn copied(alloc: Global, rows: &VehicleRows) -> Result<VehicleRows, AllocError> {
+    Ok(VehicleRows {
+        vehicle: rows.vehicle.copy(alloc)?,
+        ecus: rows.ecus.copy(alloc)?,
+    })
 }
 
 fn accepted_text(alloc: Global, rows: &AcceptedRows) -> Result<String, AllocError> {

@@ -54,13 +54,25 @@ fn digest_of_abc() -> &'static str {
     "ba7816bf8f01cfea414140de5dae2223b00361a396177a9cb410ff61f20015ad"
 }
 
-/// A key of 32 times the byte.
-fn key(byte: &str) -> [u8; 32] {
-    [byte.parse().unwrap_or(0); 32]
+/// A key of 32 times the byte, in hex; no hex where it is no byte.
+fn secret(alloc: Global, byte: &str) -> Result<String, AllocError> {
+    match byte.parse::<u8>() {
+        Ok(byte) => hex::encode(alloc, [byte; 32]),
+        Err(_) => "no byte".to_string(alloc),
+    }
 }
 
-fn secret(alloc: Global, byte: &str) -> Result<String, AllocError> {
-    hex::encode(alloc, key(byte))
+/// The public part of a key of 32 times the byte, in hex.
+fn public<K: Scheme>(alloc: Global, scheme: &K, byte: &str) -> Result<String, AllocError> {
+    match byte.parse::<u8>() {
+        Ok(byte) => public_of(alloc, scheme, [byte; 32]),
+        Err(_) => "no byte".to_string(alloc),
+    }
+}
+
+fn public_of<K: Scheme>(alloc: Global, scheme: &K, key: [u8; 32]) -> Result<String, AllocError> {
+    let public = scheme.public(alloc, &key[..])?;
+    hex::encode(alloc, public.as_slice())
 }
 
 /// A role with one key.
@@ -77,8 +89,7 @@ fn new_ecu<K: Scheme>(
     hardware: &str,
     byte: &str,
 ) -> Result<String, AllocError> {
-    let public = scheme.public(alloc, &key(byte)[..])?;
-    let public = hex::encode(alloc, public.as_slice())?;
+    let public = public(alloc, scheme, byte)?;
     format!(in alloc; "{{'ecu':'{ecu}','hardware':'{hardware}','key':'{public}'}}")
 }
 

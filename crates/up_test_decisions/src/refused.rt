@@ -9,3 +9,9 @@ pub(crate) fn refused(alloc: Global, refusal: Refusal) -> Result<String, AllocEr
         other => other.text(alloc),
     }
 }
+
+/// Why a line is unread.
+pub(crate) fn unread(alloc: Global, refusal: Refusal) -> Result<String, AllocError> {
+    let why = refused(alloc, refusal)?;
+    format!(in alloc; "unread: {why}")
+}

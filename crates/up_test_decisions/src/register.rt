@@ -15,6 +15,8 @@ pub(crate) struct Register {
     pub(crate) vehicles: Table<VehicleRows>,
     pub(crate) campaigns: Table<Campaign>,
     pub(crate) kept: Vec<Kept>,
+    /// The text of the file that is fetched.
+    pub(crate) text: Option<Text>,
     /// Whether a new image is put without a decision.
     pub(crate) puts_images: bool,
     /// Whether a manifest is given spaces round its commas.
@@ -30,6 +32,7 @@ impl Register {
             vehicles: Table::new(alloc),
             campaigns: Table::new(alloc),
             kept: Vec::new(alloc),
+            text: None,
             puts_images: false,
             respells: false,
         }

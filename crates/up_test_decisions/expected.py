@@ -1,4 +1,5 @@
-"""Prints the answers that the tests of this crate expect where they have digests, under each scheme: made by Python's own libraries from the formats in docs/FORMATS.md."""
+"""Prints the answers that the rows of this crate want where they have digests, under each scheme: made by Python's own
+libraries from the formats in docs/FORMATS.md."""
 import hashlib, hmac, json, datetime
 H = lambda b: hashlib.sha256(b).hexdigest()
 canon = lambda v: json.dumps(v, sort_keys=True, separators=(",", ":"))

@@ -4,15 +4,15 @@ ghost use Rattle.up_canon.specs.Moments.{last_command_moment};
 
 use crate::campaigns::{close, open};
 use crate::conditions::command_moment;
+use crate::files::fetch;
 use crate::images::{new_image, refresh};
 use crate::manifests::deliver;
-use crate::refused::refused;
+use crate::refused::unread;
 use crate::register::Register;
 use crate::roots::{found, rotate};
 use crate::vehicles::add_vehicle;
 use std::alloc::{AllocError, Global};
 use up_canon::moment::Moment;
-use up_canon::refusal::Refusal;
 use up_machine::command::Command;
 use up_script::asked::{Asked, What, asked_by};
 use up_sign::scheme::Scheme;
@@ -28,11 +28,6 @@ pub(crate) fn answer<K: Scheme>(
         Ok(asked) => asked_answer(alloc, scheme, register, asked),
         Err(refusal) => unread(alloc, refusal),
     }
-}
-
-fn unread(alloc: Global, refusal: Refusal) -> Result<String, AllocError> {
-    let why = refused(alloc, refusal)?;
-    format!(in alloc; "unread: {why}")
 }
 
 fn asked_answer<K: Scheme>(
@@ -68,6 +63,6 @@ fn command_answer<K: Scheme>(
         Command::OpenCampaign(campaign) => open(alloc, at, register, campaign),
         Command::CloseCampaign(name) => close(alloc, at, register, name),
         Command::Deliver(body) => deliver(alloc, scheme, at, register, body),
-        Command::Fetch(_, _) => "no decision".to_string(alloc),
+        Command::Fetch(_, _) => fetch(alloc, at, register),
     }
 }
