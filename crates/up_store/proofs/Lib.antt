@@ -12,3 +12,5 @@ pub mod VehiclePuts
 pub mod FoundingReads
 pub mod RootPuts
 pub mod MadeRows
+pub mod RootFiles
+pub mod AcceptPuts
