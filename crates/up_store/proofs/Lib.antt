@@ -14,3 +14,9 @@ pub mod RootPuts
 pub mod MadeRows
 pub mod RootFiles
 pub mod AcceptPuts
+pub mod ColumnReads
+pub mod ColumnFound
+pub mod ColumnPuts
+pub mod WholeTables
+pub mod ValuesWhere
+pub mod ColumnTables
