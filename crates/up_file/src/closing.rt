@@ -8,8 +8,9 @@ use sqlite::{Connection, FileStore, Files};
 use sqlite_disk::Disk;
 use up_tables::values::{StoreFault, fault_of};
 
-/// Copies the log into the database file, and gives the files back: the database file then holds the last commit by itself, also after a crash.
-/// After a fault the two files hold it together, as they did before. What no transaction committed is left out.
+/// Copies the log into the database file, and gives the files back: the database file then holds the last
+/// commit by itself, also after a crash. After a fault the two files hold it together, as they did before.
+/// What no transaction committed is left out.
 pub fn close_file<D: Disk + Drop>(conn: Connection<FileStore<D>>) -> Result<Files<D>, StoreFault>
     ensures copied { IfOk result (λ files. AreClean D.Disk files.log files.db → IsCopied conn files) }
 {

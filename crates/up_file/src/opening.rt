@@ -17,10 +17,11 @@ use up_tables::open::OpenFault;
 /// The file's owner may read and write it, and nobody else may do anything.
 const FOR_OWNER: u32 = 0o600;
 
-/// Opens the database file at the path, which no other program then can, until the connection is dropped. Where nothing has that name, an empty
-/// database is made: for its owner alone, its log too, and with a sum on each page, so that a later open finds most bits that changed in between.
-/// `Memory` for want of memory, and `Store` for all else: a path that can't be opened or is `:memory:` or a URI, a file that another program has
-/// open, and one that holds no sound database.
+/// Opens the database file at the path, which no other program then can, until the connection is dropped.
+/// Where nothing has that name, an empty database is made: for its owner alone, its log too, and with a sum
+/// on each page, so that a later open finds most bits that changed in between. `Memory` for want of memory,
+/// and `Store` for all else: a path that can't be opened or is `:memory:` or a URI, a file that another
+/// program has open, and one that holds no sound database.
 ///
 /// `start` stands for what the files hold: no clause ties them to the path.
 pub fn open_file<S: Start>(
