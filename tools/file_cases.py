@@ -113,6 +113,17 @@ def flipped(program, own):
     yield "%d flipped bits, of which %d were refused" % (BITS, refused), wanted is not None and not wrong
 
 
+def operated(program, own):
+    """The operator's first days, a start of the program for each part of the script, over one file and its copies."""
+    folder, path, told = trials.TOP / "examples" / "operating", own / "operated", []
+    for part in (folder / "script").read_text(encoding="ascii").split("\n\n"):
+        answers = trials.printed(program, path, part.split("\n"))
+        told += answers or ["no answer"]
+        path = trials.copied(path, own / ("after%d" % len(told)))
+    yield "an operator's first days", told == (folder / "printed").read_text(encoding="ascii").split("\n")[:-1]
+    yield "the last copy is whole", trials.faults(path) == []
+
+
 # ---- kills
 
 
@@ -168,7 +179,7 @@ def kills(program, own, number):
 
 
 def cases(program, number=100):
-    for part in (modes, seconds, rests, flipped):
+    for part in (modes, seconds, rests, operated, flipped):
         with trials.folder() as own:
             yield from part(program, own)
     with trials.folder() as own:

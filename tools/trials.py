@@ -8,6 +8,7 @@ from pathlib import Path
 
 import reference
 
+TOP = Path(__file__).resolve().parent.parent
 TABLES = ["meta", "role_key", "repo_file", "image", "campaign", "vehicle", "ecu", "kept"]
 NO_DATABASE = b"uptane_desk: cannot open the database\n"
 
