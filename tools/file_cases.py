@@ -86,7 +86,7 @@ def rests(program, own):
     told = trials.printed(program, path, DAY)
     trials.log_of(path).unlink(missing_ok=True)
     yield "without its log the file is whole", trials.faults(path) == []
-    yield "and has everything", trials.printed(program, path, SHOWS) == trials.expected(":memory:", DAY + SHOWS)[-5:]
+    yield "and has everything", trials.printed(program, path, SHOWS) == trials.expected(":memory:", DAY + SHOWS)[-len(SHOWS) :]
     yield "the day", told == trials.expected(":memory:", DAY)
 
 
