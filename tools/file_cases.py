@@ -171,9 +171,10 @@ def kills(program, own, number):
         path = own / ("killed%d" % at)
         told = killed(program, path, DAY, at * len(DAY) // number, rng.random() * 0.002)
         stopped += len(told) < len(DAY)
-        whole = trials.faults(path) == [] if path.exists() and path.stat().st_size else True
+        # a kill before the first answer can leave a file of which only the program makes a database
+        whole = not told or trials.faults(path) == []
         well = whole and repeated(program, path, told, answers) and trials.rows(path) == wanted
-        if not well:
+        if not well or trials.faults(path):
             yield "killed after %d answers" % len(told), False
     yield "%d kills, %d of them before the end" % (number, stopped), stopped > number // 2
 

@@ -13,7 +13,7 @@ TABLES = ["meta", "role_key", "repo_file", "image", "campaign", "vehicle", "ecu"
 NO_DATABASE = b"uptane_desk: cannot open the database\n"
 
 
-def run(program, path, script, limit=60):
+def run(program, path, script, limit=120):
     """The status, the bytes printed and the message of a script, given as lines, over a database."""
     words = [str(program), "run", str(path)]
     given = b"".join((line if isinstance(line, bytes) else line.encode()) + b"\n" for line in script)
@@ -21,7 +21,7 @@ def run(program, path, script, limit=60):
     return ran.returncode, ran.stdout, ran.stderr
 
 
-def printed(program, path, script, limit=60):
+def printed(program, path, script, limit=120):
     """The lines printed; none where the run didn't end well."""
     status, out, err = run(program, path, script, limit)
     return None if status or err else out.decode("ascii").split("\n")[:-1]
