@@ -23,7 +23,6 @@ import fleet
 import trials
 
 DAY = list(fleet.script(vehicles=5, ecus=3, rounds=3, images=6, campaigns=2, seed=4))
-SETUP = [line for line in DAY if '"do":"bench"' not in line and '"do":"show"' not in line and '"do":"fetch"' not in line]
 SHOWS = [fleet.line("show", vehicle="v%06d" % number) for number in range(5)]
 FILES = [line for line in DAY if '"do":"fetch"' in line]
 BITS = 100
@@ -39,7 +38,8 @@ def modes(program, own):
     yield "it is its owner's alone", mode(path) == 0o600
     yield "and so is its log", not trials.log_of(path).exists() or mode(trials.log_of(path)) == 0o600
     os.chmod(path, 0o640)
-    yield "the mode of a file that is there stays", trials.printed(program, path, SHOWS[:1]) is not None and mode(path) == 0o640
+    told = trials.printed(program, path, SHOWS[:1])
+    yield "the mode of a file that is there stays", told is not None and mode(path) == 0o640
     path = own / "empty"
     path.touch(0o640)
     yield "an empty file is taken", trials.printed(program, path, DAY[:1]) == ["done"]
@@ -86,7 +86,8 @@ def rests(program, own):
     told = trials.printed(program, path, DAY)
     trials.log_of(path).unlink(missing_ok=True)
     yield "without its log the file is whole", trials.faults(path) == []
-    yield "and has everything", trials.printed(program, path, SHOWS) == trials.expected(":memory:", DAY + SHOWS)[-len(SHOWS) :]
+    wanted = trials.expected(":memory:", DAY + SHOWS)[-len(SHOWS) :]
+    yield "and has everything", trials.printed(program, path, SHOWS) == wanted
     yield "the day", told == trials.expected(":memory:", DAY)
 
 

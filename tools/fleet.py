@@ -1,7 +1,8 @@
 #!/usr/bin/env python3
 """Prints a script of a fleet: the same for the same words.
 
-    fleet.py [--vehicles N] [--ecus N] [--rounds N] [--images N] [--campaigns N] [--seed N] [--repeats SHARE] [--deliver]
+    fleet.py [--vehicles N] [--ecus N] [--rounds N] [--images N] [--campaigns N] [--seed N] [--repeats SHARE]
+             [--deliver] [--from-round N]
 
 It founds, adds vehicles and images, opens campaigns, and goes so many rounds of manifests over all vehicles, each
 round in another order, a share of them sent again: half of these the one just before, half any earlier one. At the
@@ -44,7 +45,8 @@ def key_set(first):
 def report_text(told):
     image = {"file": told["file"], "hashes": {"sha256": told["sha256"]}, "length": told["length"]}
     payload = {"attack": told.get("attack", ""), "counter": told["counter"], "ecu": told["ecu"], "image": image}
-    return sealed([bytes.fromhex(told["key"])], canonical(payload | {"time": moment(told["time"]), "type": "report"}))
+    payload |= {"time": moment(told["time"]), "type": "report"}
+    return sealed([bytes.fromhex(told["key"])], canonical(payload))
 
 
 def body(told):
@@ -72,7 +74,8 @@ class Fleet:
     def ecus_of(self, vehicle, number):
         others = self.hardware[1:] or self.hardware
         kinds = [self.hardware[0]] + [others[i % len(others)] for i in range(number - 1)]
-        return [("%s-e%d" % (vehicle, i), kind, digest("%d %s %d" % (self.seed, vehicle, i))) for i, kind in enumerate(kinds)]
+        secret = lambda i: digest("%d %s %d" % (self.seed, vehicle, i))
+        return [("%s-e%d" % (vehicle, i), kind, secret(i)) for i, kind in enumerate(kinds)]
 
     def new_images(self, number):
         """The releases of each hardware rise; some images have a need or a conflict."""
@@ -141,7 +144,8 @@ class Fleet:
         for name in order:
             ecus = self.vehicles[name]
             reports = [self.report(number, name, *ecu) for ecu in ecus]
-            yield {"vehicle": name, "primary": ecus[0][0], "key": ecus[0][2], "counter": number, "reports": reports}
+            told = {"vehicle": name, "primary": ecus[0][0], "key": ecus[0][2], "counter": number}
+            yield told | {"reports": reports}
 
     def round(self, number, share, history, delivers):
         at = START + 3600 * number

@@ -19,8 +19,8 @@ import trials
 START = fleet.START
 MOST = 2**53 - 1
 KINDS = ["HP", "HS", "HT"]
-WORDS = ["%d" % MOST, "%d" % (MOST + 1), "-1", "1.0", "1e3", "1e999", '""', "null", "true", "[]", "{}", '"all"', "00", '"\\u00e9"',
-         '"\\ud800"', '"' + 65 * "a" + '"', "[[[[[[[[[[[[[[[[[[[]]]]]]]]]]]]]]]]]]]"]
+WORDS = ["%d" % MOST, "%d" % (MOST + 1), "-1", "1.0", "1e3", "1e999", '""', "null", "true", "[]", "{}", '"all"',
+         "00", '"\\u00e9"', '"\\ud800"', '"' + 65 * "a" + '"', "[[[[[[[[[[[[[[[[[[[]]]]]]]]]]]]]]]]]]]"]
 
 
 class Script:
@@ -110,7 +110,8 @@ class Script:
         counter = max(1, last + rng.choice([1, 1, 1, 1, 1, 7, 0, -1]))
         self.counters[vehicle] = max(last, counter)
         reports = [self.report(ecu) for ecu in ecus]
-        told = {"vehicle": vehicle, "primary": ecus[0]["ecu"], "key": ecus[0]["key"], "counter": counter, "reports": reports}
+        told = {"vehicle": vehicle, "primary": ecus[0]["ecu"], "key": ecus[0]["key"], "counter": counter}
+        told["reports"] = reports
         if self.some(0.12):
             wrong = rng.choice(["primary", "key", "report", "missing", "twice", "unknown", "order"])
             if wrong == "primary":
@@ -151,8 +152,8 @@ class Script:
         self.add("deliver", body=body)
 
     def fetch(self):
-        name = self.rng.choice(["root.json", "1.root.json", "2.root.json", "01.root.json", "targets.json", "snapshot.json",
-                                "timestamp.json", "no"])
+        name = self.rng.choice(["root.json", "1.root.json", "2.root.json", "01.root.json", "targets.json",
+                                "snapshot.json", "timestamp.json", "no"])
         self.add("fetch", repository=self.rng.choice(["director", "image"]), file=name)
 
     def show(self):
@@ -161,8 +162,8 @@ class Script:
     def refresh(self):
         self.add("refresh", version=self.rng.choice([1, 5, 40, 80, MOST] if self.some(0.05) else [5, 20, 40]))
 
-    WEIGHTS = {"add_vehicle": 8, "add_image": 8, "open_campaign": 6, "close_campaign": 1, "bench": 30, "deliver": 16, "fetch": 5,
-               "show": 6, "refresh": 1}
+    WEIGHTS = {"add_vehicle": 8, "add_image": 8, "open_campaign": 6, "close_campaign": 1, "bench": 30, "deliver": 16,
+               "fetch": 5, "show": 6, "refresh": 1}
 
     def step(self):
         rng = self.rng
@@ -193,8 +194,10 @@ class Script:
 
 def damaged(rng, line):
     """One byte is changed, taken out or put in, or the line is cut there."""
-    at, byte = rng.randrange(len(line) + 1), bytes([rng.choice(b'"{}[],:0189aeE\\ x\n') if rng.random() < 0.7 else rng.randrange(256)])
-    return rng.choice([line[:at] + byte + line[at + 1 :], line[:at] + line[at + 1 :], line[:at] + byte + line[at:], line[:at]])
+    at = rng.randrange(len(line) + 1)
+    byte = bytes([rng.choice(b'"{}[],:0189aeE\\ x\n') if rng.random() < 0.7 else rng.randrange(256)])
+    before, here, after = line[:at], line[at : at + 1], line[at + 1 :]
+    return rng.choice([before + byte + after, before + after, before + byte + here + after, before])
 
 
 def worded(rng, line):

@@ -1,7 +1,7 @@
 #!/usr/bin/env python3
-"""The rules once more, in plain Python over SQLite's own tables: what scripts print and what the tables hold is compared with it.
+"""The rules once more, in plain Python over SQLite's own tables: what is printed and kept is compared with it.
 
-    reference.py run FILE < SCRIPT      carries a script out; FILE is `:memory:`, or is made where it isn't there
+    reference.py run FILE < SCRIPT      FILE is `:memory:`, or is made where it isn't there
 
 It is slow and short, and tests nothing of a database's own. The tables are those of `docs/TABLES.md`.
 """
@@ -25,10 +25,10 @@ METHOD = "hmac-sha256"
 MOST = 2**53 - 1
 LAST_MOMENT, LAST_AT = 253402300799, 4102444800
 NAMES = dict(enumerate(
-    """Memory Store MomentOutOfRange TooLarge NotJson NotCanonical BadShape NotFounded AlreadyFounded UnknownVehicle
-    WrongPrimary BadManifestSignature Stale UnknownEcu DuplicateEcu MissingEcu BadReportSignature ReportReplayed ImageTaken
-    RegisterFull VersionLimit VehicleTaken EcuTaken CampaignTaken UnknownCampaign UnknownImage WrongHardware
-    VersionNotGreater UnknownFile RootFull""".split(), 1))
+    """Memory Store MomentOutOfRange TooLarge NotJson NotCanonical BadShape NotFounded AlreadyFounded
+    UnknownVehicle WrongPrimary BadManifestSignature Stale UnknownEcu DuplicateEcu MissingEcu
+    BadReportSignature ReportReplayed ImageTaken RegisterFull VersionLimit VehicleTaken EcuTaken
+    CampaignTaken UnknownCampaign UnknownImage WrongHardware VersionNotGreater UnknownFile RootFull""".split(), 1))
 PAGE = Path(__file__).resolve().parent.parent / "docs" / "TABLES.md"
 
 
@@ -154,7 +154,8 @@ def is_signed(envelope, key):
 
 
 def read_envelope(value):
-    signatures = member(value, "signatures", lambda v: isinstance(v, list) and 1 <= len(v) <= 8 and all(map(OBJECT, v)))
+    fits = lambda v: isinstance(v, list) and 1 <= len(v) <= 8 and all(map(OBJECT, v))
+    signatures = member(value, "signatures", fits)
     for signature in signatures:
         for name, holds in (("keyid", KEYID), ("method", METHODS), ("sig", SIG)):
             member(signature, name, holds)
@@ -185,7 +186,8 @@ def read_report(value):
     member(signed, "attack", NOTE)
     image = member(signed, "image", OBJECT)
     told |= {"file": member(image, "file", FILE), "length": member(image, "length", COUNT)}
-    return told | {"sha256": hash_of(member(image, "hashes", OBJECT)), "envelope": value, "text": canonical(signed)}
+    told["sha256"] = hash_of(member(image, "hashes", OBJECT))
+    return told | {"envelope": value, "text": canonical(signed)}
 
 
 def read_manifest(body):
@@ -214,7 +216,8 @@ def read_role(value):
 
 
 def read_keys(line):
-    return {r: {role: read_role(member(member(line, r, OBJECT), role, OBJECT)) for role in ROLES} for r in REPOSITORIES}
+    keys = lambda told: {role: read_role(member(told, role, OBJECT)) for role in ROLES}
+    return {repository: keys(member(line, repository, OBJECT)) for repository in REPOSITORIES}
 
 
 def read_ecu(value):
@@ -236,7 +239,8 @@ def read_need(value):
 
 
 def read_image(line):
-    image = {"file": member(line, "file", FILE), "length": member(line, "length", COUNT), "sha256": hash_of(line)}
+    image = {"file": member(line, "file", FILE), "length": member(line, "length", COUNT)}
+    image["sha256"] = hash_of(line)
     image["hardware"], few = names(line, "hardware", IDENT, 1, 16)
     image["release"] = member(line, "release", COUNT)
     image["needs"] = list(each(member({"needs": []} | line, "needs", LIST), "needs", read_need))
@@ -299,8 +303,8 @@ def bench_body(line):
 def level(image, ecu):
     """The registered image of what the ECU reported, if there is one for its hardware."""
     it = image.get(ecu["file"])
-    same = it and it["length"] == ecu["length"] and it["sha256"] == ecu["sha256"] and ecu["hardware"] in it["hardware"]
-    return it if same else None
+    same = it and (it["length"], it["sha256"]) == (ecu["length"], ecu["sha256"])
+    return it if same and ecu["hardware"] in it["hardware"] else None
 
 
 def wanted(images, items, ecu):
@@ -370,7 +374,8 @@ class Desk:
         found = {}
         for row in self.all("SELECT * FROM image"):
             told = {k: json.loads(row[k]) for k in ("hardware", "needs", "conflicts")}
-            found[row["file"]] = told | {k: row[k] for k in ("file", "length", "sha256")} | {"release": row["release_count"]}
+            told |= {k: row[k] for k in ("file", "length", "sha256")}
+            found[row["file"]] = told | {"release": row["release_count"]}
         return found
 
     # -- files
@@ -380,8 +385,9 @@ class Desk:
 
     def role_files(self, repository, at, version, targets, more):
         def made(role, members):
-            told = {"expires": moment(at + 86400 * DAYS[repository][role]), "repository": repository, "type": role}
-            return sealed(self.keys(repository, role), canonical(told | {"version": version} | members | more))
+            told = {"expires": moment(at + 86400 * DAYS[repository][role]), "repository": repository}
+            told |= {"type": role, "version": version}
+            return sealed(self.keys(repository, role), canonical(told | members | more))
 
         snapshot = made("snapshot", {"meta": {"targets.json": {"version": version}}})
         entry = {"hashes": {"sha256": hashlib.sha256(snapshot.encode()).hexdigest()}, "version": version}
@@ -399,8 +405,10 @@ class Desk:
                     self.db.execute("INSERT INTO role_key VALUES (?, ?, ?, ?, ?, ?)", row)
         for repository in REPOSITORIES:
             signers = self.keys(repository, "root", root)
-            signers += [k for k in (self.keys(repository, "root", root - 1) if root > 1 else []) if k not in signers]
-            payload = {"expires": moment(at + 86400 * 365), "repository": repository, "type": "root", "version": root}
+            before = self.keys(repository, "root", root - 1) if root > 1 else []
+            signers += [k for k in before if k not in signers]
+            payload = {"expires": moment(at + 86400 * 365), "repository": repository}
+            payload |= {"type": "root", "version": root}
             every = [k for role in ROLES for k in keys[repository][role][0]]
             payload["keys"] = {keyid(k): {"method": METHOD, "public": ""} for k in every}
             payload["roles"] = {role: {"keyids": [keyid(k) for k in keys[repository][role][0]],
@@ -424,7 +432,8 @@ class Desk:
         for repository in REPOSITORIES:
             for role in ROLES:
                 secrets, threshold = keys[repository][role]
-                if not 1 <= len(secrets) <= 4 or any(len(k) != 32 for k in secrets) or len(set(secrets)) < len(secrets):
+                fit = 1 <= len(secrets) <= 4 and all(len(k) == 32 for k in secrets)
+                if not fit or len(set(secrets)) < len(secrets):
                     raise Refused(7, "keys")
                 if not 1 <= threshold <= len(secrets):
                     raise Refused(7, "threshold")
@@ -608,7 +617,8 @@ class Desk:
 
     def accept(self, told, at, vehicle, ecus):
         name, reports = told["vehicle"], {r["ecu"]: r for r in told["reports"]}
-        sql = "UPDATE ecu SET file = :file, length = :length, sha256 = :sha256, counter = :counter, report = :text WHERE ecu = :ecu"
+        sql = ("UPDATE ecu SET file = :file, length = :length, sha256 = :sha256, counter = :counter, report = :text "
+               "WHERE ecu = :ecu")
         for ecu in ecus:
             report = {k: v for k, v in reports[ecu["ecu"]].items() if k != "envelope"}
             self.db.execute(sql, report)
@@ -623,7 +633,8 @@ class Desk:
         files = self.role_files("director", at, version, targets, {"vehicle": name})
         words = root, files["snapshot"], files["targets"], files["timestamp"], name, version
         reply = '{"root":%d,"snapshot":%s,"targets":%s,"timestamp":%s,"vehicle":"%s","version":%d}' % words
-        self.db.execute("UPDATE vehicle SET version = ?, last_counter = ? WHERE vehicle = ?", (version, told["counter"], name))
+        sql = "UPDATE vehicle SET version = ?, last_counter = ? WHERE vehicle = ?"
+        self.db.execute(sql, (version, told["counter"], name))
         row = (name, told["counter"], version, at, root, told["text"], canonical(made), reply)
         self.db.execute("INSERT INTO kept VALUES (?, ?, ?, ?, ?, ?, ?, ?)", row)
         return self.printed({"vehicle": name, "version": version, "plan_text": canonical(made)})
@@ -632,12 +643,13 @@ class Desk:
         made = json.loads(kept["plan_text"])
         told = "reply %s version %d targets %d" % (kept["vehicle"], kept["version"], len(made["assigned"]))
         if made["withheld"]:
-            kind = "need" if "hardware" in made["withheld"] else "conflict"
-            told += " withheld %s %s %s" % (made["withheld"]["ecu"], kind, made["withheld"].get("hardware") or made["withheld"]["file"])
+            cause = made["withheld"]
+            kind, name = ("need", "hardware") if "hardware" in cause else ("conflict", "file")
+            told += " withheld %s %s %s" % (cause["ecu"], kind, cause[name])
         return told
 
-    WORDS = ["found", "rotate", "add_vehicle", "add_image", "refresh", "open_campaign", "close_campaign", "deliver", "fetch",
-             "bench", "show"]
+    WORDS = ["found", "rotate", "add_vehicle", "add_image", "refresh", "open_campaign", "close_campaign", "deliver",
+             "fetch", "bench", "show"]
 
     def answer(self, line):
         """What is printed for a line that has any byte."""

@@ -48,7 +48,7 @@ def functions(program, own):
     print("%d instructions" % counted(program, script, own, told))
     words = ["callgrind_annotate", str(told)]
     shown = subprocess.run(words, capture_output=True, check=True).stdout.decode("utf-8", "replace")
-    found = re.findall(r"^ *([\d,]+) \(([ \d.]+%)\)  *(?:\?\?\?|[^:]*):(.*?)(?: \[.*)?$", shown, re.M)
+    found = re.findall(r"^ *([\d,]+) \(([ \d.]+%)\)  *(?:[^:\n]*):(.*?)(?: \[.*)?$", shown, re.M)
     for _, share, name in found[:5]:
         print("| `%s` | %s |" % (name, share.strip()))
 
@@ -85,8 +85,8 @@ def prepared(vehicles, images, campaigns):
         ecus = [{"ecu": name + "-e0", "hardware": "HP", "key": fleet.key(7)}]
         yield fleet.line("add_vehicle", vehicle=name, primary=name + "-e0", ecus=ecus)
     for at in range(images):
-        image = {"file": "i%d" % at, "length": 1, "sha256": fleet.digest("%d" % at), "hardware": ["HS"], "release": at + 1}
-        yield fleet.line("add_image", **image)
+        image = {"file": "i%d" % at, "length": 1, "sha256": fleet.digest("%d" % at), "hardware": ["HS"]}
+        yield fleet.line("add_image", **image, release=at + 1)
     for at in range(campaigns):
         items = [{"hardware": "HS", "file": "i0"}]
         yield fleet.line("open_campaign", campaign="c%d" % at, vehicles=["other"], items=items)
@@ -117,8 +117,8 @@ def growth(program, own):
         told = list(manifests(100, kept + number))
         print("| %d kept replies | %.0f |" % (kept, timed(program, few + told[:kept], told[kept:])))
     told = list(manifests(100, number))
-    for name, words in {"10 images": (100, 10, 10), "1,000 images": (100, 1000, 10), "10 campaigns": (100, 10, 10),
-                        "1,000 campaigns": (100, 10, 1000), "100 vehicles": (100, 10, 10), "10,000 vehicles": (10_000, 10, 10)}.items():
+    others = {"1,000 images": (100, 1000, 10), "1,000 campaigns": (100, 10, 1000), "10,000 vehicles": (10_000, 10, 10)}
+    for name, words in {"100 vehicles, 10 images, 10 campaigns": (100, 10, 10), **others}.items():
         print("| %s | %.0f |" % (name, timed(program, list(prepared(*words)), told)))
 
 

@@ -29,9 +29,8 @@ SHOWS = [fleet.line("show", vehicle="v%06d" % number) for number in range(9)]
 def described(db):
     """Each table as SQLite describes it: strictness, columns, keys and references."""
     found = {}
-    for table, strict in db.execute("SELECT name, strict FROM pragma_table_list WHERE schema = 'main' AND type = 'table'"):
-        if table == "sqlite_schema":
-            continue
+    listed = "SELECT name, strict FROM pragma_table_list WHERE schema = 'main' AND name <> 'sqlite_schema'"
+    for table, strict in db.execute(listed):
         indexes = sorted((row[2:4], tuple(db.execute("SELECT name FROM pragma_index_info(?)", row[1:2])))
                          for row in db.execute("PRAGMA index_list(%s)" % table))
         columns = db.execute("PRAGMA table_info(%s)" % table).fetchall()
@@ -44,7 +43,8 @@ def schemas(path):
         for statement in reference.schema():
             wanted.execute(statement)
         yield "the file's tables are those of the page", described(db) == described(wanted)
-        told = [row[0].split() for row in db.execute("SELECT sql FROM sqlite_schema WHERE type = 'table' ORDER BY rowid")]
+        texts = db.execute("SELECT sql FROM sqlite_schema WHERE type = 'table' ORDER BY rowid")
+        told = [row[0].split() for row in texts]
         yield "so is the text of each", told == [statement.split() for statement in reference.schema()]
 
 
@@ -146,7 +146,8 @@ def shown(answers):
 def due_ecus(ecus, offered):
     """How many ECUs each campaign still has to reach, by the fleet's own script and what the ECUs run."""
     images = {it["file"]: it for it in offered if it["do"] == "add_image"}
-    release = lambda kind, file: images[file]["release"] if file in images and kind in images[file]["hardware"] else -1
+    suits = lambda kind, file: file in images and kind in images[file]["hardware"]
+    release = lambda kind, file: images[file]["release"] if suits(kind, file) else -1
     for campaign in (it for it in offered if it["do"] == "open_campaign"):
         reach, left = campaign["vehicles"], 0
         for item in campaign["items"]:
@@ -170,7 +171,8 @@ def asked(program, own):
     with trials.read(path) as db:
         assigned, run, history, withheld, left = queries()
         yield "open assignments", sorted(db.execute(assigned)) == [(v, e, to) for v, e, _, to in seen if to]
-        yield "ECUs that run an image", sorted((v, e, f) for f, _, v, e in db.execute(run)) == [it[:3] for it in seen]
+        told_to_run = sorted((v, e, f) for f, _, v, e in db.execute(run))
+        yield "ECUs that run an image", told_to_run == [it[:3] for it in seen]
         kinds = {e["ecu"]: e["hardware"] for it in lines if it["do"] == "add_vehicle" for e in it["ecus"]}
         due = sorted(due_ecus([(v, kinds[e], f) for v, e, f, _ in seen], lines))
         yield "ECUs that a campaign has to reach", db.execute(left).fetchall() == due and any(n for _, n in due)
@@ -179,7 +181,8 @@ def asked(program, own):
         yield "withheld plans", db.execute(withheld).fetchall() == causes and causes != []
         for vehicle, words in told.items():
             past = db.execute(history, {"vehicle": vehicle}).fetchall()
-            wanted = sorted({(int(w[3]), int(w[5])) for w in (a.split(" ") for a in answers) if w[:2] == ["reply", vehicle]})
+            replies = (w for w in (a.split(" ") for a in answers) if w[:2] == ["reply", vehicle])
+            wanted = sorted({(int(w[3]), int(w[5])) for w in replies})
             yield "the history of " + vehicle, [(row[0], row[4]) for row in past] == wanted
 
 
