@@ -3,3 +3,4 @@
 
 pub mod closing;
 pub mod opening;
+pub mod taking;
