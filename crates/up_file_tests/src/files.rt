@@ -5,8 +5,6 @@ use std::test::Fail;
 use std::{fs, io};
 use up_file::closing::close_file;
 use up_file::opening::open_file;
-use up_file::taking::take;
-use up_store::store::Store;
 use up_tables::open::{OpenFault, create_tables, names_us};
 
 fn opened(
@@ -39,17 +37,6 @@ fn is_ours<S: Alter>(conn: &mut Connection<S>) -> Result<bool, OpenFault> {
         return Err(OpenFault::NotOurs);
     }
     names_us(conn)
-}
-
-/// Takes the database, where nothing is under way.
-fn taken<S: Alter + Drop>(conn: Connection<S>) -> Result<Store<S>, OpenFault> {
-    if !conn.is_autocommit() {
-        return Err(OpenFault::NotOurs);
-    }
-    match take(conn) {
-        Ok(store) => Ok(store),
-        Err((_, fault)) => Err(fault),
-    }
 }
 
 fn in_new_folder(rt: &HostRuntime, folder: &str) -> Result<(), Fail> {
@@ -86,24 +73,6 @@ fn a_closed_file_stands_alone(rt: HostRuntime) -> Result<(), Fail> {
     assert_eq!(rt; is_ours(&mut conn), Ok(true));
     drop(conn);
     fs::remove_dir_all(&rt, "up_file_closed")?;
-    Ok(())
-}
-
-#[test]
-fn a_database_is_made_and_adopted(rt: HostRuntime) -> Result<(), Fail> {
-    let conn = Connection::open_in_memory(rt.alloc())?;
-    let Ok(store) = taken(conn) else {
-        return Err(io::Error::from(io::ErrorKind::Other).into());
-    };
-    let mut conn = store.release();
-    assert_eq!(rt; is_ours(&mut conn), Ok(true));
-    let Ok(store) = taken(conn) else {
-        return Err(io::Error::from(io::ErrorKind::Other).into());
-    };
-    let mut conn = store.release();
-    assert_eq!(rt; is_ours(&mut conn), Ok(true));
-    conn.execute("UPDATE meta SET app = 'other'", &[])?;
-    assert_eq!(rt; taken(conn).err(), Some(OpenFault::Store));
     Ok(())
 }
 
