@@ -1,0 +1,5 @@
+//! Tests of database files through their public calls.
+#![tactic(auto)]
+
+#[cfg(test)]
+mod files;

@@ -1,0 +1,218 @@
+#!/usr/bin/env python3
+"""Sends random requests over HTTP in random pieces, and compares the answers and the tables with the rules.
+
+    fuzz_http.py PROGRAM [FIRST [NUMBER]]
+
+For each seed from FIRST (1) on, NUMBER (100) of them, a script of `tools/fuzz.py` founds and fills a file. The
+program serves it to one connection, which sends manifests, some of them damaged, and asks for files, in pieces
+that are cut anywhere. Each answer has to be, byte for byte, what `tools/reference.py` answers at the moment that
+the program's clock had, and the file has to have its rows.
+"""
+import json
+import random
+import shutil
+import socket
+import sqlite3
+import subprocess
+import sys
+from contextlib import closing
+
+sys.dont_write_bytecode = True
+
+import fuzz
+import reference
+import trials
+
+PHRASES = {200: "OK", 400: "Bad Request", 403: "Forbidden", 404: "Not Found", 405: "Method Not Allowed",
+           409: "Conflict", 411: "Length Required", 413: "Payload Too Large", 501: "Not Implemented",
+           503: "Service Unavailable"}
+STATUS = {4: 413, 5: 400, 6: 400, 7: 400, 10: 404, 11: 403, 12: 403, 13: 409, 14: 409, 15: 409, 16: 409, 17: 403,
+          18: 409, 29: 404}
+MOST_BODY = 262_144
+
+
+class Request:
+    """Its bytes, what it asks, and how its answer ends: `check` is a fixed answer, `asks` a body or a file."""
+
+    def __init__(self, method, target, fields, body=b"", version="1.1", check=None, asks=None, ends=False):
+        lines = ["%s %s HTTP/%s" % (method, target, version), *fields]
+        self.sent = "".join(line + "\r\n" for line in lines).encode() + b"\r\n" + body
+        self.check, self.asks, self.is_head = check, asks, method == "HEAD"
+        self.ends = ends or version == "1.0"
+
+
+def response(status, body, request, allow=None, ends=False):
+    lines = ["HTTP/1.1 %d %s" % (status, PHRASES[status]), "Content-Type: application/json"]
+    lines += ["Content-Length: %d" % len(body)] + (["Allow: " + allow] if allow else [])
+    lines += ["Connection: close"] if ends or request.ends else []
+    return "".join(line + "\r\n" for line in lines).encode() + b"\r\n" + (b"" if request.is_head else body.encode())
+
+
+def error(number, words):
+    return reference.canonical({"error": number, "text": words})
+
+
+CHECKS = {"bad request": 400, "not found": 404, "method not allowed": 405, "length required": 411,
+          "not implemented": 501}
+
+
+def answer(desk, request, moments):
+    """The bytes of the answer by the rules."""
+    if request.check:
+        words, allow = request.check
+        if words == "TooLarge":
+            return response(413, error(4, words), request, ends=True)
+        return response(CHECKS[words], error(0, words), request, allow, ends=CHECKS[words] in (400, 411, 501))
+    try:
+        with desk.db:
+            return response(200, asked(desk, request.asks, moments), request)
+    except reference.Refused as refused:
+        number, words = refused.args[0], refused.text.split(" ", 2)[2]
+        return response(STATUS.get(number, 503), error(number, words), request)
+
+
+def asked(desk, asks, moments):
+    if isinstance(asks, tuple):
+        line = {"at": 0, "repository": asks[0], "file": asks[1]}
+        return desk.fetch(line).removeprefix("file ")
+    told = reference.read_manifest(asks)
+    key = told["vehicle"], told["counter"]
+    desk.delivered(asks, moments.get(key, 0))
+    return desk.one("SELECT reply FROM kept WHERE vehicle = ? AND counter = ?", *key)[0]
+
+
+class Stream:
+    """The requests of one seed: bodies of the seed's own script, and files."""
+
+    def __init__(self, seed, script):
+        self.rng, self.script = random.Random(seed), script
+
+    def body(self):
+        self.script.lines.clear()
+        while True:
+            self.script.deliver()
+            line = json.loads(self.script.lines[-1])
+            return line["body"].encode()
+
+    def fields(self, *more):
+        fields = ["Host: d", *more]
+        if self.rng.random() < 0.3:
+            fields.append(self.rng.choice(["Accept: */*", "x-a:  b ", "Connection: keep-alive", "Expect: x"]))
+        self.rng.shuffle(fields)
+        return fields
+
+    def deliver(self, **more):
+        body = self.sent[-1] if self.sent and self.rng.random() < 0.2 else self.body()
+        self.sent.append(body)
+        query = self.rng.choice(["", "", "", "?", "?a=b"])
+        fields = self.fields("Content-Length: %d" % len(body))
+        return Request("POST", "/director/manifest" + query, fields, body, asks=body, **more)
+
+    def fetch(self, **more):
+        where = self.rng.choice(["director", "image"])
+        names = ["root.json", "1.root.json", "2.root.json", "targets.json", "snapshot.json", "timestamp.json", "no"]
+        name = self.rng.choice(names)
+        return Request("GET", "/%s/%s" % (where, name), self.fields(), asks=(where, name), **more)
+
+    def other(self):
+        """A request that no command comes of."""
+        return self.rng.choice([
+            lambda: Request("GET", "/nowhere", self.fields(), check=("not found", None)),
+            lambda: Request("PUT", "/image/a%20b", self.fields(), check=("not found", None)),
+            lambda: Request("HEAD", "/image/root.json", self.fields(), check=("method not allowed", "GET")),
+            lambda: Request("DELETE", "/image/root.json", self.fields(), check=("method not allowed", "GET")),
+            lambda: Request("GET", "/director/manifest", self.fields(), check=("method not allowed", "POST")),
+        ])()
+
+    def last(self):
+        """A request that ends the stream."""
+        return self.rng.choice([
+            lambda: Request("GET", "/image/root.json", [], check=("bad request", None)),
+            lambda: Request("GET", "/image/root.json", ["Host: d", "Host: d"], check=("bad request", None)),
+            lambda: Request("POST", "/director/manifest", self.fields(), check=("length required", None)),
+            lambda: Request("POST", "/director/manifest", self.fields("Content-Length: x"), check=("bad request", None)),
+            lambda: Request("POST", "/director/manifest", self.fields("Content-Length: %d" % (MOST_BODY + 1)),
+                            check=("TooLarge", None)),
+            lambda: Request("POST", "/director/manifest", self.fields("Transfer-Encoding: chunked"),
+                            check=("not implemented", None)),
+            lambda: self.fetch(version="1.0"),
+            lambda: Request("GET", "/image/root.json", ["Host: d", "Connection: a, Close"],
+                            asks=("image", "root.json"), ends=True),
+        ])()
+
+    def made(self):
+        self.sent = []
+        kinds, number = [self.deliver, self.fetch, self.other], self.rng.randint(1, 30)
+        found = [self.rng.choices(kinds, [6, 3, 1])[0]() for _ in range(number)]
+        return found + ([self.last()] if self.rng.random() < 0.5 else [])
+
+
+def free_port():
+    with closing(socket.socket()) as it:
+        it.bind(("127.0.0.1", 0))
+        return it.getsockname()[1]
+
+
+def served(program, path, sent, rng):
+    """What the program answers to the bytes, sent in pieces; its status and message."""
+    port = free_port()
+    words = [str(program), "serve", str(path), str(port), "1"]
+    with subprocess.Popen(words, stdout=subprocess.PIPE, stderr=subprocess.PIPE) as it:
+        if it.stdout.readline() != b"listening %d\n" % port:
+            return None, it.wait(30), it.stderr.read()
+        with closing(socket.create_connection(("127.0.0.1", port), timeout=30)) as peer:
+            peer.setsockopt(socket.IPPROTO_TCP, socket.TCP_NODELAY, 1)
+            told = b""
+            try:
+                while sent:
+                    size = rng.choice([1, 2, 7, 100, 1000, 10_000])
+                    peer.sendall(sent[:size])
+                    sent = sent[size:]
+                peer.shutdown(socket.SHUT_WR)
+                while piece := peer.recv(65_536):
+                    told += piece
+            except ConnectionError:
+                pass
+        it.wait(30)
+        return told, it.returncode, it.stderr.read()
+
+
+def tried(program, seed, own):
+    script = fuzz.Script(seed)
+    path, rules = own / "served", own / "rules"
+    if trials.printed(program, path, script.made()) is None:
+        return "the script"
+    shutil.copy(path, rules)
+    rng = random.Random(seed)
+    requests = Stream(seed, script).made()
+    told, status, message = served(program, path, b"".join(it.sent for it in requests), rng)
+    if (status, message) != (0, b"") or told is None:
+        return "status %d: %s" % (status, message.decode("utf-8", "replace"))
+    with trials.read(path) as db:
+        moments = {row[:2]: row[2] for row in db.execute("SELECT vehicle, counter, moment FROM kept")}
+    with closing(sqlite3.connect(rules)) as db:
+        desk = reference.Desk(db)
+        for number, request in enumerate(requests, 1):
+            wanted = answer(desk, request, moments)
+            if not told.startswith(wanted):
+                words = number, request.sent[:300], wanted[:300], told[:300]
+                return "request %d: %r\n  rules: %r\n  program: %r" % words
+            told = told[len(wanted) :]
+    if told:
+        return "more than the answers: %r" % told[:300]
+    return None if trials.rows(path) == trials.rows(rules) else "other rows"
+
+
+def cases(program, first=1, number=100):
+    for seed in range(first, first + number):
+        with trials.folder() as own:
+            other = tried(program, seed, own)
+        if other:
+            print("http: seed %d: %s" % (seed, other))
+        yield "seed %d" % seed, not other
+
+
+if __name__ == "__main__":
+    if not 2 <= len(sys.argv) <= 4:
+        sys.exit(__doc__)
+    sys.exit(trials.judged("http", cases(sys.argv[1], *map(int, sys.argv[2:]))))
