@@ -1,11 +1,10 @@
 -- Members that were written are read again: those of every payload, and parts of them.
-use Rattle.std.proofs.Common.{◌≡◌, ℕ, zero, suc, ◌≤◌, List, [], ◌∷◌, Bool, true, false, Option, Some, None, Ok, length, refl, ap, ◌∙◌, arith}
-use Rattle.std.specs.Prelude.{codes, nat_le, nat_lt, ◌==◌}
-use Rattle.std.specs.List.{list_all}
+use Rattle.std.proofs.Common.{◌≡◌, ℕ, ◌≤◌, List, Bool, true, false, Option, Some, None, Ok, length, refl, ap, ◌∙◌, arith}
+use Rattle.std.specs.Prelude.{codes, nat_le, ◌==◌}
 use Rattle.std.specs.Cmp.Lexicographic.{bytes_decides}
 use Rattle.std.proofs.lemmas.Bool.{and_parts}
 use Rattle.std.proofs.lemmas.Bool.Decides.{nat_tests}
-use Rattle.hex.specs.Hex.{IsBytes, encode_lower}
+use Rattle.hex.specs.Hex.{encode_lower}
 use Rattle.hex.proofs.HexLemmas.{decode_sized-encode_lower}
 use Rattle.serde_json.specs.Data.{Data, string, object, Members}
 use Rattle.serde_json.specs.Find as json
@@ -18,6 +17,7 @@ use Rattle.up_canon.specs.Readers.{ident_of, file_name_of, ident_in, word_in, po
 use Rattle.up_canon.specs.Steps.{or_error, unless, value_of}
 use Rattle.up_canon.specs.declared.refusal.Refusal.TheVariants.{BadShape}
 use Rattle.up_canon.specs.Meaning.{HasText}
+use Rattle.up_canon.proofs.ByteTests.{bytes_placed}
 use Rattle.up_canon.proofs.Members.{text_there, fits_there}
 use Rattle.up_canon.proofs.Steps.{bind-ok}
 use Rattle.up_roles.specs.Parts.{part_in, object_part, text_part, count_part, positive_part, ident_part, file_name_part, is_lower_digit, sha256_part}
@@ -98,11 +98,6 @@ file_name_part-there fault name d t has h = bind-ok _ _ (string t) (part-there f
 
 -- ---- hashes
 
-are_bytes : (xs : List ℕ) → list_all (λ x. nat_lt x 256) xs ≡ true → IsBytes xs
-are_bytes [] h i = omega arith
-are_bytes (x ∷ xs) h zero = let first = (and_parts (nat_lt x 256) _ h).0 in grind (arith, nat_tests)
-are_bytes (x ∷ xs) h (suc i) = are_bytes xs (and_parts (nat_lt x 256) _ h).1 i
-
 pub sha256_part-there : (fault : List ℕ) (d : Data) (hash : List ℕ) → json.get (codes "hashes") d ≡ Some (hashes_value hash) → is_hash hash ≡ true → sha256_part fault d ≡ Ok hash
 unfolding sha256_part
 sha256_part-there fault d hash has h =
@@ -112,7 +107,7 @@ sha256_part-there fault d hash has h =
     bind-ok _ _ (hashes_value hash) (object_part-there fault (codes "hashes") d _ has)
     ∙ bind-ok _ _ (encode_lower hash) (text_part-there fault (codes "sha256") (hashes_value hash) (encode_lower hash) refl)
     ∙ bind-ok _ _ tt (unless-there _ _ (all-hex is_lower_digit refl hash p.1))
-    ∙ ap (λ r. or_error (BadShape fault) (value_of r)) (decode_sized-encode_lower hash 32 size (are_bytes hash p.1))
+    ∙ ap (λ r. or_error (BadShape fault) (value_of r)) (decode_sized-encode_lower hash 32 size (bytes_placed hash p.1))
 
 -- ---- what each payload says of itself
 

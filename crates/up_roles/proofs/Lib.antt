@@ -11,3 +11,7 @@ pub mod Lists
 pub mod ReadTargets
 pub mod Gathered
 pub mod ReadRoot
+pub mod MeantParts
+pub mod MeantFiles
+pub mod MeantRoot
+pub mod MeantLimits
