@@ -287,7 +287,7 @@ chosen : {A : Type 0} (b : Bool) (x t : A) → cond b (Some x) None ≡ Some t �
 chosen true x t h = refl
 chosen false x t h = cc
 
-file_there : {F : Type 0} (meaning : Data → Result F Refusal) (M : Data → F → Type 0) → ReadsAs meaning M → (bytes : List ℕ) (file : F) (e : Envelope) → MeansFile M bytes file e → file_in meaning bytes ≡ Ok (file, e)
+pub file_there : {F : Type 0} (meaning : Data → Result F Refusal) (M : Data → F → Type 0) → ReadsAs meaning M → (bytes : List ℕ) (file : F) (e : Envelope) → MeansFile M bytes file e → file_in meaning bytes ≡ Ok (file, e)
 unfolding file_in
 file_there meaning M reads bytes file e h =
     let canon = chosen (has_canon h.payload) (text h.payload) e.signed h.enveloped.signed.0 in

@@ -103,12 +103,12 @@ plain_got name (object ms) v plain there = plain_member name ms v plain there
 -- ---- one key
 
 -- the value shows the key of that identifier, within its limits
-record IsShown (keyid : List ℕ) (v : Data) (key : RootKey) : Type 0 where
-  named : key.keyid ≡ keyid
-  fits : key_fits key ≡ true
-  object_is : (ms : Members) × (v ≡ object ms)
-  method : HasText v (codes "method") key.method
-  public : HasText v (codes "public") key.shown
+pub record IsShown (keyid : List ℕ) (v : Data) (key : RootKey) : Type 0 where
+  pub named : key.keyid ≡ keyid
+  pub fits : key_fits key ≡ true
+  pub object_is : (ms : Members) × (v ≡ object ms)
+  pub method : HasText v (codes "method") key.method
+  pub public : HasText v (codes "public") key.shown
 
 shown_read : (least most : ℕ) (name : List ℕ) (d : Data) (t : List ℕ) → shown_in least most name d ≡ Ok t → HasText d name t × (is_short_text least most t ≡ true)
 unfolding shown_in
@@ -133,7 +133,7 @@ key_read keyid v key h =
       public = s.0;
     }))))))
 
-key_there : (keyid : List ℕ) (v : Data) (key : RootKey) → IsShown keyid v key → key_of (keyid, v) ≡ Ok key
+pub key_there : (keyid : List ℕ) (v : Data) (key : RootKey) → IsShown keyid v key → key_of (keyid, v) ≡ Ok key
 unfolding key_of
 key_there keyid v key h =
     let p = and_parts _ _ h.fits in
@@ -146,14 +146,14 @@ key_there keyid v key h =
 
 -- ---- keys of an object, in the order of its members
 
-abbrev with_id : List ℕ → RootKey → Bool
+abbrev pub with_id : List ℕ → RootKey → Bool
 with_id keyid key = bytes_eq key.keyid keyid
 
-abbrev AreListed : Members → List RootKey → Type 0
+abbrev pub AreListed : Members → List RootKey → Type 0
 AreListed ms keys = each key_of (members_list ms) ≡ Ok keys
 
 -- a key that is found by its identifier is the one that the member of that name shows
-found_shown : (ms : Members) (keys : List RootKey) → AreListed ms keys → (keyid : List ℕ) (key : RootKey) → find (with_id keyid) keys ≡ Some key
+pub found_shown : (ms : Members) (keys : List RootKey) → AreListed ms keys → (keyid : List ℕ) (key : RootKey) → find (with_id keyid) keys ≡ Some key
     → (v : Data) × (json.get_member keyid ms ≡ Some v) × IsShown keyid v key
 unfolding each
 found_shown no_members [] h keyid key found = cc
@@ -195,7 +195,7 @@ found_there (member k w ms) keys h key v there shown =
         more (sym (get-other key.keyid k w ms (ap (λ id. bytes_eq id key.keyid) (sym own.named) ∙ is)) ∙ there)
 
 -- each member is a key that passes a test
-named_passes : (ms : Members) (keys : List RootKey) → AreListed ms keys → (p : RootKey → Bool) → list_all p keys ≡ true → (keyid : List ℕ) (v : Data) → json.get_member keyid ms ≡ Some v
+pub named_passes : (ms : Members) (keys : List RootKey) → AreListed ms keys → (p : RootKey → Bool) → list_all p keys ≡ true → (keyid : List ℕ) (v : Data) → json.get_member keyid ms ≡ Some v
     → (key : RootKey) × (key.keyid ≡ keyid) × (p key ≡ true)
 unfolding each
 named_passes no_members keys h p all keyid v there = cc
@@ -258,7 +258,7 @@ each_key_id keys (item d ds) [] h = absurd h
 each_key_id keys (item d ds) (x ∷ xs) h = (h.0.0, each_key_id keys ds xs h.1)
 
 -- what is known of a key of a role
-abbrev IsKeyOf : Members → RootKey → Type 0
+abbrev pub IsKeyOf : Members → RootKey → Type 0
 IsKeyOf ms key = (v : Data) × (json.get_member key.keyid ms ≡ Some v) × IsShown key.keyid v key
 
 each_chosen_shown : (ms : Members) (keys : List RootKey) → AreListed ms keys → (ds : Items) (chosen : List RootKey) → EachMeans (IsChosen keys) ds chosen → AllByRecursion (IsKeyOf ms) chosen
@@ -273,7 +273,7 @@ each_shown_chosen ms keys listed no_items (x ∷ xs) h shown = absurd h
 each_shown_chosen ms keys listed (item d ds) [] h shown = absurd h
 each_shown_chosen ms keys listed (item d ds) (x ∷ xs) h shown = ((h.0, found_there ms keys listed x shown.0.0 shown.0.1 shown.0.2), each_shown_chosen ms keys listed ds xs h.1 shown.1)
 
-keys_shown : (ms : Members) (keys : List RootKey) → AllByRecursion (IsKeyOf ms) keys → AllByRecursion (ShowsKey (object ms)) keys
+pub keys_shown : (ms : Members) (keys : List RootKey) → AllByRecursion (IsKeyOf ms) keys → AllByRecursion (ShowsKey (object ms)) keys
 keys_shown ms [] h = tt
 keys_shown ms (x ∷ xs) h =
     let s = h.0.2 in
@@ -326,7 +326,7 @@ role_there ms keys listed name roles role h =
 
 -- ---- the file
 
-any_used : (file : RootFile) (key : RootKey) → list_any (with_id key.keyid) (all_keys file) ≡ is_used file key
+pub any_used : (file : RootFile) (key : RootKey) → list_any (with_id key.keyid) (all_keys file) ≡ is_used file key
 any_used file key =
     rw (
       list_any-append (with_id key.keyid) (file.root.keys ++ file.targets.keys ++ file.snapshot.keys) file.timestamp.keys,
