@@ -1,20 +1,12 @@
 -- What is read of a body is what it means.
-use Rattle.std.proofs.Common.{◌≡◌, ◌≤◌, ℕ, List, Bool, true, false, cond, Some, None, Result, Ok, Err, length, refl, ap, ap₂, ◌∙◌, subst, sym, arith}
-use Rattle.std.specs.Prelude.{IsUtf8, MatchResult, nat_le, codes}
-use Rattle.std.specs.Str.{is_utf8}
-use Rattle.std.proofs.lemmas.Str.{IsUtf8-from_is_utf8, is_utf8-from_IsUtf8}
-use Rattle.std.proofs.lemmas.Bool.Decides.{nat_tests}
+use Rattle.std.proofs.Common.{◌≡◌, ◌≤◌, ℕ, List, Some, Ok, length, ap, ◌∙◌, subst, sym, arith}
+use Rattle.std.specs.Prelude.{codes}
 use Rattle.serde_json.specs.Data.{Data, array, Items}
 use Rattle.serde_json.specs.Find as json
 use Rattle.serde_json.specs.Read.{read}
-use Rattle.up_canon.specs.JsonText.{value_in, value_within}
 use Rattle.up_canon.specs.Members.{items_list}
 use Rattle.up_canon.specs.Steps.{each}
-use Rattle.up_canon.specs.declared.refusal.Refusal.{Refusal}
 use Rattle.up_canon.specs.Meaning.{EachMeans}
-use Rattle.up_sign.specs.Meaning.{MeansEnvelope}
-use Rattle.up_sign.specs.declared.envelope.Envelope.{Envelope}
-use Rattle.up_sign.specs.Reading.{Opened, opened_in}
 use Rattle.up_manifest.specs.Manifests.{largest_body, most_reports, installed_in, report_in, signed_report_in, reports_in, manifest_in, incoming_in}
 use Rattle.up_manifest.specs.Meaning.{MeansInstalled, MeansReport, MeansSignedReport, MeansManifest, MeansBody}
 use Rattle.up_manifest.specs.declared.report.Installed.{Installed}
@@ -24,7 +16,7 @@ use Rattle.up_manifest.specs.declared.manifest.Manifest.{Manifest}
 use Rattle.up_manifest.specs.declared.manifest.Incoming.{Incoming}
 use Rattle.up_canon.proofs.JsonTexts.{value_read, value_there}
 use Rattle.up_sign.proofs.Meaning.{opened_read, opened_there}
-use Rattle.up_canon.proofs.Steps.{first_ok, bind-ok, same_ok, or_error_ok, unless_ok, unless_there, each_read, each_there, each_size}
+use Rattle.up_canon.proofs.Steps.{first_ok, bind-ok, same_ok, each_read, each_there, each_size}
 use Rattle.up_canon.proofs.Members.{count_read, count_there, object_read, object_there, ident_read, ident_there, file_name_read, file_name_there, note_read, note_there, word_read, word_there, positive_read, positive_there, list_within_read, list_within_there, sha256_read, sha256_there, moment_read, moment_there}
 
 -- ---- reports

@@ -1,8 +1,7 @@
 -- What is built means what it was built of.
-use Rattle.std.proofs.Common.{◌≡◌, ℕ, ◌≤◌, suc, ◌<◌, lit≤, List, [], ◌∷◌, true, Some, length, refl, sym, ap, ap₂, ◌∙◌, subst, arith}
-use Rattle.std.specs.Prelude.{◌&&◌, IsTrue, IsUtf8, slice_index}
+use Rattle.std.proofs.Common.{◌≡◌, ℕ, ◌≤◌, lit≤, List, [], ◌∷◌, true, Some, length, refl, sym, ap, ◌∙◌, subst, arith}
+use Rattle.std.specs.Prelude.{◌&&◌, IsTrue, IsUtf8}
 use Rattle.std.specs.List.{list_all}
-use Rattle.std.proofs.lemmas.Bool.Decides.{nat_tests}
 use Rattle.serde_json.specs.Data.{Data}
 use Rattle.serde_json.specs.Read.{read}
 use Rattle.up_canon.specs.Canon.{max_count, canon}
@@ -11,7 +10,7 @@ use Rattle.up_canon.specs.Names.{is_ident}
 use Rattle.up_sign.specs.Envelopes.{sealed}
 use Rattle.up_sign.specs.Formats.{envelope_text, IsSigned}
 use Rattle.up_sign.specs.Laws.{envelope_value, TextsAreRead, SealedFits}
-use Rattle.up_sign.specs.Schemes.{Rules, IsScheme, is_byte}
+use Rattle.up_sign.specs.Schemes.{Rules, IsScheme}
 use Rattle.up_sign.specs.declared.envelope.Envelope.{Envelope}
 use Rattle.up_manifest.specs.Building.{report_value, report_text, ReportFits, IsReportEnvelope, AreReportEnvelopes, manifest_text, sealed_manifest, built}
 use Rattle.up_manifest.specs.Manifests.{most_reports}

@@ -2,13 +2,9 @@
 use Rattle.std.proofs.Common.{ℕ, List}
 use Rattle.std.specs.Prelude.{codes}
 use Rattle.serde_json.specs.Data.{Data}
-use Rattle.up_canon.specs.declared.refusal.Refusal.{Refusal}
-use Rattle.up_canon.specs.declared.refusal.Refusal.TheVariants.{TooLarge, NotJson, NotCanonical, BadShape}
-use Rattle.up_canon.specs.JsonText.{value_within}
 use Rattle.up_canon.proofs.Faults.{Fails, AllowsShapes, then_fails, ok_fails, each_fails, count_fails, object_fails, ident_fails, file_name_fails, note_fails, word_fails, positive_fails, list_within_fails, sha256_fails, moment_fails, value_fails}
 use Rattle.up_sign.specs.Laws.{IsTextFault}
 use Rattle.up_sign.proofs.Faults.{opened_text_fails}
-use Rattle.up_sign.specs.Reading.{opened_in}
 use Rattle.up_manifest.specs.Manifests.{installed_in, report_in, signed_report_in, reports_in, manifest_in, incoming_in}
 
 shapes : AllowsShapes IsTextFault
