@@ -1,24 +1,18 @@
 -- What was sealed is read and opened again.
-use Rattle.std.proofs.Common.{◌≡◌, ℕ, ◌≤◌, List, [], ◌∷◌, ◌++◌, true, Some, Ok, Result, length, map, refl, ap, ◌∙◌, arith}
-use Rattle.std.specs.Prelude.{IsTrue, IsAscii, codes, nat_le}
+use Rattle.std.proofs.Common.{◌≡◌, ℕ, ◌≤◌, List, [], ◌∷◌, ◌++◌, true, Ok, Result, length, map, refl}
+use Rattle.std.specs.Prelude.{IsTrue, IsAscii, codes}
 use Rattle.std.specs.List.{list_all}
 use Rattle.std.proofs.lemmas.Bool.{and_parts}
-use Rattle.std.proofs.lemmas.Bool.Decides.{nat_tests}
-use Rattle.std.proofs.lemmas.Str.{IsAscii-append, IsUtf8-from_ascii, is_utf8-from_IsUtf8}
+use Rattle.std.proofs.lemmas.Str.{IsAscii-append, IsUtf8-from_ascii}
 use Rattle.serde_json.specs.Data.{Data, string}
 use Rattle.serde_json.specs.Read.{read}
 use Rattle.up_canon.specs.Build.{list_with, hex_value}
 use Rattle.up_canon.specs.Canon.{has_canon, is_plain, text}
-use Rattle.up_canon.specs.JsonText.{value_in, value_within}
-use Rattle.up_canon.specs.Moments.{MomentsAreRead}
 use Rattle.up_canon.specs.Names.{is_from_to, is_short_text}
-use Rattle.up_canon.specs.Steps.{or_error}
 use Rattle.up_canon.specs.declared.refusal.Refusal.{Refusal}
-use Rattle.up_canon.specs.declared.refusal.Refusal.TheVariants.{NotJson}
 use Rattle.up_sign.specs.Envelopes.{sealed}
 use Rattle.up_sign.specs.Formats.{signature_value, signature_fits, envelope_text, envelope_fits, has_bytes, is_object}
 use Rattle.up_sign.specs.Laws.{TextsAreRead, SealedFits, envelope_value}
-use Rattle.up_sign.specs.Reading.{Opened, opened_in}
 use Rattle.up_sign.specs.Schemes.{Rules, is_byte}
 use Rattle.up_sign.specs.declared.envelope.Envelope.{Envelope}
 use Rattle.up_sign.specs.declared.envelope.Signature.{Signature}
