@@ -1,0 +1,14 @@
+pub mod Alike
+pub mod TypedRows
+pub mod NewTables
+pub mod Created
+pub mod Closed
+pub mod Written
+pub mod VehicleReads
+pub mod Inserted
+pub mod EcuReads
+pub mod FileReads
+pub mod VehiclePuts
+pub mod FoundingReads
+pub mod RootPuts
+pub mod MadeRows
