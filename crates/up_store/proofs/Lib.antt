@@ -12,3 +12,9 @@ pub mod VehiclePuts
 pub mod FoundingReads
 pub mod RootPuts
 pub mod MadeRows
+pub mod ColumnReads
+pub mod ColumnFound
+pub mod ColumnPuts
+pub mod WholeTables
+pub mod ValuesWhere
+pub mod ColumnTables

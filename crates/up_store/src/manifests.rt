@@ -1,20 +1,27 @@
 //! Accepted manifests.
-ghost use Rattle.std.specs.Prelude.{OnErr};
+ghost use Rattle.std.specs.Prelude.{◌≡◌, ◌<◌, ◌^◌, Some, IfOk, OnErr, OnOk};
 ghost use Rattle.sqlite.specs.Held.{state};
 ghost use Rattle.sqlite.specs.State.{HasCleanDisk, Survives};
+ghost use Rattle.up_canon.specs.Names.{Name};
+ghost use Rattle.up_machine.specs.declared.rows.Kept.{Kept as KeptData};
 ghost use Rattle.up_rows.specs.Changes.{with_accepted_rows};
 ghost use Rattle.up_rows.specs.Lookups.{kept_with, latest_kept};
+ghost use Rattle.up_store.specs.ColumnRows.{IsKept, last_found};
+ghost use Rattle.up_store.specs.Typed.{IsTypedKept};
 ghost use Rattle.up_store.specs.Fitting.{IsRecorded};
-ghost use Rattle.up_tables.specs.Stands.{IfClean, IsAsCommitted};
-ghost use Rattle.up_store.specs.Connections.{Answers, NeedsOpen, TakesRows, CommitsRows, SparesRows};
+ghost use Rattle.up_tables.specs.Stands.{IfClean, HasTables, IsAsCommitted, IsInside, Reads, Steps};
+ghost use Rattle.up_store.specs.Connections.{Answers, FindsRows, NeedsOpen, TakesRows, CommitsRows, SparesRows};
 
-use crate::store::{Store, StoreFault};
-use sqlite::Alter;
+use crate::kept_rows::read_kept;
+use crate::store::{MOST_NUMBER, Store, StoreFault};
+use sqlite::{Alter, Transaction};
 use std::alloc::Global;
 use up_canon::count::Count;
 use up_canon::ident::Ident;
 use up_machine::decision::AcceptedRows;
 use up_machine::rows::Kept;
+use up_tables::kept::{KeptRow, kept as kept_shown};
+use up_tables::vehicle::vehicle as vehicle_shown;
 
 impl<D: Alter> Store<D> {
     /// The vehicle's row with this counter, none where there is none.
@@ -29,11 +36,8 @@ impl<D: Alter> Store<D> {
         ensures crash { Survives (state D.Store self.old) (state D.Store self.new) (λ _. ⊥) }
         ensures open { NeedsOpen (state D.Store self.old) (state D.Store self.new) result }
     {
-        let _ = alloc;
-        let _ = vehicle;
-        let _ = counter;
-        let _settled = self.conn.is_autocommit();
-        Err(StoreFault::Store)
+        let mut tx = self.conn.transaction();
+        find_kept(&mut tx, alloc, vehicle, counter.get())
     }
 
     /// The vehicle's row with its greatest counter, none of an unknown vehicle and before its first manifest.
@@ -43,10 +47,8 @@ impl<D: Alter> Store<D> {
         ensures crash { Survives (state D.Store self.old) (state D.Store self.new) (λ _. ⊥) }
         ensures open { NeedsOpen (state D.Store self.old) (state D.Store self.new) result }
     {
-        let _ = alloc;
-        let _ = vehicle;
-        let _settled = self.conn.is_autocommit();
-        Err(StoreFault::Store)
+        let mut tx = self.conn.transaction();
+        find_latest(&mut tx, alloc, vehicle)
     }
 
     /// Writes an accepted manifest: its vehicle's row, what its ECUs reported, and the row that is kept for it.
@@ -62,5 +64,94 @@ impl<D: Alter> Store<D> {
         let _ = new;
         let _settled = self.conn.is_autocommit();
         Err(StoreFault::Store)
+    }
+}
+
+/// The vehicle's row with this counter.
+fn find_kept<D: Alter>(
+    tx: &mut Transaction<'_, D>,
+    alloc: Global,
+    vehicle: &Ident,
+    counter: u64,
+) -> Result<Option<Kept>, StoreFault>
+    requires counter { counter < 2 ^ 63 }
+    requires mode { IfClean IsInside (state D.Store tx.old.conn.now) }
+    ensures same_reference { tx.new.conn.ghost_name ≡ tx.old.conn.ghost_name }
+    ensures found { FindsRows (kept_with vehicle.now counter) (state D.Store tx.old.conn.now) (state D.Store tx.new.conn.now) result }
+    ensures open { NeedsOpen (state D.Store tx.old.conn.now) (state D.Store tx.new.conn.now) result }
+    ensures steps { Steps (state D.Store tx.old.conn.now) (state D.Store tx.new.conn.now) }
+{
+    match kept_shown(tx, vehicle.text(), counter) {
+        Ok(Some(shown)) => some_kept(alloc, shown),
+        Ok(None) => Ok(None),
+        Err(fault) => Err(fault),
+    }
+}
+
+/// A row as it stands in the table, read.
+fn some_kept(alloc: Global, shown: KeptRow) -> Result<Option<Kept>, StoreFault>
+    ensures { IfOk result (λ read. (vehicle : Name) (row : KeptData) → IsTypedKept vehicle row → IsKept shown row → read ≡ Some row) }
+{
+    match read_kept(alloc, shown) {
+        Ok(row) => Ok(Some(row)),
+        Err(fault) => Err(fault),
+    }
+}
+
+/// The vehicle's row with its greatest counter.
+fn find_latest<D: Alter>(
+    tx: &mut Transaction<'_, D>,
+    alloc: Global,
+    vehicle: &Ident,
+) -> Result<Option<Kept>, StoreFault>
+    requires mode { IfClean IsInside (state D.Store tx.old.conn.now) }
+    ensures same_reference { tx.new.conn.ghost_name ≡ tx.old.conn.ghost_name }
+    ensures found { FindsRows (latest_kept vehicle.now) (state D.Store tx.old.conn.now) (state D.Store tx.new.conn.now) result }
+    ensures open { NeedsOpen (state D.Store tx.old.conn.now) (state D.Store tx.new.conn.now) result }
+    ensures steps { Steps (state D.Store tx.old.conn.now) (state D.Store tx.new.conn.now) }
+{
+    match find_last(tx, vehicle) {
+        Ok(Some(last)) => find_counted(tx, alloc, vehicle, last),
+        Ok(None) => Ok(None),
+        Err(fault) => Err(fault),
+    }
+}
+
+/// The vehicle's row with this counter; `Store` where that is 2^63 or more.
+fn find_counted<D: Alter>(
+    tx: &mut Transaction<'_, D>,
+    alloc: Global,
+    vehicle: &Ident,
+    counter: u64,
+) -> Result<Option<Kept>, StoreFault>
+    requires mode { IfClean IsInside (state D.Store tx.old.conn.now) }
+    ensures same_reference { tx.new.conn.ghost_name ≡ tx.old.conn.ghost_name }
+    ensures found { FindsRows (kept_with vehicle.now counter) (state D.Store tx.old.conn.now) (state D.Store tx.new.conn.now) result }
+    ensures open { NeedsOpen (state D.Store tx.old.conn.now) (state D.Store tx.new.conn.now) result }
+    ensures steps { Steps (state D.Store tx.old.conn.now) (state D.Store tx.new.conn.now) }
+{
+    if counter > MOST_NUMBER {
+        return Err(StoreFault::Store);
+    }
+    find_kept(tx, alloc, vehicle, counter)
+}
+
+/// The vehicle's greatest counter, none of an unknown vehicle.
+fn find_last<D: Alter>(
+    tx: &mut Transaction<'_, D>,
+    vehicle: &Ident,
+) -> Result<Option<u64>, StoreFault>
+    requires mode { IfClean IsInside (state D.Store tx.old.conn.now) }
+    ensures same_reference { tx.new.conn.ghost_name ≡ tx.old.conn.ghost_name }
+    ensures found { FindsRows (last_found vehicle.now) (state D.Store tx.old.conn.now) (state D.Store tx.new.conn.now) result }
+    ensures reads { HasCleanDisk (state D.Store tx.new.conn.now) → OnOk result (HasTables (state D.Store tx.old.conn.now) → Reads (state D.Store tx.old.conn.now) (state D.Store tx.new.conn.now)) }
+    ensures inside { OnOk result (IfClean IsInside (state D.Store tx.new.conn.now)) }
+    ensures open { NeedsOpen (state D.Store tx.old.conn.now) (state D.Store tx.new.conn.now) result }
+    ensures steps { Steps (state D.Store tx.old.conn.now) (state D.Store tx.new.conn.now) }
+{
+    match vehicle_shown(tx, vehicle.text()) {
+        Ok(Some(shown)) => Ok(Some(shown.last_counter)),
+        Ok(None) => Ok(None),
+        Err(fault) => Err(fault),
     }
 }
