@@ -1,6 +1,7 @@
-"""Prints the answers that the rows of this crate want where they have digests, under each scheme: made by Python's own
-libraries from the formats in docs/FORMATS.md."""
-import hashlib, hmac, json, datetime
+"""Computes the answers that the rows of stdin want where they have digests, under each scheme, by Python's own libraries from
+the formats in docs/FORMATS.md, and tells which of them no row wants, and which wanted ones aren't among them."""
+import datetime, hashlib, hmac, json, re, sys
+from pathlib import Path
 H = lambda b: hashlib.sha256(b).hexdigest()
 canon = lambda v: json.dumps(v, sort_keys=True, separators=(",", ":"))
 class Hmac:
@@ -106,5 +107,17 @@ EXPECTED = {
 def both(name):
     one, other = EXPECTED[name](Hmac), EXPECTED[name](Hashed)
     return one if one == other else f"{one} / {other}"
+
+
+def main():
+    rows = (Path(__file__).parent / "stdin").read_text(encoding="utf-8").split("\n")
+    wanted = {row.split(" => ", 1)[1] for row in rows if re.search(r" => .*[0-9a-f]{64}", row)}
+    computed = {both(name) for name in EXPECTED}
+    for answer in sorted(wanted ^ computed):
+        print("%s %.300s" % ("not computed:" if answer in wanted else "no row wants:", answer))
+    print("%d wanted answers with digests are computed" % len(wanted & computed))
+    return 1 if wanted ^ computed else 0
+
+
 if __name__ == "__main__":
-    for name in EXPECTED: print(name, both(name))
+    sys.exit(main())

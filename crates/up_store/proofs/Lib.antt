@@ -12,6 +12,8 @@ pub mod VehiclePuts
 pub mod FoundingReads
 pub mod RootPuts
 pub mod MadeRows
+pub mod RootFiles
+pub mod AcceptPuts
 pub mod ColumnReads
 pub mod ColumnFound
 pub mod ColumnPuts

@@ -41,7 +41,7 @@ use Rattle.up_store.proofs.TypedRows.{typed_root, typed_register}
 
 -- ---- each part by itself
 
-has_tables : (P : Rattle.sqlite.specs.Tree.Trees → Type 0) (s : Connected) → IsWithin up_schema P s → HasTables s
+pub has_tables : (P : Rattle.sqlite.specs.Tree.Trees → Type 0) (s : Connected) → IsWithin up_schema P s → HasTables s
 has_tables P s within = λ is_open. let here = within.here is_open in record { schema_is = here.schema_is; sound = here.sound; rows = tt }
 
 pub puts_founding : {A : Type 0} (r : Result A StoreFault) (f : Founding) (before after : Connected)
@@ -95,7 +95,7 @@ files_once rows m n = go (bytes_eq (repository_word Director) m) (bytes_eq (repo
     go false true = few_lines Image n (text_held rows Image n)
     go false false = omega arith
 
-set_once : (files : List FileLine) (rows_of : List ℕ → List ℕ → List Row) → ((m n : List ℕ) → length (rows_of m n) ≤ 1) → (m n : List ℕ) → length (set_lines files rows_of m n) ≤ 1
+pub set_once : (files : List FileLine) (rows_of : List ℕ → List ℕ → List Row) → ((m n : List ℕ) → length (rows_of m n) ≤ 1) → (m n : List ℕ) → length (set_lines files rows_of m n) ≤ 1
 set_once [] rows_of once = once
 set_once (f ∷ files) rows_of once = set_once files (with_only_at f.repository f.name (file_row f) rows_of) (λ m n. go m n (bytes_eq f.repository m && bytes_eq f.name n))
   where
@@ -139,7 +139,7 @@ cancel (x ∷ xs) (y ∷ ys) s h =
     let rest : xs ++ s ≡ ys ++ s = cc in
     ap₂ (λ (a : ℕ) (l : List ℕ). a ∷ l) first (cancel xs ys s rest)
 
-numbers_apart : (i k : ℕ) → i < k → k < 2 ^ 64 → bytes_eq (numbered_root_name i) (numbered_root_name k) ≡ false
+pub numbers_apart : (i k : ℕ) → i < k → k < 2 ^ 64 → bytes_eq (numbered_root_name i) (numbered_root_name k) ≡ false
 numbers_apart i k low small = go (bytes_eq (numbered_root_name i) (numbered_root_name k)) refl
   where
     go : (b : Bool) → bytes_eq (numbered_root_name i) (numbered_root_name k) ≡ b → b ≡ false
@@ -148,11 +148,11 @@ numbers_apart i k low small = go (bytes_eq (numbered_root_name i) (numbered_root
         let same : i ≡ k = decimal_injective i k (omega (arith, low, small)) small (cancel (decimal i) (decimal k) (codes ".root.json") ((bytes_decides (numbered_root_name i) (numbered_root_name k)).0 is)) in
         absurd (omega (arith, low, same))
 
-abbrev Numbered : ℕ → List RootRow → Type 0
+abbrev pub Numbered : ℕ → List RootRow → Type 0
 Numbered i roots = map (λ (r : RootRow). r.name) roots ≡ map (λ (r : ℕ × RootRow). numbered_root_name r.0) (enumerate_from i roots)
 
 -- no root version has a name that is no number's
-none_named : (t : Name) (i : ℕ) (roots : List RootRow) → ((k : ℕ) → i ≤ k → k < i + length roots → bytes_eq (numbered_root_name k) t ≡ false) → Numbered i roots → find (λ (r : RootRow). bytes_eq r.name t) roots ≡ None
+pub none_named : (t : Name) (i : ℕ) (roots : List RootRow) → ((k : ℕ) → i ≤ k → k < i + length roots → bytes_eq (numbered_root_name k) t ≡ false) → Numbered i roots → find (λ (r : RootRow). bytes_eq r.name t) roots ≡ None
 none_named t i [] apart numbered = refl
 none_named t i (r ∷ roots) apart numbered =
     let first : r.name ≡ numbered_root_name i = cc in

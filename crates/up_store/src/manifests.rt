@@ -1,27 +1,32 @@
 //! Accepted manifests.
-ghost use Rattle.std.specs.Prelude.{◌≡◌, ◌<◌, ◌^◌, Some, IfOk, OnErr, OnOk};
+ghost use Rattle.std.specs.Prelude.{◌≡◌, ◌<◌, ◌^◌, ⊤, Some, IfOk, OnErr, OnOk};
 ghost use Rattle.sqlite.specs.Held.{state};
 ghost use Rattle.sqlite.specs.State.{HasCleanDisk, Survives};
 ghost use Rattle.up_canon.specs.Names.{Name};
 ghost use Rattle.up_machine.specs.declared.rows.Kept.{Kept as KeptData};
 ghost use Rattle.up_rows.specs.Changes.{with_accepted_rows};
 ghost use Rattle.up_rows.specs.Lookups.{kept_with, latest_kept};
-ghost use Rattle.up_store.specs.ColumnRows.{IsKept, last_found};
+ghost use Rattle.up_store.specs.ColumnRows.{IsKept, last_found, with_kept};
 ghost use Rattle.up_store.specs.Typed.{IsTypedKept};
 ghost use Rattle.up_store.specs.Fitting.{IsRecorded};
-ghost use Rattle.up_tables.specs.Stands.{IfClean, HasTables, IsAsCommitted, IsInside, Reads, Steps};
-ghost use Rattle.up_store.specs.Connections.{Answers, FindsRows, NeedsOpen, TakesRows, CommitsRows, SparesRows};
+ghost use Rattle.up_store.specs.Puts.{IsReported, with_reported};
+ghost use Rattle.up_tables.specs.Stands.{IfClean, HasTables, IsAsCommitted, IsInside, IsOpen, Reads, Steps};
+ghost use Rattle.up_store.specs.Connections.{Answers, FindsRows, NeedsOpen, PutsRows, PutsTables, TakesRows, CommitsRows, SparesRows};
 
-use crate::kept_rows::read_kept;
-use crate::store::{MOST_NUMBER, Store, StoreFault};
+use crate::ecus::make_ecus;
+use crate::kept_rows::{make_kept, read_kept};
+use crate::store::{MOST_NUMBER, MOST_ROWS, Store, StoreFault};
+use crate::vehicles::make_vehicle;
 use sqlite::{Alter, Transaction};
 use std::alloc::Global;
 use up_canon::count::Count;
 use up_canon::ident::Ident;
 use up_machine::decision::AcceptedRows;
-use up_machine::rows::Kept;
-use up_tables::kept::{KeptRow, kept as kept_shown};
-use up_tables::vehicle::vehicle as vehicle_shown;
+use up_machine::rows::{Kept, VehicleRows};
+use up_tables::ecu::upsert_ecus;
+use up_tables::kept::{KeptRow, insert_kept, kept as kept_shown};
+use up_tables::values::fault_of;
+use up_tables::vehicle::{upsert_vehicle, vehicle as vehicle_shown};
 
 impl<D: Alter> Store<D> {
     /// The vehicle's row with this counter, none where there is none.
@@ -60,11 +65,72 @@ impl<D: Alter> Store<D> {
         ensures clean { HasCleanDisk (state D.Store self.new) → HasCleanDisk (state D.Store self.old) }
         ensures open { NeedsOpen (state D.Store self.old) (state D.Store self.new) result }
     {
-        let _ = alloc;
-        let _ = new;
-        let _settled = self.conn.is_autocommit();
-        Err(StoreFault::Store)
+        let mut tx = self.conn.transaction();
+        if let Err(fault) = put_accepted(&mut tx, alloc, new) {
+            return Err(fault);
+        }
+        match tx.commit() {
+            Ok(()) => Ok(()),
+            Err(error) => Err(fault_of(error)),
+        }
     }
+}
+
+/// Sets the rows of a vehicle, and keeps a manifest.
+fn put_accepted<D: Alter>(
+    tx: &mut Transaction<'_, D>,
+    alloc: Global,
+    new: &AcceptedRows,
+) -> Result<(), StoreFault>
+    requires mode { IfClean IsInside (state D.Store tx.old.conn.now) }
+    ensures same_reference { tx.new.conn.ghost_name ≡ tx.old.conn.ghost_name }
+    ensures put { PutsRows (IsRecorded new.now) (λ rows. with_accepted_rows rows new.now) (state D.Store tx.old.conn.now) (state D.Store tx.new.conn.now) result }
+    ensures inside { OnOk result (IfClean IsInside (state D.Store tx.new.conn.now)) }
+    ensures open { OnOk result (IfClean IsOpen (state D.Store tx.new.conn.now)) }
+    ensures steps { Steps (state D.Store tx.old.conn.now) (state D.Store tx.new.conn.now) }
+{
+    put_reported(tx, alloc, &new.vehicle)?;
+    insert_kept_row(tx, alloc, &new.kept)
+}
+
+/// Sets the row of a vehicle that is there, and what its ECUs reported.
+fn put_reported<D: Alter>(
+    tx: &mut Transaction<'_, D>,
+    alloc: Global,
+    new: &VehicleRows,
+) -> Result<(), StoreFault>
+    requires mode { IfClean IsInside (state D.Store tx.old.conn.now) }
+    ensures same_reference { tx.new.conn.ghost_name ≡ tx.old.conn.ghost_name }
+    ensures put { PutsTables (IsReported new.now) (with_reported new.now) (state D.Store tx.old.conn.now) (state D.Store tx.new.conn.now) result }
+    ensures inside { OnOk result (IfClean IsInside (state D.Store tx.new.conn.now)) }
+    ensures open { OnOk result (IfClean IsOpen (state D.Store tx.new.conn.now)) }
+    ensures steps { Steps (state D.Store tx.old.conn.now) (state D.Store tx.new.conn.now) }
+{
+    let vehicle = make_vehicle(alloc, &new.vehicle)?;
+    let ecus = make_ecus(alloc, new.ecus.as_slice())?;
+    if ecus.len() > MOST_ROWS {
+        return Err(StoreFault::Store);
+    }
+    upsert_vehicle(tx, &vehicle)?;
+    upsert_ecus(tx, new.vehicle.vehicle.text(), ecus.as_slice())
+}
+
+/// Puts in the row that is kept for a manifest.
+fn insert_kept_row<D: Alter>(
+    tx: &mut Transaction<'_, D>,
+    alloc: Global,
+    kept: &Kept,
+) -> Result<(), StoreFault>
+    requires mode { IfClean IsInside (state D.Store tx.old.conn.now) }
+    ensures same_reference { tx.new.conn.ghost_name ≡ tx.old.conn.ghost_name }
+    ensures put { PutsTables (λ _. ⊤) (with_kept kept.now) (state D.Store tx.old.conn.now) (state D.Store tx.new.conn.now) result }
+    ensures typed { OnOk result (IsTypedKept kept.now.vehicle kept.now) }
+    ensures inside { OnOk result (IfClean IsInside (state D.Store tx.new.conn.now)) }
+    ensures open { OnOk result (IfClean IsOpen (state D.Store tx.new.conn.now)) }
+    ensures steps { Steps (state D.Store tx.old.conn.now) (state D.Store tx.new.conn.now) }
+{
+    let row = make_kept(alloc, kept)?;
+    insert_kept(tx, &row)
 }
 
 /// The vehicle's row with this counter.
