@@ -12,6 +12,7 @@ sys.dont_write_bytecode = True
 
 import collect_rows
 import expected_files
+import http_cases
 import pages
 import program_cases
 import row_texts
@@ -95,6 +96,7 @@ def tried(program, rows):
     yield from scripts(program)
     yield from texts(rows)
     yield from program_cases.cases(program)
+    yield from http_cases.cases(program)
     yield from limits(program)
     yield from primaries(program, rows)
     yield from pages.cases()

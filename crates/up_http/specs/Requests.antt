@@ -38,7 +38,7 @@ with_body (planned_as.FetchDirector file) body = Call (Fetch Director file)
 with_body (planned_as.FetchImage file) body = Call (Fetch Image file)
 
 -- whether a campaign that is opened is running
-abbrev pub asks_running : What → Bool
+unfoldable pub asks_running : What → Bool
 asks_running (Call command) = opens_running command
 asks_running (Fixed check) = true
 

@@ -1,6 +1,7 @@
-use Rattle.std.proofs.Common.{◌≡◌, ◌∙◌, false, sym, subst, refl, Some, None}
+use Rattle.std.proofs.Common.{[], ◌≡◌, ◌∙◌, false, sym, subst, refl, Some, None}
 use Rattle.up_http.specs.Feeding.{Ends}
 use Rattle.up_http.proofs.ServeLaws.{completes_none, completes_next, stops_end}
+use Rattle.up_http.proofs.StreamLaws.{first_runs}
 use Rattle.up_http.proofs.serving.finish.Goals as goal
 
 pub returns-in-None-clause-ok : goal.returns-in-None-clause-ok
@@ -19,3 +20,8 @@ pub returns-clause-err : goal.returns-clause-err
 returns-clause-err g c =
     let ends : Ends c.args.progress.now.feeder (Some c.in-Some.next) c.end.new.self = subst (λ o. Ends c.args.progress.now.feeder o c.end.new.self) c.in-Some.is c.end.ensures in
     stops_end (g.A.Respond.gives c.args.responder.now) c.in-Err.cause c.args.progress.now _ _ c.in-Some.next _ _ _ _ ends.0 ends.2 ends.3 c.in-Err.ensures.err c.in-Err.ensures.called c.in-Err.ensures.answered
+
+pub answer_counted-requires-asks : goal.answer_counted-requires-asks
+answer_counted-requires-asks g c =
+    let ends : Ends c.args.progress.now.feeder (Some c.in-Some.next) c.end.new.self = subst (λ o. Ends c.args.progress.now.feeder o c.end.new.self) c.in-Some.is c.end.ensures in
+    first_runs c.args.progress.now.feeder.given c.args.progress.now.feeder.rest c.in-Some.next [] ends.3

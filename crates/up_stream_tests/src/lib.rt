@@ -1,0 +1,12 @@
+//! Tests of streams of requests at a desk: each answer byte by byte, however the stream is cut, and readers and writers that
+//! fail once.
+#![tactic(auto)]
+
+#[cfg(test)]
+mod devices;
+#[cfg(test)]
+mod faults;
+#[cfg(test)]
+mod rows;
+#[cfg(test)]
+mod texts;
