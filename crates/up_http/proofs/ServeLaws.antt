@@ -117,7 +117,7 @@ module _ {S : Type 0} (gives : S → Next → List ℕ → S → Type 0) where
   -- what becomes of a request that was begun
   broken : (cause : Fault) (given : ℕ) (bytes : List ℕ) (next : Next) (old new : S) (held holds : Option (List ℕ)) (ended : Bool) → IsBegun given bytes ended next → Unanswered gives cause old next new held holds
       → (prefix : List ℕ) × Breaks gives cause given bytes ended old new prefix (calls (next ∷ [])) × Appends held holds prefix
-  broken Memory given bytes next old new held holds ended begun (text, gave, wrote) = ([], (refl, inr (next, begun, refl, text, gave)), wrote)
+  broken Memory given bytes next old new held holds ended begun ((text, gave), wrote) = ([], (refl, inr (next, begun, refl, text, gave)), wrote)
   broken Write given bytes next old new held holds ended begun (text, gave, prefix, proper, wrote) = (prefix, (next, begun, refl, text, gave, proper), wrote)
   broken Read given bytes next old new held holds ended begun h = absurd h
 

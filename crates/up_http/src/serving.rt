@@ -4,7 +4,7 @@ ghost use Rattle.std.specs.Io.KnownBytes.{Appends};
 ghost use Rattle.up_http.specs.Requests.{asks_running, most_requests};
 ghost use Rattle.up_http.specs.Serving.{Ran, Finished, AnswersFirst, Unanswered, Takes, Stops, Moves, Completes, IsFresh, calls, told};
 
-use crate::asked::{Next, What};
+use crate::asked::{Next, Step, What};
 use crate::fault::{Fault, ServeFault};
 use crate::feeder::Feeder;
 use crate::progress::Progress;
@@ -60,20 +60,20 @@ fn answer_counted<S, A: Respond<S>, W: Write>(
     writer: &mut W,
     called: &mut u32,
     answered: &mut u32,
-    next: &Next,
+    next: Next,
 ) -> Result<(), Fault>
-    requires asks { IsTrue (asks_running next.now.what) }
+    requires asks { IsTrue (asks_running next.what) }
     requires calls_left { called.old < most_requests }
     requires answers_left { answered.old < most_requests }
-    ensures called { called.new ≡ called.old + calls (next.now ∷ []) }
+    ensures called { called.new ≡ called.old + calls (next ∷ []) }
     ensures one { called.new ≤ called.old + 1 }
     ensures answered { answered.new ≡ (if is_ok result then answered.old + 1 else answered.old) }
-    ensures ok { OnOk result ((text : List ℕ) × A.gives responder.now state.old next.now text state.new
+    ensures ok { OnOk result ((text : List ℕ) × A.gives responder.now state.old next text state.new
         × Appends (W.contents writer.old) (W.contents writer.new) text) }
-    ensures err { IfErr result (λ cause. Unanswered (A.gives responder.now) cause state.old next.now state.new (W.contents writer.old) (W.contents writer.new)) }
+    ensures err { IfErr result (λ cause. Unanswered (A.gives responder.now) cause state.old next state.new (W.contents writer.old) (W.contents writer.new)) }
 {
-    *called = count_call(*called, next);
-    answer_next(alloc, responder, state, writer, next)?;
+    *called = count_call(*called, &next);
+    answer_next(alloc, responder, state, writer, &next)?;
     *answered += 1;
     Ok(())
 }
@@ -94,25 +94,27 @@ fn serve_piece<S, A: Respond<S>, W: Write>(
     ensures err { IfErr result (λ cause. Stops (A.gives responder.now) cause false piece.now
         progress.old state.old (W.contents writer.old) progress.new state.new (W.contents writer.new)) }
 {
-    let step = match progress.feeder.feed(piece) {
+    let Step { taken, next } = match progress.feeder.feed(piece) {
         Ok(step) => step,
         Err(_) => return Err(Fault::Memory),
     };
-    let Some(next) = &step.next else {
-        return Ok(step.taken);
-    };
-    progress.over = next.last;
-    match answer_counted(
-        alloc,
-        responder,
-        state,
-        writer,
-        &mut progress.called,
-        &mut progress.answered,
-        next,
-    ) {
-        Ok(()) => Ok(step.taken),
-        Err(cause) => Err(cause),
+    match next {
+        None => Ok(taken),
+        Some(next) => {
+            progress.over = next.last;
+            match answer_counted(
+                alloc,
+                responder,
+                state,
+                writer,
+                &mut progress.called,
+                &mut progress.answered,
+                next,
+            ) {
+                Ok(()) => Ok(taken),
+                Err(cause) => Err(cause),
+            }
+        }
     }
 }
 
@@ -144,7 +146,7 @@ fn finish<S, A: Respond<S>, W: Write>(
                 writer,
                 &mut progress.called,
                 &mut progress.answered,
-                &next,
+                next,
             ) {
                 Ok(()) => Ok(()),
                 Err(cause) => Err(cause),

@@ -39,6 +39,7 @@ impl<K: Scheme> Respond<Desk<K>> for Responder {
 }
 
 /// The response to a request, whose command is carried out at the desk.
+#[tactic(auto, unfolding(up_http::specs::Requests::asks_running))]
 fn response<K: Scheme>(
     alloc: Global,
     desk: &mut Desk<K>,

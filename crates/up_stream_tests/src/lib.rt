@@ -1,5 +1,5 @@
-//! Tests of streams of requests at a desk: each answer byte by byte, however the stream is cut, and readers and writers that
-//! fail once.
+//! Tests of streams of requests at a desk: each answer byte by byte, however the stream is cut, readers and writers that fail
+//! once, and a socket.
 #![tactic(auto)]
 
 #[cfg(test)]
@@ -8,5 +8,7 @@ mod devices;
 mod faults;
 #[cfg(test)]
 mod rows;
+#[cfg(test)]
+mod sockets;
 #[cfg(test)]
 mod texts;
