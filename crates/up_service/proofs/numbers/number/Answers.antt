@@ -1,5 +1,5 @@
 use Rattle.std.proofs.Common.{◌≡◌, ◌<◌, ◌≤◌, ℕ, sym, subst, arith, get_or, Ok, Err, ◌∙◌}
-use Rattle.up_service.proofs.Numbers.{number_read, number_not_read, number_not_begun}
+use Rattle.up_service.proofs.Decimals.{number_read, number_not_read, number_not_begun}
 use Rattle.up_service.proofs.numbers.number.Goals as goal
 
 pub returns-then-first_byte-le48 : goal.returns-then-first_byte-le48
