@@ -58,13 +58,16 @@ def texts(rows):
 
 
 def limits(program):
-    """1,024 images and 64 root versions, and one more of each."""
+    """1,024 images, 64 root versions and bodies of 262,144 bytes, and one more of each."""
     row = read(ROWS / "kept_reply_after_a_rotation" / "script").split("\n")
     rotate = next(line for line in row if '"do":"rotate"' in line)
     image = '{"at":1767225600,"do":"add_image","file":"%d.bin","hardware":["HS"],"length":0,"release":1,"sha256":"%s"}'
     script = row[:1] + [image % (number, 64 * "0") for number in range(1025)] + 64 * [rotate]
     wanted = 1025 * ["done"] + ["refused 20 RegisterFull"] + 63 * ["done"] + ["refused 30 RootFull", ""]
     yield "images and root versions at their limits", printed(program, "\n".join(script)) == "\n".join(wanted)
+    body = '{"at":1767225600,"body":"%s","do":"deliver"}\n'
+    bodies = body % (262144 * " ") + body % (262145 * " ")
+    yield "bodies at their limit", printed(program, bodies) == "refused 5 NotJson\nrefused 4 TooLarge\n"
 
 
 def first_reply(rows, given, reply):

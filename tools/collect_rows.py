@@ -17,7 +17,7 @@ def lines_of(path):
 
 
 def is_command(line):
-    """Whether a line asks the desk something. In the rows no line of these words has a faulty member."""
+    """Whether a line asks the desk something. No line of these words has a faulty member, but in rows that are unread."""
     try:
         value = json.loads(line)
     except ValueError:
@@ -30,6 +30,7 @@ class Row:
 
     def __init__(self, folder):
         self.name = folder.name
+        self.is_unread = (folder / "unread").exists()
         self.method = (lines_of(folder / "under") or ["hmac-sha256"])[0]
         printed = iter(lines_of(folder / "printed"))
         replies = iter(lines_of(folder / "replies"))
@@ -41,17 +42,20 @@ class Row:
         if list(printed) or list(replies):
             raise SystemExit("row %s: more answers than lines" % self.name)
 
+    def asks(self, line):
+        return not self.is_unread and is_command(line)
+
     def given(self):
         out = ["row " + self.name, "@ " + self.method]
         for line, answer, reply in self.steps:
-            asks = is_command(line)
+            asks = self.asks(line)
             out.append(("> " if asks else "? ") + line)
             out += [("< " if asks else "! ") + answer] * bool(line) + ["= " + reply] * bool(reply)
         return "\n".join(out) + "\n"
 
     def wanted(self):
         answered = [step for step in self.steps if step[0]]
-        asked = [step for step in answered if is_command(step[0])]
+        asked = [step for step in answered if self.asks(step[0])]
         texts = sum(bool(reply) for _, _, reply in answered)
         return tells(self.name, len(answered), len(answered), len(asked) + texts, len(answered) + texts) + "\n"
 

@@ -1,4 +1,5 @@
-"""What the pages name is there: links, headings, contracts, tests, refused edits, rows, and the texts of the Primary's page."""
+"""What the pages name is there: links, headings, contracts, tests, refused edits, rows, and the texts of the Primary's page.
+Tests are functions, or sections of the rows that a crate carries out, named by their words."""
 import re
 from pathlib import Path
 
@@ -35,14 +36,21 @@ def promised():
     proofs, standard = ((TOP / "docs" / name).read_text(encoding="utf-8") for name in ("PROOFS.md", "STANDARD.md"))
     for label in ("Contract", "Tests", "Rows", "Edits"):
         for part in re.findall(r"\*%s\*(.*?)(?=\n  \*|\n- |\n\n|\n#)" % label, proofs, re.DOTALL):
-            yield from (("PROOFS.md", label, name) for name in re.findall(r"`([\w:\-]+)`", part))
+            named = r"`([\w:\- ]+)`" if label == "Tests" else r"`([\w:\-]+)`"
+            yield from (("PROOFS.md", label, name) for name in re.findall(named, part))
     for begins, label in (("Contract", "Contract"), ("Shown by", "Tests, Rows")):
         for part in re.findall(r"- %s:(.*?)(?=\n- |\n\n)" % begins, standard, re.DOTALL):
-            yield from (("STANDARD.md", label, name) for name in re.findall(r"`([\w:]+)`", part))
+            yield from (("STANDARD.md", label, name) for name in re.findall(r"`([\w: ]+)`", part))
 
 
 def read_all(pattern):
     return "\n".join(path.read_text(encoding="utf-8") for path in TOP.glob(pattern))
+
+
+def sections():
+    """The words of the sections of rows, with and without the scheme under which they stand."""
+    words = re.findall(r"^# (.+)$", read_all("crates/*/stdin"), re.MULTILINE)
+    return {name for it in words for name in (it, it.split(" under ")[0])}
 
 
 def names_there():
@@ -51,7 +59,7 @@ def names_there():
     contracts = re.findall(r"\b(?:fn|ensures|struct|enum|trait|mod) (\w+)", code)
     return {
         "Contract": set(contracts) | set(re.findall(r"\bpub (?:record |data )?(\w+)", specs)),
-        "Tests": set(re.findall(r"#\[test\]\s*fn (\w+)", code)) | {path.name for path in TOP.glob("crates/*")},
+        "Tests": set(re.findall(r"#\[test\]\s*fn (\w+)", code)) | {path.name for path in TOP.glob("crates/*")} | sections(),
         "Rows": {path.parent.name for path in TOP.glob("rows/*/script")},
         "Edits": {path.stem for path in TOP.glob("crates/*/*/*.edit")},
     }

@@ -48,6 +48,11 @@ REPLIES = {
     "kept_reply_after_a_rotation": [("V2", 1, 1, [A_FOR_S2]), ("V2", 2, 2, []), ("V2", 1, 1, [A_FOR_S2])],
     "root_signed_by_the_old_key_too": [("V1", 1, 1, []), ("V1", 2, 2, [])],
     "each_command_under_a_second_scheme": [("V2", 1, 1, [A_FOR_S2]), ("V2", 2, 2, []), ("V2", 1, 1, [A_FOR_S2])],
+    "report_of_an_attack": [("V1", 1, 1, []), ("V1", 2, 1, []), ("V1", 1, 1, []), ("V1", 3, 1, [])],
+    "vehicles_in_turn": [("V1", 1, 1, []), ("V2", 1, 1, [S_FOR_S2]), ("V1", 2, 1, []), ("V2", 2, 1, [S_FOR_S2]), ("V1", 1, 1, [])],
+    "vehicles_in_another_turn": [
+        ("V2", 1, 1, [S_FOR_S2]), ("V1", 1, 1, []), ("V2", 2, 1, [S_FOR_S2]), ("V1", 2, 1, []), ("V1", 1, 1, [])
+    ],
     "vehicle_of_32_ecus": 2 * [("V32", 1, 1, A7_FOR_31)],
     "vehicle_of_32_ecus_under_a_second_scheme": 2 * [("V32", 1, 1, A7_FOR_31)],
 }

@@ -1,0 +1,7 @@
+//! Rows of tests: what is given to a call, and what it has to answer.
+#![tactic(auto)]
+
+pub mod calls;
+mod changes;
+mod repeated;
+pub mod sections;
