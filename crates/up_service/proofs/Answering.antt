@@ -1,5 +1,5 @@
 -- What a line or a request is answered where memory may be refused.
-use Rattle.std.proofs.Common.{◌≡◌, inl, inr, ℕ, List, Bool, true, false, Result, Ok, Err, refl, ap, ◌∙◌}
+use Rattle.std.proofs.Common.{◌≡◌, inl, inr, ℕ, List, Bool, true, false, Result, Ok, Err, refl, sym, subst, ap, ◌∙◌}
 use Rattle.std.specs.Prelude.{◌⊎◌, MatchBool, OnErr}
 use Rattle.up_canon.specs.Refusals.{is_memory}
 use Rattle.up_canon.specs.declared.refusal.Refusal.{Refusal}
@@ -13,7 +13,10 @@ use Rattle.up_desk.specs.Serving.{Holding, IsAnswered, is_lost}
 use Rattle.up_script.specs.PrintedLines.{answer_text}
 use Rattle.up_machine.specs.Repeats.{serve}
 use Rattle.up_machine.specs.declared.command.Command.{Command}
-use Rattle.up_http.specs.declared.asked.What.TheVariants.{Call}
+use Rattle.up_heads.specs.declared.check.Check.{Check}
+use Rattle.up_heads.specs.Responses.{check_response_of}
+use Rattle.up_http.specs.declared.asked.What.{What}
+use Rattle.up_http.specs.declared.asked.What.TheVariants.{Call, Fixed}
 use Rattle.up_service.specs.Answers.{IsAnswerOr}
 use Rattle.up_service.specs.LineAnswers.{line_answer, IsAnswer, IsStopped, Lines}
 use Rattle.up_service.specs.Responses.{IsResponseTo, answer_response}
@@ -81,6 +84,10 @@ pub responded : (k : Rules) (at : ℕ) (command : Command) (last head : Bool) (a
     → IsResponseTo k at old (Call command) last head t new
 unfolding answer_response
 responded k at command last head a old new t h e = said_as (λ answer. answer_response answer last head) a old new (serve k old at command) t h e
+
+-- a fixed answer
+pub checked : (k : Rules) (at : ℕ) (s : State) (what : What) (check : Check) (last head : Bool) → what ≡ Fixed check → (text : List ℕ) × IsResponseTo k at s what last head text s
+checked k at s what check last head is = subst (λ w. (text : List ℕ) × IsResponseTo k at s w last head text s) (sym is) (check_response_of check last head, (refl, refl))
 
 -- ---- lines without an answer
 
