@@ -1,5 +1,5 @@
 //! Readers that give a few bytes at a time, and readers and writers that fail once.
-use crate::texts::AT;
+use crate::texts::{AT, desk_after};
 use std::alloc::Global;
 use std::io;
 use std::io::{Read, Write};
@@ -65,6 +65,14 @@ impl Write for Shaky {
     }
 }
 
+/// What came of a stream.
+#[derive(Drop)]
+pub(crate) struct Answered {
+    pub result: Result<Served, ServeFault>,
+    /// What was written.
+    pub written: Vec<u8>,
+}
+
 /// How an input comes: so many bytes in the first read, so many in each further one, and the read that fails.
 #[derive(Clone, Copy)]
 pub(crate) struct Reads {
@@ -83,13 +91,13 @@ pub(crate) fn pieces(step: usize) -> Reads {
 }
 
 /// What a stream of these bytes is answered, where so many writes fail and take nothing, and what was written.
-pub(crate) fn stream(
+fn stream(
     alloc: Global,
     desk: &mut Desk<HmacSha256>,
     input: &str,
     reads: Reads,
     writes: (u32, u32),
-) -> (Result<Served, ServeFault>, Vec<u8>) {
+) -> Answered {
     let mut reader = Slow {
         bytes: input.as_bytes(),
         first: reads.first,
@@ -104,5 +112,28 @@ pub(crate) fn stream(
         takes_none_at: writes.1,
     };
     let result = serve_stream(alloc, desk, AT, &mut reader, &mut writer);
-    (result, writer.written)
+    Answered {
+        result,
+        written: writer.written,
+    }
+}
+
+/// The same at a desk at which these lines were carried out.
+pub(crate) fn answered(
+    alloc: Global,
+    script: &[&str],
+    input: &str,
+    reads: Reads,
+    writes: (u32, u32),
+) -> Answered {
+    let mut desk = desk_after(alloc, script);
+    stream(alloc, &mut desk, input, reads, writes)
+}
+
+/// The same twice at one desk, where the first time one write fails.
+pub(crate) fn answered_again(alloc: Global, script: &[&str], input: &str) -> (Answered, Answered) {
+    let mut desk = desk_after(alloc, script);
+    let first = stream(alloc, &mut desk, input, pieces(1_000), (1, 0));
+    let second = stream(alloc, &mut desk, input, pieces(1_000), (0, 0));
+    (first, second)
 }

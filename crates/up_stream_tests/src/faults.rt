@@ -1,7 +1,7 @@
 //! Streams whose reader or writer fails once.
-use crate::devices::{Reads, pieces, stream};
+use crate::devices::{Reads, answered, answered_again, pieces};
 use crate::rows::{NO_FILE, NO_FILE_ANSWER};
-use crate::texts::{FOUND, MANIFEST, REPLY, VEHICLE, desk_after, found, lines, posted};
+use crate::texts::{FOUND, MANIFEST, REPLY, VEHICLE, found, lines, posted};
 use std::test::Fail;
 use up_service::{Fault, ServeFault, Served};
 
@@ -38,11 +38,10 @@ fn ends_at_one_failure(rt: HostRuntime) -> Result<(), Fail> {
         (failing(1_000, 2), (0, 0), fault(Fault::Read, 3, 3), 3),
     ];
     for (reads, writes, wanted, answers) in table {
-        let mut desk = desk_after(alloc, &[FOUND]);
-        let (result, written) = stream(alloc, &mut desk, input.as_str(), reads, writes);
-        assert_eq!(rt; result, wanted);
+        let told = answered(alloc, &[FOUND], input.as_str(), reads, writes);
+        assert_eq!(rt; told.result, wanted);
         assert_eq!(rt;
-            written.as_slice(),
+            told.written.as_slice(),
             answer.as_str().repeat(alloc, answers)?.as_str().as_bytes()
         );
     }
@@ -52,17 +51,13 @@ fn ends_at_one_failure(rt: HostRuntime) -> Result<(), Fail> {
 #[test]
 fn an_unwritten_reply_is_kept(rt: HostRuntime) -> Result<(), Fail> {
     let alloc = rt.alloc();
-    let mut desk = desk_after(alloc, &[FOUND, VEHICLE]);
     let request = posted(alloc, MANIFEST)?;
-    let (ran, written) = stream(alloc, &mut desk, request.as_str(), pieces(1_000), (1, 0));
-    assert_eq!(rt; ran, fault(Fault::Write, 1, 0));
-    assert!(rt; written.is_empty());
-    let (ran, written) = stream(alloc, &mut desk, request.as_str(), pieces(1_000), (0, 0));
-    assert_eq!(rt; ran, Ok(Served { requests: 1 }));
-    assert_eq!(rt;
-        written.as_slice(),
-        found(alloc, REPLY)?.as_str().as_bytes()
-    );
+    let wanted = found(alloc, REPLY)?;
+    let (first, second) = answered_again(alloc, &[FOUND, VEHICLE], request.as_str());
+    assert_eq!(rt; first.result, fault(Fault::Write, 1, 0));
+    assert!(rt; first.written.is_empty());
+    assert_eq!(rt; second.result, Ok(Served { requests: 1 }));
+    assert_eq!(rt; second.written.as_slice(), wanted.as_str().as_bytes());
     Ok(())
 }
 
@@ -74,24 +69,54 @@ fn each_read_and_write_fails(rt: HostRuntime) -> Result<(), Fail> {
     let mut input = posted(alloc, MANIFEST)?.as_str().repeat(alloc, 2)?;
     input.push_str(lines(alloc, NO_FILE)?.as_str())?;
     input.push_str("GET")?;
-    let mut desk = desk_after(alloc, &[FOUND, VEHICLE]);
-    let (ran, whole) = stream(alloc, &mut desk, input.as_str(), pieces(400), (0, 0));
-    assert_eq!(rt; ran, Ok(Served { requests: 4 }));
+    let whole = answered(
+        alloc,
+        &[FOUND, VEHICLE],
+        input.as_str(),
+        pieces(400),
+        (0, 0),
+    );
+    assert_eq!(rt; whole.result, Ok(Served { requests: 4 }));
     for at in 1..6 {
-        let mut desk = desk_after(alloc, &[FOUND, VEHICLE]);
-        let (ran, written) = stream(alloc, &mut desk, input.as_str(), failing(400, at), (0, 0));
+        let told = answered(
+            alloc,
+            &[FOUND, VEHICLE],
+            input.as_str(),
+            failing(400, at),
+            (0, 0),
+        );
         assert!(rt;
-            matches!(&ran, Err(fault) if fault.cause == Fault::Read && fault.called == fault.answered),
+            matches!(&told.result, Err(fault) if fault.cause == Fault::Read && fault.called == fault.answered),
             "{at}"
         );
-        assert!(rt; whole.as_slice().starts_with(written.as_slice()), "{at}");
+        assert!(rt;
+            whole
+                .written
+                .as_slice()
+                .starts_with(told.written.as_slice()),
+            "{at}"
+        );
     }
     for at in 1..5 {
-        let mut desk = desk_after(alloc, &[FOUND, VEHICLE]);
-        let (ran, written) = stream(alloc, &mut desk, input.as_str(), pieces(400), (at, 0));
+        let told = answered(
+            alloc,
+            &[FOUND, VEHICLE],
+            input.as_str(),
+            pieces(400),
+            (at, 0),
+        );
         // The fourth request is no command.
-        assert_eq!(rt; ran, fault(Fault::Write, at.min(3), at.saturating_sub(1)));
-        assert!(rt; whole.as_slice().starts_with(written.as_slice()), "{at}");
+        assert_eq!(rt;
+            told.result,
+            fault(Fault::Write, at.min(3), at.saturating_sub(1))
+        );
+        assert!(rt;
+            whole
+                .written
+                .as_slice()
+                .starts_with(told.written.as_slice()),
+            "{at}"
+        );
     }
     Ok(())
 }

@@ -1,6 +1,6 @@
 //! Requests and their answers.
-use crate::devices::{Reads, pieces, stream};
-use crate::texts::{FOUND, MANIFEST, REPLY, VEHICLE, desk_after, found, lines, posted};
+use crate::devices::{Reads, answered, pieces};
+use crate::texts::{FOUND, MANIFEST, REPLY, VEHICLE, found, lines, posted};
 use std::alloc::Global;
 use std::process::Abort;
 use std::test::Fail;
@@ -64,11 +64,10 @@ fn short_requests(rt: HostRuntime) -> Result<(), Fail> {
     for (input, wanted, requests) in SHORT {
         let text = lines(alloc, input)?;
         for step in [1, 1_000] {
-            let mut desk = desk_after(alloc, &[FOUND]);
-            let (ran, written) = stream(alloc, &mut desk, text.as_str(), pieces(step), (0, 0));
-            assert_eq!(rt; ran, Ok(Served { requests }), "{input}");
+            let told = answered(alloc, &[FOUND], text.as_str(), pieces(step), (0, 0));
+            assert_eq!(rt; told.result, Ok(Served { requests }), "{input}");
             assert_eq!(rt;
-                written.as_slice(),
+                told.written.as_slice(),
                 lines(alloc, wanted)?.as_str().as_bytes(),
                 "{input}"
             );
@@ -80,14 +79,13 @@ fn short_requests(rt: HostRuntime) -> Result<(), Fail> {
 #[test]
 fn before_the_founding(rt: HostRuntime) -> Result<(), Fail> {
     let alloc = rt.alloc();
-    let mut desk = desk_after(alloc, &[]);
     let text = lines(alloc, NO_FILE)?;
-    let (_, written) = stream(alloc, &mut desk, text.as_str(), pieces(1_000), (0, 0));
+    let told = answered(alloc, &[], text.as_str(), pieces(1_000), (0, 0));
     let wanted = lines(
         alloc,
         "HTTP/1.1 503 Service Unavailable|Content-Type: application/json|Content-Length: 31||{\"error\":8,\"text\":\"NotFounded\"}",
     )?;
-    assert_eq!(rt; written.as_slice(), wanted.as_str().as_bytes());
+    assert_eq!(rt; told.written.as_slice(), wanted.as_str().as_bytes());
     Ok(())
 }
 
@@ -96,10 +94,9 @@ fn spaces(rt: &impl Abort, alloc: Global, size: usize, wanted: &str) -> Result<(
     let text = posted(alloc, " ".repeat(alloc, size)?.as_str())?;
     let wanted = lines(alloc, wanted)?;
     for step in [1, 1_000_000] {
-        let mut desk = desk_after(alloc, &[FOUND]);
-        let (ran, written) = stream(alloc, &mut desk, text.as_str(), pieces(step), (0, 0));
-        assert_eq!(rt; ran, Ok(Served { requests: 1 }));
-        assert_eq!(rt; written.as_slice(), wanted.as_str().as_bytes());
+        let told = answered(alloc, &[FOUND], text.as_str(), pieces(step), (0, 0));
+        assert_eq!(rt; told.result, Ok(Served { requests: 1 }));
+        assert_eq!(rt; told.written.as_slice(), wanted.as_str().as_bytes());
     }
     Ok(())
 }
@@ -120,15 +117,18 @@ fn two_requests_cut_anywhere(rt: HostRuntime) -> Result<(), Fail> {
     let input = lines(alloc, NO_FILE)?.as_str().repeat(alloc, 2)?;
     let wanted = lines(alloc, NO_FILE_ANSWER)?.as_str().repeat(alloc, 2)?;
     for first in 0..=input.len() {
-        let mut desk = desk_after(alloc, &[FOUND]);
         let reads = Reads {
             first,
             step: 1_000,
             fails_at: 0,
         };
-        let (ran, written) = stream(alloc, &mut desk, input.as_str(), reads, (0, 0));
-        assert_eq!(rt; ran, Ok(Served { requests: 2 }), "{first}");
-        assert_eq!(rt; written.as_slice(), wanted.as_str().as_bytes(), "{first}");
+        let told = answered(alloc, &[FOUND], input.as_str(), reads, (0, 0));
+        assert_eq!(rt; told.result, Ok(Served { requests: 2 }), "{first}");
+        assert_eq!(rt;
+            told.written.as_slice(),
+            wanted.as_str().as_bytes(),
+            "{first}"
+        );
     }
     Ok(())
 }
@@ -139,10 +139,15 @@ fn a_manifest_twice(rt: HostRuntime) -> Result<(), Fail> {
     let input = posted(alloc, MANIFEST)?.as_str().repeat(alloc, 2)?;
     let wanted = found(alloc, REPLY)?.as_str().repeat(alloc, 2)?;
     for step in [1, 100_000] {
-        let mut desk = desk_after(alloc, &[FOUND, VEHICLE]);
-        let (ran, written) = stream(alloc, &mut desk, input.as_str(), pieces(step), (0, 0));
-        assert_eq!(rt; ran, Ok(Served { requests: 2 }));
-        assert_eq!(rt; written.as_slice(), wanted.as_str().as_bytes());
+        let told = answered(
+            alloc,
+            &[FOUND, VEHICLE],
+            input.as_str(),
+            pieces(step),
+            (0, 0),
+        );
+        assert_eq!(rt; told.result, Ok(Served { requests: 2 }));
+        assert_eq!(rt; told.written.as_slice(), wanted.as_str().as_bytes());
     }
     Ok(())
 }
@@ -157,9 +162,8 @@ fn a_hundred_requests(rt: HostRuntime) -> Result<(), Fail> {
         .as_str()
         .replace(alloc, "33\r\n", "33\r\nConnection: close\r\n")?;
     wanted.push_str(last.as_str())?;
-    let mut desk = desk_after(alloc, &[FOUND]);
-    let (ran, written) = stream(alloc, &mut desk, input.as_str(), pieces(1_000), (0, 0));
-    assert_eq!(rt; ran, Ok(Served { requests: 100 }));
-    assert_eq!(rt; written.as_slice(), wanted.as_str().as_bytes());
+    let told = answered(alloc, &[FOUND], input.as_str(), pieces(1_000), (0, 0));
+    assert_eq!(rt; told.result, Ok(Served { requests: 100 }));
+    assert_eq!(rt; told.written.as_slice(), wanted.as_str().as_bytes());
     Ok(())
 }

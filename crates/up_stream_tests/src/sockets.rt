@@ -5,18 +5,11 @@ use std::io;
 use std::io::Write;
 use std::net::{Shutdown, TcpListener, TcpStream};
 use std::test::Fail;
-use up_desk::desk::Desk;
 use up_service::Served;
 use up_service::stream::serve_stream;
-use up_sign::hmac_sha256::HmacSha256;
 
 /// What a client is answered that writes these bytes first and then, if it is told to, ends its half.
-fn answered(
-    rt: &HostRuntime,
-    desk: &mut Desk<HmacSha256>,
-    text: &str,
-    ends: bool,
-) -> Result<(Option<Served>, String), Fail> {
+fn told(rt: &HostRuntime, text: &str, ends: bool) -> Result<(Option<Served>, String), Fail> {
     let listener = TcpListener::bind(rt, "127.0.0.1:0")?;
     let mut client = TcpStream::connect(rt, listener.local_addr()?)?;
     client.write_all(text.as_bytes())?;
@@ -24,20 +17,21 @@ fn answered(
         client.shutdown(Shutdown::Write)?;
     }
     let (server, _) = listener.accept()?;
-    let served = serve_stream(rt.alloc(), desk, AT, &mut &server, &mut &server).ok();
+    let served = served(rt.alloc(), &server);
     server.shutdown(Shutdown::Write)?;
     Ok((served, io::read_to_string(rt.alloc(), client)?))
 }
 
-fn desk_with_vehicle(alloc: Global) -> Desk<HmacSha256> {
-    desk_after(alloc, &[FOUND, VEHICLE])
+/// Serves a connection at a desk with one vehicle.
+fn served(alloc: Global, stream: &TcpStream) -> Option<Served> {
+    let mut desk = desk_after(alloc, &[FOUND, VEHICLE]);
+    serve_stream(alloc, &mut desk, AT, &mut &*stream, &mut &*stream).ok()
 }
 
 #[test]
 fn a_client_that_ends_its_half(rt: HostRuntime) -> Result<(), Fail> {
     let alloc = rt.alloc();
-    let mut desk = desk_with_vehicle(alloc);
-    let (served, answer) = answered(&rt, &mut desk, posted(alloc, MANIFEST)?.as_str(), true)?;
+    let (served, answer) = told(&rt, posted(alloc, MANIFEST)?.as_str(), true)?;
     assert_eq!(rt; served, Some(Served { requests: 1 }));
     assert_eq!(rt; answer.as_str(), found(alloc, REPLY)?.as_str());
     Ok(())
@@ -46,12 +40,11 @@ fn a_client_that_ends_its_half(rt: HostRuntime) -> Result<(), Fail> {
 #[test]
 fn a_client_that_keeps_its_half_open(rt: HostRuntime) -> Result<(), Fail> {
     let alloc = rt.alloc();
-    let mut desk = desk_with_vehicle(alloc);
     let asked = lines(
         alloc,
         "GET /image/nofile HTTP/1.1|Host: d|Connection: close||",
     )?;
-    let (served, answer) = answered(&rt, &mut desk, asked.as_str(), false)?;
+    let (served, answer) = told(&rt, asked.as_str(), false)?;
     let wanted = lines(
         alloc,
         "HTTP/1.1 404 Not Found|Content-Type: application/json|Content-Length: 33|Connection: close||{\"error\":29,\"text\":\"UnknownFile\"}",

@@ -14,6 +14,9 @@ const SILENCE: u64 = 2;
 /// How long what a client still sends is read after its last answer, in seconds.
 const PATIENCE: u64 = 10;
 
+/// How often what a client still sends is read after its last answer.
+const MOST_READS: u32 = 1_000_000;
+
 /// Accepts so many connections, one after another, and serves each. A fault of one is told on standard error, and the next
 /// is served.
 pub(crate) fn serve_all(
@@ -81,7 +84,10 @@ fn close(rt: &HostRuntime, stream: &TcpStream) {
     };
     let mut reader = stream;
     let mut buffer = [0; 8_192];
-    while waits(rt, begun) {
+    for _ in 0..MOST_READS {
+        if !waits(rt, begun) {
+            return;
+        }
         match reader.read(&mut buffer) {
             Ok(0) | Err(_) => return,
             Ok(_) => {}

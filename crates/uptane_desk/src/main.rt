@@ -50,17 +50,22 @@ fn unopened(rt: &HostRuntime) -> ExitCode {
     ExitCode::from(3)
 }
 
-/// Serves connections to a port of this host, one after another, over the one database that there is yet.
+/// Serves connections to a port of this host, over the one database that there is yet.
 fn serve(rt: &HostRuntime, file: &str, port: u16, count: u32) -> ExitCode {
     if file != ":memory:" {
         return unopened(rt);
     }
+    match TcpListener::bind(rt, ("127.0.0.1", port)) {
+        Ok(listener) => serve_at(rt, &listener, port, count),
+        Err(_) => unheard(rt),
+    }
+}
+
+/// Tells that the program listens, and serves so many connections, one after another.
+fn serve_at(rt: &HostRuntime, listener: &TcpListener, port: u16, count: u32) -> ExitCode {
     let mut desk = Desk::new(HmacSha256, rt.alloc());
-    let Ok(listener) = TcpListener::bind(rt, ("127.0.0.1", port)) else {
-        return unheard(rt);
-    };
     println!(rt; "listening {port}").ok();
-    match serve_all(rt, &mut desk, &listener, count) {
+    match serve_all(rt, &mut desk, listener, count) {
         Ok(()) => ExitCode::SUCCESS,
         Err(_) => unheard(rt),
     }
