@@ -1,7 +1,7 @@
 //! Requests as text.
 use std::alloc::{AllocError, Global};
 use up_heads::check::Check;
-use up_http::asked::{Next, What};
+use up_http::asked::{Next, Step, What};
 use up_http::feeder::Feeder;
 use up_machine::command::Command;
 use up_roles::repository::Repository;
@@ -56,14 +56,29 @@ pub(crate) fn feed(
 ) -> Result<(), AllocError> {
     let mut rest = piece;
     for _ in 0..102 {
-        let step = feeder.feed(rest)?;
-        rest = rest.get(step.taken..).unwrap_or(b"");
-        match &step.next {
-            Some(next) => tell(alloc, next, out)?,
+        match feed_once(alloc, feeder, rest, out)? {
+            Some(taken) => rest = rest.get(taken..).unwrap_or(b""),
             None => return Ok(()),
         }
     }
     Ok(())
+}
+
+/// Feeds a piece, and tells the request that it ends: how many bytes were taken then.
+fn feed_once(
+    alloc: Global,
+    feeder: &mut Feeder,
+    piece: &[u8],
+    out: &mut String,
+) -> Result<Option<usize>, AllocError> {
+    let Step { taken, next } = feeder.feed(piece)?;
+    match next {
+        None => Ok(None),
+        Some(next) => {
+            tell(alloc, &next, out)?;
+            Ok(Some(taken))
+        }
+    }
 }
 
 /// Ends the stream, and tells the request that is left.
