@@ -57,6 +57,14 @@ def texts(rows):
         yield "files of %s, from the formats" % name, "".join(files) == row_texts.files(name)
 
 
+def wanted():
+    """What the rows of texts and of decisions want is what Python computes from the formats."""
+    for crate in ("up_test_texts", "up_test_decisions"):
+        words = [sys.executable, TOP / "crates" / crate / "expected.py"]
+        ran = subprocess.run(words, capture_output=True, check=False)
+        yield "answers that the rows of %s want" % crate, ran.returncode == 0
+
+
 def limits(program):
     """1,024 images, 64 root versions and bodies of 262,144 bytes, and one more of each."""
     row = read(ROWS / "kept_reply_after_a_rotation" / "script").split("\n")
@@ -98,6 +106,7 @@ def primaries(program, rows):
 def tried(program, rows):
     yield from scripts(program)
     yield from texts(rows)
+    yield from wanted()
     yield from program_cases.cases(program)
     yield from http_cases.cases(program)
     yield from limits(program)

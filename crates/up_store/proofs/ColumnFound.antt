@@ -1,0 +1,297 @@
+-- What is read of the tables of images, campaigns and kept manifests.
+use Rattle.std.proofs.Common.{◌≡◌, ℕ, pos, List, [], ◌∷◌, Bool, true, false, Option, Some, None, Result, Ok, Err, IsTrue, map, filter, refl, sym, ap, subst, ◌∙◌, string_bytes, bytes_eq, arith}
+use Rattle.std.specs.Prelude.{◌==◌, if◌then◌else◌, option_map, option_and_then, IfOk, find}
+use Rattle.std.specs.List.{AllByRecursion}
+use Rattle.std.specs.Option.{option_to_list}
+use Rattle.std.specs.Ordering.{is_eq}
+use Rattle.std.specs.FinMap as table
+use Rattle.std.proofs.lemmas.Bool.Decides.{nat_tests}
+use Rattle.sqlite.specs.declared.types.Value.TheVariants.{Int, Text}
+use Rattle.sqlite.specs.Order.{Row, value_cmp}
+use Rattle.sqlite.specs.State.{State as Connected}
+use Rattle.sqlite_value.proofs.OrderLemmas.{value_cmp-Int}
+use Rattle.up_canon.specs.Names.{Name}
+use Rattle.up_canon.specs.Steps.{if_passes}
+use Rattle.up_columns.specs.Columns.{names_column, needs_column}
+use Rattle.up_columns.specs.CampaignColumns.{reach_column, items_column}
+use Rattle.up_columns.specs.PlanColumns.{plan_column}
+use Rattle.up_plan.specs.Campaigns.{CampaignData}
+use Rattle.up_plan.specs.Images.{ImageData}
+use Rattle.up_machine.specs.declared.rows.Kept.{Kept}
+use Rattle.up_machine.specs.declared.rows.VehicleRow.{VehicleRow}
+use Rattle.up_machine.specs.declared.rows.VehicleRows.{VehicleRows}
+use Rattle.up_rows.specs.StateRows.{StateRows}
+use Rattle.up_rows.specs.Lookups.{kept_with, latest_kept}
+use Rattle.up_tables.specs.declared.campaign.CampaignRow.{CampaignRow}
+use Rattle.up_tables.specs.declared.image.ImageRow.{ImageRow}
+use Rattle.up_tables.specs.declared.kept.KeptRow.{KeptRow}
+use Rattle.up_tables.specs.Forms.{image_places, image_row, campaign_places, campaign_row, kept_places, kept_row}
+use Rattle.up_tables.specs.Lines.{yes_or_no}
+use Rattle.up_tables.specs.Rows.{columns_at, has_number}
+use Rattle.up_tables.specs.Stands.{IsWith, IsWithin, HasTables, Reads, Lists, AnyRows}
+use Rattle.up_tables.specs.Tables.{up_schema, image_table, campaign_table, kept_table}
+use Rattle.up_store.specs.ColumnRows.{IsImage, IsCampaign, IsKept, AreImages, AreRunning, last_found}
+use Rattle.up_store.specs.Found.{vehicle_found}
+use Rattle.up_store.specs.Lines.{image_lines, campaign_lines, kept_line}
+use Rattle.up_store.specs.Listing.{ListsRows}
+use Rattle.up_store.specs.Typed.{IsTypedImage, IsTypedCampaign, IsTypedKept}
+
+-- ---- within a transaction
+
+pub has_tables : (rows : StateRows) (before : Connected) → IsWithin up_schema (ListsRows rows) before → HasTables before
+has_tables rows before within = λ is_open. let here = within.here is_open in record { schema_is = here.schema_is; sound = here.sound; rows = tt }
+
+-- a read that went through leaves the tables as they were
+pub within_read : (rows : StateRows) (before after : Connected) → (HasTables before → Reads before after) → IsWithin up_schema (ListsRows rows) before → IsWithin up_schema (ListsRows rows) after
+within_read rows before after reads within =
+    let r = reads (has_tables rows before within) in record {
+      mode = subst IsTrue (sym r.mode) within.mode;
+      here = λ is_open. subst (IsWith up_schema (ListsRows rows)) (sym r.now_is) (within.here r.was_open);
+    }
+
+-- ---- images
+
+pub record FoundImage (o : Option ImageData) (shown : ImageRow) : Type 0 where
+  pub image : ImageData
+  pub there : o ≡ Some image
+  pub same : IsImage shown image
+
+pub image_shown : (image : ImageData) (shown : ImageRow) → image_lines (Some image) ≡ image_row shown ∷ [] → IsImage shown image
+image_shown image shown h = record { file = cc; length = cc; sha256 = cc; hardware = cc; release = cc; needs = cc; conflicts = cc }
+
+image_some : (o : Option ImageData) (shown : ImageRow) → map (columns_at image_places) (image_lines o) ≡ image_row shown ∷ [] → FoundImage o shown
+image_some None shown h = cc
+image_some (Some image) shown h = record { image = image; there = refl; same = image_shown image shown h }
+
+image_none : (o : Option ImageData) → map (columns_at image_places) (image_lines o) ≡ [] → o ≡ None
+image_none None h = refl
+image_none (Some image) h = cc
+
+abbrev ShowsImage : Name → Option ImageRow → Connected → Type 0
+ShowsImage file found before =
+    (rows_of : List ℕ → List Row) → HasTables before → Lists 1 rows_of (before.now.trees image_table.tree) → map (columns_at image_places) (rows_of file) ≡ map image_row (option_to_list found)
+
+image_rows_are : (rows : StateRows) (file : Name) (before after : Connected) (found : Option ImageRow) → (HasTables before → Reads before after) → ShowsImage file found before
+    → IsWithin up_schema (ListsRows rows) before → map (columns_at image_places) (image_lines (table.get rows.images file)) ≡ map image_row (option_to_list found)
+image_rows_are rows file before after found reads shows within =
+    let has = has_tables rows before within in
+    let here = within.here (reads has).was_open in
+    shows (λ name. image_lines (table.get rows.images name)) has here.rows.tables.images
+
+-- the image that is found is that of the row
+pub image_found : {E : Type 0} (r : Result (Option ImageData) E) (rows : StateRows) (file : Name) (before after : Connected) (found : Option ImageRow) (shown : ImageRow) → found ≡ Some shown
+    → IfOk r (λ read. (name : Name) (image : ImageData) → IsTypedImage name image → IsImage shown image → read ≡ Some image)
+    → (HasTables before → Reads before after) → ShowsImage file found before → IsWithin up_schema (ListsRows rows) before → IfOk r (λ read. read ≡ table.get rows.images file)
+image_found (Err e) rows file before after found shown is read reads shows within = tt
+image_found (Ok x) rows file before after found shown is read reads shows within =
+    let has = has_tables rows before within in
+    let here = within.here (reads has).was_open in
+    let f = image_some (table.get rows.images file) shown (image_rows_are rows file before after found reads shows within ∙ ap (λ o. map image_row (option_to_list o)) is) in
+    read file f.image (here.rows.typed.images file f.image f.there) f.same ∙ sym f.there
+
+pub image_unknown : (rows : StateRows) (file : Name) (before after : Connected) (found : Option ImageRow) → found ≡ None → (HasTables before → Reads before after) → ShowsImage file found before
+    → IsWithin up_schema (ListsRows rows) before → None ≡ table.get rows.images file
+image_unknown rows file before after found is reads shows within =
+    sym (image_none (table.get rows.images file) (image_rows_are rows file before after found reads shows within ∙ ap (λ o. map image_row (option_to_list o)) is))
+
+-- ---- campaigns
+
+pub record FoundCampaign (o : Option CampaignData) (shown : CampaignRow) : Type 0 where
+  pub campaign : CampaignData
+  pub there : o ≡ Some campaign
+  pub same : IsCampaign shown campaign
+
+same_yes : (a b : Bool) → yes_or_no a ≡ yes_or_no b → a ≡ b
+same_yes true true h = refl
+same_yes true false h = cc
+same_yes false true h = cc
+same_yes false false h = refl
+
+pub campaign_shown : (campaign : CampaignData) (shown : CampaignRow) → campaign_lines (Some campaign) ≡ campaign_row shown ∷ [] → IsCampaign shown campaign
+campaign_shown campaign shown h = record { name = cc; reach = cc; items = cc; running = let same : yes_or_no shown.running ≡ yes_or_no campaign.running = cc in same_yes shown.running campaign.running same }
+
+campaign_some : (o : Option CampaignData) (shown : CampaignRow) → map (columns_at campaign_places) (campaign_lines o) ≡ campaign_row shown ∷ [] → FoundCampaign o shown
+campaign_some None shown h = cc
+campaign_some (Some campaign) shown h = record { campaign = campaign; there = refl; same = campaign_shown campaign shown h }
+
+campaign_none : (o : Option CampaignData) → map (columns_at campaign_places) (campaign_lines o) ≡ [] → o ≡ None
+campaign_none None h = refl
+campaign_none (Some campaign) h = cc
+
+abbrev ShowsCampaign : Name → Option CampaignRow → Connected → Type 0
+ShowsCampaign name found before =
+    (rows_of : List ℕ → List Row) → HasTables before → Lists 1 rows_of (before.now.trees campaign_table.tree) → map (columns_at campaign_places) (rows_of name) ≡ map campaign_row (option_to_list found)
+
+campaign_rows_are : (rows : StateRows) (name : Name) (before after : Connected) (found : Option CampaignRow) → (HasTables before → Reads before after) → ShowsCampaign name found before
+    → IsWithin up_schema (ListsRows rows) before → map (columns_at campaign_places) (campaign_lines (table.get rows.campaigns name)) ≡ map campaign_row (option_to_list found)
+campaign_rows_are rows name before after found reads shows within =
+    let has = has_tables rows before within in
+    let here = within.here (reads has).was_open in
+    shows (λ n. campaign_lines (table.get rows.campaigns n)) has here.rows.tables.campaigns
+
+-- the campaign that is found is that of the row
+pub campaign_found : {E : Type 0} (r : Result (Option CampaignData) E) (rows : StateRows) (name : Name) (before after : Connected) (found : Option CampaignRow) (shown : CampaignRow) → found ≡ Some shown
+    → IfOk r (λ read. (n : Name) (campaign : CampaignData) → IsTypedCampaign n campaign → IsCampaign shown campaign → read ≡ Some campaign)
+    → (HasTables before → Reads before after) → ShowsCampaign name found before → IsWithin up_schema (ListsRows rows) before → IfOk r (λ read. read ≡ table.get rows.campaigns name)
+campaign_found (Err e) rows name before after found shown is read reads shows within = tt
+campaign_found (Ok x) rows name before after found shown is read reads shows within =
+    let has = has_tables rows before within in
+    let here = within.here (reads has).was_open in
+    let f = campaign_some (table.get rows.campaigns name) shown (campaign_rows_are rows name before after found reads shows within ∙ ap (λ o. map campaign_row (option_to_list o)) is) in
+    read name f.campaign (here.rows.typed.campaigns name f.campaign f.there) f.same ∙ sym f.there
+
+pub campaign_unknown : (rows : StateRows) (name : Name) (before after : Connected) (found : Option CampaignRow) → found ≡ None → (HasTables before → Reads before after) → ShowsCampaign name found before
+    → IsWithin up_schema (ListsRows rows) before → None ≡ table.get rows.campaigns name
+campaign_unknown rows name before after found is reads shows within =
+    sym (campaign_none (table.get rows.campaigns name) (campaign_rows_are rows name before after found reads shows within ∙ ap (λ o. map campaign_row (option_to_list o)) is))
+
+-- ---- tables read whole
+
+numbers_are : (a b : ℕ) → is_eq (value_cmp (Int (pos a)) (Int (pos b))) ≡ (a == b)
+numbers_are a b = ap is_eq (value_cmp-Int (pos a) (pos b)) ∙ grind (arith, nat_tests)
+
+columns_are : (o : Option ImageData) → map (columns_at image_places) (image_lines o) ≡ image_lines o
+columns_are None = refl
+columns_are (Some image) = refl
+
+abbrev ShowsImages : List ImageRow → Connected → Type 0
+ShowsImages found before =
+    (rows_of : List ℕ → List Row) → HasTables before → Lists 1 rows_of (before.now.trees image_table.tree)
+    → (name : List ℕ) → map (columns_at image_places) (rows_of name) ≡ map image_row (filter (λ (i : ImageRow). bytes_eq (string_bytes i.file) name) found)
+
+-- the rows that are found are those of the images
+pub are_images : (rows : StateRows) (before after : Connected) (found : List ImageRow) → (HasTables before → Reads before after) → ShowsImages found before
+    → IsWithin up_schema (ListsRows rows) before → AreImages found rows.images
+are_images rows before after found reads shows within =
+    let has = has_tables rows before within in
+    let here = within.here (reads has).was_open in
+    record {
+      typed = here.rows.typed.images;
+      each = λ name. sym (columns_are (table.get rows.images name)) ∙ shows (λ n. image_lines (table.get rows.images n)) has here.rows.tables.images name;
+    }
+
+abbrev row_with : CampaignData → Bool → Row
+row_with c b = Text c.name ∷ Text (reach_column c.reach) ∷ Text (items_column c.items) ∷ Int (yes_or_no b) ∷ []
+
+-- a campaign's row says whether it runs
+runs : (o : Option CampaignData) → map (columns_at campaign_places) (filter (has_number 3 (pos 1)) (campaign_lines o)) ≡ campaign_lines (if_passes (λ (c : CampaignData). c.running) o)
+runs None = refl
+runs (Some c) = passed c.running ∙ lines_of c.running refl
+  where
+    passed : (b : Bool) → map (columns_at campaign_places) (filter (has_number 3 (pos 1)) (row_with c b ∷ [])) ≡ (if b then row_with c b ∷ [] else [])
+    passed true = rw (numbers_are 1 1) refl
+    passed false = rw (numbers_are 0 1) refl
+
+    lines_of : (b : Bool) → c.running ≡ b → (if b then row_with c b ∷ [] else []) ≡ campaign_lines (if b then Some c else None)
+    lines_of true is = ap (λ r. row_with c r ∷ []) (sym is)
+    lines_of false is = refl
+
+abbrev ShowsRunning : List CampaignRow → Connected → Type 0
+ShowsRunning found before =
+    (rows_of : List ℕ → List Row) → HasTables before → Lists 1 rows_of (before.now.trees campaign_table.tree)
+    → (name : List ℕ) → map (columns_at campaign_places) (filter (has_number 3 (pos 1)) (rows_of name)) ≡ map campaign_row (filter (λ (c : CampaignRow). bytes_eq (string_bytes c.name) name) found)
+
+-- the rows that are found are those of the running campaigns
+pub are_running : (rows : StateRows) (before after : Connected) (found : List CampaignRow) → (HasTables before → Reads before after) → ShowsRunning found before
+    → IsWithin up_schema (ListsRows rows) before → AreRunning found rows.campaigns
+are_running rows before after found reads shows within =
+    let has = has_tables rows before within in
+    let here = within.here (reads has).was_open in
+    record {
+      typed = here.rows.typed.campaigns;
+      each = λ name. sym (runs (table.get rows.campaigns name)) ∙ shows (λ n. campaign_lines (table.get rows.campaigns n)) has here.rows.tables.campaigns name;
+    }
+
+-- ---- kept manifests
+
+pub record FoundKept (counter : ℕ) (vehicle : Name) (rows : List Kept) (shown : KeptRow) : Type 0 where
+  pub row : Kept
+  pub there : find (λ (k : Kept). k.counter == counter) rows ≡ Some row
+  pub typed : IsTypedKept vehicle row
+  pub same : IsKept shown row
+
+kept_shown : (row : Kept) (shown : KeptRow) → kept_line row ≡ kept_row shown → IsKept shown row
+kept_shown row shown h = record { vehicle = cc; counter = cc; version = cc; moment = cc; root = cc; signed = cc; plan_text = cc; reply = cc }
+
+abbrev counted : ℕ → List Kept → List Row
+counted counter rows = map (columns_at kept_places) (filter (has_number 1 (pos counter)) (map kept_line rows))
+
+kept_some : (counter : ℕ) (vehicle : Name) (rows : List Kept) (shown : KeptRow) → AllByRecursion (IsTypedKept vehicle) rows → counted counter rows ≡ kept_row shown ∷ [] → FoundKept counter vehicle rows shown
+kept_some counter vehicle [] shown typed h = cc
+kept_some counter vehicle (row ∷ rows) shown typed h = by_test (row.counter == counter) refl (kept_some counter vehicle rows shown typed.1)
+  where
+    by_test : (b : Bool) → (row.counter == counter) ≡ b → (counted counter rows ≡ kept_row shown ∷ [] → FoundKept counter vehicle rows shown) → FoundKept counter vehicle (row ∷ rows) shown
+    by_test true is rest =
+        let test = numbers_are row.counter counter ∙ is in
+        let first : kept_line row ≡ kept_row shown = let found = rw test at h in cc in
+        record { row = row; there = rw is refl; typed = typed.0; same = kept_shown row shown first }
+    by_test false is rest =
+        let test = numbers_are row.counter counter ∙ is in
+        let f = rest (rw test at h) in
+        record { row = f.row; there = rw is f.there; typed = f.typed; same = f.same }
+
+kept_none : (counter : ℕ) (rows : List Kept) → counted counter rows ≡ [] → find (λ (k : Kept). k.counter == counter) rows ≡ None
+kept_none counter [] h = refl
+kept_none counter (row ∷ rows) h = by_test (row.counter == counter) refl (kept_none counter rows)
+  where
+    by_test : (b : Bool) → (row.counter == counter) ≡ b → (counted counter rows ≡ [] → find (λ (k : Kept). k.counter == counter) rows ≡ None) → find (λ (k : Kept). k.counter == counter) (row ∷ rows) ≡ None
+    by_test true is rest = let test = numbers_are row.counter counter ∙ is in let found = rw test at h in cc
+    by_test false is rest = let test = numbers_are row.counter counter ∙ is in rw is (rest (rw test at h))
+
+abbrev ShowsKept : Name → ℕ → Option KeptRow → Connected → Type 0
+ShowsKept vehicle counter found before =
+    (rows_of : List ℕ → List Row) → HasTables before → Lists 1 rows_of (before.now.trees kept_table.tree)
+    → map (columns_at kept_places) (filter (has_number 1 (pos counter)) (rows_of vehicle)) ≡ map kept_row (option_to_list found)
+
+kept_rows_are : (rows : StateRows) (vehicle : Name) (counter : ℕ) (before after : Connected) (found : Option KeptRow) → (HasTables before → Reads before after) → ShowsKept vehicle counter found before
+    → IsWithin up_schema (ListsRows rows) before → counted counter (rows.kept vehicle) ≡ map kept_row (option_to_list found)
+kept_rows_are rows vehicle counter before after found reads shows within =
+    let has = has_tables rows before within in
+    let here = within.here (reads has).was_open in
+    shows (λ n. map kept_line (rows.kept n)) has here.rows.tables.kept
+
+-- the manifest that is found is that of the row
+pub kept_found : {E : Type 0} (r : Result (Option Kept) E) (rows : StateRows) (vehicle : Name) (counter : ℕ) (before after : Connected) (found : Option KeptRow) (shown : KeptRow) → found ≡ Some shown
+    → IfOk r (λ read. (n : Name) (row : Kept) → IsTypedKept n row → IsKept shown row → read ≡ Some row)
+    → (HasTables before → Reads before after) → ShowsKept vehicle counter found before → IsWithin up_schema (ListsRows rows) before → IfOk r (λ read. read ≡ kept_with vehicle counter rows)
+kept_found (Err e) rows vehicle counter before after found shown is read reads shows within = tt
+kept_found (Ok x) rows vehicle counter before after found shown is read reads shows within =
+    let has = has_tables rows before within in
+    let here = within.here (reads has).was_open in
+    let f = kept_some counter vehicle (rows.kept vehicle) shown (here.rows.typed.kept vehicle) (kept_rows_are rows vehicle counter before after found reads shows within ∙ ap (λ o. map kept_row (option_to_list o)) is) in
+    read vehicle f.row f.typed f.same ∙ sym f.there
+
+pub kept_unknown : (rows : StateRows) (vehicle : Name) (counter : ℕ) (before after : Connected) (found : Option KeptRow) → found ≡ None → (HasTables before → Reads before after) → ShowsKept vehicle counter found before
+    → IsWithin up_schema (ListsRows rows) before → None ≡ kept_with vehicle counter rows
+kept_unknown rows vehicle counter before after found is reads shows within =
+    sym (kept_none counter (rows.kept vehicle) (kept_rows_are rows vehicle counter before after found reads shows within ∙ ap (λ o. map kept_row (option_to_list o)) is))
+
+-- ---- the latest manifest
+
+pub last_told : (rows : StateRows) (vehicle : Name) → option_map (λ (r : VehicleRow). r.last) (vehicle_found vehicle rows) ≡ last_found vehicle rows
+last_told rows vehicle = by_vehicle (table.get rows.vehicles vehicle)
+  where
+    by_vehicle : (o : Option VehicleRows) → option_map (λ (r : VehicleRow). r.last) (option_map (λ (v : VehicleRows). v.vehicle) o) ≡ option_map (λ (v : VehicleRows). v.vehicle.last) o
+    by_vehicle None = refl
+    by_vehicle (Some v) = refl
+
+-- the vehicle's greatest counter is the latest one's
+pub latest_is : (rows : StateRows) (vehicle : Name) (last : ℕ) → Some last ≡ last_found vehicle rows → kept_with vehicle last rows ≡ latest_kept vehicle rows
+latest_is rows vehicle last h = by_vehicle (table.get rows.vehicles vehicle) h
+  where
+    by_vehicle : (o : Option VehicleRows) → Some last ≡ option_map (λ (v : VehicleRows). v.vehicle.last) o → kept_with vehicle last rows ≡ option_and_then (λ (v : VehicleRows). kept_with vehicle v.vehicle.last rows) o
+    by_vehicle None h = cc
+    by_vehicle (Some v) h = let same : last ≡ v.vehicle.last = cc in ap (λ n. kept_with vehicle n rows) same
+
+pub latest_unknown : (rows : StateRows) (vehicle : Name) → None ≡ last_found vehicle rows → None ≡ latest_kept vehicle rows
+latest_unknown rows vehicle h = by_vehicle (table.get rows.vehicles vehicle) h
+  where
+    by_vehicle : (o : Option VehicleRows) → ◌≡◌ {A = Option ℕ} None (option_map (λ (v : VehicleRows). v.vehicle.last) o) → ◌≡◌ {A = Option Kept} None (option_and_then (λ (v : VehicleRows). kept_with vehicle v.vehicle.last rows) o)
+    by_vehicle None h = refl
+    by_vehicle (Some v) h = cc
+
+-- ---- what a read of any rows answers
+
+pub each_ok : {A E B : Type 0} (r : Result A E) (P : B → Type 0) (Q : A → B → Type 0) → ((b : B) → P b → IfOk r (λ x. Q x b)) → IfOk r (λ x. (b : B) → P b → Q x b)
+each_ok (Ok x) P Q h = h
+each_ok (Err e) P Q h = tt

@@ -1,0 +1,116 @@
+-- The tables of images and of campaigns, read whole.
+use Rattle.std.proofs.Common.{◌≡◌, ℕ, pos, ◌+◌, ◌<◌, List, [], ◌∷◌, Bool, true, false, Option, Some, None, length, take, get_or, map, filter, refl, sym, ap, subst, ◌∙◌, bytes_eq, string_bytes}
+use Rattle.std.specs.Prelude.{◌&&◌, if◌then◌else◌}
+use Rattle.std.specs.FinMap as table
+use Rattle.sqlite.specs.declared.types.Value.TheVariants.{Int, Text, Blob}
+use Rattle.sqlite.specs.Order.{Row}
+use Rattle.up_canon.specs.Names.{Name, Table}
+use Rattle.up_canon.specs.Steps.{if_passes}
+use Rattle.up_columns.specs.Columns.{names_column, needs_column}
+use Rattle.up_columns.specs.CampaignColumns.{reach_column, items_column}
+use Rattle.up_plan.specs.Campaigns.{CampaignData}
+use Rattle.up_plan.specs.Images.{ImageData}
+use Rattle.up_plan.specs.Planning.{reaches}
+use Rattle.up_tables.specs.declared.campaign.CampaignRow.{CampaignRow}
+use Rattle.up_tables.specs.declared.image.ImageRow.{ImageRow}
+use Rattle.up_tables.specs.Forms.{image_row, campaign_row}
+use Rattle.up_tables.specs.Lines.{campaign_line, yes_or_no}
+use Rattle.up_store.specs.ColumnRows.{IsImage, IsCampaign, AreImages, AreRunning}
+use Rattle.up_store.specs.Found.{values_where}
+use Rattle.up_store.specs.Lines.{image_lines, campaign_lines}
+use Rattle.up_store.specs.Typed.{IsTypedImage, IsTypedCampaign}
+use Rattle.up_store.proofs.ColumnFound.{image_shown, campaign_shown}
+use Rattle.up_store.proofs.ValuesWhere.{get_where}
+use Rattle.up_store.proofs.WholeTables as whole
+
+-- ---- images
+
+abbrev image_key : ImageRow → Name
+image_key shown = string_bytes shown.file
+
+abbrev image_line : ImageData → Row
+image_line i = Text i.file ∷ Int (pos i.length) ∷ Blob i.sha256 ∷ Text (names_column i.hardware) ∷ Int (pos i.release) ∷ Text (needs_column i.needs) ∷ Text (names_column i.conflicts) ∷ []
+
+abbrev any_image : ImageData → Bool
+any_image image = true
+
+-- the images of these rows
+abbrev pub AreSofar : List ImageRow → Table ImageData → Table ImageData → Type 0
+AreSofar rows images t = whole.IsSofar image_key image_row image_lines image_line refl (λ x. refl) any_image (λ n. table.get images n) rows t
+
+pub images_begun : (images : Table ImageData) → AreSofar [] images table.empty
+images_begun images = whole.begun image_key image_row image_lines image_line refl (λ x. refl) any_image (λ n. table.get images n)
+
+pub images_more : (images : Table ImageData) (rows : List ImageRow) (i : ℕ) (r : ImageRow) (t next : Table ImageData) → i < length rows → r ≡ get_or rows i r → AreImages rows images
+    → ((file : Name) (image : ImageData) → IsTypedImage file image → IsImage r image → next ≡ table.insert t image.file image)
+    → AreSofar (take i rows) images t → AreSofar (take (i + 1) rows) images next
+images_more images rows i r t next h at are put so =
+    let is = whole.row_is image_key image_row image_lines image_line refl (λ x. refl) any_image (λ n. table.get images n) rows i r h at are.each in
+    let same = image_shown is.value r is.same in
+    whole.more image_key image_row image_lines image_line refl (λ x. refl) any_image (λ n. table.get images n) rows i r is.value t next h at is.there
+    (put (image_key r) is.value (are.typed (image_key r) is.value is.there) same ∙ ap (λ name. table.insert t name is.value) (sym same.file)) so
+
+any_passes : (o : Option ImageData) → if_passes any_image o ≡ o
+any_passes None = refl
+any_passes (Some image) = refl
+
+pub images_ended : (images : Table ImageData) (rows : List ImageRow) (t : Table ImageData) → AreImages rows images → AreSofar rows images t → t ≡ images
+images_ended images rows t are so =
+    whole.same_table t images (λ n. whole.ended image_key image_row image_lines image_line refl (λ x. refl) any_image (λ m. table.get images m) rows t are.each so n ∙ any_passes (table.get images n))
+
+-- ---- running campaigns
+
+abbrev campaign_key : CampaignRow → Name
+campaign_key shown = string_bytes shown.name
+
+abbrev line_of_campaign : CampaignData → Row
+line_of_campaign c = campaign_line c.name (reach_column c.reach) (items_column c.items) (yes_or_no c.running)
+
+abbrev is_running : CampaignData → Bool
+is_running c = c.running
+
+abbrev is_reached : Name → CampaignData → Bool
+is_reached vehicle c = reaches vehicle c.reach
+
+abbrev running : Table CampaignData → Name → Option CampaignData
+running campaigns n = if_passes is_running (table.get campaigns n)
+
+-- those of these rows' campaigns that reach the vehicle
+abbrev pub AreReaching : Name → List CampaignRow → Table CampaignData → Table CampaignData → Type 0
+AreReaching vehicle rows campaigns t = whole.IsSofar campaign_key campaign_row campaign_lines line_of_campaign refl (λ x. refl) (is_reached vehicle) (running campaigns) rows t
+
+pub reaching_begun : (vehicle : Name) (campaigns : Table CampaignData) → AreReaching vehicle [] campaigns table.empty
+reaching_begun vehicle campaigns = whole.begun campaign_key campaign_row campaign_lines line_of_campaign refl (λ x. refl) (is_reached vehicle) (running campaigns)
+
+-- what passes a test was there
+was_there : {X : Type 0} (test : X → Bool) (o : Option X) (x : X) → if_passes test o ≡ Some x → o ≡ Some x
+was_there test None x h = h
+was_there test (Some y) x h = by_test (test y) h
+  where
+    by_test : (b : Bool) → (if b then Some y else None) ≡ Some x → Some y ≡ Some x
+    by_test true h = h
+    by_test false h = cc
+
+pub reaching_more : (vehicle : Name) (campaigns : Table CampaignData) (rows : List CampaignRow) (i : ℕ) (r : CampaignRow) (t next : Table CampaignData) → i < length rows → r ≡ get_or rows i r → AreRunning rows campaigns
+    → ((name : Name) (campaign : CampaignData) → IsTypedCampaign name campaign → IsCampaign r campaign → next ≡ (if reaches vehicle campaign.reach then table.insert t campaign.name campaign else t))
+    → AreReaching vehicle (take i rows) campaigns t → AreReaching vehicle (take (i + 1) rows) campaigns next
+reaching_more vehicle campaigns rows i r t next h at are put so =
+    let is = whole.row_is campaign_key campaign_row campaign_lines line_of_campaign refl (λ x. refl) (is_reached vehicle) (running campaigns) rows i r h at are.each in
+    let same = campaign_shown is.value r is.same in
+    whole.more campaign_key campaign_row campaign_lines line_of_campaign refl (λ x. refl) (is_reached vehicle) (running campaigns) rows i r is.value t next h at is.there
+    (put (campaign_key r) is.value (are.typed (campaign_key r) is.value (was_there is_running (table.get campaigns (campaign_key r)) is.value is.there)) same
+    ∙ ap (λ name. if reaches vehicle is.value.reach then table.insert t name is.value else t) (sym same.name)) so
+
+both_pass : (vehicle : Name) (o : Option CampaignData) → if_passes (is_reached vehicle) (if_passes is_running o) ≡ if_passes (λ c. c.running && reaches vehicle c.reach) o
+both_pass vehicle None = refl
+both_pass vehicle (Some c) = by_test c.running
+  where
+    by_test : (b : Bool) → if_passes (is_reached vehicle) (if b then Some c else None) ≡ (if b && reaches vehicle c.reach then Some c else None)
+    by_test true = refl
+    by_test false = refl
+
+pub reaching_ended : (vehicle : Name) (campaigns : Table CampaignData) (rows : List CampaignRow) (t : Table CampaignData) → AreRunning rows campaigns → AreReaching vehicle rows campaigns t
+    → t ≡ values_where (λ c. c.running && reaches vehicle c.reach) campaigns
+reaching_ended vehicle campaigns rows t are so =
+    whole.same_table t _ (λ n. whole.ended campaign_key campaign_row campaign_lines line_of_campaign refl (λ x. refl) (is_reached vehicle) (running campaigns) rows t are.each so n
+    ∙ both_pass vehicle (table.get campaigns n) ∙ sym (get_where (λ c. c.running && reaches vehicle c.reach) campaigns n))

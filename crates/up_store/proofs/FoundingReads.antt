@@ -1,0 +1,448 @@
+-- What is read of the founding: its numbers, and the keys of the last root version.
+use Rattle.std.proofs.Common.{◌≡◌, ◌≤◌, ◌<◌, ◌+◌, ◌-◌, ℕ, suc, pos, List, [], ◌∷◌, ◌++◌, Bool, true, false, cond, ◌&&◌, Option, Some, None, map, filter, length, slice_get, refl, sym, ap, ap₂, subst, ◌∙◌, arith, append-nil, string_bytes, bytes_eq, codes, IsTrue}
+use Rattle.std.specs.Prelude.{option_map, unwrap_or, find, flat_map, ◌==◌}
+use Rattle.std.specs.List.{AllByRecursion, enumerate_from}
+use Rattle.std.specs.Option.{option_or}
+use Rattle.std.specs.Ordering.{is_eq}
+use Rattle.std.specs.declared.cmp.Ordering.TheVariants.{Less}
+use Rattle.std.proofs.lemmas.Bool.Decides.{nat_tests}
+use Rattle.std.proofs.lemmas.List.{map-append}
+use Rattle.sqlite.specs.declared.types.Value.TheVariants.{Int, Text, Blob}
+use Rattle.sqlite.specs.Order.{Row, column, value_cmp}
+use Rattle.sqlite.specs.State.{State as Connected}
+use Rattle.sqlite_value.proofs.OrderLemmas.{value_cmp-Int}
+use Rattle.up_roles.specs.declared.repository.Repository.{Repository}
+use Rattle.up_roles.specs.declared.repository.Repository.TheVariants.{Director, Image}
+use Rattle.up_machine.specs.declared.keys.KeySet.{KeySet}
+use Rattle.up_machine.specs.declared.keys.RepoKeys.{RepoKeys}
+use Rattle.up_machine.specs.declared.keys.RoleSecrets.{RoleSecrets}
+use Rattle.up_machine.specs.declared.rows.Founding.{Founding}
+use Rattle.up_rows.specs.declared.root_row.RootRow.{RootRow}
+use Rattle.up_rows.specs.StateRows.{StateRows}
+use Rattle.up_tables.specs.declared.meta.MetaRow.{MetaRow}
+use Rattle.up_tables.specs.declared.role_key.RoleKeyRow.{RoleKeyRow}
+use Rattle.up_tables.specs.Lines.{meta_row}
+use Rattle.up_tables.specs.Stands.{IsWith, IsWithin, HasTables, Reads, ListsAll}
+use Rattle.up_tables.specs.Tables.{up_schema, meta_table, role_key_table}
+use Rattle.up_store.specs.Listing.{ListsRows, IsOfLastRoot}
+use Rattle.up_tables.specs.Forms.{role_key_places, role_key_row}
+use Rattle.up_tables.specs.Rows.{columns_at, has_number}
+use Rattle.up_store.specs.Lines.{founding_number, repository_word, role_lines, repository_lines, root_lines, roots_lines}
+use Rattle.up_store.specs.Shown.{is_key_of, secrets_of, threshold_of, IsRoleOf, AreKeysOf, IsFoundingOf, meta_told}
+use Rattle.up_store.specs.Typed.{HasKeys, HaveKeys, EachHasKeys}
+
+-- ---- rows of one root version
+
+-- its root version, in a row whose columns are all read
+abbrev IsOfRoot : ℕ → Row → Type 0
+IsOfRoot m row = (column row 0 ≡ Int (pos m)) × (columns_at role_key_places row ≡ row)
+
+abbrev AreOfRoot : ℕ → List Row → Type 0
+AreOfRoot m rows = AllByRecursion (IsOfRoot m) rows
+
+both_of : (m : ℕ) (xs ys : List Row) → AreOfRoot m xs → AreOfRoot m ys → AreOfRoot m (xs ++ ys)
+both_of m [] ys a b = b
+both_of m (x ∷ xs) ys a b = (a.0, both_of m xs ys a.1 b)
+
+abbrev key_line : ℕ → List ℕ → List ℕ → ℕ → ℕ × List ℕ → Row
+key_line root word role threshold key = Int (pos root) ∷ Text word ∷ Text role ∷ Int (pos key.0) ∷ Blob key.1 ∷ Int (pos threshold) ∷ []
+
+role_of_root : (m : ℕ) (word role : List ℕ) (threshold i : ℕ) (keys : List (List ℕ)) → AreOfRoot m (map (key_line m word role threshold) (enumerate_from i keys))
+role_of_root m word role threshold i [] = tt
+role_of_root m word role threshold i (key ∷ keys) = ((refl, refl), role_of_root m word role threshold (i + 1) keys)
+
+repository_of_root : (m : ℕ) (repository : Repository) (keys : RepoKeys) → AreOfRoot m (repository_lines m repository keys)
+repository_of_root m repository keys =
+    let word = repository_word repository in
+    both_of m _ _ (both_of m _ _ (both_of m _ _ (role_of_root m word (codes "root") keys.root.threshold 0 keys.root.keys) (role_of_root m word (codes "targets") keys.targets.threshold 0 keys.targets.keys))
+    (role_of_root m word (codes "snapshot") keys.snapshot.threshold 0 keys.snapshot.keys)) (role_of_root m word (codes "timestamp") keys.timestamp.threshold 0 keys.timestamp.keys)
+
+lines_of_root : (m : ℕ) (root : RootRow) → AreOfRoot m (root_lines m root)
+lines_of_root m root = both_of m _ _ (repository_of_root m Director root.keys.director) (repository_of_root m Image root.keys.image)
+
+-- ---- those of a root version among all
+
+own_number : (n : ℕ) → is_eq (value_cmp (Int (pos n)) (Int (pos n))) ≡ true
+own_number n = ap is_eq (value_cmp-Int (pos n) (pos n)) ∙ grind (arith)
+
+lower_number : (m n : ℕ) → m < n → is_eq (value_cmp (Int (pos m)) (Int (pos n))) ≡ false
+lower_number m n h = ap is_eq (value_cmp-Int (pos m) (pos n)) ∙ grind (arith, h)
+
+all_kept : (n : ℕ) (rows : List Row) → AreOfRoot n rows → filter (has_number 0 (pos n)) rows ≡ rows
+all_kept n [] h = refl
+all_kept n (row ∷ rows) h =
+    let test : has_number 0 (pos n) row ≡ true = ap (λ v. is_eq (value_cmp v (Int (pos n)))) h.0.0 ∙ own_number n in
+    rw (test, all_kept n rows h.1) refl
+
+none_kept : (m n : ℕ) (rows : List Row) → m < n → AreOfRoot m rows → filter (has_number 0 (pos n)) rows ≡ []
+none_kept m n [] low h = refl
+none_kept m n (row ∷ rows) low h =
+    let test : has_number 0 (pos n) row ≡ false = ap (λ v. is_eq (value_cmp v (Int (pos n)))) h.0.0 ∙ lower_number m n low in
+    rw (test, none_kept m n rows low h.1) refl
+
+filter_both : {A : Type 0} (test : A → Bool) (xs ys : List A) → filter test (xs ++ ys) ≡ filter test xs ++ filter test ys
+filter_both test [] ys = refl
+filter_both {A} test (x ∷ xs) ys = by_test (test x) (filter_both test xs ys)
+  where
+    by_test : (b : Bool) → filter test (xs ++ ys) ≡ filter test xs ++ filter test ys
+        → cond b (x ∷ filter test (xs ++ ys)) (filter test (xs ++ ys)) ≡ cond b (x ∷ filter test xs) (filter test xs) ++ filter test ys
+    by_test true h = ap (λ (zs : List A). x ∷ zs) h
+    by_test false h = h
+
+none_before : (i n : ℕ) (roots : List RootRow) → i + length roots ≤ n → filter (has_number 0 (pos n)) (flat_map (λ (r : ℕ × RootRow). root_lines r.0 r.1) (enumerate_from i roots)) ≡ []
+none_before i n [] h = refl
+none_before i n (root ∷ roots) h =
+    filter_both (has_number 0 (pos n)) (root_lines i root) (flat_map (λ (r : ℕ × RootRow). root_lines r.0 r.1) (enumerate_from (i + 1) roots))
+    ∙ ap₂ (λ (a b : List Row). a ++ b) (none_kept i n (root_lines i root) (omega (arith, h)) (lines_of_root i root)) (none_before (i + 1) n roots (omega (arith, h)))
+
+assoc : {A : Type 0} (a b c : List A) → (a ++ b) ++ c ≡ a ++ (b ++ c)
+assoc [] b c = refl
+assoc {A} (y ∷ a) b c = ap (λ (zs : List A). y ∷ zs) (assoc a b c)
+
+abbrev numbered_lines : ℕ × RootRow → List Row
+numbered_lines r = root_lines r.0 r.1
+
+lines_push : (i : ℕ) (roots : List RootRow) (root : RootRow) → flat_map numbered_lines (enumerate_from i (roots ++ root ∷ [])) ≡ flat_map numbered_lines (enumerate_from i roots) ++ root_lines (i + length roots) root
+lines_push i [] root = append-nil (root_lines i root) ∙ ap (λ (m : ℕ). root_lines m root) (let same : i ≡ i + 0 = omega arith in same)
+lines_push i (x ∷ roots) root =
+    let later : i + 1 + length roots ≡ i + suc (length roots) = omega arith in
+    ap (λ (zs : List Row). root_lines i x ++ zs) (lines_push (i + 1) roots root ∙ ap (λ (m : ℕ). flat_map numbered_lines (enumerate_from (i + 1) roots) ++ root_lines m root) later)
+    ∙ sym (assoc (root_lines i x) (flat_map numbered_lines (enumerate_from (i + 1) roots)) (root_lines (i + suc (length roots)) root))
+
+-- one more root version has its rows behind the others
+pub roots_push : (roots : List RootRow) (root : RootRow) → roots_lines (roots ++ root ∷ []) ≡ roots_lines roots ++ root_lines (length roots + 1) root
+roots_push roots root =
+    let same : 1 + length roots ≡ length roots + 1 = omega arith in
+    lines_push 1 roots root ∙ ap (λ (m : ℕ). roots_lines roots ++ root_lines m root) same
+
+pub last_lines : (roots : List RootRow) (root : RootRow) → filter (has_number 0 (pos (length roots + 1))) (roots_lines (roots ++ root ∷ [])) ≡ root_lines (length roots + 1) root
+last_lines roots root =
+    let n = length roots + 1 in
+    ap (filter (has_number 0 (pos n))) (roots_push roots root)
+    ∙ filter_both (has_number 0 (pos n)) (roots_lines roots) (root_lines n root)
+    ∙ ap₂ (λ (a b : List Row). a ++ b) (none_before 1 n roots (omega arith)) (all_kept n (root_lines n root) (lines_of_root n root))
+
+whole : (m : ℕ) (rows : List Row) → AreOfRoot m rows → map (columns_at role_key_places) rows ≡ rows
+whole m [] h = refl
+whole m (row ∷ rows) h = ap₂ (λ (x : Row) (xs : List Row). x ∷ xs) h.0.1 (whole m rows h.1)
+
+pub whole_root : (m : ℕ) (root : RootRow) → map (columns_at role_key_places) (root_lines m root) ≡ root_lines m root
+whole_root m root = whole m (root_lines m root) (lines_of_root m root)
+
+-- ---- the keys of a role among the rows that were found
+
+split : {A B : Type 0} (f : A → B) (xs : List A) (ys zs : List B) → ys ++ zs ≡ map f xs → (a : List A) × (b : List A) × (xs ≡ a ++ b) × (ys ≡ map f a) × (zs ≡ map f b)
+split f xs [] zs h = ([], xs, refl, refl, h)
+split f [] (y ∷ ys) zs h = absurd (let e = h in cc)
+split {A} {B} f (x ∷ xs) (y ∷ ys) zs h =
+    let first : y ≡ f x = cc in
+    let rest : ys ++ zs ≡ map f xs = cc in
+    let more = split f xs ys zs rest in
+    (x ∷ more.0, more.1, ap (λ (l : List A). x ∷ l) more.2, ap₂ (λ (b : B) (l : List B). b ∷ l) first more.3, more.4)
+
+-- what a role has among some rows
+pub record Has (w o : List ℕ) (rows : List RoleKeyRow) (secrets : List (List ℕ)) (threshold : Option ℕ) : Type 0 where
+  pub secrets_are : secrets_of w o rows ≡ secrets
+  pub threshold_is : threshold_of w o rows ≡ threshold
+
+find_both : {A : Type 0} (test : A → Bool) (xs ys : List A) → find test (xs ++ ys) ≡ option_or (find test xs) (find test ys)
+find_both test [] ys = refl
+find_both test (x ∷ xs) ys = by_test (test x) (find_both test xs ys)
+  where
+    by_test : (b : Bool) → find test (xs ++ ys) ≡ option_or (find test xs) (find test ys) → cond b (Some x) (find test (xs ++ ys)) ≡ option_or (cond b (Some x) (find test xs)) (find test ys)
+    by_test true h = refl
+    by_test false h = h
+
+or_mapped : {A B : Type 0} (f : A → B) (o p : Option A) → option_map f (option_or o p) ≡ option_or (option_map f o) (option_map f p)
+or_mapped f None p = refl
+or_mapped f (Some x) p = refl
+
+has_both : (w o : List ℕ) (xs ys : List RoleKeyRow) (s t : List (List ℕ)) (p q : Option ℕ) → Has w o xs s p → Has w o ys t q → Has w o (xs ++ ys) (s ++ t) (option_or p q)
+has_both w o xs ys s t p q a b = record {
+  secrets_are = ap (map (λ (row : RoleKeyRow). row.secret.items)) (filter_both (is_key_of w o) xs ys)
+      ∙ map-append (λ (row : RoleKeyRow). row.secret.items) (filter (is_key_of w o) xs) (filter (is_key_of w o) ys)
+      ∙ ap₂ (λ (c d : List (List ℕ)). c ++ d) a.secrets_are b.secrets_are;
+  threshold_is = ap (option_map (λ (row : RoleKeyRow). row.threshold)) (find_both (is_key_of w o) xs ys)
+      ∙ or_mapped (λ (row : RoleKeyRow). row.threshold) (find (is_key_of w o) xs) (find (is_key_of w o) ys)
+      ∙ ap₂ (λ (c d : Option ℕ). option_or c d) a.threshold_is b.threshold_is;
+}
+
+-- the rows of one role
+module _ (m : ℕ) (word role : List ℕ) (threshold : ℕ) (w o : List ℕ) where
+  abbrev Lines : ℕ → List (List ℕ) → List Row
+  Lines i keys = map (key_line m word role threshold) (enumerate_from i keys)
+
+  key_test : (i : ℕ) (key : List ℕ) (row : RoleKeyRow) → key_line m word role threshold (i, key) ≡ role_key_row row → is_key_of w o row ≡ (bytes_eq word w && bytes_eq role o)
+  key_test i key row h =
+      let first : string_bytes row.repository ≡ word = cc in
+      let second : string_bytes row.role ≡ role = cc in
+      ap₂ (λ (a b : List ℕ). bytes_eq a w && bytes_eq b o) first second
+
+  others : (bytes_eq word w && bytes_eq role o) ≡ false → (i : ℕ) (keys : List (List ℕ)) (rows : List RoleKeyRow) → Lines i keys ≡ map role_key_row rows → Has w o rows [] None
+  others apart i [] [] h = record { secrets_are = refl; threshold_is = refl }
+  others apart i [] (row ∷ rows) h = absurd (let e = h in cc)
+  others apart i (key ∷ keys) [] h = absurd (let e = h in cc)
+  others apart i (key ∷ keys) (row ∷ rows) h =
+      let first : key_line m word role threshold (i, key) ≡ role_key_row row = cc in
+      let rest : Lines (i + 1) keys ≡ map role_key_row rows = cc in
+      let test : is_key_of w o row ≡ false = key_test i key row first ∙ apart in
+      let more = others apart (i + 1) keys rows rest in
+      record { secrets_are = rw test more.secrets_are; threshold_is = rw test more.threshold_is }
+
+  own_secrets : (bytes_eq word w && bytes_eq role o) ≡ true → (i : ℕ) (keys : List (List ℕ)) (rows : List RoleKeyRow) → Lines i keys ≡ map role_key_row rows → secrets_of w o rows ≡ keys
+  own_secrets same i [] [] h = refl
+  own_secrets same i [] (row ∷ rows) h = absurd (let e = h in cc)
+  own_secrets same i (key ∷ keys) [] h = absurd (let e = h in cc)
+  own_secrets same i (key ∷ keys) (row ∷ rows) h =
+      let first : key_line m word role threshold (i, key) ≡ role_key_row row = cc in
+      let rest : Lines (i + 1) keys ≡ map role_key_row rows = cc in
+      let test : is_key_of w o row ≡ true = key_test i key row first ∙ same in
+      let secret : row.secret.items ≡ key = cc in
+      rw test (ap₂ (λ (x : List ℕ) (xs : List (List ℕ)). x ∷ xs) secret (own_secrets same (i + 1) keys rows rest))
+
+  own_threshold : (bytes_eq word w && bytes_eq role o) ≡ true → (i : ℕ) (keys : List (List ℕ)) (rows : List RoleKeyRow) → 1 ≤ length keys → Lines i keys ≡ map role_key_row rows → threshold_of w o rows ≡ Some threshold
+  own_threshold same i [] rows some h = absurd (omega (arith, some))
+  own_threshold same i (key ∷ keys) [] some h = absurd (let e = h in cc)
+  own_threshold same i (key ∷ keys) (row ∷ rows) some h =
+      let first : key_line m word role threshold (i, key) ≡ role_key_row row = cc in
+      let test : is_key_of w o row ≡ true = key_test i key row first ∙ same in
+      let its : row.threshold ≡ threshold = cc in
+      rw test (ap Some its)
+
+  own : (bytes_eq word w && bytes_eq role o) ≡ true → (keys : List (List ℕ)) (rows : List RoleKeyRow) → 1 ≤ length keys → Lines 0 keys ≡ map role_key_row rows → Has w o rows keys (Some threshold)
+  own same keys rows some h = record { secrets_are = own_secrets same 0 keys rows h; threshold_is = own_threshold same 0 keys rows some h }
+
+-- the rows of a repository: its four roles
+pub record Parts (m : ℕ) (repository : Repository) (keys : RepoKeys) (rows : List RoleKeyRow) : Type 0 where
+  pub a : List RoleKeyRow
+  pub b : List RoleKeyRow
+  pub c : List RoleKeyRow
+  pub d : List RoleKeyRow
+  pub is : rows ≡ ((a ++ b) ++ c) ++ d
+  pub root : role_lines m repository (codes "root") keys.root ≡ map role_key_row a
+  pub targets : role_lines m repository (codes "targets") keys.targets ≡ map role_key_row b
+  pub snapshot : role_lines m repository (codes "snapshot") keys.snapshot ≡ map role_key_row c
+  pub timestamp : role_lines m repository (codes "timestamp") keys.timestamp ≡ map role_key_row d
+
+parts_of : (m : ℕ) (repository : Repository) (keys : RepoKeys) (rows : List RoleKeyRow) → repository_lines m repository keys ≡ map role_key_row rows → Parts m repository keys rows
+parts_of m repository keys rows h =
+    let root = role_lines m repository (codes "root") keys.root in
+    let targets = role_lines m repository (codes "targets") keys.targets in
+    let snapshot = role_lines m repository (codes "snapshot") keys.snapshot in
+    let timestamp = role_lines m repository (codes "timestamp") keys.timestamp in
+    let one = split role_key_row rows ((root ++ targets) ++ snapshot) timestamp h in
+    let two = split role_key_row one.0 (root ++ targets) snapshot one.3 in
+    let three = split role_key_row two.0 root targets two.3 in
+    record {
+      a = three.0;
+      b = three.1;
+      c = two.1;
+      d = one.1;
+      is = one.2 ∙ ap (λ (l : List RoleKeyRow). l ++ one.1) (two.2 ∙ ap (λ (l : List RoleKeyRow). l ++ two.1) three.2);
+      root = three.3;
+      targets = three.4;
+      snapshot = two.4;
+      timestamp = one.4;
+    }
+
+-- what a role of the repository has, where its word and role are asked for
+module _ (m : ℕ) (repository : Repository) (keys : RepoKeys) (rows : List RoleKeyRow) (parts : Parts m repository keys rows) (w o : List ℕ) where
+  abbrev Are : List ℕ → Bool
+  Are role = bytes_eq (repository_word repository) w && bytes_eq role o
+
+  -- each part by itself, put together
+  together : (s t u v : List (List ℕ)) (p q x y : Option ℕ) → Has w o parts.a s p → Has w o parts.b t q → Has w o parts.c u x → Has w o parts.d v y
+      → Has w o rows (((s ++ t) ++ u) ++ v) (option_or (option_or (option_or p q) x) y)
+  together s t u v p q x y ha hb hc hd =
+      subst (λ (l : List RoleKeyRow). Has w o l (((s ++ t) ++ u) ++ v) (option_or (option_or (option_or p q) x) y)) (sym parts.is)
+      (has_both w o ((parts.a ++ parts.b) ++ parts.c) parts.d ((s ++ t) ++ u) v (option_or (option_or p q) x) y
+      (has_both w o (parts.a ++ parts.b) parts.c (s ++ t) u (option_or p q) x (has_both w o parts.a parts.b s t p q ha hb) hc) hd)
+
+  not_root : Are (codes "root") ≡ false → Has w o parts.a [] None
+  not_root apart = others m (repository_word repository) (codes "root") keys.root.threshold w o apart 0 keys.root.keys parts.a parts.root
+
+  not_targets : Are (codes "targets") ≡ false → Has w o parts.b [] None
+  not_targets apart = others m (repository_word repository) (codes "targets") keys.targets.threshold w o apart 0 keys.targets.keys parts.b parts.targets
+
+  not_snapshot : Are (codes "snapshot") ≡ false → Has w o parts.c [] None
+  not_snapshot apart = others m (repository_word repository) (codes "snapshot") keys.snapshot.threshold w o apart 0 keys.snapshot.keys parts.c parts.snapshot
+
+  not_timestamp : Are (codes "timestamp") ≡ false → Has w o parts.d [] None
+  not_timestamp apart = others m (repository_word repository) (codes "timestamp") keys.timestamp.threshold w o apart 0 keys.timestamp.keys parts.d parts.timestamp
+
+  pub none_of : Are (codes "root") ≡ false → Are (codes "targets") ≡ false → Are (codes "snapshot") ≡ false → Are (codes "timestamp") ≡ false → Has w o rows [] None
+  none_of a b c d = together [] [] [] [] None None None None (not_root a) (not_targets b) (not_snapshot c) (not_timestamp d)
+
+  pub root_of : Are (codes "root") ≡ true → Are (codes "targets") ≡ false → Are (codes "snapshot") ≡ false → Are (codes "timestamp") ≡ false → HasKeys keys.root → Has w o rows (((keys.root.keys ++ []) ++ []) ++ []) (Some keys.root.threshold)
+  root_of a b c d some = together keys.root.keys [] [] [] (Some keys.root.threshold) None None None
+      (own m (repository_word repository) (codes "root") keys.root.threshold w o a keys.root.keys parts.a some parts.root) (not_targets b) (not_snapshot c) (not_timestamp d)
+
+  pub targets_of : Are (codes "root") ≡ false → Are (codes "targets") ≡ true → Are (codes "snapshot") ≡ false → Are (codes "timestamp") ≡ false → HasKeys keys.targets → Has w o rows ((keys.targets.keys ++ []) ++ []) (Some keys.targets.threshold)
+  targets_of a b c d some = together [] keys.targets.keys [] [] None (Some keys.targets.threshold) None None
+      (not_root a) (own m (repository_word repository) (codes "targets") keys.targets.threshold w o b keys.targets.keys parts.b some parts.targets) (not_snapshot c) (not_timestamp d)
+
+  pub snapshot_of : Are (codes "root") ≡ false → Are (codes "targets") ≡ false → Are (codes "snapshot") ≡ true → Are (codes "timestamp") ≡ false → HasKeys keys.snapshot → Has w o rows (keys.snapshot.keys ++ []) (Some keys.snapshot.threshold)
+  snapshot_of a b c d some = together [] [] keys.snapshot.keys [] None None (Some keys.snapshot.threshold) None
+      (not_root a) (not_targets b) (own m (repository_word repository) (codes "snapshot") keys.snapshot.threshold w o c keys.snapshot.keys parts.c some parts.snapshot) (not_timestamp d)
+
+  pub timestamp_of : Are (codes "root") ≡ false → Are (codes "targets") ≡ false → Are (codes "snapshot") ≡ false → Are (codes "timestamp") ≡ true → HasKeys keys.timestamp → Has w o rows keys.timestamp.keys (Some keys.timestamp.threshold)
+  timestamp_of a b c d some = together [] [] [] keys.timestamp.keys None None None (Some keys.timestamp.threshold)
+      (not_root a) (not_targets b) (not_snapshot c) (own m (repository_word repository) (codes "timestamp") keys.timestamp.threshold w o d keys.timestamp.keys parts.d some parts.timestamp)
+
+-- ---- the keys that were read are the root version's
+
+role_is : (w o : List ℕ) (rows : List RoleKeyRow) (kept read : RoleSecrets) → Has w o rows kept.keys (Some kept.threshold) → IsRoleOf w o rows read → read ≡ kept
+role_is w o rows kept read has is =
+    let keys : read.keys ≡ kept.keys = is.secrets ∙ has.secrets_are in
+    let some : Some read.threshold ≡ Some kept.threshold = sym is.threshold ∙ has.threshold_is in
+    let threshold : read.threshold ≡ kept.threshold = cc in
+    λ i. record { keys = keys i; threshold = threshold i }
+
+bare_two : (w o : List ℕ) (rows : List RoleKeyRow) (keys : List (List ℕ)) (p : Option ℕ) → Has w o rows ((keys ++ []) ++ []) p → Has w o rows keys p
+bare_two w o rows keys p h = record { secrets_are = h.secrets_are ∙ append-nil (keys ++ []) ∙ append-nil keys; threshold_is = h.threshold_is }
+
+bare_three : (w o : List ℕ) (rows : List RoleKeyRow) (keys : List (List ℕ)) (p : Option ℕ) → Has w o rows (((keys ++ []) ++ []) ++ []) p → Has w o rows keys p
+bare_three w o rows keys p h = record { secrets_are = h.secrets_are ∙ append-nil ((keys ++ []) ++ []) ∙ append-nil (keys ++ []) ∙ append-nil keys; threshold_is = h.threshold_is }
+
+bare_end : (w o : List ℕ) (rows : List RoleKeyRow) (keys : List (List ℕ)) (p : Option ℕ) → Has w o rows (keys ++ []) p → Has w o rows keys p
+bare_end w o rows keys p h = record { secrets_are = h.secrets_are ∙ append-nil keys; threshold_is = h.threshold_is }
+
+after_none : (w o : List ℕ) (xs ys : List RoleKeyRow) (keys : List (List ℕ)) (p : Option ℕ) → Has w o xs [] None → Has w o ys keys p → Has w o (xs ++ ys) keys p
+after_none w o xs ys keys p a b = has_both w o xs ys [] keys None p a b
+
+before_none : (w o : List ℕ) (xs ys : List RoleKeyRow) (keys : List (List ℕ)) (n : ℕ) → Has w o xs keys (Some n) → Has w o ys [] None → Has w o (xs ++ ys) keys (Some n)
+before_none w o xs ys keys n a b = bare_end w o (xs ++ ys) keys (Some n) (has_both w o xs ys keys [] (Some n) None a b)
+
+director_is : (m : ℕ) (kept : KeySet) (read : RepoKeys) (xs ys : List RoleKeyRow) → Parts m Director kept.director xs → Parts m Image kept.image ys → HaveKeys kept.director
+    → AreKeysOf (codes "director") (xs ++ ys) read → read ≡ kept.director
+director_is m kept read xs ys px py have is =
+    let w = codes "director" in
+    let none : (o : List ℕ) → Has w o ys [] None = λ o. none_of m Image kept.image ys py w o refl refl refl refl in
+    let root : read.root ≡ kept.director.root = role_is w (codes "root") (xs ++ ys) kept.director.root read.root
+    (before_none w (codes "root") xs ys _ _ (bare_three w (codes "root") xs _ _ (root_of m Director kept.director xs px w (codes "root") refl refl refl refl have.root)) (none (codes "root"))) is.root in
+    let targets : read.targets ≡ kept.director.targets = role_is w (codes "targets") (xs ++ ys) kept.director.targets read.targets
+    (before_none w (codes "targets") xs ys _ _ (bare_two w (codes "targets") xs _ _ (targets_of m Director kept.director xs px w (codes "targets") refl refl refl refl have.targets)) (none (codes "targets"))) is.targets in
+    let snapshot : read.snapshot ≡ kept.director.snapshot = role_is w (codes "snapshot") (xs ++ ys) kept.director.snapshot read.snapshot
+    (before_none w (codes "snapshot") xs ys _ _ (bare_end w (codes "snapshot") xs _ _ (snapshot_of m Director kept.director xs px w (codes "snapshot") refl refl refl refl have.snapshot)) (none (codes "snapshot"))) is.snapshot in
+    let timestamp : read.timestamp ≡ kept.director.timestamp = role_is w (codes "timestamp") (xs ++ ys) kept.director.timestamp read.timestamp
+    (before_none w (codes "timestamp") xs ys _ _ (timestamp_of m Director kept.director xs px w (codes "timestamp") refl refl refl refl have.timestamp) (none (codes "timestamp"))) is.timestamp in
+    λ i. record { root = root i; targets = targets i; snapshot = snapshot i; timestamp = timestamp i }
+
+image_is : (m : ℕ) (kept : KeySet) (read : RepoKeys) (xs ys : List RoleKeyRow) → Parts m Director kept.director xs → Parts m Image kept.image ys → HaveKeys kept.image
+    → AreKeysOf (codes "image") (xs ++ ys) read → read ≡ kept.image
+image_is m kept read xs ys px py have is =
+    let w = codes "image" in
+    let none : (o : List ℕ) → Has w o xs [] None = λ o. none_of m Director kept.director xs px w o refl refl refl refl in
+    let root : read.root ≡ kept.image.root = role_is w (codes "root") (xs ++ ys) kept.image.root read.root
+    (after_none w (codes "root") xs ys _ _ (none (codes "root")) (bare_three w (codes "root") ys _ _ (root_of m Image kept.image ys py w (codes "root") refl refl refl refl have.root))) is.root in
+    let targets : read.targets ≡ kept.image.targets = role_is w (codes "targets") (xs ++ ys) kept.image.targets read.targets
+    (after_none w (codes "targets") xs ys _ _ (none (codes "targets")) (bare_two w (codes "targets") ys _ _ (targets_of m Image kept.image ys py w (codes "targets") refl refl refl refl have.targets))) is.targets in
+    let snapshot : read.snapshot ≡ kept.image.snapshot = role_is w (codes "snapshot") (xs ++ ys) kept.image.snapshot read.snapshot
+    (after_none w (codes "snapshot") xs ys _ _ (none (codes "snapshot")) (bare_end w (codes "snapshot") ys _ _ (snapshot_of m Image kept.image ys py w (codes "snapshot") refl refl refl refl have.snapshot))) is.snapshot in
+    let timestamp : read.timestamp ≡ kept.image.timestamp = role_is w (codes "timestamp") (xs ++ ys) kept.image.timestamp read.timestamp
+    (after_none w (codes "timestamp") xs ys _ _ (none (codes "timestamp")) (timestamp_of m Image kept.image ys py w (codes "timestamp") refl refl refl refl have.timestamp)) is.timestamp in
+    λ i. record { root = root i; targets = targets i; snapshot = snapshot i; timestamp = timestamp i }
+
+pub keys_are : (m : ℕ) (root : RootRow) (rows : List RoleKeyRow) (director image : RepoKeys) → root_lines m root ≡ map role_key_row rows → EachHasKeys root.keys
+    → AreKeysOf (codes "director") rows director → AreKeysOf (codes "image") rows image → (director ≡ root.keys.director) × (image ≡ root.keys.image)
+keys_are m root rows director image h have isd isi =
+    let two = split role_key_row rows (repository_lines m Director root.keys.director) (repository_lines m Image root.keys.image) h in
+    let px = parts_of m Director root.keys.director two.0 two.3 in
+    let py = parts_of m Image root.keys.image two.1 two.4 in (
+      director_is m root.keys director two.0 two.1 px py have.director (subst (λ (l : List RoleKeyRow). AreKeysOf (codes "director") l director) two.2 isd),
+      image_is m root.keys image two.0 two.1 px py have.image (subst (λ (l : List RoleKeyRow). AreKeysOf (codes "image") l image) two.2 isi),
+    )
+
+-- ---- the last root version
+
+pub split_last : (roots : List RootRow) (root : RootRow) → slice_get roots (length roots - 1) ≡ Some root → (front : List RootRow) × (roots ≡ front ++ root ∷ [])
+split_last [] root h = absurd (let e = h in cc)
+split_last (x ∷ []) root h = ([], let same : x ≡ root = cc in ap (λ (r : RootRow). r ∷ []) same)
+split_last (x ∷ y ∷ ys) root h =
+    let at : slice_get (x ∷ y ∷ ys) (length (x ∷ y ∷ ys) - 1) ≡ slice_get (y ∷ ys) (length (y ∷ ys) - 1) =
+    (let same : length (x ∷ y ∷ ys) - 1 ≡ suc (length (y ∷ ys) - 1) = omega arith in ap (slice_get (x ∷ y ∷ ys)) same) in
+    let more = split_last (y ∷ ys) root (sym at ∙ h) in
+    (x ∷ more.0, ap (λ (l : List RootRow). x ∷ l) more.1)
+
+last_of_all : {A : Type 0} (P : A → Type 0) (xs : List A) (x : A) → AllByRecursion P (xs ++ x ∷ []) → P x
+last_of_all P [] x all = all.0
+last_of_all P (y ∷ ys) x all = last_of_all P ys x all.1
+
+pub size_last : {A : Type 0} (xs : List A) (x : A) → length (xs ++ x ∷ []) ≡ length xs + 1
+size_last [] x = refl
+size_last (y ∷ ys) x = let more = size_last ys x in omega (arith, more)
+
+-- of the last root version that is kept: the founding that was read has its keys
+founding_is : (rows : StateRows) (f read : Founding) (found : List RoleKeyRow) (root : RootRow) → root.keys ≡ f.keys → slice_get rows.roots (length rows.roots - 1) ≡ Some root → f.root ≡ length rows.roots
+    → AllByRecursion (λ (r : RootRow). EachHasKeys r.keys) rows.roots → map (columns_at role_key_places) (filter (has_number 0 (pos f.root)) (roots_lines rows.roots)) ≡ map role_key_row found
+    → meta_told (Some read) ≡ meta_told (Some f) → AreKeysOf (codes "director") found read.keys.director → AreKeysOf (codes "image") found read.keys.image → read ≡ f
+founding_is rows f read found root keys at number typed shows numbers director image =
+    let two = split_last rows.roots root at in
+    let n = length two.0 + 1 in
+    let size : f.root ≡ n = number ∙ ap length two.1 ∙ size_last two.0 root in
+    let lines : root_lines n root ≡ map role_key_row found =
+    sym (whole_root n root) ∙ ap (map (columns_at role_key_places)) (sym (last_lines two.0 root)) ∙ ap (λ (l : List RootRow). map (columns_at role_key_places) (filter (has_number 0 (pos n)) (roots_lines l))) (sym two.1)
+    ∙ ap (λ (m : ℕ). map (columns_at role_key_places) (filter (has_number 0 (pos m)) (roots_lines rows.roots))) (sym size) ∙ shows in
+    let have = last_of_all (λ (r : RootRow). EachHasKeys r.keys) two.0 root (subst (AllByRecursion (λ (r : RootRow). EachHasKeys r.keys)) two.1 typed) in
+    let same = keys_are n root found read.keys.director read.keys.image lines have director image in
+    let d : read.keys.director ≡ f.keys.director = same.0 ∙ ap (λ (k : KeySet). k.director) keys in
+    let i : read.keys.image ≡ f.keys.image = same.1 ∙ ap (λ (k : KeySet). k.image) keys in
+    let r : read.root ≡ f.root = ap (λ (m : MetaRow). m.root) numbers in
+    let v : read.image_version ≡ f.image_version = ap (λ (m : MetaRow). m.image_version) numbers in
+    let s : read.stamp ≡ f.stamp = ap (λ (m : MetaRow). m.stamp) numbers in
+    λ j. record { root = r j; keys = record { director = d j; image = i j }; image_version = v j; stamp = s j }
+
+keyed : (o : Option RootRow) (keys : KeySet) → option_map (λ (r : RootRow). r.keys) o ≡ Some keys → (root : RootRow) × (o ≡ Some root) × (root.keys ≡ keys)
+keyed None keys h = absurd (let e = h in cc)
+keyed (Some root) keys h = (root, refl, let same : root.keys ≡ keys = cc in same)
+
+pub founding_in : (rows : StateRows) (row : MetaRow) (found : List RoleKeyRow) (read : Option Founding) (before after : Connected) → (row.root == 0) ≡ false → (HasTables before → Reads before after)
+    → ((all : List Row) → HasTables before → ListsAll all (before.now.trees role_key_table.tree) → map (columns_at role_key_places) (filter (has_number 0 (pos row.root)) all) ≡ map role_key_row found)
+    → IsFoundingOf row found read → IsWithin up_schema (ListsRows rows) before → row ≡ meta_told rows.founding → read ≡ rows.founding
+founding_in rows row found read before after founded reads shows is within numbers =
+    let has : HasTables before = λ is_open. let here = within.here is_open in record { schema_is = here.schema_is; sound = here.sound; rows = tt } in
+    let here = within.here (reads has).was_open in
+    go rows.founding refl here.rows.last (shows (roots_lines rows.roots) has here.rows.tables.role_keys) here.rows.typed.roots
+  where
+    go : (o : Option Founding) → rows.founding ≡ o → IsOfLastRoot o rows.roots → map (columns_at role_key_places) (filter (has_number 0 (pos row.root)) (roots_lines rows.roots)) ≡ map role_key_row found
+        → AllByRecursion (λ (r : RootRow). EachHasKeys r.keys) rows.roots → read ≡ rows.founding
+    go None same last lines typed =
+        let zero : row.root ≡ 0 = ap (λ (m : MetaRow). m.root) (numbers ∙ ap meta_told same) in
+        absurd (let e = sym (ap (λ n. n == 0) zero) ∙ founded in cc)
+    go (Some f) same last lines typed =
+        let told : row ≡ meta_told (Some f) = numbers ∙ ap meta_told same in
+        let root = keyed (slice_get rows.roots (length rows.roots - 1)) f.keys last.1 in
+        let number : row.root ≡ f.root = ap (λ (m : MetaRow). m.root) told in
+        is.is ∙ ap Some (founding_is rows f is.founding found root.0 root.2 root.1 last.0 typed
+        (ap (λ (m : ℕ). map (columns_at role_key_places) (filter (has_number 0 (pos m)) (roots_lines rows.roots))) (sym number) ∙ lines) (is.numbers ∙ told) is.director is.image) ∙ sym same
+
+-- ---- the numbers
+
+pub none_founded : (rows : StateRows) (row : MetaRow) (before : Connected) → (row.root == 0) ≡ true → IsTrue before.is_open → IsWithin up_schema (ListsRows rows) before → row ≡ meta_told rows.founding → None ≡ rows.founding
+none_founded rows row before none was_open within numbers =
+    let here = within.here was_open in
+    go rows.founding refl here.rows.last
+  where
+    go : (o : Option Founding) → rows.founding ≡ o → IsOfLastRoot o rows.roots → None ≡ rows.founding
+    go None same last = sym same
+    go (Some f) same last =
+        let number : row.root ≡ f.root = ap (λ (m : MetaRow). m.root) (numbers ∙ ap meta_told same) in
+        let root = keyed (slice_get rows.roots (length rows.roots - 1)) f.keys last.1 in
+        let two = split_last rows.roots root.0 root.1 in
+        let size : f.root ≡ length two.0 + 1 = last.0 ∙ ap length two.1 ∙ size_last two.0 root.0 in
+        let zero : row.root ≡ 0 = grind (arith, none, nat_tests) in
+        absurd (omega (arith, zero, number, size))
+
+pub within_read : (rows : StateRows) (before mid : Connected) → Reads before mid → IsWithin up_schema (ListsRows rows) before → IsWithin up_schema (ListsRows rows) mid
+within_read rows before mid reads within = record {
+  mode = reads.mode ∙ within.mode;
+  here = λ _. subst (IsWith up_schema (ListsRows rows)) (sym reads.now_is) (within.here reads.was_open);
+}
+
+pub numbers_in : (rows : StateRows) (found : Option MetaRow) (before : Connected) → (HasTables before → IsTrue before.is_open)
+    → ((root image_version stamp : ℕ) → HasTables before → before.now.trees meta_table.tree ≡ meta_row root image_version stamp ∷ [] → found ≡ Some (record { root = root; image_version = image_version; stamp = stamp }))
+    → IsWithin up_schema (ListsRows rows) before → found ≡ Some (meta_told rows.founding)
+numbers_in rows found before was_open shows within =
+    let has : HasTables before = λ is_open. let here = within.here is_open in record { schema_is = here.schema_is; sound = here.sound; rows = tt } in
+    let here = within.here (was_open has) in
+    shows (founding_number (λ (f : Founding). f.root) rows.founding) (founding_number (λ (f : Founding). f.image_version) rows.founding) (founding_number (λ (f : Founding). f.stamp) rows.founding) has here.rows.tables.meta

@@ -1,0 +1,9 @@
+use Rattle.std.proofs.Common.{ap, ap₂, ◌∙◌}
+use Rattle.std.specs.FinMap as table
+use Rattle.up_plan.specs.Images.{ImageData}
+use Rattle.up_store.proofs.image_rows.add_image.Goals as goal
+
+pub returns : goal.returns
+returns c = λ file image typed is.
+    let same = c.in_ok-image.ensures file image typed is in
+    c.in_ok-insert.ensures.ok ∙ ap₂ (λ name x. table.insert c.args.images.now name x) (c.in_ok-name.ensures ∙ c.text.ensures.value ∙ ap (λ (i : ImageData). i.file) (c.image.view_is ∙ same)) same

@@ -1,0 +1,21 @@
+use Rattle.std.proofs.Common.{sym}
+use Rattle.sqlite.specs.Held.{state}
+use Rattle.up_rows.specs.StateRows.{StateRows}
+use Rattle.up_tables.specs.Stands.{IsWithin}
+use Rattle.up_tables.specs.Tables.{up_schema}
+use Rattle.up_store.specs.Listing.{ListsRows}
+use Rattle.up_store.proofs.ColumnFound.{each_ok, kept_found, kept_unknown}
+use Rattle.up_store.proofs.manifests.find_kept.Goals as goal
+
+pub returns-in-Ok-Some-clause-found : goal.returns-in-Ok-Some-clause-found
+returns-in-Ok-Some-clause-found g c clean =
+    let before = state g.D.Store c.args.tx.now.conn.now in
+    let after = state g.D.Store c.kept.new.tx.conn.now in
+    each_ok c.some_kept.result (λ (rows : StateRows). IsWithin up_schema (ListsRows rows) before) _
+    (λ rows within. kept_found c.some_kept.result rows c.args.vehicle.now c.args.counter before after c.in-Ok-Some.field-0 c.in-Ok-Some.shown c.in-Ok-Some.field-0-is c.some_kept.ensures (c.in-Ok-Some.ensures.reads clean) (rw c.text.ensures.value at c.in-Ok-Some.ensures.found clean) within)
+
+pub returns-in-Ok-None-clause-found : goal.returns-in-Ok-None-clause-found
+returns-in-Ok-None-clause-found g c clean rows within =
+    let before = state g.D.Store c.args.tx.now.conn.now in
+    let after = state g.D.Store c.kept.new.tx.conn.now in
+    kept_unknown rows c.args.vehicle.now c.args.counter before after c.in-Ok-None.field-0 c.in-Ok-None.field-0-is (c.in-Ok-None.ensures.reads clean) (rw c.text.ensures.value at c.in-Ok-None.ensures.found clean) within

@@ -1,0 +1,24 @@
+use Rattle.std.proofs.Common.{◌≡◌, arith, sym, ◌∙◌}
+use Rattle.sqlite.specs.Held.{state}
+use Rattle.sqlite.specs.State.{HasCleanDisk}
+use Rattle.up_rows.specs.Lookups.{latest_kept}
+use Rattle.up_rows.specs.StateRows.{StateRows}
+use Rattle.up_tables.specs.Stands.{IsWithin}
+use Rattle.up_tables.specs.Tables.{up_schema}
+use Rattle.up_tables.proofs.StateLemmas.{ok_then}
+use Rattle.up_store.specs.Listing.{ListsRows}
+use Rattle.up_store.proofs.ColumnFound.{within_read, latest_is, latest_unknown}
+use Rattle.up_store.proofs.manifests.find_latest.Goals as goal
+
+pub returns-in-Ok-Some-clause-found : goal.returns-in-Ok-Some-clause-found
+returns-in-Ok-Some-clause-found g c clean =
+    let before = state g.D.Store c.args.tx.now.conn.now in
+    let mid = state g.D.Store c.find_last.new.tx.conn.now in
+    let then : HasCleanDisk mid = omega (arith, c.find_counted.ensures.steps.survives.clean) in
+    ok_then _ (λ found. (rows : StateRows) → IsWithin up_schema (ListsRows rows) before → found ≡ latest_kept c.args.vehicle.now rows) c.find_counted.result
+    (λ read is rows within. is rows (within_read rows before mid (c.in-Ok-Some.ensures.reads then) within) ∙ latest_is rows c.args.vehicle.now c.in-Ok-Some.last (sym c.in-Ok-Some.field-0-is ∙ c.in-Ok-Some.ensures.found then rows within))
+    (c.find_counted.ensures.found clean)
+
+pub returns-in-Ok-None-clause-found : goal.returns-in-Ok-None-clause-found
+returns-in-Ok-None-clause-found g c clean rows within =
+    latest_unknown rows c.args.vehicle.now (sym c.in-Ok-None.field-0-is ∙ c.in-Ok-None.ensures.found clean rows within)

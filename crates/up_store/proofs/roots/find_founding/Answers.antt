@@ -1,0 +1,27 @@
+use Rattle.std.proofs.Common.{◌≡◌, Some, sym, ◌∙◌, arith}
+use Rattle.sqlite.specs.Held.{state}
+use Rattle.sqlite.specs.State.{HasCleanDisk}
+use Rattle.up_rows.specs.StateRows.{StateRows}
+use Rattle.up_tables.specs.Stands.{IsWithin}
+use Rattle.up_tables.specs.Tables.{up_schema}
+use Rattle.up_tables.proofs.StateLemmas.{ok_then}
+use Rattle.up_store.specs.Listing.{ListsRows}
+use Rattle.up_store.specs.Shown.{meta_told}
+use Rattle.up_store.proofs.FoundingReads.{within_read, numbers_in}
+use Rattle.up_store.proofs.RootPuts.{has_tables}
+use Rattle.up_store.proofs.roots.find_founding.Goals as goal
+
+pub returns-in-Ok-Some-clause-found : goal.returns-in-Ok-Some-clause-found
+returns-in-Ok-Some-clause-found g c clean =
+    let before = state g.D.Store c.args.tx.now.conn.now in
+    let mid = state g.D.Store c.meta.new.tx.conn.now in
+    let cleanly : HasCleanDisk mid = omega (arith, c.find_founded.ensures.steps.survives.clean) in
+    ok_then (λ found. (rows : StateRows) → IsWithin up_schema (ListsRows rows) mid → c.in-Ok-Some.row ≡ meta_told rows.founding → found ≡ rows.founding)
+    (λ found. (rows : StateRows) → IsWithin up_schema (ListsRows rows) before → found ≡ rows.founding) c.find_founded.result
+    (λ found told rows within.
+    let reads = c.in-Ok-Some.ensures.reads cleanly (has_tables (ListsRows rows) before within) in
+    let both : Some c.in-Ok-Some.row ≡ Some (meta_told rows.founding) =
+    sym c.in-Ok-Some.field-0-is ∙ numbers_in rows c.in-Ok-Some.field-0 before (λ _. reads.was_open) (c.in-Ok-Some.ensures.found cleanly) within in
+    let same : c.in-Ok-Some.row ≡ meta_told rows.founding = cc in
+    told rows (within_read rows before mid reads within) same)
+    (c.find_founded.ensures.found clean)

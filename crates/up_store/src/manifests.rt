@@ -1,0 +1,223 @@
+//! Accepted manifests.
+ghost use Rattle.std.specs.Prelude.{◌≡◌, ◌<◌, ◌^◌, ⊤, Some, IfOk, OnErr, OnOk};
+ghost use Rattle.sqlite.specs.Held.{state};
+ghost use Rattle.sqlite.specs.State.{HasCleanDisk, Survives};
+ghost use Rattle.up_canon.specs.Names.{Name};
+ghost use Rattle.up_machine.specs.declared.rows.Kept.{Kept as KeptData};
+ghost use Rattle.up_rows.specs.Changes.{with_accepted_rows};
+ghost use Rattle.up_rows.specs.Lookups.{kept_with, latest_kept};
+ghost use Rattle.up_store.specs.ColumnRows.{IsKept, last_found, with_kept};
+ghost use Rattle.up_store.specs.Typed.{IsTypedKept};
+ghost use Rattle.up_store.specs.Fitting.{IsRecorded};
+ghost use Rattle.up_store.specs.Puts.{IsReported, with_reported};
+ghost use Rattle.up_tables.specs.Stands.{IfClean, HasTables, IsAsCommitted, IsInside, IsOpen, Reads, Steps};
+ghost use Rattle.up_store.specs.Connections.{Answers, FindsRows, NeedsOpen, PutsRows, PutsTables, TakesRows, CommitsRows, SparesRows};
+
+use crate::ecus::make_ecus;
+use crate::kept_rows::{make_kept, read_kept};
+use crate::store::{MOST_NUMBER, MOST_ROWS, Store, StoreFault};
+use crate::vehicles::make_vehicle;
+use sqlite::{Alter, Transaction};
+use std::alloc::Global;
+use up_canon::count::Count;
+use up_canon::ident::Ident;
+use up_machine::decision::AcceptedRows;
+use up_machine::rows::{Kept, VehicleRows};
+use up_tables::ecu::upsert_ecus;
+use up_tables::kept::{KeptRow, insert_kept, kept as kept_shown};
+use up_tables::values::fault_of;
+use up_tables::vehicle::{upsert_vehicle, vehicle as vehicle_shown};
+
+impl<D: Alter> Store<D> {
+    /// The vehicle's row with this counter, none where there is none.
+    pub fn kept(
+        &mut self,
+        alloc: Global,
+        vehicle: &Ident,
+        counter: Count,
+    ) -> Result<Option<Kept>, StoreFault>
+        ensures told { Answers (kept_with vehicle.now counter) (state D.Store self.old) (state D.Store self.new) result }
+        ensures kept { IfClean (IsAsCommitted (state D.Store self.old)) (state D.Store self.new) }
+        ensures crash { Survives (state D.Store self.old) (state D.Store self.new) (λ _. ⊥) }
+        ensures open { NeedsOpen (state D.Store self.old) (state D.Store self.new) result }
+    {
+        let mut tx = self.conn.transaction();
+        find_kept(&mut tx, alloc, vehicle, counter.get())
+    }
+
+    /// The vehicle's row with its greatest counter, none of an unknown vehicle and before its first manifest.
+    pub fn latest(&mut self, alloc: Global, vehicle: &Ident) -> Result<Option<Kept>, StoreFault>
+        ensures told { Answers (latest_kept vehicle.now) (state D.Store self.old) (state D.Store self.new) result }
+        ensures kept { IfClean (IsAsCommitted (state D.Store self.old)) (state D.Store self.new) }
+        ensures crash { Survives (state D.Store self.old) (state D.Store self.new) (λ _. ⊥) }
+        ensures open { NeedsOpen (state D.Store self.old) (state D.Store self.new) result }
+    {
+        let mut tx = self.conn.transaction();
+        find_latest(&mut tx, alloc, vehicle)
+    }
+
+    /// Writes an accepted manifest: its vehicle's row, what its ECUs reported, and the row that is kept for it.
+    pub fn write_accept(&mut self, alloc: Global, new: &AcceptedRows) -> Result<(), StoreFault>
+        ensures written { TakesRows (IsRecorded new.now) (λ rows. with_accepted_rows rows new.now) (state D.Store self.old) (state D.Store self.new) result }
+        ensures durable { CommitsRows (IsRecorded new.now) (λ rows. with_accepted_rows rows new.now) (state D.Store self.old) (state D.Store self.new) result }
+        ensures kept { OnErr result (IfClean (IsAsCommitted (state D.Store self.old)) (state D.Store self.new)) }
+        ensures crash { SparesRows (IsRecorded new.now) (λ rows. with_accepted_rows rows new.now) (state D.Store self.old) (state D.Store self.new) }
+        ensures clean { HasCleanDisk (state D.Store self.new) → HasCleanDisk (state D.Store self.old) }
+        ensures open { NeedsOpen (state D.Store self.old) (state D.Store self.new) result }
+    {
+        let mut tx = self.conn.transaction();
+        if let Err(fault) = put_accepted(&mut tx, alloc, new) {
+            return Err(fault);
+        }
+        match tx.commit() {
+            Ok(()) => Ok(()),
+            Err(error) => Err(fault_of(error)),
+        }
+    }
+}
+
+/// Sets the rows of a vehicle, and keeps a manifest.
+fn put_accepted<D: Alter>(
+    tx: &mut Transaction<'_, D>,
+    alloc: Global,
+    new: &AcceptedRows,
+) -> Result<(), StoreFault>
+    requires mode { IfClean IsInside (state D.Store tx.old.conn.now) }
+    ensures same_reference { tx.new.conn.ghost_name ≡ tx.old.conn.ghost_name }
+    ensures put { PutsRows (IsRecorded new.now) (λ rows. with_accepted_rows rows new.now) (state D.Store tx.old.conn.now) (state D.Store tx.new.conn.now) result }
+    ensures inside { OnOk result (IfClean IsInside (state D.Store tx.new.conn.now)) }
+    ensures open { OnOk result (IfClean IsOpen (state D.Store tx.new.conn.now)) }
+    ensures steps { Steps (state D.Store tx.old.conn.now) (state D.Store tx.new.conn.now) }
+{
+    put_reported(tx, alloc, &new.vehicle)?;
+    insert_kept_row(tx, alloc, &new.kept)
+}
+
+/// Sets the row of a vehicle that is there, and what its ECUs reported.
+fn put_reported<D: Alter>(
+    tx: &mut Transaction<'_, D>,
+    alloc: Global,
+    new: &VehicleRows,
+) -> Result<(), StoreFault>
+    requires mode { IfClean IsInside (state D.Store tx.old.conn.now) }
+    ensures same_reference { tx.new.conn.ghost_name ≡ tx.old.conn.ghost_name }
+    ensures put { PutsTables (IsReported new.now) (with_reported new.now) (state D.Store tx.old.conn.now) (state D.Store tx.new.conn.now) result }
+    ensures inside { OnOk result (IfClean IsInside (state D.Store tx.new.conn.now)) }
+    ensures open { OnOk result (IfClean IsOpen (state D.Store tx.new.conn.now)) }
+    ensures steps { Steps (state D.Store tx.old.conn.now) (state D.Store tx.new.conn.now) }
+{
+    let vehicle = make_vehicle(alloc, &new.vehicle)?;
+    let ecus = make_ecus(alloc, new.ecus.as_slice())?;
+    if ecus.len() > MOST_ROWS {
+        return Err(StoreFault::Store);
+    }
+    upsert_vehicle(tx, &vehicle)?;
+    upsert_ecus(tx, new.vehicle.vehicle.text(), ecus.as_slice())
+}
+
+/// Puts in the row that is kept for a manifest.
+fn insert_kept_row<D: Alter>(
+    tx: &mut Transaction<'_, D>,
+    alloc: Global,
+    kept: &Kept,
+) -> Result<(), StoreFault>
+    requires mode { IfClean IsInside (state D.Store tx.old.conn.now) }
+    ensures same_reference { tx.new.conn.ghost_name ≡ tx.old.conn.ghost_name }
+    ensures put { PutsTables (λ _. ⊤) (with_kept kept.now) (state D.Store tx.old.conn.now) (state D.Store tx.new.conn.now) result }
+    ensures typed { OnOk result (IsTypedKept kept.now.vehicle kept.now) }
+    ensures inside { OnOk result (IfClean IsInside (state D.Store tx.new.conn.now)) }
+    ensures open { OnOk result (IfClean IsOpen (state D.Store tx.new.conn.now)) }
+    ensures steps { Steps (state D.Store tx.old.conn.now) (state D.Store tx.new.conn.now) }
+{
+    let row = make_kept(alloc, kept)?;
+    insert_kept(tx, &row)
+}
+
+/// The vehicle's row with this counter.
+fn find_kept<D: Alter>(
+    tx: &mut Transaction<'_, D>,
+    alloc: Global,
+    vehicle: &Ident,
+    counter: u64,
+) -> Result<Option<Kept>, StoreFault>
+    requires counter { counter < 2 ^ 63 }
+    requires mode { IfClean IsInside (state D.Store tx.old.conn.now) }
+    ensures same_reference { tx.new.conn.ghost_name ≡ tx.old.conn.ghost_name }
+    ensures found { FindsRows (kept_with vehicle.now counter) (state D.Store tx.old.conn.now) (state D.Store tx.new.conn.now) result }
+    ensures open { NeedsOpen (state D.Store tx.old.conn.now) (state D.Store tx.new.conn.now) result }
+    ensures steps { Steps (state D.Store tx.old.conn.now) (state D.Store tx.new.conn.now) }
+{
+    match kept_shown(tx, vehicle.text(), counter) {
+        Ok(Some(shown)) => some_kept(alloc, shown),
+        Ok(None) => Ok(None),
+        Err(fault) => Err(fault),
+    }
+}
+
+/// A row as it stands in the table, read.
+fn some_kept(alloc: Global, shown: KeptRow) -> Result<Option<Kept>, StoreFault>
+    ensures { IfOk result (λ read. (vehicle : Name) (row : KeptData) → IsTypedKept vehicle row → IsKept shown row → read ≡ Some row) }
+{
+    match read_kept(alloc, shown) {
+        Ok(row) => Ok(Some(row)),
+        Err(fault) => Err(fault),
+    }
+}
+
+/// The vehicle's row with its greatest counter.
+fn find_latest<D: Alter>(
+    tx: &mut Transaction<'_, D>,
+    alloc: Global,
+    vehicle: &Ident,
+) -> Result<Option<Kept>, StoreFault>
+    requires mode { IfClean IsInside (state D.Store tx.old.conn.now) }
+    ensures same_reference { tx.new.conn.ghost_name ≡ tx.old.conn.ghost_name }
+    ensures found { FindsRows (latest_kept vehicle.now) (state D.Store tx.old.conn.now) (state D.Store tx.new.conn.now) result }
+    ensures open { NeedsOpen (state D.Store tx.old.conn.now) (state D.Store tx.new.conn.now) result }
+    ensures steps { Steps (state D.Store tx.old.conn.now) (state D.Store tx.new.conn.now) }
+{
+    match find_last(tx, vehicle) {
+        Ok(Some(last)) => find_counted(tx, alloc, vehicle, last),
+        Ok(None) => Ok(None),
+        Err(fault) => Err(fault),
+    }
+}
+
+/// The vehicle's row with this counter; `Store` where that is 2^63 or more.
+fn find_counted<D: Alter>(
+    tx: &mut Transaction<'_, D>,
+    alloc: Global,
+    vehicle: &Ident,
+    counter: u64,
+) -> Result<Option<Kept>, StoreFault>
+    requires mode { IfClean IsInside (state D.Store tx.old.conn.now) }
+    ensures same_reference { tx.new.conn.ghost_name ≡ tx.old.conn.ghost_name }
+    ensures found { FindsRows (kept_with vehicle.now counter) (state D.Store tx.old.conn.now) (state D.Store tx.new.conn.now) result }
+    ensures open { NeedsOpen (state D.Store tx.old.conn.now) (state D.Store tx.new.conn.now) result }
+    ensures steps { Steps (state D.Store tx.old.conn.now) (state D.Store tx.new.conn.now) }
+{
+    if counter > MOST_NUMBER {
+        return Err(StoreFault::Store);
+    }
+    find_kept(tx, alloc, vehicle, counter)
+}
+
+/// The vehicle's greatest counter, none of an unknown vehicle.
+fn find_last<D: Alter>(
+    tx: &mut Transaction<'_, D>,
+    vehicle: &Ident,
+) -> Result<Option<u64>, StoreFault>
+    requires mode { IfClean IsInside (state D.Store tx.old.conn.now) }
+    ensures same_reference { tx.new.conn.ghost_name ≡ tx.old.conn.ghost_name }
+    ensures found { FindsRows (last_found vehicle.now) (state D.Store tx.old.conn.now) (state D.Store tx.new.conn.now) result }
+    ensures reads { HasCleanDisk (state D.Store tx.new.conn.now) → OnOk result (HasTables (state D.Store tx.old.conn.now) → Reads (state D.Store tx.old.conn.now) (state D.Store tx.new.conn.now)) }
+    ensures inside { OnOk result (IfClean IsInside (state D.Store tx.new.conn.now)) }
+    ensures open { NeedsOpen (state D.Store tx.old.conn.now) (state D.Store tx.new.conn.now) result }
+    ensures steps { Steps (state D.Store tx.old.conn.now) (state D.Store tx.new.conn.now) }
+{
+    match vehicle_shown(tx, vehicle.text()) {
+        Ok(Some(shown)) => Ok(Some(shown.last_counter)),
+        Ok(None) => Ok(None),
+        Err(fault) => Err(fault),
+    }
+}
