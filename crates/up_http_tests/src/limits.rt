@@ -69,3 +69,34 @@ fn a_hundred_requests(rt: HostRuntime) -> Result<(), Fail> {
     }
     Ok(())
 }
+
+/// Empty lines before a head count as bytes of it, and alone they are no head; one field too many is a bad head, whatever its
+/// method.
+#[test]
+fn empty_lines_and_heads(rt: HostRuntime) -> Result<(), Fail> {
+    let alloc = rt.alloc();
+    for (head, wanted) in [(16_382, "image a;"), (16_383, "400 last;")] {
+        let mut text = lines(alloc, "|")?;
+        text.push_str(head_of(alloc, head, 2)?.as_str())?;
+        for step in [1, 1_000_000] {
+            assert_eq!(rt;
+                told(alloc, text.as_str().as_bytes(), 0, step)?.as_str(),
+                wanted,
+                "{head}"
+            );
+        }
+    }
+    let blank = lines(alloc, "|")?.as_str().repeat(alloc, 8_192)?;
+    assert_eq!(rt;
+        told(alloc, blank.as_str().as_bytes(), 0, 1)?.as_str(),
+        "400 last;"
+    );
+    let many = head_of(alloc, 1_000, 65)?
+        .as_str()
+        .replace(alloc, "GET", "HEAD")?;
+    assert_eq!(rt;
+        told(alloc, many.as_str().as_bytes(), 0, 1)?.as_str(),
+        "400 last;"
+    );
+    Ok(())
+}

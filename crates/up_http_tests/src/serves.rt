@@ -9,6 +9,7 @@ use up_heads::responses::{check_response, refusal_response};
 use up_http::asked::{Next, What};
 use up_http::fault::{Fault, ServeFault};
 use up_http::respond::Respond;
+use up_http::served::Served;
 use up_http::serving::serve;
 
 /// Has no file and no vehicle, and counts what it is asked for.
@@ -17,7 +18,7 @@ struct Empty;
 impl Respond<u32> for Empty {
     ghost use Rattle.std.specs.Prelude.{◌≡◌};
 
-    ghost gives = { λ _ _ text _. text ≡ text };
+    ghost gives = { λ _ _ _ text _. text ≡ text };
 
     fn respond(&self, alloc: Global, state: &mut u32, next: &Next) -> Result<Vec<u8>, AllocError> {
         let text = answer(alloc, next)?;
@@ -49,8 +50,8 @@ impl Read for Slow<'_> {
             return Err(io::Error::from(io::ErrorKind::Other));
         }
         let n = self.step.min(self.bytes.len()).min(buf.len());
-        let (front, rest) = self.bytes.split_at(n);
-        buf[..n].copy_from_slice(front);
+        let (taken, rest) = self.bytes.split_at(n);
+        buf[..n].copy_from_slice(taken);
         self.bytes = rest;
         Ok(n)
     }
@@ -89,7 +90,7 @@ fn shaky_run(
     input: &str,
     reads: (usize, u32),
     writes: (u32, u32),
-) -> (Result<u32, ServeFault>, Vec<u8>, u32) {
+) -> (Result<Served, ServeFault>, Vec<u8>, u32) {
     let mut state = 0;
     let mut reader = Slow {
         bytes: input.as_bytes(),
@@ -107,12 +108,16 @@ fn shaky_run(
     (result, writer.written, state)
 }
 
-fn fault(cause: Fault, called: u32, answered: u32) -> Result<u32, ServeFault> {
+fn fault(cause: Fault, called: u32, answered: u32) -> Result<Served, ServeFault> {
     Err(ServeFault {
         cause,
         called,
         answered,
     })
+}
+
+fn served(requests: u32) -> Result<Served, ServeFault> {
+    Ok(Served { requests })
 }
 
 const NO_FILE: &str = "GET /image/nofile HTTP/1.1|Host: d||";
@@ -127,8 +132,8 @@ fn ends_at_one_failure(rt: HostRuntime) -> Result<(), Fail> {
     let answer = lines(alloc, NO_FILE_ANSWER)?;
     // Bytes a read, the read that fails, the writes that fail and take nothing; then the result, whole answers, requests asked.
     let table = [
-        ((1_000, 0), (0, 0), Ok(3), 3, 3),
-        ((1, 0), (0, 0), Ok(3), 3, 3),
+        ((1_000, 0), (0, 0), served(3), 3, 3),
+        ((1, 0), (0, 0), served(3), 3, 3),
         ((1_000, 0), (2, 0), fault(Fault::Write, 2, 1), 1, 2),
         ((1_000, 0), (0, 2), fault(Fault::Write, 2, 1), 1, 2),
         // Two requests and half of the third.

@@ -1,8 +1,10 @@
 //! Requests as text.
 use std::alloc::{AllocError, Global};
 use up_heads::check::Check;
-use up_http::asked::{Action, Next, What};
+use up_http::asked::{Next, Step, What};
 use up_http::feeder::Feeder;
+use up_machine::command::Command;
+use up_roles::repository::Repository;
 
 /// A text in which `|` stands for the end of a line.
 pub(crate) fn lines(alloc: Global, text: &str) -> Result<String, AllocError> {
@@ -12,15 +14,16 @@ pub(crate) fn lines(alloc: Global, text: &str) -> Result<String, AllocError> {
 /// Appends what a request asks, and whether it is HEAD's and the last.
 fn tell(alloc: Global, next: &Next, out: &mut String) -> Result<(), AllocError> {
     match &next.what {
-        What::Call(Action::Deliver(body)) => {
+        What::Call(Command::Deliver(body)) => {
             out.push_str(format!(in alloc; "manifest {}", body.as_slice().len())?.as_str())?;
         }
-        What::Call(Action::FetchDirector(file)) => {
+        What::Call(Command::Fetch(Repository::Director, file)) => {
             out.push_str(format!(in alloc; "director {}", file.text())?.as_str())?;
         }
-        What::Call(Action::FetchImage(file)) => {
+        What::Call(Command::Fetch(Repository::Image, file)) => {
             out.push_str(format!(in alloc; "image {}", file.text())?.as_str())?;
         }
+        What::Call(_) => out.push_str("another command")?,
         What::Fixed(check) => out.push_str(words(*check))?,
     }
     if next.head {
@@ -53,14 +56,29 @@ pub(crate) fn feed(
 ) -> Result<(), AllocError> {
     let mut rest = piece;
     for _ in 0..102 {
-        let step = feeder.feed(rest)?;
-        rest = rest.get(step.taken..).unwrap_or(b"");
-        match &step.next {
-            Some(next) => tell(alloc, next, out)?,
+        match feed_once(alloc, feeder, rest, out)? {
+            Some(taken) => rest = rest.get(taken..).unwrap_or(b""),
             None => return Ok(()),
         }
     }
     Ok(())
+}
+
+/// Feeds a piece, and tells the request that it ends: how many bytes were taken then.
+fn feed_once(
+    alloc: Global,
+    feeder: &mut Feeder,
+    piece: &[u8],
+    out: &mut String,
+) -> Result<Option<usize>, AllocError> {
+    let Step { taken, next } = feeder.feed(piece)?;
+    match next {
+        None => Ok(None),
+        Some(next) => {
+            tell(alloc, &next, out)?;
+            Ok(Some(taken))
+        }
+    }
 }
 
 /// Ends the stream, and tells the request that is left.
@@ -80,8 +98,8 @@ pub(crate) fn told(
 ) -> Result<String, AllocError> {
     let mut feeder = Feeder::new(alloc);
     let mut out = String::new(alloc);
-    let (front, back) = input.split_at(cut.min(input.len()));
-    feed(alloc, &mut feeder, front, &mut out)?;
+    let (first, back) = input.split_at(cut.min(input.len()));
+    feed(alloc, &mut feeder, first, &mut out)?;
     for piece in back.chunks(step.max(1)) {
         feed(alloc, &mut feeder, piece, &mut out)?;
     }

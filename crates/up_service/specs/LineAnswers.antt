@@ -7,9 +7,9 @@ use Rattle.up_canon.specs.declared.refusal.Refusal.TheVariants.{Memory, UnknownV
 use Rattle.up_sign.specs.Schemes.{Rules}
 use Rattle.up_machine.specs.declared.command.Command.{Command}
 use Rattle.up_machine.specs.Reads.{ecus_of, version_of, installed, assigned_to}
-use Rattle.up_machine.specs.Repeats.{serve}
 use Rattle.up_machine.specs.State.{State}
 use Rattle.up_desk.specs.Serving.{Holding}
+use Rattle.up_service.specs.Answers.{Answered, served_as, IsAnswerOr}
 use Rattle.up_script.specs.AskedLines.{asked_in}
 use Rattle.up_script.specs.PrintedLines.{answer_text, refused_text, vehicle_text, ecu_text}
 use Rattle.up_script.specs.declared.asked.Asked.{Asked}
@@ -35,14 +35,9 @@ shown_text (Err r) = refused_text r
 
 -- ---- lines
 
--- the text of an answer, and the state after it
-pub record Answered : Type 0 where
-  pub text : List ℕ
-  pub next : State
-
 -- what the desk answers a command, as it is printed
 abbrev pub served : Rules → State → ℕ → Command → Answered
-served k s at command = let o = serve k s at command in record { text = answer_text o.answer; next = o.next }
+served k s at command = served_as answer_text k s at command
 
 -- a command is served; a view changes nothing
 abbrev pub carried_out : Rules → State → ℕ → What → Answered
@@ -65,7 +60,7 @@ IsLostOr text shown = (shown ≡ text) ⊎ (shown ≡ refused_text Memory)
 
 -- a line is answered so, or it is lost for want of memory: it says so, and the state is as before
 abbrev pub IsAnswer : Answered → State → List ℕ → State → Type 0
-IsAnswer a old text new = ((text ≡ a.text) × (new ≡ a.next)) ⊎ ((text ≡ refused_text Memory) × (new ≡ old))
+IsAnswer a old text new = IsAnswerOr (refused_text Memory) a old text new
 
 -- without a text the state is as before, or as the answer leaves it
 abbrev pub IsStopped : Answered → State → State → Type 0

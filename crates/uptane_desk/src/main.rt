@@ -1,6 +1,10 @@
-//! The program: runs a script over the repositories, or prints the length and the SHA-256 of a file.
+//! The program: runs a script over the repositories, serves them over HTTP, or prints the length and the SHA-256 of a file.
 #![tactic(auto)]
 
+mod connections;
+
+use connections::serve_all;
+use std::net::TcpListener;
 use std::process::ExitCode;
 use std::{env, fs};
 use up_desk::desk::Desk;
@@ -14,6 +18,7 @@ use up_sign::hmac_sha256::HmacSha256;
 fn main(rt: HostRuntime) -> ExitCode {
     match asked(&rt) {
         Some(Job::Run(file)) => run(&rt, file.as_str()),
+        Some(Job::Serve(file, port, count)) => serve(&rt, file.as_str(), port, count),
         Some(Job::Digest(file)) => digest(&rt, file.as_str()),
         None => {
             eprintln!(rt; "usage: uptane_desk run FILE | serve FILE PORT COUNT | digest FILE").ok();
@@ -31,14 +36,44 @@ fn asked(rt: &HostRuntime) -> Option<Job> {
 /// Runs the script on standard input. `:memory:` is the one database that there is yet.
 fn run(rt: &HostRuntime, file: &str) -> ExitCode {
     if file != ":memory:" {
-        eprintln!(rt; "uptane_desk: cannot open the database").ok();
-        return ExitCode::from(3);
+        return unopened(rt);
     }
     let mut desk = Desk::new(HmacSha256, rt.alloc());
     match run_script(rt.alloc(), &mut desk, &mut rt.stdin(), &mut rt.stdout()) {
         Ok(_) => ExitCode::SUCCESS,
         Err(fault) => stopped(rt, fault),
     }
+}
+
+fn unopened(rt: &HostRuntime) -> ExitCode {
+    eprintln!(rt; "uptane_desk: cannot open the database").ok();
+    ExitCode::from(3)
+}
+
+/// Serves connections to a port of this host, over the one database that there is yet.
+fn serve(rt: &HostRuntime, file: &str, port: u16, count: u32) -> ExitCode {
+    if file != ":memory:" {
+        return unopened(rt);
+    }
+    match TcpListener::bind(rt, ("127.0.0.1", port)) {
+        Ok(listener) => serve_at(rt, &listener, port, count),
+        Err(_) => unheard(rt),
+    }
+}
+
+/// Tells that the program listens, and serves so many connections, one after another.
+fn serve_at(rt: &HostRuntime, listener: &TcpListener, port: u16, count: u32) -> ExitCode {
+    let mut desk = Desk::new(HmacSha256, rt.alloc());
+    println!(rt; "listening {port}").ok();
+    match serve_all(rt, &mut desk, listener, count) {
+        Ok(()) => ExitCode::SUCCESS,
+        Err(_) => unheard(rt),
+    }
+}
+
+fn unheard(rt: &HostRuntime) -> ExitCode {
+    eprintln!(rt; "uptane_desk: cannot listen").ok();
+    ExitCode::from(4)
 }
 
 fn stopped(rt: &HostRuntime, fault: Fault) -> ExitCode {
