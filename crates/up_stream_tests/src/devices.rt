@@ -67,7 +67,7 @@ impl Write for Shaky {
 
 /// What came of a stream.
 #[derive(Drop)]
-pub(crate) struct Answered {
+pub(crate) struct Outcome {
     pub result: Result<Served, ServeFault>,
     /// What was written.
     pub written: Vec<u8>,
@@ -97,7 +97,7 @@ fn stream(
     input: &str,
     reads: Reads,
     writes: (u32, u32),
-) -> Answered {
+) -> Outcome {
     let mut reader = Slow {
         bytes: input.as_bytes(),
         first: reads.first,
@@ -112,7 +112,7 @@ fn stream(
         takes_none_at: writes.1,
     };
     let result = serve_stream(alloc, desk, AT, &mut reader, &mut writer);
-    Answered {
+    Outcome {
         result,
         written: writer.written,
     }
@@ -125,13 +125,13 @@ pub(crate) fn answered(
     input: &str,
     reads: Reads,
     writes: (u32, u32),
-) -> Answered {
+) -> Outcome {
     let mut desk = desk_after(alloc, script);
     stream(alloc, &mut desk, input, reads, writes)
 }
 
 /// The same twice at one desk, where the first time one write fails.
-pub(crate) fn answered_again(alloc: Global, script: &[&str], input: &str) -> (Answered, Answered) {
+pub(crate) fn answered_again(alloc: Global, script: &[&str], input: &str) -> (Outcome, Outcome) {
     let mut desk = desk_after(alloc, script);
     let first = stream(alloc, &mut desk, input, pieces(1_000), (1, 0));
     let second = stream(alloc, &mut desk, input, pieces(1_000), (0, 0));
