@@ -1,0 +1,4 @@
+pub mod Columns
+pub mod CampaignColumns
+pub mod PlanColumns
+pub mod Typed
