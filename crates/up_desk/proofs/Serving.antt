@@ -28,9 +28,10 @@ use Rattle.up_machine.specs.Machine.{decide, outcome_of, step}
 use Rattle.up_machine.specs.Repeats.{Repeat, repeat_in, repeat_of, served_as, serve}
 use Rattle.up_machine.specs.Sound.{IsSound}
 use Rattle.up_machine.specs.RepeatLaws.{ServedStaysSound}
-use Rattle.up_desk.specs.Rows.{Held, state_of, Stands}
-use Rattle.up_desk.specs.Serving.{is_lost, IsAnswered, told, served, outright_in_time, outright, Leaves}
-use Rattle.up_desk.proofs.Shown.{determined, settled}
+use Rattle.sqlite.specs.State.{State as Connected, HasCleanDisk, Survives}
+use Rattle.up_tables.specs.Stands.{IfClean, LeavesOnly}
+use Rattle.up_store.specs.Connections.{KeepsState}
+use Rattle.up_desk.specs.Serving.{is_lost_by, is_lost, IsAnswered, RepliesStay, told, served, outright_in_time, outright, HoldsState, Leaves, IsCommit, Serves, Reads}
 
 -- ---- the moment
 
@@ -75,12 +76,12 @@ pub delivery_served : (k : Rules) (s : State) (at : ℕ) (body : List ℕ) → a
 unfolding and_then
 delivery_served k s at body h = sym (ap (λ (m : Result ⊤ Refusal). and_then m (λ _. and_then (incoming_in body) (decide_incoming k s at))) (in_time at h))
 
-pub of_command : (k : Rules) (s : State) (new : Held) (r : Result Answer Refusal) (at : ℕ) (c d : Command) → c ≡ d → Leaves k s new r (served k s at d) → Leaves k s new r (served k s at c)
-of_command k s new r at c d is h = subst (λ (e : Command). Leaves k s new r (served k s at e)) (sym is) h
+pub of_command : (k : Rules) (s : State) (old new : Connected) (r : Result Answer Refusal) (at : ℕ) (c d : Command) → c ≡ d → Serves k s old new r (served k s at d) → Serves k s old new r (served k s at c)
+of_command k s old new r at c d is h = subst (λ (e : Command). Serves k s old new r (served k s at e)) (sym is) h
 
-pub of_delivery : (k : Rules) (s : State) (new : Held) (r : Result Answer Refusal) (at : ℕ) (c : Command) (body : List ℕ) → c ≡ Deliver body → at ≤ last_command_moment
-    → Leaves k s new r (and_then (incoming_in body) (decide_incoming k s at)) → Leaves k s new r (served k s at c)
-of_delivery k s new r at c body is moment h = of_command k s new r at c (Deliver body) is (subst (λ (o : Result Outcome Refusal). Leaves k s new r o) (delivery_served k s at body moment) h)
+pub of_delivery : (k : Rules) (s : State) (old new : Connected) (r : Result Answer Refusal) (at : ℕ) (c : Command) (body : List ℕ) → c ≡ Deliver body → at ≤ last_command_moment
+    → Serves k s old new r (and_then (incoming_in body) (decide_incoming k s at)) → Serves k s old new r (served k s at c)
+of_delivery k s old new r at c body is moment h = of_command k s old new r at c (Deliver body) is (subst (λ (o : Result Outcome Refusal). Serves k s old new r o) (delivery_served k s at body moment) h)
 
 -- ---- repeats
 
@@ -131,37 +132,47 @@ served_is k s at (Fetch repository name) = refl
 
 -- ---- one call
 
-pub record IsServed (k : Rules) (s : State) (at : ℕ) (c : Command) (a : Answer) (new : Held) : Type 0 where
-  pub answered : IsAnswered a s (state_of new) (serve k s at c)
-  pub stands : Stands k new
+-- the answer and the state that the tables show then
+pub record IsServed (k : Rules) (s : State) (at : ℕ) (c : Command) (a : Answer) (new : Connected) : Type 0 where
+  pub next : State
+  pub answered : IsAnswered a s next (serve k s at c)
+  pub sound : IsSound k next
+  pub keeps : KeepsState k next new
 
-by_memory : (k : Rules) (s : State) (at : ℕ) (c : Command) (r : Refusal) (new : Held) → state_of new ≡ s
-    → (b : Bool) → MatchBool b ⊤ (served k s at c ≡ Err r)
-    → MatchBool b (state_of new ≡ s) ((Refused r ≡ (serve k s at c).answer) × (state_of new ≡ (serve k s at c).next))
-by_memory k s at c r new same true h = same
-by_memory k s at c r new same false h =
+by_loss : (k : Rules) (s : State) (at : ℕ) (c : Command) (r : Refusal) (b : Bool) → MatchBool b ⊤ (served k s at c ≡ Err r)
+    → MatchBool b (s ≡ s) ((Refused r ≡ (serve k s at c).answer) × (s ≡ (serve k s at c).next))
+by_loss k s at c r true h = refl
+by_loss k s at c r false h =
     let is : serve k s at c ≡ record { answer = Refused r; next = s } = served_is k s at c ∙ ap (outcome_of s) h in
-    (sym (ap (λ (o : Outcome). o.answer) is), same ∙ sym (ap (λ (o : Outcome). o.next) is))
+    (sym (ap (λ (o : Outcome). o.answer) is), sym (ap (λ (o : Outcome). o.next) is))
 
-done_as : (k : Rules) (s next : State) (at : ℕ) (c : Command) (a : Answer) (new : Held) → state_of new ≡ next → serve k s at c ≡ record { answer = a; next = next }
-    → (b : Bool) → b ≡ false → MatchBool b (state_of new ≡ s) ((a ≡ (serve k s at c).answer) × (state_of new ≡ (serve k s at c).next))
-done_as k s next at c a new same is true h = cc
-done_as k s next at c a new same is false h = (sym (ap (λ (o : Outcome). o.answer) is), same ∙ sym (ap (λ (o : Outcome). o.next) is))
+done_as : (k : Rules) (s next : State) (at : ℕ) (c : Command) (a : Answer) → serve k s at c ≡ record { answer = a; next = next }
+    → (b : Bool) → b ≡ false → MatchBool b (next ≡ s) ((a ≡ (serve k s at c).answer) × (next ≡ (serve k s at c).next))
+done_as k s next at c a is true h = cc
+done_as k s next at c a is false h = (sym (ap (λ (o : Outcome). o.answer) is), sym (ap (λ (o : Outcome). o.next) is))
 
-pub answered : (k : Rules) (s : State) (new : Held) (at : ℕ) (c : Command) (r : Result Answer Refusal) → ServedStaysSound → IsTrue (is_command c) → IsSound k s
+pub answered : (k : Rules) (s : State) (new : Connected) (at : ℕ) (c : Command) (r : Result Answer Refusal) → ServedStaysSound → IsTrue (is_command c) → IsSound k s
     → Leaves k s new r (served k s at c) → IsServed k s at c (told r) new
 answered k s new at c (Ok a) stays fits sound h =
     let next : State = h.1.0 in
     let is : serve k s at c ≡ record { answer = a; next = next } = served_is k s at c ∙ ap (outcome_of s) h.1.1 in
-    let next_sound : IsSound k next = subst (λ (o : Outcome). IsSound k o.next) is (stays k s at c fits sound) in
     record {
-      answered = done_as k s next at c a new (determined k next new next_sound h.1.2) is (is_lost a) h.0;
-      stands = settled k next new next_sound h.1.2;
+      next = next;
+      answered = done_as k s next at c a is (is_lost a) h.0;
+      sound = subst (λ (o : Outcome). IsSound k o.next) is (stays k s at c fits sound);
+      keeps = h.1.2;
     }
-answered k s new at c (Err r) stays fits sound h = record {
-  answered = by_memory k s at c r new (determined k s new sound h.0) (is_memory r) h.1;
-  stands = settled k s new sound h.0;
-}
+answered k s new at c (Err r) stays fits sound h = record { next = s; answered = by_loss k s at c r (is_lost_by r) h.1; sound = sound; keeps = h.0 }
+
+next_is : (k : Rules) (s : State) (at : ℕ) (c : Command) → (outcome_of s (served k s at c)).next ≡ (serve k s at c).next
+next_is k s at c = sym (ap (λ (o : Outcome). o.next) (served_is k s at c))
+
+pub crashed : (k : Rules) (s : State) (old new : Connected) (at : ℕ) (c : Command) (r : Result Answer Refusal) → Serves k s old new r (served k s at c) → Survives old new (HoldsState k (serve k s at c).next)
+crashed k s old new at c r h = subst (λ (n : State). Survives old new (HoldsState k n)) (next_is k s at c) h.crash
+
+pub committed : (k : Rules) (s : State) (old new : Connected) (at : ℕ) (c : Command) (r : Result Answer Refusal) → Serves k s old new r (served k s at c)
+    → IsCommit s (told r) (serve k s at c).next → IfClean (LeavesOnly (HoldsState k (serve k s at c).next)) new
+committed k s old new at c r h = subst (λ (n : State). IsCommit s (told r) n → IfClean (LeavesOnly (HoldsState k n)) new) (next_is k s at c) h.durable
 
 -- ---- what is refused whether or not there is memory
 

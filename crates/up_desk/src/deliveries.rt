@@ -1,54 +1,64 @@
 //! Manifests that vehicles deliver.
-ghost use Rattle.std.specs.Prelude.{◌≡◌, ◌≤◌, ◌<◌, length, OnOk, OnErr, option_copied};
+ghost use Rattle.std.specs.Prelude.{◌≡◌, ◌≤◌, ◌<◌, length, Err, IfOk};
+ghost use Rattle.sqlite.specs.Held.{state};
+ghost use Rattle.sqlite.specs.State.{HasCleanDisk};
 ghost use Rattle.up_canon.specs.Moments.{last_command_moment};
 ghost use Rattle.up_canon.specs.declared.refusal.Refusal.TheVariants.{TooLarge};
 ghost use Rattle.up_canon.specs.Steps.{and_then};
+ghost use Rattle.up_sign.specs.Schemes.{Rules};
 ghost use Rattle.up_manifest.specs.Manifests.{largest_body, incoming_in};
+ghost use Rattle.up_machine.specs.declared.answer.Answer.TheVariants.{Reply as Replied};
 ghost use Rattle.up_machine.specs.Decisions.{IsRead, decide_incoming, GivesDelivered};
-ghost use Rattle.up_desk.specs.Rows.{held, state_of, Stands, kept_with};
-ghost use Rattle.up_desk.specs.Changes.{with_accepted_rows};
-ghost use Rattle.up_desk.specs.Serving.{Leaves};
+ghost use Rattle.up_machine.specs.Sound.{IsSound};
+ghost use Rattle.up_machine.specs.State.{State};
+ghost use Rattle.up_store.specs.Connections.{KeepsState};
+ghost use Rattle.up_tables.specs.Stands.{IfClean};
+ghost use Rattle.up_desk.specs.Serving.{GivesOrLost, Reads, Serves, ArePlanRows};
 
-use crate::book::Book;
-use crate::texts::text_of;
-use std::alloc::{AllocError, Global};
+use crate::images::images_for;
+use crate::lost::refusal_of;
+use crate::reading::{read_fitting_vehicle, read_founding};
+use sqlite::Alter;
+use std::alloc::Global;
 use up_canon::bytes::Bytes;
-use up_canon::count::Count;
-use up_canon::ident::Ident;
 use up_canon::moment::Moment;
 use up_canon::refusal::Refusal;
+use up_canon::table::Table;
 use up_machine::answer::Answer;
 use up_machine::decide_manifest::{DeliveryRows, decide_manifest};
 use up_machine::decision::{AcceptedRows, Delivered};
 use up_machine::kept_reply::reply_of;
-use up_machine::laws::rows_are_sound;
-use up_machine::rows::Kept;
-use up_manifest::manifest::Incoming;
+use up_manifest::manifest::{Incoming, Manifest};
 use up_manifest::reading::read_manifest;
+use up_plan::campaign::Campaign;
+use up_plan::image::Image;
+use up_rows::laws::{manifests_are_added, rows_are_found};
 use up_sign::scheme::Scheme;
+use up_store::store::{Store, StoreFault};
 
 /// Takes in a manifest, or answers a repeat by the reply that was kept for it.
-#[tactic(auto, unfolding(up_canon::specs::Steps::and_then))]
-pub fn deliver<K: Scheme>(
-    book: &mut Book,
+pub fn deliver<K: Scheme, D: Alter>(
+    store: &mut Store<D>,
     alloc: Global,
     scheme: &K,
     at: Moment,
     body: &Bytes,
 ) -> Result<Answer, Refusal>
-    requires moment { at ≤ last_command_moment }
-    requires stands { Stands (K.rules scheme.now) (held book.old) }
+    requires { at ≤ last_command_moment }
     ensures large { largest_body < length body.now → result ≡ Err TooLarge }
-    ensures leaves { Leaves (K.rules scheme.now) (state_of (held book.old)) (held book.new) result
-        (and_then (incoming_in body.now) (decide_incoming (K.rules scheme.now) (state_of (held book.old)) at)) }
+    ensures serves { (s : State) → IsSound (K.rules scheme.now) s → IfClean (KeepsState (K.rules scheme.now) s) (state D.Store store.old)
+        → Serves (K.rules scheme.now) s (state D.Store store.old) (state D.Store store.new) result
+        (and_then (incoming_in body.now) (decide_incoming (K.rules scheme.now) s at)) }
 {
-    let incoming = read_manifest(alloc, body.as_slice())?;
-    receive(book, alloc, scheme, at, &incoming)
+    match read_manifest(alloc, body.as_slice()) {
+        Ok(incoming) => receive(store, alloc, scheme, at, &incoming),
+        Err(refusal) => Err(refusal),
+    }
 }
 
 /// The same of a manifest that was read.
-fn receive<K: Scheme>(
-    book: &mut Book,
+fn receive<K: Scheme, D: Alter>(
+    store: &mut Store<D>,
     alloc: Global,
     scheme: &K,
     at: Moment,
@@ -56,23 +66,36 @@ fn receive<K: Scheme>(
 ) -> Result<Answer, Refusal>
     requires moment { at ≤ last_command_moment }
     requires read { IsRead incoming.now }
-    requires stands { Stands (K.rules scheme.now) (held book.old) }
-    ensures { Leaves (K.rules scheme.now) (state_of (held book.old)) (held book.new) result
-        (decide_incoming (K.rules scheme.now) (state_of (held book.old)) at incoming.now) }
+    ensures { (s : State) → IsSound (K.rules scheme.now) s → IfClean (KeepsState (K.rules scheme.now) s) (state D.Store store.old)
+        → Serves (K.rules scheme.now) s (state D.Store store.old) (state D.Store store.new) result (decide_incoming (K.rules scheme.now) s at incoming.now) }
 {
-    match decide(book, alloc, scheme, at, incoming)? {
-        Delivered::Repeat(reply) => Ok(Answer::Reply(reply)),
-        Delivered::Accepted(rows) => {
-            let reply = reply_of(alloc, &rows.kept)?;
-            accept(alloc, book, rows)?;
-            Ok(Answer::Reply(reply))
-        }
+    manifests_are_added();
+    match decide(store, alloc, scheme, at, incoming) {
+        Ok(Delivered::Repeat(reply)) => Ok(Answer::Reply(reply)),
+        Ok(Delivered::Accepted(rows)) => accept(store, alloc, &rows),
+        Err(refusal) => Err(refusal),
     }
 }
 
-/// Decides on a manifest over the rows.
-fn decide<K: Scheme>(
-    book: &Book,
+/// Writes an accepted manifest. The reply is made before anything is written, so that nothing grows between the commit and the
+/// answer.
+fn accept<D: Alter>(
+    store: &mut Store<D>,
+    alloc: Global,
+    rows: &AcceptedRows,
+) -> Result<Answer, Refusal> {
+    match reply_of(alloc, &rows.kept) {
+        Ok(reply) => match store.write_accept(alloc, rows) {
+            Ok(()) => Ok(Answer::Reply(reply)),
+            Err(fault) => Err(refusal_of(fault)),
+        },
+        Err(_) => Err(Refusal::Memory),
+    }
+}
+
+/// Decides on a manifest, over the rows that are read.
+fn decide<K: Scheme, D: Alter>(
+    store: &mut Store<D>,
     alloc: Global,
     scheme: &K,
     at: Moment,
@@ -80,40 +103,60 @@ fn decide<K: Scheme>(
 ) -> Result<Delivered, Refusal>
     requires moment { at ≤ last_command_moment }
     requires read { IsRead incoming.now }
-    requires stands { Stands (K.rules scheme.now) (held book.now) }
-    ensures { let s = state_of (held book.now) in
-        GivesDelivered (K.rules scheme.now) s incoming.now.manifest.vehicle result
-        (decide_incoming (K.rules scheme.now) s at incoming.now) }
+    ensures decided { HasCleanDisk (state D.Store store.new) → (s : State) → IsSound (K.rules scheme.now) s → IfClean (KeepsState (K.rules scheme.now) s) (state D.Store store.old)
+        → GivesOrLost (GivesDelivered (K.rules scheme.now) s incoming.now.manifest.vehicle) result (decide_incoming (K.rules scheme.now) s at incoming.now) }
+    ensures reads { Reads (state D.Store store.old) (state D.Store store.new) }
 {
-    rows_are_sound();
-    let name = &incoming.manifest.vehicle;
+    rows_are_found();
+    let manifest = &incoming.manifest;
+    let founding = match read_founding(store, alloc, scheme) {
+        Ok(founding) => founding,
+        Err(fault) => return Err(refusal_of(fault)),
+    };
+    let vehicle = match read_fitting_vehicle(store, alloc, &manifest.vehicle) {
+        Ok(vehicle) => vehicle,
+        Err(fault) => return Err(refusal_of(fault)),
+    };
+    let kept = match store.kept(alloc, &manifest.vehicle, manifest.counter) {
+        Ok(kept) => kept,
+        Err(fault) => return Err(refusal_of(fault)),
+    };
+    let plan = match read_plan_rows(store, alloc, manifest) {
+        Ok(plan) => plan,
+        Err(fault) => return Err(refusal_of(fault)),
+    };
     let rows = DeliveryRows {
-        founding: book.founding.as_ref(),
-        vehicle: book.vehicles.get(name.text()),
-        kept: find_kept(book.kept.as_slice(), name, incoming.manifest.counter),
-        images: &book.images,
-        campaigns: book.campaigns.values(),
+        founding: founding.as_ref(),
+        vehicle: vehicle.as_ref(),
+        kept: kept.as_ref(),
+        images: &plan.images,
+        campaigns: plan.campaigns.values(),
     };
     decide_manifest(alloc, scheme, at, incoming, &rows)
 }
 
-/// The vehicle's row with this counter.
-pub fn find_kept<'a>(rows: &'a [Kept], vehicle: &Ident, counter: Count) -> Option<&'a Kept>
-    ensures { option_copied result ≡ kept_with vehicle.now counter rows.now }
-{
-    rows.iter().find(|row| row.vehicle.text() == vehicle.text()
-        && row.counter.get() == counter.get())
+/// What the plan for a vehicle reads: the running campaigns that reach it, and the images that their items or the reports name.
+#[derive(Drop)]
+struct PlanRows {
+    campaigns: Table<Campaign>,
+    images: Table<Image>,
 }
 
-/// Keeps an accepted manifest: its row, and its vehicle's new rows. Room is made before the first change.
-fn accept(alloc: Global, book: &mut Book, rows: AcceptedRows) -> Result<(), AllocError>
-    ensures ok { OnOk result (held book.new ≡ with_accepted_rows (held book.old) rows) }
-    ensures err { OnErr result (held book.new ≡ held book.old) }
+fn read_plan_rows<D: Alter>(
+    store: &mut Store<D>,
+    alloc: Global,
+    manifest: &Manifest,
+) -> Result<PlanRows, StoreFault>
+    ensures told { HasCleanDisk (state D.Store store.new) → IfOk result (λ rows. (k : Rules) (s : State) → IsSound k s → IfClean (KeepsState k s) (state D.Store store.old)
+        → ArePlanRows s manifest.now rows.campaigns rows.images) }
+    ensures reads { Reads (state D.Store store.old) (state D.Store store.new) }
 {
-    let AcceptedRows { vehicle, kept } = rows;
-    let name = text_of(alloc, vehicle.vehicle.vehicle.text())?;
-    book.kept.reserve(1)?;
-    book.vehicles.insert(name, vehicle)?;
-    book.kept.push(kept).unwrap();
-    Ok(())
+    let campaigns = match store.campaigns_for(alloc, &manifest.vehicle) {
+        Ok(campaigns) => campaigns,
+        Err(fault) => return Err(fault),
+    };
+    match images_for(store, alloc, campaigns.values(), manifest.reports.as_slice()) {
+        Ok(images) => Ok(PlanRows { campaigns, images }),
+        Err(fault) => Err(fault),
+    }
 }

@@ -1,6 +1,7 @@
 //! The program: runs a script over the repositories, or prints the length and the SHA-256 of a file.
 #![tactic(auto)]
 
+use sqlite::Connection;
 use std::process::ExitCode;
 use std::{env, fs};
 use up_desk::desk::Desk;
@@ -10,6 +11,7 @@ use up_service::job::Job;
 use up_service::script::run_script;
 use up_service::words::job;
 use up_sign::hmac_sha256::HmacSha256;
+use up_store::store::Store;
 
 fn main(rt: HostRuntime) -> ExitCode {
     match asked(&rt) {
@@ -31,14 +33,24 @@ fn asked(rt: &HostRuntime) -> Option<Job> {
 /// Runs the script on standard input. `:memory:` is the one database that there is yet.
 fn run(rt: &HostRuntime, file: &str) -> ExitCode {
     if file != ":memory:" {
-        eprintln!(rt; "uptane_desk: cannot open the database").ok();
-        return ExitCode::from(3);
+        return unopened(rt);
     }
-    let mut desk = Desk::new(HmacSha256, rt.alloc());
+    let Ok(conn) = Connection::open_in_memory(rt.alloc()) else {
+        return unopened(rt);
+    };
+    let Ok(store) = Store::create(conn) else {
+        return unopened(rt);
+    };
+    let mut desk = Desk::new(HmacSha256, store);
     match run_script(rt.alloc(), &mut desk, &mut rt.stdin(), &mut rt.stdout()) {
         Ok(_) => ExitCode::SUCCESS,
         Err(fault) => stopped(rt, fault),
     }
+}
+
+fn unopened(rt: &HostRuntime) -> ExitCode {
+    eprintln!(rt; "uptane_desk: cannot open the database").ok();
+    ExitCode::from(3)
 }
 
 fn stopped(rt: &HostRuntime, fault: Fault) -> ExitCode {

@@ -1,9 +1,0 @@
-use Rattle.up_desk.specs.Rows.{held, state_of}
-use Rattle.up_desk.proofs.Rooted.{found_done}
-use Rattle.up_desk.proofs.roots.found.Goals as goal
-
-pub returns : goal.returns
-returns g c =
-    let stands = c.requires.stands in
-    let decided = c.in_ok-rows.ensures (state_of (held c.args.book.now)) stands.sound stands.shows.founding stands.shows.images in
-    found_done _ _ (held c.args.book.now) _ _ _ c.in_ok-rows.rows stands decided.0 decided.1 c.in_ok-add_root.ensures.ok
