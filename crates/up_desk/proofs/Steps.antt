@@ -3,7 +3,7 @@ use Rattle.std.proofs.Common.{◌≡◌, ℕ, List, Bool, true, false, Option, S
 use Rattle.std.specs.Prelude.{◌||◌, ⊤, MatchBool, OnErr}
 use Rattle.sqlite.specs.Tree.{Trees}
 use Rattle.sqlite.specs.State.{State as Connected, HasCleanDisk, Survives}
-use Rattle.sqlite.proofs.StateLemmas.{survives_then}
+use Rattle.sqlite.proofs.StateLemmas.{survives_then, survives_weaker}
 use Rattle.up_canon.specs.declared.refusal.Refusal.{Refusal}
 use Rattle.up_canon.specs.Refusals.{is_memory}
 use Rattle.up_sign.specs.Schemes.{Rules}
@@ -27,35 +27,23 @@ use Rattle.up_desk.specs.Serving.{is_store, is_lost_by, is_lost, told, HoldsStat
 pub clean_before : (old new : Connected) → Reads old new → HasCleanDisk new → HasCleanDisk old
 clean_before old new reads now = let before : HasCleanDisk old = omega (arith, reads.survives.clean) in before
 
-as_committed_then : (a b c : Connected) → IsAsCommitted a b → IsAsCommitted b c → IsAsCommitted a c
-as_committed_then a b c ab bc = record {
-  mode = bc.mode;
-  was_open = λ is_open. ab.was_open (bc.was_open is_open);
-  undone = λ is_open. let before = ab.undone (bc.was_open is_open) in let now = bc.undone is_open in (now.0 ∙ before.1, now.1 ∙ before.1);
-}
+survives_same : (P : Trees → Type 0) (s : Connected) → Survives s s P
+survives_same P s = record { clean = omega arith; shield = λ h. h; counts = omega arith; limit = refl; closes = λ clean is_open. inl is_open; crash = λ clean db may. inl may }
+
+pub reads_none : (s : Connected) → Reads s s
+reads_none s = record { kept = λ rows was. was; survives = survives_same (λ _. ⊥) s }
 
 pub reads_then : (a b c : Connected) → Reads a b → Reads b c → Reads a c
 reads_then a b c ab bc = record {
-  kept = λ clean. as_committed_then a b c (ab.kept (clean_before b c bc clean)) (bc.kept clean);
+  kept = λ rows was. bc.kept rows (ab.kept rows was);
   survives = survives_then a b c (λ _. ⊥) (λ _. ⊥) (λ _. ⊥) (λ _ db none. none) (λ _ db none. none) ab.survives bc.survives;
 }
 
 pub keeps_after : (k : Rules) (s : State) (old new : Connected) → IfClean (KeepsState k s) old → Reads old new → IfClean (KeepsState k s) new
-keeps_after k s old new was reads = stands_kept up_schema (ListsRows (rows_of_state k s)) old new was (clean_before old new reads) reads.kept
+keeps_after k s old new was reads = reads.kept (rows_of_state k s) was
 
 spared : (P : Trees → Type 0) (old new : Connected) → Reads old new → Survives old new P
-spared P old new reads = record {
-  clean = reads.survives.clean;
-  shield = reads.survives.shield;
-  counts = reads.survives.counts;
-  limit = reads.survives.limit;
-  closes = reads.survives.closes;
-  crash = λ clean db may. never db (reads.survives.crash clean db may);
-}
-  where
-    never : (db : Trees) → old.may_leave db ⊎ ⊥ → old.may_leave db ⊎ P db
-    never db (inl h) = inl h
-    never db (inr none) = absurd none
+spared P old new reads = survives_weaker old new (λ _. ⊥) P (λ clean db none. absurd none) reads.survives
 
 -- ---- commands that write nothing
 
@@ -143,3 +131,14 @@ pub gives_or_lost : {R : Type 0} (gives : Result R Refusal → Result Outcome Re
     → ((r : Refusal) → gives (Err r) computed → MatchBool (is_memory r) ⊤ (computed ≡ Err r)) → gives result computed → GivesOrLost gives result computed
 gives_or_lost gives (Ok x) computed due h = h
 gives_or_lost gives (Err r) computed due h = memory_is_lost (is_memory r) (is_store r) (computed ≡ Err r) (due r h)
+
+-- ---- calls of the store
+
+pub store_reads : (old new : Connected) → IfClean (IsAsCommitted old) new → Survives old new (λ _. ⊥) → Reads old new
+store_reads old new kept crash = record {
+  kept = λ rows was. stands_kept up_schema (ListsRows rows) old new was (λ now. let before : HasCleanDisk old = omega (arith, crash.clean) in before) kept;
+  survives = crash;
+}
+
+pub lost_told : (r : Refusal) (f : StoreFault) (X : Type 0) → r ≡ refusal_told f → MatchBool (is_lost_by r) ⊤ X
+lost_told r f X is = subst (λ q. MatchBool (is_lost_by q) ⊤ X) (sym is) (fault_lost f X)

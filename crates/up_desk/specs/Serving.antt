@@ -29,11 +29,11 @@ use Rattle.up_machine.specs.Deciding.{Outcome, check_moment}
 use Rattle.up_machine.specs.Decisions.{decide_incoming, files_named, AreImagesOf}
 use Rattle.up_machine.specs.Machine.{decide, outcome_of}
 use Rattle.up_machine.specs.Replies.{kept_reply}
-use Rattle.up_rows.specs.StateRows.{rows_of_state}
+use Rattle.up_rows.specs.StateRows.{StateRows, rows_of_state}
 use Rattle.up_tables.specs.declared.values.StoreFault.{StoreFault}
 use Rattle.up_tables.specs.declared.values.StoreFault.TheVariants as fault
-use Rattle.up_tables.specs.Stands.{IfClean, IsAsCommitted, LeavesOnly}
-use Rattle.up_store.specs.Connections.{KeepsState, HoldsRows}
+use Rattle.up_tables.specs.Stands.{IfClean, LeavesOnly}
+use Rattle.up_store.specs.Connections.{KeepsRows, KeepsState, HoldsRows}
 
 -- a scheme, and the connection over which the tables are kept
 pub record DeskView (K D : Type 0) : Type 0 where
@@ -117,9 +117,9 @@ pub record Serves (k : Rules) (s : State) (old new : Connected) (result : Result
 
 -- ---- its steps
 
--- nothing is written, and a crash leaves what it could leave before
+-- nothing is written: the tables list what they listed, and a crash leaves what it could leave before
 pub record Reads (old new : Connected) : Type 0 where
-  pub kept : IfClean (IsAsCommitted old) new
+  pub kept : (rows : StateRows) → IfClean (KeepsRows rows) old → IfClean (KeepsRows rows) new
   pub survives : Survives old new (λ _. ⊥)
 
 -- what is read is told by the state that the tables show
