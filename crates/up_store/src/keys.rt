@@ -152,7 +152,15 @@ fn make_role(
     ensures fit { OnOk result (All FitRoleKey made.new.items) }
 {
     for (place, key) in keys.keys.as_slice().iter().enumerate() {
-        made.push(make_key(alloc, root, repository, role, place as u64, key, keys.threshold)?)?;
+        made.push(make_key(
+            alloc,
+            root,
+            repository,
+            role,
+            place as u64,
+            key,
+            keys.threshold,
+        )?)?;
     }
     Ok(())
 }
