@@ -29,7 +29,7 @@ use up_machine::decision::Decision;
 use up_machine::public_keys::publics_fit;
 use up_machine::rows::VehicleRows;
 use up_machine::vehicle::{NewEcu, NewVehicle};
-use up_rows::laws::vehicles_are_added;
+use up_rows::laws::{rows_are_found, vehicles_are_added};
 use up_sign::scheme::Scheme;
 use up_store::store::{Store, StoreFault};
 
@@ -65,6 +65,7 @@ fn add_fitting<K: Scheme, D: Alter>(
     ensures { (s : State) → IsSound (K.rules scheme.now) s → IfClean (KeepsState (K.rules scheme.now) s) (state D.Store store.old)
         → Serves (K.rules scheme.now) s (state D.Store store.old) (state D.Store store.new) result (decide_vehicle_in (K.rules scheme.now) s at new.now) }
 {
+    rows_are_found();
     vehicles_are_added();
     match decide(store, alloc, scheme, at, new) {
         Ok(Decision::Already) => Ok(Answer::Already),
