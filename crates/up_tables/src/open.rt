@@ -7,7 +7,7 @@ ghost use Rattle.sqlite.specs.Held.{state};
 ghost use Rattle.sqlite.specs.State.{HasCleanDisk, Survives, IsLive};
 ghost use Rattle.up_tables.specs.Tables.{no_schema, up_schema};
 ghost use Rattle.up_tables.specs.Lines.{AreNew};
-ghost use Rattle.up_tables.specs.Stands.{AreEmpty, IfClean, IsInside, LeavesOnly, Stands, Steps, Holds, IsAsCommitted};
+ghost use Rattle.up_tables.specs.Stands.{AreEmpty, IfClean, IsInside, IsOpen, LeavesOnly, Stands, Steps, Holds, IsAsCommitted};
 ghost use Rattle.up_tables.specs.Ours.{NamesUs, IsOurs};
 
 use crate::create::make_all;
@@ -44,6 +44,7 @@ pub fn create_tables<S: Alter>(conn: &mut Connection<S>) -> Result<(), OpenFault
     ensures kept { OnErr result (IfClean (IsAsCommitted (state S.Store conn.old)) (state S.Store conn.new)) }
     ensures autocommit { (state S.Store conn.new).in_transaction ≡ false }
     ensures crash { Survives (state S.Store conn.old) (state S.Store conn.new) (Holds up_schema AreNew) }
+    ensures open { HasCleanDisk (state S.Store conn.new) → OnOk result (IsTrue (state S.Store conn.old).is_open) }
 {
     if !has_no_table(conn) {
         return Err(OpenFault::Store);
@@ -66,6 +67,7 @@ pub fn names_us<S: Alter>(conn: &mut Connection<S>) -> Result<bool, OpenFault>
     ensures kept { IfClean (IsAsCommitted (state S.Store conn.old)) (state S.Store conn.new) }
     ensures autocommit { (state S.Store conn.new).in_transaction ≡ false }
     ensures crash { Survives (state S.Store conn.old) (state S.Store conn.new) (λ _. ⊥) }
+    ensures open { HasCleanDisk (state S.Store conn.new) → IfOk result (λ b. IsTrue b → IsTrue (state S.Store conn.old).is_open) }
 {
     let mut tx = conn.transaction();
     match find_meta(&mut tx) {
@@ -80,6 +82,7 @@ fn find_meta<S: Alter>(tx: &mut Transaction<'_, S>) -> Result<Vec<Row>, Error>
     requires mode { IfClean IsInside (state S.Store tx.old.conn.now) }
     ensures same_reference { tx.new.conn.ghost_name ≡ tx.old.conn.ghost_name }
     ensures found { HasCleanDisk (state S.Store tx.new.conn.now) → IfOk result (λ rows. IsOurs rows.items → NamesUs (state S.Store tx.old.conn.now)) }
+    ensures open { OnOk result (IfClean IsOpen (state S.Store tx.new.conn.now)) }
     ensures steps { Steps (state S.Store tx.old.conn.now) (state S.Store tx.new.conn.now) }
 {
     tx.query_all("SELECT app, schema FROM meta WHERE id = 1", &[])

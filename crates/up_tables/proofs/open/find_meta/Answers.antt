@@ -1,5 +1,6 @@
 use Rattle.sqlite.specs.Held.{state}
 use Rattle.up_tables.proofs.StepLemmas.{queries}
+use Rattle.up_tables.proofs.StateLemmas.{shown_is_open}
 use Rattle.up_tables.proofs.OursLemmas.{names_in}
 use Rattle.up_tables.proofs.open.find_meta.Goals as goal
 
@@ -9,3 +10,6 @@ returns-clause-found g c clean = names_in (λ v. v.items) c.query_all.result (st
 pub returns-clause-steps : goal.returns-clause-steps
 returns-clause-steps g c =
     queries (λ v. v.items) _ _ (state g.S.Store c.args.tx.now.conn.now) (state g.S.Store c.query_all.new.self.conn.now) c.query_all.result c.requires.mode c.query_all.ensures.survives c.query_all.ensures.ok c.query_all.ensures.err
+
+pub returns-clause-open : goal.returns-clause-open
+returns-clause-open g c = shown_is_open (λ v. v.items) _ _ (state g.S.Store c.args.tx.now.conn.now) (state g.S.Store c.query_all.new.self.conn.now) c.query_all.result c.query_all.ensures.ok

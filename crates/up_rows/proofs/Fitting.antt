@@ -1,0 +1,37 @@
+-- What a decision says of the rows that it answers.
+use Rattle.std.proofs.Common.{◌≡◌, ℕ, None, ◌⊎◌, inl, inr, ap}
+use Rattle.std.specs.FinMap as table
+use Rattle.up_sign.specs.Schemes.{Rules}
+use Rattle.up_plan.specs.Campaigns.{CampaignData}
+use Rattle.up_plan.specs.Images.{ImageData}
+use Rattle.up_machine.specs.declared.answer.Answer.TheVariants.{Done, Already}
+use Rattle.up_machine.specs.Deciding.{Outcome, done, already}
+use Rattle.up_machine.specs.State.{State}
+use Rattle.up_machine.specs.Vehicles.{NewVehicleData}
+use Rattle.up_machine.proofs.Decided.{IsAddedImage, image_ok, IsAddedVehicle, vehicle_ok, IsOpened, open_ok}
+use Rattle.up_rows.specs.Fitting.{NewImagesAreNew, IsNewVehicle, NewVehiclesAreNew, NewCampaignsAreNew}
+
+-- what is done isn't there already
+not_already : {A : Type 0} (s next : State) → already s ≡ done next → A
+not_already s next same = let answers : Already ≡ Done = ap (λ (o : Outcome). o.answer) same in cc
+
+new_image : (s next : State) (at : ℕ) (image : ImageData) → (already s ≡ done next) ⊎ IsAddedImage s at image (done next) → table.get s.images image.file ≡ None
+new_image s next at image (inl same) = not_already s next same
+new_image s next at image (inr is) = is.none
+
+pub images_new : NewImagesAreNew
+images_new s at version image h = new_image s _ at image (image_ok s at image _ h)
+
+new_vehicle : (k : Rules) (s next : State) (new : NewVehicleData) → (already s ≡ done next) ⊎ IsAddedVehicle k s new (done next) → IsNewVehicle s new
+new_vehicle k s next new (inl same) = not_already s next same
+new_vehicle k s next new (inr is) = record { none = is.none; once = is.once; free = is.free }
+
+pub vehicles_new : NewVehiclesAreNew
+vehicles_new k s at new h = new_vehicle k s _ new (vehicle_ok k s at new _ h)
+
+new_campaign : (s next : State) (campaign : CampaignData) → (already s ≡ done next) ⊎ IsOpened s campaign (done next) → table.get s.campaigns campaign.name ≡ None
+new_campaign s next campaign (inl same) = not_already s next same
+new_campaign s next campaign (inr is) = is.none
+
+pub campaigns_new : NewCampaignsAreNew
+campaigns_new s at campaign h = new_campaign s _ campaign (open_ok s at campaign _ h)

@@ -1,0 +1,140 @@
+-- What is looked up among the rows of a state is the state's.
+use Rattle.std.proofs.Common.{◌≡◌, ℕ, ◌+◌, List, [], ◌∷◌, Bool, true, false, cond, Option, Some, None, map, refl, ap, ap₂, ◌∙◌}
+use Rattle.std.specs.Prelude.{◌==◌, ◌||◌, option_map, option_and_then, unwrap_or, find, length, bytes_eq}
+use Rattle.std.specs.List.{enumerate_from, list_any}
+use Rattle.std.specs.Cmp.Lexicographic.{bytes_decides}
+use Rattle.std.specs.FinMap as table
+use Rattle.up_canon.specs.Names.{Name}
+use Rattle.up_sign.specs.Schemes.{Rules}
+use Rattle.up_manifest.specs.declared.report.Installed.{Installed}
+use Rattle.up_machine.specs.declared.rows.EcuRow.{EcuRow}
+use Rattle.up_machine.specs.declared.rows.VehicleRows.{VehicleRows}
+use Rattle.up_machine.specs.declared.rows.Kept.{Kept}
+use Rattle.up_machine.specs.declared.vehicle.NewEcu.{NewEcu}
+use Rattle.up_machine.specs.Vehicles.{has_ecu, ecu_names}
+use Rattle.up_machine.specs.State.{Entry, Vehicle, State, last_counter, plan_for, installed_on}
+use Rattle.up_machine.specs.Rows.{ecu_row, rows_of, kept_row}
+use Rattle.up_rows.specs.StateRows.{rows_of_state}
+use Rattle.up_rows.specs.Lookups.{stands_among, has_ecu_row, owner_among, installed_among, kept_with}
+use Rattle.up_rows.specs.Laws.{VehiclesAreFound, KeptAreFound, OwnersAreFound, VersionsAreTold, EcusAreTold, InstalledIsTold, AssignedIsTold}
+use Rattle.up_rows.proofs.Tables.{changed, entries_changed, get_changed}
+use Rattle.up_rows.proofs.Staying.{rows_for}
+
+-- ---- vehicles
+
+pub vehicles_found : VehiclesAreFound
+vehicles_found k s name = get_changed rows_of s.vehicles name
+
+pub versions_told : VersionsAreTold
+versions_told k s name = ap (option_map (λ (rows : VehicleRows). rows.vehicle.version)) (vehicles_found k s name) ∙ by_case (table.get s.vehicles name)
+  where
+    by_case : (o : Option Vehicle) → option_map (λ (rows : VehicleRows). rows.vehicle.version) (option_map (rows_of name) o) ≡ option_map (λ (v : Vehicle). length v.entries) o
+    by_case None = refl
+    by_case (Some v) = refl
+
+ecu_names_back : (v : Vehicle) (ecus : List NewEcu) → map (λ (row : EcuRow). row.ecu) (map (ecu_row v) ecus) ≡ ecu_names ecus
+ecu_names_back v [] = refl
+ecu_names_back v (e ∷ ecus) = ap (λ (names : List Name). e.ecu ∷ names) (ecu_names_back v ecus)
+
+pub ecus_told : EcusAreTold
+ecus_told k s name = ap (option_map (λ (rows : VehicleRows). map (λ (row : EcuRow). row.ecu) rows.ecus)) (vehicles_found k s name) ∙ by_case (table.get s.vehicles name)
+  where
+    by_case : (o : Option Vehicle) → option_map (λ (rows : VehicleRows). map (λ (row : EcuRow). row.ecu) rows.ecus) (option_map (rows_of name) o) ≡ option_map (λ (v : Vehicle). ecu_names v.ecus) o
+    by_case None = refl
+    by_case (Some v) = ap Some (ecu_names_back v v.ecus)
+
+-- ---- whether an ECU stands in a vehicle
+
+among_rows : (v : Vehicle) (ecu : Name) (ecus : List NewEcu) → stands_among ecu (map (ecu_row v) ecus) ≡ has_ecu ecu ecus
+among_rows v ecu [] = refl
+among_rows v ecu (e ∷ ecus) = ap (λ t. bytes_eq e.ecu ecu || t) (among_rows v ecu ecus)
+
+among_vehicles : (ecu : Name) (es : List (Name × Vehicle)) → has_ecu_row ecu (map (λ e. e.1) (map (changed rows_of) es)) ≡ list_any (λ (v : Vehicle). has_ecu ecu v.ecus) (map (λ e. e.1) es)
+among_vehicles ecu [] = refl
+among_vehicles ecu (e ∷ es) = ap₂ (λ a c. a || c) (among_rows e.1 ecu e.1.ecus) (among_vehicles ecu es)
+
+pub owners_found : OwnersAreFound
+owners_found k s ecu = ap (λ (es : List (Name × VehicleRows)). has_ecu_row ecu (map (λ e. e.1) es)) (entries_changed rows_of s.vehicles) ∙ among_vehicles ecu (table.entries s.vehicles)
+
+-- ---- the image that an ECU reported last
+
+image_read : (v : Vehicle) (ecu : Name) (ecus : List NewEcu) → has_ecu ecu ecus ≡ true → installed_among ecu (map (ecu_row v) ecus) ≡ installed_on v ecu
+image_read v ecu [] h = cc
+image_read v ecu (e ∷ ecus) h = by_test (bytes_eq e.ecu ecu) refl h (image_read v ecu ecus)
+  where
+    by_test : (t : Bool) → bytes_eq e.ecu ecu ≡ t → (t || has_ecu ecu ecus) ≡ true → (has_ecu ecu ecus ≡ true → installed_among ecu (map (ecu_row v) ecus) ≡ installed_on v ecu)
+        → option_and_then (λ (row : EcuRow). row.installed) (cond t (Some (ecu_row v e)) (find (λ (row : EcuRow). bytes_eq row.ecu ecu) (map (ecu_row v) ecus))) ≡ installed_on v ecu
+    by_test true is h more = ap (installed_on v) ((bytes_decides e.ecu ecu).0 is)
+    by_test false is h more = more h
+
+abbrev found_image : Name → List VehicleRows → Option Installed
+found_image ecu vehicles = option_and_then (λ (rows : VehicleRows). installed_among ecu rows.ecus) (owner_among ecu vehicles)
+
+owner_read : (ecu : Name) (es : List (Name × Vehicle)) → found_image ecu (map (λ e. e.1) (map (changed rows_of) es))
+    ≡ option_and_then (λ (v : Name × Vehicle). installed_on v.1 ecu) (find (λ (v : Name × Vehicle). has_ecu ecu v.1.ecus) es)
+owner_read ecu [] = refl
+owner_read ecu (e ∷ es) =
+    ap (λ t. option_and_then (λ (rows : VehicleRows). installed_among ecu rows.ecus) (cond t (Some (rows_of e.0 e.1)) (owner_among ecu (map (λ e. e.1) (map (changed rows_of) es))))) (among_rows e.1 ecu e.1.ecus)
+    ∙ by_test (has_ecu ecu e.1.ecus) refl (owner_read ecu es)
+  where
+    by_test : (t : Bool) → has_ecu ecu e.1.ecus ≡ t
+        → found_image ecu (map (λ e. e.1) (map (changed rows_of) es)) ≡ option_and_then (λ (v : Name × Vehicle). installed_on v.1 ecu) (find (λ (v : Name × Vehicle). has_ecu ecu v.1.ecus) es)
+        → option_and_then (λ (rows : VehicleRows). installed_among ecu rows.ecus) (cond t (Some (rows_of e.0 e.1)) (owner_among ecu (map (λ e. e.1) (map (changed rows_of) es))))
+        ≡ option_and_then (λ (v : Name × Vehicle). installed_on v.1 ecu) (cond t (Some e) (find (λ (v : Name × Vehicle). has_ecu ecu v.1.ecus) es))
+    by_test true is more = image_read e.1 ecu e.1.ecus is
+    by_test false is more = more
+
+pub installed_told : InstalledIsTold
+installed_told k s ecu = ap (λ (es : List (Name × VehicleRows)). found_image ecu (map (λ e. e.1) es)) (entries_changed rows_of s.vehicles) ∙ owner_read ecu (table.entries s.vehicles)
+
+-- ---- the kept row of a counter
+
+find_row : (k : Rules) (s : State) (name : Name) (counter n : ℕ) (entries : List Entry)
+    → find (λ (row : Kept). row.counter == counter) (map (λ (e : ℕ × Entry). kept_row k s name e.0 e.1) (enumerate_from n entries))
+    ≡ option_map (λ (e : ℕ × Entry). kept_row k s name e.0 e.1) (find (λ (e : ℕ × Entry). e.1.counter == counter) (enumerate_from n entries))
+find_row k s name counter n [] = refl
+find_row k s name counter n (e ∷ entries) = by_test (e.counter == counter) (find_row k s name counter (n + 1) entries)
+  where
+    by_test : (t : Bool)
+        → find (λ (row : Kept). row.counter == counter) (map (λ (e : ℕ × Entry). kept_row k s name e.0 e.1) (enumerate_from (n + 1) entries))
+        ≡ option_map (λ (e : ℕ × Entry). kept_row k s name e.0 e.1) (find (λ (e : ℕ × Entry). e.1.counter == counter) (enumerate_from (n + 1) entries))
+        → cond t (Some (kept_row k s name n e)) (find (λ (row : Kept). row.counter == counter) (map (λ (e : ℕ × Entry). kept_row k s name e.0 e.1) (enumerate_from (n + 1) entries)))
+        ≡ option_map (λ (e : ℕ × Entry). kept_row k s name e.0 e.1) (cond t (Some (n, e)) (find (λ (e : ℕ × Entry). e.1.counter == counter) (enumerate_from (n + 1) entries)))
+    by_test true more = refl
+    by_test false more = more
+
+pub kept_found : KeptAreFound
+kept_found k s name counter = by_case (table.get s.vehicles name)
+  where
+    by_case : (o : Option Vehicle) → find (λ (row : Kept). row.counter == counter) (unwrap_or (option_map (rows_for k s name) o) [])
+        ≡ option_and_then (λ (v : Vehicle). option_map (λ (e : ℕ × Entry). kept_row k s name e.0 e.1) (find (λ (e : ℕ × Entry). e.1.counter == counter) (enumerate_from 1 v.entries))) o
+    by_case None = refl
+    by_case (Some v) = find_row k s name counter 1 v.entries
+
+-- ---- what is assigned to a vehicle
+
+plan_row : (k : Rules) (s : State) (name : Name) (counter n : ℕ) (entries : List Entry)
+    → option_map (λ (row : Kept). row.plan) (option_map (λ (e : ℕ × Entry). kept_row k s name e.0 e.1) (find (λ (e : ℕ × Entry). e.1.counter == counter) (enumerate_from n entries)))
+    ≡ option_map (λ (e : Entry). e.plan) (find (λ (e : Entry). e.counter == counter) entries)
+plan_row k s name counter n [] = refl
+plan_row k s name counter n (e ∷ entries) = by_test (e.counter == counter) (plan_row k s name counter (n + 1) entries)
+  where
+    by_test : (t : Bool)
+        → option_map (λ (row : Kept). row.plan) (option_map (λ (e : ℕ × Entry). kept_row k s name e.0 e.1) (find (λ (e : ℕ × Entry). e.1.counter == counter) (enumerate_from (n + 1) entries)))
+        ≡ option_map (λ (e : Entry). e.plan) (find (λ (e : Entry). e.counter == counter) entries)
+        → option_map (λ (row : Kept). row.plan) (option_map (λ (e : ℕ × Entry). kept_row k s name e.0 e.1) (cond t (Some (n, e)) (find (λ (e : ℕ × Entry). e.1.counter == counter) (enumerate_from (n + 1) entries))))
+        ≡ option_map (λ (e : Entry). e.plan) (cond t (Some e) (find (λ (e : Entry). e.counter == counter) entries))
+    by_test true more = refl
+    by_test false more = more
+
+pub assigned_told : AssignedIsTold
+assigned_told k s name =
+    ap (λ (o : Option VehicleRows). option_map (λ (row : Kept). row.plan) (option_and_then (λ (rows : VehicleRows). kept_with name rows.vehicle.last (rows_of_state k s)) o)) (vehicles_found k s name) ∙ by_case (table.get s.vehicles name) refl
+  where
+    by_case : (o : Option Vehicle) → table.get s.vehicles name ≡ o
+        → option_map (λ (row : Kept). row.plan) (option_and_then (λ (rows : VehicleRows). kept_with name rows.vehicle.last (rows_of_state k s)) (option_map (rows_of name) o)) ≡ option_and_then plan_for o
+    by_case None is = refl
+    by_case (Some v) is =
+        ap (option_map (λ (row : Kept). row.plan)) (kept_found k s name (last_counter v.entries)
+        ∙ ap (option_and_then (λ (w : Vehicle). option_map (λ (e : ℕ × Entry). kept_row k s name e.0 e.1) (find (λ (e : ℕ × Entry). e.1.counter == last_counter v.entries) (enumerate_from 1 w.entries)))) is)
+        ∙ plan_row k s name (last_counter v.entries) 1 v.entries

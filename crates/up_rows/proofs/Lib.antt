@@ -1,0 +1,10 @@
+pub mod Tables
+mod Numbered
+mod Staying
+mod Told
+mod Found
+mod Files
+mod Roots
+mod Registers
+mod Vehicles
+mod Fitting

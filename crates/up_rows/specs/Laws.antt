@@ -1,0 +1,99 @@
+-- The laws of the rows of a state: they tell the state, what is looked up among them is the state's, and what a command changes of
+-- them makes the rows of the next state.
+use Rattle.std.specs.Prelude.{◌≡◌, ◌==◌, ℕ, [], Some, None, is_none, length}
+use Rattle.std.specs.FinMap as table
+use Rattle.up_canon.specs.Names.{Name}
+use Rattle.up_sign.specs.Schemes.{Rules}
+use Rattle.up_roles.specs.declared.repository.Repository.{Repository}
+use Rattle.up_plan.specs.Campaigns.{CampaignData}
+use Rattle.up_plan.specs.Images.{ImageData}
+use Rattle.up_machine.specs.declared.decision.AcceptedRows.{AcceptedRows}
+use Rattle.up_machine.specs.declared.decision.RegisterRows.{RegisterRows}
+use Rattle.up_machine.specs.declared.decision.RootRows.{RootRows}
+use Rattle.up_machine.specs.declared.keys.KeySet.{KeySet}
+use Rattle.up_machine.specs.Decisions.{HasRootRows, HasRegisterRows, HasAcceptedRows}
+use Rattle.up_machine.specs.Deliveries.{with_entry}
+use Rattle.up_machine.specs.Files.{file}
+use Rattle.up_machine.specs.Inventory.{with_vehicle, with_campaign}
+use Rattle.up_machine.specs.Reads.{ecus_of, version_of, installed, assigned_to}
+use Rattle.up_machine.specs.Repositories.{stamped, with_root, with_image}
+use Rattle.up_machine.specs.Rows.{founding_row, rows_of, vehicle_rows, kept_at}
+use Rattle.up_machine.specs.Sound.{IsSound}
+use Rattle.up_machine.specs.State.{Entry, Vehicle, State, empty_state, is_recorded}
+use Rattle.up_machine.specs.Vehicles.{NewVehicleData}
+use Rattle.up_rows.specs.StateRows.{no_rows, rows_of_state, state_of_rows}
+use Rattle.up_rows.specs.Lookups.{kept_with, has_ecu_row, text_held, version_told, ecus_told, installed_told, plan_told}
+use Rattle.up_rows.specs.Changes.{with_root_rows, with_register_rows, with_image_rows, with_vehicle_rows, with_campaign_row, with_accepted_rows}
+
+-- ---- the state
+
+abbrev pub RowsTellTheState : Type 0
+RowsTellTheState = (k : Rules) (s : State) → IsSound k s → state_of_rows (rows_of_state k s) ≡ s
+
+abbrev pub NoRowsOfTheEmptyState : Type 0
+NoRowsOfTheEmptyState = (k : Rules) → rows_of_state k empty_state ≡ no_rows
+
+-- ---- what is looked up
+
+-- the founding's row is there from founding on
+abbrev pub FoundedIsFound : Type 0
+FoundedIsFound = (s : State) → is_none (founding_row s) ≡ (length s.roots == 0)
+
+abbrev pub VehiclesAreFound : Type 0
+VehiclesAreFound = (k : Rules) (s : State) (name : Name) → table.get (rows_of_state k s).vehicles name ≡ vehicle_rows s name
+
+abbrev pub KeptAreFound : Type 0
+KeptAreFound = (k : Rules) (s : State) (name : Name) (counter : ℕ) → kept_with name counter (rows_of_state k s) ≡ kept_at k s name counter
+
+abbrev pub OwnersAreFound : Type 0
+OwnersAreFound = (k : Rules) (s : State) (ecu : Name) → has_ecu_row ecu (table.values (rows_of_state k s).vehicles) ≡ is_recorded s ecu
+
+abbrev pub FilesAreFound : Type 0
+FilesAreFound = (k : Rules) (s : State) (repository : Repository) (name : Name) → text_held (rows_of_state k s) repository name ≡ file k s repository name
+
+-- ---- what is told of the inventory
+
+abbrev pub VersionsAreTold : Type 0
+VersionsAreTold = (k : Rules) (s : State) (vehicle : Name) → version_told (rows_of_state k s) vehicle ≡ version_of s vehicle
+
+abbrev pub EcusAreTold : Type 0
+EcusAreTold = (k : Rules) (s : State) (vehicle : Name) → ecus_told (rows_of_state k s) vehicle ≡ ecus_of s vehicle
+
+abbrev pub InstalledIsTold : Type 0
+InstalledIsTold = (k : Rules) (s : State) (ecu : Name) → installed_told (rows_of_state k s) ecu ≡ installed s ecu
+
+abbrev pub AssignedIsTold : Type 0
+AssignedIsTold = (k : Rules) (s : State) (vehicle : Name) → plan_told (rows_of_state k s) vehicle ≡ assigned_to s vehicle
+
+-- ---- what commands change
+
+-- a founding or a rotation
+abbrev pub RootsAreAdded : Type 0
+RootsAreAdded = (k : Rules) (s : State) (at version : ℕ) (keys : KeySet) (rows : RootRows) → IsSound k s
+    → HasRootRows k (stamped (with_root s at keys) at version) rows
+    → with_root_rows (rows_of_state k s) rows ≡ rows_of_state k (stamped (with_root s at keys) at version)
+
+-- a refresh
+abbrev pub FilesAreReplaced : Type 0
+FilesAreReplaced = (k : Rules) (s : State) (at version : ℕ) (rows : RegisterRows) → IsSound k s
+    → HasRegisterRows k (stamped s at version) rows → with_register_rows (rows_of_state k s) rows ≡ rows_of_state k (stamped s at version)
+
+-- an image whose filename is new
+abbrev pub ImagesAreAdded : Type 0
+ImagesAreAdded = (k : Rules) (s : State) (at version : ℕ) (image : ImageData) (rows : RegisterRows) → IsSound k s
+    → table.get s.images image.file ≡ None → HasRegisterRows k (stamped (with_image s image) at version) rows
+    → with_image_rows (rows_of_state k s) image rows ≡ rows_of_state k (stamped (with_image s image) at version)
+
+-- a vehicle whose name is new
+abbrev pub VehiclesAreAdded : Type 0
+VehiclesAreAdded = (k : Rules) (s : State) (new : NewVehicleData) → table.get s.vehicles new.vehicle ≡ None
+    → with_vehicle_rows (rows_of_state k s) (rows_of new.vehicle (record { primary = new.primary; ecus = new.ecus; entries = [] })) ≡ rows_of_state k (with_vehicle s new)
+
+-- a campaign, opened or closed
+abbrev pub CampaignsAreWritten : Type 0
+CampaignsAreWritten = (k : Rules) (s : State) (campaign : CampaignData) → with_campaign_row (rows_of_state k s) campaign ≡ rows_of_state k (with_campaign s campaign)
+
+-- an accepted manifest
+abbrev pub ManifestsAreAdded : Type 0
+ManifestsAreAdded = (k : Rules) (s : State) (name : Name) (v : Vehicle) (e : Entry) (rows : AcceptedRows) → table.get s.vehicles name ≡ Some v
+    → HasAcceptedRows k s name v e rows → with_accepted_rows (rows_of_state k s) rows ≡ rows_of_state k (with_entry s name v e)

@@ -1,0 +1,6 @@
+pub mod Tables
+pub mod StateRows
+pub mod Lookups
+pub mod Changes
+pub mod Laws
+pub mod Fitting

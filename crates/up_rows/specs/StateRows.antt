@@ -1,0 +1,90 @@
+-- The rows of a state: all that is kept of it, one row for each thing.
+use Rattle.std.specs.Prelude.{ℕ, List, [], Option, None, option_map, unwrap_or, map}
+use Rattle.std.specs.List.{enumerate_from}
+use Rattle.std.specs.FinMap as table
+use Rattle.up_canon.specs.Names.{Name, Table}
+use Rattle.up_sign.specs.Schemes.{Rules}
+use Rattle.up_roles.specs.declared.repository.Repository.TheVariants.{Director, Image}
+use Rattle.up_plan.specs.Campaigns.{CampaignData}
+use Rattle.up_plan.specs.Images.{ImageData}
+use Rattle.up_machine.specs.declared.decision.RoleTexts.{RoleTexts}
+use Rattle.up_machine.specs.declared.rows.EcuRow.{EcuRow}
+use Rattle.up_machine.specs.declared.rows.Founding.{Founding}
+use Rattle.up_machine.specs.declared.rows.Kept.{Kept}
+use Rattle.up_machine.specs.declared.rows.VehicleRows.{VehicleRows}
+use Rattle.up_machine.specs.declared.vehicle.NewEcu.{NewEcu}
+use Rattle.up_machine.specs.State.{Entry, Vehicle, Root, State}
+use Rattle.up_machine.specs.Files.{numbered_root_name, root_text_at, image_texts}
+use Rattle.up_machine.specs.Rows.{founding_row, rows_of, kept_row}
+use Rattle.up_rows.specs.declared.root_row.RootRow.{RootRow}
+use Rattle.up_rows.specs.Tables.{each_value}
+
+-- the founding, the root versions in order, the registered images, the image repository's other files, the campaigns, the
+-- vehicles with their ECUs, and for each vehicle a row for each accepted manifest in the order of acceptance
+pub record StateRows : Type 0 where
+  pub founding : Option Founding
+  pub roots : List RootRow
+  pub images : Table ImageData
+  pub files : Option RoleTexts
+  pub campaigns : Table CampaignData
+  pub vehicles : Table VehicleRows
+  pub kept : Name → List Kept
+
+-- nothing is founded
+abbrev pub no_rows : StateRows
+no_rows = record { founding = None; roots = []; images = table.empty; files = None; campaigns = table.empty; vehicles = table.empty; kept = λ name. [] }
+
+-- ---- the rows of a state
+
+-- root version i, with its file's name and text in each repository
+abbrev pub root_row : Rules → State → ℕ → Root → RootRow
+root_row k s i root = record {
+  name = numbered_root_name i;
+  keys = root.keys;
+  at = root.at;
+  director = root_text_at k s Director i root;
+  image = root_text_at k s Image i root;
+}
+
+abbrev pub root_rows : Rules → State → List RootRow
+root_rows k s = map (λ r. root_row k s r.0 r.1) (enumerate_from 1 s.roots)
+
+-- the rows kept for a vehicle's entries, replies included; none of an unknown vehicle
+abbrev pub kept_rows : Rules → State → Name → List Kept
+kept_rows k s name =
+    unwrap_or (option_map (λ v. map (λ e. kept_row k s name e.0 e.1) (enumerate_from 1 v.entries)) (table.get s.vehicles name)) []
+
+abbrev pub rows_of_state : Rules → State → StateRows
+rows_of_state k s = record {
+  founding = founding_row s;
+  roots = root_rows k s;
+  images = s.images;
+  files = image_texts k s;
+  campaigns = s.campaigns;
+  vehicles = each_value rows_of s.vehicles;
+  kept = kept_rows k s;
+}
+
+-- ---- the state of rows
+
+abbrev pub root_of : RootRow → Root
+root_of row = record { keys = row.keys; at = row.at }
+
+abbrev pub ecu_of : EcuRow → NewEcu
+ecu_of row = record { ecu = row.ecu; hardware = row.hardware; public = row.public }
+
+abbrev pub entry_of : Kept → Entry
+entry_of row = record { counter = row.counter; signed = row.signed; at = row.at; root = row.root; plan = row.plan }
+
+abbrev pub vehicle_of : (Name → List Kept) → Name → VehicleRows → Vehicle
+vehicle_of kept name rows = record { primary = rows.vehicle.primary; ecus = map ecu_of rows.ecus; entries = map entry_of (kept name) }
+
+abbrev pub state_of_rows : StateRows → State
+state_of_rows rows = record {
+  roots = map root_of rows.roots;
+  images = rows.images;
+  image_version = unwrap_or (option_map (λ row. row.image_version) rows.founding) 0;
+  stamp = unwrap_or (option_map (λ row. row.stamp) rows.founding) 0;
+  campaigns = rows.campaigns;
+  vehicles = each_value (vehicle_of rows.kept) rows.vehicles;
+}

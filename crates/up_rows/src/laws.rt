@@ -1,0 +1,57 @@
+//! The laws of the rows of a state.
+ghost use Rattle.up_rows.specs.Laws.{RowsTellTheState, NoRowsOfTheEmptyState, FoundedIsFound, VehiclesAreFound, KeptAreFound, OwnersAreFound, FilesAreFound, VersionsAreTold, EcusAreTold, InstalledIsTold, AssignedIsTold, RootsAreAdded, FilesAreReplaced, ImagesAreAdded, VehiclesAreAdded, CampaignsAreWritten, ManifestsAreAdded};
+ghost use Rattle.up_rows.specs.Fitting.{NewImagesAreNew, NewVehiclesAreNew, NewCampaignsAreNew};
+
+/// The rows of a sound state tell the state, and the empty state has none.
+pub fn rows_tell_the_state()
+    ensures told { RowsTellTheState }
+    ensures empty { NoRowsOfTheEmptyState }
+{}
+
+/// What is looked up among the rows of a state is the state's: the founding, a vehicle, the row of a counter, whether an ECU stands in a
+/// vehicle, and the text of a file.
+pub fn rows_are_found()
+    ensures founded { FoundedIsFound }
+    ensures vehicles { VehiclesAreFound }
+    ensures kept { KeptAreFound }
+    ensures owners { OwnersAreFound }
+    ensures files { FilesAreFound }
+{}
+
+/// What is read of the inventory is told by the rows: a vehicle's version, its ECUs, the image that an ECU reported last, and
+/// what is assigned to a vehicle.
+pub fn views_are_told()
+    ensures versions { VersionsAreTold }
+    ensures ecus { EcusAreTold }
+    ensures installed { InstalledIsTold }
+    ensures assigned { AssignedIsTold }
+{}
+
+/// One more root version takes the rows of a sound state to those of the state with it.
+pub fn roots_are_added()
+    ensures { RootsAreAdded }
+{}
+
+/// New files of the image repository, and an image with them, take the rows of a sound state to those of the next.
+pub fn images_are_added()
+    ensures files { FilesAreReplaced }
+    ensures images { ImagesAreAdded }
+    ensures new { NewImagesAreNew }
+{}
+
+/// A vehicle takes the rows of a state that doesn't have it to those of the state with it.
+pub fn vehicles_are_added()
+    ensures vehicles { VehiclesAreAdded }
+    ensures new { NewVehiclesAreNew }
+{}
+
+/// A campaign that is opened or closed takes the rows of a state to those of the state with it.
+pub fn campaigns_are_written()
+    ensures campaigns { CampaignsAreWritten }
+    ensures new { NewCampaignsAreNew }
+{}
+
+/// An accepted manifest takes the rows of a state to those of the state with it.
+pub fn manifests_are_added()
+    ensures { ManifestsAreAdded }
+{}

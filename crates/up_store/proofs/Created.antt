@@ -1,0 +1,27 @@
+-- From the trees that a connection shows or leaves to the rows that they list.
+use Rattle.std.proofs.Common.{inl, inr}
+use Rattle.sqlite.specs.State.{State as Connected, Survives}
+use Rattle.sqlite.specs.Tree.{Trees}
+use Rattle.up_tables.specs.Stands.{Stands, Holds}
+use Rattle.up_tables.specs.Tables.{up_schema}
+
+-- what holds of the trees follows from what held
+pub stands_as : (P Q : Trees → Type 0) → ((trees : Trees) → P trees → Q trees) → (s : Connected) → Stands up_schema P s → Stands up_schema Q s
+stands_as P Q is s stands = record {
+  mode = stands.mode;
+  here = λ is_open. let here = stands.here is_open in record { schema_is = here.schema_is; sound = here.sound; rows = is _ here.rows };
+  committed = stands.committed;
+}
+
+pub holds_as : (P Q : Trees → Type 0) → ((trees : Trees) → P trees → Q trees) → (trees : Trees) → Holds up_schema P trees → Holds up_schema Q trees
+holds_as P Q is trees holds = record { schema_is = holds.schema_is; sound = holds.sound; rows = is trees holds.rows }
+
+pub survives_as : (P Q : Trees → Type 0) → ((trees : Trees) → P trees → Q trees) → (old new : Connected) → Survives old new (Holds up_schema P) → Survives old new (Holds up_schema Q)
+survives_as P Q is old new survives = record {
+  clean = survives.clean;
+  shield = survives.shield;
+  counts = survives.counts;
+  limit = survives.limit;
+  closes = survives.closes;
+  crash = λ clean db may. elim (survives.crash clean db may) [ inl before ↦ inl before | inr next ↦ inr (holds_as P Q is db next) ];
+}

@@ -1,0 +1,72 @@
+-- Tables that are made list no rows.
+use Rattle.std.proofs.Common.{◌≡◌, ℕ, List, [], Bool, true, false, None, refl, sym, ap, subst}
+use Rattle.std.specs.Prelude.{if◌then◌else◌, bytes_eq, codes, option_map}
+use Rattle.std.specs.Option.{option_or}
+use Rattle.std.specs.FinMap.{get-empty}
+use Rattle.std.specs.Ordering.{nat_cmp}
+use Rattle.std.specs.Cmp.Lexicographic.{slice_cmp}
+use Rattle.sqlite.specs.Order.{Row}
+use Rattle.sqlite.specs.Tree.{Trees}
+use Rattle.up_canon.specs.Names.{Name}
+use Rattle.up_roles.specs.declared.repository.Repository.{Repository}
+use Rattle.up_roles.specs.declared.repository.Repository.TheVariants.{Director, Image}
+use Rattle.up_rows.specs.StateRows.{no_rows}
+use Rattle.up_rows.specs.Lookups.{text_in, text_held}
+use Rattle.up_tables.specs.Lines.{AreNew}
+use Rattle.up_tables.specs.Listed.{ListsTables, no_rows as no_tables}
+use Rattle.up_tables.specs.Tables.{repo_file_table, image_table, campaign_table, vehicle_table, ecu_table}
+use Rattle.up_tables.proofs.ListedLemmas.{lists_none}
+use Rattle.up_store.specs.Lines.{repository_word, file_lines, image_lines, campaign_lines, vehicle_lines, ecus_lines}
+use Rattle.up_store.specs.Listing.{ListsRows, files_lines}
+use Rattle.up_store.specs.Typed.{AreTyped}
+use Rattle.up_store.proofs.Alike.{lists_as, pairs_as}
+
+no_files : (repository : Repository) (name : Name) → text_held no_rows repository name ≡ None
+no_files Director name = by_test (bytes_eq (codes "root.json") name)
+  where
+    by_test : (t : Bool) → option_or (option_map (text_in Director) (option_or (if t then None else None) None)) None ≡ None
+    by_test true = refl
+    by_test false = refl
+no_files Image name = by_test (bytes_eq (codes "root.json") name)
+  where
+    by_test : (t : Bool) → option_or (option_map (text_in Image) (option_or (if t then None else None) None)) None ≡ None
+    by_test true = refl
+    by_test false = refl
+
+no_file_lines : (word name : List ℕ) → [] ≡ files_lines no_rows word name
+no_file_lines word name = by_test (bytes_eq (repository_word Director) word) (bytes_eq (repository_word Image) word)
+  where
+    by_test : (a b : Bool) → [] ≡ (if a then file_lines Director name (text_held no_rows Director name) else if b then file_lines Image name (text_held no_rows Image name) else [])
+    by_test true b = sym (ap (file_lines Director name) (no_files Director name))
+    by_test false true = sym (ap (file_lines Image name) (no_files Image name))
+    by_test false false = refl
+
+-- ---- all tables
+
+typed_none : AreTyped no_rows
+typed_none = record {
+  roots = tt;
+  images = λ file image found. let none = get-empty (slice_cmp nat_cmp) file in cc;
+  campaigns = λ name campaign found. let none = get-empty (slice_cmp nat_cmp) name in cc;
+  vehicles = λ name vehicle found. let none = get-empty (slice_cmp nat_cmp) name in cc;
+  kept = λ name. tt;
+}
+
+pub new_lists : (trees : Trees) → AreNew trees → ListsRows no_rows trees
+new_lists trees new =
+    let none : ListsTables no_tables trees = lists_none trees new in
+    record {
+      last = refl;
+      numbered = refl;
+      typed = typed_none;
+      tables = record {
+        meta = none.meta;
+        role_keys = none.role_keys;
+        files = pairs_as _ (files_lines no_rows) (trees repo_file_table.tree) no_file_lines none.files;
+        images = lists_as 1 _ _ (trees image_table.tree) (λ name. sym (ap image_lines (get-empty (slice_cmp nat_cmp) name))) none.images;
+        campaigns = lists_as 1 _ _ (trees campaign_table.tree) (λ name. sym (ap campaign_lines (get-empty (slice_cmp nat_cmp) name))) none.campaigns;
+        vehicles = lists_as 1 _ _ (trees vehicle_table.tree) (λ name. sym (ap vehicle_lines (get-empty (slice_cmp nat_cmp) name))) none.vehicles;
+        ecus = lists_as 2 _ _ (trees ecu_table.tree) (λ name. sym (ap (ecus_lines name) (get-empty (slice_cmp nat_cmp) name))) none.ecus;
+        kept = none.kept;
+      };
+    }

@@ -1,0 +1,9 @@
+pub mod Lines
+pub mod Typed
+pub mod Listing
+pub mod Connections
+pub mod Fitting
+pub mod Puts
+pub mod Found
+pub mod Shown
+pub mod Stopped

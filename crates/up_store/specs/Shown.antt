@@ -1,0 +1,75 @@
+-- What rows of tables are read as.
+use Rattle.std.specs.Prelude.{◌≡◌, ℕ, ◌&&◌, Bool, List, Option, Some, map, filter, find, option_map, bytes_eq, codes, string_bytes}
+use Rattle.up_manifest.specs.declared.report.Installed.{Installed}
+use Rattle.up_machine.specs.declared.keys.RoleSecrets.{RoleSecrets}
+use Rattle.up_machine.specs.declared.keys.RepoKeys.{RepoKeys}
+use Rattle.up_machine.specs.declared.rows.EcuRow.{EcuRow}
+use Rattle.up_machine.specs.declared.rows.Founding.{Founding}
+use Rattle.up_machine.specs.declared.rows.VehicleRow.{VehicleRow}
+use Rattle.up_tables.specs.declared.ecu.EcuRow.{EcuRow as EcuShown}
+use Rattle.up_tables.specs.declared.ecu.Installed.{Installed as InstalledShown}
+use Rattle.up_tables.specs.declared.meta.MetaRow.{MetaRow}
+use Rattle.up_tables.specs.declared.repo_file.FileRow.{FileRow as FileShown}
+use Rattle.up_tables.specs.declared.role_key.RoleKeyRow.{RoleKeyRow}
+use Rattle.up_tables.specs.declared.vehicle.VehicleRow.{VehicleRow as VehicleShown}
+use Rattle.up_store.specs.Lines.{FileLine, founding_number}
+
+-- ---- vehicles
+
+abbrev pub vehicle_of : VehicleShown → VehicleRow
+vehicle_of shown = record { vehicle = string_bytes shown.vehicle; primary = string_bytes shown.primary_ecu; version = shown.version; last = shown.last_counter }
+
+abbrev pub installed_of : InstalledShown → Installed
+installed_of shown = record { file = string_bytes shown.file; length = shown.length; sha256 = shown.sha256.items }
+
+abbrev pub ecu_of : EcuShown → EcuRow
+ecu_of shown = record {
+  ecu = string_bytes shown.ecu;
+  hardware = string_bytes shown.hardware;
+  public = shown.public_key.items;
+  installed = option_map installed_of shown.installed;
+  counter = shown.counter;
+  report = option_map string_bytes shown.report;
+}
+
+-- ---- files
+
+abbrev pub file_of : FileShown → FileLine
+file_of shown = record { repository = string_bytes shown.repository; name = string_bytes shown.name; body = string_bytes shown.body }
+
+-- ---- the founding
+
+-- zeros before it
+abbrev pub meta_told : Option Founding → MetaRow
+meta_told founding = record { root = founding_number (λ f. f.root) founding; image_version = founding_number (λ f. f.image_version) founding; stamp = founding_number (λ f. f.stamp) founding }
+
+-- ---- keys
+
+-- the row is of this role of this repository
+abbrev pub is_key_of : List ℕ → List ℕ → RoleKeyRow → Bool
+is_key_of repository role row = bytes_eq (string_bytes row.repository) repository && bytes_eq (string_bytes row.role) role
+
+abbrev pub secrets_of : List ℕ → List ℕ → List RoleKeyRow → List (List ℕ)
+secrets_of repository role rows = map (λ row. row.secret.items) (filter (is_key_of repository role) rows)
+
+-- the first of its rows has it
+abbrev pub threshold_of : List ℕ → List ℕ → List RoleKeyRow → Option ℕ
+threshold_of repository role rows = option_map (λ row. row.threshold) (find (is_key_of repository role) rows)
+
+pub record IsRoleOf (repository role : List ℕ) (rows : List RoleKeyRow) (keys : RoleSecrets) : Type 0 where
+  pub secrets : keys.keys ≡ secrets_of repository role rows
+  pub threshold : threshold_of repository role rows ≡ Some keys.threshold
+
+pub record AreKeysOf (repository : List ℕ) (rows : List RoleKeyRow) (keys : RepoKeys) : Type 0 where
+  pub root : IsRoleOf repository (codes "root") rows keys.root
+  pub targets : IsRoleOf repository (codes "targets") rows keys.targets
+  pub snapshot : IsRoleOf repository (codes "snapshot") rows keys.snapshot
+  pub timestamp : IsRoleOf repository (codes "timestamp") rows keys.timestamp
+
+-- the founding has these numbers and the keys of these rows
+pub record IsFoundingOf (row : MetaRow) (rows : List RoleKeyRow) (read : Option Founding) : Type 0 where
+  pub founding : Founding
+  pub is : read ≡ Some founding
+  pub row : meta_told (Some founding) ≡ row
+  pub director : AreKeysOf (codes "director") rows founding.keys.director
+  pub image : AreKeysOf (codes "image") rows founding.keys.image

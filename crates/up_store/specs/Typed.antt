@@ -1,0 +1,63 @@
+-- What the types of rows say of them: each stands under its own name, and what is kept as JSON can be read again.
+use Rattle.std.specs.Prelude.{◌≡◌, ℕ, ◌<◌, ◌≤◌, ◌^◌, List, Some, true, length}
+use Rattle.std.specs.List.{AllByRecursion, list_all}
+use Rattle.std.specs.FinMap as table
+use Rattle.up_canon.specs.Names.{Name, is_ident, is_file_name}
+use Rattle.up_plan.specs.Campaigns.{CampaignData}
+use Rattle.up_plan.specs.Images.{ImageData}
+use Rattle.up_machine.specs.declared.keys.RoleSecrets.{RoleSecrets}
+use Rattle.up_machine.specs.declared.keys.RepoKeys.{RepoKeys}
+use Rattle.up_machine.specs.declared.keys.KeySet.{KeySet}
+use Rattle.up_machine.specs.declared.rows.VehicleRows.{VehicleRows}
+use Rattle.up_machine.specs.declared.rows.Kept.{Kept}
+use Rattle.up_rows.specs.StateRows.{StateRows}
+use Rattle.up_columns.specs.Typed.{is_typed_need, is_typed_item, is_typed_reach, is_typed_plan}
+
+-- ---- keys
+
+-- each role has a key: a threshold stands in the rows of keys alone
+abbrev pub HasKeys : RoleSecrets → Type 0
+HasKeys role = 1 ≤ length role.keys
+
+pub record HaveKeys (keys : RepoKeys) : Type 0 where
+  pub root : HasKeys keys.root
+  pub targets : HasKeys keys.targets
+  pub snapshot : HasKeys keys.snapshot
+  pub timestamp : HasKeys keys.timestamp
+
+pub record EachHasKeys (keys : KeySet) : Type 0 where
+  pub director : HaveKeys keys.director
+  pub image : HaveKeys keys.image
+
+-- ---- images, campaigns, vehicles
+
+-- under its own filename; its lists are of names, filenames and counts
+pub record IsTypedImage (file : Name) (image : ImageData) : Type 0 where
+  pub named : image.file ≡ file
+  pub hardware : list_all is_ident image.hardware ≡ true
+  pub needs : list_all is_typed_need image.needs ≡ true
+  pub conflicts : list_all is_file_name image.conflicts ≡ true
+
+-- under its own name
+pub record IsTypedCampaign (name : Name) (campaign : CampaignData) : Type 0 where
+  pub named : campaign.name ≡ name
+  pub reach : is_typed_reach campaign.reach ≡ true
+  pub items : list_all is_typed_item campaign.items ≡ true
+
+-- under its own name
+abbrev pub IsTypedVehicle : Name → VehicleRows → Type 0
+IsTypedVehicle name rows = rows.vehicle.vehicle ≡ name
+
+-- the kept row of a vehicle: its plan is of names and filenames
+pub record IsTypedKept (vehicle : Name) (row : Kept) : Type 0 where
+  pub named : row.vehicle ≡ vehicle
+  pub plan : is_typed_plan row.plan ≡ true
+
+-- ---- all rows
+
+pub record AreTyped (rows : StateRows) : Type 0 where
+  pub roots : AllByRecursion (λ root. EachHasKeys root.keys) rows.roots
+  pub images : (file : Name) (image : ImageData) → table.get rows.images file ≡ Some image → IsTypedImage file image
+  pub campaigns : (name : Name) (campaign : CampaignData) → table.get rows.campaigns name ≡ Some campaign → IsTypedCampaign name campaign
+  pub vehicles : (name : Name) (vehicle : VehicleRows) → table.get rows.vehicles name ≡ Some vehicle → IsTypedVehicle name vehicle
+  pub kept : (name : Name) → AllByRecursion (IsTypedKept name) (rows.kept name)

@@ -1,0 +1,98 @@
+//! Campaigns.
+ghost use Rattle.std.specs.Prelude.{◌≡◌, OnErr, OnOk};
+ghost use Rattle.sqlite.specs.Held.{state};
+ghost use Rattle.sqlite.specs.State.{HasCleanDisk, Survives};
+ghost use Rattle.std.specs.FinMap as table;
+ghost use Rattle.up_rows.specs.Changes.{with_campaign_row};
+ghost use Rattle.up_store.specs.Fitting.{IsNewCampaign, IsClosing};
+ghost use Rattle.up_store.specs.Found.{campaigns_found};
+ghost use Rattle.up_tables.specs.Stands.{IfClean, IsAsCommitted, IsInside, IsOpen, Steps};
+ghost use Rattle.up_store.specs.Connections.{Answers, NeedsOpen, TakesRows, CommitsRows, SparesRows, PutsRows};
+
+use crate::store::{Store, StoreFault};
+use sqlite::{Alter, Transaction};
+use std::alloc::Global;
+use up_canon::ident::Ident;
+use up_canon::table::Table;
+use up_plan::campaign::Campaign;
+use up_tables::campaign::close_campaign;
+use up_tables::values::fault_of;
+
+impl<D: Alter> Store<D> {
+    /// The campaign of this name, none where there is none.
+    pub fn campaign(&mut self, alloc: Global, name: &Ident) -> Result<Option<Campaign>, StoreFault>
+        ensures told { Answers (λ rows. table.get rows.campaigns name.now) (state D.Store self.old) (state D.Store self.new) result }
+        ensures kept { IfClean (IsAsCommitted (state D.Store self.old)) (state D.Store self.new) }
+        ensures crash { Survives (state D.Store self.old) (state D.Store self.new) (λ _. ⊥) }
+        ensures open { NeedsOpen (state D.Store self.old) (state D.Store self.new) result }
+    {
+        let _ = alloc;
+        let _ = name;
+        let _settled = self.conn.is_autocommit();
+        Err(StoreFault::Store)
+    }
+
+    /// The running campaigns that reach the vehicle, by their names.
+    pub fn campaigns_for(
+        &mut self,
+        alloc: Global,
+        vehicle: &Ident,
+    ) -> Result<Table<Campaign>, StoreFault>
+        ensures told { Answers (campaigns_found vehicle.now) (state D.Store self.old) (state D.Store self.new) result }
+        ensures kept { IfClean (IsAsCommitted (state D.Store self.old)) (state D.Store self.new) }
+        ensures crash { Survives (state D.Store self.old) (state D.Store self.new) (λ _. ⊥) }
+        ensures open { NeedsOpen (state D.Store self.old) (state D.Store self.new) result }
+    {
+        let _ = alloc;
+        let _ = vehicle;
+        let _settled = self.conn.is_autocommit();
+        Err(StoreFault::Store)
+    }
+
+    /// Writes a campaign whose name is new.
+    pub fn write_campaign(&mut self, alloc: Global, new: &Campaign) -> Result<(), StoreFault>
+        ensures written { TakesRows (IsNewCampaign new.now) (λ rows. with_campaign_row rows new.now) (state D.Store self.old) (state D.Store self.new) result }
+        ensures durable { CommitsRows (IsNewCampaign new.now) (λ rows. with_campaign_row rows new.now) (state D.Store self.old) (state D.Store self.new) result }
+        ensures kept { OnErr result (IfClean (IsAsCommitted (state D.Store self.old)) (state D.Store self.new)) }
+        ensures crash { SparesRows (IsNewCampaign new.now) (λ rows. with_campaign_row rows new.now) (state D.Store self.old) (state D.Store self.new) }
+        ensures clean { HasCleanDisk (state D.Store self.new) → HasCleanDisk (state D.Store self.old) }
+        ensures open { NeedsOpen (state D.Store self.old) (state D.Store self.new) result }
+    {
+        let _ = alloc;
+        let _ = new;
+        let _settled = self.conn.is_autocommit();
+        Err(StoreFault::Store)
+    }
+
+    /// Closes a campaign that is there: `closed` is the same, not running.
+    pub fn write_close(&mut self, alloc: Global, closed: &Campaign) -> Result<(), StoreFault>
+        ensures written { TakesRows (IsClosing closed.now) (λ rows. with_campaign_row rows closed.now) (state D.Store self.old) (state D.Store self.new) result }
+        ensures durable { CommitsRows (IsClosing closed.now) (λ rows. with_campaign_row rows closed.now) (state D.Store self.old) (state D.Store self.new) result }
+        ensures kept { OnErr result (IfClean (IsAsCommitted (state D.Store self.old)) (state D.Store self.new)) }
+        ensures crash { SparesRows (IsClosing closed.now) (λ rows. with_campaign_row rows closed.now) (state D.Store self.old) (state D.Store self.new) }
+        ensures clean { HasCleanDisk (state D.Store self.new) → HasCleanDisk (state D.Store self.old) }
+        ensures open { NeedsOpen (state D.Store self.old) (state D.Store self.new) result }
+    {
+        let _ = alloc;
+        let mut tx = self.conn.transaction();
+        if let Err(fault) = put_closed(&mut tx, closed) {
+            return Err(fault);
+        }
+        match tx.commit() {
+            Ok(()) => Ok(()),
+            Err(error) => Err(fault_of(error)),
+        }
+    }
+}
+
+/// Says in its row that a campaign doesn't run.
+fn put_closed<D: Alter>(tx: &mut Transaction<'_, D>, closed: &Campaign) -> Result<(), StoreFault>
+    requires mode { IfClean IsInside (state D.Store tx.old.conn.now) }
+    ensures same_reference { tx.new.conn.ghost_name ≡ tx.old.conn.ghost_name }
+    ensures put { PutsRows (IsClosing closed.now) (λ rows. with_campaign_row rows closed.now) (state D.Store tx.old.conn.now) (state D.Store tx.new.conn.now) result }
+    ensures inside { OnOk result (IfClean IsInside (state D.Store tx.new.conn.now)) }
+    ensures open { OnOk result (IfClean IsOpen (state D.Store tx.new.conn.now)) }
+    ensures steps { Steps (state D.Store tx.old.conn.now) (state D.Store tx.new.conn.now) }
+{
+    close_campaign(tx, closed.name.text())
+}

@@ -1,0 +1,109 @@
+//! The rows of a vehicle's ECUs, read and made.
+ghost use Rattle.std.specs.Prelude.{◌≡◌, ◌<◌, ◌^◌, All, IfOk, length, map, option_map, string_bytes};
+ghost use Rattle.up_tables.specs.Ecus.{FitEcu};
+ghost use Rattle.up_store.specs.Shown.{ecu_of, installed_of};
+
+use crate::reading::{count_in, file_name_in, ident_in, sha256_in};
+use crate::store::StoreFault;
+use std::alloc::{AllocError, Global};
+use up_canon::bytes::Bytes;
+use up_canon::listed::Listed;
+use up_canon::text::Text;
+use up_machine::rows::EcuRow;
+use up_manifest::report::Installed;
+use up_tables::ecu::{EcuRow as EcuShown, Installed as InstalledShown};
+
+/// Rows as they stand in the table, read.
+pub fn read_ecus(alloc: Global, shown: Vec<EcuShown>) -> Result<Listed<EcuRow>, StoreFault>
+    ensures { IfOk result (λ read. read ≡ map ecu_of shown.items) }
+{
+    let mut read = Vec::with_capacity(alloc, shown.len())?;
+    for row in shown {
+        read.push(read_ecu(row)?)?;
+    }
+    Ok(Listed::new(read))
+}
+
+/// A row as it stands in the table, read.
+fn read_ecu(shown: EcuShown) -> Result<EcuRow, StoreFault>
+    ensures { IfOk result (λ read. read ≡ ecu_of shown) }
+{
+    Ok(EcuRow {
+        ecu: ident_in(shown.ecu)?,
+        hardware: ident_in(shown.hardware)?,
+        public: Bytes::new(shown.public_key),
+        installed: read_installed(shown.installed)?,
+        counter: count_in(shown.counter)?,
+        report: shown.report.map(Text::new),
+    })
+}
+
+/// What is installed, read.
+fn read_installed(shown: Option<InstalledShown>) -> Result<Option<Installed>, StoreFault>
+    ensures { IfOk result (λ read. read ≡ option_map installed_of shown) }
+{
+    match shown {
+        Some(image) => Ok(Some(Installed {
+            file: file_name_in(image.file)?,
+            length: count_in(image.length)?,
+            sha256: sha256_in(image.sha256.as_slice())?,
+        })),
+        None => Ok(None),
+    }
+}
+
+/// The rows of ECUs as they stand in the table.
+pub fn make_ecus(alloc: Global, rows: &[EcuRow]) -> Result<Vec<EcuShown>, AllocError>
+    ensures same { IfOk result (λ made. map ecu_of made.items ≡ rows.now) }
+    ensures fit { IfOk result (λ made. All FitEcu made.items) }
+    ensures few { IfOk result (λ made. length made.items ≡ length rows.now) }
+{
+    let mut made = Vec::with_capacity(alloc, rows.len())?;
+    for row in rows {
+        made.push(make_ecu(alloc, row)?)?;
+    }
+    Ok(made)
+}
+
+/// The row of an ECU as it stands in the table.
+fn make_ecu(alloc: Global, row: &EcuRow) -> Result<EcuShown, AllocError>
+    ensures same { IfOk result (λ made. ecu_of made ≡ row.now) }
+    ensures fit { IfOk result FitEcu }
+{
+    Ok(EcuShown {
+        ecu: row.ecu.text().to_string(alloc)?,
+        hardware: row.hardware.text().to_string(alloc)?,
+        public_key: row.public.as_slice().to_vec(alloc)?,
+        installed: make_installed(alloc, &row.installed)?,
+        counter: row.counter.get(),
+        report: make_report(alloc, &row.report)?,
+    })
+}
+
+/// What is installed, as it stands in the table.
+fn make_installed(
+    alloc: Global,
+    installed: &Option<Installed>,
+) -> Result<Option<InstalledShown>, AllocError>
+    ensures same { IfOk result (λ made. option_map installed_of made ≡ installed.now) }
+    ensures fit { IfOk result (λ made. Rattle.std.specs.Prelude.IfSome made (λ image. image.length < 2 ^ 63)) }
+{
+    match installed {
+        Some(image) => Ok(Some(InstalledShown {
+            file: image.file.text().to_string(alloc)?,
+            length: image.length.get(),
+            sha256: image.sha256.to_vec(alloc)?,
+        })),
+        None => Ok(None),
+    }
+}
+
+/// The text of the last report, as it stands in the table.
+fn make_report(alloc: Global, report: &Option<Text>) -> Result<Option<String>, AllocError>
+    ensures { IfOk result (λ made. option_map string_bytes made ≡ report.now) }
+{
+    match report {
+        Some(text) => Ok(Some(text.as_str().to_string(alloc)?)),
+        None => Ok(None),
+    }
+}

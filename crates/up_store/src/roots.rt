@@ -1,0 +1,313 @@
+//! Root versions and the files that are served.
+ghost use Rattle.std.specs.Prelude.{◌≡◌, ⊤, OnErr, OnOk, IfOk};
+ghost use Rattle.sqlite.specs.Held.{state};
+ghost use Rattle.sqlite.specs.State.{HasCleanDisk, Survives};
+ghost use Rattle.up_rows.specs.Changes.{with_root_rows, with_register_rows};
+ghost use Rattle.up_rows.specs.Lookups.{text_held};
+ghost use Rattle.up_rows.specs.StateRows.{StateRows};
+ghost use Rattle.up_tables.specs.Tables.{up_schema};
+ghost use Rattle.up_store.specs.Listing.{ListsRows};
+ghost use Rattle.up_store.specs.Shown.{meta_told, IsFoundingOf};
+ghost use Rattle.up_store.specs.Lines.{root_file_lines, role_file_lines};
+ghost use Rattle.up_store.specs.Puts.{HasFilesOnce, with_founding, with_keys, with_files};
+ghost use Rattle.up_store.specs.Fitting.{IsNextRoot, IsSameRoot};
+ghost use Rattle.up_tables.specs.Stands.{IfClean, IsAsCommitted, IsInside, IsOpen, IsWithin, Steps};
+ghost use Rattle.up_store.specs.Connections.{Answers, FindsRows, NeedsOpen, PutsRows, PutsTables, TakesRows, CommitsRows, SparesRows};
+
+use crate::files::{make_role_files, make_root_files};
+use crate::keys::{make_keys, read_keys, repository_word};
+use crate::reading::moment_in;
+use crate::store::{MOST_NUMBER, Store, StoreFault};
+use sqlite::{Alter, Transaction};
+use std::alloc::Global;
+use up_canon::file_name::FileName;
+use up_canon::text::Text;
+use up_machine::decision::{RegisterRows, RoleTexts, RootRows};
+use up_machine::rows::Founding;
+use up_roles::repository::Repository;
+use up_tables::meta::{MetaRow, meta, update_meta};
+use up_tables::repo_file::{file as file_shown, upsert_files};
+use up_tables::role_key::{RoleKeyRow, insert_role_keys, role_keys_of};
+use up_tables::values::fault_of;
+
+impl<D: Alter> Store<D> {
+    /// The founding: the last root version with its keys, the image repository's version and its moment; none before founding.
+    pub fn founding(&mut self, alloc: Global) -> Result<Option<Founding>, StoreFault>
+        ensures told { Answers (λ rows. rows.founding) (state D.Store self.old) (state D.Store self.new) result }
+        ensures kept { IfClean (IsAsCommitted (state D.Store self.old)) (state D.Store self.new) }
+        ensures crash { Survives (state D.Store self.old) (state D.Store self.new) (λ _. ⊥) }
+        ensures open { NeedsOpen (state D.Store self.old) (state D.Store self.new) result }
+    {
+        let mut tx = self.conn.transaction();
+        find_founding(&mut tx, alloc)
+    }
+
+    /// The text of a repository's file of this name, none where there is none.
+    pub fn file(
+        &mut self,
+        alloc: Global,
+        repository: Repository,
+        name: &FileName,
+    ) -> Result<Option<Text>, StoreFault>
+        ensures told { Answers (λ rows. text_held rows repository name.now) (state D.Store self.old) (state D.Store self.new) result }
+        ensures kept { IfClean (IsAsCommitted (state D.Store self.old)) (state D.Store self.new) }
+        ensures crash { Survives (state D.Store self.old) (state D.Store self.new) (λ _. ⊥) }
+        ensures open { NeedsOpen (state D.Store self.old) (state D.Store self.new) result }
+    {
+        let _ = alloc;
+        let mut tx = self.conn.transaction();
+        find_file(&mut tx, repository, name)
+    }
+
+    /// Writes the first root version, with the files of the image repository.
+    pub fn write_found(&mut self, alloc: Global, new: &RootRows) -> Result<(), StoreFault>
+        ensures written { TakesRows (IsNextRoot new.now) (λ rows. with_root_rows rows new.now) (state D.Store self.old) (state D.Store self.new) result }
+        ensures durable { CommitsRows (IsNextRoot new.now) (λ rows. with_root_rows rows new.now) (state D.Store self.old) (state D.Store self.new) result }
+        ensures kept { OnErr result (IfClean (IsAsCommitted (state D.Store self.old)) (state D.Store self.new)) }
+        ensures crash { SparesRows (IsNextRoot new.now) (λ rows. with_root_rows rows new.now) (state D.Store self.old) (state D.Store self.new) }
+        ensures clean { HasCleanDisk (state D.Store self.new) → HasCleanDisk (state D.Store self.old) }
+        ensures open { NeedsOpen (state D.Store self.old) (state D.Store self.new) result }
+    {
+        let mut tx = self.conn.transaction();
+        if let Err(fault) = put_root(&mut tx, alloc, new) {
+            return Err(fault);
+        }
+        match tx.commit() {
+            Ok(()) => Ok(()),
+            Err(error) => Err(fault_of(error)),
+        }
+    }
+
+    /// Writes the next root version, with new files of the image repository.
+    pub fn write_rotate(&mut self, alloc: Global, new: &RootRows) -> Result<(), StoreFault>
+        ensures written { TakesRows (IsNextRoot new.now) (λ rows. with_root_rows rows new.now) (state D.Store self.old) (state D.Store self.new) result }
+        ensures durable { CommitsRows (IsNextRoot new.now) (λ rows. with_root_rows rows new.now) (state D.Store self.old) (state D.Store self.new) result }
+        ensures kept { OnErr result (IfClean (IsAsCommitted (state D.Store self.old)) (state D.Store self.new)) }
+        ensures crash { SparesRows (IsNextRoot new.now) (λ rows. with_root_rows rows new.now) (state D.Store self.old) (state D.Store self.new) }
+        ensures clean { HasCleanDisk (state D.Store self.new) → HasCleanDisk (state D.Store self.old) }
+        ensures open { NeedsOpen (state D.Store self.old) (state D.Store self.new) result }
+    {
+        let mut tx = self.conn.transaction();
+        if let Err(fault) = put_root(&mut tx, alloc, new) {
+            return Err(fault);
+        }
+        match tx.commit() {
+            Ok(()) => Ok(()),
+            Err(error) => Err(fault_of(error)),
+        }
+    }
+
+    /// Writes new files of the image repository.
+    pub fn write_refresh(&mut self, alloc: Global, new: &RegisterRows) -> Result<(), StoreFault>
+        ensures written { TakesRows (IsSameRoot new.now) (λ rows. with_register_rows rows new.now) (state D.Store self.old) (state D.Store self.new) result }
+        ensures durable { CommitsRows (IsSameRoot new.now) (λ rows. with_register_rows rows new.now) (state D.Store self.old) (state D.Store self.new) result }
+        ensures kept { OnErr result (IfClean (IsAsCommitted (state D.Store self.old)) (state D.Store self.new)) }
+        ensures crash { SparesRows (IsSameRoot new.now) (λ rows. with_register_rows rows new.now) (state D.Store self.old) (state D.Store self.new) }
+        ensures clean { HasCleanDisk (state D.Store self.new) → HasCleanDisk (state D.Store self.old) }
+        ensures open { NeedsOpen (state D.Store self.old) (state D.Store self.new) result }
+    {
+        let mut tx = self.conn.transaction();
+        if let Err(fault) = put_register(&mut tx, alloc, new) {
+            return Err(fault);
+        }
+        match tx.commit() {
+            Ok(()) => Ok(()),
+            Err(error) => Err(fault_of(error)),
+        }
+    }
+}
+
+/// The founding.
+fn find_founding<D: Alter>(
+    tx: &mut Transaction<'_, D>,
+    alloc: Global,
+) -> Result<Option<Founding>, StoreFault>
+    requires mode { IfClean IsInside (state D.Store tx.old.conn.now) }
+    ensures same_reference { tx.new.conn.ghost_name ≡ tx.old.conn.ghost_name }
+    ensures found { FindsRows (λ rows. rows.founding) (state D.Store tx.old.conn.now) (state D.Store tx.new.conn.now) result }
+    ensures open { NeedsOpen (state D.Store tx.old.conn.now) (state D.Store tx.new.conn.now) result }
+    ensures steps { Steps (state D.Store tx.old.conn.now) (state D.Store tx.new.conn.now) }
+{
+    match meta(tx) {
+        Ok(Some(row)) => find_founded(tx, alloc, row),
+        Ok(None) => Err(StoreFault::Store),
+        Err(fault) => Err(fault),
+    }
+}
+
+/// The founding whose numbers these are, none where the root version is 0.
+fn find_founded<D: Alter>(
+    tx: &mut Transaction<'_, D>,
+    alloc: Global,
+    row: MetaRow,
+) -> Result<Option<Founding>, StoreFault>
+    requires mode { IfClean IsInside (state D.Store tx.old.conn.now) }
+    ensures same_reference { tx.new.conn.ghost_name ≡ tx.old.conn.ghost_name }
+    ensures found { HasCleanDisk (state D.Store tx.new.conn.now) → IfOk result (λ found. (rows : StateRows)
+        → IsWithin up_schema (ListsRows rows) (state D.Store tx.old.conn.now) → row ≡ meta_told rows.founding → found ≡ rows.founding) }
+    ensures steps { Steps (state D.Store tx.old.conn.now) (state D.Store tx.new.conn.now) }
+{
+    if row.root == 0 {
+        return Ok(None);
+    }
+    if row.root > MOST_NUMBER {
+        return Err(StoreFault::Store);
+    }
+    match role_keys_of(tx, alloc, row.root) {
+        Ok(keys) => read_founding(alloc, row, keys.as_slice()),
+        Err(fault) => Err(fault),
+    }
+}
+
+/// The founding of these numbers and rows of keys, read.
+fn read_founding(
+    alloc: Global,
+    row: MetaRow,
+    keys: &[RoleKeyRow],
+) -> Result<Option<Founding>, StoreFault>
+    ensures { IfOk result (λ read. IsFoundingOf row keys.now read) }
+{
+    Ok(Some(Founding {
+        root: row.root,
+        keys: read_keys(alloc, keys)?,
+        image_version: row.image_version,
+        stamp: moment_in(row.stamp)?,
+    }))
+}
+
+/// The text of a file.
+fn find_file<D: Alter>(
+    tx: &mut Transaction<'_, D>,
+    repository: Repository,
+    name: &FileName,
+) -> Result<Option<Text>, StoreFault>
+    requires mode { IfClean IsInside (state D.Store tx.old.conn.now) }
+    ensures same_reference { tx.new.conn.ghost_name ≡ tx.old.conn.ghost_name }
+    ensures found { FindsRows (λ rows. text_held rows repository name.now) (state D.Store tx.old.conn.now) (state D.Store tx.new.conn.now) result }
+    ensures open { NeedsOpen (state D.Store tx.old.conn.now) (state D.Store tx.new.conn.now) result }
+    ensures steps { Steps (state D.Store tx.old.conn.now) (state D.Store tx.new.conn.now) }
+{
+    match file_shown(tx, repository_word(repository), name.text()) {
+        Ok(Some(shown)) => Ok(Some(Text::new(shown.body))),
+        Ok(None) => Ok(None),
+        Err(fault) => Err(fault),
+    }
+}
+
+/// Puts in a root version: the founding, its keys, and all files.
+fn put_root<D: Alter>(
+    tx: &mut Transaction<'_, D>,
+    alloc: Global,
+    new: &RootRows,
+) -> Result<(), StoreFault>
+    requires mode { IfClean IsInside (state D.Store tx.old.conn.now) }
+    ensures same_reference { tx.new.conn.ghost_name ≡ tx.old.conn.ghost_name }
+    ensures put { PutsRows (IsNextRoot new.now) (λ rows. with_root_rows rows new.now) (state D.Store tx.old.conn.now) (state D.Store tx.new.conn.now) result }
+    ensures inside { OnOk result (IfClean IsInside (state D.Store tx.new.conn.now)) }
+    ensures open { OnOk result (IfClean IsOpen (state D.Store tx.new.conn.now)) }
+    ensures steps { Steps (state D.Store tx.old.conn.now) (state D.Store tx.new.conn.now) }
+{
+    put_founding(tx, &new.founding)?;
+    put_keys(tx, alloc, &new.founding)?;
+    put_root_files(tx, alloc, new)?;
+    put_role_files(tx, alloc, &new.files)
+}
+
+/// Puts in what changes with the register of images: the founding's numbers, and the image repository's files.
+pub(crate) fn put_register<D: Alter>(
+    tx: &mut Transaction<'_, D>,
+    alloc: Global,
+    new: &RegisterRows,
+) -> Result<(), StoreFault>
+    requires mode { IfClean IsInside (state D.Store tx.old.conn.now) }
+    ensures same_reference { tx.new.conn.ghost_name ≡ tx.old.conn.ghost_name }
+    ensures put { PutsRows (IsSameRoot new.now) (λ rows. with_register_rows rows new.now) (state D.Store tx.old.conn.now) (state D.Store tx.new.conn.now) result }
+    ensures inside { OnOk result (IfClean IsInside (state D.Store tx.new.conn.now)) }
+    ensures open { OnOk result (IfClean IsOpen (state D.Store tx.new.conn.now)) }
+    ensures steps { Steps (state D.Store tx.old.conn.now) (state D.Store tx.new.conn.now) }
+{
+    put_founding(tx, &new.founding)?;
+    put_role_files(tx, alloc, &new.files)
+}
+
+/// Sets the numbers of the founding; `Store` where one is 2^63 or more.
+fn put_founding<D: Alter>(
+    tx: &mut Transaction<'_, D>,
+    founding: &Founding,
+) -> Result<(), StoreFault>
+    requires mode { IfClean IsInside (state D.Store tx.old.conn.now) }
+    ensures same_reference { tx.new.conn.ghost_name ≡ tx.old.conn.ghost_name }
+    ensures put { PutsTables (λ _. ⊤) (with_founding founding.now) (state D.Store tx.old.conn.now) (state D.Store tx.new.conn.now) result }
+    ensures inside { OnOk result (IfClean IsInside (state D.Store tx.new.conn.now)) }
+    ensures open { OnOk result (IfClean IsOpen (state D.Store tx.new.conn.now)) }
+    ensures steps { Steps (state D.Store tx.old.conn.now) (state D.Store tx.new.conn.now) }
+{
+    if founding.root > MOST_NUMBER || founding.image_version > MOST_NUMBER {
+        return Err(StoreFault::Store);
+    }
+    update_meta(
+        tx,
+        &MetaRow {
+            root: founding.root,
+            image_version: founding.image_version,
+            stamp: founding.stamp.get(),
+        },
+    )
+}
+
+/// Puts in the keys of the founding's root version.
+fn put_keys<D: Alter>(
+    tx: &mut Transaction<'_, D>,
+    alloc: Global,
+    founding: &Founding,
+) -> Result<(), StoreFault>
+    requires mode { IfClean IsInside (state D.Store tx.old.conn.now) }
+    ensures same_reference { tx.new.conn.ghost_name ≡ tx.old.conn.ghost_name }
+    requires open { IfClean IsOpen (state D.Store tx.old.conn.now) }
+    ensures put { PutsTables (λ _. ⊤) (with_keys founding.now) (state D.Store tx.old.conn.now) (state D.Store tx.new.conn.now) result }
+    ensures inside { OnOk result (IfClean IsInside (state D.Store tx.new.conn.now)) }
+    ensures open { OnOk result (IfClean IsOpen (state D.Store tx.new.conn.now)) }
+    ensures steps { Steps (state D.Store tx.old.conn.now) (state D.Store tx.new.conn.now) }
+{
+    if founding.root > MOST_NUMBER {
+        return Err(StoreFault::Store);
+    }
+    let keys = make_keys(alloc, founding.root, &founding.keys)?;
+    insert_role_keys(tx, keys.as_slice())
+}
+
+/// Puts in the Root files of a new version.
+fn put_root_files<D: Alter>(
+    tx: &mut Transaction<'_, D>,
+    alloc: Global,
+    new: &RootRows,
+) -> Result<(), StoreFault>
+    requires mode { IfClean IsInside (state D.Store tx.old.conn.now) }
+    ensures same_reference { tx.new.conn.ghost_name ≡ tx.old.conn.ghost_name }
+    requires open { IfClean IsOpen (state D.Store tx.old.conn.now) }
+    ensures put { PutsTables HasFilesOnce (with_files (root_file_lines new.now)) (state D.Store tx.old.conn.now) (state D.Store tx.new.conn.now) result }
+    ensures inside { OnOk result (IfClean IsInside (state D.Store tx.new.conn.now)) }
+    ensures open { OnOk result (IfClean IsOpen (state D.Store tx.new.conn.now)) }
+    ensures steps { Steps (state D.Store tx.old.conn.now) (state D.Store tx.new.conn.now) }
+{
+    let files = make_root_files(alloc, new)?;
+    upsert_files(tx, files.as_slice())
+}
+
+/// Puts in the image repository's files that are made together.
+fn put_role_files<D: Alter>(
+    tx: &mut Transaction<'_, D>,
+    alloc: Global,
+    texts: &RoleTexts,
+) -> Result<(), StoreFault>
+    requires mode { IfClean IsInside (state D.Store tx.old.conn.now) }
+    ensures same_reference { tx.new.conn.ghost_name ≡ tx.old.conn.ghost_name }
+    requires open { IfClean IsOpen (state D.Store tx.old.conn.now) }
+    ensures put { PutsTables HasFilesOnce (with_files (role_file_lines texts.now)) (state D.Store tx.old.conn.now) (state D.Store tx.new.conn.now) result }
+    ensures inside { OnOk result (IfClean IsInside (state D.Store tx.new.conn.now)) }
+    ensures open { OnOk result (IfClean IsOpen (state D.Store tx.new.conn.now)) }
+    ensures steps { Steps (state D.Store tx.old.conn.now) (state D.Store tx.new.conn.now) }
+{
+    let files = make_role_files(alloc, texts)?;
+    upsert_files(tx, files.as_slice())
+}

@@ -1,0 +1,91 @@
+//! The store: the tables of the two repositories over a connection to a database.
+ghost use Rattle.std.specs.Prelude.{◌≡◌, false, IfOk, IfErr, IsTrue};
+ghost use Rattle.sqlite.specs.Held.{state};
+ghost use Rattle.sqlite.specs.State.{HasCleanDisk, Survives};
+ghost use Rattle.up_rows.specs.StateRows.{no_rows};
+ghost use Rattle.up_tables.specs.Ours.{NamesUs};
+ghost use Rattle.up_tables.specs.Stands.{IfClean, IsAsCommitted, LeavesOnly};
+ghost use Rattle.up_store.specs.Connections.{KeepsRows, HoldsRows};
+
+use sqlite::{Alter, Connection};
+use std::marker::Model;
+pub use up_tables::open::OpenFault;
+use up_tables::open::{create_tables, names_us};
+pub use up_tables::values::StoreFault;
+
+/// The greatest number that a column holds, 2^63-1.
+pub(crate) const MOST_NUMBER: u64 = 9_223_372_036_854_775_807;
+
+/// The greatest number of rows of a vehicle, whose places stand in a column.
+pub(crate) const MOST_ROWS: usize = 9_223_372_036_854_775_807;
+
+/// The tables of the two repositories over a connection, on which no transaction is under way between its calls.
+///
+/// A call answers `StoreFault::Memory` where memory was refused, and `StoreFault::Store` where the database refused it for
+/// another cause, where a row isn't one that a call of this type leaves, and where a version is 2^63 or more, which no column
+/// holds. A fault leaves the tables as they were. A fault of the disk shuts the connection, and each later call answers a
+/// fault.
+#[derive(Drop)]
+pub struct Store<D: Alter> {
+    pub(crate) conn: Connection<D>,
+}
+
+impl<D: Alter> Model for Store<D> {
+    ghost use Rattle.std.specs.Prelude.{◌≡◌, false};
+    ghost use Rattle.sqlite.specs.Held.{Held, held_code};
+
+    ghost Value = { Held D };
+
+    ghost coded = { held_code D.code };
+
+    ghost view = { λ s. s.conn };
+
+    ghost invariant = { λ s. s.conn.in_transaction ≡ false };
+}
+
+impl<D: Alter> Store<D> {
+    /// Makes the tables in one transaction, in a database that has none: `OpenFault::Store` where it has. They show a state in
+    /// which nothing is founded. A fault hands the connection back as it was committed, with no transaction under way.
+    pub fn create(mut conn: Connection<D>) -> Result<Store<D>, (Connection<D>, OpenFault)>
+        requires { (state D.Store conn).in_transaction ≡ false }
+        ensures made { IfOk result (λ s. IfClean (KeepsRows no_rows) (state D.Store s)) }
+        ensures durable { IfOk result (λ s. IfClean (LeavesOnly (HoldsRows no_rows)) (state D.Store s)) }
+        ensures crash { IfOk result (λ s. Survives (state D.Store conn) (state D.Store s) (HoldsRows no_rows)) }
+        ensures open { IfOk result (λ s. HasCleanDisk (state D.Store s) → IsTrue (state D.Store conn).is_open) }
+        ensures kept { IfErr result (λ e. IfClean (IsAsCommitted (state D.Store conn)) (state D.Store e.0)) }
+        ensures crash_err { IfErr result (λ e. Survives (state D.Store conn) (state D.Store e.0) (HoldsRows no_rows)) }
+        ensures mode { IfErr result (λ e. (state D.Store e.0).in_transaction ≡ false) }
+    {
+        match create_tables(&mut conn) {
+            Ok(()) => Ok(Store { conn }),
+            Err(fault) => Err((conn, fault)),
+        }
+    }
+
+    /// Takes a database that this product left: `NotOurs` where `meta` can't be read, or names another product or schema. What
+    /// the tables show stays, and a fault hands the connection back with no transaction under way.
+    pub fn adopt(mut conn: Connection<D>) -> Result<Store<D>, (Connection<D>, OpenFault)>
+        requires { (state D.Store conn).in_transaction ≡ false }
+        ensures ours { IfOk result (λ s. HasCleanDisk (state D.Store s) → NamesUs (state D.Store conn)) }
+        ensures kept { IfOk result (λ s. IfClean (IsAsCommitted (state D.Store conn)) (state D.Store s)) }
+        ensures crash { IfOk result (λ s. Survives (state D.Store conn) (state D.Store s) (λ _. ⊥)) }
+        ensures open { IfOk result (λ s. HasCleanDisk (state D.Store s) → IsTrue (state D.Store conn).is_open) }
+        ensures kept_err { IfErr result (λ e. IfClean (IsAsCommitted (state D.Store conn)) (state D.Store e.0)) }
+        ensures crash_err { IfErr result (λ e. Survives (state D.Store conn) (state D.Store e.0) (λ _. ⊥)) }
+        ensures mode { IfErr result (λ e. (state D.Store e.0).in_transaction ≡ false) }
+    {
+        match names_us(&mut conn) {
+            Ok(true) => Ok(Store { conn }),
+            Ok(false) => Err((conn, OpenFault::NotOurs)),
+            Err(fault) => Err((conn, fault)),
+        }
+    }
+
+    /// The connection, on which no transaction is under way.
+    pub fn release(self) -> Connection<D>
+        ensures same { result ≡ self }
+        ensures mode { (state D.Store result).in_transaction ≡ false }
+    {
+        self.conn
+    }
+}

@@ -1,0 +1,197 @@
+//! Vehicles and their ECUs.
+ghost use Rattle.std.specs.Prelude.{◌≡◌, OnErr, OnOk, IfOk, Some, string_bytes};
+ghost use Rattle.sqlite.specs.Held.{state};
+ghost use Rattle.sqlite.specs.State.{HasCleanDisk, Survives};
+ghost use Rattle.up_rows.specs.Changes.{with_vehicle_rows};
+ghost use Rattle.up_store.specs.Fitting.{IsNewVehicle};
+ghost use Rattle.up_store.specs.Shown.{vehicle_of};
+ghost use Rattle.up_store.specs.Found.{vehicle_found, ecus_found, owner_found};
+ghost use Rattle.up_tables.specs.Stands.{IfClean, IsAsCommitted, IsInside, IsOpen, Steps};
+ghost use Rattle.up_tables.specs.Forms.{FitVehicle};
+ghost use Rattle.up_store.specs.Connections.{Answers, FindsRows, NeedsOpen, TakesRows, CommitsRows, SparesRows, PutsRows};
+
+use crate::ecus::{make_ecus, read_ecus};
+use crate::reading::{count_in, ident_in};
+use crate::store::{MOST_NUMBER, MOST_ROWS, Store, StoreFault};
+use sqlite::{Alter, Transaction};
+use std::alloc::Global;
+use up_canon::ident::Ident;
+use up_canon::listed::Listed;
+use up_machine::rows::{EcuRow, VehicleRow, VehicleRows};
+use up_tables::ecu::{ecu_owner as owner_shown, ecus as ecus_shown, insert_ecus};
+use up_tables::values::fault_of;
+use up_tables::vehicle::{VehicleRow as VehicleShown, insert_vehicle, vehicle as vehicle_shown};
+
+impl<D: Alter> Store<D> {
+    /// The vehicle's row, none of an unknown vehicle.
+    pub fn vehicle(
+        &mut self,
+        alloc: Global,
+        vehicle: &Ident,
+    ) -> Result<Option<VehicleRow>, StoreFault>
+        ensures told { Answers (vehicle_found vehicle.now) (state D.Store self.old) (state D.Store self.new) result }
+        ensures kept { IfClean (IsAsCommitted (state D.Store self.old)) (state D.Store self.new) }
+        ensures crash { Survives (state D.Store self.old) (state D.Store self.new) (λ _. ⊥) }
+        ensures open { NeedsOpen (state D.Store self.old) (state D.Store self.new) result }
+    {
+        let _ = alloc;
+        let mut tx = self.conn.transaction();
+        find_vehicle(&mut tx, vehicle)
+    }
+
+    /// The vehicle's ECUs in inventory order, none of an unknown vehicle.
+    pub fn ecus(&mut self, alloc: Global, vehicle: &Ident) -> Result<Listed<EcuRow>, StoreFault>
+        ensures told { Answers (ecus_found vehicle.now) (state D.Store self.old) (state D.Store self.new) result }
+        ensures kept { IfClean (IsAsCommitted (state D.Store self.old)) (state D.Store self.new) }
+        ensures crash { Survives (state D.Store self.old) (state D.Store self.new) (λ _. ⊥) }
+        ensures open { NeedsOpen (state D.Store self.old) (state D.Store self.new) result }
+    {
+        let mut tx = self.conn.transaction();
+        find_ecus(&mut tx, alloc, vehicle)
+    }
+
+    /// The vehicle in which the ECU stands, none of an unknown ECU.
+    pub fn ecu_owner(&mut self, alloc: Global, ecu: &Ident) -> Result<Option<Ident>, StoreFault>
+        ensures told { Answers (owner_found ecu.now) (state D.Store self.old) (state D.Store self.new) result }
+        ensures kept { IfClean (IsAsCommitted (state D.Store self.old)) (state D.Store self.new) }
+        ensures crash { Survives (state D.Store self.old) (state D.Store self.new) (λ _. ⊥) }
+        ensures open { NeedsOpen (state D.Store self.old) (state D.Store self.new) result }
+    {
+        let _ = alloc;
+        let mut tx = self.conn.transaction();
+        find_owner(&mut tx, ecu)
+    }
+
+    /// Writes a vehicle whose name is new, with its ECUs.
+    pub fn write_vehicle(&mut self, alloc: Global, new: &VehicleRows) -> Result<(), StoreFault>
+        ensures written { TakesRows (IsNewVehicle new.now) (λ rows. with_vehicle_rows rows new.now) (state D.Store self.old) (state D.Store self.new) result }
+        ensures durable { CommitsRows (IsNewVehicle new.now) (λ rows. with_vehicle_rows rows new.now) (state D.Store self.old) (state D.Store self.new) result }
+        ensures kept { OnErr result (IfClean (IsAsCommitted (state D.Store self.old)) (state D.Store self.new)) }
+        ensures crash { SparesRows (IsNewVehicle new.now) (λ rows. with_vehicle_rows rows new.now) (state D.Store self.old) (state D.Store self.new) }
+        ensures clean { HasCleanDisk (state D.Store self.new) → HasCleanDisk (state D.Store self.old) }
+        ensures open { NeedsOpen (state D.Store self.old) (state D.Store self.new) result }
+    {
+        let mut tx = self.conn.transaction();
+        if let Err(fault) = put_vehicle(&mut tx, alloc, new) {
+            return Err(fault);
+        }
+        match tx.commit() {
+            Ok(()) => Ok(()),
+            Err(error) => Err(fault_of(error)),
+        }
+    }
+}
+
+/// The vehicle's row.
+fn find_vehicle<D: Alter>(
+    tx: &mut Transaction<'_, D>,
+    vehicle: &Ident,
+) -> Result<Option<VehicleRow>, StoreFault>
+    requires mode { IfClean IsInside (state D.Store tx.old.conn.now) }
+    ensures same_reference { tx.new.conn.ghost_name ≡ tx.old.conn.ghost_name }
+    ensures found { FindsRows (vehicle_found vehicle.now) (state D.Store tx.old.conn.now) (state D.Store tx.new.conn.now) result }
+    ensures open { NeedsOpen (state D.Store tx.old.conn.now) (state D.Store tx.new.conn.now) result }
+    ensures steps { Steps (state D.Store tx.old.conn.now) (state D.Store tx.new.conn.now) }
+{
+    match vehicle_shown(tx, vehicle.text()) {
+        Ok(Some(shown)) => read_vehicle(shown),
+        Ok(None) => Ok(None),
+        Err(fault) => Err(fault),
+    }
+}
+
+/// A row as it stands in the table, read.
+fn read_vehicle(shown: VehicleShown) -> Result<Option<VehicleRow>, StoreFault>
+    ensures { IfOk result (λ read. read ≡ Some (vehicle_of shown)) }
+{
+    Ok(Some(VehicleRow {
+        vehicle: ident_in(shown.vehicle)?,
+        primary: ident_in(shown.primary_ecu)?,
+        version: shown.version,
+        last: count_in(shown.last_counter)?,
+    }))
+}
+
+/// The vehicle's ECUs.
+fn find_ecus<D: Alter>(
+    tx: &mut Transaction<'_, D>,
+    alloc: Global,
+    vehicle: &Ident,
+) -> Result<Listed<EcuRow>, StoreFault>
+    requires mode { IfClean IsInside (state D.Store tx.old.conn.now) }
+    ensures same_reference { tx.new.conn.ghost_name ≡ tx.old.conn.ghost_name }
+    ensures found { FindsRows (ecus_found vehicle.now) (state D.Store tx.old.conn.now) (state D.Store tx.new.conn.now) result }
+    ensures open { NeedsOpen (state D.Store tx.old.conn.now) (state D.Store tx.new.conn.now) result }
+    ensures steps { Steps (state D.Store tx.old.conn.now) (state D.Store tx.new.conn.now) }
+{
+    match ecus_shown(tx, alloc, vehicle.text()) {
+        Ok(shown) => read_ecus(alloc, shown),
+        Err(fault) => Err(fault),
+    }
+}
+
+/// The vehicle of an ECU.
+fn find_owner<D: Alter>(
+    tx: &mut Transaction<'_, D>,
+    ecu: &Ident,
+) -> Result<Option<Ident>, StoreFault>
+    requires mode { IfClean IsInside (state D.Store tx.old.conn.now) }
+    ensures same_reference { tx.new.conn.ghost_name ≡ tx.old.conn.ghost_name }
+    ensures found { FindsRows (owner_found ecu.now) (state D.Store tx.old.conn.now) (state D.Store tx.new.conn.now) result }
+    ensures open { NeedsOpen (state D.Store tx.old.conn.now) (state D.Store tx.new.conn.now) result }
+    ensures steps { Steps (state D.Store tx.old.conn.now) (state D.Store tx.new.conn.now) }
+{
+    match owner_shown(tx, ecu.text()) {
+        Ok(Some(shown)) => read_owner(shown),
+        Ok(None) => Ok(None),
+        Err(fault) => Err(fault),
+    }
+}
+
+/// A name as it stands in the table, read.
+fn read_owner(shown: String) -> Result<Option<Ident>, StoreFault>
+    ensures { IfOk result (λ read. read ≡ Some (string_bytes shown)) }
+{
+    match ident_in(shown) {
+        Ok(name) => Ok(Some(name)),
+        Err(fault) => Err(fault),
+    }
+}
+
+/// Puts in a vehicle with its ECUs.
+fn put_vehicle<D: Alter>(
+    tx: &mut Transaction<'_, D>,
+    alloc: Global,
+    new: &VehicleRows,
+) -> Result<(), StoreFault>
+    requires mode { IfClean IsInside (state D.Store tx.old.conn.now) }
+    ensures same_reference { tx.new.conn.ghost_name ≡ tx.old.conn.ghost_name }
+    ensures put { PutsRows (IsNewVehicle new.now) (λ rows. with_vehicle_rows rows new.now) (state D.Store tx.old.conn.now) (state D.Store tx.new.conn.now) result }
+    ensures inside { OnOk result (IfClean IsInside (state D.Store tx.new.conn.now)) }
+    ensures open { OnOk result (IfClean IsOpen (state D.Store tx.new.conn.now)) }
+    ensures steps { Steps (state D.Store tx.old.conn.now) (state D.Store tx.new.conn.now) }
+{
+    let vehicle = make_vehicle(alloc, &new.vehicle)?;
+    let ecus = make_ecus(alloc, new.ecus.as_slice())?;
+    if ecus.len() > MOST_ROWS {
+        return Err(StoreFault::Store);
+    }
+    insert_vehicle(tx, &vehicle)?;
+    insert_ecus(tx, new.vehicle.vehicle.text(), ecus.as_slice())
+}
+
+/// The row of a vehicle as it stands in the table; `Store` where its version is 2^63 or more.
+pub(crate) fn make_vehicle(alloc: Global, row: &VehicleRow) -> Result<VehicleShown, StoreFault>
+    ensures same { IfOk result (λ made. vehicle_of made ≡ row.now) }
+    ensures fit { IfOk result FitVehicle }
+{
+    if row.version > MOST_NUMBER {
+        return Err(StoreFault::Store);
+    }
+    Ok(VehicleShown {
+        vehicle: row.vehicle.text().to_string(alloc)?,
+        primary_ecu: row.primary.text().to_string(alloc)?,
+        version: row.version,
+        last_counter: row.last.get(),
+    })
+}
