@@ -5,3 +5,7 @@ pub mod Created
 pub mod Closed
 pub mod Written
 pub mod VehicleReads
+pub mod Inserted
+pub mod EcuReads
+pub mod FileReads
+pub mod VehiclePuts

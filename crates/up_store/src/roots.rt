@@ -262,8 +262,8 @@ fn put_keys<D: Alter>(
     founding: &Founding,
 ) -> Result<(), StoreFault>
     requires mode { IfClean IsInside (state D.Store tx.old.conn.now) }
-    ensures same_reference { tx.new.conn.ghost_name ≡ tx.old.conn.ghost_name }
     requires open { IfClean IsOpen (state D.Store tx.old.conn.now) }
+    ensures same_reference { tx.new.conn.ghost_name ≡ tx.old.conn.ghost_name }
     ensures put { PutsTables (λ _. ⊤) (with_keys founding.now) (state D.Store tx.old.conn.now) (state D.Store tx.new.conn.now) result }
     ensures inside { OnOk result (IfClean IsInside (state D.Store tx.new.conn.now)) }
     ensures open { OnOk result (IfClean IsOpen (state D.Store tx.new.conn.now)) }
@@ -283,8 +283,8 @@ fn put_root_files<D: Alter>(
     new: &RootRows,
 ) -> Result<(), StoreFault>
     requires mode { IfClean IsInside (state D.Store tx.old.conn.now) }
-    ensures same_reference { tx.new.conn.ghost_name ≡ tx.old.conn.ghost_name }
     requires open { IfClean IsOpen (state D.Store tx.old.conn.now) }
+    ensures same_reference { tx.new.conn.ghost_name ≡ tx.old.conn.ghost_name }
     ensures put { PutsTables HasFilesOnce (with_files (root_file_lines new.now)) (state D.Store tx.old.conn.now) (state D.Store tx.new.conn.now) result }
     ensures inside { OnOk result (IfClean IsInside (state D.Store tx.new.conn.now)) }
     ensures open { OnOk result (IfClean IsOpen (state D.Store tx.new.conn.now)) }
@@ -301,8 +301,8 @@ fn put_role_files<D: Alter>(
     texts: &RoleTexts,
 ) -> Result<(), StoreFault>
     requires mode { IfClean IsInside (state D.Store tx.old.conn.now) }
-    ensures same_reference { tx.new.conn.ghost_name ≡ tx.old.conn.ghost_name }
     requires open { IfClean IsOpen (state D.Store tx.old.conn.now) }
+    ensures same_reference { tx.new.conn.ghost_name ≡ tx.old.conn.ghost_name }
     ensures put { PutsTables HasFilesOnce (with_files (role_file_lines texts.now)) (state D.Store tx.old.conn.now) (state D.Store tx.new.conn.now) result }
     ensures inside { OnOk result (IfClean IsInside (state D.Store tx.new.conn.now)) }
     ensures open { OnOk result (IfClean IsOpen (state D.Store tx.new.conn.now)) }

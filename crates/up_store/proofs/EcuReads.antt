@@ -1,0 +1,153 @@
+-- What is read of the table of ECUs.
+use Rattle.std.proofs.Common.{◌≡◌, ℕ, suc, pos, List, [], ◌∷◌, Bool, true, false, cond, ◌||◌, Option, Some, None, IsTrue, map, refl, sym, ap, ap₂, ◌∙◌, string_bytes, bytes_eq}
+use Rattle.std.specs.Prelude.{option_map, unwrap_or, find}
+use Rattle.std.specs.List.{AllByRecursion, list_any}
+use Rattle.std.specs.Ordering.{nat_cmp, eq_by_cmp}
+use Rattle.std.specs.Cmp.{both_ways}
+use Rattle.std.specs.Cmp.Lexicographic.{slice_cmp, bytes_decides}
+use Rattle.std.specs.FinMap as table
+use Rattle.std.specs.FinMap.Entries as entries
+use Rattle.sqlite.specs.Values.{or_null}
+use Rattle.sqlite.specs.declared.types.Value.TheVariants.{Int, Text, Blob}
+use Rattle.sqlite.specs.Order.{Row}
+use Rattle.sqlite.specs.State.{State as Connected}
+use Rattle.up_canon.specs.Names.{Name, Table}
+use Rattle.up_manifest.specs.declared.report.Installed.{Installed}
+use Rattle.up_machine.specs.declared.rows.EcuRow.{EcuRow}
+use Rattle.up_machine.specs.declared.rows.VehicleRows.{VehicleRows}
+use Rattle.up_machine.proofs.Lists.{each_weaker}
+use Rattle.up_machine.proofs.Values.{each_found}
+use Rattle.up_rows.specs.Lookups.{stands_among}
+use Rattle.up_rows.specs.StateRows.{StateRows}
+use Rattle.up_tables.specs.declared.ecu.EcuRow.{EcuRow as EcuShown}
+use Rattle.up_tables.specs.declared.ecu.Installed.{Installed as InstalledShown}
+use Rattle.up_tables.specs.Ecus.{line, lines, owns}
+use Rattle.up_tables.specs.Lines.{EcuLine, ecu_row, AreInPlace}
+use Rattle.up_tables.specs.Rows.{has_text}
+use Rattle.up_tables.specs.Stands.{IsWithin, HasTables, Reads, Lists}
+use Rattle.up_tables.specs.Tables.{up_schema, ecu_table}
+use Rattle.up_tables.proofs.EcuRows.{text_is}
+use Rattle.up_store.specs.Found.{ecus_found, owner_found}
+use Rattle.up_store.specs.Lines.{ecu_line, ecu_lines, ecus_lines}
+use Rattle.up_store.specs.Listing.{ListsRows}
+use Rattle.up_store.specs.Shown.{ecu_of, installed_of}
+use Rattle.up_store.specs.Typed.{AreTyped}
+use Rattle.up_store.proofs.Closed.{same_test}
+
+-- ---- the ECUs of a vehicle
+
+same_installed : (o : Option Installed) (p : Option InstalledShown) → or_null (λ (i : Installed). Text i.file) o ≡ or_null (λ (s : InstalledShown). Text (string_bytes s.file)) p
+    → or_null (λ (i : Installed). Int (pos i.length)) o ≡ or_null (λ (s : InstalledShown). Int (pos s.length)) p
+    → or_null (λ (i : Installed). Blob i.sha256) o ≡ or_null (λ (s : InstalledShown). Blob s.sha256.items) p → option_map installed_of p ≡ o
+same_installed None None a b c = refl
+same_installed None (Some s) a b c = cc
+same_installed (Some i) None a b c = cc
+same_installed (Some i) (Some s) a b c =
+    let file : string_bytes s.file ≡ i.file = cc in
+    let size : s.length ≡ i.length = cc in
+    let hash : s.sha256.items ≡ i.sha256 = cc in
+    λ k. Some (record { file = file k; length = size k; sha256 = hash k })
+
+same_report : (o : Option (List ℕ)) (p : Option String) → or_null (λ (t : List ℕ). Text t) o ≡ or_null (λ (s : String). Text (string_bytes s)) p → option_map string_bytes p ≡ o
+same_report None None h = refl
+same_report None (Some s) h = cc
+same_report (Some t) None h = cc
+same_report (Some t) (Some s) h = let same : string_bytes s ≡ t = cc in ap Some same
+
+same_ecu : (vehicle : Name) (place : ℕ) (row : EcuRow) (shown : EcuShown) → ecu_row (ecu_line vehicle place row) ≡ ecu_row (line vehicle place shown) → ecu_of shown ≡ row
+same_ecu vehicle place row shown h =
+    let ecu : string_bytes shown.ecu ≡ row.ecu = cc in
+    let hardware : string_bytes shown.hardware ≡ row.hardware = cc in
+    let public : shown.public_key.items ≡ row.public = cc in
+    let counter : shown.counter ≡ row.counter = cc in
+    let installed : option_map installed_of shown.installed ≡ row.installed = same_installed row.installed shown.installed cc cc cc in
+    let report : option_map string_bytes shown.report ≡ row.report = same_report row.report shown.report cc in
+    λ k. record { ecu = ecu k; hardware = hardware k; public = public k; installed = installed k; counter = counter k; report = report k }
+
+same_ecus : (vehicle : Name) (place : ℕ) (rows : List EcuRow) (found : List EcuShown) → map ecu_row (ecu_lines vehicle place rows) ≡ map ecu_row (lines vehicle place found) → map ecu_of found ≡ rows
+same_ecus vehicle place [] [] h = refl
+same_ecus vehicle place [] (f ∷ found) h = cc
+same_ecus vehicle place (row ∷ rows) [] h = cc
+same_ecus vehicle place (row ∷ rows) (f ∷ found) h =
+    let first : ecu_row (ecu_line vehicle place row) ≡ ecu_row (line vehicle place f) = cc in
+    let rest : map ecu_row (ecu_lines vehicle (suc place) rows) ≡ map ecu_row (lines vehicle (suc place) found) = cc in
+    ap₂ (λ (x : EcuRow) (xs : List EcuRow). x ∷ xs) (same_ecu vehicle place row f first) (same_ecus vehicle (suc place) rows found rest)
+
+in_place : (vehicle : Name) (place : ℕ) (rows : List EcuRow) → AreInPlace vehicle place (ecu_lines vehicle place rows)
+in_place vehicle place [] = tt
+in_place vehicle place (row ∷ rows) = (refl, refl, in_place vehicle (suc place) rows)
+
+pub ecus_in : (rows : StateRows) (name : Name) (before after : Connected) (found : List EcuShown) → (HasTables before → Reads before after)
+    → ((rows_of : List ℕ → List Row) (es : List EcuLine) → HasTables before → Lists 2 rows_of (before.now.trees ecu_table.tree) → rows_of name ≡ map ecu_row es → AreInPlace name 0 es
+    → rows_of name ≡ map ecu_row (lines name 0 found))
+    → IsWithin up_schema (ListsRows rows) before → map ecu_of found ≡ ecus_found name rows
+ecus_in rows name before after found reads shows within =
+    let has : HasTables before = λ is_open. let here = within.here is_open in record { schema_is = here.schema_is; sound = here.sound; rows = tt } in
+    let here = within.here (reads has).was_open in
+    go (table.get rows.vehicles name) refl (shows (λ n. ecus_lines n (table.get rows.vehicles n))) has here.rows.tables.ecus
+  where
+    abbrev rows_of : List ℕ → List Row
+    rows_of n = ecus_lines n (table.get rows.vehicles n)
+
+    go : (o : Option VehicleRows) → table.get rows.vehicles name ≡ o
+        → ((es : List EcuLine) → HasTables before → Lists 2 rows_of (before.now.trees ecu_table.tree) → rows_of name ≡ map ecu_row es → AreInPlace name 0 es → rows_of name ≡ map ecu_row (lines name 0 found))
+        → HasTables before → Lists 2 rows_of (before.now.trees ecu_table.tree) → map ecu_of found ≡ ecus_found name rows
+    go None is shown has lists =
+        let same = ap (ecus_lines name) is in
+        same_ecus name 0 [] found (sym same ∙ shown [] has lists same tt) ∙ sym (ap (λ (o : Option VehicleRows). unwrap_or (option_map (λ (v : VehicleRows). v.ecus) o) []) is)
+    go (Some v) is shown has lists =
+        let same = ap (ecus_lines name) is in
+        same_ecus name 0 v.ecus found (sym same ∙ shown (ecu_lines name 0 v.ecus) has lists same (in_place name 0 v.ecus)) ∙ sym (ap (λ (o : Option VehicleRows). unwrap_or (option_map (λ (v : VehicleRows). v.ecus) o) []) is)
+
+-- ---- the vehicle of an ECU
+
+stands_is : (ecu name : Name) (place : ℕ) (rows : List EcuRow) → list_any (has_text 0 ecu) (map ecu_row (ecu_lines name place rows)) ≡ stands_among ecu rows
+stands_is ecu name place [] = refl
+stands_is ecu name place (row ∷ rows) = ap₂ (λ a b. a || b) (text_is row.ecu ecu) (stands_is ecu name (suc place) rows)
+
+same_both : (a b : Name) → eq_by_cmp (slice_cmp nat_cmp) a b ≡ bytes_eq a b
+same_both a b = same_test b a ∙ both_ways _ _ (λ h. (bytes_decides a b).1 (sym ((bytes_decides b a).0 h))) (λ h. (bytes_decides b a).1 (sym ((bytes_decides a b).0 h)))
+
+-- where the test tells the name, the first value of which it holds is the one of that name
+found_at : {X : Type 0} (test : X → Bool) (n : Name) (es : List (Name × X)) → AllByRecursion (λ (e : Name × X). test e.1 ≡ bytes_eq n e.0) es → find test (map (λ (e : Name × X). e.1) es) ≡ entries.find (slice_cmp nat_cmp) n es
+found_at test n [] all = refl
+found_at test n (e ∷ es) all = ap₂ (λ b o. cond b (Some e.1) o) (all.0 ∙ sym (same_both n e.0)) (found_at test n es all.1)
+
+found_none : {X : Type 0} (test : X → Bool) (es : List (Name × X)) → AllByRecursion (λ (e : Name × X). test e.1 ≡ false) es → find test (map (λ (e : Name × X). e.1) es) ≡ None
+found_none test [] all = refl
+found_none test (e ∷ es) all = ap₂ (λ b o. cond b (Some e.1) o) all.0 (found_none test es all.1)
+
+module _ (ecu : Name) (rows : StateRows) (typed : AreTyped rows) where
+  abbrev vehicles : Table VehicleRows
+  vehicles = rows.vehicles
+
+  abbrev stands : VehicleRows → Bool
+  stands v = stands_among ecu v.ecus
+
+  abbrev Told : Option (List ℕ) → Type 0
+  Told owner = (name : List ℕ) → list_any (has_text 0 ecu) (ecus_lines name (table.get vehicles name)) ≡ owns owner name
+
+  each_told : (owner : Option (List ℕ)) → Told owner → AllByRecursion (λ (e : Name × VehicleRows). stands e.1 ≡ owns owner e.0) (table.entries vehicles)
+  each_told owner told = each_weaker (λ (e : Name × VehicleRows). table.get vehicles e.0 ≡ Some e.1) (λ (e : Name × VehicleRows). stands e.1 ≡ owns owner e.0)
+      (λ e h. sym (stands_is ecu e.0 0 e.1.ecus) ∙ sym (ap (λ o. list_any (has_text 0 ecu) (ecus_lines e.0 o)) h) ∙ told e.0) (table.entries vehicles) (each_found vehicles)
+
+  -- an ECU stands in no vehicle that isn't there
+  there : (n : Name) (o : Option VehicleRows) → list_any (has_text 0 ecu) (ecus_lines n o) ≡ true → (v : VehicleRows) × (o ≡ Some v)
+  there n None h = absurd (let e = h in cc)
+  there n (Some v) h = (v, refl)
+
+  pub owner_told : (owner : Option (List ℕ)) → Told owner → owner ≡ owner_found ecu rows
+  owner_told None told = sym (ap (option_map (λ (v : VehicleRows). v.vehicle.vehicle)) (found_none stands (table.entries vehicles) (each_told None told)))
+  owner_told (Some n) told =
+      let own : bytes_eq n n ≡ true = (bytes_decides n n).1 refl in
+      let is = there n (table.get vehicles n) (told n ∙ own) in
+      let found : find stands (table.values vehicles) ≡ Some is.0 = found_at stands n (table.entries vehicles) (each_told (Some n) told) ∙ sym (table.get-entries vehicles n) ∙ is.1 in
+      ap Some (sym (typed.vehicles n is.0 is.1)) ∙ sym (ap (option_map (λ (v : VehicleRows). v.vehicle.vehicle)) found)
+
+pub owner_in : (rows : StateRows) (ecu : Name) (before after : Connected) (owner : Option (List ℕ)) → (HasTables before → Reads before after)
+    → ((rows_of : List ℕ → List Row) → HasTables before → Lists 2 rows_of (before.now.trees ecu_table.tree) → (vehicle : List ℕ) → list_any (has_text 0 ecu) (rows_of vehicle) ≡ owns owner vehicle)
+    → IsWithin up_schema (ListsRows rows) before → owner ≡ owner_found ecu rows
+owner_in rows ecu before after owner reads shows within =
+    let has : HasTables before = λ is_open. let here = within.here is_open in record { schema_is = here.schema_is; sound = here.sound; rows = tt } in
+    let here = within.here (reads has).was_open in
+    owner_told ecu rows here.rows.typed owner (shows (λ n. ecus_lines n (table.get rows.vehicles n)) has here.rows.tables.ecus)
