@@ -5,5 +5,6 @@ pub mod Connections
 pub mod Fitting
 pub mod Puts
 pub mod Found
+pub mod ColumnRows
 pub mod Shown
 pub mod Stopped

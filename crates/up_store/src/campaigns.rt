@@ -1,21 +1,29 @@
 //! Campaigns.
-ghost use Rattle.std.specs.Prelude.{◌≡◌, OnErr, OnOk};
+ghost use Rattle.std.specs.Prelude.{◌≡◌, Some, IfOk, OnErr, OnOk};
 ghost use Rattle.sqlite.specs.Held.{state};
 ghost use Rattle.sqlite.specs.State.{HasCleanDisk, Survives};
 ghost use Rattle.std.specs.FinMap as table;
+ghost use Rattle.up_canon.specs.Names.{Name};
+ghost use Rattle.up_plan.specs.Campaigns.{CampaignData};
 ghost use Rattle.up_rows.specs.Changes.{with_campaign_row};
+ghost use Rattle.up_store.specs.ColumnRows.{IsCampaign};
+ghost use Rattle.up_store.specs.Typed.{IsTypedCampaign};
 ghost use Rattle.up_store.specs.Fitting.{IsNewCampaign, IsClosing};
 ghost use Rattle.up_store.specs.Found.{campaigns_found};
 ghost use Rattle.up_tables.specs.Stands.{IfClean, IsAsCommitted, IsInside, IsOpen, Steps};
-ghost use Rattle.up_store.specs.Connections.{Answers, NeedsOpen, TakesRows, CommitsRows, SparesRows, PutsRows};
+ghost use Rattle.up_store.specs.Connections.{Answers, FindsRows, NeedsOpen, TakesRows, CommitsRows, SparesRows, PutsRows};
 
+use crate::campaign_rows::{make_campaign, read_campaign, read_reaching};
 use crate::store::{Store, StoreFault};
 use sqlite::{Alter, Transaction};
 use std::alloc::Global;
 use up_canon::ident::Ident;
 use up_canon::table::Table;
 use up_plan::campaign::Campaign;
-use up_tables::campaign::close_campaign;
+use up_tables::campaign::{
+    CampaignRow, campaign as campaign_shown, close_campaign, insert_campaign,
+    running_campaigns as running_shown,
+};
 use up_tables::values::fault_of;
 
 impl<D: Alter> Store<D> {
@@ -26,10 +34,8 @@ impl<D: Alter> Store<D> {
         ensures crash { Survives (state D.Store self.old) (state D.Store self.new) (λ _. ⊥) }
         ensures open { NeedsOpen (state D.Store self.old) (state D.Store self.new) result }
     {
-        let _ = alloc;
-        let _ = name;
-        let _settled = self.conn.is_autocommit();
-        Err(StoreFault::Store)
+        let mut tx = self.conn.transaction();
+        find_campaign(&mut tx, alloc, name)
     }
 
     /// The running campaigns that reach the vehicle, by their names.
@@ -43,10 +49,8 @@ impl<D: Alter> Store<D> {
         ensures crash { Survives (state D.Store self.old) (state D.Store self.new) (λ _. ⊥) }
         ensures open { NeedsOpen (state D.Store self.old) (state D.Store self.new) result }
     {
-        let _ = alloc;
-        let _ = vehicle;
-        let _settled = self.conn.is_autocommit();
-        Err(StoreFault::Store)
+        let mut tx = self.conn.transaction();
+        find_campaigns(&mut tx, alloc, vehicle)
     }
 
     /// Writes a campaign whose name is new.
@@ -58,10 +62,14 @@ impl<D: Alter> Store<D> {
         ensures clean { HasCleanDisk (state D.Store self.new) → HasCleanDisk (state D.Store self.old) }
         ensures open { NeedsOpen (state D.Store self.old) (state D.Store self.new) result }
     {
-        let _ = alloc;
-        let _ = new;
-        let _settled = self.conn.is_autocommit();
-        Err(StoreFault::Store)
+        let mut tx = self.conn.transaction();
+        if let Err(fault) = put_campaign(&mut tx, alloc, new) {
+            return Err(fault);
+        }
+        match tx.commit() {
+            Ok(()) => Ok(()),
+            Err(error) => Err(fault_of(error)),
+        }
     }
 
     /// Closes a campaign that is there: `closed` is the same, not running.
@@ -95,4 +103,68 @@ fn put_closed<D: Alter>(tx: &mut Transaction<'_, D>, closed: &Campaign) -> Resul
     ensures steps { Steps (state D.Store tx.old.conn.now) (state D.Store tx.new.conn.now) }
 {
     close_campaign(tx, closed.name.text())
+}
+
+/// The campaign of this name.
+fn find_campaign<D: Alter>(
+    tx: &mut Transaction<'_, D>,
+    alloc: Global,
+    name: &Ident,
+) -> Result<Option<Campaign>, StoreFault>
+    requires mode { IfClean IsInside (state D.Store tx.old.conn.now) }
+    ensures same_reference { tx.new.conn.ghost_name ≡ tx.old.conn.ghost_name }
+    ensures found { FindsRows (λ rows. table.get rows.campaigns name.now) (state D.Store tx.old.conn.now) (state D.Store tx.new.conn.now) result }
+    ensures open { NeedsOpen (state D.Store tx.old.conn.now) (state D.Store tx.new.conn.now) result }
+    ensures steps { Steps (state D.Store tx.old.conn.now) (state D.Store tx.new.conn.now) }
+{
+    match campaign_shown(tx, name.text()) {
+        Ok(Some(shown)) => some_campaign(alloc, shown),
+        Ok(None) => Ok(None),
+        Err(fault) => Err(fault),
+    }
+}
+
+/// A row as it stands in the table, read.
+fn some_campaign(alloc: Global, shown: CampaignRow) -> Result<Option<Campaign>, StoreFault>
+    ensures { IfOk result (λ read. (name : Name) (campaign : CampaignData) → IsTypedCampaign name campaign → IsCampaign shown campaign → read ≡ Some campaign) }
+{
+    match read_campaign(alloc, shown) {
+        Ok(campaign) => Ok(Some(campaign)),
+        Err(fault) => Err(fault),
+    }
+}
+
+/// The running campaigns that reach the vehicle.
+fn find_campaigns<D: Alter>(
+    tx: &mut Transaction<'_, D>,
+    alloc: Global,
+    vehicle: &Ident,
+) -> Result<Table<Campaign>, StoreFault>
+    requires mode { IfClean IsInside (state D.Store tx.old.conn.now) }
+    ensures same_reference { tx.new.conn.ghost_name ≡ tx.old.conn.ghost_name }
+    ensures found { FindsRows (campaigns_found vehicle.now) (state D.Store tx.old.conn.now) (state D.Store tx.new.conn.now) result }
+    ensures open { NeedsOpen (state D.Store tx.old.conn.now) (state D.Store tx.new.conn.now) result }
+    ensures steps { Steps (state D.Store tx.old.conn.now) (state D.Store tx.new.conn.now) }
+{
+    match running_shown(tx, alloc) {
+        Ok(shown) => read_reaching(alloc, vehicle, shown),
+        Err(fault) => Err(fault),
+    }
+}
+
+/// Puts in the row of a campaign.
+fn put_campaign<D: Alter>(
+    tx: &mut Transaction<'_, D>,
+    alloc: Global,
+    new: &Campaign,
+) -> Result<(), StoreFault>
+    requires mode { IfClean IsInside (state D.Store tx.old.conn.now) }
+    ensures same_reference { tx.new.conn.ghost_name ≡ tx.old.conn.ghost_name }
+    ensures put { PutsRows (IsNewCampaign new.now) (λ rows. with_campaign_row rows new.now) (state D.Store tx.old.conn.now) (state D.Store tx.new.conn.now) result }
+    ensures inside { OnOk result (IfClean IsInside (state D.Store tx.new.conn.now)) }
+    ensures open { OnOk result (IfClean IsOpen (state D.Store tx.new.conn.now)) }
+    ensures steps { Steps (state D.Store tx.old.conn.now) (state D.Store tx.new.conn.now) }
+{
+    let row = make_campaign(alloc, new)?;
+    insert_campaign(tx, &row)
 }

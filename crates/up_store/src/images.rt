@@ -1,20 +1,28 @@
 //! Registered images.
-ghost use Rattle.std.specs.Prelude.{OnErr};
+ghost use Rattle.std.specs.Prelude.{◌≡◌, None, Some, IfOk, OnErr, OnOk};
 ghost use Rattle.sqlite.specs.Held.{state};
 ghost use Rattle.sqlite.specs.State.{HasCleanDisk, Survives};
 ghost use Rattle.std.specs.FinMap as table;
+ghost use Rattle.up_canon.specs.Names.{Name};
+ghost use Rattle.up_plan.specs.Images.{ImageData};
 ghost use Rattle.up_rows.specs.Changes.{with_image_rows};
 ghost use Rattle.up_store.specs.Fitting.{IsNewImage};
-ghost use Rattle.up_tables.specs.Stands.{IfClean, IsAsCommitted};
-ghost use Rattle.up_store.specs.Connections.{Answers, NeedsOpen, TakesRows, CommitsRows, SparesRows};
+ghost use Rattle.up_tables.specs.Stands.{IfClean, IsAsCommitted, IsInside, IsOpen, Steps};
+ghost use Rattle.up_store.specs.ColumnRows.{IsImage, with_image};
+ghost use Rattle.up_store.specs.Connections.{Answers, FindsRows, NeedsOpen, PutsRows, TakesRows, CommitsRows, SparesRows};
+ghost use Rattle.up_store.specs.Typed.{IsTypedImage};
 
+use crate::image_rows::{make_image, read_image, read_images};
+use crate::roots::put_register;
 use crate::store::{Store, StoreFault};
-use sqlite::Alter;
+use sqlite::{Alter, Transaction};
 use std::alloc::Global;
 use up_canon::file_name::FileName;
 use up_canon::table::Table;
 use up_machine::decision::RegisterRows;
 use up_plan::image::Image;
+use up_tables::image::{ImageRow, image as image_shown, images as images_shown, insert_image};
+use up_tables::values::fault_of;
 
 impl<D: Alter> Store<D> {
     /// The image of this filename, none where there is none.
@@ -24,10 +32,8 @@ impl<D: Alter> Store<D> {
         ensures crash { Survives (state D.Store self.old) (state D.Store self.new) (λ _. ⊥) }
         ensures open { NeedsOpen (state D.Store self.old) (state D.Store self.new) result }
     {
-        let _ = alloc;
-        let _ = file;
-        let _settled = self.conn.is_autocommit();
-        Err(StoreFault::Store)
+        let mut tx = self.conn.transaction();
+        find_image(&mut tx, alloc, file)
     }
 
     /// All images by their filenames.
@@ -37,9 +43,8 @@ impl<D: Alter> Store<D> {
         ensures crash { Survives (state D.Store self.old) (state D.Store self.new) (λ _. ⊥) }
         ensures open { NeedsOpen (state D.Store self.old) (state D.Store self.new) result }
     {
-        let _ = alloc;
-        let _settled = self.conn.is_autocommit();
-        Err(StoreFault::Store)
+        let mut tx = self.conn.transaction();
+        find_images(&mut tx, alloc)
     }
 
     /// Writes an image whose filename is new, with new files of the image repository.
@@ -56,10 +61,96 @@ impl<D: Alter> Store<D> {
         ensures clean { HasCleanDisk (state D.Store self.new) → HasCleanDisk (state D.Store self.old) }
         ensures open { NeedsOpen (state D.Store self.old) (state D.Store self.new) result }
     {
-        let _ = alloc;
-        let _ = image;
-        let _ = new;
-        let _settled = self.conn.is_autocommit();
-        Err(StoreFault::Store)
+        let mut tx = self.conn.transaction();
+        if let Err(fault) = put_image(&mut tx, alloc, image, new) {
+            return Err(fault);
+        }
+        match tx.commit() {
+            Ok(()) => Ok(()),
+            Err(error) => Err(fault_of(error)),
+        }
     }
+}
+
+/// The image of this filename.
+fn find_image<D: Alter>(
+    tx: &mut Transaction<'_, D>,
+    alloc: Global,
+    file: &FileName,
+) -> Result<Option<Image>, StoreFault>
+    requires mode { IfClean IsInside (state D.Store tx.old.conn.now) }
+    ensures same_reference { tx.new.conn.ghost_name ≡ tx.old.conn.ghost_name }
+    ensures found { FindsRows (λ rows. table.get rows.images file.now) (state D.Store tx.old.conn.now) (state D.Store tx.new.conn.now) result }
+    ensures open { NeedsOpen (state D.Store tx.old.conn.now) (state D.Store tx.new.conn.now) result }
+    ensures steps { Steps (state D.Store tx.old.conn.now) (state D.Store tx.new.conn.now) }
+{
+    match image_shown(tx, file.text()) {
+        Ok(Some(shown)) => some_image(alloc, shown),
+        Ok(None) => Ok(None),
+        Err(fault) => Err(fault),
+    }
+}
+
+/// A row as it stands in the table, read.
+fn some_image(alloc: Global, shown: ImageRow) -> Result<Option<Image>, StoreFault>
+    ensures { IfOk result (λ read. (file : Name) (image : ImageData) → IsTypedImage file image → IsImage shown image → read ≡ Some image) }
+{
+    match read_image(alloc, shown) {
+        Ok(image) => Ok(Some(image)),
+        Err(fault) => Err(fault),
+    }
+}
+
+/// All images.
+fn find_images<D: Alter>(
+    tx: &mut Transaction<'_, D>,
+    alloc: Global,
+) -> Result<Table<Image>, StoreFault>
+    requires mode { IfClean IsInside (state D.Store tx.old.conn.now) }
+    ensures same_reference { tx.new.conn.ghost_name ≡ tx.old.conn.ghost_name }
+    ensures found { FindsRows (λ rows. rows.images) (state D.Store tx.old.conn.now) (state D.Store tx.new.conn.now) result }
+    ensures open { NeedsOpen (state D.Store tx.old.conn.now) (state D.Store tx.new.conn.now) result }
+    ensures steps { Steps (state D.Store tx.old.conn.now) (state D.Store tx.new.conn.now) }
+{
+    match images_shown(tx, alloc) {
+        Ok(shown) => read_images(alloc, shown),
+        Err(fault) => Err(fault),
+    }
+}
+
+/// Puts in an image, and sets the files of the image repository.
+fn put_image<D: Alter>(
+    tx: &mut Transaction<'_, D>,
+    alloc: Global,
+    image: &Image,
+    new: &RegisterRows,
+) -> Result<(), StoreFault>
+    requires mode { IfClean IsInside (state D.Store tx.old.conn.now) }
+    ensures same_reference { tx.new.conn.ghost_name ≡ tx.old.conn.ghost_name }
+    ensures put { PutsRows (IsNewImage image.now new.now) (λ rows. with_image_rows rows image.now new.now) (state D.Store tx.old.conn.now) (state D.Store tx.new.conn.now) result }
+    ensures inside { OnOk result (IfClean IsInside (state D.Store tx.new.conn.now)) }
+    ensures open { OnOk result (IfClean IsOpen (state D.Store tx.new.conn.now)) }
+    ensures steps { Steps (state D.Store tx.old.conn.now) (state D.Store tx.new.conn.now) }
+{
+    if let Err(fault) = put_image_row(tx, alloc, image) {
+        return Err(fault);
+    }
+    put_register(tx, alloc, new)
+}
+
+/// Puts in the row of an image.
+fn put_image_row<D: Alter>(
+    tx: &mut Transaction<'_, D>,
+    alloc: Global,
+    image: &Image,
+) -> Result<(), StoreFault>
+    requires mode { IfClean IsInside (state D.Store tx.old.conn.now) }
+    ensures same_reference { tx.new.conn.ghost_name ≡ tx.old.conn.ghost_name }
+    ensures put { PutsRows (λ rows. table.get rows.images image.now.file ≡ None) (λ rows. with_image rows image.now) (state D.Store tx.old.conn.now) (state D.Store tx.new.conn.now) result }
+    ensures inside { OnOk result (IfClean IsInside (state D.Store tx.new.conn.now)) }
+    ensures open { OnOk result (IfClean IsOpen (state D.Store tx.new.conn.now)) }
+    ensures steps { Steps (state D.Store tx.old.conn.now) (state D.Store tx.new.conn.now) }
+{
+    let row = make_image(alloc, image)?;
+    insert_image(tx, &row)
 }

@@ -1,10 +1,13 @@
 //! The state of the two repositories in the tables of a database.
 #![tactic(auto)]
 
+mod campaign_rows;
 mod campaigns;
 mod ecus;
 mod files;
+mod image_rows;
 mod images;
+mod kept_rows;
 mod keys;
 mod manifests;
 mod reading;

@@ -1,16 +1,21 @@
 //! Accepted manifests.
-ghost use Rattle.std.specs.Prelude.{◌≡◌, OnErr, OnOk};
+ghost use Rattle.std.specs.Prelude.{◌≡◌, ⊤, Some, IfOk, OnErr, OnOk};
 ghost use Rattle.sqlite.specs.Held.{state};
 ghost use Rattle.sqlite.specs.State.{HasCleanDisk, Survives};
+ghost use Rattle.up_canon.specs.Names.{Name};
+ghost use Rattle.up_machine.specs.declared.rows.Kept.{Kept as KeptData};
 ghost use Rattle.up_rows.specs.Changes.{with_accepted_rows};
 ghost use Rattle.up_rows.specs.Lookups.{kept_with, latest_kept};
+ghost use Rattle.up_store.specs.ColumnRows.{IsKept, with_kept};
+ghost use Rattle.up_store.specs.Typed.{IsTypedKept};
 ghost use Rattle.up_store.specs.Fitting.{IsRecorded};
 ghost use Rattle.up_tables.specs.Stands.{IfClean, IsAsCommitted, IsInside, IsOpen, Steps};
-ghost use Rattle.up_store.specs.Connections.{Answers, NeedsOpen, PutsRows, TakesRows, CommitsRows, SparesRows};
+ghost use Rattle.up_store.specs.Connections.{Answers, FindsRows, NeedsOpen, PutsRows, PutsTables, TakesRows, CommitsRows, SparesRows};
 
 use crate::ecus::make_ecus;
+use crate::kept_rows::{make_kept, read_kept};
 use crate::store::{MOST_ROWS, Store, StoreFault};
-use crate::vehicles::make_vehicle;
+use crate::vehicles::{find_vehicle, make_vehicle};
 use sqlite::{Alter, Transaction};
 use std::alloc::Global;
 use up_canon::count::Count;
@@ -18,6 +23,7 @@ use up_canon::ident::Ident;
 use up_machine::decision::AcceptedRows;
 use up_machine::rows::{Kept, VehicleRows};
 use up_tables::ecu::upsert_ecus;
+use up_tables::kept::{KeptRow, insert_kept, kept as kept_shown};
 use up_tables::values::fault_of;
 use up_tables::vehicle::upsert_vehicle;
 
@@ -34,11 +40,8 @@ impl<D: Alter> Store<D> {
         ensures crash { Survives (state D.Store self.old) (state D.Store self.new) (λ _. ⊥) }
         ensures open { NeedsOpen (state D.Store self.old) (state D.Store self.new) result }
     {
-        let _ = alloc;
-        let _ = vehicle;
-        let _ = counter;
-        let _settled = self.conn.is_autocommit();
-        Err(StoreFault::Store)
+        let mut tx = self.conn.transaction();
+        find_kept(&mut tx, alloc, vehicle, counter)
     }
 
     /// The vehicle's row with its greatest counter, none of an unknown vehicle and before its first manifest.
@@ -48,10 +51,8 @@ impl<D: Alter> Store<D> {
         ensures crash { Survives (state D.Store self.old) (state D.Store self.new) (λ _. ⊥) }
         ensures open { NeedsOpen (state D.Store self.old) (state D.Store self.new) result }
     {
-        let _ = alloc;
-        let _ = vehicle;
-        let _settled = self.conn.is_autocommit();
-        Err(StoreFault::Store)
+        let mut tx = self.conn.transaction();
+        find_latest(&mut tx, alloc, vehicle)
     }
 
     /// Writes an accepted manifest: its vehicle's row, what its ECUs reported, and the row that is kept for it.
@@ -120,12 +121,61 @@ fn insert_kept_row<D: Alter>(
 ) -> Result<(), StoreFault>
     requires mode { IfClean IsInside (state D.Store tx.old.conn.now) }
     ensures same_reference { tx.new.conn.ghost_name ≡ tx.old.conn.ghost_name }
+    ensures put { PutsTables (λ _. ⊤) (with_kept kept.now) (state D.Store tx.old.conn.now) (state D.Store tx.new.conn.now) result }
+    ensures typed { OnOk result (IsTypedKept kept.now.vehicle kept.now) }
     ensures inside { OnOk result (IfClean IsInside (state D.Store tx.new.conn.now)) }
     ensures open { OnOk result (IfClean IsOpen (state D.Store tx.new.conn.now)) }
     ensures steps { Steps (state D.Store tx.old.conn.now) (state D.Store tx.new.conn.now) }
 {
-    let _ = tx;
-    let _ = alloc;
-    let _ = kept;
-    Err(StoreFault::Store)
+    let row = make_kept(alloc, kept)?;
+    insert_kept(tx, &row)
+}
+
+/// The vehicle's row with this counter.
+fn find_kept<D: Alter>(
+    tx: &mut Transaction<'_, D>,
+    alloc: Global,
+    vehicle: &Ident,
+    counter: Count,
+) -> Result<Option<Kept>, StoreFault>
+    requires mode { IfClean IsInside (state D.Store tx.old.conn.now) }
+    ensures same_reference { tx.new.conn.ghost_name ≡ tx.old.conn.ghost_name }
+    ensures found { FindsRows (kept_with vehicle.now counter) (state D.Store tx.old.conn.now) (state D.Store tx.new.conn.now) result }
+    ensures open { NeedsOpen (state D.Store tx.old.conn.now) (state D.Store tx.new.conn.now) result }
+    ensures steps { Steps (state D.Store tx.old.conn.now) (state D.Store tx.new.conn.now) }
+{
+    match kept_shown(tx, vehicle.text(), counter.get()) {
+        Ok(Some(shown)) => some_kept(alloc, shown),
+        Ok(None) => Ok(None),
+        Err(fault) => Err(fault),
+    }
+}
+
+/// A row as it stands in the table, read.
+fn some_kept(alloc: Global, shown: KeptRow) -> Result<Option<Kept>, StoreFault>
+    ensures { IfOk result (λ read. (vehicle : Name) (row : KeptData) → IsTypedKept vehicle row → IsKept shown row → read ≡ Some row) }
+{
+    match read_kept(alloc, shown) {
+        Ok(row) => Ok(Some(row)),
+        Err(fault) => Err(fault),
+    }
+}
+
+/// The vehicle's row with its greatest counter.
+fn find_latest<D: Alter>(
+    tx: &mut Transaction<'_, D>,
+    alloc: Global,
+    vehicle: &Ident,
+) -> Result<Option<Kept>, StoreFault>
+    requires mode { IfClean IsInside (state D.Store tx.old.conn.now) }
+    ensures same_reference { tx.new.conn.ghost_name ≡ tx.old.conn.ghost_name }
+    ensures found { FindsRows (latest_kept vehicle.now) (state D.Store tx.old.conn.now) (state D.Store tx.new.conn.now) result }
+    ensures open { NeedsOpen (state D.Store tx.old.conn.now) (state D.Store tx.new.conn.now) result }
+    ensures steps { Steps (state D.Store tx.old.conn.now) (state D.Store tx.new.conn.now) }
+{
+    match find_vehicle(tx, vehicle) {
+        Ok(Some(row)) => find_kept(tx, alloc, vehicle, row.last),
+        Ok(None) => Ok(None),
+        Err(fault) => Err(fault),
+    }
 }

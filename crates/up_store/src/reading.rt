@@ -1,11 +1,13 @@
 //! Columns as values of their types: a column that isn't one is answered `Store`.
-ghost use Rattle.std.specs.Prelude.{◌≡◌, IfOk, string_bytes};
+ghost use Rattle.std.specs.Prelude.{◌≡◌, Ok, Err, IfOk, IfErr, string_bytes};
+ghost use Rattle.up_store.specs.ColumnRows.{column_fault};
 
 use crate::store::StoreFault;
 use up_canon::count::Count;
 use up_canon::file_name::FileName;
 use up_canon::ident::Ident;
 use up_canon::moment::Moment;
+use up_canon::refusal::Refusal;
 
 /// The text as an identifier.
 pub fn ident_in(text: String) -> Result<Ident, StoreFault>
@@ -64,6 +66,19 @@ pub fn sha256_in(bytes: &[u8]) -> Result<[u8; 32], StoreFault>
 {
     match <[u8; 32]>::try_from(bytes) {
         Ok(hash) => Ok(hash),
+        Err(_) => Err(StoreFault::Store),
+    }
+}
+
+/// What was read of a column that is JSON; `Store` where it isn't what a call writes.
+pub fn read_column<T: Drop>(read: Result<T, Refusal>) -> Result<T, StoreFault>
+    ensures ok { IfOk result (λ x. read ≡ Ok x) }
+    ensures went { IfOk read (λ x. result ≡ Ok x) }
+    ensures fault { IfErr read (λ r. result ≡ Err (column_fault r)) }
+{
+    match read {
+        Ok(x) => Ok(x),
+        Err(Refusal::Memory) => Err(StoreFault::Memory),
         Err(_) => Err(StoreFault::Store),
     }
 }

@@ -83,7 +83,7 @@ impl<D: Alter> Store<D> {
 }
 
 /// The vehicle's row.
-fn find_vehicle<D: Alter>(
+pub(crate) fn find_vehicle<D: Alter>(
     tx: &mut Transaction<'_, D>,
     vehicle: &Ident,
 ) -> Result<Option<VehicleRow>, StoreFault>

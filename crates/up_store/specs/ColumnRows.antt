@@ -1,0 +1,78 @@
+-- Rows with columns that hold lists or a plan: which value each is of.
+use Rattle.std.specs.Prelude.{◌≡◌, List, Some, filter, map, bytes_eq, string_bytes}
+use Rattle.std.specs.FinMap as table
+use Rattle.up_canon.specs.Names.{Name, Table}
+use Rattle.up_canon.specs.Steps.{if_passes}
+use Rattle.up_canon.specs.declared.refusal.Refusal.{Refusal}
+use Rattle.up_canon.specs.declared.refusal.Refusal.TheVariants as refusal
+use Rattle.up_plan.specs.Campaigns.{CampaignData}
+use Rattle.up_plan.specs.Images.{ImageData}
+use Rattle.up_machine.specs.declared.rows.Kept.{Kept}
+use Rattle.up_rows.specs.StateRows.{StateRows}
+use Rattle.up_columns.specs.Columns.{names_column, needs_column}
+use Rattle.up_columns.specs.CampaignColumns.{reach_column, items_column}
+use Rattle.up_columns.specs.PlanColumns.{plan_column}
+use Rattle.up_tables.specs.declared.campaign.CampaignRow.{CampaignRow}
+use Rattle.up_tables.specs.declared.image.ImageRow.{ImageRow}
+use Rattle.up_tables.specs.declared.kept.KeptRow.{KeptRow}
+use Rattle.up_tables.specs.declared.values.StoreFault.{StoreFault}
+use Rattle.up_tables.specs.declared.values.StoreFault.TheVariants.{Memory, Store}
+use Rattle.up_tables.specs.Forms.{image_row, campaign_row}
+use Rattle.up_tables.specs.Listed.{TableRows}
+use Rattle.up_tables.specs.Rows.{with_row}
+use Rattle.up_store.specs.Lines.{image_lines, campaign_lines, kept_line}
+use Rattle.up_store.specs.Typed.{IsTypedImage, IsTypedCampaign}
+
+-- want of memory by itself, every fault of a column alike
+abbrev pub column_fault : Refusal → StoreFault
+column_fault refusal.Memory = Memory
+column_fault _ = Store
+
+-- ---- one row
+
+pub record IsImage (shown : ImageRow) (image : ImageData) : Type 0 where
+  pub file : string_bytes shown.file ≡ image.file
+  pub length : shown.length ≡ image.length
+  pub sha256 : shown.sha256.items ≡ image.sha256
+  pub hardware : string_bytes shown.hardware ≡ names_column image.hardware
+  pub release : shown.release_count ≡ image.release
+  pub needs : string_bytes shown.needs ≡ needs_column image.needs
+  pub conflicts : string_bytes shown.conflicts ≡ names_column image.conflicts
+
+pub record IsCampaign (shown : CampaignRow) (campaign : CampaignData) : Type 0 where
+  pub name : string_bytes shown.name ≡ campaign.name
+  pub reach : string_bytes shown.reach ≡ reach_column campaign.reach
+  pub items : string_bytes shown.items ≡ items_column campaign.items
+  pub running : shown.running ≡ campaign.running
+
+pub record IsKept (shown : KeptRow) (row : Kept) : Type 0 where
+  pub vehicle : string_bytes shown.vehicle ≡ row.vehicle
+  pub counter : shown.counter ≡ row.counter
+  pub version : shown.version ≡ row.version
+  pub moment : shown.moment ≡ row.at
+  pub root : shown.root ≡ row.root
+  pub signed : string_bytes shown.signed ≡ row.signed
+  pub plan_text : string_bytes shown.plan_text ≡ plan_column row.plan
+  pub reply : string_bytes shown.reply ≡ row.reply
+
+-- ---- the rows of a table, read whole
+
+-- of each name the row of the image, or none
+pub record AreImages (shown : List ImageRow) (images : Table ImageData) : Type 0 where
+  pub typed : (file : Name) (image : ImageData) → table.get images file ≡ Some image → IsTypedImage file image
+  pub each : (name : Name) → image_lines (table.get images name) ≡ map image_row (filter (λ i. bytes_eq (string_bytes i.file) name) shown)
+
+-- of each name the row of the campaign where it runs, or none
+pub record AreRunning (shown : List CampaignRow) (campaigns : Table CampaignData) : Type 0 where
+  pub typed : (name : Name) (campaign : CampaignData) → table.get campaigns name ≡ Some campaign → IsTypedCampaign name campaign
+  pub each : (name : Name) → campaign_lines (if_passes (λ c. c.running) (table.get campaigns name)) ≡ map campaign_row (filter (λ c. bytes_eq (string_bytes c.name) name) shown)
+
+-- ---- what is written
+
+-- one more row behind those of its vehicle
+abbrev pub with_kept : Kept → TableRows → TableRows
+with_kept row rows = record rows { kept = with_row row.vehicle (kept_line row) rows.kept }
+
+-- one more image under its name
+abbrev pub with_image : StateRows → ImageData → StateRows
+with_image rows image = record rows { images = table.insert rows.images image.file image }

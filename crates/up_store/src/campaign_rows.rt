@@ -1,0 +1,95 @@
+//! The rows of campaigns, read and made.
+ghost use Rattle.std.specs.Prelude.{◌≡◌, ◌&&◌, if◌then◌else◌, IfOk, OnOk};
+ghost use Rattle.std.specs.FinMap as table;
+ghost use Rattle.up_canon.specs.Names.{Name, Table as Named};
+ghost use Rattle.up_plan.specs.Campaigns.{CampaignData};
+ghost use Rattle.up_plan.specs.Planning.{reaches as is_reached};
+ghost use Rattle.up_store.specs.ColumnRows.{IsCampaign, AreRunning};
+ghost use Rattle.up_store.specs.Found.{values_where};
+ghost use Rattle.up_store.specs.Typed.{IsTypedCampaign};
+
+use crate::image_rows::name_of;
+use crate::reading::{ident_in, read_column};
+use crate::store::StoreFault;
+use std::alloc::{AllocError, Global};
+use up_canon::ident::Ident;
+use up_canon::named::has_name;
+use up_canon::table::Table;
+use up_columns::campaigns::{items_text, reach_text, read_campaign_items, read_reach};
+use up_plan::campaign::{Campaign, Reach};
+use up_tables::campaign::CampaignRow;
+
+/// A row as it stands in the table, read.
+pub fn read_campaign(alloc: Global, shown: CampaignRow) -> Result<Campaign, StoreFault>
+    ensures { IfOk result (λ read. (name : Name) (campaign : CampaignData) → IsTypedCampaign name campaign → IsCampaign shown campaign → read ≡ campaign) }
+{
+    let running = shown.running;
+    let reach = read_column(read_reach(alloc, shown.reach.as_str()))?;
+    let items = read_column(read_campaign_items(alloc, shown.items.as_str()))?;
+    let name = ident_in(shown.name)?;
+    match Campaign::new(name, reach, items.into_vec()) {
+        Ok(mut campaign) => {
+            campaign.running = running;
+            Ok(campaign)
+        }
+        Err(_) => Err(StoreFault::Store),
+    }
+}
+
+/// The rows of running campaigns as they stand in the table, read: those that reach the vehicle.
+pub fn read_reaching(
+    alloc: Global,
+    vehicle: &Ident,
+    shown: Vec<CampaignRow>,
+) -> Result<Table<Campaign>, StoreFault>
+    ensures { IfOk result (λ read. (campaigns : Named CampaignData) → AreRunning shown.items campaigns → read ≡ values_where (λ c. c.running && is_reached vehicle.now c.reach) campaigns) }
+{
+    let mut reaching = Table::new(alloc);
+    for row in shown {
+        add_reaching(&mut reaching, alloc, vehicle, row)?;
+    }
+    Ok(reaching)
+}
+
+/// Reads a row as it stands in the table, and puts the campaign under its name where it reaches the vehicle.
+fn add_reaching(
+    reaching: &mut Table<Campaign>,
+    alloc: Global,
+    vehicle: &Ident,
+    shown: CampaignRow,
+) -> Result<(), StoreFault>
+    ensures { OnOk result ((name : Name) (campaign : CampaignData) → IsTypedCampaign name campaign → IsCampaign shown campaign
+        → reaching.new ≡ (if is_reached vehicle.now campaign.reach then table.insert reaching.old campaign.name campaign else reaching.old)) }
+{
+    let campaign = read_campaign(alloc, shown)?;
+    if reaches(&campaign.reach, vehicle) {
+        let name = name_of(alloc, campaign.name.text())?;
+        reaching.insert(name, campaign)?;
+    }
+    Ok(())
+}
+
+fn reaches(reach: &Reach, vehicle: &Ident) -> bool
+    ensures { result ≡ is_reached vehicle.now reach.now }
+{
+    match reach {
+        Reach::All => true,
+        Reach::Named(vehicles) => has_name(vehicles.as_slice(), vehicle.text()),
+    }
+}
+
+/// The row of a campaign as it stands in the table.
+pub fn make_campaign(alloc: Global, campaign: &Campaign) -> Result<CampaignRow, AllocError>
+    ensures same { IfOk result (λ made. IsCampaign made campaign.now) }
+    ensures typed { OnOk result (IsTypedCampaign campaign.now.name campaign.now) }
+{
+    let reach = reach_text(alloc, &campaign.reach)?;
+    let items = items_text(alloc, campaign.items.as_slice())?;
+    let name = campaign.name.text().to_string(alloc)?;
+    Ok(CampaignRow {
+        name,
+        reach,
+        items,
+        running: campaign.running,
+    })
+}

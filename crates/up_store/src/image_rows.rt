@@ -1,0 +1,112 @@
+//! The rows of images, read and made.
+ghost use Rattle.std.specs.Prelude.{◌≡◌, IfOk, OnOk};
+ghost use Rattle.up_canon.specs.Names.{Name, Table as Named};
+ghost use Rattle.up_plan.specs.Images.{ImageData};
+ghost use Rattle.up_tables.specs.Forms.{FitImage};
+ghost use Rattle.up_store.specs.ColumnRows.{IsImage, AreImages};
+ghost use Rattle.up_store.specs.Typed.{IsTypedImage};
+ghost use Rattle.std.specs.FinMap as table;
+
+use crate::reading::{count_in, file_name_in, read_column, sha256_in};
+use crate::store::StoreFault;
+use std::alloc::{AllocError, Global};
+use up_canon::file_name::FileName;
+use up_canon::ident::Ident;
+use up_canon::listed::Listed;
+use up_canon::table::Table;
+use up_canon::text::Text;
+use up_columns::file_names::{file_names_text, read_file_names};
+use up_columns::names::{names_text, read_names};
+use up_columns::needs::{needs_text, read_needs};
+use up_plan::image::{Image, Need};
+use up_tables::image::ImageRow;
+
+/// The lists of an image.
+#[derive(Drop)]
+struct ImageLists {
+    hardware: Listed<Ident>,
+    needs: Listed<Need>,
+    conflicts: Listed<FileName>,
+}
+
+/// The lists of a row as it stands in the table, read.
+fn read_lists(alloc: Global, shown: &ImageRow) -> Result<ImageLists, StoreFault>
+    ensures { IfOk result (λ lists. (file : Name) (image : ImageData) → IsTypedImage file image → IsImage shown.now image
+        → (lists.hardware ≡ image.hardware) × (lists.needs ≡ image.needs) × (lists.conflicts ≡ image.conflicts)) }
+{
+    let hardware = read_column(read_names(alloc, shown.hardware.as_str()))?;
+    let needs = read_column(read_needs(alloc, shown.needs.as_str()))?;
+    let conflicts = read_column(read_file_names(alloc, shown.conflicts.as_str()))?;
+    Ok(ImageLists {
+        hardware,
+        needs,
+        conflicts,
+    })
+}
+
+/// A row as it stands in the table, read.
+pub fn read_image(alloc: Global, shown: ImageRow) -> Result<Image, StoreFault>
+    ensures { IfOk result (λ read. (file : Name) (image : ImageData) → IsTypedImage file image → IsImage shown image → read ≡ image) }
+{
+    let sha256 = sha256_in(shown.sha256.as_slice())?;
+    let length = count_in(shown.length)?;
+    let release = count_in(shown.release_count)?;
+    let lists = read_lists(alloc, &shown)?;
+    let file = file_name_in(shown.file)?;
+    let hardware = lists.hardware.into_vec();
+    let needs = lists.needs.into_vec();
+    let conflicts = lists.conflicts.into_vec();
+    match Image::new(file, length, sha256, hardware, release, needs, conflicts) {
+        Ok(image) => Ok(image),
+        Err(_) => Err(StoreFault::Store),
+    }
+}
+
+/// The rows of all images as they stand in the table, read.
+pub fn read_images(alloc: Global, shown: Vec<ImageRow>) -> Result<Table<Image>, StoreFault>
+    ensures { IfOk result (λ read. (images : Named ImageData) → AreImages shown.items images → read ≡ images) }
+{
+    let mut images = Table::new(alloc);
+    for row in shown {
+        add_image(&mut images, alloc, row)?;
+    }
+    Ok(images)
+}
+
+/// Reads a row as it stands in the table, and puts the image under its name.
+fn add_image(images: &mut Table<Image>, alloc: Global, shown: ImageRow) -> Result<(), StoreFault>
+    ensures { OnOk result ((file : Name) (image : ImageData) → IsTypedImage file image → IsImage shown image → images.new ≡ table.insert images.old image.file image) }
+{
+    let image = read_image(alloc, shown)?;
+    let name = name_of(alloc, image.file.text())?;
+    images.insert(name, image)?;
+    Ok(())
+}
+
+/// The name as the key of a table.
+pub(crate) fn name_of(alloc: Global, name: &str) -> Result<Text, AllocError>
+    ensures { IfOk result (λ text. text ≡ name.now) }
+{
+    Ok(Text::new(name.to_string(alloc)?))
+}
+
+/// The row of an image as it stands in the table.
+pub fn make_image(alloc: Global, image: &Image) -> Result<ImageRow, AllocError>
+    ensures same { IfOk result (λ made. IsImage made image.now) }
+    ensures fit { IfOk result FitImage }
+    ensures typed { OnOk result (IsTypedImage image.now.file image.now) }
+{
+    let hardware = names_text(alloc, image.hardware.as_slice())?;
+    let needs = needs_text(alloc, image.needs.as_slice())?;
+    let conflicts = file_names_text(alloc, image.conflicts.as_slice())?;
+    let file = image.file.text().to_string(alloc)?;
+    Ok(ImageRow {
+        file,
+        length: image.length.get(),
+        sha256: image.sha256.to_vec(alloc)?,
+        hardware,
+        release_count: image.release.get(),
+        needs,
+        conflicts,
+    })
+}
