@@ -1,0 +1,5 @@
+//! A database file: opened for one program alone, and closed.
+#![tactic(auto)]
+
+pub mod closing;
+pub mod opening;

@@ -1,0 +1,78 @@
+//! Opening a database file.
+
+ghost use Rattle.std.specs.Prelude.{◌≡◌, ◌≢◌, false, true, IfOk, IfErr, codes, Err};
+ghost use Rattle.sqlite.specs.Files.{file_state, IsBlankAs, IsOpened};
+ghost use Rattle.sqlite.specs.Start.{FindsIn};
+ghost use Rattle.sqlite.specs.State.{HasCleanDisk};
+ghost use Rattle.sqlite.specs.WalFiles.{image_at};
+ghost use Rattle.sqlite_store.specs.FileStore.{view};
+ghost use Rattle.up_tables.specs.declared.open.OpenFault.TheVariants.{NotOurs};
+
+use sqlite::{Connection, Error, ErrorCode, FileFrom, FileStore, Start};
+use std::fs::OpenOptions;
+use std::io;
+use std::os::unix::fs::OpenOptionsExt;
+use up_tables::open::OpenFault;
+
+/// The file's owner may read and write it, and nobody else may do anything.
+const FOR_OWNER: u32 = 0o600;
+
+/// Opens the database file at the path, which no other program then can, until the connection is dropped.
+/// Where nothing has that name, an empty database is made: for its owner alone, its log too, and with a sum
+/// on each page, so that a later open finds most bits that changed in between. `Memory` for want of memory,
+/// and `Store` for all else: a path that can't be opened or is `:memory:` or a URI, a file that another
+/// program has open, and one that holds no sound database.
+///
+/// `start` stands for what the files hold: no clause ties them to the path.
+pub fn open_file<S: Start>(
+    rt: &HostRuntime,
+    path: &str,
+    start: S,
+) -> Result<Connection<FileStore<FileFrom<S>>>, OpenFault>
+    ensures opened { IfOk result (λ c. HasCleanDisk (file_state c) → IsOpened c) }
+    ensures found { IfOk result (λ c. HasCleanDisk (file_state c) → FindsIn (image_at S.Start) (file_state c)) }
+    ensures sums { IfOk result (λ c. HasCleanDisk (file_state c) → IsBlankAs true (image_at S.Start) → (view c.store).has_sums ≡ true) }
+    ensures mode { IfOk result (λ c. (file_state c).in_transaction ≡ false) }
+    ensures shielded { IfOk result (λ c. HasCleanDisk (file_state c) → (file_state c).IsShielded) }
+    ensures fault { IfErr result (λ e. e ≢ NotOurs) }
+    ensures memory { path.now ≡ codes ":memory:" → result ≡ Err OpenFault.Store }
+{
+    if path == ":memory:" || path.starts_with("file:") {
+        return Err(OpenFault::Store);
+    }
+    make_for_owner(rt, path)?;
+    match Connection::open_from(rt, path, true, start) {
+        Ok(conn) => Ok(conn),
+        Err((error, _)) => Err(opening_fault(error)),
+    }
+}
+
+/// Makes an empty file that its owner alone may read and write, where nothing has that name.
+fn make_for_owner(rt: &HostRuntime, path: &str) -> Result<(), OpenFault>
+    ensures { IfErr result (λ e. e ≢ NotOurs) }
+{
+    let made = OpenOptions::new()
+        .read(true)
+        .write(true)
+        .create_new(true)
+        .mode(FOR_OWNER)
+        .open(rt, path);
+    match made {
+        Ok(_) => Ok(()),
+        Err(error) => match error.kind() {
+            io::ErrorKind::AlreadyExists => Ok(()),
+            io::ErrorKind::OutOfMemory => Err(OpenFault::Memory),
+            _ => Err(OpenFault::Store),
+        },
+    }
+}
+
+/// What is told of an error of the database where it is opened.
+fn opening_fault(error: Error) -> OpenFault
+    ensures { result ≢ NotOurs }
+{
+    match error {
+        Error::SqliteFailure(ErrorCode::OutOfMemory) => OpenFault::Memory,
+        _ => OpenFault::Store,
+    }
+}

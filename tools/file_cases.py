@@ -1,0 +1,181 @@
+#!/usr/bin/env python3
+"""Tries what an operator needs of the database file. Bounded to a minute or so.
+
+    file_cases.py PROGRAM [KILLS]
+
+The file is its owner's alone; a second program is refused and the first goes on; the log is copied at the end. A
+hundred bits of a file at rest are flipped, one at a time: each is answered by status 3 or by unchanged answers.
+The program is killed (SIGKILL) at KILLS moments (100) of a fleet's day, and the day is repeated over what is
+left: what was printed is kept.
+"""
+import os
+import random
+import signal
+import stat
+import subprocess
+import sys
+import tempfile
+import time
+
+sys.dont_write_bytecode = True
+
+import fleet
+import trials
+
+DAY = list(fleet.script(vehicles=5, ecus=3, rounds=3, images=6, campaigns=2, seed=4))
+SETUP = [line for line in DAY if '"do":"bench"' not in line and '"do":"show"' not in line and '"do":"fetch"' not in line]
+SHOWS = [fleet.line("show", vehicle="v%06d" % number) for number in range(5)]
+FILES = [line for line in DAY if '"do":"fetch"' in line]
+BITS = 100
+
+
+def mode(path):
+    return stat.S_IMODE(os.stat(path).st_mode)
+
+
+def modes(program, own):
+    path = own / "new"
+    yield "a new file", trials.printed(program, path, DAY[:2]) == ["done", "done"]
+    yield "it is its owner's alone", mode(path) == 0o600
+    yield "and so is its log", not trials.log_of(path).exists() or mode(trials.log_of(path)) == 0o600
+    os.chmod(path, 0o640)
+    yield "the mode of a file that is there stays", trials.printed(program, path, SHOWS[:1]) is not None and mode(path) == 0o640
+    path = own / "empty"
+    path.touch(0o640)
+    yield "an empty file is taken", trials.printed(program, path, DAY[:1]) == ["done"]
+    (own / "link").symlink_to("nowhere")
+    yield "a link to nothing is refused", trials.run(program, own / "link", DAY[:1]) == (3, b"", trials.NO_DATABASE)
+    (own / "folder").mkdir()
+    for name in ("folder", "missing/file"):
+        yield name + " is refused", trials.run(program, own / name, DAY[:1]) == (3, b"", trials.NO_DATABASE)
+    yield "nothing is made in their place", not (own / "missing").exists() and not (own / "nowhere").exists()
+
+
+class Running:
+    """The program, with a line handed over and answered at a time."""
+
+    def __init__(self, program, path):
+        words = [str(program), "run", str(path)]
+        self.it = subprocess.Popen(words, stdin=subprocess.PIPE, stdout=subprocess.PIPE, stderr=subprocess.PIPE)
+
+    def ask(self, line):
+        self.it.stdin.write(line.encode() + b"\n")
+        self.it.stdin.flush()
+        return self.it.stdout.readline().decode("ascii").removesuffix("\n")
+
+    def end(self):
+        out, err = self.it.communicate(timeout=30)
+        return self.it.returncode, out, err
+
+
+def seconds(program, own):
+    """A second program is refused, and the first goes on undisturbed."""
+    path = own / "shared"
+    first = Running(program, path)
+    answers = [first.ask(line) for line in DAY[:4]]
+    yield "a second program is refused", trials.run(program, path, DAY[:1]) == (3, b"", trials.NO_DATABASE)
+    answers += [first.ask(line) for line in DAY[4:]]
+    yield "the first goes on", answers == trials.expected(":memory:", DAY)
+    yield "and ends well", first.end() == (0, b"", b"")
+    yield "then the other is let in", trials.printed(program, path, DAY[:1]) == ["refused 9 AlreadyFounded"]
+
+
+def rests(program, own):
+    """At the end the file holds everything by itself."""
+    path = own / "alone"
+    told = trials.printed(program, path, DAY)
+    trials.log_of(path).unlink(missing_ok=True)
+    yield "without its log the file is whole", trials.faults(path) == []
+    yield "and has everything", trials.printed(program, path, SHOWS) == trials.expected(":memory:", DAY + SHOWS)[-5:]
+    yield "the day", told == trials.expected(":memory:", DAY)
+
+
+def flipped(program, own):
+    """One bit after another: status 3, or the answers of the file as it was."""
+    path, bad, rng = own / "bits", own / "bad", random.Random(1)
+    trials.printed(program, path, DAY)
+    asked = SHOWS + FILES + DAY
+    wanted = trials.printed(program, trials.copied(path, bad), asked)
+    data, refused, wrong = path.read_bytes(), 0, []
+    for _ in range(BITS):
+        at, bit = rng.randrange(len(data)), 1 << rng.randrange(8)
+        trials.copied(path, bad)
+        with open(bad, "r+b") as file:
+            file.seek(at)
+            file.write(bytes([data[at] ^ bit]))
+        status, out, err = trials.run(program, bad, asked)
+        if (status, out, err) == (3, b"", trials.NO_DATABASE):
+            refused += 1
+        elif status or err or out.decode("ascii", "replace").split("\n")[:-1] != wanted:
+            wrong.append("byte %d, bit %d" % (at, bit))
+    for it in wrong:
+        print("flipped: " + it)
+    yield "%d flipped bits, of which %d were refused" % (BITS, refused), wanted is not None and not wrong
+
+
+# ---- kills
+
+
+def killed(program, path, script, after, pause):
+    """The lines printed until the program is killed, so many answers and seconds after its start."""
+    with tempfile.TemporaryFile() as given:
+        given.write("".join(line + "\n" for line in script).encode())
+        given.seek(0)
+        with subprocess.Popen([str(program), "run", str(path)], stdin=given, stdout=subprocess.PIPE) as it:
+            told = b"".join(it.stdout.readline() for _ in range(after))
+            time.sleep(pause)
+            os.kill(it.pid, signal.SIGKILL)
+            told += it.stdout.read()
+    return told.decode("ascii").split("\n")[:-1]
+
+
+def is_repeat(line, first, again):
+    """Whether a line that was answered before the kill is answered so when it comes again."""
+    if '"do":"found"' in line:
+        return again == "refused 9 AlreadyFounded"
+    if first == "done":
+        return again == "already"
+    return again == first
+
+
+def is_due(line, first, again):
+    """The same for a line without an answer: it was carried out, or it is now."""
+    return again == first or is_repeat(line, first, again)
+
+
+def repeated(program, path, told, answers):
+    """Whether the day, repeated over what a kill left, is answered as it has to be, and ends as it had to."""
+    again = trials.printed(program, path, DAY)
+    if again is None or told != answers[: len(told)]:
+        return False
+    kept = all(map(is_repeat, DAY[: len(told)], told, again))
+    rest = all(map(is_due, DAY[len(told) :], answers[len(told) :], again[len(told) :]))
+    return kept and rest and len(again) == len(DAY)
+
+
+def kills(program, own, number):
+    answers = trials.expected(own / "whole", DAY)
+    wanted, rng, stopped = trials.rows(own / "whole"), random.Random(2), 0
+    for at in range(number):
+        path = own / ("killed%d" % at)
+        told = killed(program, path, DAY, at * len(DAY) // number, rng.random() * 0.002)
+        stopped += len(told) < len(DAY)
+        whole = trials.faults(path) == [] if path.exists() and path.stat().st_size else True
+        well = whole and repeated(program, path, told, answers) and trials.rows(path) == wanted
+        if not well:
+            yield "killed after %d answers" % len(told), False
+    yield "%d kills, %d of them before the end" % (number, stopped), stopped > number // 2
+
+
+def cases(program, number=100):
+    for part in (modes, seconds, rests, flipped):
+        with trials.folder() as own:
+            yield from part(program, own)
+    with trials.folder() as own:
+        yield from kills(program, own, number)
+
+
+if __name__ == "__main__":
+    if len(sys.argv) not in (2, 3):
+        sys.exit(__doc__)
+    sys.exit(trials.judged("file", cases(sys.argv[1], *map(int, sys.argv[2:]))))

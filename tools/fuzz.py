@@ -1,0 +1,254 @@
+#!/usr/bin/env python3
+"""Runs random scripts and compares what comes of them: mostly valid lines, some damaged at a random byte.
+
+    fuzz.py PROGRAM [FIRST [NUMBER]]
+
+Each seed from FIRST (1) on, NUMBER (100) of them, makes a script. It is carried out over memory, over a file, and
+over a file in pieces with a new start of the program for each. All have to print what `tools/reference.py` prints
+by the rules, and each file has to have its rows. Where they differ, the seed and the first line are told.
+"""
+import json
+import random
+import sys
+
+sys.dont_write_bytecode = True
+
+import fleet
+import trials
+
+START = fleet.START
+MOST = 2**53 - 1
+KINDS = ["HP", "HS", "HT"]
+WORDS = ["%d" % MOST, "%d" % (MOST + 1), "-1", "1.0", "1e3", "1e999", '""', "null", "true", "[]", "{}", '"all"', "00", '"\\u00e9"',
+         '"\\ud800"', '"' + 65 * "a" + '"', "[[[[[[[[[[[[[[[[[[[]]]]]]]]]]]]]]]]]]]"]
+
+
+class Script:
+    """The lines of one seed. It follows roughly what they do, so that most of them are carried out."""
+
+    def __init__(self, seed):
+        self.rng, self.lines, self.counters, self.reported, self.images = random.Random(seed), [], {}, {}, []
+        self.at = START
+
+    def some(self, share):
+        return self.rng.random() < share
+
+    def add(self, do, **members):
+        self.at += self.rng.choice([0, 0, 1, 60, 86400])
+        at = self.rng.choice([4102444800, 4102444801, MOST]) if self.some(0.01) else self.at
+        self.lines.append(fleet.line(do, at, **members).encode())
+
+    # -- commands
+
+    def key_set(self):
+        keys = fleet.key_set(self.rng.choice([1, 0x51, 0x61, 0xA1]))
+        while self.some(0.3):
+            role = keys[self.rng.choice(["director", "image"])][self.rng.choice(fleet.ROLES)]
+            role["keys"] += [fleet.key(self.rng.randrange(256)) for _ in range(self.rng.randrange(4))]
+            role["threshold"] = self.rng.randint(0 if self.some(0.1) else 1, len(role["keys"]))
+        return keys
+
+    def ecus(self, number):
+        """The ECUs of a vehicle: always the same ones."""
+        return [{"ecu": "E%d%d" % (number, i), "hardware": KINDS[min(i, 2)], "key": fleet.key(16 * number + i + 1)}
+                for i in range(1 + number % 4)]
+
+    def add_vehicle(self, number=None):
+        number = self.rng.randrange(6) if number is None else number
+        ecus = self.ecus(number)
+        if self.some(0.15):
+            ecus[self.rng.randrange(len(ecus))] = self.rng.choice(self.ecus(self.rng.randrange(6)))
+        if self.some(0.05):
+            ecus[0]["hardware"] = self.rng.choice(KINDS)
+        self.add("add_vehicle", vehicle="V%d" % number, primary="E%d0" % number, ecus=ecus)
+
+    def add_image(self):
+        rng, number = self.rng, self.rng.randrange(12)
+        words = "image %d" % (number if not self.some(0.05) else rng.randrange(99))
+        image = {"file": "i/%d.bin" % number, "length": len(words), "sha256": fleet.digest(words)}
+        image |= {"hardware": [KINDS[number % 3]], "release": number // 3 + 1}
+        if number % 5 == 4:
+            image["hardware"] = sorted({*image["hardware"], KINDS[0]})
+        if number % 4 > 1:
+            image["needs"] = [{"hardware": KINDS[(number + 1) % 3], "release": number // 4}]
+        if number % 7 > 4:
+            image["conflicts"] = ["i/%d.bin" % ((number + 1) % 12), "factory.bin"][: number % 3]
+        self.images.append({k: image[k] for k in ("file", "length", "sha256")})
+        self.add("add_image", **image)
+
+    def open_campaign(self):
+        rng, number = self.rng, self.rng.randrange(8)
+        chosen = [rng.randrange(12) for _ in range(rng.randint(1, 3))]
+        items = [{"hardware": KINDS[i % 3], "file": "i/%d.bin" % i} for i in chosen]
+        if self.some(0.05):
+            items[0]["hardware"] = rng.choice(KINDS)
+        reach = "all" if number % 2 else ["V%d" % rng.randrange(5) for _ in range(rng.randint(1, 3))]
+        self.add("open_campaign", campaign="C%d" % number, vehicles=reach, items=items)
+
+    def close_campaign(self):
+        self.add("close_campaign", campaign="C%d" % self.rng.randrange(8))
+
+    def report(self, ecu):
+        rng, name = self.rng, ecu["ecu"]
+        if name in self.reported and self.some(0.2):
+            return self.reported[name]
+        image = rng.choice(self.images) if self.images and self.some(0.6) else fleet.FACTORY
+        last = self.reported.get(name, {"counter": 0})["counter"]
+        step = rng.choice([0, -1]) if self.some(0.05) else rng.choice([1, 1, 5])
+        told = {"ecu": name, "key": ecu["key"], "counter": max(0, last + step), **image}
+        told["time"] = self.at - START + rng.choice([0, 1, 253402300799 - self.at])
+        if self.some(0.1):
+            told["attack"] = rng.choice(['"low" \\', 256 * "~", ""])
+        self.reported[name] = told
+        return told
+
+    def manifest(self):
+        """The members of a bench line, some of them wrong."""
+        rng, number = self.rng, self.rng.randrange(6 if self.some(0.05) else 5)
+        vehicle, ecus = "V%d" % number, self.ecus(number)
+        last = self.counters.get(vehicle, 0)
+        counter = max(1, last + rng.choice([1, 1, 1, 1, 1, 7, 0, -1]))
+        self.counters[vehicle] = max(last, counter)
+        reports = [self.report(ecu) for ecu in ecus]
+        told = {"vehicle": vehicle, "primary": ecus[0]["ecu"], "key": ecus[0]["key"], "counter": counter, "reports": reports}
+        if self.some(0.12):
+            wrong = rng.choice(["primary", "key", "report", "missing", "twice", "unknown", "order"])
+            if wrong == "primary":
+                told["primary"] = ecus[-1]["ecu"]
+            elif wrong == "key":
+                told["key"] = fleet.key(0xEE)
+            elif wrong == "report":
+                reports[-1] = reports[-1] | {"key": fleet.key(0xEE)}
+            elif wrong == "missing":
+                reports.pop(rng.randrange(len(reports)))
+            elif wrong == "twice":
+                reports.append(rng.choice(reports))
+            elif wrong == "unknown":
+                reports.append(reports[0] | {"ecu": "X"})
+            else:
+                rng.shuffle(reports)
+        return told
+
+    def bench(self):
+        self.add("bench", **self.manifest())
+
+    def deliver(self):
+        """A body as it is signed, or with another spelling, other signatures, or damage."""
+        rng, body = self.rng, fleet.body(self.manifest())
+        how = rng.choice(["as it is"] * 4 + ["spelled", "signatures", "members", "damaged", "word"])
+        if how in ("spelled", "signatures", "members"):
+            value = json.loads(body)
+            if how == "signatures":
+                other = value["signatures"][0] | {"sig": rng.choice(["00", "0", 64 * "ab"])}
+                value["signatures"].insert(rng.randrange(2), other)
+            if how == "members":
+                value[rng.choice(["more", "body"])] = rng.choice([1.5, None, [], "x"])
+            body = json.dumps(value, indent=rng.choice([None, 1]), sort_keys=self.some(0.5))
+        if how == "word":
+            body = worded(rng, body)
+        if how == "damaged":
+            body = damaged(rng, body.encode()).decode("utf-8", "replace")
+        self.add("deliver", body=body)
+
+    def fetch(self):
+        name = self.rng.choice(["root.json", "1.root.json", "2.root.json", "01.root.json", "targets.json", "snapshot.json",
+                                "timestamp.json", "no"])
+        self.add("fetch", repository=self.rng.choice(["director", "image"]), file=name)
+
+    def show(self):
+        self.add("show", vehicle="V%d" % self.rng.randrange(7))
+
+    def refresh(self):
+        self.add("refresh", version=self.rng.choice([1, 5, 40, 80, MOST] if self.some(0.05) else [5, 20, 40]))
+
+    WEIGHTS = {"add_vehicle": 8, "add_image": 8, "open_campaign": 6, "close_campaign": 1, "bench": 30, "deliver": 16, "fetch": 5,
+               "show": 6, "refresh": 1}
+
+    def step(self):
+        rng = self.rng
+        if self.lines and self.some(0.12):
+            self.lines.append(rng.choice(self.lines[-3:] if self.some(0.5) else self.lines))
+        elif self.some(0.02):
+            self.add(rng.choice(["found", "rotate"]), **self.key_set())
+        else:
+            getattr(self, rng.choices(list(self.WEIGHTS), self.WEIGHTS.values())[0])()
+        if self.some(0.06):
+            self.lines[-1] = damaged(rng, self.lines[-1])
+        elif self.some(0.03):
+            self.lines[-1] = worded(rng, self.lines[-1].decode("utf-8", "replace")).encode()
+
+    def made(self):
+        for _ in range(self.rng.choice([0, 0, 0, 2])):
+            self.step()
+        self.add("found", **self.key_set())
+        for number in range(5):
+            if self.some(0.9):
+                self.add_vehicle(number)
+        for step in [self.add_image] * self.rng.randint(0, 12) + [self.open_campaign] * self.rng.randint(0, 4):
+            step()
+        for _ in range(self.rng.randint(10, 90)):
+            self.step()
+        return [line for whole in self.lines for line in whole.split(b"\n")]
+
+
+def damaged(rng, line):
+    """One byte is changed, taken out or put in, or the line is cut there."""
+    at, byte = rng.randrange(len(line) + 1), bytes([rng.choice(b'"{}[],:0189aeE\\ x\n') if rng.random() < 0.7 else rng.randrange(256)])
+    return rng.choice([line[:at] + byte + line[at + 1 :], line[:at] + line[at + 1 :], line[:at] + byte + line[at:], line[:at]])
+
+
+def worded(rng, line):
+    """A member's value is another one."""
+    parts = line.split(":")
+    at = rng.randrange(1, len(parts)) if len(parts) > 1 else 0
+    end = min((i for i in map(parts[at].find, ",}]") if i >= 0), default=len(parts[at]))
+    parts[at] = rng.choice(WORDS) + parts[at][end:]
+    return ":".join(parts)
+
+
+def pieces(rng, lines):
+    """The script in up to four pieces."""
+    cuts = [0, *sorted(rng.randrange(len(lines) + 1) for _ in range(3)), len(lines)]
+    return [lines[a:b] for a, b in zip(cuts, cuts[1:])]
+
+
+def first_other(lines, wanted, found):
+    """What is told of the first line that is answered otherwise."""
+    asked = [line for line in lines if line]
+    for line, want, got in zip(asked, wanted, found or []):
+        if want != got:
+            return "%r\n  rules: %s\n  program: %s" % (line, want[:300], got[:300])
+    return "%d answers for %d lines" % (len(found or []), len(asked))
+
+
+def tried(program, seed, own):
+    """Each way that went otherwise, with what is told of it."""
+    lines, rng = Script(seed).made(), random.Random(seed)
+    path = {name: own / ("%s%d" % (name, seed)) for name in ("rules", "whole", "pieces")}
+    wanted = trials.expected(path["rules"], lines)
+    found = {"memory": trials.printed(program, ":memory:", lines)}
+    found["whole"] = trials.printed(program, path["whole"], lines)
+    parts = [trials.printed(program, path["pieces"], part) for part in pieces(rng, lines)]
+    found["pieces"] = None if None in parts else sum(parts, [])
+    for name, answers in found.items():
+        if answers != wanted:
+            yield name + ": " + first_other(lines, wanted, answers)
+    rows = trials.rows(path["rules"])
+    for name in ("whole", "pieces"):
+        if path[name].exists() and trials.rows(path[name]) != rows:
+            yield name + ": other rows"
+
+
+def cases(program, first=1, number=100):
+    for seed in range(first, first + number):
+        with trials.folder() as own:
+            told = list(tried(program, seed, own))
+        for it in told:
+            print("fuzz: seed %d: %s" % (seed, it))
+        yield "seed %d" % seed, not told
+
+
+if __name__ == "__main__":
+    if not 2 <= len(sys.argv) <= 4:
+        sys.exit(__doc__)
+    sys.exit(trials.judged("fuzz", cases(sys.argv[1], *map(int, sys.argv[2:]))))

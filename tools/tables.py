@@ -1,0 +1,196 @@
+#!/usr/bin/env python3
+"""Tries the files that the program leaves with SQLite itself, and the other way round. Bounded to a minute.
+
+    tables.py PROGRAM
+
+A fleet's day is carried out over a file. SQLite has to find the file whole, with the tables of `docs/TABLES.md`
+and the rows that `tools/reference.py` makes of the same day. A file that SQLite wrote, with the same rows, is
+adopted and answers alike, and so are copies. The page's queries have to tell what the day's answers told.
+"""
+import json
+import re
+import shutil
+import sqlite3
+import sys
+from contextlib import closing
+
+sys.dont_write_bytecode = True
+
+import fleet
+import page_sums
+import reference
+import trials
+
+DAY = list(fleet.script(vehicles=9, ecus=4, rounds=3, images=14, campaigns=4, seed=13))
+HALF = len(DAY) // 2
+SHOWS = [fleet.line("show", vehicle="v%06d" % number) for number in range(9)]
+
+
+def described(db):
+    """Each table as SQLite describes it: strictness, columns, keys and references."""
+    found = {}
+    for table, strict in db.execute("SELECT name, strict FROM pragma_table_list WHERE schema = 'main' AND type = 'table'"):
+        if table == "sqlite_schema":
+            continue
+        indexes = sorted((row[2:4], tuple(db.execute("SELECT name FROM pragma_index_info(?)", row[1:2])))
+                         for row in db.execute("PRAGMA index_list(%s)" % table))
+        columns = db.execute("PRAGMA table_info(%s)" % table).fetchall()
+        found[table] = strict, columns, indexes, db.execute("PRAGMA foreign_key_list(%s)" % table).fetchall()
+    return found
+
+
+def schemas(path):
+    with trials.read(path) as db, closing(sqlite3.connect(":memory:")) as wanted:
+        for statement in reference.schema():
+            wanted.execute(statement)
+        yield "the file's tables are those of the page", described(db) == described(wanted)
+        told = [row[0].split() for row in db.execute("SELECT sql FROM sqlite_schema WHERE type = 'table' ORDER BY rowid")]
+        yield "so is the text of each", told == [statement.split() for statement in reference.schema()]
+
+
+def written_by_sqlite(path, to):
+    """The same rows, table by table, in a file that SQLite makes."""
+    with trials.read(path) as db, closing(sqlite3.connect(to)) as made, made:
+        for statement in reference.schema():
+            made.execute(statement)
+        for table in trials.TABLES:
+            for row in db.execute("SELECT * FROM %s ORDER BY rowid" % table):
+                made.execute("INSERT INTO %s VALUES (%s)" % (table, ", ".join("?" * len(row))), row)
+    return to
+
+
+def backed_up(path, to):
+    """SQLite's own backup, with the sums of its pages made anew."""
+    with trials.read(path) as db, closing(sqlite3.connect(to)) as made:
+        db.backup(made)
+    return to if page_sums.main(to) == 0 else None
+
+
+def dumped(path, to):
+    """What `.dump` prints, read by a new file."""
+    with trials.read(path) as db, closing(sqlite3.connect(to)) as made:
+        made.executescript("\n".join(db.iterdump()))
+    return to
+
+
+def copies(program, own):
+    """What is made of the file halfway goes on as the file itself does."""
+    half = own / "half"
+    yield "the first half", trials.printed(program, half, DAY[:HALF]) is not None
+    made = {
+        "a file that SQLite wrote": written_by_sqlite(half, own / "written"),
+        "a backup by SQLite": backed_up(half, own / "backup"),
+        "a dump read again": dumped(half, own / "dumped"),
+        "a copy": shutil.copy(half, own / "copied"),
+    }
+    wanted = trials.printed(program, half, DAY[HALF:] + SHOWS)
+    yield "the second half", wanted is not None
+    for name, path in made.items():
+        yield name + " is adopted and answers alike", trials.printed(program, path, DAY[HALF:] + SHOWS) == wanted
+        yield name + " then has the same rows", trials.rows(path) == trials.rows(half)
+        yield name + " is whole then", trials.faults(path) == []
+
+
+def foreign(program, own):
+    """Databases of others, and files that hold none, are refused and stay as they are."""
+    made = {
+        "another product's": ["CREATE TABLE meta (id INTEGER PRIMARY KEY, app TEXT, schema INTEGER)",
+                              "INSERT INTO meta VALUES (1, 'other', 1)"],
+        "another schema's": reference.schema() + ["INSERT INTO meta VALUES (1, 'uptane_desk', 0, 0, 0, 0)"],
+        "one without our row": reference.schema(),
+        "tables of the same names": ["CREATE TABLE %s (a INTEGER) STRICT" % table for table in trials.TABLES],
+    }
+    for number, (name, statements) in enumerate(made.items()):
+        path = own / ("foreign%d" % number)
+        with closing(sqlite3.connect(path)) as db, db:
+            for statement in statements:
+                db.execute(statement)
+        yield name + " is refused and stays", is_refused(program, path) and trials.faults(path) == []
+    path = own / "text"
+    path.write_bytes(b"no database\n")
+    yield "a text is refused and stays", is_refused(program, path)
+
+
+def is_refused(program, path):
+    before = path.read_bytes()
+    return trials.run(program, path, DAY[:1]) == (3, b"", trials.NO_DATABASE) and path.read_bytes() == before
+
+
+# ---- the queries of the page
+
+
+def queries():
+    """The queries of the page, in order."""
+    page = reference.PAGE.read_text(encoding="ascii").split("## Queries")[1]
+    return re.findall(r"^    (SELECT .*?)\n\n", page, re.S | re.M)
+
+
+def last_told(answers):
+    """The words of the reply of each vehicle's last accepted manifest."""
+    found = {}
+    for words in (answer.split(" ") for answer in answers):
+        if words[0] == "reply" and (words[1] not in found or int(words[3]) > int(found[words[1]][3])):
+            found[words[1]] = words
+    return found
+
+
+def shown(answers):
+    """What each `show` line says of each ECU: vehicle, ECU, filename, and the filename that is assigned."""
+    for answer in answers:
+        words = answer.split(" ")
+        for told in words[4:] if words[0] == "vehicle" else []:
+            ecu, files = told.split("=")
+            yield (words[1], ecu, *(files.split(">") + [None])[:2])
+
+
+def due_ecus(ecus, offered):
+    """How many ECUs each campaign still has to reach, by the fleet's own script and what the ECUs run."""
+    images = {it["file"]: it for it in offered if it["do"] == "add_image"}
+    release = lambda kind, file: images[file]["release"] if file in images and kind in images[file]["hardware"] else -1
+    for campaign in (it for it in offered if it["do"] == "open_campaign"):
+        reach, left = campaign["vehicles"], 0
+        for item in campaign["items"]:
+            left += sum(kind == item["hardware"] and (reach == "all" or vehicle in reach)
+                        and release(kind, file) < images[item["file"]]["release"] for vehicle, kind, file in ecus)
+        yield campaign["campaign"], left
+
+
+def asked(program, own):
+    path = own / "day"
+    script = [*DAY, *SHOWS]
+    answers = trials.printed(program, path, script)
+    yield "the day", answers == trials.expected(own / "expected", script)
+    if answers is None:
+        return
+    yield "its rows are those of the rules", trials.rows(path) == trials.rows(own / "expected")
+    yield "SQLite finds it whole", trials.faults(path) == []
+    yield from schemas(path)
+    lines = [json.loads(line) for line in script]
+    seen, told = sorted(set(shown(answers[-len(SHOWS):]))), last_told(answers)
+    with trials.read(path) as db:
+        assigned, run, history, withheld, left = queries()
+        yield "open assignments", sorted(db.execute(assigned)) == [(v, e, to) for v, e, _, to in seen if to]
+        yield "ECUs that run an image", sorted((v, e, f) for f, _, v, e in db.execute(run)) == [it[:3] for it in seen]
+        kinds = {e["ecu"]: e["hardware"] for it in lines if it["do"] == "add_vehicle" for e in it["ecus"]}
+        due = sorted(due_ecus([(v, kinds[e], f) for v, e, f, _ in seen], lines))
+        yield "ECUs that a campaign has to reach", db.execute(left).fetchall() == due and any(n for _, n in due)
+        causes = sorted((v, w[7], w[9] if w[8] == "need" else None, w[9] if w[8] == "conflict" else None)
+                        for v, w in told.items() if "withheld" in w)
+        yield "withheld plans", db.execute(withheld).fetchall() == causes and causes != []
+        for vehicle, words in told.items():
+            past = db.execute(history, {"vehicle": vehicle}).fetchall()
+            wanted = sorted({(int(w[3]), int(w[5])) for w in (a.split(" ") for a in answers) if w[:2] == ["reply", vehicle]})
+            yield "the history of " + vehicle, [(row[0], row[4]) for row in past] == wanted
+
+
+def cases(program):
+    with trials.folder() as own:
+        yield from asked(program, own)
+        yield from copies(program, own)
+        yield from foreign(program, own)
+
+
+if __name__ == "__main__":
+    if len(sys.argv) != 2:
+        sys.exit(__doc__)
+    sys.exit(trials.judged("tables", cases(sys.argv[1])))
