@@ -17,7 +17,10 @@ use Rattle.up_machine.specs.declared.answer.Answer.TheVariants.{Reply as Replied
 use Rattle.up_machine.specs.Keys.{public_fits}
 use Rattle.up_machine.specs.Vehicles.{NewVehicleData}
 use Rattle.up_machine.specs.Commands.{is_command}
-use Rattle.up_machine.specs.State.{State}
+use Rattle.sqlite.specs.Tree.{Trees}
+use Rattle.sqlite_trees.specs.View.{doubt}
+use Rattle.up_machine.specs.Laws.{EmptyIsSound}
+use Rattle.up_machine.specs.State.{State, empty_state}
 use Rattle.up_machine.specs.Replies.{reply_to}
 use Rattle.up_machine.specs.Deciding.{Outcome, check_moment}
 use Rattle.up_machine.specs.Repositories.{decide_found, decide_rotate, decide_image, decide_refresh, decide_fetch}
@@ -210,3 +213,17 @@ late_outright k at c result h is =
 pub told_outright : (o : Option Refusal) (given : Result Answer Refusal) (answer : Answer) → answer ≡ told given → IfSome o (λ r. given ≡ Err r) → IfSome o (λ r. answer ≡ Refused r)
 told_outright None given answer is h = tt
 told_outright (Some r) given answer is h = is ∙ ap told h
+
+-- ---- a disk that is clean was clean
+
+pub clean_once : (k : Rules) (old new : Connected) (Left : State → Trees → Type 0) → EmptyIsSound
+    → ((s : State) → IsSound k s → IfClean (KeepsState k s) old → Survives old new (Left s)) → HasCleanDisk new → HasCleanDisk old
+clean_once k old new Left sound survives now = by_test old.is_clean refl
+  where
+    by_test : (b : Bool) → old.is_clean ≡ b → HasCleanDisk old
+    by_test true is = ap doubt is
+    by_test false is =
+        let is_not : HasCleanDisk old → ⊥ = λ (clean : doubt old.is_clean ≡ 0). let one : doubt old.is_clean ≡ 1 = ap doubt is in absurd (omega arith) in
+        let all : Survives old new (Left empty_state) = survives empty_state (sound k) (λ clean. absurd (is_not clean)) in
+        let before : doubt old.is_clean ≡ 0 = omega (arith, all.clean) in
+        before

@@ -24,7 +24,9 @@ use up_canon::ident::Ident;
 use up_canon::listed::Listed;
 use up_machine::answer::Answer;
 use up_machine::command::Command;
-use up_machine::laws::{kept_replies_stay, repeats_change_nothing, vehicles_stand_apart};
+use up_machine::laws::{
+    kept_replies_stay, repeats_change_nothing, states_stay_sound, vehicles_stand_apart,
+};
 use up_manifest::report::Installed;
 use up_plan::assigned::Plan;
 use up_sign::scheme::Scheme;
@@ -88,9 +90,11 @@ impl<K: Scheme, D: Alter> Desk<K, D> {
         ensures durable { (s : State) → IsSound (K.rules self.old.scheme) s → IfClean (KeepsState (K.rules self.old.scheme) s) (state D.Store self.old.store)
             → IsCommit s result (serve (K.rules self.old.scheme) s at command.now).next
             → IfClean (LeavesOnly (HoldsState (K.rules self.old.scheme) (serve (K.rules self.old.scheme) s at command.now).next)) (state D.Store self.new.store) }
+        ensures clean { HasCleanDisk (state D.Store self.new.store) → HasCleanDisk (state D.Store self.old.store) }
         ensures scheme { self.new.scheme ≡ self.old.scheme }
     {
         keeps_limits(command);
+        states_stay_sound();
         repeats_change_nothing();
         kept_replies_stay();
         answer_of(obey(&mut self.store, alloc, &self.scheme, at, command))
