@@ -2,7 +2,8 @@ pub mod Steps
 pub mod Decided
 pub mod Fitting
 pub mod Told
-pub mod Images
+pub mod LookedUp
+pub mod Loops
 pub mod Serving
 pub mod Outlasting
 pub mod Runs

@@ -1,6 +1,6 @@
 -- What is served is what a command over the rows comes to.
 use Rattle.std.proofs.Common.{◌≡◌, ℕ, ◌<◌, ◌≤◌, List, Bool, true, false, Option, Some, None, Result, Ok, Err, refl, sym, ap, ◌∙◌, subst, arith}
-use Rattle.std.specs.Prelude.{⊤, nat_lt, if◌then◌else◌, codes, length, IfSome, option_and_then, MatchBool, IsTrue}
+use Rattle.std.specs.Prelude.{◌||◌, ⊤, nat_lt, if◌then◌else◌, codes, length, IfSome, option_and_then, MatchBool, IsTrue}
 use Rattle.std.specs.List.{list_all}
 use Rattle.std.proofs.lemmas.Bool.Decides.{nat_tests}
 use Rattle.up_canon.specs.Moments.{last_command_moment}
@@ -34,7 +34,7 @@ use Rattle.up_machine.specs.RepeatLaws.{ServedStaysSound}
 use Rattle.sqlite.specs.State.{State as Connected, HasCleanDisk, Survives}
 use Rattle.up_tables.specs.Stands.{IfClean, LeavesOnly}
 use Rattle.up_store.specs.Connections.{KeepsState}
-use Rattle.up_desk.specs.Serving.{is_lost_by, is_lost, IsAnswered, RepliesStay, told, served, outright_in_time, outright, HoldsState, Leaves, IsCommit, Serves, Reads}
+use Rattle.up_desk.specs.Serving.{is_store, is_lost_by, is_lost, IsAnswered, RepliesStay, told, served, outright_in_time, outright, HoldsState, Leaves, IsCommit, Serves, Reads}
 
 -- ---- the moment
 
@@ -57,6 +57,20 @@ stopped m f r h = ap (λ (n : Result ⊤ Refusal). and_then n f) h
 pub stopped_at : {A B : Type 0} (m : Result A Refusal) (f : A → Result B Refusal) (r : Refusal) → m ≡ Err r → and_then m f ≡ Err r
 unfolding and_then
 stopped_at m f r h = ap (λ n. and_then n f) h
+
+-- what goes on is what comes of it
+pub went_on : {A B : Type 0} (m : Result A Refusal) (f : A → Result B Refusal) (x : A) → m ≡ Ok x → and_then m f ≡ f x
+unfolding and_then
+went_on m f x h = ap (λ n. and_then n f) h
+
+-- what is refused stays so, unless it is lost
+pub stopped_or_lost : {A B : Type 0} (m : Result A Refusal) (f : A → Result B Refusal) (r : Refusal) → MatchBool (is_memory r) ⊤ (m ≡ Err r) → MatchBool (is_lost_by r) ⊤ (and_then m f ≡ Err r)
+stopped_or_lost m f r h = by_loss (is_memory r) (is_store r) h
+  where
+    by_loss : (a b : Bool) → MatchBool a ⊤ (m ≡ Err r) → MatchBool (a || b) ⊤ (and_then m f ≡ Err r)
+    by_loss true b h = tt
+    by_loss false true h = tt
+    by_loss false false h = stopped_at m f r h
 
 pub passed : {A : Type 0} (m : Result ⊤ Refusal) (f : ⊤ → Result A Refusal) → m ≡ Ok tt → and_then m f ≡ f tt
 unfolding and_then

@@ -1,6 +1,6 @@
 -- A command step by step: reads one after another, and at most one write.
 use Rattle.std.proofs.Common.{◌≡◌, ℕ, List, Bool, true, false, Option, Some, None, Result, Ok, Err, IsTrue, OnOk, ◌⊎◌, inl, inr, refl, sym, ap, ◌∙◌, subst, arith}
-use Rattle.std.specs.Prelude.{◌||◌, ⊤, MatchBool, OnErr}
+use Rattle.std.specs.Prelude.{◌||◌, ⊤, MatchBool, OnErr, IfOk}
 use Rattle.sqlite.specs.Tree.{Trees}
 use Rattle.sqlite.specs.State.{State as Connected, HasCleanDisk, Survives}
 use Rattle.sqlite.proofs.StateLemmas.{survives_then, survives_weaker}
@@ -11,6 +11,7 @@ use Rattle.up_machine.specs.declared.answer.Answer.{Answer}
 use Rattle.up_machine.specs.declared.answer.Answer.TheVariants.{Done, Already, Reply as Replied, File, Refused}
 use Rattle.up_machine.specs.State.{State}
 use Rattle.up_machine.specs.Deciding.{Outcome}
+use Rattle.up_machine.specs.Decisions.{GivesFile}
 use Rattle.up_machine.specs.Machine.{outcome_of}
 use Rattle.up_rows.specs.StateRows.{StateRows, rows_of_state}
 use Rattle.up_tables.specs.declared.values.StoreFault.{StoreFault}
@@ -118,7 +119,7 @@ written k s old mid new answer w fits change computed given was reads will takes
     durable : (w : Result ⊤ StoreFault) → CommitsRows fits change mid new w → IsCommit s (told (answer_written answer w)) (outcome_of s computed).next
         → IfClean (LeavesOnly (HoldsState k (outcome_of s computed).next)) new
     durable (Ok done) commits commit now = λ trees may_leave. subst (λ r. HoldsRows r trees) (next_is now) (commits rows may now trees may_leave)
-    durable (Err f) commits commit = absurd commit
+    durable (Err f) commits commit now = absurd commit
 
 -- ---- decisions
 
@@ -142,3 +143,15 @@ store_reads old new kept crash = record {
 
 pub lost_told : (r : Refusal) (f : StoreFault) (X : Type 0) → r ≡ refusal_told f → MatchBool (is_lost_by r) ⊤ X
 lost_told r f X is = subst (λ q. MatchBool (is_lost_by q) ⊤ X) (sym is) (fault_lost f X)
+
+pub file_or_lost : (s : State) (result : Result (List ℕ) Refusal) (computed : Result Outcome Refusal) → GivesFile s result computed → GivesOrLost (GivesFile s) result computed
+file_or_lost s (Ok text) computed h = h
+file_or_lost s (Err r) computed h = by_loss (is_lost_by r) h
+  where
+    by_loss : (b : Bool) → computed ≡ Err r → MatchBool b ⊤ (computed ≡ Err r)
+    by_loss true h = tt
+    by_loss false h = h
+
+pub if_ok_then : {A E : Type 0} (r : Result A E) (P Q : A → Type 0) → IfOk r P → ((x : A) → P x → Q x) → IfOk r Q
+if_ok_then (Ok x) P Q h f = f x h
+if_ok_then (Err e) P Q h f = tt

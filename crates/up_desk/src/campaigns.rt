@@ -26,7 +26,7 @@ use up_machine::answer::Answer;
 use up_machine::decide_campaign::{decide_close, decide_open};
 use up_machine::decision::Decision;
 use up_plan::campaign::{Campaign, Reach};
-use up_rows::laws::campaigns_are_written;
+use up_rows::laws::{campaigns_are_written, rows_are_found};
 use up_store::store::{Store, StoreFault};
 
 /// Opens a campaign.
@@ -60,8 +60,8 @@ fn decide_opening<D: Alter>(
         → GivesOrLost (GivesDecision (λ row. row ≡ campaign.now) s (with_campaign s campaign.now)) result (decide_open_in s at campaign.now) }
     ensures reads { Reads (state D.Store store.old) (state D.Store store.new) }
 {
-    let is_founded = match is_founded(store, alloc) {
-        Ok(is_founded) => is_founded,
+    let founded = match is_founded(store, alloc) {
+        Ok(founded) => founded,
         Err(fault) => return Err(refusal_of(fault)),
     };
     let old = match store.campaign(alloc, &campaign.name) {
@@ -76,7 +76,7 @@ fn decide_opening<D: Alter>(
         Ok(images) => images,
         Err(fault) => return Err(refusal_of(fault)),
     };
-    decide_open(alloc, at, campaign, is_founded, old.as_ref(), known.as_slice(), &images)
+    decide_open(alloc, at, campaign, founded, old.as_ref(), known.as_slice(), &images)
 }
 
 /// Marks for each vehicle that a campaign names whether it is in the inventory.
@@ -118,6 +118,7 @@ fn is_known<D: Alter>(
     ensures told { Tells (λ k s. table.contains_key s.vehicles name.now) (state D.Store store.old) (state D.Store store.new) result }
     ensures reads { Reads (state D.Store store.old) (state D.Store store.new) }
 {
+    rows_are_found();
     match store.vehicle(alloc, name) {
         Ok(vehicle) => Ok(vehicle.is_some()),
         Err(fault) => Err(fault),
@@ -155,13 +156,13 @@ fn decide_closing<D: Alter>(
         → GivesOrLost (GivesClosed s name.now) result (decide_close_in s at name.now) }
     ensures reads { Reads (state D.Store store.old) (state D.Store store.new) }
 {
-    let is_founded = match is_founded(store, alloc) {
-        Ok(is_founded) => is_founded,
+    let founded = match is_founded(store, alloc) {
+        Ok(founded) => founded,
         Err(fault) => return Err(refusal_of(fault)),
     };
     let campaign = match store.campaign(alloc, name) {
         Ok(campaign) => campaign,
         Err(fault) => return Err(refusal_of(fault)),
     };
-    decide_close(alloc, at, name, is_founded, campaign.as_ref())
+    decide_close(alloc, at, name, founded, campaign.as_ref())
 }

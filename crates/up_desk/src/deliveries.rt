@@ -16,7 +16,7 @@ ghost use Rattle.up_tables.specs.Stands.{IfClean};
 ghost use Rattle.up_desk.specs.Serving.{GivesOrLost, Reads, Serves, ArePlanRows};
 
 use crate::images::images_for;
-use crate::lost::refusal_of;
+use crate::lost::{refusal_of, replied};
 use crate::reading::{read_fitting_vehicle, read_founding};
 use sqlite::Alter;
 use std::alloc::Global;
@@ -26,7 +26,7 @@ use up_canon::refusal::Refusal;
 use up_canon::table::Table;
 use up_machine::answer::Answer;
 use up_machine::decide_manifest::{DeliveryRows, decide_manifest};
-use up_machine::decision::{AcceptedRows, Delivered};
+use up_machine::decision::Delivered;
 use up_machine::kept_reply::reply_of;
 use up_manifest::manifest::{Incoming, Manifest};
 use up_manifest::reading::read_manifest;
@@ -56,7 +56,8 @@ pub fn deliver<K: Scheme, D: Alter>(
     }
 }
 
-/// The same of a manifest that was read.
+/// The same of a manifest that was read. The reply to one that is accepted is made before anything is written, so that nothing
+/// grows between the commit and the answer.
 fn receive<K: Scheme, D: Alter>(
     store: &mut Store<D>,
     alloc: Global,
@@ -69,27 +70,15 @@ fn receive<K: Scheme, D: Alter>(
     ensures { (s : State) → IsSound (K.rules scheme.now) s → IfClean (KeepsState (K.rules scheme.now) s) (state D.Store store.old)
         → Serves (K.rules scheme.now) s (state D.Store store.old) (state D.Store store.new) result (decide_incoming (K.rules scheme.now) s at incoming.now) }
 {
+    rows_are_found();
     manifests_are_added();
     match decide(store, alloc, scheme, at, incoming) {
         Ok(Delivered::Repeat(reply)) => Ok(Answer::Reply(reply)),
-        Ok(Delivered::Accepted(rows)) => accept(store, alloc, &rows),
-        Err(refusal) => Err(refusal),
-    }
-}
-
-/// Writes an accepted manifest. The reply is made before anything is written, so that nothing grows between the commit and the
-/// answer.
-fn accept<D: Alter>(
-    store: &mut Store<D>,
-    alloc: Global,
-    rows: &AcceptedRows,
-) -> Result<Answer, Refusal> {
-    match reply_of(alloc, &rows.kept) {
-        Ok(reply) => match store.write_accept(alloc, rows) {
-            Ok(()) => Ok(Answer::Reply(reply)),
-            Err(fault) => Err(refusal_of(fault)),
+        Ok(Delivered::Accepted(rows)) => match reply_of(alloc, &rows.kept) {
+            Ok(reply) => replied(reply, store.write_accept(alloc, &rows)),
+            Err(_) => Err(Refusal::Memory),
         },
-        Err(_) => Err(Refusal::Memory),
+        Err(refusal) => Err(refusal),
     }
 }
 

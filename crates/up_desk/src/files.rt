@@ -58,13 +58,13 @@ fn read_file<D: Alter>(
     ensures reads { Reads (state D.Store store.old) (state D.Store store.new) }
 {
     rows_are_found();
-    let is_founded = match is_founded(store, alloc) {
-        Ok(is_founded) => is_founded,
+    let founded = match is_founded(store, alloc) {
+        Ok(founded) => founded,
         Err(fault) => return Err(refusal_of(fault)),
     };
     let text = match store.file(alloc, repository, name) {
         Ok(text) => text,
         Err(fault) => return Err(refusal_of(fault)),
     };
-    decide_fetch(at, is_founded, text)
+    decide_fetch(at, founded, text)
 }

@@ -90,8 +90,8 @@ fn decide<K: Scheme, D: Alter>(
 {
     let ecus = new.ecus.as_slice();
     let mut recorded = [false; 32];
-    let is_founded = match is_founded(store, alloc) {
-        Ok(is_founded) => is_founded,
+    let founded = match is_founded(store, alloc) {
+        Ok(founded) => founded,
         Err(fault) => return Err(refusal_of(fault)),
     };
     let old = match read_vehicle(store, alloc, &new.vehicle) {
@@ -103,7 +103,7 @@ fn decide<K: Scheme, D: Alter>(
         Err(fault) => return Err(refusal_of(fault)),
     }
     let marks = first_marks(&recorded, ecus.len());
-    decide_vehicle(alloc, scheme, at, new, is_founded, old.as_ref(), marks)
+    decide_vehicle(alloc, scheme, at, new, founded, old.as_ref(), marks)
 }
 
 fn first_marks(marks: &[bool], count: usize) -> &[bool]
@@ -144,6 +144,7 @@ fn is_recorded<D: Alter>(
     ensures told { Tells (λ k s. is_recorded_in s ecu.now) (state D.Store store.old) (state D.Store store.new) result }
     ensures reads { Reads (state D.Store store.old) (state D.Store store.new) }
 {
+    rows_are_found();
     match store.ecu_owner(alloc, ecu) {
         Ok(owner) => Ok(owner.is_some()),
         Err(fault) => Err(fault),

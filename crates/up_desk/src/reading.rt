@@ -10,6 +10,7 @@ use std::alloc::Global;
 use up_canon::ident::Ident;
 use up_machine::rows::{Founding, VehicleRows};
 use up_machine::rows_fit::{founding_fits, rows_fit};
+use up_rows::laws::rows_are_found;
 use up_sign::scheme::Scheme;
 use up_store::store::{Store, StoreFault};
 
@@ -68,6 +69,7 @@ pub fn read_vehicle<D: Alter>(
     ensures told { Tells (λ k s. vehicle_rows_in s name.now) (state D.Store store.old) (state D.Store store.new) result }
     ensures reads { Reads (state D.Store store.old) (state D.Store store.new) }
 {
+    rows_are_found();
     let vehicle = match store.vehicle(alloc, name) {
         Ok(Some(vehicle)) => vehicle,
         Ok(None) => return Ok(None),

@@ -1,10 +1,12 @@
 //! The register of images.
-ghost use Rattle.std.specs.Prelude.{◌≡◌, ◌≤◌, ◌+◌};
+ghost use Rattle.std.specs.Prelude.{◌≡◌, ◌≤◌, ◌+◌, IfSome, IsTrue};
 ghost use Rattle.sqlite.specs.Held.{state};
 ghost use Rattle.sqlite.specs.State.{HasCleanDisk};
 ghost use Rattle.up_canon.specs.Moments.{last_command_moment};
 ghost use Rattle.up_machine.specs.Repositories.{decide_image as decide_image_in, decide_refresh as decide_refresh_in, stamped, with_image};
 ghost use Rattle.up_machine.specs.Decisions.{GivesRows, GivesDecision, HasRegisterRows};
+ghost use Rattle.up_machine.specs.Rows.{founding_row};
+ghost use Rattle.up_machine.specs.RowsFit.{founding_fits};
 ghost use Rattle.up_machine.specs.Sound.{IsSound};
 ghost use Rattle.up_machine.specs.State.{State};
 ghost use Rattle.up_store.specs.Connections.{KeepsState};
@@ -22,6 +24,7 @@ use up_machine::answer::Answer;
 use up_machine::decide_register::{decide_image, decide_refresh};
 use up_machine::decision::{Decision, RegisterRows};
 use up_plan::image::Image;
+use up_machine::rows::Founding;
 use up_rows::laws::images_are_added;
 use up_sign::scheme::Scheme;
 use up_store::store::Store;
@@ -60,15 +63,32 @@ fn decide_adding<K: Scheme, D: Alter>(
         (decide_image_in s at image.now) }
     ensures reads { Reads (state D.Store store.old) (state D.Store store.new) }
 {
-    let founding = match read_founding(store, alloc, scheme) {
-        Ok(founding) => founding,
-        Err(fault) => return Err(refusal_of(fault)),
-    };
-    let images = match store.images(alloc) {
-        Ok(images) => images,
-        Err(fault) => return Err(refusal_of(fault)),
-    };
-    decide_image(alloc, scheme, at, image, &founding, &images)
+    match read_founding(store, alloc, scheme) {
+        Ok(founding) => decide_adding_after(store, alloc, scheme, at, image, &founding),
+        Err(fault) => Err(refusal_of(fault)),
+    }
+}
+
+/// The same, once the founding was read.
+fn decide_adding_after<K: Scheme, D: Alter>(
+    store: &mut Store<D>,
+    alloc: Global,
+    scheme: &K,
+    at: Moment,
+    image: &Image,
+    founding: &Option<Founding>,
+) -> Result<Decision<RegisterRows>, Refusal>
+    requires moment { at ≤ last_command_moment }
+    requires keys { IfSome founding.now (λ f. IsTrue (founding_fits (K.rules scheme.now) f)) }
+    ensures decided { HasCleanDisk (state D.Store store.new) → (s : State) → IsSound (K.rules scheme.now) s → founding.now ≡ founding_row s → IfClean (KeepsState (K.rules scheme.now) s) (state D.Store store.old)
+        → GivesOrLost (GivesDecision (HasRegisterRows (K.rules scheme.now) (stamped (with_image s image.now) at (s.image_version + 1))) s (stamped (with_image s image.now) at (s.image_version + 1))) result
+        (decide_image_in s at image.now) }
+    ensures reads { Reads (state D.Store store.old) (state D.Store store.new) }
+{
+    match store.images(alloc) {
+        Ok(images) => decide_image(alloc, scheme, at, image, founding, &images),
+        Err(fault) => Err(refusal_of(fault)),
+    }
 }
 
 /// Makes the image repository's files anew, with this version.
@@ -104,13 +124,30 @@ fn decide_refreshing<K: Scheme, D: Alter>(
         (decide_refresh_in s at version) }
     ensures reads { Reads (state D.Store store.old) (state D.Store store.new) }
 {
-    let founding = match read_founding(store, alloc, scheme) {
-        Ok(founding) => founding,
-        Err(fault) => return Err(refusal_of(fault)),
-    };
-    let images = match store.images(alloc) {
-        Ok(images) => images,
-        Err(fault) => return Err(refusal_of(fault)),
-    };
-    decide_refresh(alloc, scheme, at, version, &founding, &images)
+    match read_founding(store, alloc, scheme) {
+        Ok(founding) => decide_refreshing_after(store, alloc, scheme, at, version, &founding),
+        Err(fault) => Err(refusal_of(fault)),
+    }
+}
+
+/// The same, once the founding was read.
+fn decide_refreshing_after<K: Scheme, D: Alter>(
+    store: &mut Store<D>,
+    alloc: Global,
+    scheme: &K,
+    at: Moment,
+    version: Count,
+    founding: &Option<Founding>,
+) -> Result<RegisterRows, Refusal>
+    requires moment { at ≤ last_command_moment }
+    requires keys { IfSome founding.now (λ f. IsTrue (founding_fits (K.rules scheme.now) f)) }
+    ensures decided { HasCleanDisk (state D.Store store.new) → (s : State) → IsSound (K.rules scheme.now) s → founding.now ≡ founding_row s → IfClean (KeepsState (K.rules scheme.now) s) (state D.Store store.old)
+        → GivesOrLost (GivesRows (HasRegisterRows (K.rules scheme.now) (stamped s at version)) (stamped s at version)) result
+        (decide_refresh_in s at version) }
+    ensures reads { Reads (state D.Store store.old) (state D.Store store.new) }
+{
+    match store.images(alloc) {
+        Ok(images) => decide_refresh(alloc, scheme, at, version, founding, &images),
+        Err(fault) => Err(refusal_of(fault)),
+    }
 }

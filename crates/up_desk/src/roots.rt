@@ -1,10 +1,12 @@
 //! Foundings and rotations.
-ghost use Rattle.std.specs.Prelude.{◌≡◌, ◌≤◌, ◌+◌};
+ghost use Rattle.std.specs.Prelude.{◌≡◌, ◌≤◌, ◌+◌, IfSome, IsTrue};
 ghost use Rattle.sqlite.specs.Held.{state};
 ghost use Rattle.sqlite.specs.State.{HasCleanDisk};
 ghost use Rattle.up_canon.specs.Moments.{last_command_moment};
 ghost use Rattle.up_machine.specs.Repositories.{decide_found as decide_found_in, decide_rotate as decide_rotate_in, stamped, with_root};
 ghost use Rattle.up_machine.specs.Decisions.{GivesRows, HasRootRows};
+ghost use Rattle.up_machine.specs.Rows.{founding_row};
+ghost use Rattle.up_machine.specs.RowsFit.{founding_fits};
 ghost use Rattle.up_machine.specs.Sound.{IsSound};
 ghost use Rattle.up_machine.specs.State.{State};
 ghost use Rattle.up_store.specs.Connections.{KeepsState};
@@ -21,6 +23,7 @@ use up_machine::answer::Answer;
 use up_machine::decide_root::{decide_found, decide_rotate};
 use up_machine::decision::RootRows;
 use up_machine::keys::KeySet;
+use up_machine::rows::Founding;
 use up_rows::laws::roots_are_added;
 use up_sign::scheme::Scheme;
 use up_store::store::Store;
@@ -58,15 +61,31 @@ fn decide_founding<K: Scheme, D: Alter>(
         (decide_found_in (K.rules scheme.now) s at keys.now) }
     ensures reads { Reads (state D.Store store.old) (state D.Store store.new) }
 {
-    let founding = match store.founding(alloc) {
-        Ok(founding) => founding,
-        Err(fault) => return Err(refusal_of(fault)),
-    };
-    let images = match store.images(alloc) {
-        Ok(images) => images,
-        Err(fault) => return Err(refusal_of(fault)),
-    };
-    decide_found(alloc, scheme, at, keys, &founding, &images)
+    match store.founding(alloc) {
+        Ok(founding) => decide_founding_after(store, alloc, scheme, at, keys, &founding),
+        Err(fault) => Err(refusal_of(fault)),
+    }
+}
+
+/// The same, once the founding was read.
+fn decide_founding_after<K: Scheme, D: Alter>(
+    store: &mut Store<D>,
+    alloc: Global,
+    scheme: &K,
+    at: Moment,
+    keys: &KeySet,
+    founding: &Option<Founding>,
+) -> Result<RootRows, Refusal>
+    requires moment { at ≤ last_command_moment }
+    ensures decided { HasCleanDisk (state D.Store store.new) → (s : State) → IsSound (K.rules scheme.now) s → founding.now ≡ founding_row s → IfClean (KeepsState (K.rules scheme.now) s) (state D.Store store.old)
+        → GivesOrLost (GivesRows (HasRootRows (K.rules scheme.now) (stamped (with_root s at keys.now) at 1)) (stamped (with_root s at keys.now) at 1)) result
+        (decide_found_in (K.rules scheme.now) s at keys.now) }
+    ensures reads { Reads (state D.Store store.old) (state D.Store store.new) }
+{
+    match store.images(alloc) {
+        Ok(images) => decide_found(alloc, scheme, at, keys, founding, &images),
+        Err(fault) => Err(refusal_of(fault)),
+    }
 }
 
 /// Makes the next root version, with these keys.
@@ -102,13 +121,30 @@ fn decide_rotation<K: Scheme, D: Alter>(
         (decide_rotate_in (K.rules scheme.now) s at keys.now) }
     ensures reads { Reads (state D.Store store.old) (state D.Store store.new) }
 {
-    let founding = match read_founding(store, alloc, scheme) {
-        Ok(founding) => founding,
-        Err(fault) => return Err(refusal_of(fault)),
-    };
-    let images = match store.images(alloc) {
-        Ok(images) => images,
-        Err(fault) => return Err(refusal_of(fault)),
-    };
-    decide_rotate(alloc, scheme, at, keys, &founding, &images)
+    match read_founding(store, alloc, scheme) {
+        Ok(founding) => decide_rotation_after(store, alloc, scheme, at, keys, &founding),
+        Err(fault) => Err(refusal_of(fault)),
+    }
+}
+
+/// The same, once the founding was read.
+fn decide_rotation_after<K: Scheme, D: Alter>(
+    store: &mut Store<D>,
+    alloc: Global,
+    scheme: &K,
+    at: Moment,
+    keys: &KeySet,
+    founding: &Option<Founding>,
+) -> Result<RootRows, Refusal>
+    requires moment { at ≤ last_command_moment }
+    requires keys { IfSome founding.now (λ f. IsTrue (founding_fits (K.rules scheme.now) f)) }
+    ensures decided { HasCleanDisk (state D.Store store.new) → (s : State) → IsSound (K.rules scheme.now) s → founding.now ≡ founding_row s → IfClean (KeepsState (K.rules scheme.now) s) (state D.Store store.old)
+        → GivesOrLost (GivesRows (HasRootRows (K.rules scheme.now) (stamped (with_root s at keys.now) at (s.image_version + 1))) (stamped (with_root s at keys.now) at (s.image_version + 1))) result
+        (decide_rotate_in (K.rules scheme.now) s at keys.now) }
+    ensures reads { Reads (state D.Store store.old) (state D.Store store.new) }
+{
+    match store.images(alloc) {
+        Ok(images) => decide_rotate(alloc, scheme, at, keys, founding, &images),
+        Err(fault) => Err(refusal_of(fault)),
+    }
 }

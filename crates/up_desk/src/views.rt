@@ -13,7 +13,7 @@ use up_canon::listed::{Duplicate, Listed};
 use up_machine::rows::EcuRow;
 use up_manifest::report::Installed;
 use up_plan::assigned::Plan;
-use up_rows::laws::views_are_told;
+use up_rows::laws::{rows_are_found, views_are_told};
 use up_store::store::{Store, StoreFault};
 
 /// How many manifests of a vehicle were accepted, none of an unknown vehicle.
@@ -42,6 +42,7 @@ pub fn ecus_of<D: Alter>(
     ensures told { Tells (λ k s. ecus_in s vehicle.now) (state D.Store store.old) (state D.Store store.new) result }
     ensures reads { Reads (state D.Store store.old) (state D.Store store.new) }
 {
+    rows_are_found();
     views_are_told();
     match read_vehicle(store, alloc, vehicle) {
         Ok(Some(rows)) => some_names(alloc, rows.ecus.as_slice()),

@@ -1,5 +1,5 @@
 -- What each line of a script is answered, and the state that it leaves.
-use Rattle.std.specs.Prelude.{◌≡◌, ◌⊎◌, ℕ, List, ◌++◌, flat_map, Result, Ok, Err}
+use Rattle.std.specs.Prelude.{◌≡◌, ◌⊎◌, ℕ, List, ◌++◌, flat_map, MatchBool, ⊤, Result, Ok, Err}
 use Rattle.up_canon.specs.Names.{Name}
 use Rattle.up_canon.specs.Steps.{◌>>=◌, or_error}
 use Rattle.up_canon.specs.declared.refusal.Refusal.{Refusal}
@@ -15,7 +15,7 @@ use Rattle.sqlite.specs.Held.{state}
 use Rattle.sqlite.specs.State.{State as Connected, HasCleanDisk}
 use Rattle.up_tables.specs.Stands.{IfClean}
 use Rattle.up_store.specs.Connections.{KeepsState}
-use Rattle.up_desk.specs.Serving.{DeskView}
+use Rattle.up_desk.specs.Serving.{DeskView, is_lost_by}
 use Rattle.up_script.specs.AskedLines.{asked_in}
 use Rattle.up_script.specs.PrintedLines.{answer_text, refused_text, vehicle_text, ecu_text}
 use Rattle.up_script.specs.declared.asked.Asked.{Asked}
@@ -36,9 +36,14 @@ shown_in s vehicle = do
   Ok (vehicle_text vehicle version ++ ecus_text s vehicle ecus)
 
 -- the line, or the refusal that is due, unless memory or the database refused
-abbrev pub GivesShown : Result String Refusal → Result (List ℕ) Refusal → Type 0
-GivesShown (Ok text) computed = computed ≡ Ok (string_bytes text)
-GivesShown (Err r) computed = MatchBool (is_lost_by r) ⊤ (computed ≡ Err r)
+abbrev pub GivesShown : {S : Type 0} → (S → List ℕ) → Result S Refusal → Result (List ℕ) Refusal → Type 0
+GivesShown bytes (Ok text) computed = computed ≡ Ok (bytes text)
+GivesShown bytes (Err r) computed = MatchBool (is_lost_by r) ⊤ (computed ≡ Err r)
+
+-- the text that is told of it
+abbrev pub told_text : {S : Type 0} → (S → List ℕ) → Result S Refusal → List ℕ
+told_text bytes (Ok text) = bytes text
+told_text bytes (Err r) = refused_text r
 
 abbrev pub shown_text : Result (List ℕ) Refusal → List ℕ
 shown_text (Ok text) = text

@@ -29,7 +29,7 @@ pub(crate) fn shown<K: Scheme, D: Alter>(
     vehicle: &Ident,
 ) -> Result<String, Refusal>
     ensures scheme { desk.new.scheme ≡ desk.old.scheme }
-    ensures shown { HasCleanDisk (state D.Store desk.new.store) → (k : Rules) (s : State) → IfClean (KeepsState k s) (state D.Store desk.old.store) → GivesShown result (shown_in s vehicle.now) }
+    ensures shown { HasCleanDisk (state D.Store desk.new.store) → (k : Rules) (s : State) → IfClean (KeepsState k s) (state D.Store desk.old.store) → GivesShown string_bytes result (shown_in s vehicle.now) }
     ensures reads { Reads (state D.Store desk.old.store) (state D.Store desk.new.store) }
 {
     let version = match desk.version(alloc, vehicle) {

@@ -1,11 +1,13 @@
 //! Lines of scripts that are refused by themselves, each with its first fault.
-use std::alloc::Global;
+use sqlite::Connection;
+use std::alloc::{AllocError, Global};
 use std::process::Abort;
 use std::test::Fail;
 use up_desk::desk::Desk;
 use up_lines::fault::Fault;
 use up_service::script::run_script;
 use up_sign::hmac_sha256::HmacSha256;
+use up_store::store::Store;
 
 /// Words and moments, and members of the shorter lines.
 const WORDS: [(&str, &str); 18] = [
@@ -103,17 +105,20 @@ const KEYS: [(&str, &str); 12] = [
 ];
 
 /// How many lines a script of this line answers, and what it prints, from an empty desk.
-fn printed(alloc: Global, line: &str) -> (Result<u32, Fault>, Vec<u8>) {
-    let mut desk = Desk::new(HmacSha256, alloc);
+fn printed(alloc: Global, line: &str) -> Result<(Result<u32, Fault>, Vec<u8>), AllocError> {
+    let Ok(store) = Store::create(Connection::open_in_memory(alloc)?) else {
+        return Err(AllocError);
+    };
+    let mut desk = Desk::new(HmacSha256, store);
     let mut reader = line.as_bytes();
     let mut written = Vec::new(alloc);
     let ran = run_script(alloc, &mut desk, &mut reader, &mut written);
-    (ran, written)
+    Ok((ran, written))
 }
 
 fn assert_refused(rt: &impl Abort, alloc: Global, line: &str, fault: &str) -> Result<(), Fail> {
     let wanted = format!(in alloc; "refused {fault}\n")?;
-    let (ran, written) = printed(alloc, line);
+    let (ran, written) = printed(alloc, line)?;
     assert_eq!(rt; ran, Ok(1));
     assert_eq!(rt; written.as_slice(), wanted.as_str().as_bytes());
     Ok(())
