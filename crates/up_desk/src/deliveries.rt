@@ -1,5 +1,5 @@
 //! Manifests that vehicles deliver.
-ghost use Rattle.std.specs.Prelude.{◌≡◌, ◌≤◌, ◌<◌, length, Err, IfOk};
+ghost use Rattle.std.specs.Prelude.{◌≡◌, ◌≤◌, ◌<◌, length, Err, IfOk, IfSome, IsTrue, option_copied};
 ghost use Rattle.sqlite.specs.Held.{state};
 ghost use Rattle.sqlite.specs.State.{HasCleanDisk};
 ghost use Rattle.up_canon.specs.Moments.{last_command_moment};
@@ -9,6 +9,8 @@ ghost use Rattle.up_sign.specs.Schemes.{Rules};
 ghost use Rattle.up_manifest.specs.Manifests.{largest_body, incoming_in};
 ghost use Rattle.up_machine.specs.declared.answer.Answer.TheVariants.{Reply as Replied};
 ghost use Rattle.up_machine.specs.Decisions.{IsRead, decide_incoming, GivesDelivered};
+ghost use Rattle.up_machine.specs.Rows.{founding_row, kept_at, vehicle_rows};
+ghost use Rattle.up_machine.specs.RowsFit.{founding_fits, rows_fit};
 ghost use Rattle.up_machine.specs.Sound.{IsSound};
 ghost use Rattle.up_machine.specs.State.{State};
 ghost use Rattle.up_store.specs.Connections.{KeepsState};
@@ -28,6 +30,7 @@ use up_machine::answer::Answer;
 use up_machine::decide_manifest::{DeliveryRows, decide_manifest};
 use up_machine::decision::Delivered;
 use up_machine::kept_reply::reply_of;
+use up_machine::rows::{Founding, Kept, VehicleRows};
 use up_manifest::manifest::{Incoming, Manifest};
 use up_manifest::reading::read_manifest;
 use up_plan::campaign::Campaign;
@@ -82,7 +85,7 @@ fn receive<K: Scheme, D: Alter>(
     }
 }
 
-/// Decides on a manifest, over the rows that are read.
+/// Decides on a manifest, over rows that are read one after another.
 fn decide<K: Scheme, D: Alter>(
     store: &mut Store<D>,
     alloc: Global,
@@ -96,32 +99,99 @@ fn decide<K: Scheme, D: Alter>(
         → GivesOrLost (GivesDelivered (K.rules scheme.now) s incoming.now.manifest.vehicle) result (decide_incoming (K.rules scheme.now) s at incoming.now) }
     ensures reads { Reads (state D.Store store.old) (state D.Store store.new) }
 {
+    match read_founding(store, alloc, scheme) {
+        Ok(founding) => decide_founded(store, alloc, scheme, at, incoming, founding.as_ref()),
+        Err(fault) => Err(refusal_of(fault)),
+    }
+}
+
+/// The same, once the founding was read.
+fn decide_founded<K: Scheme, D: Alter>(
+    store: &mut Store<D>,
+    alloc: Global,
+    scheme: &K,
+    at: Moment,
+    incoming: &Incoming,
+    founding: Option<&Founding>,
+) -> Result<Delivered, Refusal>
+    requires moment { at ≤ last_command_moment }
+    requires read { IsRead incoming.now }
+    requires keys { IfSome (option_copied founding.entry) (λ f. IsTrue (founding_fits (K.rules scheme.now) f)) }
+    ensures decided { HasCleanDisk (state D.Store store.new) → (s : State) → IsSound (K.rules scheme.now) s → option_copied founding.entry ≡ founding_row s → IfClean (KeepsState (K.rules scheme.now) s) (state D.Store store.old)
+        → GivesOrLost (GivesDelivered (K.rules scheme.now) s incoming.now.manifest.vehicle) result (decide_incoming (K.rules scheme.now) s at incoming.now) }
+    ensures reads { Reads (state D.Store store.old) (state D.Store store.new) }
+{
+    match read_fitting_vehicle(store, alloc, &incoming.manifest.vehicle) {
+        Ok(vehicle) => {
+            let rows = vehicle.as_ref();
+            decide_known(store, alloc, scheme, at, incoming, founding, rows)
+        }
+        Err(fault) => Err(refusal_of(fault)),
+    }
+}
+
+/// The same, once the vehicle was read.
+fn decide_known<K: Scheme, D: Alter>(
+    store: &mut Store<D>,
+    alloc: Global,
+    scheme: &K,
+    at: Moment,
+    incoming: &Incoming,
+    founding: Option<&Founding>,
+    vehicle: Option<&VehicleRows>,
+) -> Result<Delivered, Refusal>
+    requires moment { at ≤ last_command_moment }
+    requires read { IsRead incoming.now }
+    requires keys { IfSome (option_copied founding.entry) (λ f. IsTrue (founding_fits (K.rules scheme.now) f)) }
+    requires rows { IfSome (option_copied vehicle.entry) (λ v. IsTrue (rows_fit v)) }
+    ensures decided { HasCleanDisk (state D.Store store.new) → (s : State) → IsSound (K.rules scheme.now) s → option_copied founding.entry ≡ founding_row s → option_copied vehicle.entry ≡ vehicle_rows s incoming.now.manifest.vehicle → IfClean (KeepsState (K.rules scheme.now) s) (state D.Store store.old)
+        → GivesOrLost (GivesDelivered (K.rules scheme.now) s incoming.now.manifest.vehicle) result (decide_incoming (K.rules scheme.now) s at incoming.now) }
+    ensures reads { Reads (state D.Store store.old) (state D.Store store.new) }
+{
     rows_are_found();
     let manifest = &incoming.manifest;
-    let founding = match read_founding(store, alloc, scheme) {
-        Ok(founding) => founding,
-        Err(fault) => return Err(refusal_of(fault)),
-    };
-    let vehicle = match read_fitting_vehicle(store, alloc, &manifest.vehicle) {
-        Ok(vehicle) => vehicle,
-        Err(fault) => return Err(refusal_of(fault)),
-    };
-    let kept = match store.kept(alloc, &manifest.vehicle, manifest.counter) {
-        Ok(kept) => kept,
-        Err(fault) => return Err(refusal_of(fault)),
-    };
-    let plan = match read_plan_rows(store, alloc, manifest) {
-        Ok(plan) => plan,
-        Err(fault) => return Err(refusal_of(fault)),
-    };
-    let rows = DeliveryRows {
-        founding: founding.as_ref(),
-        vehicle: vehicle.as_ref(),
-        kept: kept.as_ref(),
-        images: &plan.images,
-        campaigns: plan.campaigns.values(),
-    };
-    decide_manifest(alloc, scheme, at, incoming, &rows)
+    match store.kept(alloc, &manifest.vehicle, manifest.counter) {
+        Ok(kept) => {
+            let row = kept.as_ref();
+            decide_kept(store, alloc, scheme, at, incoming, founding, vehicle, row)
+        }
+        Err(fault) => Err(refusal_of(fault)),
+    }
+}
+
+/// The same, once the row that was kept with the manifest's counter was read.
+fn decide_kept<K: Scheme, D: Alter>(
+    store: &mut Store<D>,
+    alloc: Global,
+    scheme: &K,
+    at: Moment,
+    incoming: &Incoming,
+    founding: Option<&Founding>,
+    vehicle: Option<&VehicleRows>,
+    kept: Option<&Kept>,
+) -> Result<Delivered, Refusal>
+    requires moment { at ≤ last_command_moment }
+    requires read { IsRead incoming.now }
+    requires keys { IfSome (option_copied founding.entry) (λ f. IsTrue (founding_fits (K.rules scheme.now) f)) }
+    requires rows { IfSome (option_copied vehicle.entry) (λ v. IsTrue (rows_fit v)) }
+    ensures decided { HasCleanDisk (state D.Store store.new) → (s : State) → IsSound (K.rules scheme.now) s → option_copied founding.entry ≡ founding_row s → option_copied vehicle.entry ≡ vehicle_rows s incoming.now.manifest.vehicle → option_copied kept.entry ≡ kept_at (K.rules scheme.now) s incoming.now.manifest.vehicle incoming.now.manifest.counter → IfClean (KeepsState (K.rules scheme.now) s) (state D.Store store.old)
+        → GivesOrLost (GivesDelivered (K.rules scheme.now) s incoming.now.manifest.vehicle) result (decide_incoming (K.rules scheme.now) s at incoming.now) }
+    ensures reads { Reads (state D.Store store.old) (state D.Store store.new) }
+{
+    match read_plan_rows(store, alloc, &incoming.manifest) {
+        Ok(plan) => {
+            let (images, campaigns) = (&plan.images, plan.campaigns.values());
+            let rows = DeliveryRows {
+                founding,
+                vehicle,
+                kept,
+                images,
+                campaigns,
+            };
+            decide_manifest(alloc, scheme, at, incoming, &rows)
+        }
+        Err(fault) => Err(refusal_of(fault)),
+    }
 }
 
 /// What the plan for a vehicle reads: the running campaigns that reach it, and the images that their items or the reports name.
