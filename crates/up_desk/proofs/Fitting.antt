@@ -4,7 +4,7 @@ use Rattle.std.specs.Prelude.{◌==◌, ◌&&◌, option_map, nat_le, is_none, s
 use Rattle.std.specs.List.{enumerate_from, AllByRecursion, list_all}
 use Rattle.std.specs.FinMap as table
 use Rattle.std.proofs.lemmas.List.{length-append}
-use Rattle.std.proofs.lemmas.Bool.Decides.{nat_tests}
+use Rattle.std.proofs.lemmas.Bool.{leb-true}
 use Rattle.up_canon.specs.Names.{Name, first_repeated, is_from_to}
 use Rattle.up_canon.specs.declared.refusal.Refusal.{Refusal}
 use Rattle.up_canon.proofs.Steps.{one_value}
@@ -73,7 +73,7 @@ opening_fits k s at campaign row written new it = record {
 
 counted : {A B : Type 0} (f : ℕ → A → B) (n : ℕ) (xs : List A) → length (map (λ (r : ℕ × A). f r.0 r.1) (enumerate_from n xs)) ≡ length xs
 counted f n [] = refl
-counted f n (x ∷ xs) = ap (λ m. m + 1) (counted f (n + 1) xs)
+counted f n (x ∷ xs) = ap suc (counted f (n + 1) xs)
 
 keys_at : (k : Rules) (s : State) (n : ℕ) (roots : List Root) (i : ℕ)
     → option_map (λ r. r.keys) (slice_get (map (λ (r : ℕ × Root). root_row k s r.0 r.1) (enumerate_from n roots)) i) ≡ option_map (λ (r : Root). r.keys) (slice_get roots i)
@@ -127,20 +127,18 @@ image_fits k s at image new sound added fresh it =
 has_keys : (k : Rules) (role : RoleSecrets) → role_fits k role ≡ true → HasKeys role
 has_keys k role h =
     let fit : keys_fit k role ≡ true = and_left (keys_fit k role) (threshold_fits role) h in
-    let counted : (is_from_to 1 4 (length role.keys) && (list_all (secret_fits k) role.keys && is_none (first_repeated (map (identifier k) role.keys)))) ≡ true = fit in
-    let number : is_from_to 1 4 (length role.keys) ≡ true = and_left (is_from_to 1 4 (length role.keys)) _ counted in
-    let least : nat_le 1 (length role.keys) ≡ true = and_left (nat_le 1 (length role.keys)) (nat_le (length role.keys) 4) number in
-    grind (arith, nat_tests)
+    let number : is_from_to 1 4 (length role.keys) ≡ true = and_left (is_from_to 1 4 (length role.keys)) (list_all (secret_fits k) role.keys) (and_left _ (is_none (first_repeated (map (identifier k) role.keys))) fit) in
+    leb-true _ _ (and_left (nat_le 1 (length role.keys)) (nat_le (length role.keys) 4) number)
 
 have_keys : (k : Rules) (keys : RepoKeys) → repository_fits k keys ≡ true → HaveKeys keys
 have_keys k keys h =
-    let a = and_right (role_fits k keys.root) _ h in
-    let b = and_right (role_fits k keys.targets) _ a in
+    let three = and_left _ (role_fits k keys.timestamp) h in
+    let two = and_left _ (role_fits k keys.snapshot) three in
     record {
-      root = has_keys k keys.root (and_left _ _ h);
-      targets = has_keys k keys.targets (and_left _ _ a);
-      snapshot = has_keys k keys.snapshot (and_left _ _ b);
-      timestamp = has_keys k keys.timestamp (and_right _ _ b);
+      root = has_keys k keys.root (and_left (role_fits k keys.root) (role_fits k keys.targets) two);
+      targets = has_keys k keys.targets (and_right (role_fits k keys.root) (role_fits k keys.targets) two);
+      snapshot = has_keys k keys.snapshot (and_right _ (role_fits k keys.snapshot) three);
+      timestamp = has_keys k keys.timestamp (and_right _ (role_fits k keys.timestamp) h);
     }
 
 each_has_keys : (k : Rules) (keys : KeySet) → key_set_fits k keys ≡ true → EachHasKeys keys
