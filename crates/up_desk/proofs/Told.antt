@@ -110,7 +110,7 @@ IsNamed e = e.1.vehicle.vehicle ≡ e.0
 owner_at : (test : VehicleRows → Bool) (es : List (Name × VehicleRows)) (v : VehicleRows) → is_sorted by_name es ≡ true → AllByRecursion IsNamed es
     → find test (map (λ e. e.1) es) ≡ Some v → entries.find by_name v.vehicle.vehicle es ≡ Some v
 owner_at test [] v sorted named h = cc
-owner_at test (e ∷ es) v sorted named h = by_test (test e.1) h
+owner_at test (e ∷ es) v sorted named h = by_test (test e.1) h (λ is. owner_at test es v (and_right _ _ sorted) named.1 is)
   where
     at_front : (w : VehicleRows) → w ≡ v → e.1 ≡ w → cond (eq_by_cmp by_name v.vehicle.vehicle e.0) (Some e.1) (entries.find by_name v.vehicle.vehicle es) ≡ Some v
     at_front w is same =
@@ -125,10 +125,10 @@ owner_at test (e ∷ es) v sorted named h = by_test (test e.1) h
         cc
     behind found false is = found
 
-    by_test : (b : Bool) → cond b (Some e.1) (find test (map (λ e. e.1) es)) ≡ Some v
+    by_test : (b : Bool) → cond b (Some e.1) (find test (map (λ e. e.1) es)) ≡ Some v → (find test (map (λ e. e.1) es) ≡ Some v → entries.find by_name v.vehicle.vehicle es ≡ Some v)
         → cond (eq_by_cmp by_name v.vehicle.vehicle e.0) (Some e.1) (entries.find by_name v.vehicle.vehicle es) ≡ Some v
-    by_test true is = let same : e.1 ≡ v = cc in at_front v refl same
-    by_test false is = behind (owner_at test es v (and_right _ _ sorted) named.1 is) _ refl
+    by_test true is more = let same : e.1 ≡ v = cc in at_front v refl same
+    by_test false is more = behind (more is) _ refl
 
 all_named : (es : List (Name × Vehicle)) → AllByRecursion IsNamed (map (changed rows_of) es)
 all_named [] = tt
@@ -166,18 +166,18 @@ none_installed k s ecu told h = not_installed ecu (owner_among ecu (table.values
 
 below_filtered : {X : Type 0} (p : Name × X → Bool) (name : Name) (es : List (Name × X)) → below_all by_name name es ≡ true → below_all by_name name (filter p es) ≡ true
 below_filtered p name [] h = refl
-below_filtered p name (e ∷ es) h = by_test (p e) (below_filtered p name es (and_right _ _ h))
+below_filtered p name (e ∷ es) h = by_test (p e) (below_filtered p name es (and_right (is_lt (by_name name e.0)) (below_all by_name name es) h))
   where
     by_test : (b : Bool) → below_all by_name name (filter p es) ≡ true → below_all by_name name (cond b (e ∷ filter p es) (filter p es)) ≡ true
-    by_test true more = rw (and_left _ _ h, more)
+    by_test true more = rw (and_left (is_lt (by_name name e.0)) (below_all by_name name es) h, more)
     by_test false more = more
 
 sorted_filtered : {X : Type 0} (p : Name × X → Bool) (es : List (Name × X)) → is_sorted by_name es ≡ true → is_sorted by_name (filter p es) ≡ true
 sorted_filtered p [] h = refl
-sorted_filtered p (e ∷ es) h = by_test (p e) (sorted_filtered p es (and_right _ _ h))
+sorted_filtered p (e ∷ es) h = by_test (p e) (sorted_filtered p es (and_right (below_all by_name e.0 es) (is_sorted by_name es) h))
   where
     by_test : (b : Bool) → is_sorted by_name (filter p es) ≡ true → is_sorted by_name (cond b (e ∷ filter p es) (filter p es)) ≡ true
-    by_test true more = rw (below_filtered p e.0 es (and_left _ _ h), more)
+    by_test true more = rw (below_filtered p e.0 es (and_left (below_all by_name e.0 es) (is_sorted by_name es) h), more)
     by_test false more = more
 
 filtered_again : {X : Type 0} (p : X → Bool) (es : List (Name × X)) → filter p (map (λ e. e.1) (filter (λ e. p e.1) es)) ≡ filter p (map (λ e. e.1) es)
