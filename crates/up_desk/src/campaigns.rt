@@ -1,5 +1,5 @@
 //! Campaigns.
-ghost use Rattle.std.specs.Prelude.{◌≡◌, ◌≤◌, IfOk, map};
+ghost use Rattle.std.specs.Prelude.{◌≡◌, ◌≤◌, IfOk, is_some, map, option_copied};
 ghost use Rattle.std.specs.FinMap as table;
 ghost use Rattle.sqlite.specs.Held.{state};
 ghost use Rattle.sqlite.specs.State.{HasCleanDisk};
@@ -7,6 +7,7 @@ ghost use Rattle.up_canon.specs.Moments.{last_command_moment};
 ghost use Rattle.up_sign.specs.Schemes.{Rules};
 ghost use Rattle.up_machine.specs.Inventory.{decide_open as decide_open_in, decide_close as decide_close_in, with_campaign};
 ghost use Rattle.up_machine.specs.Decisions.{named_in, GivesDecision, GivesClosed};
+ghost use Rattle.up_machine.specs.Rows.{founding_row};
 ghost use Rattle.up_machine.specs.Sound.{IsSound};
 ghost use Rattle.up_machine.specs.State.{State};
 ghost use Rattle.up_store.specs.Connections.{KeepsState};
@@ -48,7 +49,7 @@ pub fn open<D: Alter>(
     }
 }
 
-/// Decides on opening a campaign, over the rows that are read.
+/// Decides on opening a campaign, over rows that are read one after another.
 fn decide_opening<D: Alter>(
     store: &mut Store<D>,
     alloc: Global,
@@ -60,23 +61,70 @@ fn decide_opening<D: Alter>(
         → GivesOrLost (GivesDecision (λ row. row ≡ campaign.now) s (with_campaign s campaign.now)) result (decide_open_in s at campaign.now) }
     ensures reads { Reads (state D.Store store.old) (state D.Store store.new) }
 {
-    let founded = match is_founded(store, alloc) {
-        Ok(founded) => founded,
-        Err(fault) => return Err(refusal_of(fault)),
-    };
-    let old = match store.campaign(alloc, &campaign.name) {
-        Ok(old) => old,
-        Err(fault) => return Err(refusal_of(fault)),
-    };
-    let known = match known_vehicles(store, alloc, &campaign.reach) {
-        Ok(known) => known,
-        Err(fault) => return Err(refusal_of(fault)),
-    };
-    let images = match images_of(store, alloc, campaign.items.as_slice()) {
-        Ok(images) => images,
-        Err(fault) => return Err(refusal_of(fault)),
-    };
-    decide_open(alloc, at, campaign, founded, old.as_ref(), known.as_slice(), &images)
+    match is_founded(store, alloc) {
+        Ok(founded) => decide_founded(store, alloc, at, campaign, founded),
+        Err(fault) => Err(refusal_of(fault)),
+    }
+}
+
+/// The same, once it was read whether the repositories are founded.
+fn decide_founded<D: Alter>(
+    store: &mut Store<D>,
+    alloc: Global,
+    at: Moment,
+    campaign: &Campaign,
+    founded: bool,
+) -> Result<Decision<Campaign>, Refusal>
+    requires { at ≤ last_command_moment }
+    ensures decided { HasCleanDisk (state D.Store store.new) → (k : Rules) (s : State) → founded ≡ is_some (founding_row s) → IfClean (KeepsState k s) (state D.Store store.old)
+        → GivesOrLost (GivesDecision (λ row. row ≡ campaign.now) s (with_campaign s campaign.now)) result (decide_open_in s at campaign.now) }
+    ensures reads { Reads (state D.Store store.old) (state D.Store store.new) }
+{
+    match store.campaign(alloc, &campaign.name) {
+        Ok(old) => decide_named(store, alloc, at, campaign, founded, old.as_ref()),
+        Err(fault) => Err(refusal_of(fault)),
+    }
+}
+
+/// The same, once the campaign of that name was read.
+fn decide_named<D: Alter>(
+    store: &mut Store<D>,
+    alloc: Global,
+    at: Moment,
+    campaign: &Campaign,
+    founded: bool,
+    old: Option<&Campaign>,
+) -> Result<Decision<Campaign>, Refusal>
+    requires { at ≤ last_command_moment }
+    ensures decided { HasCleanDisk (state D.Store store.new) → (k : Rules) (s : State) → founded ≡ is_some (founding_row s) → option_copied old.entry ≡ table.get s.campaigns campaign.now.name → IfClean (KeepsState k s) (state D.Store store.old)
+        → GivesOrLost (GivesDecision (λ row. row ≡ campaign.now) s (with_campaign s campaign.now)) result (decide_open_in s at campaign.now) }
+    ensures reads { Reads (state D.Store store.old) (state D.Store store.new) }
+{
+    match known_vehicles(store, alloc, &campaign.reach) {
+        Ok(known) => decide_known(store, alloc, at, campaign, founded, old, known.as_slice()),
+        Err(fault) => Err(refusal_of(fault)),
+    }
+}
+
+/// The same, once the vehicles were looked up.
+fn decide_known<D: Alter>(
+    store: &mut Store<D>,
+    alloc: Global,
+    at: Moment,
+    campaign: &Campaign,
+    founded: bool,
+    old: Option<&Campaign>,
+    known: &[bool],
+) -> Result<Decision<Campaign>, Refusal>
+    requires { at ≤ last_command_moment }
+    ensures decided { HasCleanDisk (state D.Store store.new) → (k : Rules) (s : State) → founded ≡ is_some (founding_row s) → option_copied old.entry ≡ table.get s.campaigns campaign.now.name → known.now ≡ map (table.contains_key s.vehicles) (named_in campaign.now.reach) → IfClean (KeepsState k s) (state D.Store store.old)
+        → GivesOrLost (GivesDecision (λ row. row ≡ campaign.now) s (with_campaign s campaign.now)) result (decide_open_in s at campaign.now) }
+    ensures reads { Reads (state D.Store store.old) (state D.Store store.new) }
+{
+    match images_of(store, alloc, campaign.items.as_slice()) {
+        Ok(images) => decide_open(alloc, at, campaign, founded, old, known, &images),
+        Err(fault) => Err(refusal_of(fault)),
+    }
 }
 
 /// Marks for each vehicle that a campaign names whether it is in the inventory.
