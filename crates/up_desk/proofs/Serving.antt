@@ -4,7 +4,7 @@ use Rattle.std.specs.Prelude.{◌||◌, ⊤, nat_lt, if◌then◌else◌, codes,
 use Rattle.std.specs.List.{list_all}
 use Rattle.std.proofs.lemmas.Bool.Decides.{nat_tests}
 use Rattle.up_canon.specs.Moments.{last_command_moment}
-use Rattle.up_canon.specs.Steps.{and_then, refuse_if, value_of}
+use Rattle.up_canon.specs.Steps.{and_then, refuse_if, unless, value_of}
 use Rattle.up_canon.specs.Refusals.{is_memory}
 use Rattle.up_canon.specs.declared.refusal.Refusal.{Refusal}
 use Rattle.up_canon.specs.declared.refusal.Refusal.TheVariants.{MomentOutOfRange, TooLarge, BadShape}
@@ -99,6 +99,15 @@ of_command k s old new r at c d is h = subst (λ (e : Command). Serves k s old n
 pub of_delivery : (k : Rules) (s : State) (old new : Connected) (r : Result Answer Refusal) (at : ℕ) (c : Command) (body : List ℕ) → c ≡ Deliver body → at ≤ last_command_moment
     → Serves k s old new r (and_then (incoming_in body) (decide_incoming k s at)) → Serves k s old new r (served k s at c)
 of_delivery k s old new r at c body is moment h = of_command k s old new r at c (Deliver body) is (subst (λ (o : Result Outcome Refusal). Serves k s old new r o) (delivery_served k s at body moment) h)
+
+-- a vehicle with a public part that doesn't fit is refused
+pub unfit_vehicle : (k : Rules) (s : State) (at : ℕ) (new : NewVehicleData) → at ≤ last_command_moment → list_all (λ e. public_fits k e.public) new.ecus ≡ false
+    → decide_vehicle k s at new ≡ Err (BadShape (codes "key"))
+unfolding decide_vehicle
+unfit_vehicle k s at new h none = passed _ _ (in_time at h) ∙ stopped _ _ _ (ap (λ b. unless b (BadShape (codes "key"))) none)
+
+pub by_key : (r : Refusal) (computed : Result Outcome Refusal) → computed ≡ Err (BadShape (codes "key")) → r ≡ BadShape (codes "key") → MatchBool (is_lost_by r) ⊤ (computed ≡ Err r)
+by_key r computed is same = subst (λ q. MatchBool (is_lost_by q) ⊤ (computed ≡ Err q)) (sym same) is
 
 -- ---- repeats
 

@@ -155,3 +155,7 @@ file_or_lost s (Err r) computed h = by_loss (is_lost_by r) h
 pub if_ok_then : {A E : Type 0} (r : Result A E) (P Q : A → Type 0) → IfOk r P → ((x : A) → P x → Q x) → IfOk r Q
 if_ok_then (Ok x) P Q h f = f x h
 if_ok_then (Err e) P Q h f = tt
+
+pub on_ok_then : {A E : Type 0} (r : Result A E) (P Q : Type 0) → OnOk r P → (P → Q) → OnOk r Q
+on_ok_then (Ok x) P Q h f = f h
+on_ok_then (Err e) P Q h f = tt
