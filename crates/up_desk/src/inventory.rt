@@ -1,5 +1,5 @@
 //! Vehicles of the inventory.
-ghost use Rattle.std.specs.Prelude.{◌≡◌, ◌≤◌, OnOk, [], map, take, length, codes, false, Err};
+ghost use Rattle.std.specs.Prelude.{◌≡◌, ◌≤◌, IfOk, [], is_some, map, option_copied, codes, false, Err};
 ghost use Rattle.std.specs.List.{list_all};
 ghost use Rattle.sqlite.specs.Held.{state};
 ghost use Rattle.sqlite.specs.State.{HasCleanDisk};
@@ -8,7 +8,7 @@ ghost use Rattle.up_canon.specs.Moments.{last_command_moment};
 ghost use Rattle.up_sign.specs.Schemes.{Rules};
 ghost use Rattle.up_machine.specs.Keys.{public_fits};
 ghost use Rattle.up_machine.specs.Inventory.{decide_vehicle as decide_vehicle_in, with_vehicle};
-ghost use Rattle.up_machine.specs.Rows.{rows_of};
+ghost use Rattle.up_machine.specs.Rows.{founding_row, rows_of, vehicle_rows};
 ghost use Rattle.up_machine.specs.Decisions.{GivesDecision};
 ghost use Rattle.up_machine.specs.Sound.{IsSound};
 ghost use Rattle.up_machine.specs.State.{State, is_recorded as is_recorded_in};
@@ -74,7 +74,7 @@ fn add_fitting<K: Scheme, D: Alter>(
     }
 }
 
-/// Decides on a vehicle, over the rows that are read.
+/// Decides on a vehicle, over rows that are read one after another.
 fn decide<K: Scheme, D: Alter>(
     store: &mut Store<D>,
     alloc: Global,
@@ -82,57 +82,79 @@ fn decide<K: Scheme, D: Alter>(
     at: Moment,
     new: &NewVehicle,
 ) -> Result<Decision<VehicleRows>, Refusal>
-    requires moment { at ≤ last_command_moment }
+    requires { at ≤ last_command_moment }
     ensures decided { HasCleanDisk (state D.Store store.new) → (s : State) → IsSound (K.rules scheme.now) s → IfClean (KeepsState (K.rules scheme.now) s) (state D.Store store.old)
         → GivesOrLost (GivesDecision (λ rows. rows ≡ rows_of new.now.vehicle (record { primary = new.now.primary; ecus = new.now.ecus; entries = [] })) s (with_vehicle s new.now)) result
         (decide_vehicle_in (K.rules scheme.now) s at new.now) }
     ensures reads { Reads (state D.Store store.old) (state D.Store store.new) }
 {
-    let ecus = new.ecus.as_slice();
-    let mut recorded = [false; 32];
-    let founded = match is_founded(store, alloc) {
-        Ok(founded) => founded,
-        Err(fault) => return Err(refusal_of(fault)),
-    };
-    let old = match read_vehicle(store, alloc, &new.vehicle) {
-        Ok(old) => old,
-        Err(fault) => return Err(refusal_of(fault)),
-    };
-    match mark_recorded(store, alloc, &mut recorded, ecus) {
-        Ok(()) => {}
-        Err(fault) => return Err(refusal_of(fault)),
+    match is_founded(store, alloc) {
+        Ok(founded) => decide_founded(store, alloc, scheme, at, new, founded),
+        Err(fault) => Err(refusal_of(fault)),
     }
-    let marks = first_marks(&recorded, ecus.len());
-    decide_vehicle(alloc, scheme, at, new, founded, old.as_ref(), marks)
 }
 
-fn first_marks(marks: &[bool], count: usize) -> &[bool]
-    requires { count ≤ length marks.now }
-    ensures { result.now ≡ take count marks.now }
+/// The same, once it was read whether the repositories are founded.
+fn decide_founded<K: Scheme, D: Alter>(
+    store: &mut Store<D>,
+    alloc: Global,
+    scheme: &K,
+    at: Moment,
+    new: &NewVehicle,
+    founded: bool,
+) -> Result<Decision<VehicleRows>, Refusal>
+    requires { at ≤ last_command_moment }
+    ensures decided { HasCleanDisk (state D.Store store.new) → (s : State) → IsSound (K.rules scheme.now) s → founded ≡ is_some (founding_row s) → IfClean (KeepsState (K.rules scheme.now) s) (state D.Store store.old)
+        → GivesOrLost (GivesDecision (λ rows. rows ≡ rows_of new.now.vehicle (record { primary = new.now.primary; ecus = new.now.ecus; entries = [] })) s (with_vehicle s new.now)) result
+        (decide_vehicle_in (K.rules scheme.now) s at new.now) }
+    ensures reads { Reads (state D.Store store.old) (state D.Store store.new) }
 {
-    &marks[..count]
+    match read_vehicle(store, alloc, &new.vehicle) {
+        Ok(old) => decide_named(store, alloc, scheme, at, new, founded, old.as_ref()),
+        Err(fault) => Err(refusal_of(fault)),
+    }
+}
+
+/// The same, once the vehicle of that name was read.
+fn decide_named<K: Scheme, D: Alter>(
+    store: &mut Store<D>,
+    alloc: Global,
+    scheme: &K,
+    at: Moment,
+    new: &NewVehicle,
+    founded: bool,
+    old: Option<&VehicleRows>,
+) -> Result<Decision<VehicleRows>, Refusal>
+    requires { at ≤ last_command_moment }
+    ensures decided { HasCleanDisk (state D.Store store.new) → (s : State) → IsSound (K.rules scheme.now) s → founded ≡ is_some (founding_row s) → option_copied old.entry ≡ vehicle_rows s new.now.vehicle → IfClean (KeepsState (K.rules scheme.now) s) (state D.Store store.old)
+        → GivesOrLost (GivesDecision (λ rows. rows ≡ rows_of new.now.vehicle (record { primary = new.now.primary; ecus = new.now.ecus; entries = [] })) s (with_vehicle s new.now)) result
+        (decide_vehicle_in (K.rules scheme.now) s at new.now) }
+    ensures reads { Reads (state D.Store store.old) (state D.Store store.new) }
+{
+    match recorded_marks(store, alloc, new.ecus.as_slice()) {
+        Ok(marks) => decide_vehicle(alloc, scheme, at, new, founded, old, marks.as_slice()),
+        Err(fault) => Err(refusal_of(fault)),
+    }
 }
 
 /// Marks for each new ECU whether one of its name stands in a vehicle.
-fn mark_recorded<D: Alter>(
+fn recorded_marks<D: Alter>(
     store: &mut Store<D>,
     alloc: Global,
-    recorded: &mut [bool],
     ecus: &[NewEcu],
-) -> Result<(), StoreFault>
-    requires { length ecus.now ≤ length recorded.old }
-    ensures told { HasCleanDisk (state D.Store store.new) → OnOk result ((k : Rules) (s : State) → IfClean (KeepsState k s) (state D.Store store.old)
-        → take (length ecus.now) recorded.new ≡ map (λ e. is_recorded_in s e.ecu) ecus.now) }
+) -> Result<Vec<bool>, StoreFault>
+    ensures told { HasCleanDisk (state D.Store store.new) → IfOk result (λ marks. (k : Rules) (s : State) → IfClean (KeepsState k s) (state D.Store store.old)
+        → marks.items ≡ map (λ e. is_recorded_in s e.ecu) ecus.now) }
     ensures reads { Reads (state D.Store store.old) (state D.Store store.new) }
-    ensures count { length recorded.new ≡ length recorded.old }
 {
-    for place in 0..ecus.len() {
-        match is_recorded(store, alloc, &ecus[place].ecu) {
-            Ok(is_recorded) => recorded[place] = is_recorded,
+    let mut marks = Vec::with_capacity(alloc, ecus.len())?;
+    for ecu in ecus {
+        match is_recorded(store, alloc, &ecu.ecu) {
+            Ok(is_recorded) => marks.push(is_recorded)?,
             Err(fault) => return Err(fault),
         }
     }
-    Ok(())
+    Ok(marks)
 }
 
 /// Whether an ECU of the name stands in one of the vehicles.
