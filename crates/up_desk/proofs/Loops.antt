@@ -25,9 +25,9 @@ flat f [] x = ends (f x)
     ends (y ∷ ys) = ap (λ zs. y ∷ zs) (ends ys)
 flat f (y ∷ xs) x = ap (λ ys. f y ++ ys) (flat f xs x) ∙ sym (joined (f y) (flat_map f xs) (f x))
   where
-    joined : {B : Type 0} (as bs cs : List B) → (as ++ bs) ++ cs ≡ as ++ (bs ++ cs)
+    joined : {B : Type 0} (ys bs cs : List B) → (ys ++ bs) ++ cs ≡ ys ++ (bs ++ cs)
     joined [] bs cs = refl
-    joined (a ∷ as) bs cs = ap (λ ys. a ∷ ys) (joined as bs cs)
+    joined (a ∷ ys) bs cs = ap (λ zs. a ∷ zs) (joined ys bs cs)
 
 -- one more value is pushed
 pub pushed_more : {A B : Type 0} (f : A → B) (xs : List A) (i : ℕ) (x : A) (held more : List B) (b : B) → i < length xs → x ≡ get_or xs i x → more ≡ held ++ b ∷ [] → b ≡ f x → held ≡ map f (take i xs)
