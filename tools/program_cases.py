@@ -35,7 +35,8 @@ def words(program):
     yield "three words", answers(program, [*RUN, "more"], b"", 2, b"", USAGE)
     yield "a word that isn't UTF-8", answers(program, ["run", b"\xff"], b"", 2, b"", USAGE)
     yield "no UTF-8 behind other words", answers(program, ["walk", "on", b"\xff"], b"", 2, b"", USAGE)
-    yield "another database", answers(program, ["run", "desk.db"], b"nope\n", 3, b"", NO_DATABASE)
+    yield "no database", answers(program, ["run", "/dev/null"], b"nope\n", 3, b"", NO_DATABASE)
+    yield "a URI", answers(program, ["run", "file:desk.db"], b"nope\n", 3, b"", NO_DATABASE)
 
 
 def scripts(program):
