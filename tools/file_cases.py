@@ -3,8 +3,8 @@
 
     file_cases.py PROGRAM [KILLS]
 
-The file is its owner's alone; a second program is refused and the first goes on; the log is copied at the end. A
-hundred bits of a file at rest are flipped, one at a time: each is answered by status 3 or by unchanged answers.
+The file is its owner's alone; a second program is refused and the first goes on; the log is copied at the end.
+Three hundred bits of a file at rest are flipped, one at a time: each is answered by status 3 or by unchanged answers.
 The program is killed (SIGKILL) at KILLS moments (100) of a fleet's day, and the day is repeated over what is
 left: what was printed is kept.
 """
@@ -25,7 +25,7 @@ import trials
 DAY = list(fleet.script(vehicles=5, ecus=3, rounds=3, images=6, campaigns=2, seed=4))
 SHOWS = [fleet.line("show", vehicle="v%06d" % number) for number in range(5)]
 FILES = [line for line in DAY if '"do":"fetch"' in line]
-BITS = 100
+BITS = 300
 
 
 def mode(path):
