@@ -1,13 +1,12 @@
 //! What is given, carried out at a desk: a line of a script, or one of these words and what stands behind it.
 //!
-//! `times N LINE` is the line so many times, with the numbers from 0 on in place of `%`; `bytes HEX` and `body TEXT` are a body
-//! that is delivered; `cuts TEXT` is each beginning of a body; `post TEXT` is a body that is posted.
+//! `times N LINE` is the line so many times, with the numbers from 0 on in place of `%`; `body TEXT` and `bytes HEX` are a body
+//! that is delivered, and `cuts TEXT` each beginning of one.
 ghost use Rattle.std.specs.Prelude.{IsTrue};
 ghost use Rattle.up_machine.specs.Commands.{opens_running};
 ghost use Rattle.up_script.specs.AskedLines.{asks_running};
 
 use crate::bodies::{each_cut, of_hex, of_text};
-use crate::streams::posted;
 use crate::told::told;
 use sqlite::Alter;
 use std::alloc::{AllocError, Global};
@@ -29,7 +28,6 @@ pub(crate) fn carried<K: Scheme, D: Alter>(
         Some(("body", body)) => of_text(alloc, desk, body),
         Some(("bytes", hex)) => of_hex(alloc, desk, hex),
         Some(("cuts", body)) => each_cut(alloc, desk, body),
-        Some(("post", body)) => posted(alloc, desk, body),
         _ => line_answer(alloc, desk, given),
     }
 }

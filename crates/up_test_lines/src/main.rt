@@ -1,15 +1,14 @@
 //! Lines of scripts by rows: what a desk answers each, over tables in memory and over database files that are closed, opened and
 //! adopted before each of them.
 //!
-//! The answers that the rows want are an outside program's: `python3 expected.py` in this crate's folder computes them by
-//! `tools/reference.py`, which has the rules in plain Python over SQLite's own tables.
+//! The answers that the rows want are an outside program's: `tools/each_line.py wanted` computes them by `tools/reference.py`,
+//! which has the rules in plain Python over SQLite's own tables.
 #![tactic(auto)]
 
 mod bodies;
 mod desks;
 mod lines;
 mod reopening;
-mod streams;
 mod told;
 
 use crate::desks::section_told;
