@@ -237,7 +237,8 @@ def computed():
             right += 1
             made += "%s => %s\n" % (given, answer)
         said += "%s: %d\n" % (words, right)
-    return {ROWS: made, CRATE / "stdin": made, CRATE / "stdout": said}, differing
+    read = {CRATE / "stdin": made, CRATE / "stdout": said} if CRATE.exists() else {}
+    return {ROWS: made, **read}, differing
 
 
 def wanted(order="tell"):
