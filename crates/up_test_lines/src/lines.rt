@@ -8,9 +8,9 @@ ghost use Rattle.up_script.specs.AskedLines.{asks_running};
 
 use crate::bodies::{each_cut, of_hex, of_text};
 use crate::told::told;
+use crate::views::shown;
 use sqlite::Alter;
 use std::alloc::{AllocError, Global};
-use up_canon::ident::Ident;
 use up_desk::desk::Desk;
 use up_machine::command::Command;
 use up_script::asked::{Asked, What, asked_by};
@@ -53,7 +53,7 @@ fn asked_answer<K: Scheme, D: Alter>(
 {
     match &asked.what {
         What::Call(command) => called(alloc, desk, asked.at.get(), command),
-        What::Show(vehicle) => version_of(alloc, desk, vehicle),
+        What::Show(vehicle) => shown(alloc, desk, vehicle),
     }
 }
 
@@ -68,18 +68,6 @@ pub(crate) fn called<K: Scheme, D: Alter>(
 {
     let answer = desk.call(alloc, at, command);
     told(alloc, &answer)
-}
-
-fn version_of<K: Scheme, D: Alter>(
-    alloc: Global,
-    desk: &mut Desk<K, D>,
-    vehicle: &Ident,
-) -> Result<String, AllocError> {
-    match desk.version(alloc, vehicle) {
-        Ok(Some(version)) => format!(in alloc; "version {version}"),
-        Ok(None) => "unknown".to_string(alloc),
-        Err(_) => "fault".to_string(alloc),
-    }
 }
 
 /// How often the line is answered `done`, and the first other answer.

@@ -9,7 +9,9 @@ mod bodies;
 mod desks;
 mod lines;
 mod reopening;
+mod stopping;
 mod told;
+mod views;
 
 use crate::desks::section_told;
 use std::io;
