@@ -1,6 +1,6 @@
 -- Calls one after another, and what they come to.
 use Rattle.std.proofs.Common.{◌≡◌, ℕ, zero, suc, ◌+◌, ◌<◌, ◌≤◌, List, [], ◌∷◌, ◌++◌, Bool, true, false, Option, Some, None, length, get_or, take, map, append-nil, append_assoc, refl, sym, ap, ap₂, ◌∙◌, subst, arith}
-use Rattle.std.proofs.lemmas.List.{take_more, take_all, length-append}
+use Rattle.std.proofs.lemmas.List.{take_more, take_all}
 use Rattle.std.specs.Prelude.{Result, Ok, Err, is_ok, MatchBool, IsTrue, IfSome, if◌then◌else◌}
 use Rattle.std.specs.List.{AllByRecursion}
 use Rattle.std.specs.FinMap as table
@@ -39,12 +39,12 @@ ran_next k old [] (b ∷ answers) mid c a new ran is fits = absurd ran
 ran_next k old (d ∷ cs) [] mid c a new ran is fits = absurd ran
 ran_next k old (d ∷ cs) (b ∷ answers) mid c a new ran is fits = (ran.0, ran.1, ran.2, ran_next k ran.0 cs answers mid c a new ran.3 is fits)
 
-outright_next : (k : Rules) (cs : List (ℕ × Command)) (answers : List Answer) (c : ℕ × Command) (a : Answer) → length answers ≡ length cs → AreOutright k cs answers
+outright_next : (k : Rules) (cs : List (ℕ × Command)) (answers : List Answer) (c : ℕ × Command) (a : Answer) → AreOutright k cs answers
     → IfSome (outright k c.0 c.1) (λ r. a ≡ Refused r) → AreOutright k (cs ++ c ∷ []) (answers ++ a ∷ [])
-outright_next k [] [] c a size all due = (due, tt)
-outright_next k [] (b ∷ answers) c a size all due = cc
-outright_next k (d ∷ cs) [] c a size all due = cc
-outright_next k (d ∷ cs) (b ∷ answers) c a size all due = (all.0, outright_next k cs answers c a (omega arith) all.1 due)
+outright_next k [] [] c a all due = (due, tt)
+outright_next k [] (b ∷ answers) c a all due = absurd all
+outright_next k (d ∷ cs) [] c a all due = absurd all
+outright_next k (d ∷ cs) (b ∷ answers) c a all due = (all.0, outright_next k cs answers c a all.1 due)
 
 -- ---- over the store
 
@@ -64,7 +64,6 @@ runs_next k old mid new cs c answers a runs clean serves fits = λ now s sound w
 pub record SoFar (k : Rules) (old new : Connected) (cs : List (ℕ × Command)) (held answers : List Answer) : Type 0 where
   pub given : List Answer
   pub items : answers ≡ held ++ given
-  pub count : length given ≡ length cs
   pub due : AreOutright k cs given
   pub runs : RunsFrom k old new cs given
   pub clean : HasCleanDisk new → HasCleanDisk old
@@ -73,14 +72,10 @@ pub none_so_far : (k : Rules) (s : Connected) (cs : List (ℕ × Command)) (held
 none_so_far k s cs held = record {
   given = [];
   items = sym (append-nil held);
-  count = refl;
   due = tt;
   runs = λ now t sound was. (t, refl, sound, was now);
   clean = λ now. now;
 }
-
-longer : {A B : Type 0} (xs : List A) (ys : List B) (x : A) (y : B) → length xs ≡ length ys → length (xs ++ x ∷ []) ≡ length (ys ++ y ∷ [])
-longer xs ys x y same = length-append xs (x ∷ []) ∙ ap (λ n. n + 1) same ∙ sym (length-append ys (y ∷ []))
 
 so_far_next : (k : Rules) (old mid new : Connected) (cs : List (ℕ × Command)) (c : ℕ × Command) (held answers more : List Answer) (a : Answer)
     → SoFar k old mid cs held answers → more ≡ answers ++ a ∷ [] → (HasCleanDisk new → HasCleanDisk mid) → ServesCall k c.0 c.1 a mid new → IsTrue (is_command c.1)
@@ -88,8 +83,7 @@ so_far_next : (k : Rules) (old mid new : Connected) (cs : List (ℕ × Command))
 so_far_next k old mid new cs c held answers more a far pushed clean serves fits due = record {
   given = far.given ++ a ∷ [];
   items = pushed ∙ ap (λ (items : List Answer). items ++ a ∷ []) far.items ∙ append_assoc held far.given (a ∷ []);
-  count = longer far.given cs a c far.count;
-  due = outright_next k cs far.given c a far.count far.due due;
+  due = outright_next k cs far.given c a far.due due;
   runs = runs_next k old mid new cs c far.given a far.runs clean serves fits;
   clean = λ now. far.clean (clean now);
 }
@@ -169,15 +163,14 @@ swapped laws k old cs answers new whole before rest m n there =
           (sym (whole.told ∙ ap (λ (ms : List Sent). expected k old ms) there.list)) swap.1,
     )
 
-ran_all : (laws : ListLaws) (k : Rules) (old : State) (cs : List (ℕ × Command)) (answers : List Answer) (new : State) → IsSound k old → AreOutright k cs answers
-    → Ran k old cs answers new → IsRun k old cs answers new
-ran_all laws k old cs answers new sound due ran =
+ran_all : (laws : ListLaws) (k : Rules) (old : State) (cs : List (ℕ × Command)) (answers : List Answer) (new : State) → IsSound k old → Ran k old cs answers new
+    → IsRun k old cs answers new
+ran_all laws k old cs answers new sound ran =
     let whole = ran_served k old cs answers new ran in
     let state : new ≡ run k old (thinned k old (sent cs answers)) = whole.state ∙ laws.served k old (sent cs answers) in
     record {
       count = whole.count;
       told = whole.told;
-      never_lost = due;
       state = state;
       with_repeats = state ∙ laws.repeats k old (sent cs answers) whole.fits sound;
       stays = λ vehicle number reply kept.
@@ -198,5 +191,5 @@ run_whole laws k old new cs i held answers all far =
       whole.due,
       λ now s sound was.
           let it = whole.runs now s sound was in
-          (it.0, ran_all laws k s cs whole.given it.0 sound whole.due it.1, it.2, it.3),
+          (it.0, ran_all laws k s cs whole.given it.0 sound it.1, it.2, it.3),
     )

@@ -30,10 +30,11 @@ sent (c ∷ cs) (a ∷ answers) = record { item = timed c; lost = is_lost a } �
 abbrev pub unless_lost : Answer → Option Answer
 unless_lost a = if is_lost a then None else Some a
 
--- what is refused whether or not there is memory is answered so
+-- one answer for each command, and what is refused whether or not there is memory is answered so
 abbrev pub AreOutright : Rules → List (ℕ × Command) → List Answer → Type 0
-AreOutright k [] answers = ⊤
-AreOutright k (c ∷ cs) [] = ⊤
+AreOutright k [] [] = ⊤
+AreOutright k [] (a ∷ answers) = ⊥
+AreOutright k (c ∷ cs) [] = ⊥
 AreOutright k (c ∷ cs) (a ∷ answers) = IfSome (outright k c.0 c.1) (λ r. a ≡ Refused r) × AreOutright k cs answers
 
 -- the list has these two neighbours, which deliver manifests of different vehicles
@@ -52,7 +53,6 @@ pub record AreNeighbours (ms before rest : List Sent) (m n : Sent) : Type 0 wher
 pub record IsRun (k : Rules) (old : State) (cs : List (ℕ × Command)) (answers : List Answer) (new : State) : Type 0 where
   pub count : length answers ≡ length cs
   pub told : map unless_lost answers ≡ expected k old (sent cs answers)
-  pub never_lost : AreOutright k cs answers
   pub state : new ≡ run k old (thinned k old (sent cs answers))
   pub with_repeats : new ≡ run k old (not_lost (sent cs answers))
   pub stays : RepliesStay k old new
