@@ -20,7 +20,8 @@ use Rattle.up_machine.specs.Laws.{KeptRepliesOutlastRuns}
 use Rattle.up_machine.specs.Replies.{kept_reply}
 use Rattle.up_tables.specs.Stands.{IfClean}
 use Rattle.up_store.specs.Connections.{KeepsState}
-use Rattle.up_desk.specs.Serving.{is_lost, IsAnswered, ServesCall, outright}
+use Rattle.up_desk.specs.Serving.{is_lost, IsAnswered, outright}
+use Rattle.up_desk.specs.Calls.{ServesCall}
 use Rattle.up_desk.specs.Runs.{AreOutright, AreNeighbours, timed, sent, unless_lost, IsRun, RunsCalls}
 
 -- the calls one after another, of which some may be lost

@@ -1,3 +1,4 @@
 pub mod Gathered
 pub mod Serving
+pub mod Calls
 pub mod Runs

@@ -1,7 +1,6 @@
 use Rattle.std.proofs.Common.{ap, subst}
 use Rattle.sqlite.specs.Held.{state}
-use Rattle.up_desk.specs.Serving.{DeskView}
-use Rattle.up_desk.proofs.Serving.{IsCall, called}
+use Rattle.up_desk.proofs.Calls.{IsCall, called}
 use Rattle.up_desk.proofs.desk.Desk.call.Goals as goal
 
 pub returns : goal.returns
