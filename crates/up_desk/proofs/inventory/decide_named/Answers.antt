@@ -1,7 +1,7 @@
 use Rattle.std.proofs.Common.{◌≡◌, List, [], ◌∷◌, Bool, refl, ap, map, ◌∙◌}
 use Rattle.sqlite.specs.Held.{state}
 use Rattle.up_machine.specs.Decisions.{GivesDecision}
-use Rattle.up_machine.specs.Inventory.{with_vehicle}
+use Rattle.up_machine.specs.Inventory.{decide_vehicle, with_vehicle}
 use Rattle.up_machine.specs.Rows.{rows_of}
 use Rattle.up_machine.specs.State.{State, is_recorded}
 use Rattle.up_machine.specs.Vehicles.{NewVehicleData, ecu_names}
@@ -19,9 +19,9 @@ pub returns-in-Ok-clause-decided : goal.returns-in-Ok-clause-decided
 returns-in-Ok-clause-decided g c clean = λ s sound founded old was.
     let k = g.K.Scheme.rules c.args.scheme.now in
     let given = c.args.new.now in
-    gives_or_lost (GivesDecision (λ (rows : VehicleRows). rows ≡ rows_of given.vehicle (record { primary = given.primary; ecus = given.ecus; entries = [] })) s (with_vehicle s given)) c.decide_vehicle.result _ (λ r h. h)
+    gives_or_lost (GivesDecision (λ (rows : VehicleRows). rows ≡ rows_of given.vehicle (record { primary = given.primary; ecus = given.ecus; entries = [] })) s (with_vehicle s given)) c.decide_vehicle.result (decide_vehicle k s c.args.at given) (λ r h. h)
     (c.decide_vehicle.ensures.decided s sound founded old
-    (c.as_slice-2.ensures.value ∙ c.in-Ok.ensures.told clean k s was ∙ ap (map (λ (e : NewEcu). is_recorded s e.ecu)) (c.as_slice.ensures ∙ ap (λ (d : NewVehicleData). d.ecus) c.new.view_is)
+    (c.as_slice-in-Ok.ensures.value ∙ c.in-Ok.ensures.told clean k s was ∙ ap (map (λ (e : NewEcu). is_recorded s e.ecu)) (c.as_slice.ensures ∙ ap (λ (d : NewVehicleData). d.ecus) c.new.view_is)
     ∙ marks_of_names s given.ecus))
 
 pub returns-in-Err-clause-decided : goal.returns-in-Err-clause-decided
