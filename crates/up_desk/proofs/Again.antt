@@ -65,7 +65,7 @@ other_vehicle k s at body o name v other is there =
     let r = is.received in
     let reads : incoming_in body ≡ Ok r.incoming = (received k s at body r is.receives).reads in
     let apart : bytes_eq r.incoming.manifest.vehicle name ≡ false =
-        sym (ap (λ (i : Result Incoming Refusal). unwrap_or (option_map (λ vehicle. bytes_eq vehicle name) (option_map (λ (i : Incoming). i.manifest.vehicle) (value_of i))) false) reads) ∙ other in
+    sym (ap (λ (i : Result Incoming Refusal). unwrap_or (option_map (λ vehicle. bytes_eq vehicle name) (option_map (λ (i : Incoming). i.manifest.vehicle) (value_of i))) false) reads) ∙ other in
     subst (λ (o : Outcome). Has name v o.next) is.is
     (get_other s.vehicles r.incoming.manifest.vehicle name _ (λ same. let yes = (bytes_decides r.incoming.manifest.vehicle name).1 same in cc) ∙ there)
 
@@ -259,7 +259,7 @@ acts_kept k s at body incoming v e there receives new text =
     let size = length-append v.entries (e ∷ []) in
     let number : length (v.entries ++ e ∷ []) ≡ 1 + length v.entries = omega arith in
     let found : repeat_in r ≡ Some (record { vehicle = name; number = 1 + length v.entries; entry = e }) =
-        ap (option_map (λ (x : ℕ × Entry). record { vehicle = name; number = x.0; entry = x.1 })) (last_found incoming.envelope.signed 1 v.entries e new text) in
+    ap (option_map (λ (x : ℕ × Entry). record { vehicle = name; number = x.0; entry = x.1 })) (last_found incoming.envelope.signed 1 v.entries e new text) in
     subst (ActsOnce k incoming) (sym (served_kept k s at body r _ receives found)) (record {
       vehicle = more v e;
       entry = e;
@@ -329,11 +329,11 @@ both_act stale counters grow thin stays k s at body incoming o sound reads decid
     elim shown [
       | inl was ↦ record { found = s; sound = sound; shown = was; acts = both.0 }
       | inr is ↦ record {
-          found = (serve k s at (Deliver body)).next;
-          sound = stays k s at (Deliver body) refl sound;
-          shown = is;
-          acts = subst (λ (t : State). ActsOnceFrom k t body incoming) (sym next) both.1;
-        }
+        found = (serve k s at (Deliver body)).next;
+        sound = stays k s at (Deliver body) refl sound;
+        shown = is;
+        acts = subst (λ (t : State). ActsOnceFrom k t body incoming) (sym next) both.1;
+      }
     ]
 
 pub crashes_act_once : {S : Type 0} (g : Ghosts S) → RepeatsAreStale → CountersFindRepeats → RunsGrow → ServedIsThinned → ServedStaysSound → CrashesActOnce g
