@@ -1,6 +1,6 @@
 -- A delivery that comes again acts once.
-use Rattle.std.proofs.Common.{◌≡◌, ◌⊎◌, inl, inr, ℕ, ◌+◌, ◌<◌, ◌≤◌, List, [], ◌∷◌, ◌++◌, Bool, true, false, cond, not, Option, Some, None, Result, Ok, Err, length, refl, sym, ap, ◌∙◌, subst, arith, IsTrue}
-use Rattle.std.specs.Prelude.{◌==◌, ◌||◌, ⊤, option_map, option_and_then, unwrap_or, is_none, find, filter, bytes_eq}
+use Rattle.std.proofs.Common.{◌≡◌, ◌⊎◌, inl, inr, ℕ, ◌+◌, ◌<◌, ◌≤◌, List, [], ◌∷◌, ◌++◌, Bool, true, false, not, Option, Some, None, Result, Ok, length, refl, sym, ap, ◌∙◌, subst, arith, IsTrue}
+use Rattle.std.specs.Prelude.{◌==◌, ◌||◌, option_map, option_and_then, unwrap_or, find, filter, bytes_eq}
 use Rattle.std.specs.List.{AllByRecursion, enumerate_from}
 use Rattle.std.specs.Cmp.Lexicographic.{bytes_decides}
 use Rattle.std.specs.FinMap as table
@@ -15,7 +15,7 @@ use Rattle.sqlite.specs.Tree.{Trees}
 use Rattle.sqlite_trees.specs.declared.store.Store.{Ghosts}
 use Rattle.up_canon.specs.Moments.{last_command_moment}
 use Rattle.up_canon.specs.Names.{Name}
-use Rattle.up_canon.specs.Steps.{and_then, ◌>>=◌, unless, refuse_if, or_error, value_of}
+use Rattle.up_canon.specs.Steps.{unless, refuse_if, or_error, value_of}
 use Rattle.up_canon.specs.declared.refusal.Refusal.{Refusal}
 use Rattle.up_canon.specs.declared.refusal.Refusal.TheVariants.{UnknownVehicle, WrongPrimary, BadManifestSignature, NotFounded}
 use Rattle.up_canon.proofs.Steps.{bind-ok, first_ok, same_ok}
@@ -24,13 +24,11 @@ use Rattle.up_manifest.specs.declared.manifest.Incoming.{Incoming}
 use Rattle.up_manifest.specs.Manifests.{incoming_in}
 use Rattle.up_machine.specs.declared.command.Command.{Command}
 use Rattle.up_machine.specs.declared.command.Command.TheVariants.{Found, Rotate, AddImage, Refresh, AddVehicle, OpenCampaign, CloseCampaign, Deliver, Fetch}
-use Rattle.up_machine.specs.declared.answer.Answer.{Answer}
 use Rattle.up_machine.specs.declared.answer.Answer.TheVariants.{Reply as Replied, Refused}
-use Rattle.up_machine.specs.declared.answer.Reply.{Reply}
-use Rattle.up_machine.specs.State.{Entry, Vehicle, State, nth, version, last_counter}
-use Rattle.up_machine.specs.Deciding.{Outcome, check_moment, check_founded, done, already}
+use Rattle.up_machine.specs.State.{Entry, Vehicle, State, nth, version}
+use Rattle.up_machine.specs.Deciding.{Outcome, check_moment, already}
 use Rattle.up_machine.specs.Deliveries.{Received, receive_manifest, receive, is_signed_by, check_new, entry_of, with_entry, accepted, decide_received, decide_delivery}
-use Rattle.up_machine.specs.Laws.{IsLater, RunsGrow}
+use Rattle.up_machine.specs.Laws.{RunsGrow}
 use Rattle.up_machine.specs.Machine.{decide, outcome_of, step}
 use Rattle.up_machine.specs.Replies.{reply_text, reply_to}
 use Rattle.up_machine.specs.RepeatLaws.{RepeatsAreStale, CountersFindRepeats, ServedIsThinned, ServedStaysSound}

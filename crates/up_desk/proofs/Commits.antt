@@ -1,5 +1,5 @@
 -- The reply to a newly accepted manifest is a commit.
-use Rattle.std.proofs.Common.{◌≡◌, inl, inr, ℕ, ◌+◌, List, [], ◌∷◌, ◌++◌, Some, None, Result, Ok, Err, length, refl, sym, ap, ◌∙◌, subst, arith}
+use Rattle.std.proofs.Common.{◌≡◌, inl, inr, ℕ, ◌+◌, List, [], ◌∷◌, ◌++◌, Some, Result, Ok, Err, length, refl, sym, ap, ◌∙◌, arith}
 use Rattle.std.specs.FinMap as table
 use Rattle.std.proofs.lemmas.List.{length-append}
 use Rattle.up_canon.specs.declared.refusal.Refusal.{Refusal}
@@ -7,14 +7,13 @@ use Rattle.up_canon.proofs.Steps.{one_value}
 use Rattle.up_sign.specs.Schemes.{Rules}
 use Rattle.up_machine.specs.declared.command.Command.{Command}
 use Rattle.up_machine.specs.declared.command.Command.TheVariants.{Found, Rotate, AddImage, Refresh, AddVehicle, OpenCampaign, CloseCampaign, Deliver, Fetch}
-use Rattle.up_machine.specs.declared.answer.Answer.{Answer}
-use Rattle.up_machine.specs.declared.answer.Answer.TheVariants.{Done, Already, Reply as Replied, File, Refused}
+use Rattle.up_machine.specs.declared.answer.Answer.TheVariants.{Reply as Replied}
 use Rattle.up_machine.specs.declared.answer.Reply.{Reply}
 use Rattle.up_machine.specs.State.{Entry, Vehicle, State}
-use Rattle.up_machine.specs.Deciding.{Outcome, done, already}
+use Rattle.up_machine.specs.Deciding.{Outcome}
 use Rattle.up_machine.specs.Deliveries.{entry_of, with_entry}
 use Rattle.up_machine.specs.Machine.{decide, outcome_of, step}
-use Rattle.up_machine.specs.Repeats.{repeat_of, served_as, serve}
+use Rattle.up_machine.specs.Repeats.{served_as, serve}
 use Rattle.up_machine.proofs.Decided.{found_ok, rotate_ok, image_ok, refresh_ok, vehicle_ok, open_ok, close_ok, delivery_ok, fetch_ok}
 use Rattle.up_machine.proofs.Receiving.{received}
 use Rattle.up_machine.proofs.Tables.{get_same}

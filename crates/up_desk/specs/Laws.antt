@@ -1,5 +1,5 @@
 -- Deliveries that come again, and replies that are commits.
-use Rattle.std.specs.Prelude.{◌≡◌, ◌⊎◌, ◌≤◌, ◌||◌, ℕ, List, [], ◌∷◌, not, Some, None, IsTrue, Ok, filter, bytes_eq}
+use Rattle.std.specs.Prelude.{◌≡◌, ◌≤◌, ◌||◌, ℕ, List, [], ◌∷◌, not, Some, None, IsTrue, Ok, filter, bytes_eq}
 use Rattle.std.specs.List.{AllByRecursion}
 use Rattle.std.specs.FinMap as table
 use Rattle.sqlite_disk.specs.declared.Disk.{Ghosts as DiskGhosts}
