@@ -7,3 +7,5 @@ pub mod Loops
 pub mod Serving
 pub mod Outlasting
 pub mod Runs
+pub mod Commits
+pub mod Again

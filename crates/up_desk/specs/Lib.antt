@@ -1,3 +1,4 @@
 pub mod Gathered
 pub mod Serving
 pub mod Runs
+pub mod Laws
