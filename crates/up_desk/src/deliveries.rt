@@ -214,7 +214,12 @@ fn read_plan_rows<D: Alter>(
         Ok(campaigns) => campaigns,
         Err(fault) => return Err(fault),
     };
-    match images_for(store, alloc, campaigns.values(), manifest.reports.as_slice()) {
+    match images_for(
+        store,
+        alloc,
+        campaigns.values(),
+        manifest.reports.as_slice(),
+    ) {
         Ok(images) => Ok(PlanRows { campaigns, images }),
         Err(fault) => Err(fault),
     }
