@@ -1,11 +1,7 @@
-use Rattle.std.proofs.Common.{◌≡◌, sym, ap, subst, ◌∙◌}
-use Rattle.std.specs.Prelude.{IfSome, IsTrue}
-use Rattle.sqlite.specs.Held.{state}
+use Rattle.std.proofs.Common.{sym, ap, subst, ◌∙◌}
 use Rattle.up_plan.specs.Planning.{items_for}
 use Rattle.up_machine.specs.Decisions.{AreImagesOf, files_named, GivesDelivered}
-use Rattle.up_machine.specs.RowsFit.{founding_fits, rows_fit}
-use Rattle.up_rows.specs.StateRows.{rows_of_state}
-use Rattle.up_desk.proofs.Steps.{clean_before, gives_or_lost, keeps_after, lost_told, reads_then, store_reads}
+use Rattle.up_desk.proofs.Steps.{gives_or_lost, lost_told}
 use Rattle.up_desk.proofs.deliveries.decide_kept.Goals as goal
 
 pub returns-in-Ok-clause-decided : goal.returns-in-Ok-clause-decided

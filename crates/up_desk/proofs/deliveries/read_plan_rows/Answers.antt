@@ -1,5 +1,5 @@
 use Rattle.sqlite.specs.Held.{state}
-use Rattle.std.proofs.Common.{sym, ap, subst, ◌∙◌}
+use Rattle.std.proofs.Common.{ap, ◌∙◌}
 use Rattle.std.specs.FinMap as table
 use Rattle.up_plan.specs.Planning.{items_for}
 use Rattle.up_rows.specs.StateRows.{rows_of_state}
