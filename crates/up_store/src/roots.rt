@@ -17,7 +17,7 @@ ghost use Rattle.up_store.specs.Connections.{Answers, FindsRows, NeedsOpen, Puts
 use crate::files::{make_role_files, make_root_files};
 use crate::keys::{make_keys, read_keys, repository_word};
 use crate::reading::moment_in;
-use crate::store::{MOST_NUMBER, Store, StoreFault};
+use crate::store::{MOST_NUMBER, Store, StoreFault, commit};
 use sqlite::{Alter, Transaction};
 use std::alloc::Global;
 use up_canon::file_name::FileName;
@@ -28,7 +28,6 @@ use up_roles::repository::Repository;
 use up_tables::meta::{MetaRow, meta, update_meta};
 use up_tables::repo_file::{file as file_shown, upsert_files};
 use up_tables::role_key::{RoleKeyRow, insert_role_keys, role_keys_of};
-use up_tables::values::fault_of;
 
 impl<D: Alter> Store<D> {
     /// The founding: the last root version with its keys, the image repository's version and its moment; none before founding.
@@ -69,12 +68,9 @@ impl<D: Alter> Store<D> {
         ensures open { NeedsOpen (state D.Store self.old) (state D.Store self.new) result }
     {
         let mut tx = self.conn.transaction();
-        if let Err(fault) = put_root(&mut tx, alloc, new) {
-            return Err(fault);
-        }
-        match tx.commit() {
-            Ok(()) => Ok(()),
-            Err(error) => Err(fault_of(error)),
+        match put_root(&mut tx, alloc, new) {
+            Ok(()) => commit(tx),
+            Err(fault) => Err(fault),
         }
     }
 
@@ -88,12 +84,9 @@ impl<D: Alter> Store<D> {
         ensures open { NeedsOpen (state D.Store self.old) (state D.Store self.new) result }
     {
         let mut tx = self.conn.transaction();
-        if let Err(fault) = put_root(&mut tx, alloc, new) {
-            return Err(fault);
-        }
-        match tx.commit() {
-            Ok(()) => Ok(()),
-            Err(error) => Err(fault_of(error)),
+        match put_root(&mut tx, alloc, new) {
+            Ok(()) => commit(tx),
+            Err(fault) => Err(fault),
         }
     }
 
@@ -107,12 +100,9 @@ impl<D: Alter> Store<D> {
         ensures open { NeedsOpen (state D.Store self.old) (state D.Store self.new) result }
     {
         let mut tx = self.conn.transaction();
-        if let Err(fault) = put_register(&mut tx, alloc, new) {
-            return Err(fault);
-        }
-        match tx.commit() {
-            Ok(()) => Ok(()),
-            Err(error) => Err(fault_of(error)),
+        match put_register(&mut tx, alloc, new) {
+            Ok(()) => commit(tx),
+            Err(fault) => Err(fault),
         }
     }
 }
