@@ -70,3 +70,13 @@ new_lists trees new =
         kept = none.kept;
       };
     }
+
+-- tables that list rows of this product are its own
+pub lists_us : (rows : StateRows) (s : Connected) → KeepsRows rows s → ListsUs s
+lists_us rows s keeps = record {
+  tables = λ is_open. let here = keeps.here is_open in record { schema_is = here.schema_is; sound = here.sound; rows = tt };
+  root = (table_rows rows).root;
+  image_version = (table_rows rows).image_version;
+  stamp = (table_rows rows).stamp;
+  meta = λ is_open. (keeps.here is_open).rows.tables.meta;
+}

@@ -67,15 +67,23 @@ impl<D: Alter> Store<D> {
         ensures clean { HasCleanDisk (state D.Store self.new) → HasCleanDisk (state D.Store self.old) }
         ensures open { NeedsOpen (state D.Store self.old) (state D.Store self.new) result }
     {
-        let mut tx = self.conn.transaction();
-        match put_root(&mut tx, alloc, new) {
-            Ok(()) => commit(tx),
-            Err(fault) => Err(fault),
-        }
+        self.write_root(alloc, new)
     }
 
     /// Writes the next root version, with new files of the image repository.
     pub fn write_rotate(&mut self, alloc: Global, new: &RootRows) -> Result<(), StoreFault>
+        ensures written { TakesRows (IsNextRoot new.now) (λ rows. with_root_rows rows new.now) (state D.Store self.old) (state D.Store self.new) result }
+        ensures durable { CommitsRows (IsNextRoot new.now) (λ rows. with_root_rows rows new.now) (state D.Store self.old) (state D.Store self.new) result }
+        ensures kept { OnErr result (IfClean (IsAsCommitted (state D.Store self.old)) (state D.Store self.new)) }
+        ensures crash { SparesRows (IsNextRoot new.now) (λ rows. with_root_rows rows new.now) (state D.Store self.old) (state D.Store self.new) }
+        ensures clean { HasCleanDisk (state D.Store self.new) → HasCleanDisk (state D.Store self.old) }
+        ensures open { NeedsOpen (state D.Store self.old) (state D.Store self.new) result }
+    {
+        self.write_root(alloc, new)
+    }
+
+    /// Writes a root version, the first or the next.
+    fn write_root(&mut self, alloc: Global, new: &RootRows) -> Result<(), StoreFault>
         ensures written { TakesRows (IsNextRoot new.now) (λ rows. with_root_rows rows new.now) (state D.Store self.old) (state D.Store self.new) result }
         ensures durable { CommitsRows (IsNextRoot new.now) (λ rows. with_root_rows rows new.now) (state D.Store self.old) (state D.Store self.new) result }
         ensures kept { OnErr result (IfClean (IsAsCommitted (state D.Store self.old)) (state D.Store self.new)) }

@@ -52,7 +52,7 @@ impl<D: Alter> Store<D> {
         requires { (state D.Store conn).in_transaction ≡ false }
         ensures made { IfOk result (λ s. IfClean (KeepsRows no_rows) (state D.Store s)) }
         ensures durable { IfOk result (λ s. IfClean (LeavesOnly (HoldsRows no_rows)) (state D.Store s)) }
-        ensures empty { IfOk result (λ s. HasNoTables (state D.Store conn)) }
+        ensures empty { IfOk result (λ s. HasCleanDisk (state D.Store s) → HasNoTables (state D.Store conn)) }
         ensures crash { IfOk result (λ s. Survives (state D.Store conn) (state D.Store s) (MadeIn (state D.Store conn))) }
         ensures open { IfOk result (λ s. HasCleanDisk (state D.Store s) → IsTrue (state D.Store conn).is_open) }
         ensures kept { IfErr result (λ e. IfClean (IsAsCommitted (state D.Store conn)) (state D.Store e.0)) }

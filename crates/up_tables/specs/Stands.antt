@@ -120,9 +120,10 @@ pub record Stands (schema : Schema) (P : Trees → Type 0) (s : State) : Type 0 
   pub here : IsTrue s.is_open → IsWith schema P s.now
   pub committed : IsTrue s.is_open → s.now ≡ s.committed
 
--- the database has no table, index or view
-abbrev pub HasNoTables : State → Type 0
-HasNoTables s = s.now.schema ≡ no_schema
+-- the connection is open, and what was committed has no table, index or view
+pub record HasNoTables (s : State) : Type 0 where
+  pub is_open : IsTrue s.is_open
+  pub schema_is : s.committed.schema ≡ no_schema
 
 -- it shows what was committed before
 pub record IsAsCommitted (old new : State) : Type 0 where

@@ -28,7 +28,7 @@ pub enum OpenFault {
 
 /// Whether the database has no table, index or view.
 fn has_no_table<S: Alter>(conn: &Connection<S>) -> bool
-    ensures empty { IsTrue result → HasNoTables (state S.Store conn.now) }
+    ensures empty { IsTrue result → (state S.Store conn.now).now.schema ≡ no_schema }
     ensures live { IsLive (state S.Store conn.now) }
     ensures settled { (state S.Store conn.now).in_transaction ≡ false → IsTrue (state S.Store conn.now).is_open → (state S.Store conn.now).now ≡ (state S.Store conn.now).committed }
 {
@@ -43,7 +43,7 @@ pub fn create_tables<S: Alter>(conn: &mut Connection<S>) -> Result<(), OpenFault
     requires { (state S.Store conn.old).in_transaction ≡ false }
     ensures made { OnOk result (IfClean (Stands up_schema AreNew) (state S.Store conn.new)) }
     ensures durable { OnOk result (IfClean (LeavesOnly (Holds up_schema AreNew)) (state S.Store conn.new)) }
-    ensures empty { OnOk result (HasNoTables (state S.Store conn.old)) }
+    ensures empty { HasCleanDisk (state S.Store conn.new) → OnOk result (HasNoTables (state S.Store conn.old)) }
     ensures fault { IfErr result (λ e. e ≢ OpenFault.NotOurs) }
     ensures kept { OnErr result (IfClean (IsAsCommitted (state S.Store conn.old)) (state S.Store conn.new)) }
     ensures autocommit { (state S.Store conn.new).in_transaction ≡ false }
