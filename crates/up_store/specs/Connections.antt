@@ -1,6 +1,6 @@
 -- What a call of the store answers, leaves, and may leave after a crash. All of it is said of connections whose disk has returned what
 -- was written so far; one that a fault shut shows nothing, and answers a fault from then on.
-use Rattle.std.specs.Prelude.{◌≡◌, Result, IfOk, OnOk, IsTrue}
+use Rattle.std.specs.Prelude.{◌≡◌, false, Result, IfOk, OnOk, IsTrue}
 use Rattle.sqlite.specs.State.{State as Connected, HasCleanDisk, Survives, Shows}
 use Rattle.sqlite.specs.Tree.{Trees}
 use Rattle.up_sign.specs.Schemes.{Rules}

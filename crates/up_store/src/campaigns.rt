@@ -62,10 +62,10 @@ impl<D: Alter> Store<D> {
         ensures open { NeedsOpen (state D.Store self.old) (state D.Store self.new) result }
     {
         let mut tx = self.conn.transaction();
-        match put_campaign(&mut tx, alloc, new) {
-            Ok(()) => commit(tx),
-            Err(fault) => Err(fault),
+        if let Err(fault) = put_campaign(&mut tx, alloc, new) {
+            return Err(fault);
         }
+        commit(tx)
     }
 
     /// Closes a campaign that is there: `closed` is the same, not running.
@@ -79,10 +79,10 @@ impl<D: Alter> Store<D> {
     {
         let _ = alloc;
         let mut tx = self.conn.transaction();
-        match put_closed(&mut tx, closed) {
-            Ok(()) => commit(tx),
-            Err(fault) => Err(fault),
+        if let Err(fault) = put_closed(&mut tx, closed) {
+            return Err(fault);
         }
+        commit(tx)
     }
 }
 

@@ -61,10 +61,10 @@ impl<D: Alter> Store<D> {
         ensures open { NeedsOpen (state D.Store self.old) (state D.Store self.new) result }
     {
         let mut tx = self.conn.transaction();
-        match put_image(&mut tx, alloc, image, new) {
-            Ok(()) => commit(tx),
-            Err(fault) => Err(fault),
+        if let Err(fault) = put_image(&mut tx, alloc, image, new) {
+            return Err(fault);
         }
+        commit(tx)
     }
 }
 

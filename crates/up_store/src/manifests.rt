@@ -65,10 +65,10 @@ impl<D: Alter> Store<D> {
         ensures open { NeedsOpen (state D.Store self.old) (state D.Store self.new) result }
     {
         let mut tx = self.conn.transaction();
-        match put_accepted(&mut tx, alloc, new) {
-            Ok(()) => commit(tx),
-            Err(fault) => Err(fault),
+        if let Err(fault) = put_accepted(&mut tx, alloc, new) {
+            return Err(fault);
         }
+        commit(tx)
     }
 }
 

@@ -92,10 +92,10 @@ impl<D: Alter> Store<D> {
         ensures open { NeedsOpen (state D.Store self.old) (state D.Store self.new) result }
     {
         let mut tx = self.conn.transaction();
-        match put_root(&mut tx, alloc, new) {
-            Ok(()) => commit(tx),
-            Err(fault) => Err(fault),
+        if let Err(fault) = put_root(&mut tx, alloc, new) {
+            return Err(fault);
         }
+        commit(tx)
     }
 
     /// Writes new files of the image repository.
@@ -108,10 +108,10 @@ impl<D: Alter> Store<D> {
         ensures open { NeedsOpen (state D.Store self.old) (state D.Store self.new) result }
     {
         let mut tx = self.conn.transaction();
-        match put_register(&mut tx, alloc, new) {
-            Ok(()) => commit(tx),
-            Err(fault) => Err(fault),
+        if let Err(fault) = put_register(&mut tx, alloc, new) {
+            return Err(fault);
         }
+        commit(tx)
     }
 }
 

@@ -100,7 +100,7 @@ impl<D: Alter> Store<D> {
 
 /// Commits what a transaction wrote. A fault rolls it back.
 pub(crate) fn commit<D: Alter>(tx: Transaction<'_, D>) -> Result<(), StoreFault>
-    requires mode { IfClean IsInside (state D.Store tx.entry.conn.now) }
+    requires mode { IfClean IsInside (state D.Store tx.conn.now) }
     ensures ended { tx.exit.0.now.in_transaction ≡ false }
     ensures committed { OnOk result (IfClean (Commits (state D.Store tx.entry.conn.now)) (state D.Store tx.exit.0.now)) }
     ensures undone { OnErr result (IfClean (IsRolledBack (state D.Store tx.entry.conn.now)) (state D.Store tx.exit.0.now)) }
