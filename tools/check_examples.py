@@ -12,7 +12,6 @@ sys.dont_write_bytecode = True
 
 import collect_rows
 import expected_files
-import http_cases
 import pages
 import program_cases
 import row_texts
@@ -108,7 +107,6 @@ def tried(program, rows):
     yield from texts(rows)
     yield from wanted()
     yield from program_cases.cases(program)
-    yield from http_cases.cases(program)
     yield from limits(program)
     yield from primaries(program, rows)
     yield from pages.cases()
