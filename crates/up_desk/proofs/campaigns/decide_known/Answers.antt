@@ -1,5 +1,4 @@
 use Rattle.std.proofs.Common.{◌≡◌, List, ap, ◌∙◌}
-use Rattle.sqlite.specs.Held.{state}
 use Rattle.up_machine.specs.Decisions.{GivesDecision}
 use Rattle.up_machine.specs.Inventory.{with_campaign}
 use Rattle.up_plan.specs.Campaigns.{CampaignData}

@@ -1,5 +1,4 @@
 use Rattle.std.proofs.Common.{◌≡◌, List, [], ◌∷◌, Bool, refl, ap, map, ◌∙◌}
-use Rattle.sqlite.specs.Held.{state}
 use Rattle.up_machine.specs.Decisions.{GivesDecision}
 use Rattle.up_machine.specs.Inventory.{decide_vehicle, with_vehicle}
 use Rattle.up_machine.specs.Rows.{rows_of}
