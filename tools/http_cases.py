@@ -61,9 +61,9 @@ def free_port():
 
 @contextlib.contextmanager
 def served(program, path, count):
-    """The program while it serves so many connections, and its port."""
+    """The program, or the words that run it, while it serves so many connections, and its port."""
     port = free_port()
-    words = [str(program), "serve", str(path), str(port), str(count)]
+    words = [*(program if isinstance(program, list) else [str(program)]), "serve", str(path), str(port), str(count)]
     running = subprocess.Popen(words, stdout=subprocess.PIPE, stderr=subprocess.PIPE)
     try:
         ready = select.select([running.stdout], [], [], PATIENCE)[0]
