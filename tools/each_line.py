@@ -239,7 +239,7 @@ def computed():
             right += 1
             made += "%s => %s\n" % (given, answer)
         said += "%s: %d\n" % (words, right)
-    read = {CRATE / "stdin": made, CRATE / "stdout": said} if CRATE.exists() else {}
+    read = {CRATE / "stdin": made, CRATE / "stdout": said} if (CRATE / "stdin").exists() else {}
     return {ROWS: made, **read}, differing
 
 
