@@ -26,7 +26,7 @@ use Rattle.up_machine.specs.declared.command.Command.{Command}
 use Rattle.up_machine.specs.declared.command.Command.TheVariants.{Found, Rotate, AddImage, Refresh, AddVehicle, OpenCampaign, CloseCampaign, Deliver, Fetch}
 use Rattle.up_machine.specs.declared.answer.Answer.TheVariants.{Reply as Replied, Refused}
 use Rattle.up_machine.specs.State.{Entry, Vehicle, State, nth, version}
-use Rattle.up_machine.specs.Deciding.{Outcome, check_moment, already}
+use Rattle.up_machine.specs.Deciding.{Outcome, already}
 use Rattle.up_machine.specs.Deliveries.{Received, receive_manifest, receive, is_signed_by, check_new, entry_of, with_entry, accepted, decide_received, decide_delivery}
 use Rattle.up_machine.specs.Laws.{RunsGrow}
 use Rattle.up_machine.specs.Machine.{decide, outcome_of, step}
