@@ -69,10 +69,10 @@ pub record SoFar (k : Rules) (old new : Connected) (cs : List (ℕ × Command)) 
   pub runs : RunsFrom k old new cs given
   pub clean : HasCleanDisk new → HasCleanDisk old
 
-pub none_so_far : (k : Rules) (s : Connected) (cs : List (ℕ × Command)) (held : List Answer) → SoFar k s s (take 0 cs) held held
-none_so_far k s cs held = record {
+pub none_so_far : (k : Rules) (s : Connected) (cs : List (ℕ × Command)) (held answers : List Answer) → answers ≡ held → SoFar k s s (take 0 cs) held answers
+none_so_far k s cs held answers same = record {
   given = [];
-  items = sym (append-nil held);
+  items = same ∙ sym (append-nil held);
   due = tt;
   runs = λ now t sound was. (t, refl, sound, was now);
   clean = λ now. now;
