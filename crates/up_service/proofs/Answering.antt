@@ -137,4 +137,3 @@ viewed {S} bytes k vehicle r t old new reads shown is = record {
 pub on_err : {T E P : Type 0} (r : Result T E) → P → OnErr r P
 on_err (Ok x) p = tt
 on_err (Err e) p = p
-

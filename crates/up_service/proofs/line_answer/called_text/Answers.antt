@@ -15,5 +15,8 @@ returns-clause-ok g c =
 pub returns-clause-err : goal.returns-clause-err
 returns-clause-err g c =
     let k = g.K.Scheme.rules c.args.desk.now.scheme in
-    on_err c.answer_text.result (answer_text c.call-answer.result, called k c.args.at c.args.command.now c.call-answer.result (answer_text c.call-answer.result) (state g.D.Store c.args.desk.now.store) (state g.D.Store c.call-answer.new.self.store)
-    c.call-answer.ensures.clean c.call-answer.ensures.served refl)
+    on_err c.answer_text.result (
+      answer_text c.call-answer.result,
+      called k c.args.at c.args.command.now c.call-answer.result (answer_text c.call-answer.result) (state g.D.Store c.args.desk.now.store) (state g.D.Store c.call-answer.new.self.store)
+          c.call-answer.ensures.clean c.call-answer.ensures.served refl,
+    )

@@ -15,5 +15,7 @@ returns-in-Err-clause-ok g c = IfOk-weaker c.refused_text.result _ _ (λ t is.
     viewed string_bytes (g.K.Scheme.rules c.args.desk.now.scheme) c.args.vehicle.now (Err c.in-Err.refusal) (string_bytes t) (state g.D.Store c.args.desk.now.store) (state g.D.Store c.shown.new.desk.store) c.shown.ensures.reads c.in-Err.ensures.shown is) c.refused_text.ensures
 
 pub returns-in-Err-clause-err : goal.returns-in-Err-clause-err
-returns-in-Err-clause-err g c = on_err c.refused_text.result (refused_text c.in-Err.refusal,
-    viewed string_bytes (g.K.Scheme.rules c.args.desk.now.scheme) c.args.vehicle.now (Err c.in-Err.refusal) (refused_text c.in-Err.refusal) (state g.D.Store c.args.desk.now.store) (state g.D.Store c.shown.new.desk.store) c.shown.ensures.reads c.in-Err.ensures.shown refl)
+returns-in-Err-clause-err g c = on_err c.refused_text.result (
+  refused_text c.in-Err.refusal,
+  viewed string_bytes (g.K.Scheme.rules c.args.desk.now.scheme) c.args.vehicle.now (Err c.in-Err.refusal) (refused_text c.in-Err.refusal) (state g.D.Store c.args.desk.now.store) (state g.D.Store c.shown.new.desk.store) c.shown.ensures.reads c.in-Err.ensures.shown refl,
+)
