@@ -1,5 +1,5 @@
 -- What a line or a request is answered where memory or the database may refuse.
-use Rattle.std.proofs.Common.{◌≡◌, inl, inr, ℕ, List, Bool, true, false, Result, Ok, Err, refl, sym, subst, ap, ◌∙◌, arith}
+use Rattle.std.proofs.Common.{◌≡◌, inl, inr, ℕ, List, Bool, true, false, Result, Ok, Err, refl, sym, subst, ap, ◌∙◌}
 use Rattle.std.specs.Prelude.{◌⊎◌, ◌||◌, ⊤, MatchBool, OnErr}
 use Rattle.sqlite.specs.State.{State as Connected, HasCleanDisk}
 use Rattle.sqlite_trees.specs.declared.store.Store.{Ghosts}
@@ -15,10 +15,9 @@ use Rattle.up_machine.specs.Deciding.{Outcome}
 use Rattle.up_machine.specs.Repeats.{serve}
 use Rattle.up_machine.specs.Sound.{IsSound}
 use Rattle.up_machine.specs.State.{State}
-use Rattle.up_rows.specs.StateRows.{rows_of_state}
 use Rattle.up_tables.specs.Stands.{IfClean}
 use Rattle.up_store.specs.Connections.{KeepsState}
-use Rattle.up_desk.specs.Serving.{DeskView, IsAnswered, RepliesStay, Reads, is_store, is_lost_by, is_lost}
+use Rattle.up_desk.specs.Serving.{DeskView, IsAnswered, RepliesStay, ServesCall, is_store, is_lost_by, is_lost}
 use Rattle.up_script.specs.AskedLines.{asked_in}
 use Rattle.up_script.specs.declared.asked.Asked.{Asked}
 use Rattle.up_script.specs.PrintedLines.{answer_text, refused_text}
@@ -27,7 +26,7 @@ use Rattle.up_heads.specs.declared.check.Check.{Check}
 use Rattle.up_http.specs.declared.asked.What.{What}
 use Rattle.up_http.specs.declared.asked.What.TheVariants.{Fixed}
 use Rattle.up_service.specs.Answers.{served_as, IsLost, IsAnswerOrLost, AnswersAs}
-use Rattle.up_service.specs.LineAnswers.{line_answer, answer_to, carried_out, served, viewed, shown_in, shown_text, told_text, GivesShown, AnswersLine}
+use Rattle.up_service.specs.LineAnswers.{line_answer, answer_to, carried_out, served, viewed, shown_in, shown_text, told_text, GivesShown, Sees, AnswersLine}
 use Rattle.up_service.specs.Responses.{answer_response, AnswersCall, IsResponseTo}
 
 -- ---- what says that memory or the database refused
@@ -88,8 +87,7 @@ by_loss tell tell_answer same false a old new o t is h e = inl (e ∙ ap tell_an
 
 -- what is told of what the desk answered a command
 called : (tell : Refusal → List ℕ) (tell_answer : Answer → List ℕ) → ((r : Refusal) → tell_answer (Refused r) ≡ tell r) → (k : Rules) (at : ℕ) (c : Command) (a : Answer) (t : List ℕ) (old new : Connected)
-    → (HasCleanDisk new → HasCleanDisk old)
-    → (HasCleanDisk new → (s : State) → IsSound k s → IfClean (KeepsState k s) old → (next : State) × IsAnswered a s next (serve k s at c) × RepliesStay k s next × IsSound k next × KeepsState k next new)
+    → (HasCleanDisk new → HasCleanDisk old) → ServesCall k at c a old new
     → t ≡ tell_answer a → AnswersAs tell (λ s. served_as tell_answer k s at c) k t old new
 called tell tell_answer same k at c a t old new clean answered is = record {
   clean = clean;
@@ -97,15 +95,13 @@ called tell tell_answer same k at c a t old new clean answered is = record {
 }
 
 -- as a line
-pub printed : (k : Rules) (at : ℕ) (c : Command) (a : Answer) (t : List ℕ) (old new : Connected) → (HasCleanDisk new → HasCleanDisk old)
-    → (HasCleanDisk new → (s : State) → IsSound k s → IfClean (KeepsState k s) old → (next : State) × IsAnswered a s next (serve k s at c) × RepliesStay k s next × IsSound k next × KeepsState k next new)
+pub printed : (k : Rules) (at : ℕ) (c : Command) (a : Answer) (t : List ℕ) (old new : Connected) → (HasCleanDisk new → HasCleanDisk old) → ServesCall k at c a old new
     → t ≡ answer_text a → AnswersLine (λ s. served k s at c) k t old new
 unfolding answer_text
 printed k at c a t old new clean answered is = called refused_text answer_text (λ r. refl) k at c a t old new clean answered is
 
 -- as a response
-pub responded : (k : Rules) (at : ℕ) (c : Command) (last head : Bool) (a : Answer) (t : List ℕ) (old new : Connected) → (HasCleanDisk new → HasCleanDisk old)
-    → (HasCleanDisk new → (s : State) → IsSound k s → IfClean (KeepsState k s) old → (next : State) × IsAnswered a s next (serve k s at c) × RepliesStay k s next × IsSound k next × KeepsState k next new)
+pub responded : (k : Rules) (at : ℕ) (c : Command) (last head : Bool) (a : Answer) (t : List ℕ) (old new : Connected) → (HasCleanDisk new → HasCleanDisk old) → ServesCall k at c a old new
     → t ≡ answer_response a last head → AnswersCall k at c last head t old new
 unfolding answer_response
 responded k at c last head a t old new clean answered is =
@@ -134,12 +130,11 @@ asked_line k line asked t old new is h = record {
 }
 
 -- a view is told
-pub told_view : {S : Type 0} (bytes : S → List ℕ) (k : Rules) (vehicle : Name) (r : Result S Refusal) (t : List ℕ) (old new : Connected) → Reads old new
-    → (HasCleanDisk new → (j : Rules) (s : State) → IfClean (KeepsState j s) old → GivesShown bytes r (shown_in s vehicle)) → t ≡ told_text bytes r
-    → AnswersLine (λ s. viewed s vehicle) k t old new
-told_view {S} bytes k vehicle r t old new reads shown is = record {
-  clean = λ now. let before : HasCleanDisk old = omega (arith, reads.survives.clean) in before;
-  answered = λ now s sound was. (s, by_result r s (shown now k s was) is, sound, reads.kept (rows_of_state k s) was now);
+pub told_view : {S : Type 0} (bytes : S → List ℕ) (k : Rules) (vehicle : Name) (r : Result S Refusal) (t : List ℕ) (old new : Connected) → Sees (λ s. GivesShown bytes r (shown_in s vehicle)) old new
+    → t ≡ told_text bytes r → AnswersLine (λ s. viewed s vehicle) k t old new
+told_view {S} bytes k vehicle r t old new sees is = record {
+  clean = sees.clean;
+  answered = λ now s sound was. let it = sees.seen now k s was in (s, by_result r s it.0 is, sound, it.1);
 }
   where
     by_loss_of : (refusal : Refusal) (s : State) (b : Bool) → is_lost_by refusal ≡ b → MatchBool b ⊤ (shown_in s vehicle ≡ Err refusal) → t ≡ refused_text refusal → IsAnswerOrLost refused_text (viewed s vehicle) s t s

@@ -1,16 +1,19 @@
 -- What each line of a script is answered, and the state that it leaves.
-use Rattle.std.specs.Prelude.{◌≡◌, ℕ, List, ◌++◌, flat_map, MatchBool, ⊤, Result, Ok, Err}
+use Rattle.std.specs.Prelude.{◌≡◌, ℕ, List, ◌++◌, flat_map, MatchBool, ⊤, Option, Result, Ok, Err}
 use Rattle.sqlite.specs.Held.{state}
-use Rattle.sqlite.specs.State.{State as Connected}
+use Rattle.sqlite.specs.State.{State as Connected, HasCleanDisk}
 use Rattle.sqlite_trees.specs.declared.store.Store.{Ghosts}
 use Rattle.up_canon.specs.Names.{Name}
 use Rattle.up_canon.specs.Steps.{◌>>=◌, or_error}
 use Rattle.up_canon.specs.declared.refusal.Refusal.{Refusal}
 use Rattle.up_canon.specs.declared.refusal.Refusal.TheVariants.{UnknownVehicle}
 use Rattle.up_sign.specs.Schemes.{Rules}
+use Rattle.up_plan.specs.declared.assigned.Plan.{Plan}
 use Rattle.up_machine.specs.declared.command.Command.{Command}
 use Rattle.up_machine.specs.Reads.{ecus_of, version_of, installed, assigned_to}
 use Rattle.up_machine.specs.State.{State}
+use Rattle.up_tables.specs.Stands.{IfClean}
+use Rattle.up_store.specs.Connections.{KeepsState}
 use Rattle.up_desk.specs.Serving.{DeskView, is_lost_by}
 use Rattle.up_script.specs.AskedLines.{asked_in}
 use Rattle.up_script.specs.PrintedLines.{answer_text, refused_text, vehicle_text, ecu_text}
@@ -21,16 +24,19 @@ use Rattle.up_service.specs.Answers.{Answered, served_as, AnswersAs}
 
 -- ---- views of a vehicle
 
--- the ECUs of a vehicle, each with what is installed and what is assigned
-abbrev pub ecus_text : State → Name → List Name → List ℕ
-ecus_text s vehicle ecus = flat_map (λ ecu. ecu_text (assigned_to s vehicle) ecu (installed s ecu)) ecus
+-- ECUs, each with what is installed and what of a plan is assigned
+abbrev pub ecus_text : State → Option Plan → List Name → List ℕ
+ecus_text s plan ecus = flat_map (λ ecu. ecu_text plan ecu (installed s ecu)) ecus
 
 -- a vehicle's version, and its ECUs in inventory order
+abbrev pub line_of : State → Name → ℕ → List Name → List ℕ
+line_of s vehicle version ecus = vehicle_text vehicle version ++ ecus_text s (assigned_to s vehicle) ecus
+
 unfoldable pub shown_in : State → Name → Result (List ℕ) Refusal
 shown_in s vehicle = do
   version ← or_error UnknownVehicle (version_of s vehicle)
   ecus ← or_error UnknownVehicle (ecus_of s vehicle)
-  Ok (vehicle_text vehicle version ++ ecus_text s vehicle ecus)
+  Ok (line_of s vehicle version ecus)
 
 -- the line, or the refusal that is due, unless memory or the database refused
 abbrev pub GivesShown : {S : Type 0} → (S → List ℕ) → Result S Refusal → Result (List ℕ) Refusal → Type 0
@@ -45,6 +51,12 @@ told_text bytes (Err r) = refused_text r
 abbrev pub shown_text : Result (List ℕ) Refusal → List ℕ
 shown_text (Ok text) = text
 shown_text (Err r) = refused_text r
+
+-- a step of a view, over a disk that has returned what was written so far: this holds of each state that the tables show, and they
+-- go on showing it
+pub record Sees (holds : State → Type 0) (old new : Connected) : Type 0 where
+  pub clean : HasCleanDisk new → HasCleanDisk old
+  pub seen : HasCleanDisk new → (k : Rules) (s : State) → IfClean (KeepsState k s) old → holds s × KeepsState k s new
 
 -- ---- lines
 
