@@ -16,7 +16,7 @@ TOOLS = Path(__file__).resolve().parent
 LIMIT = 300
 # the longest first
 TRIED = [("file_cases.py",), ("fuzz.py", "1", "50"), ("fuzz.py", "51", "50"), ("http_fleet.py",), ("fuzz_http.py", "1", "50"),
-         ("fuzz_http.py", "51", "50"), ("http_cases.py",), ("tables.py",)]
+         ("fuzz_http.py", "51", "50"), ("http_cases.py",), ("each_line.py",), ("tables.py",)]
 
 
 def ran(program, words):

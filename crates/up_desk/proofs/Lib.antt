@@ -6,4 +6,7 @@ pub mod LookedUp
 pub mod Loops
 pub mod Serving
 pub mod Outlasting
+pub mod Calls
 pub mod Runs
+pub mod Commits
+pub mod Again

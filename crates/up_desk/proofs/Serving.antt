@@ -241,6 +241,7 @@ told_outright (Some r) given answer is h = is ∙ ap told h
 
 pub clean_once : (k : Rules) (old new : Connected) (Left : State → Trees → Type 0) → EmptyIsSound
     → ((s : State) → IsSound k s → IfClean (KeepsState k s) old → Survives old new (Left s)) → HasCleanDisk new → HasCleanDisk old
+unfolding doubt
 clean_once k old new Left sound survives now = by_test old.is_clean refl
   where
     by_test : (b : Bool) → old.is_clean ≡ b → HasCleanDisk old
