@@ -8,18 +8,19 @@ program serves it to one connection, which sends manifests, some of them damaged
 that are cut anywhere. Each answer has to be, byte for byte, what `tools/reference.py` answers at the moment that
 the program's clock had, and the file has to have its rows.
 """
+import contextlib
 import json
 import random
 import shutil
 import socket
 import sqlite3
-import subprocess
 import sys
 from contextlib import closing
 
 sys.dont_write_bytecode = True
 
 import fuzz
+import http_cases
 import reference
 import trials
 
@@ -147,34 +148,18 @@ class Stream:
         return found + ([self.last()] if self.rng.random() < 0.5 else [])
 
 
-def free_port():
-    with closing(socket.socket()) as it:
-        it.bind(("127.0.0.1", 0))
-        return it.getsockname()[1]
-
-
-def served(program, path, sent, rng):
-    """What the program answers to the bytes, sent in pieces; its status and message."""
-    port = free_port()
-    words = [str(program), "serve", str(path), str(port), "1"]
-    with subprocess.Popen(words, stdout=subprocess.PIPE, stderr=subprocess.PIPE) as it:
-        if it.stdout.readline() != b"listening %d\n" % port:
-            return None, it.wait(30), it.stderr.read()
-        with closing(socket.create_connection(("127.0.0.1", port), timeout=30)) as peer:
-            peer.setsockopt(socket.IPPROTO_TCP, socket.TCP_NODELAY, 1)
-            told = b""
-            try:
-                while sent:
-                    size = rng.choice([1, 2, 7, 100, 1000, 10_000])
-                    peer.sendall(sent[:size])
-                    sent = sent[size:]
-                peer.shutdown(socket.SHUT_WR)
-                while piece := peer.recv(65_536):
-                    told += piece
-            except ConnectionError:
-                pass
-        it.wait(30)
-        return told, it.returncode, it.stderr.read()
+def came(running, sent, rng):
+    """What the program answers to the bytes, sent in pieces."""
+    told = b""
+    with http_cases.connected(running) as peer, contextlib.suppress(ConnectionError):
+        while sent:
+            size = rng.choice([1, 2, 7, 100, 1000, 10_000])
+            peer.sendall(sent[:size])
+            sent = sent[size:]
+        peer.shutdown(socket.SHUT_WR)
+        while piece := peer.recv(65_536):
+            told += piece
+    return told
 
 
 def tried(program, seed, own):
@@ -185,9 +170,10 @@ def tried(program, seed, own):
     shutil.copy(path, rules)
     rng = random.Random(seed)
     requests = Stream(seed, script).made()
-    told, status, message = served(program, path, b"".join(it.sent for it in requests), rng)
-    if (status, message) != (0, b"") or told is None:
-        return "status %d: %s" % (status, message.decode("utf-8", "replace"))
+    with http_cases.served(program, path, 1) as running:
+        told = came(running, b"".join(it.sent for it in requests), rng)
+        if not http_cases.ended(running):
+            return "another end"
     with trials.read(path) as db:
         moments = {row[:2]: row[2] for row in db.execute("SELECT vehicle, counter, moment FROM kept")}
     with closing(sqlite3.connect(rules)) as db:
