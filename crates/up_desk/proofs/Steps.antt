@@ -67,6 +67,14 @@ unchanged k s old new answer computed given never was reads is = record {
   durable = λ commit clean. absurd (never (outcome_of s computed).next commit (ap (λ o. (outcome_of s o).next) (is clean)));
 }
 
+-- what is served after a read is served after what was before it
+pub after_reads : (k : Rules) (s : State) (old mid new : Connected) (r : Result Answer Refusal) (computed : Result Outcome Refusal) → Reads old mid → Serves k s mid new r computed → Serves k s old new r computed
+after_reads k s old mid new r computed reads serves = record {
+  leaves = serves.leaves;
+  crash = survives_then old mid new (λ _. ⊥) (HoldsState k (outcome_of s computed).next) (HoldsState k (outcome_of s computed).next) (λ _ db none. absurd none) (λ _ db holds. holds) reads.survives serves.crash;
+  durable = serves.durable;
+}
+
 -- ---- a command that writes once
 
 -- what it decided: the answer, and rows that fit, which take those of the state to those of the next
