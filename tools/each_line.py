@@ -10,7 +10,7 @@ stands behind it. `times N LINE` is the line so many times, with the numbers fro
 TEXT`, `cuts TEXT` and `bytes HEX` are a body that is delivered, each of its beginnings, and a body in hex. How texts that repeat
 or change in one place are spelled is said in `up_test_rows/src/sections.rt`. What is wanted is the line printed, with the SHA-256
 of a file in place of its text and of a reply behind its line, and what is shown of a vehicle without its name. In a section of
-stops a row is a whole run, its lines parted by ` ;; `, which the crate stops at each call of a disk.
+stops a row is a whole run, its lines parted by ` ;; `, for `stops.py`.
 """
 import hashlib
 import http.client
@@ -28,8 +28,6 @@ import trials
 
 TOP = Path(__file__).resolve().parent.parent
 ROWS = TOP / "rows" / "each_answer"
-# the crate that carries the rows out
-CRATE = TOP / "crates" / "up_test_lines"
 AT = 1767225600
 STOPS = "stops at each call of a disk"
 WRONG = "rows that are wrong on purpose"
@@ -220,40 +218,26 @@ def cases(program):
 
 
 def computed():
-    """The rows as the rules want them, what the crate reads and has to write, and how many rows want something else."""
-    made = said = ""
-    differing = 0
+    """The rows as the rules want them, and how many want something else."""
+    made, differing = "", 0
     for words, rows in sections():
-        desk, made, right = Desk(), made + "\n# %s\n" % words, 0
+        desk, made = Desk(), made + "\n# %s\n" % words
         for given, text, wanted in rows:
-            if text is None:
-                made += given + "\n"
-                continue
-            answer = wanted if words == STOPS else desk.told(text)
-            if words == WRONG:
-                said += "%s of %s is %s, in place of %s\n" % (words, given, answer, wanted)
-                answer, right = wanted, right - 1
+            answer = wanted if text is None or words in (STOPS, WRONG) else desk.told(text)
             if answer != wanted:
                 differing += 1
                 print("%s: %.200s\n  wants %.300s" % (words, given, answer))
-            right += 1
-            made += "%s => %s\n" % (given, answer)
-        said += "%s: %d\n" % (words, right)
-    read = {CRATE / "stdin": made, CRATE / "stdout": said} if CRATE.exists() else {}
-    return {ROWS: made, **read}, differing
+            made += given + "\n" if text is None else "%s => %s\n" % (given, answer)
+    return made, differing
 
 
 def wanted(order="tell"):
-    files, differing = computed()
+    made, differing = computed()
     if order == "write":
-        for path, text in files.items():
-            path.write_text(text, encoding="ascii")
+        ROWS.write_text(made, encoding="ascii")
         return 0
     print("%d rows want another answer" % differing)
-    others = [path for path, text in files.items() if path.read_text(encoding="ascii") != text]
-    for path in others:
-        print("%s isn't what the rows say" % path.relative_to(TOP))
-    return 1 if others else 0
+    return 1 if differing else 0
 
 
 if __name__ == "__main__":

@@ -1,5 +1,5 @@
 -- A view, step by step.
-use Rattle.std.proofs.Common.{◌≡◌, ℕ, List, ◌++◌, Option, Some, None, Result, Ok, Err, refl, sym, subst, ap, ap₂, ◌∙◌, arith, take, length, get_or, ◌<◌, ◌+◌, [], ◌∷◌}
+use Rattle.std.proofs.Common.{◌≡◌, ℕ, List, ◌++◌, Option, Some, None, Result, Ok, Err, refl, sym, subst, ap, ◌∙◌, arith, take, length, get_or, ◌<◌, ◌+◌, [], ◌∷◌}
 use Rattle.std.specs.Prelude.{⊤, IfOk, flat_map, MatchBool}
 use Rattle.std.proofs.lemmas.List.{take_more}
 use Rattle.std.proofs.lemmas.Result.{IfOk-weaker}
@@ -8,15 +8,12 @@ use Rattle.up_canon.specs.Names.{Name}
 use Rattle.up_canon.specs.Steps.{and_then, ◌>>=◌, or_error}
 use Rattle.up_canon.specs.declared.refusal.Refusal.{Refusal}
 use Rattle.up_canon.specs.declared.refusal.Refusal.TheVariants.{Memory, UnknownVehicle}
-use Rattle.up_sign.specs.Schemes.{Rules}
 use Rattle.up_plan.specs.declared.assigned.Plan.{Plan}
 use Rattle.up_machine.specs.Reads.{ecus_of, version_of, installed, assigned_to}
 use Rattle.up_machine.specs.State.{State}
 use Rattle.up_rows.specs.StateRows.{rows_of_state}
 use Rattle.up_tables.specs.declared.values.StoreFault.{StoreFault}
 use Rattle.up_tables.specs.declared.values.StoreFault.TheVariants as fault
-use Rattle.up_tables.specs.Stands.{IfClean}
-use Rattle.up_store.specs.Connections.{KeepsState}
 use Rattle.up_desk.specs.Serving.{Reads, Tells, is_lost_by, refusal_told}
 use Rattle.up_script.specs.PrintedLines.{ecu_text, vehicle_text}
 use Rattle.up_service.specs.LineAnswers.{GivesShown, Sees, ecus_text, line_of, shown_in, shown_with}
@@ -93,6 +90,10 @@ no_ecus vehicle version s is = none_then (ecus_of s vehicle) (λ ecus. Ok (line_
 pub plan_shown : {S : Type 0} (bytes : S → List ℕ) (result : Result S Refusal) (vehicle : Name) (version : ℕ) (ecus : List Name) (plan : Option Plan) (s : State) → plan ≡ assigned_to s vehicle
     → GivesShown bytes result (Ok (vehicle_text vehicle version ++ ecus_text s plan ecus)) → GivesShown bytes result (Ok (line_of s vehicle version ecus))
 plan_shown bytes result vehicle version ecus plan s is h = subst (λ p. GivesShown bytes result (Ok (vehicle_text vehicle version ++ ecus_text s p ecus))) is h
+
+-- the line's beginning is made
+pub begun_shown : {S : Type 0} (bytes : S → List ℕ) (result : Result S Refusal) (out begun behind : List ℕ) → out ≡ begun → GivesShown bytes result (Ok (out ++ behind)) → GivesShown bytes result (Ok (begun ++ behind))
+begun_shown bytes result out begun behind is h = subst (λ t. GivesShown bytes result (Ok (t ++ behind))) is h
 
 -- a text that was made
 pub as_shown : {S : Type 0} (bytes : S → List ℕ) (out : S) (text : List ℕ) → bytes out ≡ text → GivesShown bytes (Ok out) (Ok text)

@@ -1,4 +1,4 @@
-use Rattle.std.proofs.Common.{◌≡◌, Some, None, Ok, Err, sym, ◌∙◌}
+use Rattle.std.proofs.Common.{◌≡◌, Ok, sym, ◌∙◌}
 use Rattle.sqlite.specs.Held.{state}
 use Rattle.up_machine.specs.Reads.{version_of}
 use Rattle.up_tables.specs.declared.values.StoreFault.{StoreFault}

@@ -1,4 +1,4 @@
-use Rattle.std.proofs.Common.{◌≡◌, Ok, Err}
+use Rattle.std.proofs.Common.{◌≡◌, Ok}
 use Rattle.sqlite.specs.Held.{state}
 use Rattle.up_machine.specs.Reads.{assigned_to}
 use Rattle.up_tables.specs.declared.values.StoreFault.{StoreFault}

@@ -1,4 +1,4 @@
-use Rattle.std.proofs.Common.{◌≡◌, Some, None, Ok, Err, sym, ap, ◌∙◌}
+use Rattle.std.proofs.Common.{◌≡◌, Some, Ok, sym, ap, ◌∙◌}
 use Rattle.sqlite.specs.Held.{state}
 use Rattle.up_machine.specs.Reads.{ecus_of}
 use Rattle.up_tables.specs.declared.values.StoreFault.{StoreFault}
