@@ -1,11 +1,10 @@
 -- Tables that show two sound states show one.
-use Rattle.std.proofs.Common.{◌≡◌, ◌+◌, ◌≤◌, ◌^◌, ℕ, suc, pos, List, [], ◌∷◌, Bool, true, false, Option, Some, None, Ok, map, length, refl, sym, ap, ap₂, subst, ◌∙◌, arith, codes}
-use Rattle.std.specs.Prelude.{option_map, unwrap_or}
+use Rattle.std.proofs.Common.{◌≡◌, ◌+◌, ◌≤◌, ◌^◌, ℕ, suc, List, [], ◌∷◌, Bool, true, false, Option, Some, None, map, length, refl, sym, ap, ap₂, ◌∙◌, arith, codes}
+use Rattle.std.specs.Prelude.{option_map}
 use Rattle.std.specs.List.{AllByRecursion, list_all}
 use Rattle.std.specs.FinMap as table
-use Rattle.sqlite.specs.Order.{Row}
 use Rattle.sqlite.specs.Tree.{Trees}
-use Rattle.sqlite.specs.declared.types.Value.TheVariants.{Int, Text}
+use Rattle.sqlite.specs.declared.types.Value.TheVariants.{Int}
 use Rattle.up_canon.specs.Canon.{CanonIsRead}
 use Rattle.up_canon.specs.Moments.{MomentsAreRead}
 use Rattle.up_canon.specs.Names.{Name}
@@ -31,12 +30,11 @@ use Rattle.up_machine.specs.declared.rows.VehicleRows.{VehicleRows}
 use Rattle.up_machine.specs.declared.vehicle.NewEcu.{NewEcu}
 use Rattle.up_rows.specs.declared.root_row.RootRow.{RootRow}
 use Rattle.up_rows.specs.Laws.{RowsTellTheState}
-use Rattle.up_rows.specs.StateRows.{StateRows, rows_of_state, state_of_rows, root_of, ecu_of, entry_of, vehicle_of}
+use Rattle.up_rows.specs.StateRows.{StateRows, rows_of_state, root_of, ecu_of, entry_of, vehicle_of}
 use Rattle.up_rows.proofs.Tables.{get_changed}
 use Rattle.up_tables.specs.Lines.{ecu_row, meta_row, yes_or_no}
-use Rattle.up_tables.specs.Listed.{ListsTables}
 use Rattle.up_store.specs.Lines.{founding_number, image_lines, campaign_lines, vehicle_lines, ecu_lines, ecus_lines, kept_line}
-use Rattle.up_store.specs.Listing.{ListsRows, IsOfLastRoot, table_rows}
+use Rattle.up_store.specs.Listing.{ListsRows, IsOfLastRoot}
 use Rattle.up_store.specs.Typed.{IsTypedImage, IsTypedCampaign, IsTypedKept}
 use Rattle.up_store.proofs.OneKeys.{one_keys}
 use Rattle.up_store.proofs.RootTexts.{rows_size, same_found, one_texts, one_roots}

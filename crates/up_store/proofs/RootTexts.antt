@@ -1,5 +1,5 @@
 -- Root versions that tables show have their texts there under the names of their numbers, and these tell the moments.
-use Rattle.std.proofs.Common.{◌≡◌, ◌≤◌, ◌<◌, ◌+◌, ◌^◌, ℕ, suc, List, [], ◌∷◌, ◌++◌, Bool, true, false, cond, Option, Some, None, map, length, refl, sym, ap, ap₂, ◌∙◌, arith, length-append, bytes_eq, codes}
+use Rattle.std.proofs.Common.{◌≡◌, ◌≤◌, ◌<◌, ◌+◌, ◌^◌, ℕ, suc, List, [], ◌∷◌, Bool, true, false, cond, Option, Some, None, map, length, refl, sym, ap, ap₂, ◌∙◌, arith, length-append, bytes_eq, codes}
 use Rattle.std.specs.Prelude.{decimal, find, if◌then◌else◌, option_map, slice_get, ◌-◌}
 use Rattle.std.specs.List.{AllByRecursion, enumerate_from}
 use Rattle.std.specs.Option.{option_or}
