@@ -204,7 +204,7 @@ module _ (law : CanonIsRead) (moments : MomentsAreRead) (tell : RowsTellTheState
 
   texts : map (λ (r : RootRow). r.director) first.roots ≡ map (λ (r : RootRow). r.director) second.roots
   texts = one_texts 1 first.roots second.roots sizes few one.numbered two.numbered
-      (same_found first second (λ name. sym (one.tables.files.parts (codes "director") name) ∙ two.tables.files.parts (codes "director") name))
+      (λ number low high. same_found first second (λ name. sym (one.tables.files.parts (codes "director") name) ∙ two.tables.files.parts (codes "director") name) number)
 
   roots : s.roots ≡ t.roots
   roots = one_roots moments k s t 1 s.roots t.roots sound.repositories.each_root also.repositories.each_root (sym (keys_told s sound) ∙ keys ∙ keys_told t also) texts

@@ -67,24 +67,20 @@ later_name number later r roots named low high =
     ap (λ b. option_map (text_in Director) (cond b (Some r) (find (λ (u : RootRow). bytes_eq u.name (numbered_root_name later)) roots))) isnt
 
 pub one_texts : (number : ℕ) (rs us : List RootRow) → length rs ≡ length us → number + length rs ≤ 2 ^ 64 → Numbered number rs → Numbered number us
-    → ((n : ℕ) → found n rs ≡ found n us) → map (λ (r : RootRow). r.director) rs ≡ map (λ (r : RootRow). r.director) us
-one_texts number rs us size small as_first as_second same = go number rs us size small as_first as_second (λ n low high. same n)
-  where
-    go : (number : ℕ) (rs us : List RootRow) → length rs ≡ length us → number + length rs ≤ 2 ^ 64 → Numbered number rs → Numbered number us
-        → ((n : ℕ) → number ≤ n → n < 2 ^ 64 → found n rs ≡ found n us) → map (λ (r : RootRow). r.director) rs ≡ map (λ (r : RootRow). r.director) us
-    go number [] [] size small first second same = refl
-    go number [] (u ∷ us) size small first second same = absurd (omega (arith, size))
-    go number (r ∷ rs) [] size small first second same = absurd (omega (arith, size))
-    go number (r ∷ rs) (u ∷ us) size small first second same =
-        let name_first : r.name ≡ numbered_root_name number = cc in
-        let name_second : u.name ≡ numbered_root_name number = cc in
-        let rest_first : Numbered (number + 1) rs = cc in
-        let rest_second : Numbered (number + 1) us = cc in
-        let heads : Some r.director ≡ Some u.director = sym (own_name number r rs name_first) ∙ same number (omega arith) (omega (arith, small)) ∙ own_name number u us name_second in
-        let text : r.director ≡ u.director = cc in
-        let rest : (n : ℕ) → number + 1 ≤ n → n < 2 ^ 64 → found n rs ≡ found n us =
-        λ n low high. sym (later_name number n r rs name_first (omega (arith, low)) high) ∙ same n (omega (arith, low)) high ∙ later_name number n u us name_second (omega (arith, low)) high in
-        ap₂ (λ (t : List ℕ) (ts : List (List ℕ)). t ∷ ts) text (go (number + 1) rs us (omega (arith, size)) (omega (arith, small)) rest_first rest_second rest)
+    → ((n : ℕ) → number ≤ n → n < 2 ^ 64 → found n rs ≡ found n us) → map (λ (r : RootRow). r.director) rs ≡ map (λ (r : RootRow). r.director) us
+one_texts number [] [] size small first second same = refl
+one_texts number [] (u ∷ us) size small first second same = absurd (omega (arith, size))
+one_texts number (r ∷ rs) [] size small first second same = absurd (omega (arith, size))
+one_texts number (r ∷ rs) (u ∷ us) size small first second same =
+    let name_first : r.name ≡ numbered_root_name number = cc in
+    let name_second : u.name ≡ numbered_root_name number = cc in
+    let rest_first : Numbered (number + 1) rs = cc in
+    let rest_second : Numbered (number + 1) us = cc in
+    let heads : Some r.director ≡ Some u.director = sym (own_name number r rs name_first) ∙ same number (omega arith) (omega (arith, small)) ∙ own_name number u us name_second in
+    let text : r.director ≡ u.director = cc in
+    let rest : (n : ℕ) → number + 1 ≤ n → n < 2 ^ 64 → found n rs ≡ found n us =
+    λ n low high. sym (later_name number n r rs name_first (omega (arith, low)) high) ∙ same n (omega (arith, low)) high ∙ later_name number n u us name_second (omega (arith, low)) high in
+    ap₂ (λ (t : List ℕ) (ts : List (List ℕ)). t ∷ ts) text (one_texts (number + 1) rs us (omega (arith, size)) (omega (arith, small)) rest_first rest_second rest)
 
 -- ---- the root versions
 
