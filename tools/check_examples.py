@@ -26,8 +26,8 @@ def read(path):
     return path.read_text(encoding="ascii")
 
 
-def printed(program, script):
-    ran = subprocess.run([program, "run", ":memory:"], input=script.encode(), capture_output=True, check=False)
+def printed(program, script, path=":memory:"):
+    ran = subprocess.run([program, "run", path], input=script.encode(), capture_output=True, check=False)
     if ran.returncode or ran.stderr:
         return "status %d: %s" % (ran.returncode, ran.stderr.decode())
     return ran.stdout.decode("ascii")
@@ -40,11 +40,15 @@ def primary(*words, given):
 
 
 def scripts(program):
-    """Each script, but those under a scheme that the program hasn't."""
+    """Each script over memory and over a new file, but those under a scheme that the program hasn't."""
     for script in sorted([*EXAMPLES.glob("*/script"), *ROWS.glob("*/script")]):
         folder = script.parent
         if not (folder / "under").exists():
-            yield str(folder.relative_to(TOP)), printed(program, read(script)) == read(folder / "printed")
+            name, wanted = str(folder.relative_to(TOP)), read(folder / "printed")
+            yield name, printed(program, read(script)) == wanted
+            with trials.folder() as own:
+                over_file = printed(program, read(script), own / "desk") == wanted
+                yield name + " over a file", over_file and trials.faults(own / "desk") == []
 
 
 def texts(rows):
