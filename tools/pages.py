@@ -46,8 +46,10 @@ def files():
 
 
 def promised():
-    """The names that the page of proofs and that on the Standard give, with what each names."""
+    """The names that the front page, the page of proofs and that on the Standard give, with what each names."""
     proofs, standard = ((TOP / "docs" / name).read_text(encoding="utf-8") for name in ("PROOFS.md", "STANDARD.md"))
+    front = (TOP / "README.md").read_text(encoding="utf-8").split("\n## What is proved\n")[1].split("\n## ")[0]
+    yield from (("README.md", "Contract", name) for name in re.findall(r"`([\w:]+)`", front))
     for label in ("Contract", "Calls", "Tests", "Rows", "Edits"):
         for part in re.findall(r"\*%s\*(.*?)(?=\n  \*|\n- |\n\n|\n#)" % label, proofs, re.DOTALL):
             named = r"[\w:\-, ]+" if label == "Tests" else r"[\w:\-]+"
@@ -86,7 +88,7 @@ def promises():
     for page, labels, name in sorted(set(promised())):
         words = set(name.split("::"))
         if labels != "Edits" or "-" in name:
-            yield "docs/%s: %s" % (page, name), any(words <= there[label] for label in labels.split(", "))
+            yield "%s: %s" % (page, name), any(words <= there[label] for label in labels.split(", "))
 
 
 def primary():

@@ -3,7 +3,7 @@
 
     sweeps.py PROGRAM KIND [EVERY [FIRST]]
 
-KIND is memory, disk or http. EVERY (1) tries only each so manieth call, from call FIRST (1) on. A word in place of FIRST
+KIND is memory, disk or http. Only every EVERY-th (1) call is tried, from call FIRST (1) on. A word in place of FIRST
 draws one of the calls 1 to EVERY, so that another part is tried each time.
 
 `memory` refuses a request for memory, `disk` fails a read, write or sync of the database's files, each over the rows of
