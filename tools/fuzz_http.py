@@ -7,7 +7,7 @@ For each seed from FIRST (1) on, NUMBER (100) of them, a script of `tools/fuzz.p
 program serves it to one connection, which sends manifests, some of them damaged, and asks for files, in pieces
 that are cut anywhere. Each answer has to be, byte for byte, what `tools/reference.py` answers at the moment that
 the program's clock had, and the file has to have its rows. The same manifests and files are then asked for by script, each
-manifest at the moment that was kept: over a copy of the file as it was, and over memory behind the script that filled it.
+manifest at the moment that was kept: over a copy of the file as it was, and over memory after the script that filled it.
 Both have to answer alike, and the copy has to have the same rows, byte for byte. Five more connections send requests whose
 heads are damaged anywhere: whatever they mean, whole answers come, and the file stays as it was.
 """
@@ -194,7 +194,7 @@ def printed_as(line, asks, answer, replies):
 
 
 def by_script(program, before, path, commands, moments):
-    """What went otherwise where the same is asked by script: over the file, and over memory behind the lines that filled it."""
+    """What went otherwise where the same is asked by script: over the file, and over memory after the lines that filled it."""
     lines = [line_of(asks, moments) for asks, _ in commands]
     told, whole = trials.printed(program, path, lines), trials.printed(program, ":memory:", before + lines)
     if told is None or whole is None or whole[len(whole) - len(lines) :] != told:
