@@ -59,12 +59,13 @@ def texts(rows):
 
 def wanted():
     """What the rows of texts, of decisions and of streams want is what Python computes from the formats."""
-    for crate in ("up_test_texts", "up_test_decisions", "up_stream_tests"):
+    for crate in ("up_test_texts", "up_test_decisions"):
         words = [sys.executable, TOP / "crates" / crate / "expected.py"]
         ran = subprocess.run(words, capture_output=True, check=False)
         yield "answers that the rows of %s want" % crate, ran.returncode == 0
-    ran = subprocess.run([sys.executable, TOP / "tools" / "each_line.py", "wanted"], capture_output=True, check=False)
-    yield "answers that the rows of lines want", ran.returncode == 0
+    for rows, *words in (("lines", "each_line.py", "wanted"), ("streams", "expected_streams.py")):
+        ran = subprocess.run([sys.executable, TOP / "tools" / words[0], *words[1:]], capture_output=True, check=False)
+        yield "answers that the rows of %s want" % rows, ran.returncode == 0
 
 
 def limits(program):

@@ -1,12 +1,19 @@
-"""Computes the rows of stdin and what they want, from the formats in docs/FORMATS.md and docs/HTTP.md and from rows/ alone, and tells where stdin
-or stdout is another. With the word `write` it writes both. In a row `|` stands for the end of a line of HTTP, `\\n` for that of a script."""
+#!/usr/bin/env python3
+"""Computes the rows of streams and what they want, from the formats in docs/FORMATS.md and docs/HTTP.md and from rows/ alone.
+The rows are the standard input of the crate `up_stream_tests`. In a row `|` stands for the end of a line of HTTP, `\\n` for that of a
+script.
+
+    expected_streams.py           tells where the crate's standard input or output is another
+    expected_streams.py write     writes both
+"""
 import json, sys
 from pathlib import Path
 
-HERE = Path(__file__).resolve().parent
-sys.path.insert(0, str(HERE.parent.parent / "tools"))
 sys.dont_write_bytecode = True
 import row_texts
+
+TOP = Path(__file__).resolve().parent.parent
+CRATE = TOP / "crates" / "up_stream_tests"
 
 AT, PIECE, MOST = 1767225600, 8192, 262144
 canon = row_texts.canonical
@@ -85,7 +92,7 @@ def sweep(step, input, requests, size=None):
 def lines_sweep(step, row):
     """The same of a worked row, whose last line ends with the input. Sent once more, the lines that were carried out are answered as before, but
     those that were `done`."""
-    script, printed = ((HERE.parent.parent / "rows" / row / name).read_text().rstrip("\n").split("\n") for name in ("script", "printed"))
+    script, printed = ((TOP / "rows" / row / name).read_text().rstrip("\n").split("\n") for name in ("script", "printed"))
     ends = [sum(len(line) + 1 for line in script[: place + 1]) for place in range(len(script) - 1)]
     told = lambda cause, called, answered: " %s %d %d %d again," % (
         cause, answered, sum(len(line) + 2 for line in printed[:answered]), printed[:called].count("done"))
@@ -121,7 +128,7 @@ def sections():
         ("fails 1000 1 0 0 " + three, "Read 0 0: "),
         ("fails 1000 2 0 0 " + three, "Read 3 3: " + 3 * NO_FILE_ANSWER),
     ]
-    unwritten = [("fails 1000 0 1 0 " + posted(MANIFEST), "Write 1 0: "), ("whole " + posted(MANIFEST), "1: " + REPLY)]
+    unwritten = [("fails 1000 0 1 0 " + TWICE, "Write 1 0: "), ("whole " + posted(MANIFEST), "1: " + REPLY)]
     yield "an unwritten reply", vehicle + unwritten
     head = length(post("Content-Length: %d|" % MOST))
     once, twice = length(NO_FILE), 2 * length(NO_FILE)
@@ -169,7 +176,7 @@ def texts():
 
 if sys.argv[1:] == ["write"]:
     for name, text in texts().items():
-        (HERE / name).write_text(text)
-differing = [name for name, text in texts().items() if (HERE / name).read_text() != text]
+        (CRATE / name).write_text(text)
+differing = [name for name, text in texts().items() if (CRATE / name).read_text() != text]
 print("\n".join("%s is another" % name for name in differing) or "the rows are those of the formats")
 sys.exit(1 if differing else 0)
