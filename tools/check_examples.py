@@ -85,13 +85,13 @@ def limits(program):
 
 
 def first_reply(rows, given, reply):
-    """Whether the desk answers the Primary's manifest by this text."""
+    """What is told of a row in which the desk answers the Primary's manifest by this text: a line over memory, and one over files."""
     found, vehicle = read(EXAMPLES / "first_path" / "script").split("\n")[:2]
     manifest = primary("line", "1767225600", given=given)[1].strip()
     told = ["", "row reply", "@ hmac-sha256", "> " + found, "< done", "> " + vehicle, "< done"]
     told += ["> " + manifest, "< reply V1 version 1 targets 0", "= " + reply.strip(), ""]
     ran = subprocess.run([rows], input="\n".join(told).encode(), capture_output=True, check=False)
-    return ran.returncode == 0 and ran.stdout == b"reply: script 3, by bytes 3, run 4, calls 4\n"
+    return ran.stdout.decode("utf-8", "replace").splitlines() if ran.returncode == 0 else []
 
 
 def primaries(program, rows):
@@ -101,8 +101,11 @@ def primaries(program, rows):
     yield "the Primary checks the reply that the page shows", primary("check", keys, given=reply)[0] == 0
     broken = reply.replace('"version":1}', '"version":2}', 1)
     yield "the Primary refuses a changed reply", broken != reply and primary("check", keys, given=broken)[0] == 1
-    yield "the desk answers the reply that the page shows", first_reply(rows, given, reply)
-    yield "the desk doesn't answer a changed reply", not first_reply(rows, given, broken)
+    had, of_changed = first_reply(rows, given, reply), first_reply(rows, given, broken)
+    scripts_told = ["reply in %s: script 3, by bytes 3, run " % it for it in ("memory", "files")]
+    yield "the desk answers the reply that the page shows", had == [it + "4, calls 4, in turns 4" for it in scripts_told]
+    differs = [line.startswith(it + "DIFFERS: ") for line, it in zip(of_changed, scripts_told)]
+    yield "the desk doesn't answer a changed reply", differs == [True, True]
     # the bench line of the first path builds the same manifest: delivered again it is a repeat, and the version stays
     again = read(EXAMPLES / "first_path" / "script") + primary("line", "1767225600", given=given)[1]
     wanted = ["done", "done"] + 2 * ["reply V1 version 1 targets 0"] + [""]

@@ -1,5 +1,5 @@
 //! Where the tables of a desk are kept: in memory, or in files on disks that are memory.
-ghost use Rattle.std.specs.Prelude.{◌≡◌, false, IsTrue};
+ghost use Rattle.std.specs.Prelude.{◌≡◌, false, IfOk, IsTrue};
 ghost use Rattle.sqlite.specs.Held.{state};
 ghost use Rattle.sqlite_disk.specs.Memory.{memory_is_usable};
 
