@@ -1,5 +1,6 @@
 //! Desks over tables in memory, and over files on disks that are memory.
 ghost use Rattle.std.specs.Prelude.{◌≡◌, false, IsTrue, IfOk};
+ghost use Rattle.sqlite.specs.Files.{file_state};
 ghost use Rattle.sqlite.specs.Held.{state};
 ghost use Rattle.sqlite_disk.specs.Memory.{memory_is_usable};
 
@@ -38,7 +39,7 @@ pub(crate) fn in_files(alloc: Global) -> Result<Desk<HmacSha256, FileStore<Memor
 fn opened(alloc: Global, files: Files<Memory>) -> Result<Connection<FileStore<Memory>>, AllocError>
     requires log { IsTrue (memory_is_usable files.log) }
     requires db { IsTrue (memory_is_usable files.db) }
-    ensures { IfOk result (λ c. (state ⟦<FileStore<Memory> as Alter>⟧.Store c).in_transaction ≡ false) }
+    ensures { IfOk result (λ c. (file_state c).in_transaction ≡ false) }
 {
     match Connection::open_files(alloc, files, Options::new(1)) {
         Ok(conn) => Ok(conn),
