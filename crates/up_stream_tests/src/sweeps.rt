@@ -86,7 +86,8 @@ fn told_of(alloc: Global, sweep: Sweep) -> Result<String, AllocError> {
     let whole = runs_told(alloc, sweep, NOTHING)?;
     let mut out = "reads:".to_string(alloc)?;
     for read in 1..MOST_CALLS {
-        if !push_fault_of(alloc, &mut out, sweep, Failing { read, write: 0 }, whole.as_str())? {
+        let failing = Failing { read, write: 0 };
+        if !push_fault_of(alloc, &mut out, sweep, failing, whole.as_str())? {
             break;
         }
     }
@@ -102,7 +103,8 @@ fn push_writes(
 ) -> Result<(), AllocError> {
     out.push_str(" writes:")?;
     for write in 1..MOST_CALLS {
-        if !push_fault_of(alloc, out, sweep, Failing { read: 0, write }, whole)? {
+        let failing = Failing { read: 0, write };
+        if !push_fault_of(alloc, out, sweep, failing, whole)? {
             return Ok(());
         }
     }
