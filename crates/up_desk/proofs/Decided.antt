@@ -1,8 +1,9 @@
 -- What a decision that went through says.
-use Rattle.std.proofs.Common.{◌≡◌, Option, Some, None, Result, Ok, refl, ap, ◌∙◌, subst}
-use Rattle.std.specs.Prelude.{IfSome}
+use Rattle.std.proofs.Common.{◌≡◌, Bool, true, false, Option, Some, None, Result, Ok, Err, refl, ap, ◌∙◌, subst}
+use Rattle.std.specs.Prelude.{⊤, IfSome, MatchBool}
 use Rattle.std.specs.FinMap as table
 use Rattle.up_canon.specs.Names.{Name}
+use Rattle.up_canon.specs.Refusals.{is_memory}
 use Rattle.up_canon.specs.declared.refusal.Refusal.{Refusal}
 use Rattle.up_sign.specs.Schemes.{Rules}
 use Rattle.up_plan.specs.Campaigns.{CampaignData}
@@ -18,7 +19,9 @@ use Rattle.up_machine.specs.Rows.{reply_kept}
 use Rattle.up_machine.specs.State.{Entry, Vehicle, State}
 use Rattle.up_machine.specs.Deciding.{Outcome, done, already}
 use Rattle.up_machine.specs.Inventory.{with_campaign, closed}
-use Rattle.up_machine.specs.Decisions.{IsDone, GivesDecision, GivesClosed, HasAcceptedRows, GivesDelivered}
+use Rattle.up_machine.specs.Decisions.{IsDone, GivesRows, GivesDecision, GivesClosed, HasAcceptedRows, GivesDelivered}
+use Rattle.up_desk.specs.Serving.{is_store, is_lost_by, GivesOrLost, MadeOrLost}
+use Rattle.up_desk.proofs.Steps.{lost_as, memory_is_lost}
 
 pub when_already : {R : Type 0} (has : R → Type 0) (s next : State) (d : Decision R) (computed : Result Outcome Refusal) → d ≡ Already → GivesDecision has s next (Ok d) computed
     → computed ≡ Ok (already s)
@@ -72,3 +75,21 @@ when_accepted k s name (Accepted other) rows computed is h =
 pub if_some : {T : Type 0} (P : T → Type 0) (o : Option T) → ((x : T) → o ≡ Some x → P x) → IfSome o P
 if_some P None h = tt
 if_some P (Some x) h = h x refl
+
+-- ---- what is due, and its rows
+
+pub rows_made : {D R : Type 0} (due : D → Type 0) (has : R → Type 0) (next : State) (new : D) (result : Result R Refusal) (computed : Result Outcome Refusal)
+    → IsDone due next new computed → (due new → MadeOrLost has result) → GivesOrLost (GivesRows has next) result computed
+rows_made due has next new (Ok rows) computed is made = (is.0, made is.1)
+rows_made due has next new (Err r) computed is made = lost_as (is_lost_by r) (computed ≡ Err r) (made is.1)
+
+-- a refusal that is due, or want of memory
+pub due_refused : (r : Refusal) (computed : Result Outcome Refusal) → MatchBool (is_memory r) ⊤ (computed ≡ Err r) → MatchBool (is_lost_by r) ⊤ (computed ≡ Err r)
+due_refused r computed h = memory_is_lost (is_memory r) (is_store r) (computed ≡ Err r) h
+
+pub surely_refused : (r : Refusal) (computed : Result Outcome Refusal) → computed ≡ Err r → MatchBool (is_lost_by r) ⊤ (computed ≡ Err r)
+surely_refused r computed h = by_loss (is_lost_by r)
+  where
+    by_loss : (b : Bool) → MatchBool b ⊤ (computed ≡ Err r)
+    by_loss true = tt
+    by_loss false = h

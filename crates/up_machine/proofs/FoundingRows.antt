@@ -1,4 +1,4 @@
--- The founding's row of a state, and the rows of the state that a new root version or a change of the register leaves.
+-- The founding's row of a state, what is due of the state that a new root version or a change of the register leaves, and its rows.
 use Rattle.std.proofs.Common.{◌≡◌, ℕ, ◌+◌, ◌-◌, ◌<◌, List, [], ◌∷◌, ◌++◌, false, Option, Some, None, length, refl, sym, ap, ◌∙◌, subst, arith}
 use Rattle.std.specs.Prelude.{slice_get, option_map, map, is_some}
 use Rattle.std.specs.FinMap as table
@@ -9,13 +9,14 @@ use Rattle.up_roles.specs.declared.repository.Repository.TheVariants.{Director, 
 use Rattle.up_plan.specs.Images.{ImageData}
 use Rattle.up_machine.specs.declared.keys.KeySet.{KeySet}
 use Rattle.up_machine.specs.declared.rows.Founding.{Founding}
+use Rattle.up_machine.specs.declared.decision.NextRoot.{NextRoot}
 use Rattle.up_machine.specs.declared.decision.RootRows.{RootRows}
 use Rattle.up_machine.specs.declared.decision.RoleTexts.{RoleTexts}
 use Rattle.up_machine.specs.State.{Root, State, nth, root_at}
-use Rattle.up_machine.specs.Files.{root_text, role_texts, image_making, target_of}
+use Rattle.up_machine.specs.Files.{Making, root_text, role_texts, image_making, target_of}
 use Rattle.up_machine.specs.Rows.{founding_row}
 use Rattle.up_machine.specs.Repositories.{stamped, with_root}
-use Rattle.up_machine.specs.Decisions.{HasRootRows, HasRegisterRows}
+use Rattle.up_machine.specs.Decisions.{HasRoot, HasFounding, HasRootRows, HasRegisterRows}
 use Rattle.up_canon.proofs.Steps.{map_some}
 use Rattle.up_machine.proofs.Keeping.{nth_stays}
 use Rattle.up_machine.proofs.Repeating.{nth_at_place}
@@ -98,47 +99,69 @@ old_before s at keys f h =
     ∙ ap (option_map (λ (r : Root). r.keys)) (nth_stays s.roots _ (length s.roots) of.root of.there)
     ∙ ap (λ (f : Founding). Some f.keys) (sym of.is)
 
--- ---- the rows of the next state
+-- ---- what is due
 
--- the image repository's files
-abbrev pub files_of : Rules → KeySet → ℕ → ℕ → List ImageData → RoleTexts
-files_of k keys version at images = role_texts k (record { repository = Image; keys = keys; vehicle = None; version = version; at = at; targets = map (target_of None) images })
-
-abbrev pub root_rows_of : Rules → ℕ → KeySet → ℕ → Option Root → ℕ → List ImageData → RootRows
-root_rows_of k number keys at before version images = record {
-  founding = record { root = number; keys = keys; image_version = version; stamp = at };
-  director = root_text k Director number (record { keys = keys; at = at }) before;
-  image = root_text k Image number (record { keys = keys; at = at }) before;
-  files = files_of k keys version at images;
-}
-
-pub root_rows_hold : (k : Rules) (s : State) (at : ℕ) (keys : KeySet) (version number : ℕ) → number ≡ 1 + length s.roots
-    → HasRootRows k (stamped (with_root s at keys) at version) (root_rows_of k number keys at (root_before s at keys) version (table.values s.images))
-root_rows_hold k s at keys version number is =
+pub root_is_due : (s : State) (at : ℕ) (keys : KeySet) (version number : ℕ) (before : Option KeySet) → number ≡ 1 + length s.roots → option_map (λ r. r.keys) (root_before s at keys) ≡ before
+    → HasRoot (stamped (with_root s at keys) at version) (record { founding = record { root = number; keys = keys; image_version = version; stamp = at }; before = before })
+root_is_due s at keys version number before is old =
     let next = stamped (with_root s at keys) at version in
     let root : Root = record { keys = keys; at = at } in
     let last : root_at next (length next.roots) ≡ Some root = new_last s.roots root in
-    subst (λ n. HasRootRows k next (root_rows_of k n keys at (root_before s at keys) version (table.values s.images))) (new_number s at keys ∙ sym is) (record {
+    subst (λ n. HasRoot next (record { founding = record { root = n; keys = keys; image_version = version; stamp = at }; before = before })) (new_number s at keys ∙ sym is) (record {
+      root = last;
       founding = ap (option_map (row_of next)) last;
-      root = root;
-      there = last;
-      director = refl;
-      image = refl;
-      files = ap (option_map (λ r. role_texts k (image_making next r))) last;
+      before = old;
     })
 
-pub register_rows_hold : (k : Rules) (s : State) (images : Table ImageData) (at version : ℕ) (f : Founding) → Some f ≡ founding_row s
-    → HasRegisterRows k (stamped (record s { images = images }) at version) (record {
-      founding = record { root = f.root; keys = f.keys; image_version = version; stamp = at };
-      files = files_of k f.keys version at (table.values images);
-    })
-register_rows_hold k s images at version f h =
-    let of = founding_of s f h in
+-- the founding's row with new files of the image repository
+abbrev pub row_with : Founding → ℕ → ℕ → Founding
+row_with f version at = record { root = f.root; keys = f.keys; image_version = version; stamp = at }
+
+pub files_are_due : (s : State) (images : Table ImageData) (at version : ℕ) (f : Founding) → founding_row s ≡ Some f
+    → HasFounding (stamped (record s { images = images }) at version) (row_with f version at)
+files_are_due s images at version f h =
+    let of = founding_of s f (sym h) in
     let next = stamped (record s { images = images }) at version in
-    subst (λ (f : Founding). HasRegisterRows k next (record {
-      founding = record { root = f.root; keys = f.keys; image_version = version; stamp = at };
-      files = files_of k f.keys version at (table.values images);
-    })) (sym of.is) (record {
-      founding = ap (option_map (row_of next)) of.there;
-      files = ap (option_map (λ r. role_texts k (image_making next r))) of.there;
-    })
+    subst (λ f. HasFounding next (row_with f version at)) (sym of.is) (ap (option_map (row_of next)) of.there)
+
+-- ---- the rows of what is due
+
+abbrev making_of : KeySet → ℕ → ℕ → List ImageData → Making
+making_of keys version at images = record { repository = Image; keys = keys; vehicle = None; version = version; at = at; targets = map (target_of None) images }
+
+-- the image repository's files
+abbrev pub files_of : Rules → Founding → List ImageData → RoleTexts
+files_of k f images = role_texts k (record { repository = Image; keys = f.keys; vehicle = None; version = f.image_version; at = f.stamp; targets = map (target_of None) images })
+
+abbrev pub root_rows_of : Rules → NextRoot → Option Root → List ImageData → RootRows
+root_rows_of k new before images = record {
+  founding = new.founding;
+  director = root_text k Director new.founding.root (record { keys = new.founding.keys; at = new.founding.stamp }) before;
+  image = root_text k Image new.founding.root (record { keys = new.founding.keys; at = new.founding.stamp }) before;
+  files = files_of k new.founding images;
+}
+
+pub root_rows_hold : (k : Rules) (next : State) (new : NextRoot) → HasRoot next new → HasRootRows k next (root_rows_of k new (root_at next (length next.roots - 1)) (table.values next.images))
+root_rows_hold k next new has =
+    let of = founding_of next new.founding (sym has.founding) in
+    let number : new.founding.root ≡ length next.roots = ap (λ f. f.root) of.is in
+    let version : new.founding.image_version ≡ next.image_version = ap (λ f. f.image_version) of.is in
+    let stamp : new.founding.stamp ≡ next.stamp = ap (λ f. f.stamp) of.is in
+    let before = root_at next (length next.roots - 1) in
+    let root : Root = record { keys = new.founding.keys; at = new.founding.stamp } in record {
+      founding = has.founding;
+      root = root;
+      there = has.root;
+      director = ap (λ n. root_text k Director n root before) number;
+      image = ap (λ n. root_text k Image n root before) number;
+      files = ap (option_map (λ r. role_texts k (image_making next r))) has.root
+          ∙ ap (λ v. Some (role_texts k (making_of new.founding.keys v next.stamp (table.values next.images)))) (sym version)
+          ∙ ap (λ t. Some (role_texts k (making_of new.founding.keys new.founding.image_version t (table.values next.images)))) (sym stamp);
+    }
+
+pub register_rows_hold : (k : Rules) (next : State) (f : Founding) → HasFounding next f → HasRegisterRows k next (record { founding = f; files = files_of k f (table.values next.images) })
+register_rows_hold k next f has =
+    let of = founding_of next f (sym has) in record {
+      founding = has;
+      files = ap (option_map (λ r. role_texts k (image_making next r))) of.there ∙ ap (λ f. Some (files_of k f (table.values next.images))) (sym of.is);
+    }

@@ -1,6 +1,6 @@
 -- What new files of both repositories are made of.
-use Rattle.std.proofs.Common.{◌≡◌, List, [], ◌∷◌, Option, Some, None, refl, ap}
-use Rattle.std.specs.Prelude.{⊤, map, IsTrue, MatchOption}
+use Rattle.std.proofs.Common.{◌≡◌, List, [], ◌∷◌, Option, Some, None, refl, sym, ap, subst}
+use Rattle.std.specs.Prelude.{⊤, map, IfSome, IsTrue, MatchOption, option_copied}
 use Rattle.up_sign.specs.Schemes.{Rules}
 use Rattle.up_roles.specs.declared.repository.Repository.{Repository}
 use Rattle.up_roles.specs.declared.repository.Repository.TheVariants.{Director, Image}
@@ -25,11 +25,19 @@ both_sign k keys h = let fit = both_fit k keys h in (fitting_sign k keys.directo
 pub each_signs : (k : Rules) (keys : KeySet) → IsTrue (all_can_sign k keys) → IsTrue (roles_can_sign k keys.director) × IsTrue (roles_can_sign k keys.image)
 each_signs k keys h = (and_left _ _ h, and_right (roles_can_sign k keys.director) _ h)
 
-pub both_sign_before : (k : Rules) (repository : Repository) (before : Option (Bor KeySet)) → MatchOption before ⊤ (λ b. IsTrue (all_can_sign k b.now))
+pub both_sign_before : (k : Rules) (repository : Repository) (before : Option (Bor KeySet)) (b : Option KeySet) → option_copied before ≡ b → IfSome b (λ b. IsTrue (all_can_sign k b))
     → MatchOption before ⊤ (λ b. IsTrue (can_sign k (keys_of repository b.now).root))
-both_sign_before k repository None h = tt
-both_sign_before k Director (Some b) h = (roles_sign k b.now.director (each_signs k b.now h).0).0
-both_sign_before k Image (Some b) h = (roles_sign k b.now.image (each_signs k b.now h).1).0
+both_sign_before k repository None b is h = tt
+both_sign_before k repository (Some keys) b is h = by_repository repository (subst (λ (o : Option KeySet). IfSome o (λ b. IsTrue (all_can_sign k b))) (sym is) h)
+  where
+    by_repository : (r : Repository) → IsTrue (all_can_sign k keys.now) → IsTrue (can_sign k (keys_of r keys.now).root)
+    by_repository Director h = (roles_sign k keys.now.director (each_signs k keys.now h).0).0
+    by_repository Image h = (roles_sign k keys.now.image (each_signs k keys.now h).1).0
+
+-- the keys of the repository fit
+pub of_both : (k : Rules) (repository : Repository) (keys : KeySet) → IsTrue (key_set_fits k keys) → IsTrue (repository_fits k (keys_of repository keys))
+of_both k Director keys h = (both_fit k keys h).0
+of_both k Image keys h = (both_fit k keys h).1
 
 -- the image repository's targets name no ECU
 none_named : (images : List ImageData) → ecus_of (map (target_of None) images) ≡ []
