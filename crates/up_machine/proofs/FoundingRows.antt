@@ -1,15 +1,17 @@
 -- The founding's row of a state, what is due of the state that a new root version or a change of the register leaves, and its rows.
-use Rattle.std.proofs.Common.{◌≡◌, ℕ, ◌+◌, ◌-◌, ◌<◌, List, [], ◌∷◌, ◌++◌, false, Option, Some, None, length, refl, sym, ap, ◌∙◌, subst, arith}
-use Rattle.std.specs.Prelude.{slice_get, option_map, map, is_some}
+use Rattle.std.proofs.Common.{◌≡◌, ℕ, ◌+◌, ◌-◌, ◌<◌, List, [], ◌∷◌, ◌++◌, false, Option, Some, None, Result, Ok, Err, length, refl, sym, ap, ◌∙◌, subst, arith}
+use Rattle.std.specs.Prelude.{slice_get, option_map, map, is_some, IfOk}
 use Rattle.std.specs.FinMap as table
 use Rattle.std.proofs.lemmas.List.{length-append}
 use Rattle.up_canon.specs.Names.{Table}
 use Rattle.up_sign.specs.Schemes.{Rules}
 use Rattle.up_roles.specs.declared.repository.Repository.TheVariants.{Director, Image}
+use Rattle.up_roles.specs.declared.targets.Target.{Target}
 use Rattle.up_plan.specs.Images.{ImageData}
 use Rattle.up_machine.specs.declared.keys.KeySet.{KeySet}
 use Rattle.up_machine.specs.declared.rows.Founding.{Founding}
 use Rattle.up_machine.specs.declared.decision.NextRoot.{NextRoot}
+use Rattle.up_machine.specs.declared.decision.RegisterRows.{RegisterRows}
 use Rattle.up_machine.specs.declared.decision.RootRows.{RootRows}
 use Rattle.up_machine.specs.declared.decision.RoleTexts.{RoleTexts}
 use Rattle.up_machine.specs.State.{Root, State, nth, root_at}
@@ -165,3 +167,11 @@ register_rows_hold k next f has =
       founding = has;
       files = ap (option_map (λ r. role_texts k (image_making next r))) of.there ∙ ap (λ f. Some (files_of k f (table.values next.images))) (sym of.is);
     }
+
+pub if_made : {E : Type 0} (k : Rules) (next : State) (f : Founding) → HasFounding next f → (result : Result RegisterRows E) (targets : List Target) → targets ≡ map (target_of None) (table.values next.images)
+    → IfOk result (λ rows. rows ≡ record { founding = f; files = role_texts k (record { repository = Image; keys = f.keys; vehicle = None; version = f.image_version; at = f.stamp; targets = targets }) })
+    → IfOk result (λ rows. HasRegisterRows k next rows)
+if_made k next f has (Ok rows) targets are is =
+    let same = is ∙ ap (λ (ts : List Target). record { founding = f; files = role_texts k (record { repository = Image; keys = f.keys; vehicle = None; version = f.image_version; at = f.stamp; targets = ts }) }) are in
+    subst (HasRegisterRows k next) (sym same) (register_rows_hold k next f has)
+if_made k next f has (Err e) targets are is = tt

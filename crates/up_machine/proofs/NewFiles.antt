@@ -1,15 +1,21 @@
 -- What new files of both repositories are made of.
-use Rattle.std.proofs.Common.{◌≡◌, List, [], ◌∷◌, Option, Some, None, refl, sym, ap, subst}
-use Rattle.std.specs.Prelude.{⊤, map, IfSome, IsTrue, MatchOption, option_copied}
+use Rattle.std.proofs.Common.{◌≡◌, ℕ, ◌≤◌, Bool, true, List, [], ◌∷◌, Option, Some, None, refl, sym, ap, ap₂, subst, arith}
+use Rattle.std.specs.Prelude.{⊤, ◌&&◌, nat_le, map, IfSome, IsTrue, MatchOption, option_copied}
+use Rattle.std.proofs.lemmas.Bool.Decides.{nat_tests}
+use Rattle.up_canon.specs.Canon.{max_count}
+use Rattle.up_canon.specs.Moments.{last_command_moment}
 use Rattle.up_sign.specs.Schemes.{Rules}
 use Rattle.up_roles.specs.declared.repository.Repository.{Repository}
 use Rattle.up_roles.specs.declared.repository.Repository.TheVariants.{Director, Image}
 use Rattle.up_canon.specs.Names.{are_distinct}
 use Rattle.up_roles.specs.Targets.{ecus_of}
 use Rattle.up_plan.specs.Images.{ImageData}
+use Rattle.up_roles.specs.Payload.{version_fits}
+use Rattle.up_machine.specs.declared.decision.NextRoot.{NextRoot}
 use Rattle.up_machine.specs.declared.keys.KeySet.{KeySet}
+use Rattle.up_machine.specs.declared.rows.Founding.{Founding}
 use Rattle.up_machine.specs.Keys.{repository_fits, key_set_fits}
-use Rattle.up_machine.specs.RowsFit.{can_sign, roles_can_sign, all_can_sign}
+use Rattle.up_machine.specs.RowsFit.{can_sign, roles_can_sign, all_can_sign, founding_fits, CanMakeFiles, CanMakeRoot}
 use Rattle.up_machine.specs.Files.{keys_of, target_of}
 use Rattle.up_machine.proofs.Lists.{and_left, and_right}
 use Rattle.up_machine.proofs.Makings.{roles_sign, fitting_sign}
@@ -46,3 +52,22 @@ none_named (image ∷ images) = none_named images
 
 pub no_ecus : (images : List ImageData) → IsTrue (are_distinct (ecus_of (map (target_of None) images)))
 no_ecus images = ap are_distinct (none_named images)
+
+-- ---- what can be made
+
+both : (a b : Bool) → a ≡ true → b ≡ true → (a && b) ≡ true
+both a b h h' = ap₂ (λ x y. x && y) h h'
+
+pub version_in_limits : (n : ℕ) → 1 ≤ n → n ≤ max_count → IsTrue (version_fits n)
+version_in_limits n low high =
+    let from : nat_le 1 n ≡ true = grind (arith, nat_tests) in
+    let to : nat_le n max_count ≡ true = grind (arith, nat_tests) in
+    both _ _ from to
+
+-- keys that can sign, with a version in its limits and a command's moment
+pub files_can_be_made : (k : Rules) (f : Founding) → IsTrue (founding_fits k f) → 1 ≤ f.image_version → f.image_version ≤ max_count → f.stamp ≤ last_command_moment → CanMakeFiles k f
+files_can_be_made k f fits low high moment = record { keys = (each_signs k f.keys fits).1; version = version_in_limits f.image_version low high; moment = moment }
+
+-- the image repository's files of a root version
+pub root_makes_files : (k : Rules) (new : NextRoot) → CanMakeRoot k new → CanMakeFiles k new.founding
+root_makes_files k new can = record { keys = (both_sign k new.founding.keys can.keys).1; version = can.version; moment = can.moment }

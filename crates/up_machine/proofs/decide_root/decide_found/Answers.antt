@@ -1,0 +1,37 @@
+use Rattle.std.proofs.Common.{None, refl, sym, ◌∙◌, subst, arith}
+use Rattle.up_machine.specs.Decisions.{HasRoot}
+use Rattle.up_machine.specs.RowsFit.{CanMakeRoot}
+use Rattle.up_machine.specs.Repositories.{stamped, with_root}
+use Rattle.up_machine.specs.Rows.{founding_row}
+use Rattle.up_machine.proofs.Decided.{keys_passed}
+use Rattle.up_machine.proofs.Keeping.{there}
+use Rattle.up_machine.proofs.FoundingRows.{none_there, unfounded, has_roots, none_before, root_is_due}
+use Rattle.up_machine.proofs.RootDecisions.{passed_on, found_gives, found_again, found_done}
+use Rattle.up_machine.proofs.decide_root.decide_found.Goals as goal
+
+pub returns-in_err-check_keys-clause-decided : goal.returns-in_err-check_keys-clause-decided
+returns-in_err-check_keys-clause-decided g c = λ s founded.
+    passed_on _ _ c.from_residual.result _ c.in_err-check_keys.field-0.0 c.from_residual.ensures.1
+    (found_gives (g.K.Scheme.rules c.args.scheme.now) s c.args.at c.args.keys.now c.in_err-check_keys.field-0.0 c.requires c.in_err-check_keys.ensures)
+
+pub returns-then-is_founded-clause-decided : goal.returns-then-is_founded-clause-decided
+returns-then-is_founded-clause-decided g c = λ s founded.
+    let some = there (founding_row s) (sym founded ∙ c.if-is_founded.true) in
+    found_again (g.K.Scheme.rules c.args.scheme.now) s c.args.at c.args.keys.now c.requires c.in_ok-check_keys.ensures (has_roots s some.0 (sym some.1))
+
+pub returns-clause-decided : goal.returns-clause-decided
+returns-clause-decided g c = λ s founded.
+    let k = g.K.Scheme.rules c.args.scheme.now in
+    let at = c.args.at in
+    let keys = c.args.keys.now in
+    let none = unfounded s (sym (none_there (founding_row s) (sym founded ∙ c.if-is_founded.false))) in (
+      found_done k s at keys c.requires c.in_ok-check_keys.ensures none,
+      subst (λ f. HasRoot (stamped (with_root s at keys) at 1) (record { founding = f; before = None })) (sym c.in_ok-founding.ensures)
+          (root_is_due s at keys 1 1 None (omega (arith, none)) (none_before s at keys none)),
+    )
+
+pub returns-clause-fits : goal.returns-clause-fits
+returns-clause-fits g c =
+    let k = g.K.Scheme.rules c.args.scheme.now in
+    subst (λ f. CanMakeRoot k (record { founding = f; before = None })) (sym c.in_ok-founding.ensures)
+    (record { keys = keys_passed k c.args.keys.now _ c.in_ok-check_keys.ensures; before = tt; number = refl; version = refl; moment = c.requires })
