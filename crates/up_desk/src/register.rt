@@ -112,7 +112,9 @@ fn decide_named<K: Scheme, D: Alter>(
 {
     match decide_image(at, image, founding, old) {
         Ok(Decision::Already) => Ok(Decision::Already),
-        Ok(Decision::New(founding)) => Ok(Decision::New(decide_new(store, alloc, scheme, at, image, founding)?)),
+        Ok(Decision::New(founding)) => Ok(Decision::New(decide_new(
+            store, alloc, scheme, at, image, founding,
+        )?)),
         Err(refusal) => Err(refusal),
     }
 }
