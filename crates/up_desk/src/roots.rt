@@ -84,7 +84,7 @@ fn decide_founding_after<K: Scheme, D: Alter>(
     ensures reads { Reads (state D.Store store.old) (state D.Store store.new) }
 {
     match decide_found(alloc, scheme, at, keys, founded) {
-        Ok(new) => make_rows(store, alloc, scheme, new),
+        Ok(new) => make_rows(store, alloc, scheme, at, keys, &new),
         Err(refusal) => Err(refusal),
     }
 }
@@ -145,7 +145,7 @@ fn decide_rotation_after<K: Scheme, D: Alter>(
     ensures reads { Reads (state D.Store store.old) (state D.Store store.new) }
 {
     match decide_rotate(alloc, scheme, at, keys, founding) {
-        Ok(new) => make_rows(store, alloc, scheme, new),
+        Ok(new) => make_rows(store, alloc, scheme, at, keys, &new),
         Err(refusal) => Err(refusal),
     }
 }
@@ -155,15 +155,17 @@ fn make_rows<K: Scheme, D: Alter>(
     store: &mut Store<D>,
     alloc: Global,
     scheme: &K,
-    new: NextRoot,
+    at: Moment,
+    keys: &KeySet,
+    new: &NextRoot,
 ) -> Result<RootRows, Refusal>
-    requires { CanMakeRoot (K.rules scheme.now) new }
+    requires { CanMakeRoot (K.rules scheme.now) at keys.now new.now }
     ensures made { HasCleanDisk (state D.Store store.new) → (s next : State) → IfClean (KeepsState (K.rules scheme.now) s) (state D.Store store.old)
-        → HasRoot next new → next.images ≡ s.images → MadeOrLost (HasRootRows (K.rules scheme.now) next) result }
+        → HasRoot next at keys.now new.now → next.images ≡ s.images → MadeOrLost (HasRootRows (K.rules scheme.now) next) result }
     ensures reads { Reads (state D.Store store.old) (state D.Store store.new) }
 {
     match store.images(alloc) {
-        Ok(images) => Ok(root_rows(alloc, scheme, new, &images)?),
+        Ok(images) => Ok(root_rows(alloc, scheme, at, keys, new, &images)?),
         Err(fault) => Err(refusal_of(fault)),
     }
 }

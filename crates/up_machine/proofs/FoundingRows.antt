@@ -18,7 +18,7 @@ use Rattle.up_machine.specs.State.{Root, State, nth, root_at}
 use Rattle.up_machine.specs.Files.{Making, root_text, role_texts, image_making, target_of}
 use Rattle.up_machine.specs.Rows.{founding_row}
 use Rattle.up_machine.specs.Repositories.{stamped, with_root}
-use Rattle.up_machine.specs.Decisions.{HasRoot, HasFounding, HasRootRows, HasRegisterRows}
+use Rattle.up_machine.specs.Decisions.{row_with_root, HasRoot, HasFounding, HasRootRows, HasRegisterRows}
 use Rattle.up_canon.proofs.Steps.{map_some}
 use Rattle.up_machine.proofs.Keeping.{nth_stays}
 use Rattle.up_machine.proofs.Repeating.{nth_at_place}
@@ -104,16 +104,15 @@ old_before s at keys f h =
 -- ---- what is due
 
 pub root_is_due : (s : State) (at : ℕ) (keys : KeySet) (version number : ℕ) (before : Option KeySet) → number ≡ 1 + length s.roots → option_map (λ r. r.keys) (root_before s at keys) ≡ before
-    → HasRoot (stamped (with_root s at keys) at version) (record { founding = record { root = number; keys = keys; image_version = version; stamp = at }; before = before })
+    → HasRoot (stamped (with_root s at keys) at version) at keys (record { number = number; version = version; before = before })
 root_is_due s at keys version number before is old =
     let next = stamped (with_root s at keys) at version in
     let root : Root = record { keys = keys; at = at } in
-    let last : root_at next (length next.roots) ≡ Some root = new_last s.roots root in
-    subst (λ n. HasRoot next (record { founding = record { root = n; keys = keys; image_version = version; stamp = at }; before = before })) (new_number s at keys ∙ sym is) (record {
+    let last : root_at next (length next.roots) ≡ Some root = new_last s.roots root in record {
       root = last;
-      founding = ap (option_map (row_of next)) last;
+      founding = ap (option_map (row_of next)) last ∙ ap (λ n. Some (row_with_root at keys (record { number = n; version = version; before = before }))) (new_number s at keys ∙ sym is);
       before = old;
-    })
+    }
 
 -- the founding's row with new files of the image repository
 abbrev pub row_with : Founding → ℕ → ℕ → Founding
@@ -128,38 +127,12 @@ files_are_due s images at version f h =
 
 -- ---- the rows of what is due
 
-abbrev making_of : KeySet → ℕ → ℕ → List ImageData → Making
-making_of keys version at images = record { repository = Image; keys = keys; vehicle = None; version = version; at = at; targets = map (target_of None) images }
-
 -- the image repository's files
+abbrev pub making_of : Founding → List Target → Making
+making_of f targets = record { repository = Image; keys = f.keys; vehicle = None; version = f.image_version; at = f.stamp; targets = targets }
+
 abbrev pub files_of : Rules → Founding → List ImageData → RoleTexts
-files_of k f images = role_texts k (record { repository = Image; keys = f.keys; vehicle = None; version = f.image_version; at = f.stamp; targets = map (target_of None) images })
-
-abbrev pub root_rows_of : Rules → NextRoot → Option Root → List ImageData → RootRows
-root_rows_of k new before images = record {
-  founding = new.founding;
-  director = root_text k Director new.founding.root (record { keys = new.founding.keys; at = new.founding.stamp }) before;
-  image = root_text k Image new.founding.root (record { keys = new.founding.keys; at = new.founding.stamp }) before;
-  files = files_of k new.founding images;
-}
-
-pub root_rows_hold : (k : Rules) (next : State) (new : NextRoot) → HasRoot next new → HasRootRows k next (root_rows_of k new (root_at next (length next.roots - 1)) (table.values next.images))
-root_rows_hold k next new has =
-    let of = founding_of next new.founding (sym has.founding) in
-    let number : new.founding.root ≡ length next.roots = ap (λ f. f.root) of.is in
-    let version : new.founding.image_version ≡ next.image_version = ap (λ f. f.image_version) of.is in
-    let stamp : new.founding.stamp ≡ next.stamp = ap (λ f. f.stamp) of.is in
-    let before = root_at next (length next.roots - 1) in
-    let root : Root = record { keys = new.founding.keys; at = new.founding.stamp } in record {
-      founding = has.founding;
-      root = root;
-      there = has.root;
-      director = ap (λ n. root_text k Director n root before) number;
-      image = ap (λ n. root_text k Image n root before) number;
-      files = ap (option_map (λ r. role_texts k (image_making next r))) has.root
-          ∙ ap (λ v. Some (role_texts k (making_of new.founding.keys v next.stamp (table.values next.images)))) (sym version)
-          ∙ ap (λ t. Some (role_texts k (making_of new.founding.keys new.founding.image_version t (table.values next.images)))) (sym stamp);
-    }
+files_of k f images = role_texts k (making_of f (map (target_of None) images))
 
 pub register_rows_hold : (k : Rules) (next : State) (f : Founding) → HasFounding next f → HasRegisterRows k next (record { founding = f; files = files_of k f (table.values next.images) })
 register_rows_hold k next f has =
@@ -168,10 +141,44 @@ register_rows_hold k next f has =
       files = ap (option_map (λ r. role_texts k (image_making next r))) of.there ∙ ap (λ f. Some (files_of k f (table.values next.images))) (sym of.is);
     }
 
-pub if_made : {E : Type 0} (k : Rules) (next : State) (f : Founding) → HasFounding next f → (result : Result RegisterRows E) (targets : List Target) → targets ≡ map (target_of None) (table.values next.images)
-    → IfOk result (λ rows. rows ≡ record { founding = f; files = role_texts k (record { repository = Image; keys = f.keys; vehicle = None; version = f.image_version; at = f.stamp; targets = targets }) })
-    → IfOk result (λ rows. HasRegisterRows k next rows)
-if_made k next f has (Ok rows) targets are is =
-    let same = is ∙ ap (λ (ts : List Target). record { founding = f; files = role_texts k (record { repository = Image; keys = f.keys; vehicle = None; version = f.image_version; at = f.stamp; targets = ts }) }) are in
-    subst (HasRegisterRows k next) (sym same) (register_rows_hold k next f has)
-if_made k next f has (Err e) targets are is = tt
+abbrev pub root_rows_of : Rules → ℕ → KeySet → NextRoot → Option Root → List ImageData → RootRows
+root_rows_of k at keys new before images = record {
+  founding = row_with_root at keys new;
+  director = root_text k Director new.number (record { keys = keys; at = at }) before;
+  image = root_text k Image new.number (record { keys = keys; at = at }) before;
+  files = files_of k (row_with_root at keys new) images;
+}
+
+pub root_rows_hold : (k : Rules) (next : State) (at : ℕ) (keys : KeySet) (new : NextRoot) → HasRoot next at keys new
+    → HasRootRows k next (root_rows_of k at keys new (root_at next (length next.roots - 1)) (table.values next.images))
+root_rows_hold k next at keys new has =
+    let of = founding_of next (row_with_root at keys new) (sym has.founding) in
+    let number : new.number ≡ length next.roots = ap (λ f. f.root) of.is in
+    let before = root_at next (length next.roots - 1) in
+    let root : Root = record { keys = keys; at = at } in record {
+      founding = has.founding;
+      root = root;
+      there = has.root;
+      director = ap (λ n. root_text k Director n root before) number;
+      image = ap (λ n. root_text k Image n root before) number;
+      files = (register_rows_hold k next (row_with_root at keys new) has.founding).files;
+    }
+
+-- what is made of the targets of these images
+pub of_targets : {E : Type 0} (k : Rules) (f : Founding) (images : List ImageData) (targets : List Target) → targets ≡ map (target_of None) images → (result : Result RegisterRows E)
+    → IfOk result (λ rows. rows ≡ record { founding = f; files = role_texts k (making_of f targets) }) → IfOk result (λ rows. rows ≡ record { founding = f; files = files_of k f images })
+of_targets k f images targets are (Ok rows) is = is ∙ ap (λ ts. record { founding = f; files = role_texts k (making_of f ts) }) are
+of_targets k f images targets are (Err e) is = tt
+
+-- what is made of these images
+pub register_rows_are : {E : Type 0} (k : Rules) (next : State) (f : Founding) → HasFounding next f → (images : List ImageData) → images ≡ table.values next.images → (result : Result RegisterRows E)
+    → IfOk result (λ rows. rows ≡ record { founding = f; files = files_of k f images }) → IfOk result (λ rows. HasRegisterRows k next rows)
+register_rows_are k next f has images are (Ok rows) is =
+    subst (HasRegisterRows k next) (sym (is ∙ ap (λ xs. record { founding = f; files = files_of k f xs }) are)) (register_rows_hold k next f has)
+register_rows_are k next f has images are (Err e) is = tt
+
+pub root_rows_are : {E : Type 0} (k : Rules) (next : State) (at : ℕ) (keys : KeySet) (new : NextRoot) → HasRoot next at keys new → (images : List ImageData) → images ≡ table.values next.images → (result : Result RootRows E)
+    → IfOk result (λ rows. rows ≡ root_rows_of k at keys new (root_at next (length next.roots - 1)) images) → IfOk result (λ rows. HasRootRows k next rows)
+root_rows_are k next at keys new has images are (Ok rows) is =
+    subst (HasRootRows k next) (sym (is ∙ ap (root_rows_of k at keys new (root_at next (length next.roots - 1))) are)) (root_rows_hold k next at keys new has)
+root_rows_are k next at keys new has images are (Err e) is = tt

@@ -11,11 +11,10 @@ use Rattle.up_canon.specs.Names.{are_distinct}
 use Rattle.up_roles.specs.Targets.{ecus_of}
 use Rattle.up_plan.specs.Images.{ImageData}
 use Rattle.up_roles.specs.Payload.{version_fits}
-use Rattle.up_machine.specs.declared.decision.NextRoot.{NextRoot}
 use Rattle.up_machine.specs.declared.keys.KeySet.{KeySet}
 use Rattle.up_machine.specs.declared.rows.Founding.{Founding}
 use Rattle.up_machine.specs.Keys.{repository_fits, key_set_fits}
-use Rattle.up_machine.specs.RowsFit.{can_sign, roles_can_sign, all_can_sign, founding_fits, CanMakeFiles, CanMakeRoot}
+use Rattle.up_machine.specs.RowsFit.{can_sign, roles_can_sign, all_can_sign, founding_fits, CanMakeFiles}
 use Rattle.up_machine.specs.Files.{keys_of, target_of}
 use Rattle.up_machine.proofs.Lists.{and_left, and_right}
 use Rattle.up_machine.proofs.Makings.{roles_sign, fitting_sign}
@@ -31,19 +30,15 @@ both_sign k keys h = let fit = both_fit k keys h in (fitting_sign k keys.directo
 pub each_signs : (k : Rules) (keys : KeySet) → IsTrue (all_can_sign k keys) → IsTrue (roles_can_sign k keys.director) × IsTrue (roles_can_sign k keys.image)
 each_signs k keys h = (and_left _ _ h, and_right (roles_can_sign k keys.director) _ h)
 
-pub both_sign_before : (k : Rules) (repository : Repository) (before : Option (Bor KeySet)) (b : Option KeySet) → option_copied before ≡ b → IfSome b (λ b. IsTrue (all_can_sign k b))
+pub both_sign_before : (k : Rules) (repository : Repository) (before : Option (Bor KeySet)) → MatchOption before ⊤ (λ b. IsTrue (all_can_sign k b.now))
     → MatchOption before ⊤ (λ b. IsTrue (can_sign k (keys_of repository b.now).root))
-both_sign_before k repository None b is h = tt
-both_sign_before k repository (Some keys) b is h = by_repository repository (subst (λ (o : Option KeySet). IfSome o (λ b. IsTrue (all_can_sign k b))) (sym is) h)
-  where
-    by_repository : (r : Repository) → IsTrue (all_can_sign k keys.now) → IsTrue (can_sign k (keys_of r keys.now).root)
-    by_repository Director h = (roles_sign k keys.now.director (each_signs k keys.now h).0).0
-    by_repository Image h = (roles_sign k keys.now.image (each_signs k keys.now h).1).0
+both_sign_before k repository None h = tt
+both_sign_before k Director (Some b) h = (roles_sign k b.now.director (each_signs k b.now h).0).0
+both_sign_before k Image (Some b) h = (roles_sign k b.now.image (each_signs k b.now h).1).0
 
--- the keys of the repository fit
-pub of_both : (k : Rules) (repository : Repository) (keys : KeySet) → IsTrue (key_set_fits k keys) → IsTrue (repository_fits k (keys_of repository keys))
-of_both k Director keys h = (both_fit k keys h).0
-of_both k Image keys h = (both_fit k keys h).1
+pub lent_before : (k : Rules) (before : Option (Bor KeySet)) (b : Option KeySet) → option_copied before ≡ b → IfSome b (λ b. IsTrue (all_can_sign k b)) → MatchOption before ⊤ (λ b. IsTrue (all_can_sign k b.now))
+lent_before k None b is h = tt
+lent_before k (Some keys) b is h = subst (λ (o : Option KeySet). IfSome o (λ b. IsTrue (all_can_sign k b))) (sym is) h
 
 -- the image repository's targets name no ECU
 none_named : (images : List ImageData) → ecus_of (map (target_of None) images) ≡ []
@@ -67,7 +62,3 @@ version_in_limits n low high =
 -- keys that can sign, with a version in its limits and a command's moment
 pub files_can_be_made : (k : Rules) (f : Founding) → IsTrue (founding_fits k f) → 1 ≤ f.image_version → f.image_version ≤ max_count → f.stamp ≤ last_command_moment → CanMakeFiles k f
 files_can_be_made k f fits low high moment = record { keys = (each_signs k f.keys fits).1; version = version_in_limits f.image_version low high; moment = moment }
-
--- the image repository's files of a root version
-pub root_makes_files : (k : Rules) (new : NextRoot) → CanMakeRoot k new → CanMakeFiles k new.founding
-root_makes_files k new can = record { keys = (both_sign k new.founding.keys can.keys).1; version = can.version; moment = can.moment }

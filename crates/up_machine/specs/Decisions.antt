@@ -20,6 +20,7 @@ use Rattle.up_plan.specs.declared.campaign.Reach.TheVariants.{All, Named}
 use Rattle.up_plan.specs.Campaigns.{CampaignData}
 use Rattle.up_plan.specs.Images.{ImageData}
 use Rattle.up_plan.specs.Planning.{is_for, items_for}
+use Rattle.up_machine.specs.declared.keys.KeySet.{KeySet}
 use Rattle.up_machine.specs.declared.rows.Founding.{Founding}
 use Rattle.up_machine.specs.declared.rows.VehicleRows.{VehicleRows}
 use Rattle.up_machine.specs.declared.answer.Answer.TheVariants.{Reply as Replied, File}
@@ -57,13 +58,17 @@ pub record HasRegisterRows (k : Rules) (next : State) (rows : RegisterRows) : Ty
   pub founding : founding_row next ≡ Some rows.founding
   pub files : image_texts k next ≡ Some rows.files
 
--- the last root version before its files are made: its keys, its moment, the founding's row, and the keys of the version before
-pub record HasRoot (next : State) (new : NextRoot) : Type 0 where
-  pub root : root_at next (length next.roots) ≡ Some (record { keys = new.founding.keys; at = new.founding.stamp })
-  pub founding : founding_row next ≡ Some new.founding
+-- the founding's row with a root version that is due
+abbrev pub row_with_root : ℕ → KeySet → NextRoot → Founding
+row_with_root at keys new = record { root = new.number; keys = keys; image_version = new.version; stamp = at }
+
+-- the last root version, before its files are made: of these keys and this moment, which stamps the image repository's files too
+pub record HasRoot (next : State) (at : ℕ) (keys : KeySet) (new : NextRoot) : Type 0 where
+  pub root : root_at next (length next.roots) ≡ Some (record { keys = keys; at = at })
+  pub founding : founding_row next ≡ Some (row_with_root at keys new)
   pub before : option_map (λ r. r.keys) (root_at next (length next.roots - 1)) ≡ new.before
 
--- the same of the image repository's files
+-- the founding's row, before the image repository's files are made
 abbrev pub HasFounding : State → Founding → Type 0
 HasFounding next founding = founding_row next ≡ Some founding
 

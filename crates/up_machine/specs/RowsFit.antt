@@ -1,6 +1,6 @@
 -- What decisions ask of the rows that they are given: those of a sound state have it, and other rows can be tested. What making files
 -- asks of what is due: each decision gives it.
-use Rattle.std.specs.Prelude.{◌≤◌, ◌&&◌, Bool, IfSome, IsTrue, length, map, nat_le}
+use Rattle.std.specs.Prelude.{ℕ, ◌≤◌, ◌&&◌, Bool, IfSome, IsTrue, length, map, nat_le}
 use Rattle.std.specs.List.{list_all}
 use Rattle.up_canon.specs.Moments.{last_command_moment}
 use Rattle.up_canon.specs.Names.{is_from_to, are_distinct}
@@ -40,9 +40,9 @@ pub record CanMakeFiles (k : Rules) (founding : Founding) : Type 0 where
   pub moment : founding.stamp ≤ last_command_moment
 
 -- the keys fit, those of the version before can sign, and both repositories' files have a version and a command's moment
-pub record CanMakeRoot (k : Rules) (root : NextRoot) : Type 0 where
-  pub keys : IsTrue (key_set_fits k root.founding.keys)
-  pub before : IfSome root.before (λ b. IsTrue (all_can_sign k b))
-  pub number : IsTrue (version_fits root.founding.root)
-  pub version : IsTrue (version_fits root.founding.image_version)
-  pub moment : root.founding.stamp ≤ last_command_moment
+pub record CanMakeRoot (k : Rules) (at : ℕ) (keys : KeySet) (new : NextRoot) : Type 0 where
+  pub keys_fit : IsTrue (key_set_fits k keys)
+  pub before : IfSome new.before (λ b. IsTrue (all_can_sign k b))
+  pub number : IsTrue (version_fits new.number)
+  pub version : IsTrue (version_fits new.version)
+  pub moment : at ≤ last_command_moment

@@ -14,8 +14,7 @@ ghost use Rattle.up_machine.specs.Repositories.{decide_image as decide_image_in,
 ghost use Rattle.up_machine.specs.Decisions.{GivesRows, GivesNewImage, GivesOutright, HasFounding, HasRegisterRows};
 
 use crate::decision::{Decision, RegisterRows};
-use crate::image_targets::targets_with;
-use crate::new_files::register_rows_of;
+use crate::new_files::rows_with_image;
 use crate::rows::Founding;
 use crate::same_image::same_image;
 use std::alloc::Global;
@@ -80,9 +79,9 @@ pub fn decide_new_image<K: Scheme>(
     if founding.image_version >= MAX_COUNT {
         return Err(Refusal::VersionLimit);
     }
-    let targets = targets_with(alloc, images.values(), image)?;
     let version = founding.image_version + 1;
-    Ok(register_rows_of(alloc, scheme, with_version(founding, version, at), targets)?)
+    let founding = with_version(founding, version, at);
+    Ok(rows_with_image(alloc, scheme, founding, images.values(), image)?)
 }
 
 /// Decides on making the image repository's files anew with this version, at a command's moment: `NotFounded`;

@@ -12,9 +12,8 @@ use crate::decision::NextRoot;
 use crate::key_checks::check_keys;
 use crate::keys::KeySet;
 use crate::rows::Founding;
-use std::alloc::{AllocError, Global};
+use std::alloc::Global;
 use up_canon::count::MAX_COUNT;
-use up_canon::listed::Duplicate;
 use up_canon::moment::Moment;
 use up_canon::refusal::Refusal;
 use up_sign::scheme::Scheme;
@@ -33,17 +32,17 @@ pub fn decide_found<K: Scheme>(
 ) -> Result<NextRoot, Refusal>
     requires { at ≤ last_command_moment }
     ensures decided { (s : State) → is_founded ≡ is_some (founding_row s)
-        → GivesRows (HasRoot (stamped (with_root s at keys.now) at 1)) (stamped (with_root s at keys.now) at 1) result
+        → GivesRows (HasRoot (stamped (with_root s at keys.now) at 1) at keys.now) (stamped (with_root s at keys.now) at 1) result
         (decide_found_in (K.rules scheme.now) s at keys.now) }
-    ensures fits { IfOk result (λ new. CanMakeRoot (K.rules scheme.now) new) }
+    ensures fits { IfOk result (λ new. CanMakeRoot (K.rules scheme.now) at keys.now new) }
 {
     check_keys(alloc, scheme, keys)?;
     if is_founded {
         return Err(Refusal::AlreadyFounded);
     }
-    let founding = founding_with(alloc, 1, keys, 1, at)?;
     Ok(NextRoot {
-        founding,
+        number: 1,
+        version: 1,
         before: None,
     })
 }
@@ -60,9 +59,9 @@ pub fn decide_rotate<K: Scheme>(
 ) -> Result<NextRoot, Refusal>
     requires { at ≤ last_command_moment }
     ensures decided { (s : State) → founding ≡ founding_row s
-        → GivesRows (HasRoot (stamped (with_root s at keys.now) at (s.image_version + 1))) (stamped (with_root s at keys.now) at (s.image_version + 1)) result
+        → GivesRows (HasRoot (stamped (with_root s at keys.now) at (s.image_version + 1)) at keys.now) (stamped (with_root s at keys.now) at (s.image_version + 1)) result
         (decide_rotate_in (K.rules scheme.now) s at keys.now) }
-    ensures fits { IfSome founding (λ f. IsTrue (founding_fits (K.rules scheme.now) f)) → IfOk result (λ new. CanMakeRoot (K.rules scheme.now) new) }
+    ensures fits { IfSome founding (λ f. IsTrue (founding_fits (K.rules scheme.now) f)) → IfOk result (λ new. CanMakeRoot (K.rules scheme.now) at keys.now new) }
 {
     check_keys(alloc, scheme, keys)?;
     let Some(old) = founding else {
@@ -74,26 +73,9 @@ pub fn decide_rotate<K: Scheme>(
     if old.image_version >= MAX_COUNT {
         return Err(Refusal::VersionLimit);
     }
-    let founding = founding_with(alloc, old.root + 1, keys, old.image_version + 1, at)?;
     Ok(NextRoot {
-        founding,
+        number: old.root + 1,
+        version: old.image_version + 1,
         before: Some(old.keys),
-    })
-}
-
-fn founding_with(
-    alloc: Global,
-    root: u64,
-    keys: &KeySet,
-    image_version: u64,
-    stamp: Moment,
-) -> Result<Founding, AllocError>
-    ensures { IfOk result (λ founding. founding ≡ record { root = root; keys = keys.now; image_version = image_version; stamp = stamp }) }
-{
-    Ok(Founding {
-        root,
-        keys: keys.copy(alloc)?,
-        image_version,
-        stamp,
     })
 }

@@ -12,11 +12,12 @@ pub struct RoleTexts {
     pub timestamp: Text,
 }
 
-/// A root version that is due, and whose files are not made yet: the founding's row with it, and the keys of the version
-/// before, none at a founding.
+/// A root version that is due: its number, the image repository's version with it, and the keys of the version before, none at
+/// a founding.
 #[derive(Drop)]
 pub struct NextRoot {
-    pub founding: Founding,
+    pub number: u64,
+    pub version: u64,
     pub before: Option<KeySet>,
 }
 

@@ -1,48 +1,127 @@
 //! The rows and files of a root version, or of a change of the register, that is due.
-ghost use Rattle.std.specs.Prelude.{◌≡◌, Option, IsTrue, IfOk, None, option_map};
+ghost use Rattle.std.specs.Prelude.{◌≡◌, ◌≤◌, Option, IsTrue, IfOk, MatchOption, ⊤, None, insert, map, option_copied, option_map};
 ghost use Rattle.std.specs.List.{list_all};
-ghost use Rattle.up_roles.specs.declared.repository.Repository.TheVariants.{Image as ImageRepository};
+ghost use Rattle.up_canon.specs.Moments.{last_command_moment};
+ghost use Rattle.up_roles.specs.declared.repository.Repository.TheVariants.{Director, Image as ImageRepository};
 ghost use Rattle.up_canon.specs.Names.{are_distinct};
+ghost use Rattle.up_roles.specs.Payload.{version_fits};
 ghost use Rattle.up_roles.specs.Targets.{target_fits, ecus_of};
 ghost use Rattle.up_machine.specs.Decisions.{HasFounding, HasRegisterRows, HasRoot, HasRootRows};
-ghost use Rattle.up_machine.specs.Files.{role_texts as role_texts_of, root_text as root_text_of};
-ghost use Rattle.up_machine.specs.RowsFit.{CanMakeFiles, CanMakeRoot};
+ghost use Rattle.up_machine.specs.Files.{role_texts as role_texts_of, root_text as root_text_of, target_of};
+ghost use Rattle.up_machine.specs.Keys.{key_set_fits};
+ghost use Rattle.up_machine.specs.Registers.{place_among};
+ghost use Rattle.up_machine.specs.RowsFit.{all_can_sign, CanMakeFiles, CanMakeRoot};
 ghost use Rattle.up_machine.specs.State.{Root, State};
 
 use crate::decision::{NextRoot, RegisterRows, RoleTexts, RootRows};
-use crate::image_targets::image_targets;
+use crate::image_targets::{image_targets, targets_with};
+use crate::keys::KeySet;
 use crate::making::role_texts;
 use crate::root_making::root_text;
 use crate::rows::Founding;
 use std::alloc::{AllocError, Global};
-use up_canon::listed::Listed;
+use up_canon::listed::{Duplicate, Listed};
+use up_canon::moment::Moment;
 use up_canon::table::Table;
-use up_canon::text::Text;
 use up_plan::image::Image;
 use up_roles::repository::Repository;
 use up_roles::targets::Target;
 use up_sign::scheme::Scheme;
 
-/// The rows of a root version that is due: the founding's, both repositories' Root files, signed with the keys of the version
-/// before too, and the image repository's files of these images.
+/// The rows of a root version that is due, with these keys at a command's moment: the founding's, both repositories' Root
+/// files, signed with the keys of the version before too, and the image repository's files of these images.
 pub fn root_rows<K: Scheme>(
     alloc: Global,
     scheme: &K,
-    new: NextRoot,
+    at: Moment,
+    keys: &KeySet,
+    new: &NextRoot,
     images: &Table<Image>,
 ) -> Result<RootRows, AllocError>
-    requires { CanMakeRoot (K.rules scheme.now) new }
-    ensures { (next : State) → HasRoot next new → images.now ≡ next.images → IfOk result (λ rows. HasRootRows (K.rules scheme.now) next rows) }
+    requires { CanMakeRoot (K.rules scheme.now) at keys.now new.now }
+    ensures { (next : State) → HasRoot next at keys.now new.now → images.now ≡ next.images → IfOk result (λ rows. HasRootRows (K.rules scheme.now) next rows) }
 {
-    let director = root_file_text(alloc, scheme, Repository::Director, &new)?;
-    let image = root_file_text(alloc, scheme, Repository::Image, &new)?;
-    let targets = image_targets(alloc, images.values())?;
-    let files = files_of(alloc, scheme, &new.founding, targets)?;
+    let before = new.before.as_ref();
+    let images = images.values();
+    rows_of_root(
+        alloc,
+        scheme,
+        new.number,
+        keys,
+        at,
+        before,
+        new.version,
+        images,
+    )
+}
+
+/// The same of this number, with these keys before and this version of the image repository.
+#[tactic(auto, using(crate::proofs::NewFiles::both_fit, crate::proofs::NewFiles::no_ecus))]
+fn rows_of_root<K: Scheme>(
+    alloc: Global,
+    scheme: &K,
+    number: u64,
+    keys: &KeySet,
+    at: Moment,
+    before: Option<&KeySet>,
+    version: u64,
+    images: &[Image],
+) -> Result<RootRows, AllocError>
+    requires keys { IsTrue (key_set_fits (K.rules scheme.now) keys.now) }
+    requires before { MatchOption before ⊤ (λ b. IsTrue (all_can_sign (K.rules scheme.now) b.now)) }
+    requires number { IsTrue (version_fits number) }
+    requires version { IsTrue (version_fits version) }
+    requires moment { at ≤ last_command_moment }
+    ensures { (b : Option Root) → option_map (λ r. r.keys) b ≡ option_copied before.entry → IfOk result (λ rows. rows ≡ record {
+      founding = record { root = number; keys = keys.now; image_version = version; stamp = at };
+      director = root_text_of (K.rules scheme.now) Director number (record { keys = keys.now; at = at }) b;
+      image = root_text_of (K.rules scheme.now) ImageRepository number (record { keys = keys.now; at = at }) b;
+      files = role_texts_of (K.rules scheme.now) (record { repository = ImageRepository; keys = keys.now; vehicle = None; version = version; at = at; targets = map (target_of None) images.now });
+    }) }
+{
+    let targets = image_targets(alloc, images)?;
+    let director = root_text(
+        alloc,
+        scheme,
+        Repository::Director,
+        number,
+        keys,
+        at,
+        before,
+    )?;
+    let image = root_text(alloc, scheme, Repository::Image, number, keys, at, before)?;
+    let files = role_texts(
+        alloc,
+        scheme,
+        Repository::Image,
+        keys,
+        &None,
+        version,
+        at,
+        targets,
+    )?;
     Ok(RootRows {
-        founding: new.founding,
+        founding: founding_with(alloc, number, keys, version, at)?,
         director,
         image,
         files,
+    })
+}
+
+fn founding_with(
+    alloc: Global,
+    root: u64,
+    keys: &KeySet,
+    image_version: u64,
+    stamp: Moment,
+) -> Result<Founding, AllocError>
+    ensures { IfOk result (λ founding. founding ≡ record { root = root; keys = keys.now; image_version = image_version; stamp = stamp }) }
+{
+    Ok(Founding {
+        root,
+        keys: keys.copy(alloc)?,
+        image_version,
+        stamp,
     })
 }
 
@@ -56,12 +135,14 @@ pub fn register_rows<K: Scheme>(
     requires { CanMakeFiles (K.rules scheme.now) founding }
     ensures { (next : State) → HasFounding next founding → images.now ≡ next.images → IfOk result (λ rows. HasRegisterRows (K.rules scheme.now) next rows) }
 {
-    let targets = image_targets(alloc, images.values())?;
-    register_rows_of(alloc, scheme, founding, targets)
+    match image_targets(alloc, images.values()) {
+        Ok(targets) => rows_with_targets(alloc, scheme, founding, targets),
+        Err(error) => Err(error),
+    }
 }
 
 /// The same with these targets.
-pub(crate) fn register_rows_of<K: Scheme>(
+pub(crate) fn rows_with_targets<K: Scheme>(
     alloc: Global,
     scheme: &K,
     founding: Founding,
@@ -75,12 +156,34 @@ pub(crate) fn register_rows_of<K: Scheme>(
       files = role_texts_of (K.rules scheme.now) (record { repository = ImageRepository; keys = founding.keys; vehicle = None; version = founding.image_version; at = founding.stamp; targets = targets });
     }) }
 {
-    let files = files_of(alloc, scheme, &founding, targets)?;
-    Ok(RegisterRows { founding, files })
+    match image_files(alloc, scheme, &founding, targets) {
+        Ok(files) => Ok(RegisterRows { founding, files }),
+        Err(error) => Err(error),
+    }
+}
+
+/// The same with a new image at its place among these.
+pub(crate) fn rows_with_image<K: Scheme>(
+    alloc: Global,
+    scheme: &K,
+    founding: Founding,
+    images: &[Image],
+    image: &Image,
+) -> Result<RegisterRows, AllocError>
+    requires { CanMakeFiles (K.rules scheme.now) founding }
+    ensures { IfOk result (λ rows. rows ≡ record {
+      founding = founding;
+      files = role_texts_of (K.rules scheme.now) (record { repository = ImageRepository; keys = founding.keys; vehicle = None; version = founding.image_version; at = founding.stamp; targets = map (target_of None) (insert images.now (place_among image.now.file images.now) image.now) });
+    }) }
+{
+    match targets_with(alloc, images, image) {
+        Ok(targets) => rows_with_targets(alloc, scheme, founding, targets),
+        Err(error) => Err(error),
+    }
 }
 
 /// The image repository's files.
-fn files_of<K: Scheme>(
+fn image_files<K: Scheme>(
     alloc: Global,
     scheme: &K,
     founding: &Founding,
@@ -100,28 +203,5 @@ fn files_of<K: Scheme>(
         founding.image_version,
         founding.stamp,
         targets,
-    )
-}
-
-/// A repository's Root file.
-fn root_file_text<K: Scheme>(
-    alloc: Global,
-    scheme: &K,
-    repository: Repository,
-    new: &NextRoot,
-) -> Result<Text, AllocError>
-    requires { CanMakeRoot (K.rules scheme.now) new.now }
-    ensures { (b : Option Root) → option_map (λ r. r.keys) b ≡ new.now.before
-        → IfOk result (λ text. text ≡ root_text_of (K.rules scheme.now) repository new.now.founding.root (record { keys = new.now.founding.keys; at = new.now.founding.stamp }) b) }
-{
-    let founding = &new.founding;
-    root_text(
-        alloc,
-        scheme,
-        repository,
-        founding.root,
-        &founding.keys,
-        founding.stamp,
-        new.before.as_ref(),
     )
 }

@@ -41,7 +41,7 @@ fn founding<K: Scheme>(
 {
     let is_founded = register.founding.is_some();
     let new = decide_found(alloc, scheme, at, keys, is_founded)?;
-    Ok(root_rows(alloc, scheme, new, &register.images)?)
+    Ok(root_rows(alloc, scheme, at, keys, &new, &register.images)?)
 }
 
 /// The answer to a rotation.
@@ -70,7 +70,7 @@ fn rotation<K: Scheme>(
     let founding = register.founding.copy(alloc)?;
     check_founding(scheme, &founding)?;
     let new = decide_rotate(alloc, scheme, at, keys, founding)?;
-    Ok(root_rows(alloc, scheme, new, &register.images)?)
+    Ok(root_rows(alloc, scheme, at, keys, &new, &register.images)?)
 }
 
 fn decided_on(

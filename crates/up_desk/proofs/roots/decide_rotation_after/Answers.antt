@@ -10,7 +10,7 @@ pub returns-in-Ok-clause-decided : goal.returns-in-Ok-clause-decided
 returns-in-Ok-clause-decided g c clean = λ s founding was.
     let k = g.K.Scheme.rules c.args.scheme.now in
     let next = stamped (with_root s c.args.at c.args.keys.now) c.args.at (s.image_version + 1) in
-    rows_made (HasRoot next) (HasRootRows k next) next c.in-Ok.new c.make_rows.result (decide_rotate k s c.args.at c.args.keys.now)
+    rows_made (HasRoot next c.args.at c.args.keys.now) (HasRootRows k next) next c.in-Ok.new c.make_rows.result (decide_rotate k s c.args.at c.args.keys.now)
     (c.in-Ok.ensures.decided s founding) (λ due. c.make_rows.ensures.made clean s next was due refl)
 
 pub returns-in-Err-clause-decided : goal.returns-in-Err-clause-decided

@@ -1,17 +1,14 @@
-use Rattle.std.proofs.Common.{◌≡◌, ◌+◌, ◌<◌, ◌≤◌, map, None, sym, ap, ◌∙◌, subst, refl, arith}
-use Rattle.std.specs.Prelude.{IsTrue, insert}
+use Rattle.std.proofs.Common.{◌≡◌, ◌+◌, ◌<◌, ◌≤◌, sym, ap, ◌∙◌, subst, arith}
+use Rattle.std.specs.Prelude.{insert}
 use Rattle.std.specs.FinMap as table
 use Rattle.up_canon.specs.Canon.{max_count}
-use Rattle.up_canon.specs.Names.{are_distinct}
-use Rattle.up_roles.specs.Targets.{ecus_of}
 use Rattle.up_machine.specs.Registers.{place_among}
 use Rattle.up_machine.specs.RowsFit.{CanMakeFiles}
-use Rattle.up_machine.specs.Files.{target_of}
 use Rattle.up_machine.specs.Repositories.{stamped, with_image}
 use Rattle.up_machine.specs.Decisions.{HasRegisterRows}
 use Rattle.up_machine.proofs.Registers.{values_insert}
-use Rattle.up_machine.proofs.NewFiles.{no_ecus, files_can_be_made}
-use Rattle.up_machine.proofs.FoundingRows.{founding_of, row_with, files_are_due, register_rows_hold}
+use Rattle.up_machine.proofs.NewFiles.{files_can_be_made}
+use Rattle.up_machine.proofs.FoundingRows.{founding_of, row_with, files_of, files_are_due, register_rows_hold}
 use Rattle.up_machine.proofs.RootDecisions.{image_full, image_limit, image_done}
 use Rattle.up_machine.proofs.decide_register.decide_new_image.Goals as goal
 
@@ -33,16 +30,12 @@ returns-then-founding-ge-MAX_COUNT g c = λ s sound row images none.
     let limit : max_count ≤ s.image_version = omega (arith, version, test) in
     image_limit s c.args.at c.args.image.now room limit
 
-pub register_rows_of-requires-clause-founding : goal.register_rows_of-requires-clause-founding
-register_rows_of-requires-clause-founding g c =
+pub rows_with_image-requires : goal.rows_with_image-requires
+rows_with_image-requires g c =
     let k = g.K.Scheme.rules c.args.scheme.now in
     let test = c.if-founding-ge-MAX_COUNT.false in
-    subst (CanMakeFiles k) (sym c.with_version.ensures)
+    subst (CanMakeFiles k) (sym c.founding.ensures)
     (files_can_be_made k (row_with c.args.founding (c.args.founding.image_version + 1) c.args.at) c.requires.keys (omega arith) (omega (arith, test)) c.requires.moment)
-
-pub register_rows_of-requires-clause-ecus : goal.register_rows_of-requires-clause-ecus
-register_rows_of-requires-clause-ecus g c =
-    subst (λ ts. IsTrue (are_distinct (ecus_of ts))) (sym c.in_ok-targets.ensures.value) (no_ecus (insert c.values.result.now (place_among c.args.image.now.file c.values.result.now) c.args.image.now))
 
 pub returns : goal.returns
 returns g c = λ s sound row images none.
@@ -60,11 +53,10 @@ returns g c = λ s sound row images none.
     let placed : insert c.values.result.now (place_among image.file c.values.result.now) image ≡ table.values (table.insert s.images image.file image) =
     ap (λ xs. insert xs (place_among image.file xs) image) values
     ∙ sym (values_insert s.images image (λ file image is. (sound.repositories.each_image file image is).named) none) in
-    let targets = c.in_ok-targets.ensures.value ∙ ap (map (target_of None)) placed in
-    let founding = c.with_version.ensures ∙ ap (λ v. row_with c.args.founding (v + 1) at) version in
+    let founding = c.founding.ensures ∙ ap (λ v. row_with c.args.founding (v + 1) at) version in
     let next = stamped (with_image s image) at (s.image_version + 1) in
     let new = row_with c.args.founding (s.image_version + 1) at in (
       image_done s at image room below,
-      subst (λ rows. HasRegisterRows k next rows) (sym (rw (c.in_ok-register_rows_of.ensures, founding, targets) refl))
+      subst (HasRegisterRows k next) (sym (c.in_ok-rows_with_image.ensures ∙ ap (λ f. record { founding = f; files = files_of k f _ }) founding ∙ ap (λ xs. record { founding = new; files = files_of k new xs }) placed))
           (register_rows_hold k next new (files_are_due s (table.insert s.images image.file image) at (s.image_version + 1) c.args.founding row)),
     )

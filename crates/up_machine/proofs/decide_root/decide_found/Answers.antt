@@ -1,7 +1,4 @@
-use Rattle.std.proofs.Common.{None, refl, sym, ◌∙◌, subst, arith}
-use Rattle.up_machine.specs.Decisions.{HasRoot}
-use Rattle.up_machine.specs.RowsFit.{CanMakeRoot}
-use Rattle.up_machine.specs.Repositories.{stamped, with_root}
+use Rattle.std.proofs.Common.{None, refl, sym, ◌∙◌, arith}
 use Rattle.up_machine.specs.Rows.{founding_row}
 use Rattle.up_machine.proofs.Decided.{keys_passed}
 use Rattle.up_machine.proofs.Keeping.{there}
@@ -21,17 +18,11 @@ returns-then-is_founded-clause-decided g c = λ s founded.
 
 pub returns-clause-decided : goal.returns-clause-decided
 returns-clause-decided g c = λ s founded.
-    let k = g.K.Scheme.rules c.args.scheme.now in
     let at = c.args.at in
     let keys = c.args.keys.now in
-    let none = unfounded s (sym (none_there (founding_row s) (sym founded ∙ c.if-is_founded.false))) in (
-      found_done k s at keys c.requires c.in_ok-check_keys.ensures none,
-      subst (λ f. HasRoot (stamped (with_root s at keys) at 1) (record { founding = f; before = None })) (sym c.in_ok-founding.ensures)
-          (root_is_due s at keys 1 1 None (omega (arith, none)) (none_before s at keys none)),
-    )
+    let none = unfounded s (sym (none_there (founding_row s) (sym founded ∙ c.if-is_founded.false))) in
+    (found_done (g.K.Scheme.rules c.args.scheme.now) s at keys c.requires c.in_ok-check_keys.ensures none, root_is_due s at keys 1 1 None (omega (arith, none)) (none_before s at keys none))
 
 pub returns-clause-fits : goal.returns-clause-fits
 returns-clause-fits g c =
-    let k = g.K.Scheme.rules c.args.scheme.now in
-    subst (λ f. CanMakeRoot k (record { founding = f; before = None })) (sym c.in_ok-founding.ensures)
-    (record { keys = keys_passed k c.args.keys.now _ c.in_ok-check_keys.ensures; before = tt; number = refl; version = refl; moment = c.requires })
+    record { keys_fit = keys_passed (g.K.Scheme.rules c.args.scheme.now) c.args.keys.now _ c.in_ok-check_keys.ensures; before = tt; number = refl; version = refl; moment = c.requires }

@@ -2,7 +2,7 @@ use Rattle.std.proofs.Common.{◌≡◌, ◌+◌, ◌<◌, ◌≤◌, Some, leng
 use Rattle.std.specs.Prelude.{IfSome, IsTrue}
 use Rattle.up_canon.specs.Canon.{max_count}
 use Rattle.up_machine.specs.Repositories.{stamped, with_root}
-use Rattle.up_machine.specs.RowsFit.{founding_fits, CanMakeRoot}
+use Rattle.up_machine.specs.RowsFit.{founding_fits}
 use Rattle.up_machine.specs.Decisions.{HasRoot}
 use Rattle.up_machine.proofs.Decided.{keys_passed}
 use Rattle.up_machine.proofs.NewFiles.{version_in_limits}
@@ -55,10 +55,9 @@ returns-clause-decided g c = λ s row.
     let test = c.if-old-ge-MAX_COUNT.false in
     let below : s.image_version < max_count = omega (arith, version, test) in
     let next : old.root + 1 ≡ 1 + length s.roots = omega (arith, number) in
-    let founding = c.in_ok-founding.ensures ∙ ap (λ v. record { root = old.root + 1; keys = keys; image_version = v + 1; stamp = at }) version in (
+    let due = root_is_due s at keys (s.image_version + 1) (old.root + 1) (Some old.keys) next (old_before s at keys old there) in (
       rotate_done k s at keys c.requires c.in_ok-check_keys.ensures (has_roots s old there) room below,
-      subst (λ f. HasRoot (stamped (with_root s at keys) at (s.image_version + 1)) (record { founding = f; before = Some old.keys })) (sym founding)
-          (root_is_due s at keys (s.image_version + 1) (old.root + 1) (Some old.keys) next (old_before s at keys old there)),
+      subst (λ v. HasRoot (stamped (with_root s at keys) at (s.image_version + 1)) at keys (record { number = old.root + 1; version = v + 1; before = Some old.keys })) (sym version) due,
     )
 
 pub returns-clause-fits : goal.returns-clause-fits
@@ -68,11 +67,10 @@ returns-clause-fits g c = λ fit.
     let fits : IsTrue (founding_fits k old) = subst (λ o. IfSome o (λ f. IsTrue (founding_fits k f))) c.in-Some.is fit in
     let roots = c.if-old-ge-MAX_ROOTS.false in
     let versions = c.if-old-ge-MAX_COUNT.false in
-    subst (λ f. CanMakeRoot k (record { founding = f; before = Some old.keys })) (sym c.in_ok-founding.ensures)
-    (record {
-      keys = keys_passed k c.args.keys.now _ c.in_ok-check_keys.ensures;
+    record {
+      keys_fit = keys_passed k c.args.keys.now _ c.in_ok-check_keys.ensures;
       before = fits;
       number = version_in_limits (old.root + 1) (omega arith) (omega (arith, roots));
       version = version_in_limits (old.image_version + 1) (omega arith) (omega (arith, versions));
       moment = c.requires;
-    })
+    }
