@@ -130,7 +130,7 @@ written k s old mid new answer w fits change computed given was reads will takes
 
 -- ---- decisions
 
-pub memory_is_lost : (a b : Bool) (X : Type 0) → MatchBool a ⊤ X → MatchBool (a || b) ⊤ X
+memory_is_lost : (a b : Bool) (X : Type 0) → MatchBool a ⊤ X → MatchBool (a || b) ⊤ X
 memory_is_lost true b X h = tt
 memory_is_lost false true X h = tt
 memory_is_lost false false X h = h

@@ -131,11 +131,6 @@ abbrev pub GivesOrLost : {R : Type 0} → (Result R Refusal → Result Outcome R
 GivesOrLost gives (Ok x) computed = gives (Ok x) computed
 GivesOrLost gives (Err r) computed = MatchBool (is_lost_by r) ⊤ (computed ≡ Err r)
 
--- what is made, unless memory or the database refused
-abbrev pub MadeOrLost : {R : Type 0} → (R → Type 0) → Result R Refusal → Type 0
-MadeOrLost has (Ok rows) = has rows
-MadeOrLost has (Err r) = is_lost_by r ≡ true
-
 -- the campaigns and images that the plan for a manifest's vehicle reads
 pub record ArePlanRows (s : State) (manifest : Manifest) (campaigns : Table CampaignData) (images : Table ImageData) : Type 0 where
   pub items : items_for (table.values campaigns) manifest.vehicle ≡ items_for (table.values s.campaigns) manifest.vehicle

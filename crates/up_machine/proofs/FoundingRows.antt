@@ -18,7 +18,8 @@ use Rattle.up_machine.specs.State.{Root, State, nth, root_at}
 use Rattle.up_machine.specs.Files.{Making, root_text, role_texts, image_making, target_of}
 use Rattle.up_machine.specs.Rows.{founding_row}
 use Rattle.up_machine.specs.Repositories.{stamped, with_root}
-use Rattle.up_machine.specs.Decisions.{row_with_root, HasRoot, HasFounding, HasRootRows, HasRegisterRows}
+use Rattle.up_machine.specs.Decisions.{HasRootRows, HasRegisterRows}
+use Rattle.up_machine.specs.Due.{row_with_root, HasRoot, HasFounding}
 use Rattle.up_canon.proofs.Steps.{map_some}
 use Rattle.up_machine.proofs.Keeping.{nth_stays}
 use Rattle.up_machine.proofs.Repeating.{nth_at_place}

@@ -14,7 +14,8 @@ use Rattle.up_roles.specs.Payload.{version_fits}
 use Rattle.up_machine.specs.declared.keys.KeySet.{KeySet}
 use Rattle.up_machine.specs.declared.rows.Founding.{Founding}
 use Rattle.up_machine.specs.Keys.{repository_fits, key_set_fits}
-use Rattle.up_machine.specs.RowsFit.{can_sign, roles_can_sign, all_can_sign, founding_fits, CanMakeFiles}
+use Rattle.up_machine.specs.RowsFit.{can_sign, roles_can_sign, all_can_sign, founding_fits}
+use Rattle.up_machine.specs.Due.{CanMakeFiles}
 use Rattle.up_machine.specs.Files.{keys_of, target_of}
 use Rattle.up_machine.proofs.Lists.{and_left, and_right}
 use Rattle.up_machine.proofs.Makings.{roles_sign, fitting_sign}

@@ -1,6 +1,5 @@
--- What decisions answer over the rows of a state: the rows of the plain machine's next state, or what is due before its files are made;
--- `Already`, a repeat, or the refusal that is due.
-use Rattle.std.specs.Prelude.{◌≡◌, ℕ, ◌+◌, ◌-◌, ◌++◌, List, [], ◌∷◌, Bool, false, Option, Some, None, option_map, unwrap_or, Result, Ok, Err, MatchBool, length, map, ⊤}
+-- What decisions answer over the rows of a state: the rows of the plain machine's next state, `Already`, a repeat, or the refusal that is due.
+use Rattle.std.specs.Prelude.{◌≡◌, ℕ, ◌+◌, ◌++◌, List, [], ◌∷◌, Bool, false, Option, Some, None, option_map, unwrap_or, Result, Ok, Err, MatchBool, length, map, ⊤}
 use Rattle.std.specs.List.{AllByRecursion, list_all}
 use Rattle.std.specs.FinMap as table
 use Rattle.up_canon.specs.Names.{Name, Table}
@@ -20,12 +19,10 @@ use Rattle.up_plan.specs.declared.campaign.Reach.TheVariants.{All, Named}
 use Rattle.up_plan.specs.Campaigns.{CampaignData}
 use Rattle.up_plan.specs.Images.{ImageData}
 use Rattle.up_plan.specs.Planning.{is_for, items_for}
-use Rattle.up_machine.specs.declared.keys.KeySet.{KeySet}
 use Rattle.up_machine.specs.declared.rows.Founding.{Founding}
 use Rattle.up_machine.specs.declared.rows.VehicleRows.{VehicleRows}
 use Rattle.up_machine.specs.declared.answer.Answer.TheVariants.{Reply as Replied, File}
 use Rattle.up_machine.specs.declared.rows.Kept.{Kept}
-use Rattle.up_machine.specs.declared.decision.NextRoot.{NextRoot}
 use Rattle.up_machine.specs.declared.decision.RootRows.{RootRows}
 use Rattle.up_machine.specs.declared.decision.RegisterRows.{RegisterRows}
 use Rattle.up_machine.specs.declared.decision.AcceptedRows.{AcceptedRows}
@@ -37,7 +34,6 @@ use Rattle.up_machine.specs.State.{Entry, Vehicle, Root, State, root_at, version
 use Rattle.up_machine.specs.Files.{root_text_at, image_texts}
 use Rattle.up_machine.specs.Deciding.{Outcome, done, already}
 use Rattle.up_machine.specs.Deliveries.{Received, receive_manifest, decide_received, with_entry}
-use Rattle.up_machine.specs.Repositories.{decide_new_image}
 use Rattle.up_machine.specs.Inventory.{with_campaign, closed}
 use Rattle.up_machine.specs.Repeats.{Repeat as KeptEntry, repeat_in}
 use Rattle.up_machine.specs.Replies.{reply_to}
@@ -58,20 +54,6 @@ pub record HasRegisterRows (k : Rules) (next : State) (rows : RegisterRows) : Ty
   pub founding : founding_row next ≡ Some rows.founding
   pub files : image_texts k next ≡ Some rows.files
 
--- the founding's row with a root version that is due
-abbrev pub row_with_root : ℕ → KeySet → NextRoot → Founding
-row_with_root at keys new = record { root = new.number; keys = keys; image_version = new.version; stamp = at }
-
--- the last root version, before its files are made: of these keys and this moment, which stamps the image repository's files too
-pub record HasRoot (next : State) (at : ℕ) (keys : KeySet) (new : NextRoot) : Type 0 where
-  pub root : root_at next (length next.roots) ≡ Some (record { keys = keys; at = at })
-  pub founding : founding_row next ≡ Some (row_with_root at keys new)
-  pub before : option_map (λ r. r.keys) (root_at next (length next.roots - 1)) ≡ new.before
-
--- the founding's row, before the image repository's files are made
-abbrev pub HasFounding : State → Founding → Type 0
-HasFounding next founding = founding_row next ≡ Some founding
-
 -- of a vehicle that has one entry more
 pub record HasAcceptedRows (k : Rules) (s : State) (name : Name) (v : Vehicle) (e : Entry) (rows : AcceptedRows) : Type 0 where
   pub vehicle : rows.vehicle ≡ rows_of name (record v { entries = v.entries ++ e ∷ [] })
@@ -88,23 +70,11 @@ abbrev pub GivesRows : {R : Type 0} → (R → Type 0) → State → Result R Re
 GivesRows has next (Ok rows) computed = IsDone has next rows computed
 GivesRows has next (Err r) computed = MatchBool (is_memory r) ⊤ (computed ≡ Err r)
 
--- the same where no memory is taken
-abbrev pub GivesOutright : {R : Type 0} → (R → Type 0) → State → Result R Refusal → Result Outcome Refusal → Type 0
-GivesOutright has next (Ok rows) computed = IsDone has next rows computed
-GivesOutright has next (Err r) computed = computed ≡ Err r
-
 -- the same of what may be there already
 abbrev pub GivesDecision : {R : Type 0} → (R → Type 0) → State → State → Result (Decision R) Refusal → Result Outcome Refusal → Type 0
 GivesDecision has s next (Ok Already) computed = computed ≡ Ok (already s)
 GivesDecision has s next (Ok (New rows)) computed = IsDone has next rows computed
 GivesDecision has s next (Err r) computed = MatchBool (is_memory r) ⊤ (computed ≡ Err r)
-
--- of an image, before all images are read: that it is there already, the refusal that is due, or, of a new filename, the founding's row,
--- and that the rest is to be decided
-abbrev pub GivesNewImage : State → ℕ → ImageData → Result (Decision Founding) Refusal → Result Outcome Refusal → Type 0
-GivesNewImage s at image (Ok Already) computed = computed ≡ Ok (already s)
-GivesNewImage s at image (Ok (New founding)) computed = HasFounding s founding × (table.get s.images image.file ≡ None) × (computed ≡ decide_new_image s at image)
-GivesNewImage s at image (Err r) computed = computed ≡ Err r
 
 -- the text that is answered, or the refusal that is due; nothing changes
 abbrev pub GivesFile : State → Result (List ℕ) Refusal → Result Outcome Refusal → Type 0

@@ -1,18 +1,14 @@
--- What decisions ask of the rows that they are given: those of a sound state have it, and other rows can be tested. What making files
--- asks of what is due: each decision gives it.
-use Rattle.std.specs.Prelude.{ℕ, ◌≤◌, ◌&&◌, Bool, IfSome, IsTrue, length, map, nat_le}
+-- What decisions ask of the rows that they are given: those of a sound state have it, and other rows can be tested.
+use Rattle.std.specs.Prelude.{◌&&◌, Bool, length, map, nat_le}
 use Rattle.std.specs.List.{list_all}
-use Rattle.up_canon.specs.Moments.{last_command_moment}
 use Rattle.up_canon.specs.Names.{is_from_to, are_distinct}
 use Rattle.up_sign.specs.Schemes.{Rules}
-use Rattle.up_roles.specs.Payload.{version_fits}
-use Rattle.up_machine.specs.declared.decision.NextRoot.{NextRoot}
 use Rattle.up_machine.specs.declared.keys.RoleSecrets.{RoleSecrets}
 use Rattle.up_machine.specs.declared.keys.RepoKeys.{RepoKeys}
 use Rattle.up_machine.specs.declared.keys.KeySet.{KeySet}
 use Rattle.up_machine.specs.declared.rows.Founding.{Founding}
 use Rattle.up_machine.specs.declared.rows.VehicleRows.{VehicleRows}
-use Rattle.up_machine.specs.Keys.{secret_fits, key_set_fits}
+use Rattle.up_machine.specs.Keys.{secret_fits}
 
 -- 1 to 4 secrets that fit; nothing is asked of their identifiers or of the threshold
 abbrev pub can_sign : Rules → RoleSecrets → Bool
@@ -30,19 +26,3 @@ founding_fits k founding = all_can_sign k founding.keys
 -- the version is at most the last counter, and no ECU stands twice
 abbrev pub rows_fit : VehicleRows → Bool
 rows_fit rows = nat_le rows.vehicle.version rows.vehicle.last && are_distinct (map (λ row. row.ecu) rows.ecus)
-
--- ---- what is due
-
--- the image repository's keys can sign, and its files have a version and a command's moment
-pub record CanMakeFiles (k : Rules) (founding : Founding) : Type 0 where
-  pub keys : IsTrue (roles_can_sign k founding.keys.image)
-  pub version : IsTrue (version_fits founding.image_version)
-  pub moment : founding.stamp ≤ last_command_moment
-
--- the keys fit, those of the version before can sign, and both repositories' files have a version and a command's moment
-pub record CanMakeRoot (k : Rules) (at : ℕ) (keys : KeySet) (new : NextRoot) : Type 0 where
-  pub keys_fit : IsTrue (key_set_fits k keys)
-  pub before : IfSome new.before (λ b. IsTrue (all_can_sign k b))
-  pub number : IsTrue (version_fits new.number)
-  pub version : IsTrue (version_fits new.version)
-  pub moment : at ≤ last_command_moment

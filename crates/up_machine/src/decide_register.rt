@@ -6,12 +6,13 @@ ghost use Rattle.up_canon.specs.Moments.{last_command_moment};
 ghost use Rattle.up_sign.specs.Schemes.{Rules};
 ghost use Rattle.up_machine.specs.declared.decision.Decision.TheVariants.{New};
 ghost use Rattle.up_machine.specs.declared.rows.Founding.{Founding};
-ghost use Rattle.up_machine.specs.RowsFit.{CanMakeFiles, founding_fits};
+ghost use Rattle.up_machine.specs.RowsFit.{founding_fits};
 ghost use Rattle.up_machine.specs.State.{State};
 ghost use Rattle.up_machine.specs.Sound.{IsSound};
 ghost use Rattle.up_machine.specs.Rows.{founding_row};
 ghost use Rattle.up_machine.specs.Repositories.{decide_image as decide_image_in, decide_new_image as decide_new_image_in, decide_refresh as decide_refresh_in, stamped, with_image};
-ghost use Rattle.up_machine.specs.Decisions.{GivesRows, GivesNewImage, GivesOutright, HasFounding, HasRegisterRows};
+ghost use Rattle.up_machine.specs.Decisions.{GivesRows, HasRegisterRows};
+ghost use Rattle.up_machine.specs.Due.{CanMakeFiles, GivesNewImage, GivesOutright, HasFounding};
 
 use crate::decision::{Decision, RegisterRows};
 use crate::new_files::rows_with_image;

@@ -2,11 +2,12 @@
 //! the rows of what is due.
 ghost use Rattle.std.specs.Prelude.{◌≡◌, ◌+◌, ◌≤◌, IfOk, IfSome, IsTrue, is_some};
 ghost use Rattle.up_canon.specs.Moments.{last_command_moment};
-ghost use Rattle.up_machine.specs.RowsFit.{CanMakeRoot, founding_fits};
+ghost use Rattle.up_machine.specs.RowsFit.{founding_fits};
 ghost use Rattle.up_machine.specs.State.{State};
 ghost use Rattle.up_machine.specs.Rows.{founding_row};
 ghost use Rattle.up_machine.specs.Repositories.{decide_found as decide_found_in, decide_rotate as decide_rotate_in, stamped, with_root};
-ghost use Rattle.up_machine.specs.Decisions.{GivesRows, HasRoot};
+ghost use Rattle.up_machine.specs.Decisions.{GivesRows};
+ghost use Rattle.up_machine.specs.Due.{CanMakeRoot, HasRoot};
 
 use crate::decision::NextRoot;
 use crate::key_checks::check_keys;

@@ -6,11 +6,12 @@ ghost use Rattle.up_roles.specs.declared.repository.Repository.TheVariants.{Dire
 ghost use Rattle.up_canon.specs.Names.{are_distinct};
 ghost use Rattle.up_roles.specs.Payload.{version_fits};
 ghost use Rattle.up_roles.specs.Targets.{target_fits, ecus_of};
-ghost use Rattle.up_machine.specs.Decisions.{HasFounding, HasRegisterRows, HasRoot, HasRootRows};
+ghost use Rattle.up_machine.specs.Decisions.{HasRegisterRows, HasRootRows};
+ghost use Rattle.up_machine.specs.Due.{CanMakeFiles, CanMakeRoot, HasFounding, HasRoot};
 ghost use Rattle.up_machine.specs.Files.{role_texts as role_texts_of, root_text as root_text_of, target_of};
 ghost use Rattle.up_machine.specs.Keys.{key_set_fits};
 ghost use Rattle.up_machine.specs.Registers.{place_among};
-ghost use Rattle.up_machine.specs.RowsFit.{all_can_sign, CanMakeFiles, CanMakeRoot};
+ghost use Rattle.up_machine.specs.RowsFit.{all_can_sign};
 ghost use Rattle.up_machine.specs.State.{Root, State};
 
 use crate::decision::{NextRoot, RegisterRows, RoleTexts, RootRows};

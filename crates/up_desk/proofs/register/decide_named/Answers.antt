@@ -4,7 +4,7 @@ use Rattle.sqlite.specs.Held.{state}
 use Rattle.up_machine.specs.Decisions.{HasRegisterRows}
 use Rattle.up_machine.specs.Repositories.{decide_image, stamped, with_image}
 use Rattle.up_machine.specs.RowsFit.{founding_fits}
-use Rattle.up_desk.proofs.Decided.{when_there, when_new_image, new_rows_made, new_rows_refused, surely_refused}
+use Rattle.up_desk.proofs.Due.{when_there, when_new_image, new_rows_made, new_rows_refused, surely_refused}
 use Rattle.up_desk.proofs.Steps.{reads_none}
 use Rattle.up_desk.proofs.register.decide_named.Goals as goal
 

@@ -1,8 +1,9 @@
 use Rattle.std.proofs.Common.{refl}
 use Rattle.sqlite.specs.Held.{state}
-use Rattle.up_machine.specs.Decisions.{HasFounding, HasRegisterRows}
+use Rattle.up_machine.specs.Decisions.{HasRegisterRows}
+use Rattle.up_machine.specs.Due.{HasFounding}
 use Rattle.up_machine.specs.Repositories.{decide_refresh, stamped}
-use Rattle.up_desk.proofs.Decided.{rows_made, surely_refused}
+use Rattle.up_desk.proofs.Due.{rows_made, surely_refused}
 use Rattle.up_desk.proofs.Steps.{reads_none}
 use Rattle.up_desk.proofs.register.decide_refreshing_after.Goals as goal
 

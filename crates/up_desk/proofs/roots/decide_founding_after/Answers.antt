@@ -1,8 +1,9 @@
 use Rattle.std.proofs.Common.{refl}
 use Rattle.sqlite.specs.Held.{state}
-use Rattle.up_machine.specs.Decisions.{HasRoot, HasRootRows}
+use Rattle.up_machine.specs.Decisions.{HasRootRows}
+use Rattle.up_machine.specs.Due.{HasRoot}
 use Rattle.up_machine.specs.Repositories.{decide_found, stamped, with_root}
-use Rattle.up_desk.proofs.Decided.{rows_made, due_refused}
+use Rattle.up_desk.proofs.Due.{rows_made, due_refused}
 use Rattle.up_desk.proofs.Steps.{reads_none}
 use Rattle.up_desk.proofs.roots.decide_founding_after.Goals as goal
 

@@ -3,7 +3,7 @@ use Rattle.std.specs.Prelude.{insert}
 use Rattle.std.specs.FinMap as table
 use Rattle.up_canon.specs.Canon.{max_count}
 use Rattle.up_machine.specs.Registers.{place_among}
-use Rattle.up_machine.specs.RowsFit.{CanMakeFiles}
+use Rattle.up_machine.specs.Due.{CanMakeFiles}
 use Rattle.up_machine.specs.Repositories.{stamped, with_image}
 use Rattle.up_machine.specs.Decisions.{HasRegisterRows}
 use Rattle.up_machine.proofs.Registers.{values_insert}

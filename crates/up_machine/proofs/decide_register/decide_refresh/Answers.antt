@@ -1,8 +1,9 @@
 use Rattle.std.proofs.Common.{◌<◌, ◌≤◌, sym, ap, ◌∙◌, subst, arith}
 use Rattle.std.specs.Prelude.{IsTrue, IfSome}
-use Rattle.up_machine.specs.RowsFit.{founding_fits, CanMakeFiles}
+use Rattle.up_machine.specs.Due.{CanMakeFiles}
+use Rattle.up_machine.specs.RowsFit.{founding_fits}
 use Rattle.up_machine.specs.Repositories.{stamped}
-use Rattle.up_machine.specs.Decisions.{HasFounding}
+use Rattle.up_machine.specs.Due.{HasFounding}
 use Rattle.up_machine.proofs.NewFiles.{files_can_be_made}
 use Rattle.up_machine.proofs.FoundingRows.{founding_of, unfounded, has_roots, row_with, files_are_due}
 use Rattle.up_machine.proofs.RootDecisions.{refresh_unfounded, refresh_not_greater, refresh_done}

@@ -3,7 +3,7 @@ use Rattle.std.specs.Prelude.{IfSome, IsTrue}
 use Rattle.up_canon.specs.Canon.{max_count}
 use Rattle.up_machine.specs.Repositories.{stamped, with_root}
 use Rattle.up_machine.specs.RowsFit.{founding_fits}
-use Rattle.up_machine.specs.Decisions.{HasRoot}
+use Rattle.up_machine.specs.Due.{HasRoot}
 use Rattle.up_machine.proofs.Decided.{keys_passed}
 use Rattle.up_machine.proofs.NewFiles.{version_in_limits}
 use Rattle.up_machine.proofs.FoundingRows.{founding_of, unfounded, has_roots, old_before, root_is_due}
