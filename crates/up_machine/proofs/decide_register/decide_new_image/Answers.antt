@@ -34,7 +34,7 @@ pub rows_with_image-requires : goal.rows_with_image-requires
 rows_with_image-requires g c =
     let k = g.K.Scheme.rules c.args.scheme.now in
     let test = c.if-founding-ge-MAX_COUNT.false in
-    subst (CanMakeFiles k) (sym c.founding.ensures)
+    subst (CanMakeFiles k) (sym c.with_version-founding.ensures)
     (files_can_be_made k (row_with c.args.founding (c.args.founding.image_version + 1) c.args.at) c.requires.keys (omega arith) (omega (arith, test)) c.requires.moment)
 
 pub returns : goal.returns
@@ -53,7 +53,7 @@ returns g c = λ s sound row images none.
     let placed : insert c.values.result.now (place_among image.file c.values.result.now) image ≡ table.values (table.insert s.images image.file image) =
     ap (λ xs. insert xs (place_among image.file xs) image) values
     ∙ sym (values_insert s.images image (λ file image is. (sound.repositories.each_image file image is).named) none) in
-    let founding = c.founding.ensures ∙ ap (λ v. row_with c.args.founding (v + 1) at) version in
+    let founding = c.with_version-founding.ensures ∙ ap (λ v. row_with c.args.founding (v + 1) at) version in
     let next = stamped (with_image s image) at (s.image_version + 1) in
     let new = row_with c.args.founding (s.image_version + 1) at in (
       image_done s at image room below,
