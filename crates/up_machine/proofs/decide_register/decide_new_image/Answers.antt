@@ -50,13 +50,14 @@ returns g c = λ s sound row images none.
     let test = c.if-founding-ge-MAX_COUNT.false in
     let below : s.image_version < max_count = omega (arith, version, test) in
     let values : c.values.result.now ≡ table.values s.images = c.values.ensures ∙ ap (λ t. table.values t) images in
-    let placed : insert c.values.result.now (place_among image.file c.values.result.now) image ≡ table.values (table.insert s.images image.file image) =
+    let placed-images = insert c.values.result.now (place_among image.file c.values.result.now) image in
+    let placed : placed-images ≡ table.values (table.insert s.images image.file image) =
     ap (λ xs. insert xs (place_among image.file xs) image) values
     ∙ sym (values_insert s.images image (λ file image is. (sound.repositories.each_image file image is).named) none) in
     let founding = c.with_version-founding.ensures ∙ ap (λ v. row_with c.args.founding (v + 1) at) version in
     let next = stamped (with_image s image) at (s.image_version + 1) in
     let new = row_with c.args.founding (s.image_version + 1) at in (
       image_done s at image room below,
-      subst (HasRegisterRows k next) (sym (c.in_ok-rows_with_image.ensures ∙ ap (λ f. record { founding = f; files = files_of k f _ }) founding ∙ ap (λ xs. record { founding = new; files = files_of k new xs }) placed))
+      subst (HasRegisterRows k next) (sym (c.in_ok-rows_with_image.ensures ∙ ap (λ f. record { founding = f; files = files_of k f placed-images }) founding ∙ ap (λ xs. record { founding = new; files = files_of k new xs }) placed))
           (register_rows_hold k next new (files_are_due s (table.insert s.images image.file image) at (s.image_version + 1) c.args.founding row)),
     )
