@@ -21,16 +21,16 @@ decide_new-requires-clause-keys g c =
     let same = c.in-Ok-New.ensures.same c.in-Ok-New.founding (ap (λ d. Ok d) c.in-Ok-New.field-0-is) in
     subst (λ o. IfSome o (λ f. IsTrue (founding_fits k f))) same c.requires.keys
 
-pub returns-in-Ok-New-clause-decided : goal.returns-in-Ok-New-clause-decided
-returns-in-Ok-New-clause-decided g c clean = λ s sound founding old was.
+pub returns-in_ok-decide_new-in-Ok-New-clause-decided : goal.returns-in_ok-decide_new-in-Ok-New-clause-decided
+returns-in_ok-decide_new-in-Ok-New-clause-decided g c clean = λ s sound founding old was.
     let k = g.K.Scheme.rules c.args.scheme.now in
     let computed = decide_image s c.args.at c.args.image.now in
     let next = stamped (with_image s c.args.image.now) c.args.at (s.image_version + 1) in
     let it = when_new_image s c.args.at c.args.image.now c.in-Ok-New.field-0 c.in-Ok-New.founding computed c.in-Ok-New.field-0-is (c.in-Ok-New.ensures.decided s founding old) in
-    new_rows_made (HasRegisterRows k next) next c.in_ok-decide_new.field-0 computed _ it.2 (c.in_ok-decide_new.ensures.decided clean s sound it.0 it.1 was)
+    new_rows_made (HasRegisterRows k next) next _ computed _ it.2 (c.in_ok-decide_new.ensures.decided clean s sound it.0 it.1 was)
 
-pub returns-in_err-decide_new-clause-decided : goal.returns-in_err-decide_new-clause-decided
-returns-in_err-decide_new-clause-decided g c clean = λ s sound founding old was.
+pub returns-in_err-decide_new-in-Ok-New-clause-decided : goal.returns-in_err-decide_new-in-Ok-New-clause-decided
+returns-in_err-decide_new-in-Ok-New-clause-decided g c clean = λ s sound founding old was.
     let k = g.K.Scheme.rules c.args.scheme.now in
     let computed = decide_image s c.args.at c.args.image.now in
     let next = stamped (with_image s c.args.image.now) c.args.at (s.image_version + 1) in

@@ -20,3 +20,6 @@ returns-in-Err-clause-decided g c = λ clean s founding was.
 
 pub returns-in-Err-clause-reads : goal.returns-in-Err-clause-reads
 returns-in-Err-clause-reads g c = reads_none (state g.D.Store c.args.store.now)
+
+pub make_rows-requires : goal.make_rows-requires
+make_rows-requires g c = c.in-Ok.ensures.fits (g.K.Scheme.rules c.args.scheme.now) c.requires.keys
