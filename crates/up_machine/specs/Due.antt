@@ -1,6 +1,6 @@
 -- What is due of a command, before all images are read and its files are made: what a first step of a decision answers, and what the
 -- second asks for.
-use Rattle.std.specs.Prelude.{◌≡◌, ℕ, ◌-◌, ◌≤◌, Option, Some, None, IfSome, IsTrue, option_map, length, Result, Ok, Err}
+use Rattle.std.specs.Prelude.{◌≡◌, ℕ, ◌-◌, ◌≤◌, Some, None, IfSome, IsTrue, option_map, length, Result, Ok, Err}
 use Rattle.std.specs.FinMap as table
 use Rattle.up_canon.specs.Moments.{last_command_moment}
 use Rattle.up_canon.specs.declared.refusal.Refusal.{Refusal}

@@ -1,9 +1,8 @@
-use Rattle.std.proofs.Common.{None, map, sym, ap, ◌∙◌, subst}
-use Rattle.std.specs.Prelude.{IfOk, IsTrue}
+use Rattle.std.proofs.Common.{sym, ap, ◌∙◌, subst}
+use Rattle.std.specs.Prelude.{IsTrue}
 use Rattle.std.specs.FinMap as table
 use Rattle.up_canon.specs.Names.{are_distinct}
 use Rattle.up_roles.specs.Targets.{ecus_of}
-use Rattle.up_machine.specs.Files.{target_of}
 use Rattle.up_machine.proofs.NewFiles.{no_ecus}
 use Rattle.up_machine.proofs.FoundingRows.{register_rows_are, of_targets}
 use Rattle.up_machine.proofs.new_files.register_rows.Goals as goal
