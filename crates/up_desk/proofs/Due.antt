@@ -1,5 +1,5 @@
 -- What is due, and its rows.
-use Rattle.std.proofs.Common.{◌≡◌, ℕ, Bool, true, false, None, Result, Ok, Err, sym, ap, ◌∙◌, subst}
+use Rattle.std.proofs.Common.{◌≡◌, ℕ, Bool, true, false, None, Result, Ok, Err, sym, ◌∙◌, subst}
 use Rattle.std.specs.Prelude.{◌||◌, ⊤, IsErrAnd, MatchBool}
 use Rattle.std.specs.FinMap as table
 use Rattle.up_canon.specs.Refusals.{is_memory}

@@ -1,4 +1,4 @@
-use Rattle.std.proofs.Common.{◌+◌, Ok, sym, ap, ◌∙◌, subst}
+use Rattle.std.proofs.Common.{◌+◌, Ok, ap, subst}
 use Rattle.std.specs.Prelude.{IfSome, IsTrue}
 use Rattle.sqlite.specs.Held.{state}
 use Rattle.up_machine.specs.Decisions.{HasRegisterRows}
