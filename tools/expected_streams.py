@@ -66,7 +66,15 @@ SHORT = [
 ]
 MANIFEST = manifest()
 TWICE = 2 * posted(MANIFEST)
+FILES = {"director": ["root", "1.root"], "image": ["root", "1.root", "targets", "snapshot", "timestamp"]}
+get = lambda repository, name: "GET /%s/%s.json HTTP/1.1|Host: d||" % (repository, name)
 REPLY = answer("200 OK", row_texts.replies("first_manifest").split("\n")[0])
+
+
+def file_answer(repository, name):
+    """The answer with a file of version 1, made at the founding."""
+    which = repository if name.endswith("root") else name
+    return answer("200 OK", row_texts.file(row_texts.HmacSha256, which, 1, 0, 1, []))
 
 
 def sweep(step, input, requests, size=None):
@@ -112,13 +120,20 @@ def sections():
     both = lambda input, wanted: [("whole " + input, wanted), ("slow " + input, wanted)]
     short = [row for input, wanted in SHORT for row in both(input, "1: " + wanted)]
     yield "short requests", founded + both("", "0: ") + short
-    yield "requests before the founding", both(NO_FILE, "1: " + NOT_FOUNDED)
+    yield "requests before the founding", both(NO_FILE, "1: " + NOT_FOUNDED) + [("whole " + posted(MANIFEST), "1: " + NOT_FOUNDED)]
+    named = [(repository, name) for repository, names in FILES.items() for name in names]
+    files = [("whole " + get(*it), "1: " + file_answer(*it)) for it in named]
+    all_files = "".join(get(*it) for it in named), "%d: %s" % (len(named), "".join(file_answer(*it) for it in named))
+    yield "files of both repositories", founded + files + both(*all_files)
+    unknown = answer("404 Not Found", error(10, "UnknownVehicle"))
+    yield "a manifest of an unknown vehicle", founded + both(posted(MANIFEST), "1: " + unknown)
     large = both(spaces(MOST), "1: " + NOT_JSON) + both(spaces(MOST + 1), "1: " + TOO_LARGE)
     yield "largest bodies", founded + large + [("whole " + spaces(MOST) + NO_FILE, "2: " + NOT_JSON + NO_FILE_ANSWER)]
     cut = [("cut " + 2 * NO_FILE, "2: " + 2 * NO_FILE_ANSWER)]
     yield "two requests cut anywhere", founded + cut + both(2 * NO_FILE, "2: " + 2 * NO_FILE_ANSWER)[::-1]
     yield "a manifest twice", vehicle + [("whole " + TWICE, "2: " + 2 * REPLY)]
     yield "a manifest twice a byte at a time", vehicle + [("slow " + TWICE, "2: " + 2 * REPLY)]
+    yield "a manifest cut anywhere", vehicle + [("cut " + posted(MANIFEST), "1: " + REPLY)]
     yield "a hundred requests", founded + [("whole <*101*%s*>" % NO_FILE, "100: " + 99 * NO_FILE_ANSWER + NO_FILE_LAST)]
     three = "<*3*%s*>" % NO_FILE
     yield "one call that fails", founded + [
