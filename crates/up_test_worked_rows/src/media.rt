@@ -1,5 +1,6 @@
 //! Where the tables of a desk are kept: in memory, or in files on disks that are memory.
-ghost use Rattle.std.specs.Prelude.{◌≡◌, false, IsTrue};
+ghost use Rattle.std.specs.Prelude.{◌≡◌, false, IfOk, IsTrue};
+ghost use Rattle.sqlite.specs.Files.{file_state};
 ghost use Rattle.sqlite.specs.Held.{state};
 ghost use Rattle.sqlite_disk.specs.Memory.{memory_is_usable};
 
@@ -34,14 +35,17 @@ pub(crate) fn files_again(
 ) -> Result<Store<FileStore<Memory>>, AllocError> {
     match store.release().close_files() {
         Ok(files) => adopted(opened(alloc, files)?),
-        Err(_) => Err(AllocError),
+        Err((_, store)) => {
+            drop(store.close());
+            Err(AllocError)
+        }
     }
 }
 
 fn opened(alloc: Global, files: Files<Memory>) -> Result<Connection<FileStore<Memory>>, AllocError>
     requires log { IsTrue (memory_is_usable files.log) }
     requires db { IsTrue (memory_is_usable files.db) }
-    ensures { IfOk result (λ c. (state ⟦<FileStore<Memory> as Alter>⟧.Store c).in_transaction ≡ false) }
+    ensures { IfOk result (λ c. (file_state c).in_transaction ≡ false) }
 {
     match Connection::open_files(alloc, files, Options::new(1)) {
         Ok(conn) => Ok(conn),
