@@ -1,0 +1,67 @@
+//! Sections over each place.
+use crate::places::{AtPath, InMemory, Place, new_files};
+use crate::stores::Stores;
+use sqlite::{Alter, Connection, MemStore};
+use std::alloc::{AllocError, Global};
+use up_test_rows::sections::told;
+
+/// What is told of a section over each place, also in turns, a line each.
+pub(crate) fn all_ways(rt: &HostRuntime, section: &str) -> Result<String, AllocError> {
+    let alloc = rt.alloc();
+    let files = in_files(alloc, section, false)?;
+    let turns = in_files(alloc, section, true)?;
+    if section.split('\n').next().unwrap_or("").ends_with("in files") {
+        return format!(in alloc; "{files}\nin turns, {turns}");
+    }
+    let memory = in_memory(alloc, section, false)?;
+    let memory_turns = in_memory(alloc, section, true)?;
+    format!(in alloc; "over memory, {memory}\nover memory in turns, {memory_turns}\nover files, {files}\nover files in turns, {turns}")
+}
+
+/// What is told of a section over one place: `memory`, `files`, or the file at a path.
+pub(crate) fn one_way(rt: &HostRuntime, place: &str, section: &str) -> Result<String, AllocError> {
+    match place {
+        "memory" => in_memory(rt.alloc(), section, false),
+        "files" => in_files(rt.alloc(), section, false),
+        path => at_path(rt, path, section),
+    }
+}
+
+fn over<S: Alter + Drop, P: Place<S> + Drop>(
+    alloc: Global,
+    stores: Stores<S, P>,
+    section: &str,
+) -> Result<String, AllocError> {
+    let mut stores = stores;
+    told(alloc, &mut stores, section)
+}
+
+fn in_memory(alloc: Global, section: &str, in_turns: bool) -> Result<String, AllocError> {
+    over(
+        alloc,
+        Stores::new(alloc, InMemory, new_memory(alloc), in_turns),
+        section,
+    )
+}
+
+fn new_memory(alloc: Global) -> Option<Connection<MemStore>> {
+    match Connection::open_in_memory(alloc) {
+        Ok(conn) => Some(conn),
+        Err(_) => Connection::open_in_memory(alloc).ok(),
+    }
+}
+
+fn in_files(alloc: Global, section: &str, in_turns: bool) -> Result<String, AllocError> {
+    let (place, conn) = new_files(alloc);
+    over(alloc, Stores::new(alloc, place, conn, in_turns), section)
+}
+
+fn at_path(rt: &HostRuntime, path: &str, section: &str) -> Result<String, AllocError> {
+    let place = AtPath::new(rt, path);
+    let conn = place.opened();
+    over(
+        rt.alloc(),
+        Stores::new(rt.alloc(), place, conn, false),
+        section,
+    )
+}
