@@ -1,8 +1,8 @@
 #!/usr/bin/env python3
 """The rows of `up_test_store` on all eight writes: every read after every write, with what it has to answer.
 
-    python3 tools/store_rows.py crates/up_test_store         tells whether its rows are these
-    python3 tools/store_rows.py crates/up_test_store write   writes them
+    python3 crates/up_test_store/expected.py         tells whether its rows are these
+    python3 crates/up_test_store/expected.py write   writes them
 
 What a read has to answer is computed from the rows that are written and the page on tables, and not by the program: the parts of a
 row are read as they were spelled when they were written. FORMATS says which files a root version has.
@@ -143,8 +143,8 @@ def section():
     return "all eight writes\n" + "\n".join(rows) + "\n"
 
 
-def main(folder, *words):
-    path = pathlib.Path(folder) / "stdin"
+def main(*words):
+    path = pathlib.Path(__file__).parent / "stdin"
     sections = path.read_text().split("\n# ")
     others = [text for text in sections if not text.startswith("all eight writes\n")]
     if words == ("write",):
