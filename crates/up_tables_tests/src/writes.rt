@@ -26,8 +26,7 @@ pub(crate) fn write<S: Alter>(
     alloc: Global,
     given: &str,
 ) -> Result<&'static str, StoreFault>
-    requires mode { IfClean IsInside (state S.Store tx.old.conn.now) }
-    requires open { IfClean IsOpen (state S.Store tx.old.conn.now) }
+    requires { IfClean IsInside (state S.Store tx.old.conn.now) }
     ensures { tx.new.conn.ghost_name ≡ tx.old.conn.ghost_name }
 {
     let (word, rest) = first_of(given);
@@ -50,8 +49,7 @@ fn put<S: Alter>(
     alloc: Global,
     given: &str,
 ) -> Result<&'static str, StoreFault>
-    requires mode { IfClean IsInside (state S.Store tx.old.conn.now) }
-    requires open { IfClean IsOpen (state S.Store tx.old.conn.now) }
+    requires { IfClean IsInside (state S.Store tx.old.conn.now) }
     ensures { tx.new.conn.ghost_name ≡ tx.old.conn.ghost_name }
 {
     let (word, rest) = first_of(given);
@@ -69,8 +67,7 @@ fn set<S: Alter>(
     alloc: Global,
     given: &str,
 ) -> Result<&'static str, StoreFault>
-    requires mode { IfClean IsInside (state S.Store tx.old.conn.now) }
-    requires open { IfClean IsOpen (state S.Store tx.old.conn.now) }
+    requires { IfClean IsInside (state S.Store tx.old.conn.now) }
     ensures { tx.new.conn.ghost_name ≡ tx.old.conn.ghost_name }
 {
     let (word, rest) = first_of(given);
@@ -115,8 +112,7 @@ fn put_root<S: Alter>(
     alloc: Global,
     given: &str,
 ) -> Result<(), StoreFault>
-    requires mode { IfClean IsInside (state S.Store tx.old.conn.now) }
-    requires open { IfClean IsOpen (state S.Store tx.old.conn.now) }
+    requires { IfClean IsInside (state S.Store tx.old.conn.now) }
     ensures { tx.new.conn.ghost_name ≡ tx.old.conn.ghost_name }
 {
     let (numbers, keys) = parts_of(given);
@@ -133,8 +129,7 @@ fn set_files<S: Alter>(
     alloc: Global,
     given: &str,
 ) -> Result<(), StoreFault>
-    requires mode { IfClean IsInside (state S.Store tx.old.conn.now) }
-    requires open { IfClean IsOpen (state S.Store tx.old.conn.now) }
+    requires { IfClean IsInside (state S.Store tx.old.conn.now) }
     ensures { tx.new.conn.ghost_name ≡ tx.old.conn.ghost_name }
 {
     let (numbers, files) = parts_of(given);
@@ -151,8 +146,7 @@ fn put_vehicle<S: Alter>(
     alloc: Global,
     given: &str,
 ) -> Result<(), StoreFault>
-    requires mode { IfClean IsInside (state S.Store tx.old.conn.now) }
-    requires open { IfClean IsOpen (state S.Store tx.old.conn.now) }
+    requires { IfClean IsInside (state S.Store tx.old.conn.now) }
     ensures { tx.new.conn.ghost_name ≡ tx.old.conn.ghost_name }
 {
     let (row, ecus) = parts_of(given);

@@ -57,7 +57,7 @@ impl<S: Alter + Drop, P: Place<S> + Drop> Stores<S, P> {
     ) -> Stores<S, P> {
         Stores {
             place,
-            held: conn.map(Held::Bare),
+            held: bare(conn),
             in_turns,
             seen: Vec::new(alloc),
         }
@@ -150,7 +150,7 @@ impl<S: Alter + Drop, P: Place<S> + Drop> Stores<S, P> {
     fn reopen(&mut self, alloc: Global) {
         self.held = match self.held.take() {
             Some(Held::Ours(store)) => self.taken_again(alloc, store.release()),
-            Some(Held::Bare(conn)) => self.place.again(alloc, conn).map(Held::Bare),
+            Some(Held::Bare(conn)) => bare(self.place.again(alloc, conn)),
             None => None,
         };
     }
@@ -191,12 +191,19 @@ impl<S: Alter + Drop, P: Place<S> + Drop> Stores<S, P> {
             return "no connection".to_string(alloc);
         };
         let (conn, is_same) = self.place.compared(alloc, conn);
-        self.held = conn.map(Held::Bare);
+        self.held = bare(conn);
         match is_same {
             Ok(true) => "same".to_string(alloc),
             Ok(false) => "changed".to_string(alloc),
             Err(refused) => Err(refused),
         }
+    }
+}
+
+fn bare<S: Alter + Drop>(conn: Option<Connection<S>>) -> Option<Held<S>> {
+    match conn {
+        Some(conn) => Some(Held::Bare(conn)),
+        None => None,
     }
 }
 

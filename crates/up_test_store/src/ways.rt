@@ -10,12 +10,17 @@ pub(crate) fn all_ways(rt: &HostRuntime, section: &str) -> Result<String, AllocE
     let alloc = rt.alloc();
     let files = in_files(alloc, section, false)?;
     let turns = in_files(alloc, section, true)?;
-    if section.split('\n').next().unwrap_or("").ends_with("in files") {
+    if words_of(section).ends_with("in files") {
         return format!(in alloc; "{files}\nin turns, {turns}");
     }
     let memory = in_memory(alloc, section, false)?;
     let memory_turns = in_memory(alloc, section, true)?;
     format!(in alloc; "over memory, {memory}\nover memory in turns, {memory_turns}\nover files, {files}\nover files in turns, {turns}")
+}
+
+/// The words of a section, which stand in its first line.
+fn words_of(section: &str) -> &str {
+    section.split_once('\n').unwrap_or((section, "")).0
 }
 
 /// What is told of a section over one place: `memory`, `files`, or the file at a path.
