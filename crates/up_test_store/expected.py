@@ -1,5 +1,5 @@
 #!/usr/bin/env python3
-"""The rows of `up_test_store` on all eight writes: every read after every write, with what it has to answer.
+"""The rows of `up_test_store` on the eight writes: every read after every write, with what it has to answer.
 
     python3 crates/up_test_store/expected.py         tells whether its rows are these
     python3 crates/up_test_store/expected.py write   writes them
@@ -56,6 +56,12 @@ READS = [
     "campaign some", "campaign any", "campaigns v", "campaigns w",
     "vehicle v", "ecus v", "ecus w", "owner a-v", "owner v",
     "kept v 3", "kept v 5", "kept w 3", "latest v", "latest w",
+]
+
+# one of each of the eleven
+ONE_OF_EACH = [
+    "founding", "file image timestamp.json", "image x/y.bin", "images", "campaign any", "campaigns v",
+    "vehicle v", "ecus v", "owner a-v", "kept v 3", "latest v",
 ]
 
 
@@ -131,29 +137,38 @@ class State:
         return {"image": self.images, "campaign": self.campaigns, "vehicle": self.vehicles}[word].get(rest[0], "none")
 
 
-def section():
+def section(name, writes, refused, reads):
     state = State()
     rows = ["ask SELECT name FROM sqlite_schema => rows", "create => done"]
-    for write, answer in [(None, None)] + [(write, "done") for write in WRITES] + [(write, "store") for write in REFUSED]:
+    for write, answer in [(None, None)] + [(write, "done") for write in writes] + [(write, "store") for write in refused]:
         if write:
             rows.append(f"{spelled(write)} => {answer}")
             if answer == "done":
                 state.write(*write)
-        rows += [f"{read} => {state.read(*read.split())}" for read in READS]
-    return "all eight writes\n" + "\n".join(rows) + "\n"
+        rows += [f"{read} => {state.read(*read.split())}" for read in reads]
+    return name + "\n" + "\n".join(rows) + "\n"
+
+
+def computed():
+    once = {write[0]: write for write in reversed(WRITES) if write[-1] != "some v,w hw:x/y.bin,hv:a.bin runs"}
+    in_order = [write for write in WRITES if write in once.values()]
+    return [
+        section("all eight writes", WRITES, REFUSED, READS),
+        section("each disk call refused", in_order, [], ONE_OF_EACH),
+    ]
 
 
 def main(*words):
     path = pathlib.Path(__file__).parent / "stdin"
     sections = path.read_text().split("\n# ")
-    others = [text for text in sections if not text.startswith("all eight writes\n")]
+    names = {text.split("\n")[0] for text in computed()}
     if words == ("write",):
-        path.write_text("\n# ".join([others[0], section()] + others[1:]))
+        others = [text for text in sections if text.split("\n")[0] not in names]
+        path.write_text("\n# ".join([others[0], *computed(), *others[1:]]))
         return 0
-    if section() in sections:
-        return 0
-    print(f"{path}: the section on all eight writes is another")
-    return 1
+    missing = [text.split("\n")[0] for text in computed() if text not in sections]
+    print("".join(f"{path}: another section on {name}\n" for name in missing), end="")
+    return len(missing)
 
 
 if __name__ == "__main__":

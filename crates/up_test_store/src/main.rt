@@ -3,7 +3,7 @@
 //!
 //! Each section is carried out over a database in memory and over files on disks that are memory, each time also in turns: before
 //! each call the store gives its connection back, the files are closed and opened again, and the store takes them again. The section
-//! `all eight writes` is then carried out over disks of which one fails from its first call on, from its second, and so on, until
+//! `each disk call refused` is then carried out over disks of which one fails from its first call on, from its second, and so on, until
 //! none fails: what is told has to be the same. A section whose words end with `in files` is carried out over files alone.
 //!
 //! An argument has the sections carried out over one place: `memory`, `files`, or a file at the path that it is.
@@ -51,7 +51,7 @@ fn told(rt: &HostRuntime, words: &[String], section: &str) -> Result<String, All
 
 fn told_all(rt: &HostRuntime, section: &str) -> Result<String, AllocError> {
     let ways = all_ways(rt, section)?;
-    if !section.starts_with("all eight writes\n") {
+    if !section.starts_with("each disk call refused\n") {
         return Ok(ways);
     }
     let sweeps = swept(rt.alloc(), section)?;

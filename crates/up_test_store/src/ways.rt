@@ -5,17 +5,23 @@ use sqlite::{Alter, Connection, MemStore};
 use std::alloc::{AllocError, Global};
 use up_test_rows::sections::told;
 
-/// What is told of a section over each place, also in turns, a line each.
+/// What is told of a section over each place, also in turns, a line each. One whose words end with `in files` looks at bytes, and is
+/// carried out over files alone.
 pub(crate) fn all_ways(rt: &HostRuntime, section: &str) -> Result<String, AllocError> {
     let alloc = rt.alloc();
     let files = in_files(alloc, section, false)?;
-    let turns = in_files(alloc, section, true)?;
     if words_of(section).ends_with("in files") {
-        return format!(in alloc; "{files}\nin turns, {turns}");
+        return format!(in alloc; "over files, {files}");
     }
     let memory = in_memory(alloc, section, false)?;
-    let memory_turns = in_memory(alloc, section, true)?;
-    format!(in alloc; "over memory, {memory}\nover memory in turns, {memory_turns}\nover files, {files}\nover files in turns, {turns}")
+    let turns = turns_told(alloc, section)?;
+    format!(in alloc; "over memory, {memory}\nover files, {files}\n{turns}")
+}
+
+fn turns_told(alloc: Global, section: &str) -> Result<String, AllocError> {
+    let memory = in_memory(alloc, section, true)?;
+    let files = in_files(alloc, section, true)?;
+    format!(in alloc; "over memory in turns, {memory}\nover files in turns, {files}")
 }
 
 /// The words of a section, which stand in its first line.
