@@ -207,11 +207,7 @@ fn bare<S: Alter + Drop>(conn: Option<Connection<S>>) -> Option<Held<S>> {
     }
 }
 
-fn read_as<S: Alter + Drop>(
-    alloc: Global,
-    held: Held<S>,
-    seen: Option<&Seen>,
-) -> (Held<S>, bool) {
+fn read_as<S: Alter + Drop>(alloc: Global, held: Held<S>, seen: Option<&Seen>) -> (Held<S>, bool) {
     let Some(seen) = seen else {
         return (held, false);
     };

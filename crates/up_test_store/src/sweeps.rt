@@ -24,7 +24,9 @@ pub(crate) fn swept(alloc: Global, section: &str) -> Result<String, AllocError> 
     let whole = carried_out(alloc, section, NEVER, NEVER)?.0;
     let logs = swept_over(alloc, section, Failing::Log, whole.as_str())?;
     let files = swept_over(alloc, section, Failing::Database, whole.as_str())?;
-    format!(in alloc; "over a log that fails from any call on, {logs}\nover a database file that fails from any call on, {files}")
+    format!(in alloc;
+        "over a log that fails from any call on, {logs}\nover a database file that fails from any call on, {files}"
+    )
 }
 
 /// What is told of the section each time, or what is told else where a disk fails.
