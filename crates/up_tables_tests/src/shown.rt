@@ -119,9 +119,10 @@ fn push_installed(
 }
 
 fn push_image(alloc: Global, out: &mut String, image: &Installed) -> Result<(), AllocError> {
-    push_word(out, image.file.as_str())?;
-    push_number(alloc, out, image.length)?;
-    push_bytes(alloc, out, image.sha256.as_slice())
+    let (file, length) = (image.file.as_str(), image.length);
+    let digits = hex::encode(alloc, image.sha256.as_slice())?;
+    let words = format!(in alloc; "{file}:{length}:{digits}")?;
+    push_word(out, words.as_str())
 }
 
 fn push_report(out: &mut String, report: &Option<String>) -> Result<(), AllocError> {
