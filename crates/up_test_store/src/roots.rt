@@ -17,10 +17,10 @@ pub(crate) fn root_rows(alloc: Global, given: &str) -> Result<RootRows, Fault> {
     let (roots, texts) = parts_of(rest);
     let (director, image) = first_of(roots);
     Ok(RootRows {
-        founding: founding(alloc, numbers)?,
+        files: role_texts(alloc, texts)?,
         director: text(alloc, director)?,
         image: text(alloc, image)?,
-        files: role_texts(alloc, texts)?,
+        founding: founding(alloc, numbers)?,
     })
 }
 
@@ -28,8 +28,8 @@ pub(crate) fn root_rows(alloc: Global, given: &str) -> Result<RootRows, Fault> {
 pub(crate) fn register_rows(alloc: Global, given: &str) -> Result<RegisterRows, Fault> {
     let (numbers, texts) = parts_of(given);
     Ok(RegisterRows {
-        founding: founding(alloc, numbers)?,
         files: role_texts(alloc, texts)?,
+        founding: founding(alloc, numbers)?,
     })
 }
 
