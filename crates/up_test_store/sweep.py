@@ -4,7 +4,7 @@
     python3 crates/up_test_store/sweep.py PROGRAM KIND PLACE [EVERY [FIRST [LAST]]]
 
 KIND is `memory`, which refuses a request for memory, or `disk`, which fails a read, write, sync or cut of a file. PLACE is `memory`
-or `files` (disks that are memory), or `path` (a file). The section `each disk call refused` is carried out: each of the eight
+or `files` (on disks that are memory). The section `each disk call refused` is carried out: each of the eight
 writes, and each of the eleven reads after each. What is told has to be the same whichever call failed: a write that was refused
 changed nothing, or stands whole, and goes through when it is made again. Else the program has to end with a message, having told
 nothing.
@@ -27,7 +27,7 @@ def section():
 def carried_out(program, place, own, variables):
     """The status and what is told; `path` has a folder of its own each time."""
     with tempfile.TemporaryDirectory(dir=own) as folder:
-        words = [program, "tables.db" if place == "path" else place]
+        words = [program, place]
         ran = subprocess.run(words, input=section().encode(), capture_output=True, cwd=folder, env=variables, timeout=120, check=False)
     return ran.returncode, ran.stdout, ran.stderr
 

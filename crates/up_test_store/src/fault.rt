@@ -2,12 +2,13 @@
 use std::alloc::{AllocError, AllocFailed};
 use up_store::store::{OpenFault, StoreFault};
 
-/// Memory was refused, the store refused, or the row is spelled wrong.
+/// Memory was refused, the store refused, the row is spelled wrong, or a refusal changed something.
 #[derive(Clone, Copy, Debug, PartialEq, Eq)]
 pub(crate) enum Fault {
     Memory,
     Store,
     Misspelled,
+    Changed,
 }
 
 impl From<AllocError> for Fault {
@@ -46,5 +47,6 @@ pub(crate) fn fault_word(fault: Fault) -> &'static str {
         Fault::Memory => "memory",
         Fault::Store => "store",
         Fault::Misspelled => "misspelled",
+        Fault::Changed => "changed by a refusal",
     }
 }

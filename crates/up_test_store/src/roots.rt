@@ -7,30 +7,69 @@ use crate::words::{bytes, first_of, moment, number, parts_of, push_item, push_nu
 use std::alloc::{AllocError, Global};
 use up_canon::bytes::Bytes;
 use up_canon::listed::Listed;
+use up_canon::text::Text;
 use up_machine::decision::{RegisterRows, RoleTexts, RootRows};
 use up_machine::keys::{KeySet, RepoKeys, RoleSecrets};
 use up_machine::rows::Founding;
 
+/// The texts of a new root version.
+#[derive(Drop)]
+struct RootTexts {
+    director: Text,
+    image: Text,
+    files: RoleTexts,
+}
+
 /// `FOUNDING ; DIRECTOR_ROOT IMAGE_ROOT ; TEXTS`
 pub(crate) fn root_rows(alloc: Global, given: &str) -> Result<RootRows, Fault> {
     let (numbers, rest) = parts_of(given);
-    let (roots, texts) = parts_of(rest);
+    match root_texts(alloc, rest) {
+        Ok(texts) => rooted(alloc, numbers, texts),
+        Err(_) => Err(Fault::Memory),
+    }
+}
+
+fn root_texts(alloc: Global, given: &str) -> Result<RootTexts, AllocError> {
+    let (roots, texts) = parts_of(given);
     let (director, image) = first_of(roots);
-    Ok(RootRows {
-        files: role_texts(alloc, texts)?,
+    Ok(RootTexts {
         director: text(alloc, director)?,
         image: text(alloc, image)?,
-        founding: founding(alloc, numbers)?,
+        files: role_texts(alloc, texts)?,
     })
+}
+
+fn rooted(alloc: Global, numbers: &str, texts: RootTexts) -> Result<RootRows, Fault> {
+    let RootTexts {
+        director,
+        image,
+        files,
+    } = texts;
+    match founding(alloc, numbers) {
+        Ok(founding) => Ok(RootRows {
+            founding,
+            director,
+            image,
+            files,
+        }),
+        Err(fault) => Err(fault),
+    }
 }
 
 /// `FOUNDING ; TEXTS`
 pub(crate) fn register_rows(alloc: Global, given: &str) -> Result<RegisterRows, Fault> {
     let (numbers, texts) = parts_of(given);
-    Ok(RegisterRows {
-        files: role_texts(alloc, texts)?,
-        founding: founding(alloc, numbers)?,
-    })
+    match role_texts(alloc, texts) {
+        Ok(files) => registered(alloc, numbers, files),
+        Err(_) => Err(Fault::Memory),
+    }
+}
+
+fn registered(alloc: Global, numbers: &str, files: RoleTexts) -> Result<RegisterRows, Fault> {
+    match founding(alloc, numbers) {
+        Ok(founding) => Ok(RegisterRows { founding, files }),
+        Err(fault) => Err(fault),
+    }
 }
 
 /// `TARGETS SNAPSHOT TIMESTAMP`

@@ -1,7 +1,8 @@
 //! Sections over disks that fail.
-use crate::places::{InFailingFiles, failing_files};
-use crate::stores::Stores;
-use sqlite::{Connection, FileStore};
+use crate::disks::failing_files;
+use crate::in_files::InFiles;
+use crate::ways::one_way;
+use sqlite::Files;
 use sqlite_disk::{Disk, Fuse, Memory};
 use std::alloc::{AllocError, Global};
 use up_test_rows::sections::told;
@@ -21,7 +22,7 @@ enum Failing {
 
 /// What is told of a section where the log fails from each of its calls on in turn, and then the database file.
 pub(crate) fn swept(alloc: Global, section: &str) -> Result<String, AllocError> {
-    let whole = carried_out(alloc, section, NEVER, NEVER)?.0;
+    let whole = one_way(alloc, "files", section)?;
     let logs = swept_over(alloc, section, Failing::Log, whole.as_str())?;
     let files = swept_over(alloc, section, Failing::Database, whole.as_str())?;
     format!(in alloc;
@@ -63,41 +64,42 @@ fn failing_at(
     calls: u64,
 ) -> Result<(String, bool), AllocError> {
     match failing {
-        Failing::Log => {
-            let (text, conn) = carried_out(alloc, section, calls, NEVER)?;
-            Ok((text, log_is_whole(conn, calls)))
-        }
-        Failing::Database => {
-            let (text, conn) = carried_out(alloc, section, NEVER, calls)?;
-            Ok((text, database_is_whole(conn, calls)))
-        }
+        Failing::Log => log_failing(alloc, section, calls),
+        Failing::Database => database_failing(alloc, section, calls),
     }
 }
 
-/// What is told of the section, and the connection at its end.
+fn log_failing(alloc: Global, section: &str, calls: u64) -> Result<(String, bool), AllocError> {
+    match carried_out(alloc, section, calls, NEVER) {
+        Ok((text, Some(files))) => Ok((text, fails_within(files.log, calls))),
+        Ok((text, None)) => Ok((text, false)),
+        Err(refused) => Err(refused),
+    }
+}
+
+fn database_failing(
+    alloc: Global,
+    section: &str,
+    calls: u64,
+) -> Result<(String, bool), AllocError> {
+    match carried_out(alloc, section, NEVER, calls) {
+        Ok((text, Some(files))) => Ok((text, fails_within(files.db, calls))),
+        Ok((text, None)) => Ok((text, false)),
+        Err(refused) => Err(refused),
+    }
+}
+
+/// What is told of the section, and the files at its end.
 fn carried_out(
     alloc: Global,
     section: &str,
     log: u64,
     db: u64,
-) -> Result<(String, Option<Connection<FileStore<Fuse<Memory>>>>), AllocError> {
-    let conn = failing_files(alloc, log, db);
-    let mut stores = Stores::new(alloc, InFailingFiles, conn, false);
-    let text = told(alloc, &mut stores, section)?;
-    Ok((text, stores.into_connection()))
-}
-
-fn log_is_whole(conn: Option<Connection<FileStore<Fuse<Memory>>>>, calls: u64) -> bool {
-    match conn {
-        Some(conn) => fails_within(conn.into_store().close().log, calls),
-        None => false,
-    }
-}
-
-fn database_is_whole(conn: Option<Connection<FileStore<Fuse<Memory>>>>, calls: u64) -> bool {
-    match conn {
-        Some(conn) => fails_within(conn.into_store().close().db, calls),
-        None => false,
+) -> Result<(String, Option<Files<Fuse<Memory>>>), AllocError> {
+    let mut files = InFiles::new(alloc, failing_files(alloc, log, db), false);
+    match told(alloc, &mut files, section) {
+        Ok(text) => Ok((text, files.into_files())),
+        Err(refused) => Err(refused),
     }
 }
 

@@ -1,27 +1,26 @@
-//! Sections over each place.
-use crate::places::{AtPath, InMemory, Place, new_files};
-use crate::stores::Stores;
-use sqlite::{Alter, Connection, MemStore};
+//! Sections over databases in memory and in files.
+use crate::disks::new_files;
+use crate::in_files::InFiles;
+use crate::in_memory::InMemory;
 use std::alloc::{AllocError, Global};
 use up_test_rows::sections::told;
 
-/// What is told of a section over each place, also in turns, a line each. One whose words end with `in files` looks at bytes, and is
+/// What is told of a section over each, also in turns, a line each. One whose words end with `in files` looks at bytes, and is
 /// carried out over files alone.
-pub(crate) fn all_ways(rt: &HostRuntime, section: &str) -> Result<String, AllocError> {
-    let alloc = rt.alloc();
-    let files = in_files(alloc, section, false)?;
+pub(crate) fn all_ways(alloc: Global, section: &str) -> Result<String, AllocError> {
     if words_of(section).ends_with("in files") {
-        return format!(in alloc; "over files, {files}");
+        return over(alloc, "files", section);
     }
-    let memory = in_memory(alloc, section, false)?;
-    let turns = turns_told(alloc, section)?;
-    format!(in alloc; "over memory, {memory}\nover files, {files}\n{turns}")
+    let memory = over(alloc, "memory", section)?;
+    let files = over(alloc, "files", section)?;
+    let turns = in_turns(alloc, section)?;
+    format!(in alloc; "{memory}\n{files}\n{turns}")
 }
 
-fn turns_told(alloc: Global, section: &str) -> Result<String, AllocError> {
-    let memory = in_memory(alloc, section, true)?;
-    let files = in_files(alloc, section, true)?;
-    format!(in alloc; "over memory in turns, {memory}\nover files in turns, {files}")
+fn in_turns(alloc: Global, section: &str) -> Result<String, AllocError> {
+    let memory = over(alloc, "memory in turns", section)?;
+    let files = over(alloc, "files in turns", section)?;
+    format!(in alloc; "{memory}\n{files}")
 }
 
 /// The words of a section, which stand in its first line.
@@ -29,50 +28,23 @@ fn words_of(section: &str) -> &str {
     section.split_once('\n').unwrap_or((section, "")).0
 }
 
-/// What is told of a section over one place: `memory`, `files`, or the file at a path.
-pub(crate) fn one_way(rt: &HostRuntime, place: &str, section: &str) -> Result<String, AllocError> {
+fn over(alloc: Global, place: &str, section: &str) -> Result<String, AllocError> {
+    let told = one_way(alloc, place, section)?;
+    format!(in alloc; "over {place}, {told}")
+}
+
+/// What is told of a section over `memory`, `memory in turns`, `files` or `files in turns`.
+pub(crate) fn one_way(alloc: Global, place: &str, section: &str) -> Result<String, AllocError> {
     match place {
-        "memory" => in_memory(rt.alloc(), section, false),
-        "files" => in_files(rt.alloc(), section, false),
-        path => at_path(rt, path, section),
+        "memory" => told(alloc, &mut InMemory::new(alloc, false), section),
+        "memory in turns" => told(alloc, &mut InMemory::new(alloc, true), section),
+        "files" => in_files(alloc, section, false),
+        "files in turns" => in_files(alloc, section, true),
+        _ => "no such place".to_string(alloc),
     }
 }
 
-fn over<S: Alter + Drop, P: Place<S> + Drop>(
-    alloc: Global,
-    stores: Stores<S, P>,
-    section: &str,
-) -> Result<String, AllocError> {
-    let mut stores = stores;
-    told(alloc, &mut stores, section)
-}
-
-fn in_memory(alloc: Global, section: &str, in_turns: bool) -> Result<String, AllocError> {
-    over(
-        alloc,
-        Stores::new(alloc, InMemory, new_memory(alloc), in_turns),
-        section,
-    )
-}
-
-fn new_memory(alloc: Global) -> Option<Connection<MemStore>> {
-    match Connection::open_in_memory(alloc) {
-        Ok(conn) => Some(conn),
-        Err(_) => Connection::open_in_memory(alloc).ok(),
-    }
-}
-
-fn in_files(alloc: Global, section: &str, in_turns: bool) -> Result<String, AllocError> {
-    let (place, conn) = new_files(alloc);
-    over(alloc, Stores::new(alloc, place, conn, in_turns), section)
-}
-
-fn at_path(rt: &HostRuntime, path: &str, section: &str) -> Result<String, AllocError> {
-    let place = AtPath::new(rt, path);
-    let conn = place.opened();
-    over(
-        rt.alloc(),
-        Stores::new(rt.alloc(), place, conn, false),
-        section,
-    )
+fn in_files(alloc: Global, section: &str, turns: bool) -> Result<String, AllocError> {
+    let mut files = InFiles::new(alloc, new_files(alloc), turns);
+    told(alloc, &mut files, section)
 }
