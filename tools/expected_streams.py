@@ -24,6 +24,7 @@ P1 = bytes(32 * [0x11])
 ECU = {"ecu": "P1", "hardware": "HP", "key": P1.hex()}
 VEHICLE = canon({"at": AT, "do": "add_vehicle", "ecus": [ECU], "primary": "P1", "vehicle": "V1"})
 ITEM = {"attack": "", "counter": 1, "ecu": "P1", "time": AT, "key": P1.hex(), "file": "factory.bin", "length": 0, "sha256": row_texts.NOTHING}
+SHOW = canon({"at": AT, "do": "show", "vehicle": "V1"})
 BENCH = canon({"at": AT, "counter": 1, "do": "bench", "key": P1.hex(), "primary": "P1", "reports": [ITEM], "vehicle": "V1"})
 
 
@@ -97,10 +98,14 @@ def sweep(step, input, requests, size=None):
     return "sweep %d %s" % (step, input), "reads:%s writes:%s" % ("".join(reads), "".join(writes))
 
 
-def lines_sweep(step, row):
-    """The same of a worked row, whose last line ends with the input. Sent once more, the lines that were carried out are answered as before, but
-    those that were `done`."""
-    script, printed = ((TOP / "rows" / row / name).read_text().rstrip("\n").split("\n") for name in ("script", "printed"))
+def worked(row):
+    """The lines of a worked row, and those that it has printed."""
+    return ((TOP / "rows" / row / name).read_text(encoding="ascii").rstrip("\n").split("\n") for name in ("script", "printed"))
+
+
+def lines_sweep(step, script, printed):
+    """The same of the lines of a script, of which the last ends with the input, and what they have printed. Sent once more, the lines that were
+    carried out are answered as before, but those that were `done`."""
     ends = [sum(len(line) + 1 for line in script[: place + 1]) for place in range(len(script) - 1)]
     told = lambda cause, called, answered: " %s %d %d %d again," % (
         cause, answered, sum(len(line) + 2 for line in printed[:answered]), printed[:called].count("done"))
@@ -143,7 +148,8 @@ def sections():
         ("fails 1000 1 0 0 " + three, "Read 0 0: "),
         ("fails 1000 2 0 0 " + three, "Read 3 3: " + 3 * NO_FILE_ANSWER),
     ]
-    unwritten = [("fails 1000 0 1 0 " + TWICE, "Write 1 0: "), ("whole " + posted(MANIFEST), "1: " + REPLY)]
+    stands = ("do " + SHOW, "1: vehicle V1 version 1 P1=factory.bin\\n")
+    unwritten = [("fails 1000 0 1 0 " + TWICE, "Write 1 0: "), stands, ("whole " + posted(MANIFEST), "1: " + REPLY), stands]
     yield "an unwritten reply", vehicle + unwritten
     head = length(post("Content-Length: %d|" % MOST))
     once, twice = length(NO_FILE), 2 * length(NO_FILE)
@@ -162,15 +168,19 @@ def sections():
     accepted = [(first, REPLY, 1), (2 * first, REPLY, 1)]
     rest = [(2 * first + once, NO_FILE_ANSWER, 1), (None, BAD, 0)]
     sweeps = [sweep(400, TWICE + NO_FILE + "GET", accepted + rest), sweep(100, TWICE, accepted)]
-    yield "each read and write fails in turn over manifests", vehicle + sweeps
-    yield "each read and write fails in turn over lines", [lines_sweep(100, "equal_and_greater_releases")]
+    none_fails = "whole " + TWICE + NO_FILE + "GET", "4: " + 2 * REPLY + NO_FILE_ANSWER + BAD
+    yield "each read and write fails in turn over manifests", vehicle + sweeps + [none_fails]
+    script, printed = worked("equal_and_greater_releases")
+    none_fails = "lines 100 0 0 0 " + "\\n".join(script), "%d: %s" % (len(printed), "".join(line + "\\n" for line in printed))
+    yield "each read and write fails in turn over lines", [lines_sweep(100, script, printed), none_fails]
     refused = "refused 5 NotJson\\n"
     yield "scripts that end early", [
         ("lines 1000 0 0 0 nope\\n<*2097153* *>", "TooLong 1: " + refused),
         ("lines 1000 0 0 0 nope\\n<*2097152* *>", "2: " + 2 * refused),
     ]
     script = "lines 1000 0 3 0 " + "\\n".join((FOUND, VEHICLE, BENCH))
-    yield "an unwritten line", [(script, "Write 2: done\\ndone\\n"), ("do " + BENCH, "1: reply V1 version 1 targets 0\\n")]
+    again = ("do " + BENCH, "1: reply V1 version 1 targets 0\\n")
+    yield "an unwritten line", [(script, "Write 2: done\\ndone\\n"), stands, again, stands]
     stays = "stays GET /image/nofile HTTP/1.1|Host: d|Connection: close||"
     clients = [("ends " + posted(MANIFEST), "1: " + REPLY), (stays, "1: " + NO_FILE_LAST)]
     yield "sockets of two clients", [("do " + FOUND, "kept"), ("do " + VEHICLE, "kept")] + clients
