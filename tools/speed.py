@@ -166,6 +166,8 @@ def growth(program, _):
     for kept in (1000, 10_000, 97_000):
         told = list(manifests(100, kept + number))
         print("| %d kept replies | %.0f |" % (kept, cost(program, few + told[:kept], told[kept:])), flush=True)
+        repeats = cost(program, few + told[:kept], told[kept - 1000 : kept])
+        print("| %d kept replies, a repeat | %.0f |" % (kept, repeats), flush=True)
     others = {"10 images, 10 campaigns, 100 vehicles": (100, 10, 10), "1,000 images": (100, 1000, 10),
               "1,000 campaigns": (100, 10, 1000), "10,000 vehicles": (10_000, 10, 10)}
     for name, words in others.items():
