@@ -1,4 +1,4 @@
-//! Rows of tables as they are told: each column, in the spelling of statements.
+//! Rows of tables as they are told: each column in the spelling of statements.
 use std::alloc::{AllocError, Global};
 use up_tables::campaign::CampaignRow;
 use up_tables::ecu::{EcuRow, Installed};
@@ -11,76 +11,100 @@ use up_tables::vehicle::VehicleRow;
 
 /// What has a text.
 pub(crate) trait Shown {
-    /// Each column, a space between.
-    fn text(&self, alloc: Global) -> Result<String, AllocError>;
+    /// Appends each column, a space between.
+    fn push(&self, alloc: Global, out: &mut String) -> Result<(), AllocError>;
+}
+
+/// Appends a word, behind a space where any stands before it.
+pub(crate) fn push_word(out: &mut String, word: &str) -> Result<(), AllocError> {
+    if !out.is_empty() {
+        out.push(' ')?;
+    }
+    out.push_str(word)
+}
+
+fn push_number(alloc: Global, out: &mut String, number: u64) -> Result<(), AllocError> {
+    let digits = format!(in alloc; "{number}")?;
+    push_word(out, digits.as_str())
+}
+
+fn push_bytes(alloc: Global, out: &mut String, bytes: &[u8]) -> Result<(), AllocError> {
+    let digits = hex::encode(alloc, bytes)?;
+    push_word(out, digits.as_str())
 }
 
 impl Shown for String {
-    fn text(&self, alloc: Global) -> Result<String, AllocError> {
-        self.as_str().to_string(alloc)
+    fn push(&self, _: Global, out: &mut String) -> Result<(), AllocError> {
+        push_word(out, self.as_str())
     }
 }
 
 impl Shown for MetaRow {
-    fn text(&self, alloc: Global) -> Result<String, AllocError> {
-        format!(in alloc; "{} {} {}", self.root, self.image_version, self.stamp)
+    fn push(&self, alloc: Global, out: &mut String) -> Result<(), AllocError> {
+        push_number(alloc, out, self.root)?;
+        push_number(alloc, out, self.image_version)?;
+        push_number(alloc, out, self.stamp)
     }
 }
 
 impl Shown for RoleKeyRow {
-    fn text(&self, alloc: Global) -> Result<String, AllocError> {
-        let secret = hex::encode(alloc, self.secret.as_slice())?;
-        format!(in alloc;
-            "{} {} {} {} {secret} {}",
-            self.root, self.repository, self.role, self.place, self.threshold
-        )
+    fn push(&self, alloc: Global, out: &mut String) -> Result<(), AllocError> {
+        push_number(alloc, out, self.root)?;
+        push_word(out, self.repository.as_str())?;
+        push_word(out, self.role.as_str())?;
+        push_number(alloc, out, self.place)?;
+        push_bytes(alloc, out, self.secret.as_slice())?;
+        push_number(alloc, out, self.threshold)
     }
 }
 
 impl Shown for FileRow {
-    fn text(&self, alloc: Global) -> Result<String, AllocError> {
-        format!(in alloc; "{} {} {}", self.repository, self.name, self.body)
+    fn push(&self, _: Global, out: &mut String) -> Result<(), AllocError> {
+        push_word(out, self.repository.as_str())?;
+        push_word(out, self.name.as_str())?;
+        push_word(out, self.body.as_str())
     }
 }
 
 impl Shown for ImageRow {
-    fn text(&self, alloc: Global) -> Result<String, AllocError> {
-        let sha256 = hex::encode(alloc, self.sha256.as_slice())?;
-        format!(in alloc;
-            "{} {} {sha256} {} {} {} {}",
-            self.file, self.length, self.hardware, self.release_count, self.needs, self.conflicts
-        )
+    fn push(&self, alloc: Global, out: &mut String) -> Result<(), AllocError> {
+        push_word(out, self.file.as_str())?;
+        push_number(alloc, out, self.length)?;
+        push_bytes(alloc, out, self.sha256.as_slice())?;
+        push_word(out, self.hardware.as_str())?;
+        push_number(alloc, out, self.release_count)?;
+        push_word(out, self.needs.as_str())?;
+        push_word(out, self.conflicts.as_str())
     }
 }
 
 impl Shown for CampaignRow {
-    fn text(&self, alloc: Global) -> Result<String, AllocError> {
-        let running = if self.running { "runs" } else { "closed" };
-        format!(in alloc; "{} {} {} {running}", self.name, self.reach, self.items)
+    fn push(&self, _: Global, out: &mut String) -> Result<(), AllocError> {
+        push_word(out, self.name.as_str())?;
+        push_word(out, self.reach.as_str())?;
+        push_word(out, self.items.as_str())?;
+        push_word(out, if self.running { "runs" } else { "closed" })
     }
 }
 
 impl Shown for VehicleRow {
-    fn text(&self, alloc: Global) -> Result<String, AllocError> {
-        format!(in alloc;
-            "{} {} {} {}",
-            self.vehicle, self.primary_ecu, self.version, self.last_counter
-        )
+    fn push(&self, alloc: Global, out: &mut String) -> Result<(), AllocError> {
+        push_word(out, self.vehicle.as_str())?;
+        push_word(out, self.primary_ecu.as_str())?;
+        push_number(alloc, out, self.version)?;
+        push_number(alloc, out, self.last_counter)
     }
 }
 
 impl Shown for EcuRow {
-    fn text(&self, alloc: Global) -> Result<String, AllocError> {
-        let mut text = ecu_front(alloc, self)?;
-        push_installed(alloc, &mut text, &self.installed)?;
-        push_report(alloc, &mut text, self)?;
-        Ok(text)
+    fn push(&self, alloc: Global, out: &mut String) -> Result<(), AllocError> {
+        push_word(out, self.ecu.as_str())?;
+        push_word(out, self.hardware.as_str())?;
+        push_bytes(alloc, out, self.public_key.as_slice())?;
+        push_installed(alloc, out, &self.installed)?;
+        push_number(alloc, out, self.counter)?;
+        push_report(out, &self.report)
     }
-}
-
-fn ecu_front(alloc: Global, row: &EcuRow) -> Result<String, AllocError> {
-    let key = hex::encode(alloc, row.public_key.as_slice())?;
-    format!(in alloc; "{} {} {key} ", row.ecu, row.hardware)
 }
 
 fn push_installed(
@@ -90,38 +114,32 @@ fn push_installed(
 ) -> Result<(), AllocError> {
     match installed {
         Some(image) => push_image(alloc, out, image),
-        None => out.push('-'),
+        None => push_word(out, "-"),
     }
 }
 
 fn push_image(alloc: Global, out: &mut String, image: &Installed) -> Result<(), AllocError> {
-    let sha256 = hex::encode(alloc, image.sha256.as_slice())?;
-    let text = format!(in alloc; "{}:{}:{sha256}", image.file, image.length)?;
-    out.push_str(text.as_str())
+    push_word(out, image.file.as_str())?;
+    push_number(alloc, out, image.length)?;
+    push_bytes(alloc, out, image.sha256.as_slice())
 }
 
-fn push_report(alloc: Global, out: &mut String, row: &EcuRow) -> Result<(), AllocError> {
-    let report = match &row.report {
-        Some(text) => text.as_str(),
-        None => "-",
-    };
-    let text = format!(in alloc; " {} {report}", row.counter)?;
-    out.push_str(text.as_str())
-}
-
-impl Shown for KeptRow {
-    fn text(&self, alloc: Global) -> Result<String, AllocError> {
-        let numbers = kept_numbers(alloc, self)?;
-        format!(in alloc;
-            "{} {numbers} {} {} {}",
-            self.vehicle, self.signed, self.plan_text, self.reply
-        )
+fn push_report(out: &mut String, report: &Option<String>) -> Result<(), AllocError> {
+    match report {
+        Some(text) => push_word(out, text.as_str()),
+        None => push_word(out, "-"),
     }
 }
 
-fn kept_numbers(alloc: Global, row: &KeptRow) -> Result<String, AllocError> {
-    format!(in alloc;
-        "{} {} {} {}",
-        row.counter, row.version, row.moment, row.root
-    )
+impl Shown for KeptRow {
+    fn push(&self, alloc: Global, out: &mut String) -> Result<(), AllocError> {
+        push_word(out, self.vehicle.as_str())?;
+        push_number(alloc, out, self.counter)?;
+        push_number(alloc, out, self.version)?;
+        push_number(alloc, out, self.moment)?;
+        push_number(alloc, out, self.root)?;
+        push_word(out, self.signed.as_str())?;
+        push_word(out, self.plan_text.as_str())?;
+        push_word(out, self.reply.as_str())
+    }
 }

@@ -1,5 +1,5 @@
 //! What is told of rows that were read, and of faults.
-use crate::shown::Shown;
+use crate::shown::{Shown, push_word};
 use std::alloc::{AllocError, Global};
 use up_tables::values::StoreFault;
 
@@ -24,7 +24,9 @@ pub(crate) fn one<T: Shown + Drop>(
 }
 
 fn text_of<T: Shown>(alloc: Global, row: &T) -> Result<String, StoreFault> {
-    Ok(row.text(alloc)?)
+    let mut out = String::new(alloc);
+    row.push(alloc, &mut out)?;
+    Ok(out)
 }
 
 /// The rows that were found, with ` ; ` between them.
@@ -33,12 +35,12 @@ pub(crate) fn all<T: Shown + Drop>(
     found: Result<Vec<T>, StoreFault>,
 ) -> Result<String, StoreFault> {
     match found {
-        Ok(rows) => Ok(texts_of(alloc, rows.as_slice())?),
+        Ok(rows) => texts_of(alloc, rows.as_slice()),
         Err(fault) => Err(fault),
     }
 }
 
-fn texts_of<T: Shown>(alloc: Global, rows: &[T]) -> Result<String, AllocError> {
+fn texts_of<T: Shown>(alloc: Global, rows: &[T]) -> Result<String, StoreFault> {
     let mut out = String::new(alloc);
     for row in rows {
         push(alloc, &mut out, row)?;
@@ -48,8 +50,7 @@ fn texts_of<T: Shown>(alloc: Global, rows: &[T]) -> Result<String, AllocError> {
 
 fn push<T: Shown>(alloc: Global, out: &mut String, row: &T) -> Result<(), AllocError> {
     if !out.is_empty() {
-        out.push_str(" ; ")?;
+        push_word(out, ";")?;
     }
-    let text = row.text(alloc)?;
-    out.push_str(text.as_str())
+    row.push(alloc, out)
 }
