@@ -1,5 +1,3 @@
-pub mod Tables
-pub mod Rows
-pub mod Changes
+pub mod Gathered
 pub mod Serving
 pub mod Runs

@@ -1,47 +1,75 @@
 //! Views of a vehicle.
-ghost use Rattle.std.specs.Prelude.{◌≡◌, ◌++◌, IfOk, string_bytes, flat_map};
-ghost use Rattle.up_canon.specs.Refusals.{GivesAs};
+ghost use Rattle.std.specs.Prelude.{◌≡◌, ◌++◌, IfOk, OnOk, string_bytes, flat_map};
+ghost use Rattle.sqlite.specs.Held.{state};
+ghost use Rattle.sqlite.specs.State.{HasCleanDisk};
+ghost use Rattle.up_sign.specs.Schemes.{Rules};
 ghost use Rattle.up_machine.specs.Reads.{installed as installed_in};
+ghost use Rattle.up_machine.specs.State.{State};
 ghost use Rattle.up_script.specs.PrintedLines.{ecu_text};
-ghost use Rattle.up_service.specs.LineAnswers.{shown_in};
+ghost use Rattle.up_store.specs.Connections.{KeepsState};
+ghost use Rattle.up_tables.specs.Stands.{IfClean};
+ghost use Rattle.up_desk.specs.Serving.{Reads};
+ghost use Rattle.up_service.specs.LineAnswers.{GivesShown, shown_in};
 
-use std::alloc::{AllocError, Global};
+use sqlite::Alter;
+use std::alloc::Global;
 use up_canon::ident::Ident;
 use up_canon::refusal::Refusal;
 use up_desk::desk::Desk;
+use up_desk::lost::refusal_of;
 use up_plan::assigned::Plan;
 use up_script::printed::{push_ecu, vehicle_text};
 use up_sign::scheme::Scheme;
+use up_store::store::StoreFault;
 
 /// The line that shows a vehicle: its version, and for each ECU in inventory order what is installed and what is assigned.
-#[tactic(auto, unfolding(crate::specs::LineAnswers::shown_in, up_canon::specs::Steps::and_then))]
-pub(crate) fn shown<K: Scheme>(
+pub(crate) fn shown<K: Scheme, D: Alter>(
     alloc: Global,
-    desk: &Desk<K>,
+    desk: &mut Desk<K, D>,
     vehicle: &Ident,
 ) -> Result<String, Refusal>
-    ensures { GivesAs string_bytes result (shown_in desk.now.state vehicle.now) }
+    ensures scheme { desk.new.scheme ≡ desk.old.scheme }
+    ensures shown { HasCleanDisk (state D.Store desk.new.store) → (k : Rules) (s : State) → IfClean (KeepsState k s) (state D.Store desk.old.store) → GivesShown string_bytes result (shown_in s vehicle.now) }
+    ensures reads { Reads (state D.Store desk.old.store) (state D.Store desk.new.store) }
 {
-    let version = desk.version(vehicle).ok_or(Refusal::UnknownVehicle)?;
-    let ecus = desk.ecus(alloc, vehicle)?.ok_or(Refusal::UnknownVehicle)?;
-    let plan = desk.assigned(alloc, vehicle)?;
+    let version = match desk.version(alloc, vehicle) {
+        Ok(Some(version)) => version,
+        Ok(None) => return Err(Refusal::UnknownVehicle),
+        Err(fault) => return Err(refusal_of(fault)),
+    };
+    let ecus = match desk.ecus(alloc, vehicle) {
+        Ok(Some(ecus)) => ecus,
+        Ok(None) => return Err(Refusal::UnknownVehicle),
+        Err(fault) => return Err(refusal_of(fault)),
+    };
+    let plan = match desk.assigned(alloc, vehicle) {
+        Ok(plan) => plan,
+        Err(fault) => return Err(refusal_of(fault)),
+    };
     let mut out = vehicle_text(alloc, vehicle, version)?;
-    push_ecus(alloc, desk, &mut out, &plan, ecus.as_slice())?;
-    Ok(out)
+    match push_ecus(alloc, desk, &mut out, &plan, ecus.as_slice()) {
+        Ok(()) => Ok(out),
+        Err(fault) => Err(refusal_of(fault)),
+    }
 }
 
-fn push_ecus<K: Scheme>(
+fn push_ecus<K: Scheme, D: Alter>(
     alloc: Global,
-    desk: &Desk<K>,
+    desk: &mut Desk<K, D>,
     out: &mut String,
     plan: &Option<Plan>,
     ecus: &[Ident],
-) -> Result<(), AllocError>
-    ensures { IfOk result (λ _. string_bytes out.new ≡ string_bytes out.old ++ flat_map (λ ecu. ecu_text plan.now ecu (installed_in desk.now.state ecu)) ecus.now) }
+) -> Result<(), StoreFault>
+    ensures scheme { desk.new.scheme ≡ desk.old.scheme }
+    ensures shown { HasCleanDisk (state D.Store desk.new.store) → OnOk result ((k : Rules) (s : State) → IfClean (KeepsState k s) (state D.Store desk.old.store)
+        → string_bytes out.new ≡ string_bytes out.old ++ flat_map (λ ecu. ecu_text plan.now ecu (installed_in s ecu)) ecus.now) }
+    ensures reads { Reads (state D.Store desk.old.store) (state D.Store desk.new.store) }
 {
     for ecu in ecus {
-        let installed = desk.installed(alloc, ecu)?;
-        push_ecu(out, plan, ecu, &installed)?;
+        match desk.installed(alloc, ecu) {
+            Ok(installed) => push_ecu(out, plan, ecu, &installed)?,
+            Err(fault) => return Err(fault),
+        }
     }
     Ok(())
 }

@@ -4,6 +4,7 @@
 
 mod commands;
 mod compared;
+mod desks;
 mod marked;
 mod scripts;
 mod telling;

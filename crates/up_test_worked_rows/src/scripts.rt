@@ -1,7 +1,7 @@
 //! Rows as scripts.
+use crate::desks::desk_in_memory;
 use crate::trickle::Trickle;
 use std::alloc::{AllocError, Global};
-use up_desk::desk::Desk;
 use up_service::script::run_script;
 use up_sign::scheme::Scheme;
 
@@ -25,7 +25,7 @@ fn answered_by<K: Scheme>(
     most: usize,
     written: &mut Vec<u8>,
 ) -> Option<u32> {
-    let mut desk = Desk::new(scheme, alloc);
+    let mut desk = desk_in_memory(alloc, scheme).ok()?;
     let bytes = script.as_bytes();
     let mut reader = Trickle { bytes, most };
     run_script(alloc, &mut desk, &mut reader, written).ok()

@@ -1,24 +1,26 @@
-//! The program: runs a script over the repositories, serves them over HTTP, or prints the length and the SHA-256 of a file.
+//! The program: runs a script over the repositories, or prints the length and the SHA-256 of a file.
 #![tactic(auto)]
 
-mod connections;
+ghost use Rattle.std.specs.Prelude.{◌≡◌, false};
+ghost use Rattle.sqlite.specs.Held.{state};
 
-use connections::serve_all;
-use std::net::TcpListener;
+use sqlite::{Alter, Connection, Unknown};
 use std::process::ExitCode;
 use std::{env, fs};
 use up_desk::desk::Desk;
+use up_file::closing::close_file;
+use up_file::opening::open_file;
 use up_lines::fault::{Cause, Fault};
 use up_service::digest::digest_stream;
 use up_service::job::Job;
 use up_service::script::run_script;
 use up_service::words::job;
 use up_sign::hmac_sha256::HmacSha256;
+use up_store::store::{OpenFault, Store};
 
 fn main(rt: HostRuntime) -> ExitCode {
     match asked(&rt) {
         Some(Job::Run(file)) => run(&rt, file.as_str()),
-        Some(Job::Serve(file, port, count)) => serve(&rt, file.as_str(), port, count),
         Some(Job::Digest(file)) => digest(&rt, file.as_str()),
         None => {
             eprintln!(rt; "usage: uptane_desk run FILE | serve FILE PORT COUNT | digest FILE").ok();
@@ -33,13 +35,53 @@ fn asked(rt: &HostRuntime) -> Option<Job> {
     job(words.skip(1).collect(rt.alloc()).ok()?)
 }
 
-/// Runs the script on standard input. `:memory:` is the one database that there is yet.
+/// Runs the script on standard input, over a database in memory or in a file.
 fn run(rt: &HostRuntime, file: &str) -> ExitCode {
-    if file != ":memory:" {
-        return unopened(rt);
+    if file == ":memory:" {
+        return run_in_memory(rt);
     }
-    let mut desk = Desk::new(HmacSha256, rt.alloc());
-    match run_script(rt.alloc(), &mut desk, &mut rt.stdin(), &mut rt.stdout()) {
+    run_over_file(rt, file)
+}
+
+fn run_in_memory(rt: &HostRuntime) -> ExitCode {
+    let Ok(conn) = Connection::open_in_memory(rt.alloc()) else {
+        return unopened(rt);
+    };
+    let Some(store) = taken(conn) else {
+        return unopened(rt);
+    };
+    let mut desk = Desk::new(HmacSha256, store);
+    answer_lines(rt, &mut desk)
+}
+
+/// At the end the database's log is copied into its file; where it can't be, the next run finds all that was committed in the
+/// log.
+fn run_over_file(rt: &HostRuntime, file: &str) -> ExitCode {
+    let Ok(conn) = open_file(rt, file, Unknown) else {
+        return unopened(rt);
+    };
+    let Some(store) = taken(conn) else {
+        return unopened(rt);
+    };
+    let mut desk = Desk::new(HmacSha256, store);
+    let status = answer_lines(rt, &mut desk);
+    close_file(desk.release().release()).ok();
+    status
+}
+
+/// The database's tables, made where it isn't one of this product.
+fn taken<D: Alter + Drop>(conn: Connection<D>) -> Option<Store<D>>
+    requires { (state D.Store conn).in_transaction ≡ false }
+{
+    match Store::adopt(conn) {
+        Ok(store) => Some(store),
+        Err((conn, OpenFault::NotOurs)) => Store::create(conn).ok(),
+        Err(_) => None,
+    }
+}
+
+fn answer_lines<D: Alter>(rt: &HostRuntime, desk: &mut Desk<HmacSha256, D>) -> ExitCode {
+    match run_script(rt.alloc(), desk, &mut rt.stdin(), &mut rt.stdout()) {
         Ok(_) => ExitCode::SUCCESS,
         Err(fault) => stopped(rt, fault),
     }
@@ -48,32 +90,6 @@ fn run(rt: &HostRuntime, file: &str) -> ExitCode {
 fn unopened(rt: &HostRuntime) -> ExitCode {
     eprintln!(rt; "uptane_desk: cannot open the database").ok();
     ExitCode::from(3)
-}
-
-/// Serves connections to a port of this host, over the one database that there is yet.
-fn serve(rt: &HostRuntime, file: &str, port: u16, count: u32) -> ExitCode {
-    if file != ":memory:" {
-        return unopened(rt);
-    }
-    match TcpListener::bind(rt, ("127.0.0.1", port)) {
-        Ok(listener) => serve_at(rt, &listener, port, count),
-        Err(_) => unheard(rt),
-    }
-}
-
-/// Tells that the program listens, and serves so many connections, one after another.
-fn serve_at(rt: &HostRuntime, listener: &TcpListener, port: u16, count: u32) -> ExitCode {
-    let mut desk = Desk::new(HmacSha256, rt.alloc());
-    println!(rt; "listening {port}").ok();
-    match serve_all(rt, &mut desk, listener, count) {
-        Ok(()) => ExitCode::SUCCESS,
-        Err(_) => unheard(rt),
-    }
-}
-
-fn unheard(rt: &HostRuntime) -> ExitCode {
-    eprintln!(rt; "uptane_desk: cannot listen").ok();
-    ExitCode::from(4)
 }
 
 fn stopped(rt: &HostRuntime, fault: Fault) -> ExitCode {

@@ -1,11 +1,17 @@
 use Rattle.std.proofs.Common.{Err, refl}
+use Rattle.sqlite.specs.Held.{state}
 use Rattle.up_canon.specs.declared.refusal.Refusal.TheVariants.{MomentOutOfRange}
+use Rattle.up_desk.specs.Serving.{served}
 use Rattle.up_desk.proofs.Serving.{late_served, in_time_outright, late_outright}
+use Rattle.up_desk.proofs.Steps.{refused, reads_none}
 use Rattle.up_desk.proofs.obeying.obey.Goals as goal
 
 pub returns-in-None : goal.returns-in-None
 returns-in-None g c = record {
-  leaves = (c.requires.shows, late_served _ _ _ _ c.in-None.ensures);
+  serves = λ s sound was.
+      refused (g.K.Scheme.rules c.args.scheme.now) s (state g.D.Store c.args.store.now) (state g.D.Store c.args.store.now) MomentOutOfRange
+      (served (g.K.Scheme.rules c.args.scheme.now) s c.args.at c.args.command.now) was (reads_none (state g.D.Store c.args.store.now))
+      (λ clean. late_served (g.K.Scheme.rules c.args.scheme.now) s c.args.at c.args.command.now c.in-None.ensures);
   outright = late_outright (g.K.Scheme.rules c.args.scheme.now) c.args.at c.args.command.now (Err MomentOutOfRange) c.in-None.ensures refl;
 }
 
