@@ -4,6 +4,6 @@ pub mod Fitting
 pub mod Told
 pub mod LookedUp
 pub mod Loops
-pub mod Serving
 pub mod Outlasting
+pub mod Serving
 pub mod Runs

@@ -2,18 +2,13 @@
 ghost use Rattle.std.specs.Prelude.{◌≡◌, ◌++◌, List, IfSome, OnOk, OnErr, IsTrue};
 ghost use Rattle.std.specs.List.{AllByRecursion};
 ghost use Rattle.sqlite.specs.Held.{state};
-ghost use Rattle.sqlite.specs.State.{HasCleanDisk, Survives};
+ghost use Rattle.sqlite.specs.State.{HasCleanDisk};
 ghost use Rattle.up_machine.specs.declared.answer.Answer.{Answer};
 ghost use Rattle.up_machine.specs.declared.answer.Answer.TheVariants.{Refused};
 ghost use Rattle.up_machine.specs.Commands.{opens_running};
-ghost use Rattle.up_machine.specs.State.{State};
-ghost use Rattle.up_machine.specs.Sound.{IsSound};
-ghost use Rattle.up_machine.specs.Repeats.{serve};
 ghost use Rattle.up_machine.specs.Reads.{ecus_of as ecus_in, version_of as version_in, installed as installed_in, assigned_to};
-ghost use Rattle.up_store.specs.Connections.{KeepsState};
-ghost use Rattle.up_tables.specs.Stands.{IfClean, LeavesOnly};
-ghost use Rattle.up_desk.specs.Runs.{AreOutright, IsRun};
-ghost use Rattle.up_desk.specs.Serving.{HoldsState, IsAnswered, IsCommit, Reads, RepliesStay, Tells, outright as outright_of};
+ghost use Rattle.up_desk.specs.Runs.{AreOutright, RunsCalls};
+ghost use Rattle.up_desk.specs.Serving.{CommitsCall, Reads, ServesCall, SparesCall, Tells, outright as outright_of};
 
 use crate::obeying::{answer_of, keeps_limits, obey};
 use crate::views::{assigned_of, ecus_of, installed_on, version_of};
@@ -81,15 +76,10 @@ impl<K: Scheme, D: Alter> Desk<K, D> {
     /// leave before, or the next state; after `Done` and a reply to a newly accepted manifest that state alone.
     pub fn call(&mut self, alloc: Global, at: u64, command: &Command) -> Answer
         requires { IsTrue (opens_running command.now) }
-        ensures served { HasCleanDisk (state D.Store self.new.store) → (s : State) → IsSound (K.rules self.old.scheme) s → IfClean (KeepsState (K.rules self.old.scheme) s) (state D.Store self.old.store)
-            → (next : State) × IsAnswered result s next (serve (K.rules self.old.scheme) s at command.now) × RepliesStay (K.rules self.old.scheme) s next
-            × IsSound (K.rules self.old.scheme) next × KeepsState (K.rules self.old.scheme) next (state D.Store self.new.store) }
+        ensures served { ServesCall (K.rules self.old.scheme) at command.now result (state D.Store self.old.store) (state D.Store self.new.store) }
         ensures outright { IfSome (outright_of (K.rules self.old.scheme) at command.now) (λ r. result ≡ Refused r) }
-        ensures crash { (s : State) → IsSound (K.rules self.old.scheme) s → IfClean (KeepsState (K.rules self.old.scheme) s) (state D.Store self.old.store)
-            → Survives (state D.Store self.old.store) (state D.Store self.new.store) (HoldsState (K.rules self.old.scheme) (serve (K.rules self.old.scheme) s at command.now).next) }
-        ensures durable { (s : State) → IsSound (K.rules self.old.scheme) s → IfClean (KeepsState (K.rules self.old.scheme) s) (state D.Store self.old.store)
-            → IsCommit s result (serve (K.rules self.old.scheme) s at command.now).next
-            → IfClean (LeavesOnly (HoldsState (K.rules self.old.scheme) (serve (K.rules self.old.scheme) s at command.now).next)) (state D.Store self.new.store) }
+        ensures crash { SparesCall (K.rules self.old.scheme) at command.now (state D.Store self.old.store) (state D.Store self.new.store) }
+        ensures durable { CommitsCall (K.rules self.old.scheme) at command.now result (state D.Store self.old.store) (state D.Store self.new.store) }
         ensures clean { HasCleanDisk (state D.Store self.new.store) → HasCleanDisk (state D.Store self.old.store) }
         ensures scheme { self.new.scheme ≡ self.old.scheme }
     {
@@ -111,9 +101,9 @@ impl<K: Scheme, D: Alter> Desk<K, D> {
     ) -> Result<(), AllocError>
         requires { AllByRecursion (λ c. IsTrue (opens_running c.1)) commands.now }
         ensures ran { OnOk result ((told : List Answer) × (answers.new.items ≡ answers.old.items ++ told) × AreOutright (K.rules self.old.scheme) commands.now told
-            × (HasCleanDisk (state D.Store self.new.store) → (s : State) → IsSound (K.rules self.old.scheme) s → IfClean (KeepsState (K.rules self.old.scheme) s) (state D.Store self.old.store)
-            → (next : State) × IsRun (K.rules self.old.scheme) s commands.now told next × KeepsState (K.rules self.old.scheme) next (state D.Store self.new.store))) }
+            × RunsCalls (K.rules self.old.scheme) commands.now told (state D.Store self.old.store) (state D.Store self.new.store)) }
         ensures err { OnErr result ((answers.new.items ≡ answers.old.items) × (self.new ≡ self.old)) }
+        ensures clean { HasCleanDisk (state D.Store self.new.store) → HasCleanDisk (state D.Store self.old.store) }
         ensures scheme { self.new.scheme ≡ self.old.scheme }
     {
         repeats_change_nothing();

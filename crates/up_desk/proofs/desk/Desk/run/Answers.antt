@@ -1,6 +1,5 @@
-use Rattle.std.proofs.Common.{◌≡◌, ◌+◌, [], ◌∷◌, ◌++◌, ◌∙◌, ap, arith, subst, vec_len, length}
+use Rattle.std.proofs.Common.{◌≡◌, ◌+◌, ◌∙◌, ap, arith, vec_len}
 use Rattle.sqlite.specs.Held.{state}
-use Rattle.up_desk.specs.Runs.{AreOutright}
 use Rattle.up_desk.proofs.Runs.{one_more, chosen_ok, run_whole}
 use Rattle.up_desk.proofs.desk.Desk.run.Goals as goal
 
@@ -12,11 +11,17 @@ loop-item-preserved g c =
     record {
       far = one_more _ _ _ (state g.D.Store c.loop-item.self.store) _ _ _ _ _ _ _ _ c.loop-item-test.true c.item-item.is (ap g.K.Scheme.rules kept.scheme) kept.far pushed c.call-answer.ensures.clean
           c.call-answer.ensures.served c.keeps_limits.ensures c.call-answer.ensures.outright;
-      clean = λ now. kept.clean (c.call-answer.ensures.clean now);
       scheme = c.call-answer.ensures.scheme ∙ kept.scheme;
       room = omega arith;
     }
 
 pub returns-clause-ran : goal.returns-clause-ran
-returns-clause-ran g c = run_whole _ _ _ c.args.commands.now c.loop-item.item-index _ _ c.repeats_change_nothing.ensures.served c.repeats_change_nothing.ensures.thinned c.kept_replies_stay.ensures.run
-    c.vehicles_stand_apart.ensures.apart c.loop-item-test.false c.loop-item.invariant.far
+returns-clause-ran g c =
+    let laws = record {
+      served = c.repeats_change_nothing.ensures.served;
+      repeats = c.repeats_change_nothing.ensures.thinned;
+      replies = c.kept_replies_stay.ensures.run;
+      apart = c.vehicles_stand_apart.ensures.apart;
+      exchanged = c.vehicles_stand_apart.ensures.exchanged;
+    } in
+    run_whole laws _ _ _ c.args.commands.now c.loop-item.item-index _ _ c.loop-item-test.false c.loop-item.invariant.far

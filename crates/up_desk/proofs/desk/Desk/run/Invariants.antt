@@ -1,7 +1,6 @@
 use Rattle.std.proofs.Common.{◌≡◌, ◌+◌, ◌-◌, ◌≤◌, length, take, vec_len}
 use Rattle.std.specs.Prelude.{vec_capacity}
 use Rattle.sqlite.specs.Held.{state}
-use Rattle.sqlite.specs.State.{HasCleanDisk}
 use Rattle.up_desk.proofs.Runs.{SoFar}
 use Rattle.up_desk.proofs.desk.Desk.run.Given as goal
 
@@ -9,7 +8,6 @@ use Rattle.up_desk.proofs.desk.Desk.run.Given as goal
 abbrev pub invariant-loop-item : goal.invariant-loop-item
 invariant-loop-item g l = record {
   far : SoFar (g.K.Scheme.rules l.fn.self.scheme) (state g.D.Store l.fn.self.store) (state g.D.Store l.self.store) (take l.item-index l.commands) l.fn.answers.items l.answers.items;
-  clean : HasCleanDisk (state g.D.Store l.self.store) → HasCleanDisk (state g.D.Store l.fn.self.store);
   scheme : l.self.scheme ≡ l.fn.self.scheme;
   room : vec_len l.answers + (length l.commands - l.item-index) ≤ vec_capacity l.answers;
 }
