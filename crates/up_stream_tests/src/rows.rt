@@ -1,169 +1,161 @@
-//! Requests and their answers.
-use crate::devices::{Reads, answered, pieces};
-use crate::texts::{FOUND, MANIFEST, REPLY, VEHICLE, found, lines, posted};
-use std::alloc::Global;
-use std::process::Abort;
-use std::test::Fail;
-use up_service::Served;
+//! Rows of a section, at its desk.
+//!
+//! `do LINE` carries out the line of a script, and says what it printed. The rest sends requests, in which `|` stands for the end
+//! of a line: `whole INPUT` in pieces of 1,000 bytes, `slow INPUT` a byte at a time, `cut INPUT` in two pieces cut at every byte,
+//! which has to be answered the same each time, and `fails STEP READ WRITE NONE INPUT` in pieces of so many bytes, where that read
+//! and that write fail and that write takes nothing. `lines STEP READ WRITE NONE SCRIPT` sends the lines of a script so. `sweep
+//! STEP INPUT` and `lines_sweep STEP SCRIPT` fail each read and each write in turn, each time at a desk of its own that carried out
+//! the section's lines `do`.
+use crate::desks::{MemoryDesk, new_desk};
+use crate::runs::{scripted, streamed};
+use crate::sweeps::{lines_swept, swept};
+use std::alloc::{AllocError, Global};
+use up_test_rows::calls::Calls;
+use up_test_rows::devices::{Reads, Writes, bytes_of, numbers};
+use up_test_rows::sections::told;
 
-pub(crate) const NO_FILE: &str = "GET /image/nofile HTTP/1.1|Host: d||";
+/// A section's desk, and the lines that it carried out.
+#[derive(Drop)]
+struct AtDesk {
+    desk: MemoryDesk,
+    script: String,
+}
 
-pub(crate) const NO_FILE_ANSWER: &str =
-    "HTTP/1.1 404 Not Found|Content-Type: application/json|Content-Length: 33||{\"error\":29,\"text\":\"UnknownFile\"}";
-
-const NOT_JSON: &str =
-    "HTTP/1.1 400 Bad Request|Content-Type: application/json|Content-Length: 28||{\"error\":5,\"text\":\"NotJson\"}";
-
-const TOO_LARGE: &str =
-    "HTTP/1.1 413 Payload Too Large|Content-Type: application/json|Content-Length: 29|Connection: close||{\"error\":4,\"text\":\"TooLarge\"}";
-
-/// Short requests after the founding, with their answers and how many they are.
-const SHORT: [(&str, &str, u32); 9] = [
-    ("", "", 0),
-    (
-        "GET /image/root.json HTTP/1.1||",
-        "HTTP/1.1 400 Bad Request|Content-Type: application/json|Content-Length: 32|Connection: close||{\"error\":0,\"text\":\"bad request\"}",
-        1,
-    ),
-    (NO_FILE, NO_FILE_ANSWER, 1),
-    (
-        "GET /director/manifest HTTP/1.1|Host: d||",
-        "HTTP/1.1 405 Method Not Allowed|Content-Type: application/json|Content-Length: 39|Allow: POST||{\"error\":0,\"text\":\"method not allowed\"}",
-        1,
-    ),
-    (
-        "POST /director/manifest HTTP/1.1|Host: d||",
-        "HTTP/1.1 411 Length Required|Content-Type: application/json|Content-Length: 36|Connection: close||{\"error\":0,\"text\":\"length required\"}",
-        1,
-    ),
-    (
-        "GET /director/b*d HTTP/1.1|Host: d||",
-        "HTTP/1.1 404 Not Found|Content-Type: application/json|Content-Length: 30||{\"error\":0,\"text\":\"not found\"}",
-        1,
-    ),
-    (
-        "POST /director/manifest HTTP/1.1|Host: d|Content-Length: 0|Connection: close||GET",
-        "HTTP/1.1 400 Bad Request|Content-Type: application/json|Content-Length: 28|Connection: close||{\"error\":5,\"text\":\"NotJson\"}",
-        1,
-    ),
-    (
-        "HEAD /image/root.json HTTP/1.1|Host: d||",
-        "HTTP/1.1 405 Method Not Allowed|Content-Type: application/json|Content-Length: 39|Allow: GET||",
-        1,
-    ),
-    (
-        "GET /image/root.json HTTP/1.1|Host: d|Transfer-Encoding: chunked||",
-        "HTTP/1.1 501 Not Implemented|Content-Type: application/json|Content-Length: 36|Connection: close||{\"error\":0,\"text\":\"not implemented\"}",
-        1,
-    ),
-];
-
-#[test]
-fn short_requests(rt: HostRuntime) -> Result<(), Fail> {
-    let alloc = rt.alloc();
-    for (input, wanted, requests) in SHORT {
-        let text = lines(alloc, input)?;
-        for step in [1, 1_000] {
-            let told = answered(alloc, &[FOUND], text.as_str(), pieces(step), (0, 0))?;
-            assert_eq!(rt; told.result, Ok(Served { requests }), "{input}");
-            assert_eq!(rt;
-                told.written.as_slice(),
-                lines(alloc, wanted)?.as_str().as_bytes(),
-                "{input}"
-            );
+impl Calls for AtDesk {
+    fn answer(&mut self, alloc: Global, _: &str, given: &str) -> Result<String, AllocError> {
+        let (word, rest) = given.split_once(' ').unwrap_or((given, ""));
+        match word {
+            "do" => carried_out(alloc, self, rest),
+            "sweep" => swept(alloc, self.script.as_str(), rest),
+            "lines_sweep" => lines_swept(alloc, self.script.as_str(), rest),
+            _ => sent(alloc, &mut self.desk, word, rest),
         }
     }
-    Ok(())
+
+    fn is_wanted(&self, had: &str, wanted: &str) -> bool {
+        had == wanted
+    }
 }
 
-#[test]
-fn before_the_founding(rt: HostRuntime) -> Result<(), Fail> {
-    let alloc = rt.alloc();
-    let text = lines(alloc, NO_FILE)?;
-    let told = answered(alloc, &[], text.as_str(), pieces(1_000), (0, 0))?;
-    let wanted = lines(
+/// What is told of a section, at a desk of its own.
+pub(crate) fn told_at_a_desk(alloc: Global, section: &str) -> Result<String, AllocError> {
+    let mut at = AtDesk {
+        desk: new_desk(alloc)?,
+        script: String::new(alloc),
+    };
+    told(alloc, &mut at, section)
+}
+
+fn carried_out(alloc: Global, at: &mut AtDesk, line: &str) -> Result<String, AllocError> {
+    at.script.push_str(line)?;
+    at.script.push('\n')?;
+    scripted(
         alloc,
-        "HTTP/1.1 503 Service Unavailable|Content-Type: application/json|Content-Length: 31||{\"error\":8,\"text\":\"NotFounded\"}",
-    )?;
-    assert_eq!(rt; told.written.as_slice(), wanted.as_str().as_bytes());
-    Ok(())
+        &mut at.desk,
+        line.as_bytes(),
+        pieces(1_000),
+        whole_writes(),
+    )
 }
 
-/// Posts so many spaces, in pieces of so many bytes.
-fn spaces(rt: &impl Abort, alloc: Global, size: usize, wanted: &str) -> Result<(), Fail> {
-    let text = posted(alloc, " ".repeat(alloc, size)?.as_str())?;
-    let wanted = lines(alloc, wanted)?;
-    for step in [1, 1_000_000] {
-        let told = answered(alloc, &[FOUND], text.as_str(), pieces(step), (0, 0))?;
-        assert_eq!(rt; told.result, Ok(Served { requests: 1 }));
-        assert_eq!(rt; told.written.as_slice(), wanted.as_str().as_bytes());
+fn sent(
+    alloc: Global,
+    desk: &mut MemoryDesk,
+    word: &str,
+    rest: &str,
+) -> Result<String, AllocError> {
+    match word {
+        "whole" => in_pieces(alloc, desk, rest, 1_000),
+        "slow" => in_pieces(alloc, desk, rest, 1),
+        "cut" => cut_anywhere(alloc, desk, rest),
+        "fails" => with_faults(alloc, desk, rest),
+        "lines" => lines_with_faults(alloc, desk, rest),
+        _ => "no such row".to_string(alloc),
+    }
+}
+
+fn pieces(step: usize) -> Reads {
+    Reads {
+        first: 0,
+        step,
+        fails_at: 0,
+    }
+}
+
+fn whole_writes() -> Writes {
+    Writes {
+        fails_at: 0,
+        takes_none_at: 0,
+    }
+}
+
+fn in_pieces(
+    alloc: Global,
+    desk: &mut MemoryDesk,
+    given: &str,
+    step: usize,
+) -> Result<String, AllocError> {
+    let bytes = bytes_of(alloc, given)?;
+    streamed(alloc, desk, bytes.as_slice(), pieces(step), whole_writes())
+}
+
+fn cut_anywhere(alloc: Global, desk: &mut MemoryDesk, given: &str) -> Result<String, AllocError> {
+    let bytes = bytes_of(alloc, given)?;
+    let mut told = streamed(alloc, desk, bytes.as_slice(), pieces(1_000), whole_writes())?;
+    for cut in 1..bytes.len() {
+        push_if_another(alloc, desk, &mut told, bytes.as_slice(), cut)?;
+    }
+    Ok(told)
+}
+
+/// Says so where something else is answered at this cut.
+fn push_if_another(
+    alloc: Global,
+    desk: &mut MemoryDesk,
+    told: &mut String,
+    input: &[u8],
+    cut: usize,
+) -> Result<(), AllocError> {
+    let reads = Reads {
+        first: cut,
+        step: 1_000,
+        fails_at: 0,
+    };
+    let here = streamed(alloc, desk, input, reads, whole_writes())?;
+    if here.as_str() != told.as_str() {
+        let line = format!(in alloc; ", but cut at {cut} {here}")?;
+        told.push_str(line.as_str())?;
     }
     Ok(())
 }
 
-#[test]
-fn the_largest_body(rt: HostRuntime) -> Result<(), Fail> {
-    spaces(&rt, rt.alloc(), 262_144, NOT_JSON)
+/// The pieces and the faults of a row, and its input.
+fn faults_of(given: &str) -> (Reads, Writes, &str) {
+    let ([step, read, write, none], input) = numbers::<4>(given);
+    let reads = Reads {
+        first: 0,
+        step: step as usize,
+        fails_at: read,
+    };
+    let writes = Writes {
+        fails_at: write,
+        takes_none_at: none,
+    };
+    (reads, writes, input)
 }
 
-#[test]
-fn a_body_too_large(rt: HostRuntime) -> Result<(), Fail> {
-    spaces(&rt, rt.alloc(), 262_145, TOO_LARGE)
+fn with_faults(alloc: Global, desk: &mut MemoryDesk, given: &str) -> Result<String, AllocError> {
+    let (reads, writes, input) = faults_of(given);
+    let bytes = bytes_of(alloc, input)?;
+    streamed(alloc, desk, bytes.as_slice(), reads, writes)
 }
 
-#[test]
-fn two_requests_cut_anywhere(rt: HostRuntime) -> Result<(), Fail> {
-    let alloc = rt.alloc();
-    let input = lines(alloc, NO_FILE)?.as_str().repeat(alloc, 2)?;
-    let wanted = lines(alloc, NO_FILE_ANSWER)?.as_str().repeat(alloc, 2)?;
-    for first in 0..=input.len() {
-        let reads = Reads {
-            first,
-            step: 1_000,
-            fails_at: 0,
-        };
-        let told = answered(alloc, &[FOUND], input.as_str(), reads, (0, 0))?;
-        assert_eq!(rt; told.result, Ok(Served { requests: 2 }), "{first}");
-        assert_eq!(rt;
-            told.written.as_slice(),
-            wanted.as_str().as_bytes(),
-            "{first}"
-        );
-    }
-    Ok(())
-}
-
-#[test]
-fn a_manifest_twice(rt: HostRuntime) -> Result<(), Fail> {
-    let alloc = rt.alloc();
-    let input = posted(alloc, MANIFEST)?.as_str().repeat(alloc, 2)?;
-    let wanted = found(alloc, REPLY)?.as_str().repeat(alloc, 2)?;
-    for step in [1, 100_000] {
-        let told = answered(
-            alloc,
-            &[FOUND, VEHICLE],
-            input.as_str(),
-            pieces(step),
-            (0, 0),
-        )?;
-        assert_eq!(rt; told.result, Ok(Served { requests: 2 }));
-        assert_eq!(rt; told.written.as_slice(), wanted.as_str().as_bytes());
-    }
-    Ok(())
-}
-
-#[test]
-fn a_hundred_requests(rt: HostRuntime) -> Result<(), Fail> {
-    let alloc = rt.alloc();
-    let input = lines(alloc, NO_FILE)?.as_str().repeat(alloc, 101)?;
-    let answer = lines(alloc, NO_FILE_ANSWER)?;
-    let mut wanted = answer.as_str().repeat(alloc, 99)?;
-    let last = answer
-        .as_str()
-        .replace(alloc, "33\r\n", "33\r\nConnection: close\r\n")?;
-    wanted.push_str(last.as_str())?;
-    let told = answered(alloc, &[FOUND], input.as_str(), pieces(1_000), (0, 0))?;
-    assert_eq!(rt; told.result, Ok(Served { requests: 100 }));
-    assert_eq!(rt; told.written.as_slice(), wanted.as_str().as_bytes());
-    Ok(())
+fn lines_with_faults(
+    alloc: Global,
+    desk: &mut MemoryDesk,
+    given: &str,
+) -> Result<String, AllocError> {
+    let (reads, writes, script) = faults_of(given);
+    let bytes = bytes_of(alloc, script)?;
+    scripted(alloc, desk, bytes.as_slice(), reads, writes)
 }

@@ -36,11 +36,6 @@ impl<'a> Slow<'a> {
             calls: 0,
         }
     }
-
-    /// How often it was read.
-    pub fn calls(&self) -> u32 {
-        self.calls
-    }
 }
 
 impl Read for Slow<'_> {
@@ -86,9 +81,9 @@ impl Shaky {
         self.written.as_slice()
     }
 
-    /// How often it was written to.
-    pub fn calls(&self) -> u32 {
-        self.calls
+    /// What was written, of a writer that is no longer needed.
+    pub fn into_written(self) -> Vec<u8> {
+        self.written
     }
 }
 
@@ -130,12 +125,17 @@ fn push_lines(alloc: Global, out: &mut Vec<u8>, piece: &str) -> Result<(), Alloc
     out.extend_from_slice(lines.as_str().as_bytes())
 }
 
-/// The text of bytes, with `|` for the end of a line.
+/// The text of bytes, with `|` for the end of a line and `\n` for a line feed alone.
 pub fn text_of(alloc: Global, bytes: &[u8]) -> Result<String, AllocError> {
     match std::str::from_utf8(bytes) {
-        Ok(text) => text.replace(alloc, "\r\n", "|"),
+        Ok(text) => in_one_line(alloc, text),
         Err(_) => "no text".to_string(alloc),
     }
+}
+
+fn in_one_line(alloc: Global, text: &str) -> Result<String, AllocError> {
+    let ended = text.replace(alloc, "\r\n", "|")?;
+    ended.as_str().replace(alloc, "\n", "\\n")
 }
 
 /// The numbers of which a text is made, a space between, and the rest behind so many; 0 for what is no number.
