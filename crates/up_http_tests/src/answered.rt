@@ -64,18 +64,18 @@ fn answered(
     let mut asked = 0;
     let mut reader = Slow::new(input, reads);
     let mut writer = Shaky::new(alloc, writes);
-    let result = serve(alloc, &Empty, &mut asked, &mut reader, &mut writer);
-    told(alloc, &result, asked, writer.written())
+    let ended = serve(alloc, &Empty, &mut asked, &mut reader, &mut writer);
+    told(alloc, &ended, asked, writer.written())
 }
 
 fn told(
     alloc: Global,
-    result: &Result<Served, ServeFault>,
+    ended: &Result<Served, ServeFault>,
     asked: u32,
     written: &[u8],
 ) -> Result<String, AllocError> {
     let bytes = text_of(alloc, written)?;
-    match result {
+    match ended {
         Ok(served) => format!(in alloc; "{} of {asked}: {bytes}", served.requests),
         Err(fault) => fault_told(alloc, fault, asked, bytes.as_str()),
     }

@@ -23,17 +23,17 @@ pub(crate) fn streamed<K: Scheme, D: Alter>(
 ) -> Result<String, AllocError> {
     let mut reader = Slow::new(input, reads);
     let mut writer = Shaky::new(alloc, writes);
-    let result = serve_stream(alloc, desk, AT, &mut reader, &mut writer);
-    stream_told(alloc, &result, writer.written())
+    let ended = serve_stream(alloc, desk, AT, &mut reader, &mut writer);
+    stream_told(alloc, &ended, writer.written())
 }
 
 fn stream_told(
     alloc: Global,
-    result: &Result<Served, ServeFault>,
+    ended: &Result<Served, ServeFault>,
     written: &[u8],
 ) -> Result<String, AllocError> {
     let bytes = text_of(alloc, written)?;
-    match result {
+    match ended {
         Ok(served) => format!(in alloc; "{}: {bytes}", served.requests),
         Err(fault) => fault_told(alloc, fault, bytes.as_str()),
     }
@@ -63,17 +63,17 @@ pub(crate) fn scripted<K: Scheme, D: Alter>(
 ) -> Result<String, AllocError> {
     let mut reader = Slow::new(script, reads);
     let mut writer = Shaky::new(alloc, writes);
-    let result = run_script(alloc, desk, &mut reader, &mut writer);
-    script_told(alloc, &result, writer.written())
+    let ended = run_script(alloc, desk, &mut reader, &mut writer);
+    script_told(alloc, &ended, writer.written())
 }
 
 fn script_told(
     alloc: Global,
-    result: &Result<u32, LinesFault>,
+    ended: &Result<u32, LinesFault>,
     written: &[u8],
 ) -> Result<String, AllocError> {
     let bytes = text_of(alloc, written)?;
-    match result {
+    match ended {
         Ok(lines) => format!(in alloc; "{lines}: {bytes}"),
         Err(fault) => {
             let cause = lines_cause_name(fault.cause);
