@@ -1,6 +1,6 @@
 //! Columns by their kinds: what is read of each, and whether it is written so again.
 use crate::plans::plan;
-use crate::shown::{again, shown};
+use crate::shown::{again, fields_of};
 use std::alloc::{AllocError, Global};
 use up_canon::file_name::FileName;
 use up_canon::ident::Ident;
@@ -42,7 +42,7 @@ fn names(alloc: Global, column: &str) -> Result<String, AllocError> {
 }
 
 fn names_again(alloc: Global, names: &[Ident], column: &str) -> Result<String, AllocError> {
-    let fields = shown(alloc, names)?;
+    let fields = fields_of(alloc, names)?;
     again(alloc, fields, names_text(alloc, names), column)
 }
 
@@ -54,7 +54,7 @@ fn file_names(alloc: Global, column: &str) -> Result<String, AllocError> {
 }
 
 fn file_names_again(alloc: Global, names: &[FileName], column: &str) -> Result<String, AllocError> {
-    let fields = shown(alloc, names)?;
+    let fields = fields_of(alloc, names)?;
     again(alloc, fields, file_names_text(alloc, names), column)
 }
 
@@ -66,7 +66,7 @@ fn needs(alloc: Global, column: &str) -> Result<String, AllocError> {
 }
 
 fn needs_again(alloc: Global, needs: &[Need], column: &str) -> Result<String, AllocError> {
-    let fields = shown(alloc, needs)?;
+    let fields = fields_of(alloc, needs)?;
     again(alloc, fields, needs_text(alloc, needs), column)
 }
 
@@ -78,7 +78,7 @@ fn items(alloc: Global, column: &str) -> Result<String, AllocError> {
 }
 
 fn items_again(alloc: Global, items: &[Item], column: &str) -> Result<String, AllocError> {
-    let fields = shown(alloc, items)?;
+    let fields = fields_of(alloc, items)?;
     again(alloc, fields, items_text(alloc, items), column)
 }
 
@@ -92,7 +92,7 @@ fn reach(alloc: Global, column: &str) -> Result<String, AllocError> {
 fn reach_again(alloc: Global, reach: &Reach, column: &str) -> Result<String, AllocError> {
     let fields = match reach {
         Reach::All => "all vehicles".to_string(alloc)?,
-        Reach::Named(vehicles) => shown(alloc, vehicles.as_slice())?,
+        Reach::Named(vehicles) => fields_of(alloc, vehicles.as_slice())?,
     };
     again(alloc, fields, reach_text(alloc, reach), column)
 }

@@ -1,5 +1,5 @@
 //! Columns that are plans.
-use crate::shown::{again, shown};
+use crate::shown::{again, fields_of};
 use std::alloc::{AllocError, Global};
 use up_columns::plans::{plan_text, read_plan};
 use up_plan::assigned::{Cause, Plan};
@@ -18,7 +18,7 @@ fn plan_again(alloc: Global, plan: &Plan, column: &str) -> Result<String, AllocE
 }
 
 fn plan_fields(alloc: Global, plan: &Plan) -> Result<String, AllocError> {
-    let assigned = shown(alloc, plan.assigned.as_slice())?;
+    let assigned = fields_of(alloc, plan.assigned.as_slice())?;
     match &plan.withheld {
         None => Ok(assigned),
         Some(cause) => with_cause(alloc, assigned, cause),

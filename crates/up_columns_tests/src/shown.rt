@@ -46,7 +46,7 @@ impl Shown for Assigned {
 }
 
 /// How many items were read, and each of them.
-pub(crate) fn shown<T: Shown>(alloc: Global, items: &[T]) -> Result<String, AllocError> {
+pub(crate) fn fields_of<T: Shown>(alloc: Global, items: &[T]) -> Result<String, AllocError> {
     let mut out = format!(in alloc; "{}:", items.len())?;
     for item in items {
         out.push(' ')?;

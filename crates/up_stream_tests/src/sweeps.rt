@@ -69,7 +69,7 @@ fn told(alloc: Global, kind: Kind, script: &str, given: &str) -> Result<String, 
 }
 
 fn told_of(alloc: Global, sweep: Sweep) -> Result<String, AllocError> {
-    let whole = outcome(alloc, sweep, Failing::Nothing)?;
+    let whole = outcome_of(alloc, sweep, Failing::Nothing)?;
     let mut out = String::new(alloc);
     push_reads(alloc, &mut out, sweep, whole.written.as_slice())?;
     push_writes(alloc, &mut out, sweep, whole.written.as_slice())?;
@@ -114,7 +114,7 @@ fn push_outcome(
     failing: Failing,
     whole: &[u8],
 ) -> Result<bool, AllocError> {
-    let run = outcome(alloc, sweep, failing)?;
+    let run = outcome_of(alloc, sweep, failing)?;
     if !whole.starts_with(run.written.as_slice()) {
         out.push_str(" other bytes")?;
     }
@@ -135,7 +135,7 @@ fn push_fault(
     Ok(true)
 }
 
-fn outcome(alloc: Global, sweep: Sweep, failing: Failing) -> Result<Outcome, AllocError> {
+fn outcome_of(alloc: Global, sweep: Sweep, failing: Failing) -> Result<Outcome, AllocError> {
     match sweep.kind {
         Kind::Requests => stream_outcome(alloc, sweep, failing),
         Kind::Lines => script_outcome(alloc, sweep, failing),
@@ -146,9 +146,9 @@ fn stream_outcome(alloc: Global, sweep: Sweep, failing: Failing) -> Result<Outco
     let mut desk = desk_after(alloc, sweep.script)?;
     let mut reader = Slow::new(sweep.input, reads_of(sweep, failing));
     let mut writer = Shaky::new(alloc, writes_of(failing));
-    let result = serve_stream(alloc, &mut desk, AT, &mut reader, &mut writer);
+    let ended = serve_stream(alloc, &mut desk, AT, &mut reader, &mut writer);
     Ok(Outcome {
-        fault: match &result {
+        fault: match &ended {
             Ok(_) => None,
             Err(fault) => Some(stream_fault(alloc, fault)?),
         },
@@ -165,9 +165,9 @@ fn script_outcome(alloc: Global, sweep: Sweep, failing: Failing) -> Result<Outco
     let mut desk = desk_after(alloc, sweep.script)?;
     let mut reader = Slow::new(sweep.input, reads_of(sweep, failing));
     let mut writer = Shaky::new(alloc, writes_of(failing));
-    let result = run_script(alloc, &mut desk, &mut reader, &mut writer);
+    let ended = run_script(alloc, &mut desk, &mut reader, &mut writer);
     Ok(Outcome {
-        fault: match &result {
+        fault: match &ended {
             Ok(_) => None,
             Err(fault) => Some(script_fault(alloc, fault)?),
         },
