@@ -9,7 +9,10 @@
 use crate::desks::{MemoryDesk, new_desk};
 use crate::runs::{scripted, streamed};
 use crate::sweeps::{lines_swept, swept};
+use sqlite::Alter;
 use std::alloc::{AllocError, Global};
+use up_desk::desk::Desk;
+use up_sign::scheme::Scheme;
 use up_test_rows::calls::Calls;
 use up_test_rows::devices::{Reads, Writes, bytes_of, numbers};
 use up_test_rows::sections::told;
@@ -58,9 +61,9 @@ fn carried_out(alloc: Global, at: &mut AtDesk, line: &str) -> Result<String, All
     )
 }
 
-fn sent(
+fn sent<K: Scheme, D: Alter>(
     alloc: Global,
-    desk: &mut MemoryDesk,
+    desk: &mut Desk<K, D>,
     word: &str,
     rest: &str,
 ) -> Result<String, AllocError> {
@@ -89,9 +92,9 @@ fn whole_writes() -> Writes {
     }
 }
 
-fn in_pieces(
+fn in_pieces<K: Scheme, D: Alter>(
     alloc: Global,
-    desk: &mut MemoryDesk,
+    desk: &mut Desk<K, D>,
     given: &str,
     step: usize,
 ) -> Result<String, AllocError> {
@@ -99,7 +102,11 @@ fn in_pieces(
     streamed(alloc, desk, bytes.as_slice(), pieces(step), whole_writes())
 }
 
-fn cut_anywhere(alloc: Global, desk: &mut MemoryDesk, given: &str) -> Result<String, AllocError> {
+fn cut_anywhere<K: Scheme, D: Alter>(
+    alloc: Global,
+    desk: &mut Desk<K, D>,
+    given: &str,
+) -> Result<String, AllocError> {
     let bytes = bytes_of(alloc, given)?;
     let mut told = streamed(alloc, desk, bytes.as_slice(), pieces(1_000), whole_writes())?;
     for cut in 1..bytes.len() {
@@ -109,9 +116,9 @@ fn cut_anywhere(alloc: Global, desk: &mut MemoryDesk, given: &str) -> Result<Str
 }
 
 /// Says so where something else is answered at this cut.
-fn push_if_another(
+fn push_if_another<K: Scheme, D: Alter>(
     alloc: Global,
-    desk: &mut MemoryDesk,
+    desk: &mut Desk<K, D>,
     told: &mut String,
     input: &[u8],
     cut: usize,
@@ -144,15 +151,19 @@ fn faults_of(given: &str) -> (Reads, Writes, &str) {
     (reads, writes, input)
 }
 
-fn with_faults(alloc: Global, desk: &mut MemoryDesk, given: &str) -> Result<String, AllocError> {
+fn with_faults<K: Scheme, D: Alter>(
+    alloc: Global,
+    desk: &mut Desk<K, D>,
+    given: &str,
+) -> Result<String, AllocError> {
     let (reads, writes, input) = faults_of(given);
     let bytes = bytes_of(alloc, input)?;
     streamed(alloc, desk, bytes.as_slice(), reads, writes)
 }
 
-fn lines_with_faults(
+fn lines_with_faults<K: Scheme, D: Alter>(
     alloc: Global,
-    desk: &mut MemoryDesk,
+    desk: &mut Desk<K, D>,
     given: &str,
 ) -> Result<String, AllocError> {
     let (reads, writes, script) = faults_of(given);

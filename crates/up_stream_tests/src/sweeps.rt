@@ -5,11 +5,14 @@
 //! have to be the first of those that are written where nothing fails.
 use crate::desks::{AT, desk_after};
 use crate::runs::{cause_name, lines_cause_name};
+use sqlite::Alter;
 use std::alloc::{AllocError, Global};
+use up_desk::desk::Desk;
 use up_lines::fault::Fault as LinesFault;
 use up_service::ServeFault;
 use up_service::script::run_script;
 use up_service::stream::serve_stream;
+use up_sign::scheme::Scheme;
 use up_test_rows::devices::{Reads, Shaky, Slow, Writes, bytes_of, numbers};
 
 /// More calls than any run makes.
@@ -135,47 +138,66 @@ fn push_fault(
     Ok(true)
 }
 
+/// What comes of a run at a desk of its own.
 fn outcome_of(alloc: Global, sweep: Sweep, failing: Failing) -> Result<Outcome, AllocError> {
+    let mut desk = desk_after(alloc, sweep.script)?;
     match sweep.kind {
-        Kind::Requests => stream_outcome(alloc, sweep, failing),
-        Kind::Lines => script_outcome(alloc, sweep, failing),
+        Kind::Requests => stream_outcome(alloc, &mut desk, sweep, failing),
+        Kind::Lines => script_outcome(alloc, &mut desk, sweep, failing),
     }
 }
 
-fn stream_outcome(alloc: Global, sweep: Sweep, failing: Failing) -> Result<Outcome, AllocError> {
-    let mut desk = desk_after(alloc, sweep.script)?;
+fn stream_outcome<K: Scheme, D: Alter>(
+    alloc: Global,
+    desk: &mut Desk<K, D>,
+    sweep: Sweep,
+    failing: Failing,
+) -> Result<Outcome, AllocError> {
     let mut reader = Slow::new(sweep.input, reads_of(sweep, failing));
     let mut writer = Shaky::new(alloc, writes_of(failing));
-    let ended = serve_stream(alloc, &mut desk, AT, &mut reader, &mut writer);
-    Ok(Outcome {
-        fault: match &ended {
-            Ok(_) => None,
-            Err(fault) => Some(stream_fault(alloc, fault)?),
-        },
-        written: writer.into_written(),
-    })
+    match serve_stream(alloc, desk, AT, &mut reader, &mut writer) {
+        Ok(_) => Ok(without_fault(writer.into_written())),
+        Err(fault) => with_fault(stream_fault(alloc, fault), writer.into_written()),
+    }
 }
 
-fn stream_fault(alloc: Global, fault: &ServeFault) -> Result<String, AllocError> {
+fn script_outcome<K: Scheme, D: Alter>(
+    alloc: Global,
+    desk: &mut Desk<K, D>,
+    sweep: Sweep,
+    failing: Failing,
+) -> Result<Outcome, AllocError> {
+    let mut reader = Slow::new(sweep.input, reads_of(sweep, failing));
+    let mut writer = Shaky::new(alloc, writes_of(failing));
+    match run_script(alloc, desk, &mut reader, &mut writer) {
+        Ok(_) => Ok(without_fault(writer.into_written())),
+        Err(fault) => with_fault(script_fault(alloc, fault), writer.into_written()),
+    }
+}
+
+fn without_fault(written: Vec<u8>) -> Outcome {
+    Outcome {
+        fault: None,
+        written,
+    }
+}
+
+fn with_fault(fault: Result<String, AllocError>, written: Vec<u8>) -> Result<Outcome, AllocError> {
+    match fault {
+        Ok(text) => Ok(Outcome {
+            fault: Some(text),
+            written,
+        }),
+        Err(refused) => Err(refused),
+    }
+}
+
+fn stream_fault(alloc: Global, fault: ServeFault) -> Result<String, AllocError> {
     let cause = cause_name(fault.cause);
     format!(in alloc; "{cause} {} {}", fault.called, fault.answered)
 }
 
-fn script_outcome(alloc: Global, sweep: Sweep, failing: Failing) -> Result<Outcome, AllocError> {
-    let mut desk = desk_after(alloc, sweep.script)?;
-    let mut reader = Slow::new(sweep.input, reads_of(sweep, failing));
-    let mut writer = Shaky::new(alloc, writes_of(failing));
-    let ended = run_script(alloc, &mut desk, &mut reader, &mut writer);
-    Ok(Outcome {
-        fault: match &ended {
-            Ok(_) => None,
-            Err(fault) => Some(script_fault(alloc, fault)?),
-        },
-        written: writer.into_written(),
-    })
-}
-
-fn script_fault(alloc: Global, fault: &LinesFault) -> Result<String, AllocError> {
+fn script_fault(alloc: Global, fault: LinesFault) -> Result<String, AllocError> {
     let cause = lines_cause_name(fault.cause);
     format!(in alloc; "{cause} {}", fault.lines)
 }
