@@ -12,10 +12,10 @@ sys.dont_write_bytecode = True
 
 import collect_rows
 import expected_files
-import http_cases
 import pages
 import program_cases
 import row_texts
+import trials
 
 TOP = Path(__file__).resolve().parent.parent
 EXAMPLES, ROWS = TOP / "examples", TOP / "rows"
@@ -63,16 +63,21 @@ def wanted():
         words = [sys.executable, TOP / "crates" / crate / "expected.py"]
         ran = subprocess.run(words, capture_output=True, check=False)
         yield "answers that the rows of %s want" % crate, ran.returncode == 0
+    ran = subprocess.run([sys.executable, TOP / "tools" / "each_line.py", "wanted"], capture_output=True, check=False)
+    yield "answers that the rows of lines want", ran.returncode == 0
 
 
 def limits(program):
-    """1,024 images, 64 root versions and bodies of 262,144 bytes, and one more of each."""
+    """1,024 images and 64 root versions over a file, which another start opens before one more of each; and bodies of 262,144
+    bytes and of one more."""
     row = read(ROWS / "kept_reply_after_a_rotation" / "script").split("\n")
     rotate = next(line for line in row if '"do":"rotate"' in line)
     image = '{"at":1767225600,"do":"add_image","file":"%d.bin","hardware":["HS"],"length":0,"release":1,"sha256":"%s"}'
-    script = row[:1] + [image % (number, 64 * "0") for number in range(1025)] + 64 * [rotate]
-    wanted = 1025 * ["done"] + ["refused 20 RegisterFull"] + 63 * ["done"] + ["refused 30 RootFull", ""]
-    yield "images and root versions at their limits", printed(program, "\n".join(script)) == "\n".join(wanted)
+    most = [row[0], *63 * [rotate], *(image % (number, 64 * "0") for number in range(1024))]
+    with trials.folder() as folder:
+        well = trials.printed(program, folder / "most", most, 600) == len(most) * ["done"]
+        more = trials.printed(program, folder / "most", [image % (1024, 64 * "0"), rotate, image % (3, 64 * "0")])
+        yield "images and root versions at their limits", well and more == ["refused 20 RegisterFull", "refused 30 RootFull", "already"]
     body = '{"at":1767225600,"body":"%s","do":"deliver"}\n'
     bodies = body % (262144 * " ") + body % (262145 * " ")
     yield "bodies at their limit", printed(program, bodies) == "refused 5 NotJson\nrefused 4 TooLarge\n"
@@ -108,7 +113,6 @@ def tried(program, rows):
     yield from texts(rows)
     yield from wanted()
     yield from program_cases.cases(program)
-    yield from http_cases.cases(program)
     yield from limits(program)
     yield from primaries(program, rows)
     yield from pages.cases()

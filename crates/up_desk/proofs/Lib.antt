@@ -4,6 +4,9 @@ pub mod Fitting
 pub mod Told
 pub mod LookedUp
 pub mod Loops
-pub mod Outlasting
 pub mod Serving
+pub mod Outlasting
+pub mod Calls
 pub mod Runs
+pub mod Commits
+pub mod Again

@@ -20,7 +20,8 @@ use Rattle.up_machine.specs.Laws.{KeptRepliesOutlastRuns}
 use Rattle.up_machine.specs.Replies.{kept_reply}
 use Rattle.up_tables.specs.Stands.{IfClean}
 use Rattle.up_store.specs.Connections.{KeepsState}
-use Rattle.up_desk.specs.Serving.{is_lost, IsAnswered, ServesCall, outright}
+use Rattle.up_desk.specs.Serving.{is_lost, IsAnswered, outright}
+use Rattle.up_desk.specs.Calls.{ServesCall}
 use Rattle.up_desk.specs.Runs.{AreOutright, AreNeighbours, timed, sent, unless_lost, IsRun, RunsCalls}
 
 -- the calls one after another, of which some may be lost
@@ -68,10 +69,10 @@ pub record SoFar (k : Rules) (old new : Connected) (cs : List (ℕ × Command)) 
   pub runs : RunsFrom k old new cs given
   pub clean : HasCleanDisk new → HasCleanDisk old
 
-pub none_so_far : (k : Rules) (s : Connected) (cs : List (ℕ × Command)) (held : List Answer) → SoFar k s s (take 0 cs) held held
-none_so_far k s cs held = record {
+pub none_so_far : (k : Rules) (s : Connected) (cs : List (ℕ × Command)) (held answers : List Answer) → answers ≡ held → SoFar k s s (take 0 cs) held answers
+none_so_far k s cs held answers same = record {
   given = [];
-  items = sym (append-nil held);
+  items = same ∙ sym (append-nil held);
   due = tt;
   runs = λ now t sound was. (t, refl, sound, was now);
   clean = λ now. now;

@@ -19,7 +19,7 @@ use Rattle.up_machine.specs.Vehicles.{NewVehicleData}
 use Rattle.up_machine.specs.Commands.{is_command}
 use Rattle.sqlite.specs.Tree.{Trees}
 use Rattle.sqlite_trees.specs.View.{doubt}
-use Rattle.up_machine.specs.Laws.{EmptyIsSound, KeptRepliesOutlastRuns}
+use Rattle.up_machine.specs.Laws.{EmptyIsSound}
 use Rattle.up_machine.specs.State.{State, empty_state}
 use Rattle.up_machine.specs.Replies.{reply_to}
 use Rattle.up_machine.specs.Deciding.{Outcome, check_moment}
@@ -30,12 +30,11 @@ use Rattle.up_machine.specs.Decisions.{resolve, decide_incoming}
 use Rattle.up_machine.specs.Machine.{decide, outcome_of, step}
 use Rattle.up_machine.specs.Repeats.{Repeat, repeat_in, repeat_of, served_as, serve}
 use Rattle.up_machine.specs.Sound.{IsSound}
-use Rattle.up_machine.specs.RepeatLaws.{ServedIsThinned, ServedStaysSound}
+use Rattle.up_machine.specs.RepeatLaws.{ServedStaysSound}
 use Rattle.sqlite.specs.State.{State as Connected, HasCleanDisk, Survives}
 use Rattle.up_tables.specs.Stands.{IfClean, LeavesOnly}
 use Rattle.up_store.specs.Connections.{KeepsState}
-use Rattle.up_desk.specs.Serving.{is_store, is_lost_by, is_lost, IsAnswered, told, served, outright_in_time, outright, HoldsState, IsCommit, IsServed, ServesCall, SparesCall, CommitsCall, Leaves, Serves}
-use Rattle.up_desk.proofs.Outlasting.{answered_stays}
+use Rattle.up_desk.specs.Serving.{is_store, is_lost_by, is_lost, IsAnswered, told, served, outright_in_time, outright, HoldsState, Leaves, IsCommit, Serves}
 
 -- ---- the moment
 
@@ -159,6 +158,13 @@ served_is k s at (Fetch repository name) = refl
 
 -- ---- one call
 
+-- the answer and the state that the tables show then
+pub record IsServed (k : Rules) (s : State) (at : ℕ) (c : Command) (a : Answer) (new : Connected) : Type 0 where
+  pub next : State
+  pub answered : IsAnswered a s next (serve k s at c)
+  pub sound : IsSound k next
+  pub keeps : KeepsState k next new
+
 by_loss : (k : Rules) (s : State) (at : ℕ) (c : Command) (r : Refusal) (b : Bool) → MatchBool b ⊤ (served k s at c ≡ Err r)
     → MatchBool b (s ≡ s) ((Refused r ≡ (serve k s at c).answer) × (s ≡ (serve k s at c).next))
 by_loss k s at c r true h = refl
@@ -171,31 +177,26 @@ done_as : (k : Rules) (s next : State) (at : ℕ) (c : Command) (a : Answer) →
 done_as k s next at c a is true h = cc
 done_as k s next at c a is false h = (sym (ap (λ (o : Outcome). o.answer) is), sym (ap (λ (o : Outcome). o.next) is))
 
--- the laws of the machine that tell what a call comes to
-pub record CallLaws : Type 0 where
-  pub empty : EmptyIsSound
-  pub sound : ServedStaysSound
-  pub served : ServedIsThinned
-  pub replies : KeptRepliesOutlastRuns
-
-answered : (laws : CallLaws) (k : Rules) (s : State) (new : Connected) (at : ℕ) (c : Command) (r : Result Answer Refusal) → IsTrue (is_command c) → IsSound k s
+pub answered : (k : Rules) (s : State) (new : Connected) (at : ℕ) (c : Command) (r : Result Answer Refusal) → ServedStaysSound → IsTrue (is_command c) → IsSound k s
     → Leaves k s new r (served k s at c) → IsServed k s at c (told r) new
-answered laws k s new at c (Ok a) fits sound h =
+answered k s new at c (Ok a) stays fits sound h =
     let next : State = h.1.0 in
     let is : serve k s at c ≡ record { answer = a; next = next } = served_is k s at c ∙ ap (outcome_of s) h.1.1 in
-    let done : IsAnswered a s next (serve k s at c) = done_as k s next at c a is (is_lost a) h.0 in
-    (next, done, answered_stays k s next at c a laws.served laws.replies sound done, subst (λ (o : Outcome). IsSound k o.next) is (laws.sound k s at c fits sound), h.1.2)
-answered laws k s new at c (Err r) fits sound h =
-    (s, by_loss k s at c r (is_lost_by r) h.1, λ vehicle number reply kept. kept, sound, h.0)
+    record {
+      next = next;
+      answered = done_as k s next at c a is (is_lost a) h.0;
+      sound = subst (λ (o : Outcome). IsSound k o.next) is (stays k s at c fits sound);
+      keeps = h.1.2;
+    }
+answered k s new at c (Err r) stays fits sound h = record { next = s; answered = by_loss k s at c r (is_lost_by r) h.1; sound = sound; keeps = h.0 }
 
 next_is : (k : Rules) (s : State) (at : ℕ) (c : Command) → (outcome_of s (served k s at c)).next ≡ (serve k s at c).next
 next_is k s at c = sym (ap (λ (o : Outcome). o.next) (served_is k s at c))
 
-spared : (k : Rules) (s : State) (old new : Connected) (at : ℕ) (c : Command) (r : Result Answer Refusal) → Serves k s old new r (served k s at c)
-    → Survives old new (HoldsState k (serve k s at c).next)
-spared k s old new at c r h = subst (λ (n : State). Survives old new (HoldsState k n)) (next_is k s at c) h.crash
+pub crashed : (k : Rules) (s : State) (old new : Connected) (at : ℕ) (c : Command) (r : Result Answer Refusal) → Serves k s old new r (served k s at c) → Survives old new (HoldsState k (serve k s at c).next)
+crashed k s old new at c r h = subst (λ (n : State). Survives old new (HoldsState k n)) (next_is k s at c) h.crash
 
-committed : (k : Rules) (s : State) (old new : Connected) (at : ℕ) (c : Command) (r : Result Answer Refusal) → Serves k s old new r (served k s at c)
+pub committed : (k : Rules) (s : State) (old new : Connected) (at : ℕ) (c : Command) (r : Result Answer Refusal) → Serves k s old new r (served k s at c)
     → IsCommit s (told r) (serve k s at c).next → IfClean (LeavesOnly (HoldsState k (serve k s at c).next)) new
 committed k s old new at c r h = subst (λ (n : State). IsCommit s (told r) n → IfClean (LeavesOnly (HoldsState k n)) new) (next_is k s at c) h.durable
 
@@ -232,48 +233,21 @@ pub late_outright : (k : Rules) (at : ℕ) (c : Command) (result : Result Answer
 late_outright k at c result h is =
     subst (λ t. IfSome (if t then Some MomentOutOfRange else outright_in_time k c) (λ r. result ≡ Err r)) (sym (late_test at h)) is
 
-told_outright : (o : Option Refusal) (given : Result Answer Refusal) (answer : Answer) → answer ≡ told given → IfSome o (λ r. given ≡ Err r) → IfSome o (λ r. answer ≡ Refused r)
+pub told_outright : (o : Option Refusal) (given : Result Answer Refusal) (answer : Answer) → answer ≡ told given → IfSome o (λ r. given ≡ Err r) → IfSome o (λ r. answer ≡ Refused r)
 told_outright None given answer is h = tt
 told_outright (Some r) given answer is h = is ∙ ap told h
 
 -- ---- a disk that is clean was clean
 
-clean_once : (k : Rules) (at : ℕ) (c : Command) (old new : Connected) → EmptyIsSound → SparesCall k at c old new → HasCleanDisk new → HasCleanDisk old
-clean_once k at c old new empty spares now = by_test old.is_clean refl
+pub clean_once : (k : Rules) (old new : Connected) (Left : State → Trees → Type 0) → EmptyIsSound
+    → ((s : State) → IsSound k s → IfClean (KeepsState k s) old → Survives old new (Left s)) → HasCleanDisk new → HasCleanDisk old
+unfolding doubt
+clean_once k old new Left sound survives now = by_test old.is_clean refl
   where
     by_test : (b : Bool) → old.is_clean ≡ b → HasCleanDisk old
     by_test true is = ap doubt is
     by_test false is =
         let is_not : HasCleanDisk old → ⊥ = λ (clean : doubt old.is_clean ≡ 0). let one : doubt old.is_clean ≡ 1 = ap doubt is in absurd (omega arith) in
-        let all : Survives old new (HoldsState k (serve k empty_state at c).next) = spares empty_state (empty k) (λ clean. absurd (is_not clean)) in
+        let all : Survives old new (Left empty_state) = survives empty_state (sound k) (λ clean. absurd (is_not clean)) in
         let before : doubt old.is_clean ≡ 0 = omega (arith, all.clean) in
         before
-
--- ---- the call
-
--- what a command over the store comes to, from each sound state that the tables showed
-abbrev pub Obeys : Rules → ℕ → Command → Result Answer Refusal → Connected → Connected → Type 0
-Obeys k at c r old new = (s : State) → IsSound k s → IfClean (KeepsState k s) old → Serves k s old new r (served k s at c)
-
-pub record IsCall (k : Rules) (at : ℕ) (c : Command) (a : Answer) (old new : Connected) : Type 0 where
-  pub served : ServesCall k at c a old new
-  pub outright : IfSome (outright k at c) (λ r. a ≡ Refused r)
-  pub crash : SparesCall k at c old new
-  pub durable : CommitsCall k at c a old new
-  pub clean : HasCleanDisk new → HasCleanDisk old
-
-told_call : (laws : CallLaws) (k : Rules) (at : ℕ) (c : Command) (r : Result Answer Refusal) (old new : Connected) → IsTrue (is_command c) → Obeys k at c r old new
-    → IfSome (outright k at c) (λ q. r ≡ Err q) → IsCall k at c (told r) old new
-told_call laws k at c r old new fits obeys due =
-    let spares : SparesCall k at c old new = λ s sound was. spared k s old new at c r (obeys s sound was) in
-    record {
-      served = λ now s sound was. answered laws k s new at c r fits sound ((obeys s sound was).leaves now);
-      outright = told_outright (outright k at c) r (told r) refl due;
-      crash = spares;
-      durable = λ s sound was commit. committed k s old new at c r (obeys s sound was) commit;
-      clean = clean_once k at c old new laws.empty spares;
-    }
-
-pub called : (laws : CallLaws) (k : Rules) (at : ℕ) (c : Command) (r : Result Answer Refusal) (a : Answer) (old new : Connected) → IsTrue (is_command c) → Obeys k at c r old new
-    → IfSome (outright k at c) (λ q. r ≡ Err q) → a ≡ told r → IsCall k at c a old new
-called laws k at c r a old new fits obeys due is = subst (λ (x : Answer). IsCall k at c x old new) (sym is) (told_call laws k at c r old new fits obeys due)

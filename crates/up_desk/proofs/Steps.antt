@@ -1,5 +1,5 @@
 -- A command step by step: reads one after another, and at most one write.
-use Rattle.std.proofs.Common.{◌≡◌, ℕ, List, Bool, true, false, Option, Some, None, Result, Ok, Err, IsTrue, OnOk, ◌⊎◌, inl, inr, refl, sym, ap, ◌∙◌, subst, arith}
+use Rattle.std.proofs.Common.{◌≡◌, ℕ, List, Bool, true, false, Result, Ok, Err, OnOk, inl, refl, sym, ap, ◌∙◌, subst, arith}
 use Rattle.std.specs.Prelude.{◌||◌, ⊤, MatchBool, OnErr, IfOk}
 use Rattle.sqlite.specs.Tree.{Trees}
 use Rattle.sqlite.specs.State.{State as Connected, HasCleanDisk, Survives}
@@ -8,7 +8,6 @@ use Rattle.up_canon.specs.declared.refusal.Refusal.{Refusal}
 use Rattle.up_canon.specs.Refusals.{is_memory}
 use Rattle.up_sign.specs.Schemes.{Rules}
 use Rattle.up_machine.specs.declared.answer.Answer.{Answer}
-use Rattle.up_machine.specs.declared.answer.Answer.TheVariants.{Done, Already, Reply as Replied, File, Refused}
 use Rattle.up_machine.specs.State.{State}
 use Rattle.up_machine.specs.Deciding.{Outcome}
 use Rattle.up_machine.specs.Decisions.{GivesFile}
@@ -65,6 +64,14 @@ unchanged k s old new answer computed given never was reads is = record {
   leaves = λ clean. (given, (s, is clean, keeps_after k s old new was reads clean));
   crash = spared (HoldsState k (outcome_of s computed).next) old new reads;
   durable = λ commit clean. absurd (never (outcome_of s computed).next commit (ap (λ o. (outcome_of s o).next) (is clean)));
+}
+
+-- what is served after a read is served after what was before it
+pub after_reads : (k : Rules) (s : State) (old mid new : Connected) (r : Result Answer Refusal) (computed : Result Outcome Refusal) → Reads old mid → Serves k s mid new r computed → Serves k s old new r computed
+after_reads k s old mid new r computed reads serves = record {
+  leaves = serves.leaves;
+  crash = survives_then old mid new (λ _. ⊥) (HoldsState k (outcome_of s computed).next) (HoldsState k (outcome_of s computed).next) (λ _ db none. absurd none) (λ _ db holds. holds) reads.survives serves.crash;
+  durable = serves.durable;
 }
 
 -- ---- a command that writes once

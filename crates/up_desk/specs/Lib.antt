@@ -1,3 +1,5 @@
 pub mod Gathered
 pub mod Serving
+pub mod Calls
 pub mod Runs
+pub mod Laws

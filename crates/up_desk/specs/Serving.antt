@@ -28,9 +28,7 @@ use Rattle.up_machine.specs.State.{State}
 use Rattle.up_machine.specs.Deciding.{Outcome, check_moment}
 use Rattle.up_machine.specs.Decisions.{decide_incoming, files_named, AreImagesOf}
 use Rattle.up_machine.specs.Machine.{decide, outcome_of}
-use Rattle.up_machine.specs.Repeats.{serve}
 use Rattle.up_machine.specs.Replies.{kept_reply}
-use Rattle.up_machine.specs.Sound.{IsSound}
 use Rattle.up_rows.specs.StateRows.{StateRows, rows_of_state}
 use Rattle.up_tables.specs.declared.values.StoreFault.{StoreFault}
 use Rattle.up_tables.specs.declared.values.StoreFault.TheVariants as fault
@@ -77,39 +75,7 @@ outright_in_time k c = None
 abbrev pub outright : Rules → ℕ → Command → Option Refusal
 outright k at c = if nat_lt last_command_moment at then Some MomentOutOfRange else outright_in_time k c
 
--- ---- one call
-
--- what a crash may leave shows the state
-abbrev pub HoldsState : Rules → State → Trees → Type 0
-HoldsState k s = HoldsRows (rows_of_state k s)
-
--- it was done, or is a reply with which the state changed: that to a newly accepted manifest
-abbrev pub IsCommit : State → Answer → State → Type 0
-IsCommit s Done next = ⊤
-IsCommit s Already next = ⊥
-IsCommit s (Replied reply) next = next ≡ s → ⊥
-IsCommit s (File text) next = ⊥
-IsCommit s (Refused r) next = ⊥
-
--- The answer and the next state are those of what is served, and where the command was lost the state is as it was. Kept replies are
--- kept on, the state stays sound, and the tables show it.
-abbrev pub IsServed : Rules → State → ℕ → Command → Answer → Connected → Type 0
-IsServed k s at c a new = (next : State) × IsAnswered a s next (serve k s at c) × RepliesStay k s next × IsSound k next × KeepsState k next new
-
--- so from each sound state that the tables showed
-abbrev pub ServesCall : Rules → ℕ → Command → Answer → Connected → Connected → Type 0
-ServesCall k at c a old new = HasCleanDisk new → (s : State) → IsSound k s → IfClean (KeepsState k s) old → IsServed k s at c a new
-
--- whatever is answered, a crash leaves what it could leave before, or the next state
-abbrev pub SparesCall : Rules → ℕ → Command → Connected → Connected → Type 0
-SparesCall k at c old new = (s : State) → IsSound k s → IfClean (KeepsState k s) old → Survives old new (HoldsState k (serve k s at c).next)
-
--- after a commit it leaves the next state alone
-abbrev pub CommitsCall : Rules → ℕ → Command → Answer → Connected → Connected → Type 0
-CommitsCall k at c a old new = (s : State) → IsSound k s → IfClean (KeepsState k s) old → IsCommit s a (serve k s at c).next
-    → IfClean (LeavesOnly (HoldsState k (serve k s at c).next)) new
-
--- ---- one command over the tables
+-- ---- one command
 
 -- a refusal is told as one
 abbrev pub told : Result Answer Refusal → Answer
@@ -124,11 +90,23 @@ served k s at (Deliver body) = do
   decide_incoming k s at incoming
 served k s at c = decide k s at c
 
+-- what a crash may leave shows the state
+abbrev pub HoldsState : Rules → State → Trees → Type 0
+HoldsState k s = HoldsRows (rows_of_state k s)
+
 -- the tables show the state of the outcome that was computed; of a refusal, or where the command was lost, the state as it was
 abbrev pub Leaves : Rules → State → Connected → Result Answer Refusal → Result Outcome Refusal → Type 0
 Leaves k s new (Ok answer) computed =
     (is_lost answer ≡ false) × ((next : State) × (computed ≡ Ok (record { answer = answer; next = next })) × KeepsState k next new)
 Leaves k s new (Err r) computed = KeepsState k s new × MatchBool (is_lost_by r) ⊤ (computed ≡ Err r)
+
+-- it was done, or is a reply with which the state changed: that to a newly accepted manifest
+abbrev pub IsCommit : State → Answer → State → Type 0
+IsCommit s Done next = ⊤
+IsCommit s Already next = ⊥
+IsCommit s (Replied reply) next = next ≡ s → ⊥
+IsCommit s (File text) next = ⊥
+IsCommit s (Refused r) next = ⊥
 
 -- It leaves what was computed. Whatever it answers, a crash leaves what it could leave before, or the next state; after a commit that
 -- state alone.

@@ -1,13 +1,16 @@
 //! Manifests that vehicles deliver.
-ghost use Rattle.std.specs.Prelude.{◌≡◌, ◌≤◌, ◌<◌, length, Err, IfOk, IfSome, IsTrue, option_copied};
+ghost use Rattle.std.specs.Prelude.{◌≡◌, ◌≤◌, ◌<◌, length, Result, Ok, Err, IfOk, IfSome, IsTrue, option_copied};
 ghost use Rattle.sqlite.specs.Held.{state};
 ghost use Rattle.sqlite.specs.State.{HasCleanDisk};
 ghost use Rattle.up_canon.specs.Moments.{last_command_moment};
+ghost use Rattle.up_canon.specs.Names.{Name};
+ghost use Rattle.up_canon.specs.declared.refusal.Refusal.{Refusal};
 ghost use Rattle.up_canon.specs.declared.refusal.Refusal.TheVariants.{TooLarge};
 ghost use Rattle.up_canon.specs.Steps.{and_then};
 ghost use Rattle.up_sign.specs.Schemes.{Rules};
 ghost use Rattle.up_manifest.specs.Manifests.{largest_body, incoming_in};
-ghost use Rattle.up_machine.specs.declared.answer.Answer.TheVariants.{Reply as Replied};
+ghost use Rattle.up_machine.specs.declared.decision.Delivered.TheVariants.{Accepted};
+ghost use Rattle.up_machine.specs.Deciding.{Outcome};
 ghost use Rattle.up_machine.specs.Decisions.{IsRead, decide_incoming, GivesDelivered};
 ghost use Rattle.up_machine.specs.Rows.{founding_row, kept_at, vehicle_rows};
 ghost use Rattle.up_machine.specs.RowsFit.{founding_fits, rows_fit};
@@ -28,7 +31,7 @@ use up_canon::refusal::Refusal;
 use up_canon::table::Table;
 use up_machine::answer::Answer;
 use up_machine::decide_manifest::{DeliveryRows, decide_manifest};
-use up_machine::decision::Delivered;
+use up_machine::decision::{AcceptedRows, Delivered};
 use up_machine::kept_reply::reply_of;
 use up_machine::rows::{Founding, Kept, VehicleRows};
 use up_manifest::manifest::{Incoming, Manifest};
@@ -59,8 +62,7 @@ pub fn deliver<K: Scheme, D: Alter>(
     }
 }
 
-/// The same of a manifest that was read. The reply to one that is accepted is made before anything is written, so that nothing
-/// grows between the commit and the answer.
+/// The same of a manifest that was read.
 fn receive<K: Scheme, D: Alter>(
     store: &mut Store<D>,
     alloc: Global,
@@ -73,15 +75,29 @@ fn receive<K: Scheme, D: Alter>(
     ensures { (s : State) → IsSound (K.rules scheme.now) s → IfClean (KeepsState (K.rules scheme.now) s) (state D.Store store.old)
         → Serves (K.rules scheme.now) s (state D.Store store.old) (state D.Store store.new) result (decide_incoming (K.rules scheme.now) s at incoming.now) }
 {
-    rows_are_found();
-    manifests_are_added();
     match decide(store, alloc, scheme, at, incoming) {
         Ok(Delivered::Repeat(reply)) => Ok(Answer::Reply(reply)),
-        Ok(Delivered::Accepted(rows)) => match reply_of(alloc, &rows.kept) {
-            Ok(reply) => replied(reply, store.write_accept(alloc, &rows)),
-            Err(_) => Err(Refusal::Memory),
-        },
+        Ok(Delivered::Accepted(rows)) => accept(store, alloc, &rows),
         Err(refusal) => Err(refusal),
+    }
+}
+
+/// Writes the rows of a manifest that is accepted. The reply is made before anything is written, so that nothing grows between
+/// the commit and the answer.
+fn accept<D: Alter>(
+    store: &mut Store<D>,
+    alloc: Global,
+    rows: &AcceptedRows,
+) -> Result<Answer, Refusal>
+    ensures { (k : Rules) (s : State) (name : Name) (computed : Result Outcome Refusal) → IsSound k s → IfClean (KeepsState k s) (state D.Store store.old)
+        → (HasCleanDisk (state D.Store store.old) → GivesDelivered k s name (Ok (Accepted rows.now)) computed)
+        → Serves k s (state D.Store store.old) (state D.Store store.new) result computed }
+{
+    rows_are_found();
+    manifests_are_added();
+    match reply_of(alloc, &rows.kept) {
+        Ok(reply) => replied(reply, store.write_accept(alloc, rows)),
+        Err(_) => Err(Refusal::Memory),
     }
 }
 
@@ -116,7 +132,7 @@ fn decide_founded<K: Scheme, D: Alter>(
 ) -> Result<Delivered, Refusal>
     requires moment { at ≤ last_command_moment }
     requires read { IsRead incoming.now }
-    requires keys { IfSome (option_copied founding.entry) (λ f. IsTrue (founding_fits (K.rules scheme.now) f)) }
+    requires keys { IfSome (option_copied founding) (λ f. IsTrue (founding_fits (K.rules scheme.now) f)) }
     ensures decided { HasCleanDisk (state D.Store store.new) → (s : State) → IsSound (K.rules scheme.now) s → option_copied founding.entry ≡ founding_row s → IfClean (KeepsState (K.rules scheme.now) s) (state D.Store store.old)
         → GivesOrLost (GivesDelivered (K.rules scheme.now) s incoming.now.manifest.vehicle) result (decide_incoming (K.rules scheme.now) s at incoming.now) }
     ensures reads { Reads (state D.Store store.old) (state D.Store store.new) }
@@ -142,8 +158,8 @@ fn decide_known<K: Scheme, D: Alter>(
 ) -> Result<Delivered, Refusal>
     requires moment { at ≤ last_command_moment }
     requires read { IsRead incoming.now }
-    requires keys { IfSome (option_copied founding.entry) (λ f. IsTrue (founding_fits (K.rules scheme.now) f)) }
-    requires rows { IfSome (option_copied vehicle.entry) (λ v. IsTrue (rows_fit v)) }
+    requires keys { IfSome (option_copied founding) (λ f. IsTrue (founding_fits (K.rules scheme.now) f)) }
+    requires rows { IfSome (option_copied vehicle) (λ v. IsTrue (rows_fit v)) }
     ensures decided { HasCleanDisk (state D.Store store.new) → (s : State) → IsSound (K.rules scheme.now) s → option_copied founding.entry ≡ founding_row s → option_copied vehicle.entry ≡ vehicle_rows s incoming.now.manifest.vehicle → IfClean (KeepsState (K.rules scheme.now) s) (state D.Store store.old)
         → GivesOrLost (GivesDelivered (K.rules scheme.now) s incoming.now.manifest.vehicle) result (decide_incoming (K.rules scheme.now) s at incoming.now) }
     ensures reads { Reads (state D.Store store.old) (state D.Store store.new) }
@@ -172,8 +188,8 @@ fn decide_kept<K: Scheme, D: Alter>(
 ) -> Result<Delivered, Refusal>
     requires moment { at ≤ last_command_moment }
     requires read { IsRead incoming.now }
-    requires keys { IfSome (option_copied founding.entry) (λ f. IsTrue (founding_fits (K.rules scheme.now) f)) }
-    requires rows { IfSome (option_copied vehicle.entry) (λ v. IsTrue (rows_fit v)) }
+    requires keys { IfSome (option_copied founding) (λ f. IsTrue (founding_fits (K.rules scheme.now) f)) }
+    requires rows { IfSome (option_copied vehicle) (λ v. IsTrue (rows_fit v)) }
     ensures decided { HasCleanDisk (state D.Store store.new) → (s : State) → IsSound (K.rules scheme.now) s → option_copied founding.entry ≡ founding_row s → option_copied vehicle.entry ≡ vehicle_rows s incoming.now.manifest.vehicle → option_copied kept.entry ≡ kept_at (K.rules scheme.now) s incoming.now.manifest.vehicle incoming.now.manifest.counter → IfClean (KeepsState (K.rules scheme.now) s) (state D.Store store.old)
         → GivesOrLost (GivesDelivered (K.rules scheme.now) s incoming.now.manifest.vehicle) result (decide_incoming (K.rules scheme.now) s at incoming.now) }
     ensures reads { Reads (state D.Store store.old) (state D.Store store.new) }
@@ -214,7 +230,12 @@ fn read_plan_rows<D: Alter>(
         Ok(campaigns) => campaigns,
         Err(fault) => return Err(fault),
     };
-    match images_for(store, alloc, campaigns.values(), manifest.reports.as_slice()) {
+    match images_for(
+        store,
+        alloc,
+        campaigns.values(),
+        manifest.reports.as_slice(),
+    ) {
         Ok(images) => Ok(PlanRows { campaigns, images }),
         Err(fault) => Err(fault),
     }

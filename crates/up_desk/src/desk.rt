@@ -8,7 +8,8 @@ ghost use Rattle.up_machine.specs.declared.answer.Answer.TheVariants.{Refused};
 ghost use Rattle.up_machine.specs.Commands.{opens_running};
 ghost use Rattle.up_machine.specs.Reads.{ecus_of as ecus_in, version_of as version_in, installed as installed_in, assigned_to};
 ghost use Rattle.up_desk.specs.Runs.{AreOutright, RunsCalls};
-ghost use Rattle.up_desk.specs.Serving.{CommitsCall, Reads, ServesCall, SparesCall, Tells, outright as outright_of};
+ghost use Rattle.up_desk.specs.Calls.{CommitsCall, ServesCall, SparesCall};
+ghost use Rattle.up_desk.specs.Serving.{Reads, Tells, outright as outright_of};
 
 use crate::obeying::{answer_of, keeps_limits, obey};
 use crate::views::{assigned_of, ecus_of, installed_on, version_of};

@@ -7,6 +7,7 @@ pub mod desk;
 mod files;
 mod images;
 mod inventory;
+pub mod laws;
 pub mod lost;
 mod obeying;
 mod reading;

@@ -1,9 +1,5 @@
-use Rattle.std.proofs.Common.{◌≡◌, ap, ◌∙◌}
 use Rattle.sqlite.specs.Held.{state}
-use Rattle.up_machine.specs.Decisions.{GivesDecision}
-use Rattle.up_machine.specs.Inventory.{with_campaign}
-use Rattle.up_rows.specs.StateRows.{rows_of_state}
-use Rattle.up_desk.proofs.Steps.{clean_before, gives_or_lost, keeps_after, lost_told, reads_then, store_reads}
+use Rattle.up_desk.proofs.Steps.{clean_before, keeps_after, lost_told, reads_then}
 use Rattle.up_desk.proofs.campaigns.decide_opening.Goals as goal
 
 pub returns-in-Ok-clause-decided : goal.returns-in-Ok-clause-decided

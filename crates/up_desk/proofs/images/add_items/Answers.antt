@@ -21,3 +21,6 @@ loop-item-preserved g c =
 pub returns-clause-told : goal.returns-clause-told
 returns-clause-told g c clean = λ k s was.
     c.loop-item.invariant.found clean k s was ∙ ap (λ xs. gathered s.images (item_files xs) c.args.images.now) (take_all c.loop-item.item-index c.args.items.now c.loop-item-test.false)
+
+pub returns-in-Err-clause-reads : goal.returns-in-Err-clause-reads
+returns-in-Err-clause-reads g c = reads_then (state g.D.Store c.args.store.now) (state g.D.Store c.loop-item.store) (state g.D.Store c.add_file.new.store) c.loop-item.invariant.reads c.add_file.ensures.reads

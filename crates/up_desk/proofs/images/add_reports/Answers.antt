@@ -21,3 +21,6 @@ loop-report-preserved g c =
 pub returns-clause-told : goal.returns-clause-told
 returns-clause-told g c clean = λ k s was.
     c.loop-report.invariant.found clean k s was ∙ ap (λ xs. gathered s.images (report_files xs) c.args.images.now) (take_all c.loop-report.report-index c.args.reports.now c.loop-report-test.false)
+
+pub returns-in-Err-clause-reads : goal.returns-in-Err-clause-reads
+returns-in-Err-clause-reads g c = reads_then (state g.D.Store c.args.store.now) (state g.D.Store c.loop-report.store) (state g.D.Store c.add_file.new.store) c.loop-report.invariant.reads c.add_file.ensures.reads

@@ -1,10 +1,5 @@
-use Rattle.std.proofs.Common.{◌≡◌, [], ap, map, ◌∙◌}
 use Rattle.sqlite.specs.Held.{state}
-use Rattle.up_machine.specs.Decisions.{GivesDecision}
-use Rattle.up_machine.specs.Inventory.{with_vehicle}
-use Rattle.up_machine.specs.Rows.{rows_of, vehicle_rows}
-use Rattle.up_machine.specs.State.{is_recorded}
-use Rattle.up_desk.proofs.Steps.{clean_before, gives_or_lost, keeps_after, lost_told, reads_then}
+use Rattle.up_desk.proofs.Steps.{clean_before, keeps_after, lost_told, reads_then}
 use Rattle.up_desk.proofs.inventory.decide.Goals as goal
 
 pub returns-in-Ok-clause-decided : goal.returns-in-Ok-clause-decided

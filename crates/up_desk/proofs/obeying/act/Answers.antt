@@ -1,7 +1,32 @@
 use Rattle.sqlite.specs.Held.{state}
-use Rattle.up_machine.specs.declared.command.Command.TheVariants.{OpenCampaign, CloseCampaign, Fetch}
+use Rattle.up_machine.specs.declared.command.Command.TheVariants.{Found, Rotate, AddImage, Refresh, AddVehicle, OpenCampaign, CloseCampaign, Fetch}
 use Rattle.up_desk.proofs.Serving.{of_command, of_delivery, key_outright, large_outright}
 use Rattle.up_desk.proofs.obeying.act.Goals as goal
+
+pub returns-in-Found-clause-serves : goal.returns-in-Found-clause-serves
+returns-in-Found-clause-serves g c = λ s sound was.
+    of_command (g.K.Scheme.rules c.args.scheme.now) s (state g.D.Store c.args.store.now) (state g.D.Store c.found.new.store) c.found.result c.args.at c.args.command.now (Found c.in-Found.keys)
+    c.in-Found.is (c.found.ensures s sound was)
+
+pub returns-in-Rotate-clause-serves : goal.returns-in-Rotate-clause-serves
+returns-in-Rotate-clause-serves g c = λ s sound was.
+    of_command (g.K.Scheme.rules c.args.scheme.now) s (state g.D.Store c.args.store.now) (state g.D.Store c.rotate.new.store) c.rotate.result c.args.at c.args.command.now (Rotate c.in-Rotate.keys)
+    c.in-Rotate.is (c.rotate.ensures s sound was)
+
+pub returns-in-AddImage-clause-serves : goal.returns-in-AddImage-clause-serves
+returns-in-AddImage-clause-serves g c = λ s sound was.
+    of_command (g.K.Scheme.rules c.args.scheme.now) s (state g.D.Store c.args.store.now) (state g.D.Store c.add_image.new.store) c.add_image.result c.args.at c.args.command.now (AddImage c.in-AddImage.image)
+    c.in-AddImage.is (c.add_image.ensures s sound was)
+
+pub returns-in-Refresh-clause-serves : goal.returns-in-Refresh-clause-serves
+returns-in-Refresh-clause-serves g c = λ s sound was.
+    of_command (g.K.Scheme.rules c.args.scheme.now) s (state g.D.Store c.args.store.now) (state g.D.Store c.refresh.new.store) c.refresh.result c.args.at c.args.command.now (Refresh c.in-Refresh.version)
+    c.in-Refresh.is (c.refresh.ensures s sound was)
+
+pub returns-in-AddVehicle-clause-serves : goal.returns-in-AddVehicle-clause-serves
+returns-in-AddVehicle-clause-serves g c = λ s sound was.
+    of_command (g.K.Scheme.rules c.args.scheme.now) s (state g.D.Store c.args.store.now) (state g.D.Store c.add_vehicle.new.store) c.add_vehicle.result c.args.at c.args.command.now (AddVehicle c.in-AddVehicle.new)
+    c.in-AddVehicle.is (c.add_vehicle.ensures.serves s sound was)
 
 pub returns-in-OpenCampaign-clause-serves : goal.returns-in-OpenCampaign-clause-serves
 returns-in-OpenCampaign-clause-serves g c = λ s sound was.

@@ -1,12 +1,11 @@
 use Rattle.std.proofs.Common.{ap, subst}
 use Rattle.sqlite.specs.Held.{state}
-use Rattle.up_desk.specs.Serving.{DeskView}
-use Rattle.up_desk.proofs.Serving.{IsCall, called}
+use Rattle.up_desk.proofs.Calls.{CallLaws, IsCall, called}
 use Rattle.up_desk.proofs.desk.Desk.call.Goals as goal
 
 pub returns : goal.returns
 returns g c =
-    let laws = record {
+    let laws : CallLaws = record {
       empty = c.states_stay_sound.ensures.empty;
       sound = c.repeats_change_nothing.ensures.sound;
       served = c.repeats_change_nothing.ensures.served;

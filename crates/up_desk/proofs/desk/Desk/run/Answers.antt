@@ -1,7 +1,14 @@
-use Rattle.std.proofs.Common.{◌≡◌, ◌+◌, ◌∙◌, ap, arith, vec_len}
+use Rattle.std.proofs.Common.{◌≡◌, ◌+◌, ◌∙◌, refl, ap, arith, vec_len}
 use Rattle.sqlite.specs.Held.{state}
-use Rattle.up_desk.proofs.Runs.{one_more, chosen_ok, run_whole}
+use Rattle.up_desk.proofs.Runs.{ListLaws, none_so_far, one_more, chosen_ok, run_whole}
 use Rattle.up_desk.proofs.desk.Desk.run.Goals as goal
+
+pub loop-item-init : goal.loop-item-init
+loop-item-init g c = record {
+  far = none_so_far (g.K.Scheme.rules c.args.self.now.scheme) (state g.D.Store c.args.self.now.store) c.args.commands.now c.args.answers.now.items c.reserve.new.self.items c.reserve.ensures.items;
+  scheme = refl;
+  room = omega (arith, c.in_ok-reserve.ensures.ok);
+}
 
 pub loop-item-preserved : goal.loop-item-preserved
 loop-item-preserved g c =
@@ -17,7 +24,7 @@ loop-item-preserved g c =
 
 pub returns-clause-ran : goal.returns-clause-ran
 returns-clause-ran g c =
-    let laws = record {
+    let laws : ListLaws = record {
       served = c.repeats_change_nothing.ensures.served;
       repeats = c.repeats_change_nothing.ensures.thinned;
       replies = c.kept_replies_stay.ensures.run;
