@@ -58,8 +58,8 @@ def texts(rows):
 
 
 def wanted():
-    """What the rows of texts and of decisions want is what Python computes from the formats."""
-    for crate in ("up_test_texts", "up_test_decisions"):
+    """What the rows of texts, of decisions and of streams want is what Python computes from the formats."""
+    for crate in ("up_test_texts", "up_test_decisions", "up_stream_tests"):
         words = [sys.executable, TOP / "crates" / crate / "expected.py"]
         ran = subprocess.run(words, capture_output=True, check=False)
         yield "answers that the rows of %s want" % crate, ran.returncode == 0
