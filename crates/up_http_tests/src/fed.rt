@@ -49,18 +49,28 @@ fn feed_once(
     out: &mut String,
 ) -> Result<Option<usize>, AllocError> {
     match feeder.feed(piece) {
-        Ok(step) => told(alloc, step, out),
+        Ok(Step { taken, next }) => told(alloc, taken, next, out),
         Err(refused) => Err(refused),
     }
 }
 
-fn told(alloc: Global, step: Step, out: &mut String) -> Result<Option<usize>, AllocError> {
-    match &step.next {
+fn told(
+    alloc: Global,
+    taken: usize,
+    next: Option<Next>,
+    out: &mut String,
+) -> Result<Option<usize>, AllocError> {
+    match next {
         None => Ok(None),
-        Some(next) => {
-            tell(alloc, next, out)?;
-            Ok(Some(step.taken))
-        }
+        Some(next) => behind(taken, tell(alloc, &next, out)),
+    }
+}
+
+/// The bytes taken, where the request that they end could be told.
+fn behind(taken: usize, told: Result<(), AllocError>) -> Result<Option<usize>, AllocError> {
+    match told {
+        Ok(()) => Ok(Some(taken)),
+        Err(refused) => Err(refused),
     }
 }
 
