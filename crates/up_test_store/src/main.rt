@@ -21,10 +21,10 @@ use up_test_rows::sections::told;
 /// Tells of each section on standard input. Each begins with a line `# WORDS` behind another line.
 fn main(rt: HostRuntime) -> io::Result<()> {
     let text = io::read_to_string(rt.alloc(), rt.stdin())?;
-    let words = env::args(&rt)?;
+    let words = env::args(&rt)?.skip(1).collect::<Vec<String>>(rt.alloc())?;
     for section in text.as_str().split("\n# ") {
         if !section.is_empty() {
-            let line = match words.get(1) {
+            let line = match words.as_slice().first() {
                 Some(path) => over_file(&rt, path.as_str(), section)?,
                 None => over(rt.alloc(), in_memory(rt.alloc())?, section)?,
             };
