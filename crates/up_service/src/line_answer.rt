@@ -3,7 +3,7 @@ ghost use Rattle.std.specs.Prelude.{◌≡◌, ◌×◌, List, ℕ, IsTrue, IfOk
 ghost use Rattle.sqlite.specs.Held.{state};
 ghost use Rattle.up_machine.specs.Commands.{opens_running};
 ghost use Rattle.up_script.specs.AskedLines.{asks_running};
-ghost use Rattle.up_service.specs.LineAnswers.{AnswersAs, carried_out, served, line_answer, shown_in, shown_text as shown_text_of};
+ghost use Rattle.up_service.specs.LineAnswers.{AnswersLine, carried_out, served, line_answer, viewed};
 
 use crate::show::shown;
 use sqlite::Alter;
@@ -43,8 +43,8 @@ fn line_text<K: Scheme, D: Alter>(
     line: &[u8],
 ) -> Result<String, AllocError>
     ensures scheme { desk.new.scheme ≡ desk.old.scheme }
-    ensures ok { IfOk result (λ t. AnswersAs (λ s. line_answer (K.rules desk.old.scheme) s line.now) (K.rules desk.old.scheme) (string_bytes t) (state D.Store desk.old.store) (state D.Store desk.new.store)) }
-    ensures err { OnErr result ((text : List ℕ) × AnswersAs (λ s. line_answer (K.rules desk.old.scheme) s line.now) (K.rules desk.old.scheme) text (state D.Store desk.old.store) (state D.Store desk.new.store)) }
+    ensures ok { IfOk result (λ t. AnswersLine (λ s. line_answer (K.rules desk.old.scheme) s line.now) (K.rules desk.old.scheme) (string_bytes t) (state D.Store desk.old.store) (state D.Store desk.new.store)) }
+    ensures err { OnErr result ((text : List ℕ) × AnswersLine (λ s. line_answer (K.rules desk.old.scheme) s line.now) (K.rules desk.old.scheme) text (state D.Store desk.old.store) (state D.Store desk.new.store)) }
 {
     match asked_by(alloc, desk.scheme(), line) {
         Ok(asked) => carry_out(alloc, desk, &asked),
@@ -52,6 +52,7 @@ fn line_text<K: Scheme, D: Alter>(
     }
 }
 
+/// The line that answers what is asked.
 fn carry_out<K: Scheme, D: Alter>(
     alloc: Global,
     desk: &mut Desk<K, D>,
@@ -59,8 +60,8 @@ fn carry_out<K: Scheme, D: Alter>(
 ) -> Result<String, AllocError>
     requires { IsTrue (asks_running asked.now.what) }
     ensures scheme { desk.new.scheme ≡ desk.old.scheme }
-    ensures ok { IfOk result (λ t. AnswersAs (λ s. carried_out (K.rules desk.old.scheme) s asked.now.at asked.now.what) (K.rules desk.old.scheme) (string_bytes t) (state D.Store desk.old.store) (state D.Store desk.new.store)) }
-    ensures err { OnErr result ((text : List ℕ) × AnswersAs (λ s. carried_out (K.rules desk.old.scheme) s asked.now.at asked.now.what) (K.rules desk.old.scheme) text (state D.Store desk.old.store) (state D.Store desk.new.store)) }
+    ensures ok { IfOk result (λ t. AnswersLine (λ s. carried_out (K.rules desk.old.scheme) s asked.now.at asked.now.what) (K.rules desk.old.scheme) (string_bytes t) (state D.Store desk.old.store) (state D.Store desk.new.store)) }
+    ensures err { OnErr result ((text : List ℕ) × AnswersLine (λ s. carried_out (K.rules desk.old.scheme) s asked.now.at asked.now.what) (K.rules desk.old.scheme) text (state D.Store desk.old.store) (state D.Store desk.new.store)) }
 {
     match &asked.what {
         What::Call(command) => called_text(alloc, desk, asked.at.get(), command),
@@ -68,6 +69,7 @@ fn carry_out<K: Scheme, D: Alter>(
     }
 }
 
+/// The line that answers a command.
 fn called_text<K: Scheme, D: Alter>(
     alloc: Global,
     desk: &mut Desk<K, D>,
@@ -76,21 +78,22 @@ fn called_text<K: Scheme, D: Alter>(
 ) -> Result<String, AllocError>
     requires { IsTrue (opens_running command.now) }
     ensures scheme { desk.new.scheme ≡ desk.old.scheme }
-    ensures ok { IfOk result (λ t. AnswersAs (λ s. served (K.rules desk.old.scheme) s at command.now) (K.rules desk.old.scheme) (string_bytes t) (state D.Store desk.old.store) (state D.Store desk.new.store)) }
-    ensures err { OnErr result ((text : List ℕ) × AnswersAs (λ s. served (K.rules desk.old.scheme) s at command.now) (K.rules desk.old.scheme) text (state D.Store desk.old.store) (state D.Store desk.new.store)) }
+    ensures ok { IfOk result (λ t. AnswersLine (λ s. served (K.rules desk.old.scheme) s at command.now) (K.rules desk.old.scheme) (string_bytes t) (state D.Store desk.old.store) (state D.Store desk.new.store)) }
+    ensures err { OnErr result ((text : List ℕ) × AnswersLine (λ s. served (K.rules desk.old.scheme) s at command.now) (K.rules desk.old.scheme) text (state D.Store desk.old.store) (state D.Store desk.new.store)) }
 {
     let answer = desk.call(alloc, at, command);
     answer_text(alloc, &answer)
 }
 
+/// The line that shows a vehicle, or its refusal.
 fn shown_text<K: Scheme, D: Alter>(
     alloc: Global,
     desk: &mut Desk<K, D>,
     vehicle: &Ident,
 ) -> Result<String, AllocError>
     ensures scheme { desk.new.scheme ≡ desk.old.scheme }
-    ensures ok { IfOk result (λ t. AnswersAs (λ s. record { text = shown_text_of (shown_in s vehicle.now); next = s }) (K.rules desk.old.scheme) (string_bytes t) (state D.Store desk.old.store) (state D.Store desk.new.store)) }
-    ensures err { OnErr result ((text : List ℕ) × AnswersAs (λ s. record { text = shown_text_of (shown_in s vehicle.now); next = s }) (K.rules desk.old.scheme) text (state D.Store desk.old.store) (state D.Store desk.new.store)) }
+    ensures ok { IfOk result (λ t. AnswersLine (λ s. viewed s vehicle.now) (K.rules desk.old.scheme) (string_bytes t) (state D.Store desk.old.store) (state D.Store desk.new.store)) }
+    ensures err { OnErr result ((text : List ℕ) × AnswersLine (λ s. viewed s vehicle.now) (K.rules desk.old.scheme) text (state D.Store desk.old.store) (state D.Store desk.new.store)) }
 {
     match shown(alloc, desk, vehicle) {
         Ok(text) => Ok(text),

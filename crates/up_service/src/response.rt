@@ -3,9 +3,10 @@ ghost use Rattle.std.specs.Prelude.{◌≡◌, List, ℕ, IsTrue, IfOk, OnErr, s
 ghost use Rattle.up_machine.specs.Commands.{opens_running};
 ghost use Rattle.up_http.specs.Requests.{asks_running};
 ghost use Rattle.up_http.specs.declared.asked.What.TheVariants.{Call};
-ghost use Rattle.up_service.specs.Responses.{IsResponse, IsResponseTo, answer_response as answer_response_of, found_response};
+ghost use Rattle.up_service.specs.Responses.{Responses, IsResponseTo, answer_response as answer_response_of, found_response};
 
 use http::StatusCode;
+use sqlite::Alter;
 use std::alloc::{AllocError, Global};
 use up_desk::desk::Desk;
 use up_heads::responses::{check_response, refusal_response, response_text};
@@ -22,15 +23,15 @@ pub struct Responder {
     pub at: u64,
 }
 
-impl<K: Scheme> Respond<Desk<K>> for Responder {
+impl<K: Scheme, D: Alter> Respond<Desk<K, D>> for Responder {
     ghost use Rattle.up_service.specs.Responses.{Responses};
 
-    ghost gives = { λ r. Responses (K.rules) r.at };
+    ghost gives = { λ r. Responses (K.rules) D.Store r.at };
 
     fn respond(
         &self,
         alloc: Global,
-        desk: &mut Desk<K>,
+        desk: &mut Desk<K, D>,
         next: &Next,
     ) -> Result<Vec<u8>, AllocError> {
         let text = response(alloc, desk, self.at, next)?;
@@ -40,16 +41,15 @@ impl<K: Scheme> Respond<Desk<K>> for Responder {
 
 /// The response to a request, whose command is carried out at the desk.
 #[tactic(auto, unfolding(up_http::specs::Requests::asks_running))]
-fn response<K: Scheme>(
+fn response<K: Scheme, D: Alter>(
     alloc: Global,
-    desk: &mut Desk<K>,
+    desk: &mut Desk<K, D>,
     at: u64,
     next: &Next,
 ) -> Result<String, AllocError>
     requires { IsTrue (asks_running next.now.what) }
-    ensures scheme { desk.new.scheme ≡ desk.old.scheme }
-    ensures ok { IfOk result (λ t. IsResponse (K.rules desk.old.scheme) at desk.old.state next.now (string_bytes t) desk.new.state) }
-    ensures err { OnErr result ((text : List ℕ) × IsResponse (K.rules desk.old.scheme) at desk.old.state next.now text desk.new.state) }
+    ensures ok { IfOk result (λ t. Responses (K.rules) D.Store at desk.old next.now (string_bytes t) desk.new) }
+    ensures err { OnErr result ((text : List ℕ) × Responses (K.rules) D.Store at desk.old next.now text desk.new) }
 {
     match &next.what {
         What::Call(command) => called_response(alloc, desk, at, command, next.last, next.head),
@@ -58,18 +58,17 @@ fn response<K: Scheme>(
 }
 
 /// The response to a command, which is carried out at the desk.
-fn called_response<K: Scheme>(
+fn called_response<K: Scheme, D: Alter>(
     alloc: Global,
-    desk: &mut Desk<K>,
+    desk: &mut Desk<K, D>,
     at: u64,
     command: &Command,
     last: bool,
     head: bool,
 ) -> Result<String, AllocError>
     requires { IsTrue (opens_running command.now) }
-    ensures scheme { desk.new.scheme ≡ desk.old.scheme }
-    ensures ok { IfOk result (λ t. IsResponseTo (K.rules desk.old.scheme) at desk.old.state (Call command.now) last head (string_bytes t) desk.new.state) }
-    ensures err { OnErr result ((text : List ℕ) × IsResponseTo (K.rules desk.old.scheme) at desk.old.state (Call command.now) last head text desk.new.state) }
+    ensures ok { IfOk result (λ t. IsResponseTo (K.rules) D.Store at desk.old (Call command.now) last head (string_bytes t) desk.new) }
+    ensures err { OnErr result ((text : List ℕ) × IsResponseTo (K.rules) D.Store at desk.old (Call command.now) last head text desk.new) }
 {
     let answer = desk.call(alloc, at, command);
     answer_response(alloc, &answer, last, head)

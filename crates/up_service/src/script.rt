@@ -32,7 +32,7 @@ pub fn run_script<K: Scheme, D: Alter, R: Read, W: Write>(
         Finished (Lines (K.rules) D.Store) desk.old (W.contents writer.old) input answered desk.new (W.contents writer.new))) }
     ensures too_long { IfErr result (λ fault. fault.cause ≡ Cause.TooLong → IfSome (R.remaining reader.old) (λ input.
         fits (lines_of true input) ≡ false)) }
-    ensures front { IfErr result (λ fault. IfSome (R.remaining reader.old) (λ input.
+    ensures prefix { IfErr result (λ fault. IfSome (R.remaining reader.old) (λ input.
         AnswersFirst (Lines (K.rules) D.Store) desk.old (W.contents writer.old) (asked (lines_of true input)) fault.lines
         desk.new (W.contents writer.new))) }
 {

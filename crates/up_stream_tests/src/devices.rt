@@ -1,6 +1,7 @@
 //! Readers that give a few bytes at a time, and readers and writers that fail once.
 use crate::texts::{AT, desk_after};
-use std::alloc::Global;
+use sqlite::MemStore;
+use std::alloc::{AllocError, Global};
 use std::io;
 use std::io::{Read, Write};
 use up_desk::desk::Desk;
@@ -93,7 +94,7 @@ pub(crate) fn pieces(step: usize) -> Reads {
 /// What a stream of these bytes is answered, where so many writes fail and take nothing, and what was written.
 fn stream(
     alloc: Global,
-    desk: &mut Desk<HmacSha256>,
+    desk: &mut Desk<HmacSha256, MemStore>,
     input: &str,
     reads: Reads,
     writes: (u32, u32),
@@ -125,15 +126,19 @@ pub(crate) fn answered(
     input: &str,
     reads: Reads,
     writes: (u32, u32),
-) -> Outcome {
-    let mut desk = desk_after(alloc, script);
-    stream(alloc, &mut desk, input, reads, writes)
+) -> Result<Outcome, AllocError> {
+    let mut desk = desk_after(alloc, script)?;
+    Ok(stream(alloc, &mut desk, input, reads, writes))
 }
 
 /// The same twice at one desk, where the first time one write fails.
-pub(crate) fn answered_again(alloc: Global, script: &[&str], input: &str) -> (Outcome, Outcome) {
-    let mut desk = desk_after(alloc, script);
+pub(crate) fn answered_again(
+    alloc: Global,
+    script: &[&str],
+    input: &str,
+) -> Result<(Outcome, Outcome), AllocError> {
+    let mut desk = desk_after(alloc, script)?;
     let first = stream(alloc, &mut desk, input, pieces(1_000), (1, 0));
     let second = stream(alloc, &mut desk, input, pieces(1_000), (0, 0));
-    (first, second)
+    Ok((first, second))
 }

@@ -38,7 +38,7 @@ fn ends_at_one_failure(rt: HostRuntime) -> Result<(), Fail> {
         (failing(1_000, 2), (0, 0), fault(Fault::Read, 3, 3), 3),
     ];
     for (reads, writes, wanted, answers) in table {
-        let told = answered(alloc, &[FOUND], input.as_str(), reads, writes);
+        let told = answered(alloc, &[FOUND], input.as_str(), reads, writes)?;
         assert_eq!(rt; told.result, wanted);
         assert_eq!(rt;
             told.written.as_slice(),
@@ -53,7 +53,7 @@ fn an_unwritten_reply_is_kept(rt: HostRuntime) -> Result<(), Fail> {
     let alloc = rt.alloc();
     let request = posted(alloc, MANIFEST)?;
     let wanted = found(alloc, REPLY)?;
-    let (first, second) = answered_again(alloc, &[FOUND, VEHICLE], request.as_str());
+    let (first, second) = answered_again(alloc, &[FOUND, VEHICLE], request.as_str())?;
     assert_eq!(rt; first.result, fault(Fault::Write, 1, 0));
     assert!(rt; first.written.is_empty());
     assert_eq!(rt; second.result, Ok(Served { requests: 1 }));
@@ -75,7 +75,7 @@ fn each_read_and_write_fails(rt: HostRuntime) -> Result<(), Fail> {
         input.as_str(),
         pieces(400),
         (0, 0),
-    );
+    )?;
     assert_eq!(rt; whole.result, Ok(Served { requests: 4 }));
     for at in 1..6 {
         let told = answered(
@@ -84,7 +84,7 @@ fn each_read_and_write_fails(rt: HostRuntime) -> Result<(), Fail> {
             input.as_str(),
             failing(400, at),
             (0, 0),
-        );
+        )?;
         assert!(rt;
             matches!(&told.result, Err(fault) if fault.cause == Fault::Read && fault.called == fault.answered),
             "{at}"
@@ -104,7 +104,7 @@ fn each_read_and_write_fails(rt: HostRuntime) -> Result<(), Fail> {
             input.as_str(),
             pieces(400),
             (at, 0),
-        );
+        )?;
         // The fourth request is no command.
         assert_eq!(rt;
             told.result,

@@ -64,7 +64,7 @@ fn short_requests(rt: HostRuntime) -> Result<(), Fail> {
     for (input, wanted, requests) in SHORT {
         let text = lines(alloc, input)?;
         for step in [1, 1_000] {
-            let told = answered(alloc, &[FOUND], text.as_str(), pieces(step), (0, 0));
+            let told = answered(alloc, &[FOUND], text.as_str(), pieces(step), (0, 0))?;
             assert_eq!(rt; told.result, Ok(Served { requests }), "{input}");
             assert_eq!(rt;
                 told.written.as_slice(),
@@ -80,7 +80,7 @@ fn short_requests(rt: HostRuntime) -> Result<(), Fail> {
 fn before_the_founding(rt: HostRuntime) -> Result<(), Fail> {
     let alloc = rt.alloc();
     let text = lines(alloc, NO_FILE)?;
-    let told = answered(alloc, &[], text.as_str(), pieces(1_000), (0, 0));
+    let told = answered(alloc, &[], text.as_str(), pieces(1_000), (0, 0))?;
     let wanted = lines(
         alloc,
         "HTTP/1.1 503 Service Unavailable|Content-Type: application/json|Content-Length: 31||{\"error\":8,\"text\":\"NotFounded\"}",
@@ -94,7 +94,7 @@ fn spaces(rt: &impl Abort, alloc: Global, size: usize, wanted: &str) -> Result<(
     let text = posted(alloc, " ".repeat(alloc, size)?.as_str())?;
     let wanted = lines(alloc, wanted)?;
     for step in [1, 1_000_000] {
-        let told = answered(alloc, &[FOUND], text.as_str(), pieces(step), (0, 0));
+        let told = answered(alloc, &[FOUND], text.as_str(), pieces(step), (0, 0))?;
         assert_eq!(rt; told.result, Ok(Served { requests: 1 }));
         assert_eq!(rt; told.written.as_slice(), wanted.as_str().as_bytes());
     }
@@ -122,7 +122,7 @@ fn two_requests_cut_anywhere(rt: HostRuntime) -> Result<(), Fail> {
             step: 1_000,
             fails_at: 0,
         };
-        let told = answered(alloc, &[FOUND], input.as_str(), reads, (0, 0));
+        let told = answered(alloc, &[FOUND], input.as_str(), reads, (0, 0))?;
         assert_eq!(rt; told.result, Ok(Served { requests: 2 }), "{first}");
         assert_eq!(rt;
             told.written.as_slice(),
@@ -145,7 +145,7 @@ fn a_manifest_twice(rt: HostRuntime) -> Result<(), Fail> {
             input.as_str(),
             pieces(step),
             (0, 0),
-        );
+        )?;
         assert_eq!(rt; told.result, Ok(Served { requests: 2 }));
         assert_eq!(rt; told.written.as_slice(), wanted.as_str().as_bytes());
     }
@@ -162,7 +162,7 @@ fn a_hundred_requests(rt: HostRuntime) -> Result<(), Fail> {
         .as_str()
         .replace(alloc, "33\r\n", "33\r\nConnection: close\r\n")?;
     wanted.push_str(last.as_str())?;
-    let told = answered(alloc, &[FOUND], input.as_str(), pieces(1_000), (0, 0));
+    let told = answered(alloc, &[FOUND], input.as_str(), pieces(1_000), (0, 0))?;
     assert_eq!(rt; told.result, Ok(Served { requests: 100 }));
     assert_eq!(rt; told.written.as_slice(), wanted.as_str().as_bytes());
     Ok(())

@@ -24,7 +24,7 @@ fn told(rt: &HostRuntime, text: &str, ends: bool) -> Result<(Option<Served>, Str
 
 /// Serves a connection at a desk with one vehicle.
 fn served(alloc: Global, stream: &TcpStream) -> Option<Served> {
-    let mut desk = desk_after(alloc, &[FOUND, VEHICLE]);
+    let mut desk = desk_after(alloc, &[FOUND, VEHICLE]).ok()?;
     serve_stream(alloc, &mut desk, AT, &mut &*stream, &mut &*stream).ok()
 }
 

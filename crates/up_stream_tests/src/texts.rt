@@ -1,9 +1,11 @@
 //! Desks, requests and replies.
-use std::alloc::Global;
+use sqlite::{Connection, MemStore};
+use std::alloc::{AllocError, Global};
 use std::test::Fail;
 use up_desk::desk::Desk;
 use up_service::script::run_script;
 use up_sign::hmac_sha256::HmacSha256;
+use up_store::store::Store;
 
 /// The moment of all calls: 2026-01-01T00:00:00Z.
 pub(crate) const AT: u64 = 1_767_225_600;
@@ -45,13 +47,24 @@ pub(crate) fn found(alloc: Global, text: &str) -> Result<String, Fail> {
     )?)
 }
 
-/// A desk at which these lines were carried out.
-pub(crate) fn desk_after(alloc: Global, script: &[&str]) -> Desk<HmacSha256> {
-    let mut desk = Desk::new(HmacSha256, alloc);
+/// A desk over memory at which these lines were carried out.
+pub(crate) fn desk_after(
+    alloc: Global,
+    script: &[&str],
+) -> Result<Desk<HmacSha256, MemStore>, AllocError> {
+    let mut desk = new_desk(alloc)?;
     for line in script {
         let mut reader = line.as_bytes();
         let mut written = Vec::new(alloc);
         run_script(alloc, &mut desk, &mut reader, &mut written).ok();
     }
-    desk
+    Ok(desk)
+}
+
+/// A desk over memory at which nothing is founded.
+fn new_desk(alloc: Global) -> Result<Desk<HmacSha256, MemStore>, AllocError> {
+    match Store::create(Connection::open_in_memory(alloc)?) {
+        Ok(store) => Ok(Desk::new(HmacSha256, store)),
+        Err(_) => Err(AllocError),
+    }
 }

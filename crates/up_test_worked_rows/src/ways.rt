@@ -5,8 +5,8 @@ ghost use Rattle.up_machine.specs.Commands.{opens_running};
 ghost use Rattle.up_script.specs.AskedLines.{asks_running};
 
 use crate::commands::commands_of;
-use crate::desks::desk_in_memory;
 use crate::marked::push_line;
+use crate::media::Medium;
 use sqlite::Alter;
 use std::alloc::{AllocError, Global};
 use up_canon::ident::Ident;
@@ -18,29 +18,18 @@ use up_machine::command::Command;
 use up_script::asked::{Asked, What, asked_by};
 use up_script::printed::{answer_text, push_ecu, refused_text, vehicle_text};
 use up_sign::scheme::Scheme;
-use up_store::store::StoreFault;
+use up_store::store::{Store, StoreFault};
 
 /// The answers of one run over the lines, which are commands.
-pub(crate) fn by_run<K: Scheme>(
+pub(crate) fn by_run<K: Scheme, M: Medium>(
     alloc: Global,
-    scheme: K,
+    mut desk: Desk<K, M>,
     lines: &str,
 ) -> Result<String, AllocError> {
-    match commands_of(alloc, &scheme, lines) {
-        Ok(commands) => run_in_memory(alloc, scheme, commands.as_slice()),
+    match commands_of(alloc, desk.scheme(), lines) {
+        Ok(commands) => run_at(alloc, &mut desk, commands.as_slice()),
         Err(refused) => Err(refused),
     }
-}
-
-fn run_in_memory<K: Scheme>(
-    alloc: Global,
-    scheme: K,
-    commands: &[(u64, Command)],
-) -> Result<String, AllocError>
-    requires { AllByRecursion (λ c. IsTrue (opens_running c.1)) commands.now }
-{
-    let mut desk = desk_in_memory(alloc, scheme)?;
-    run_at(alloc, &mut desk, commands)
 }
 
 fn run_at<K: Scheme, D: Alter>(
@@ -74,27 +63,46 @@ fn push_answer(alloc: Global, out: &mut String, answer: &Answer) -> Result<(), A
 }
 
 /// The answers of one call after another, a view by the calls that read.
-pub(crate) fn by_calls<K: Scheme>(
+pub(crate) fn by_calls<K: Scheme, M: Medium>(
     alloc: Global,
-    scheme: K,
-    lines: &str,
-) -> Result<String, AllocError> {
-    let mut desk = desk_in_memory(alloc, scheme)?;
-    called_at(alloc, &mut desk, lines)
-}
-
-fn called_at<K: Scheme, D: Alter>(
-    alloc: Global,
-    desk: &mut Desk<K, D>,
+    mut desk: Desk<K, M>,
     lines: &str,
 ) -> Result<String, AllocError> {
     let mut out = String::new(alloc);
     for line in lines.lines() {
         if !line.is_empty() {
-            push_called(alloc, desk, &mut out, line)?;
+            push_called(alloc, &mut desk, &mut out, line)?;
         }
     }
     Ok(out)
+}
+
+/// The same, where before each line the database is let go of and taken again by another desk.
+pub(crate) fn by_turns<K: Scheme + Copy, M: Medium>(
+    alloc: Global,
+    scheme: K,
+    mut store: Store<M>,
+    lines: &str,
+) -> Result<String, AllocError> {
+    let mut out = String::new(alloc);
+    for line in lines.lines() {
+        if !line.is_empty() {
+            store = turn(alloc, scheme, store, &mut out, line)?;
+        }
+    }
+    Ok(out)
+}
+
+fn turn<K: Scheme, M: Medium>(
+    alloc: Global,
+    scheme: K,
+    store: Store<M>,
+    out: &mut String,
+    line: &str,
+) -> Result<Store<M>, AllocError> {
+    let mut desk = Desk::new(scheme, M::taken_again(alloc, store)?);
+    push_called(alloc, &mut desk, out, line)?;
+    Ok(desk.release())
 }
 
 fn push_called<K: Scheme, D: Alter>(

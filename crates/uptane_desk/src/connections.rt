@@ -1,7 +1,9 @@
 //! Connections, served one after another.
+use sqlite::Alter;
 use std::io;
 use std::io::Read;
 use std::net::{Shutdown, TcpListener, TcpStream};
+use std::process::ExitCode;
 use std::time::{Duration, Instant, SystemTime, UNIX_EPOCH};
 use up_desk::desk::Desk;
 use up_service::Fault;
@@ -17,11 +19,33 @@ const PATIENCE: u64 = 10;
 /// How often what a client still sends is read after its last answer.
 const MOST_READS: u32 = 1_000_000;
 
+/// Answers HTTP at a port of this host, on so many connections.
+pub(crate) fn serve<D: Alter>(
+    rt: &HostRuntime,
+    desk: &mut Desk<HmacSha256, D>,
+    port: u16,
+    count: u32,
+) -> ExitCode {
+    let Ok(listener) = TcpListener::bind(rt, ("127.0.0.1", port)) else {
+        return unheard(rt);
+    };
+    println!(rt; "listening {port}").ok();
+    match serve_all(rt, desk, &listener, count) {
+        Ok(()) => ExitCode::SUCCESS,
+        Err(_) => unheard(rt),
+    }
+}
+
+fn unheard(rt: &HostRuntime) -> ExitCode {
+    eprintln!(rt; "uptane_desk: cannot listen").ok();
+    ExitCode::from(4)
+}
+
 /// Accepts so many connections, one after another, and serves each. A fault of one is told on standard error, and the next
 /// is served.
-pub(crate) fn serve_all(
+fn serve_all<D: Alter>(
     rt: &HostRuntime,
-    desk: &mut Desk<HmacSha256>,
+    desk: &mut Desk<HmacSha256, D>,
     listener: &TcpListener,
     count: u32,
 ) -> io::Result<()> {
@@ -41,9 +65,9 @@ pub(crate) fn serve_all(
 }
 
 /// Answers the requests of a connection, all at the moment at which it was accepted.
-fn serve_one(
+fn serve_one<D: Alter>(
     rt: &HostRuntime,
-    desk: &mut Desk<HmacSha256>,
+    desk: &mut Desk<HmacSha256, D>,
     stream: &TcpStream,
 ) -> Result<(), Fault> {
     let at = seconds(rt);

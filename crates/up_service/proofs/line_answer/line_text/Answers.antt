@@ -11,5 +11,7 @@ returns-in-Err-clause-ok g c = IfOk-weaker c.refused_text.result _ _ (λ t is.
     refused_line (g.K.Scheme.rules c.args.desk.now.scheme) c.args.line.now c.in-Err.refusal (string_bytes t) (state g.D.Store c.args.desk.now.store) c.in-Err.ensures is) c.refused_text.ensures
 
 pub returns-in-Err-clause-err : goal.returns-in-Err-clause-err
-returns-in-Err-clause-err g c = on_err c.refused_text.result (refused_text c.in-Err.refusal,
-    refused_line (g.K.Scheme.rules c.args.desk.now.scheme) c.args.line.now c.in-Err.refusal (refused_text c.in-Err.refusal) (state g.D.Store c.args.desk.now.store) c.in-Err.ensures refl)
+returns-in-Err-clause-err g c = on_err c.refused_text.result (
+  refused_text c.in-Err.refusal,
+  refused_line (g.K.Scheme.rules c.args.desk.now.scheme) c.args.line.now c.in-Err.refusal (refused_text c.in-Err.refusal) (state g.D.Store c.args.desk.now.store) c.in-Err.ensures refl,
+)
