@@ -17,7 +17,8 @@ use Rattle.up_machine.specs.Sound.{IsSound}
 use Rattle.up_machine.specs.State.{State}
 use Rattle.up_tables.specs.Stands.{IfClean}
 use Rattle.up_store.specs.Connections.{KeepsState}
-use Rattle.up_desk.specs.Serving.{DeskView, IsAnswered, RepliesStay, ServesCall, is_store, is_lost_by, is_lost}
+use Rattle.up_desk.specs.Serving.{DeskView, IsAnswered, RepliesStay, is_store, is_lost_by, is_lost}
+use Rattle.up_desk.specs.Calls.{ServesCall}
 use Rattle.up_script.specs.AskedLines.{asked_in}
 use Rattle.up_script.specs.declared.asked.Asked.{Asked}
 use Rattle.up_script.specs.PrintedLines.{answer_text, refused_text}
