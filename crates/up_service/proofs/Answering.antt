@@ -27,7 +27,7 @@ use Rattle.up_heads.specs.declared.check.Check.{Check}
 use Rattle.up_http.specs.declared.asked.What.{What}
 use Rattle.up_http.specs.declared.asked.What.TheVariants.{Fixed}
 use Rattle.up_service.specs.Answers.{served_as, IsLost, IsAnswerOrLost, AnswersAs}
-use Rattle.up_service.specs.LineAnswers.{line_answer, answer_to, carried_out, served, viewed, shown_in, shown_text, told_text, GivesShown, Sees, AnswersLine}
+use Rattle.up_service.specs.LineAnswers.{line_answer, answer_to, carried_out, served, viewed, shown_in, shown_text, Sees, AnswersLine}
 use Rattle.up_service.specs.Responses.{answer_response, AnswersCall, IsResponseTo}
 
 -- ---- what says that memory or the database refused
@@ -130,21 +130,23 @@ asked_line k line asked t old new is h = record {
   answered = λ now s sound was. let it = h.answered now s sound was in (it.0, subst (λ a. IsAnswerOrLost refused_text (answer_to k s a) s t it.0) (sym is) it.1, it.2, it.3);
 }
 
--- a view is told
-pub told_view : {S : Type 0} (bytes : S → List ℕ) (k : Rules) (vehicle : Name) (r : Result S Refusal) (t : List ℕ) (old new : Connected) → Sees (λ s. GivesShown bytes r (shown_in s vehicle)) old new
-    → t ≡ told_text bytes r → AnswersLine (λ s. viewed s vehicle) k t old new
-told_view {S} bytes k vehicle r t old new sees is = record {
+-- a view is told, or its refusal
+pub told_view : (k : Rules) (vehicle : Name) (t : List ℕ) (old new : Connected) → Sees (λ s. shown_in s vehicle ≡ Ok t) old new → AnswersLine (λ s. viewed s vehicle) k t old new
+told_view k vehicle t old new sees = record {
   clean = sees.clean;
-  answered = λ now s sound was. let it = sees.seen now k s was in (s, by_result r s it.0 is, sound, it.1);
+  answered = λ now s sound was. let it = sees.seen now k s was in (s, inl (sym (ap shown_text it.0), refl), sound, it.1);
+}
+
+pub told_refusal : (k : Rules) (vehicle : Name) (r : Refusal) (t : List ℕ) (old new : Connected) → Sees (λ s. MatchBool (is_lost_by r) ⊤ (shown_in s vehicle ≡ Err r)) old new → t ≡ refused_text r
+    → AnswersLine (λ s. viewed s vehicle) k t old new
+told_refusal k vehicle r t old new sees is = record {
+  clean = sees.clean;
+  answered = λ now s sound was. let it = sees.seen now k s was in (s, by_loss_of s (is_lost_by r) refl it.0, sound, it.1);
 }
   where
-    by_loss_of : (refusal : Refusal) (s : State) (b : Bool) → is_lost_by refusal ≡ b → MatchBool b ⊤ (shown_in s vehicle ≡ Err refusal) → t ≡ refused_text refusal → IsAnswerOrLost refused_text (viewed s vehicle) s t s
-    by_loss_of refusal s true same due is = inr (lost_refusal refused_text refusal t same is, refl)
-    by_loss_of refusal s false same due is = inl (is ∙ sym (ap shown_text due), refl)
-
-    by_result : (r : Result S Refusal) → (s : State) → GivesShown bytes r (shown_in s vehicle) → t ≡ told_text bytes r → IsAnswerOrLost refused_text (viewed s vehicle) s t s
-    by_result (Ok text) s due is = inl (is ∙ sym (ap shown_text due), refl)
-    by_result (Err refusal) s due is = by_loss_of refusal s (is_lost_by refusal) refl due is
+    by_loss_of : (s : State) (b : Bool) → is_lost_by r ≡ b → MatchBool b ⊤ (shown_in s vehicle ≡ Err r) → IsAnswerOrLost refused_text (viewed s vehicle) s t s
+    by_loss_of s true same due = inr (lost_refusal refused_text r t same is, refl)
+    by_loss_of s false same due = inl (is ∙ sym (ap shown_text due), refl)
 
 -- a fixed answer leaves the desk as it is
 pub checked : {K D : Type 0} (rules : K → Rules) (g : Ghosts D) (at : ℕ) (desk : DeskView K D) (what : What) (check : Check) (last head : Bool) → what ≡ Fixed check

@@ -19,7 +19,7 @@ use Rattle.up_tables.specs.Stands.{IfClean}
 use Rattle.up_store.specs.Connections.{KeepsState}
 use Rattle.up_desk.specs.Serving.{Reads, Tells, is_lost_by, refusal_told}
 use Rattle.up_script.specs.PrintedLines.{ecu_text, vehicle_text}
-use Rattle.up_service.specs.LineAnswers.{GivesShown, Sees, ecus_text, line_of, shown_in}
+use Rattle.up_service.specs.LineAnswers.{GivesShown, Sees, ecus_text, line_of, shown_in, shown_with}
 
 -- ---- steps
 
@@ -28,6 +28,13 @@ pub seen_by : {A E : Type 0} (f : State → A) (result : Result A E) (old new : 
 seen_by f result old new told reads = record {
   clean = λ now. let before : HasCleanDisk old = omega (arith, reads.survives.clean) in before;
   seen = λ now k s was. (IfOk-weaker result _ _ (λ found is. is k s was) (told now), reads.kept (rows_of_state k s) was now);
+}
+
+-- the database refused
+pub seen_in_fault : (P : State → Type 0) (old new : Connected) → Reads old new → ((s : State) → P s) → Sees P old new
+seen_in_fault P old new reads holds = record {
+  clean = λ now. let before : HasCleanDisk old = omega (arith, reads.survives.clean) in before;
+  seen = λ now k s was. (holds s, reads.kept (rows_of_state k s) was now);
 }
 
 -- one step after another
@@ -49,8 +56,8 @@ sees_none P s holds = record { clean = λ now. now; seen = λ now k q was. (hold
 
 -- ---- what is shown
 
-pub fault_shown : {S : Type 0} (bytes : S → List ℕ) (r : Refusal) (f : StoreFault) (computed : Result (List ℕ) Refusal) → r ≡ refusal_told f → GivesShown bytes (Err r) computed
-fault_shown {S} bytes r f computed is = subst (λ q. MatchBool (is_lost_by q) ⊤ (computed ≡ Err q)) (sym is) (by_fault f)
+pub fault_shown : (r : Refusal) (f : StoreFault) (computed : Result (List ℕ) Refusal) → r ≡ refusal_told f → MatchBool (is_lost_by r) ⊤ (computed ≡ Err r)
+fault_shown r f computed is = subst (λ q. MatchBool (is_lost_by q) ⊤ (computed ≡ Err q)) (sym is) (by_fault f)
   where
     by_fault : (f : StoreFault) → MatchBool (is_lost_by (refusal_told f)) ⊤ (computed ≡ Err (refusal_told f))
     by_fault fault.Memory = tt
@@ -60,32 +67,36 @@ found_then : {S A : Type 0} (bytes : S → List ℕ) (result : Result S Refusal)
 unfolding and_then
 found_then bytes result o f x is h = subst (λ q. GivesShown bytes result (or_error UnknownVehicle q >>= f)) is h
 
-none_then : {S A : Type 0} (bytes : S → List ℕ) (o : Option A) (f : A → Result (List ℕ) Refusal) → None ≡ o → GivesShown bytes (Err UnknownVehicle) (or_error UnknownVehicle o >>= f)
+none_then : {A : Type 0} (o : Option A) (f : A → Result (List ℕ) Refusal) → None ≡ o → or_error UnknownVehicle o >>= f ≡ Err UnknownVehicle
 unfolding and_then
-none_then bytes o f is = subst (λ q. or_error UnknownVehicle q >>= f ≡ Err UnknownVehicle) is refl
+none_then o f is = subst (λ q. or_error UnknownVehicle q >>= f ≡ Err UnknownVehicle) is refl
 
 -- the version is read
 pub version_shown : {S : Type 0} (bytes : S → List ℕ) (result : Result S Refusal) (vehicle : Name) (version : ℕ) (s : State) → Some version ≡ version_of s vehicle
-    → GivesShown bytes result (or_error UnknownVehicle (ecus_of s vehicle) >>= λ ecus. Ok (line_of s vehicle version ecus)) → GivesShown bytes result (shown_in s vehicle)
+    → GivesShown bytes result (shown_with s vehicle version) → GivesShown bytes result (shown_in s vehicle)
 unfolding shown_in
-version_shown bytes result vehicle version s is h = found_then bytes result (version_of s vehicle) (λ v. or_error UnknownVehicle (ecus_of s vehicle) >>= λ ecus. Ok (line_of s vehicle v ecus)) version is h
+version_shown bytes result vehicle version s is h = found_then bytes result (version_of s vehicle) (shown_with s vehicle) version is h
 
-pub no_version : {S : Type 0} (bytes : S → List ℕ) (vehicle : Name) (s : State) → None ≡ version_of s vehicle → GivesShown bytes (Err UnknownVehicle) (shown_in s vehicle)
+pub no_version : (vehicle : Name) (s : State) → None ≡ version_of s vehicle → shown_in s vehicle ≡ Err UnknownVehicle
 unfolding shown_in
-no_version bytes vehicle s is = none_then bytes (version_of s vehicle) (λ v. or_error UnknownVehicle (ecus_of s vehicle) >>= λ ecus. Ok (line_of s vehicle v ecus)) is
+no_version vehicle s is = none_then (version_of s vehicle) (shown_with s vehicle) is
 
 -- the ECUs are read
 pub ecus_shown : {S : Type 0} (bytes : S → List ℕ) (result : Result S Refusal) (vehicle : Name) (version : ℕ) (ecus : List Name) (s : State) → Some ecus ≡ ecus_of s vehicle
-    → GivesShown bytes result (Ok (line_of s vehicle version ecus)) → GivesShown bytes result (or_error UnknownVehicle (ecus_of s vehicle) >>= λ ecus. Ok (line_of s vehicle version ecus))
+    → GivesShown bytes result (Ok (line_of s vehicle version ecus)) → GivesShown bytes result (shown_with s vehicle version)
 ecus_shown bytes result vehicle version ecus s is h = found_then bytes result (ecus_of s vehicle) (λ ecus. Ok (line_of s vehicle version ecus)) ecus is h
 
-pub no_ecus : {S : Type 0} (bytes : S → List ℕ) (vehicle : Name) (version : ℕ) (s : State) → None ≡ ecus_of s vehicle → GivesShown bytes (Err UnknownVehicle) (or_error UnknownVehicle (ecus_of s vehicle) >>= λ ecus. Ok (line_of s vehicle version ecus))
-no_ecus bytes vehicle version s is = none_then bytes (ecus_of s vehicle) (λ ecus. Ok (line_of s vehicle version ecus)) is
+pub no_ecus : (vehicle : Name) (version : ℕ) (s : State) → None ≡ ecus_of s vehicle → shown_with s vehicle version ≡ Err UnknownVehicle
+no_ecus vehicle version s is = none_then (ecus_of s vehicle) (λ ecus. Ok (line_of s vehicle version ecus)) is
 
 -- the plan is read
 pub plan_shown : {S : Type 0} (bytes : S → List ℕ) (result : Result S Refusal) (vehicle : Name) (version : ℕ) (ecus : List Name) (plan : Option Plan) (s : State) → plan ≡ assigned_to s vehicle
     → GivesShown bytes result (Ok (vehicle_text vehicle version ++ ecus_text s plan ecus)) → GivesShown bytes result (Ok (line_of s vehicle version ecus))
 plan_shown bytes result vehicle version ecus plan s is h = subst (λ p. GivesShown bytes result (Ok (vehicle_text vehicle version ++ ecus_text s p ecus))) is h
+
+-- a text that was made
+pub as_shown : {S : Type 0} (bytes : S → List ℕ) (out : S) (text : List ℕ) → bytes out ≡ text → GivesShown bytes (Ok out) (Ok text)
+as_shown bytes out text is = sym (ap (λ t. Ok t) is)
 
 -- ---- the ECUs
 

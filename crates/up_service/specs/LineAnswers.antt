@@ -32,11 +32,16 @@ ecus_text s plan ecus = flat_map (λ ecu. ecu_text plan ecu (installed s ecu)) e
 abbrev pub line_of : State → Name → ℕ → List Name → List ℕ
 line_of s vehicle version ecus = vehicle_text vehicle version ++ ecus_text s (assigned_to s vehicle) ecus
 
+-- that of a vehicle of this version
+abbrev pub shown_with : State → Name → ℕ → Result (List ℕ) Refusal
+shown_with s vehicle version = do
+  ecus ← or_error UnknownVehicle (ecus_of s vehicle)
+  Ok (line_of s vehicle version ecus)
+
 unfoldable pub shown_in : State → Name → Result (List ℕ) Refusal
 shown_in s vehicle = do
   version ← or_error UnknownVehicle (version_of s vehicle)
-  ecus ← or_error UnknownVehicle (ecus_of s vehicle)
-  Ok (line_of s vehicle version ecus)
+  shown_with s vehicle version
 
 -- the line, or the refusal that is due, unless memory or the database refused
 abbrev pub GivesShown : {S : Type 0} → (S → List ℕ) → Result S Refusal → Result (List ℕ) Refusal → Type 0
@@ -44,10 +49,6 @@ GivesShown bytes (Ok text) computed = computed ≡ Ok (bytes text)
 GivesShown bytes (Err r) computed = MatchBool (is_lost_by r) ⊤ (computed ≡ Err r)
 
 -- the text that is told of it
-abbrev pub told_text : {S : Type 0} → (S → List ℕ) → Result S Refusal → List ℕ
-told_text bytes (Ok text) = bytes text
-told_text bytes (Err r) = refused_text r
-
 abbrev pub shown_text : Result (List ℕ) Refusal → List ℕ
 shown_text (Ok text) = text
 shown_text (Err r) = refused_text r

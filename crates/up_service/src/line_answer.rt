@@ -1,5 +1,5 @@
 //! The answer to a line of a script.
-ghost use Rattle.std.specs.Prelude.{◌≡◌, ◌×◌, List, ℕ, IsTrue, IfOk, OnErr, string_bytes};
+ghost use Rattle.std.specs.Prelude.{◌≡◌, List, ℕ, IsTrue, IfOk, OnErr, string_bytes};
 ghost use Rattle.sqlite.specs.Held.{state};
 ghost use Rattle.up_machine.specs.Commands.{opens_running};
 ghost use Rattle.up_script.specs.AskedLines.{asks_running};
@@ -31,8 +31,10 @@ impl<K: Scheme, D: Alter> Answer<Desk<K, D>> for Scripter {
         desk: &mut Desk<K, D>,
         line: &[u8],
     ) -> Result<Vec<u8>, AllocError> {
-        let text = line_text(alloc, desk, line)?;
-        Ok(text.into_bytes())
+        match line_text(alloc, desk, line) {
+            Ok(text) => Ok(text.into_bytes()),
+            Err(refused) => Err(refused),
+        }
     }
 }
 

@@ -1,11 +1,9 @@
 //! Views of a vehicle.
 ghost use Rattle.std.specs.Prelude.{◌≡◌, ◌++◌, Ok, OnOk, string_bytes};
 ghost use Rattle.sqlite.specs.Held.{state};
-ghost use Rattle.up_canon.specs.Steps.{◌>>=◌, or_error};
-ghost use Rattle.up_canon.specs.declared.refusal.Refusal.TheVariants.{UnknownVehicle};
-ghost use Rattle.up_machine.specs.Reads.{ecus_of, installed as installed_in};
+ghost use Rattle.up_machine.specs.Reads.{installed as installed_in};
 ghost use Rattle.up_script.specs.PrintedLines.{ecu_text, vehicle_text as vehicle_text_of};
-ghost use Rattle.up_service.specs.LineAnswers.{GivesShown, Sees, ecus_text, line_of, shown_in};
+ghost use Rattle.up_service.specs.LineAnswers.{GivesShown, Sees, ecus_text, line_of, shown_in, shown_with as shown_with_of};
 
 use sqlite::Alter;
 use std::alloc::Global;
@@ -13,6 +11,7 @@ use up_canon::ident::Ident;
 use up_canon::refusal::Refusal;
 use up_desk::desk::Desk;
 use up_desk::lost::refusal_of;
+use up_manifest::report::Installed;
 use up_plan::assigned::Plan;
 use up_script::printed::{push_ecu, vehicle_text};
 use up_sign::scheme::Scheme;
@@ -41,7 +40,7 @@ fn shown_with<K: Scheme, D: Alter>(
     vehicle: &Ident,
     version: u64,
 ) -> Result<String, Refusal>
-    ensures sees { Sees (λ s. GivesShown string_bytes result (or_error UnknownVehicle (ecus_of s vehicle.now) >>= λ ecus. Ok (line_of s vehicle.now version ecus)))
+    ensures sees { Sees (λ s. GivesShown string_bytes result (shown_with_of s vehicle.now version))
         (state D.Store desk.old.store) (state D.Store desk.new.store) }
     ensures scheme { desk.new.scheme ≡ desk.old.scheme }
 {
@@ -83,7 +82,24 @@ fn shown_plan<K: Scheme, D: Alter>(
         (state D.Store desk.old.store) (state D.Store desk.new.store) }
     ensures scheme { desk.new.scheme ≡ desk.old.scheme }
 {
-    let mut out = vehicle_text(alloc, vehicle, version)?;
+    match vehicle_text(alloc, vehicle, version) {
+        Ok(out) => shown_behind(alloc, desk, out, plan, ecus),
+        Err(_) => Err(Refusal::Memory),
+    }
+}
+
+/// A line's beginning, and the ECUs behind it.
+fn shown_behind<K: Scheme, D: Alter>(
+    alloc: Global,
+    desk: &mut Desk<K, D>,
+    mut out: String,
+    plan: &Option<Plan>,
+    ecus: &[Ident],
+) -> Result<String, Refusal>
+    ensures sees { Sees (λ s. GivesShown string_bytes result (Ok (string_bytes out ++ ecus_text s plan.now ecus.now)))
+        (state D.Store desk.old.store) (state D.Store desk.new.store) }
+    ensures scheme { desk.new.scheme ≡ desk.old.scheme }
+{
     match push_ecus(alloc, desk, &mut out, plan, ecus) {
         Ok(()) => Ok(out),
         Err(fault) => Err(refusal_of(fault)),
@@ -103,7 +119,10 @@ fn push_ecus<K: Scheme, D: Alter>(
     ensures scheme { desk.new.scheme ≡ desk.old.scheme }
 {
     for ecu in ecus {
-        push_seen(alloc, desk, out, plan, ecu)?;
+        match push_seen(alloc, desk, out, plan, ecu) {
+            Ok(()) => {}
+            Err(fault) => return Err(fault),
+        }
     }
     Ok(())
 }
@@ -120,7 +139,21 @@ fn push_seen<K: Scheme, D: Alter>(
     ensures scheme { desk.new.scheme ≡ desk.old.scheme }
 {
     match desk.installed(alloc, ecu) {
-        Ok(installed) => Ok(push_ecu(out, plan, ecu, &installed)?),
+        Ok(installed) => push_found(out, plan, ecu, &installed),
         Err(fault) => Err(fault),
+    }
+}
+
+fn push_found(
+    out: &mut String,
+    plan: &Option<Plan>,
+    ecu: &Ident,
+    installed: &Option<Installed>,
+) -> Result<(), StoreFault>
+    ensures { OnOk result (string_bytes out.new ≡ string_bytes out.old ++ ecu_text plan.now ecu.now installed.now) }
+{
+    match push_ecu(out, plan, ecu, installed) {
+        Ok(()) => Ok(()),
+        Err(_) => Err(StoreFault::Memory),
     }
 }
