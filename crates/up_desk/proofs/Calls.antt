@@ -16,7 +16,7 @@ use Rattle.up_machine.specs.State.{State}
 use Rattle.up_tables.specs.Stands.{IfClean}
 use Rattle.up_store.specs.Connections.{KeepsState}
 use Rattle.up_desk.specs.Serving.{HoldsState, told, served, outright, Serves}
-use Rattle.up_desk.specs.Calls.{IsServed, ServesCall, SparesCall, CommitsCall}
+use Rattle.up_desk.specs.Calls.{ServesCall, SparesCall, CommitsCall}
 use Rattle.up_desk.proofs.Serving.{answered, crashed, committed, clean_once, told_outright}
 use Rattle.up_desk.proofs.Outlasting.{answered_stays}
 

@@ -1,7 +1,7 @@
 -- What is decided fits the rows that are kept, and takes them to those of the next state.
-use Rattle.std.proofs.Common.{◌≡◌, ℕ, zero, suc, ◌+◌, ◌-◌, ◌≤◌, List, [], ◌∷◌, ◌++◌, Bool, true, false, cond, Option, Some, None, Result, Ok, refl, sym, ap, ap₂, ◌∙◌, subst, map, length, arith}
-use Rattle.std.specs.Prelude.{◌==◌, ◌&&◌, option_map, nat_le, is_none, slice_get}
-use Rattle.std.specs.List.{enumerate_from, AllByRecursion, list_all}
+use Rattle.std.proofs.Common.{◌≡◌, ℕ, zero, suc, ◌+◌, ◌-◌, List, [], ◌∷◌, ◌++◌, Bool, true, false, cond, Option, Some, None, Result, Ok, refl, sym, ap, ◌∙◌, subst, map, length}
+use Rattle.std.specs.Prelude.{◌==◌, option_map, nat_le, is_none, slice_get}
+use Rattle.std.specs.List.{enumerate_from, list_all}
 use Rattle.std.specs.FinMap as table
 use Rattle.std.proofs.lemmas.List.{length-append}
 use Rattle.std.proofs.lemmas.Bool.{leb-true}
@@ -29,12 +29,12 @@ use Rattle.up_machine.specs.Sound.{IsSound}
 use Rattle.up_machine.specs.Deciding.{Outcome, done}
 use Rattle.up_machine.specs.Decisions.{IsDone, HasRootRows, HasRegisterRows, HasAcceptedRows}
 use Rattle.up_machine.specs.Deliveries.{with_entry}
-use Rattle.up_machine.specs.Inventory.{with_campaign, closed, decide_open, with_vehicle, decide_vehicle}
+use Rattle.up_machine.specs.Inventory.{with_campaign, decide_open, with_vehicle, decide_vehicle}
 use Rattle.up_machine.specs.Repositories.{stamped, with_root, with_image, decide_found, decide_rotate, decide_image, decide_refresh}
-use Rattle.up_machine.specs.Rows.{founding_row, ecu_row, rows_of, vehicle_rows, reply_kept}
+use Rattle.up_machine.specs.Rows.{ecu_row, rows_of, reply_kept}
 use Rattle.up_machine.proofs.Decided.{found_ok, rotate_ok}
 use Rattle.up_machine.proofs.Lists.{and_left, and_right}
-use Rattle.up_rows.specs.StateRows.{StateRows, rows_of_state, root_row, root_rows, ecu_of}
+use Rattle.up_rows.specs.StateRows.{rows_of_state, root_row, ecu_of}
 use Rattle.up_rows.specs.Changes.{with_root_rows, with_register_rows, with_image_rows, with_vehicle_rows, with_campaign_row, with_accepted_rows}
 use Rattle.up_rows.specs.Laws.{VehiclesAreFound, RootsAreAdded, FilesAreReplaced, ImagesAreAdded, VehiclesAreAdded, CampaignsAreWritten, ManifestsAreAdded}
 use Rattle.up_rows.specs.Fitting.{NewImagesAreNew, NewVehiclesAreNew, NewCampaignsAreNew}
@@ -96,10 +96,11 @@ last_root : (k : Rules) (s : State) (roots : List Root) (version stamp : ℕ) (f
 last_root k s roots version stamp f None there is = cc
 last_root k s roots version stamp f (Some root) there is =
     let same : row_with roots version stamp root ≡ f = cc in
-    let size : length (map (λ (r : ℕ × Root). root_row k s r.0 r.1) (enumerate_from 1 roots)) ≡ length roots = counted (root_row k s) 1 roots in
-    (sym (ap (λ (g : Founding). g.root) same) ∙ sym size,
-    ap (λ n. option_map (λ r. r.keys) (slice_get (map (λ (r : ℕ × Root). root_row k s r.0 r.1) (enumerate_from 1 roots)) (n - 1))) size
-    ∙ keys_at k s 1 roots (length roots - 1) ∙ ap (option_map (λ (r : Root). r.keys)) (nth_there roots (length roots) root there) ∙ ap (λ (g : Founding). Some g.keys) same)
+    let size : length (map (λ (r : ℕ × Root). root_row k s r.0 r.1) (enumerate_from 1 roots)) ≡ length roots = counted (root_row k s) 1 roots in (
+      sym (ap (λ (g : Founding). g.root) same) ∙ sym size,
+      ap (λ n. option_map (λ r. r.keys) (slice_get (map (λ (r : ℕ × Root). root_row k s r.0 r.1) (enumerate_from 1 roots)) (n - 1))) size
+          ∙ keys_at k s 1 roots (length roots - 1) ∙ ap (option_map (λ (r : Root). r.keys)) (nth_there roots (length roots) root there) ∙ ap (λ (g : Founding). Some g.keys) same,
+    )
 
 pub refreshing_fits : (k : Rules) (s : State) (at version : ℕ) (new : RegisterRows) → IsSound k s → FilesAreReplaced
     → IsDone (HasRegisterRows k (stamped s at version)) (stamped s at version) new (decide_refresh s at version)
@@ -150,7 +151,7 @@ next_root k s at version keys new fits has =
     let root : Root = record { keys = keys; at = at } in
     let roots : List Root = s.roots ++ root ∷ [] in
     let is : new.founding ≡ row_with roots version at root = one_value (option_map (row_with roots version at) (nth roots (length roots))) new.founding (row_with roots version at root) has.founding
-        (ap (option_map (row_with roots version at)) (nth_last s.roots root)) in
+    (ap (option_map (row_with roots version at)) (nth_last s.roots root)) in
     record {
       number = ap (λ (f : Founding). f.root) is ∙ length-append s.roots (root ∷ []) ∙ ap (λ n. n + 1) (sym (counted (root_row k s) 1 s.roots));
       keys = subst EachHasKeys (sym (ap (λ (f : Founding). f.keys) is)) (each_has_keys k keys fits);

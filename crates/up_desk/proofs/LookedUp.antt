@@ -1,5 +1,5 @@
 -- Images that are looked up one after another.
-use Rattle.std.proofs.Common.{◌≡◌, ℕ, List, [], ◌∷◌, ◌++◌, Bool, true, false, cond, Option, Some, None, map, refl, sym, ap, ◌∙◌, subst}
+use Rattle.std.proofs.Common.{◌≡◌, List, [], ◌∷◌, ◌++◌, Bool, true, false, cond, Option, Some, None, map, refl, sym, ap, ◌∙◌, subst}
 use Rattle.std.specs.Prelude.{◌&&◌, filter, flat_map}
 use Rattle.std.specs.List.{AllByRecursion}
 use Rattle.std.specs.FinMap as table
@@ -8,13 +8,12 @@ use Rattle.std.specs.Ordering.{nat_cmp, eq_by_cmp}
 use Rattle.std.specs.Cmp.Lexicographic.{slice_cmp}
 use Rattle.up_canon.specs.Names.{Name, Table}
 use Rattle.up_sign.specs.Schemes.{Rules}
-use Rattle.up_manifest.specs.declared.manifest.Manifest.{Manifest}
 use Rattle.up_manifest.specs.declared.report.SignedReport.{SignedReport}
 use Rattle.up_plan.specs.declared.campaign.Item.{Item}
 use Rattle.up_plan.specs.Campaigns.{CampaignData}
 use Rattle.up_plan.specs.Images.{ImageData}
 use Rattle.up_plan.specs.Planning.{items_for, reaches}
-use Rattle.up_machine.specs.Decisions.{AreImagesOf, files_named, Knows, named_in}
+use Rattle.up_machine.specs.Decisions.{AreImagesOf, files_named}
 use Rattle.up_machine.specs.State.{State}
 use Rattle.up_machine.specs.Sound.{IsSound}
 use Rattle.up_machine.proofs.Tables.{get_new, get_same, get_after-insert, one_name}
@@ -65,9 +64,10 @@ stays_gathered registered (file ∷ files) images other has =
 all_gathered : (registered : Table ImageData) (files : List Name) (images : Table ImageData) → IsPart registered images → AllByRecursion (Has registered (gathered registered files images)) files
 all_gathered registered [] images part = tt
 all_gathered registered (file ∷ files) images part =
-    let more = with_found registered images file in
-    (stays_gathered registered files more file (has_found registered images file (table.get registered file) refl part),
-    all_gathered registered files more (part_found registered images file (table.get registered file) refl part))
+    let more = with_found registered images file in (
+      stays_gathered registered files more file (has_found registered images file (table.get registered file) refl part),
+      all_gathered registered files more (part_found registered images file (table.get registered file) refl part),
+    )
 
 none_part : (registered : Table ImageData) → IsPart registered table.empty
 none_part registered file image found = absurd (let e = sym (get-empty (slice_cmp nat_cmp) file) ∙ found in cc)

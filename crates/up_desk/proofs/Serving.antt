@@ -34,7 +34,7 @@ use Rattle.up_machine.specs.RepeatLaws.{ServedStaysSound}
 use Rattle.sqlite.specs.State.{State as Connected, HasCleanDisk, Survives}
 use Rattle.up_tables.specs.Stands.{IfClean, LeavesOnly}
 use Rattle.up_store.specs.Connections.{KeepsState}
-use Rattle.up_desk.specs.Serving.{is_store, is_lost_by, is_lost, IsAnswered, RepliesStay, told, served, outright_in_time, outright, HoldsState, Leaves, IsCommit, Serves, Reads}
+use Rattle.up_desk.specs.Serving.{is_store, is_lost_by, is_lost, IsAnswered, told, served, outright_in_time, outright, HoldsState, Leaves, IsCommit, Serves}
 
 -- ---- the moment
 

@@ -1,6 +1,6 @@
 -- What is read of the rows of a state is the state's.
-use Rattle.std.proofs.Common.{◌≡◌, ℕ, List, [], ◌∷◌, ◌++◌, Bool, true, false, cond, T, Option, Some, None, Result, Ok, Err, map, refl, sym, ap, ap₂, ◌∙◌, subst}
-use Rattle.std.specs.Prelude.{◌||◌, ◌&&◌, is_some, option_map, option_and_then, unwrap_or, find, filter, flat_map, bytes_eq}
+use Rattle.std.proofs.Common.{◌≡◌, List, [], ◌∷◌, Bool, true, false, cond, T, Option, Some, None, map, refl, sym, ap, ap₂, ◌∙◌, subst}
+use Rattle.std.specs.Prelude.{◌||◌, ◌&&◌, is_some, option_map, option_and_then, unwrap_or, find, filter, flat_map}
 use Rattle.std.specs.List.{list_any, AllByRecursion}
 use Rattle.std.specs.FinMap as table
 use Rattle.std.specs.FinMap.Entries.{below_all, is_sorted}
@@ -11,7 +11,7 @@ use Rattle.std.specs.declared.cmp.Ordering.TheVariants.{Less, Equal, Greater}
 use Rattle.std.specs.Cmp.{tied_itself}
 use Rattle.std.proofs.lemmas.Cmp.{nat_list_cmp_total}
 use Rattle.std.specs.Cmp.Lexicographic.{slice_cmp}
-use Rattle.up_canon.specs.Names.{Name, Table}
+use Rattle.up_canon.specs.Names.{Name}
 use Rattle.up_sign.specs.Schemes.{Rules}
 use Rattle.up_machine.specs.declared.rows.EcuRow.{EcuRow}
 use Rattle.up_machine.specs.declared.rows.VehicleRow.{VehicleRow}
@@ -25,8 +25,8 @@ use Rattle.up_plan.specs.Campaigns.{CampaignData}
 use Rattle.up_plan.specs.Planning.{items_for, reaches}
 use Rattle.up_rows.proofs.Tables.{changed, entries_changed}
 use Rattle.up_rows.specs.StateRows.{StateRows, rows_of_state}
-use Rattle.up_rows.specs.Lookups.{stands_among, has_ecu_row, owner_among, installed_among, version_told, ecus_told, plan_told, latest_kept}
-use Rattle.up_rows.specs.Laws.{VehiclesAreFound, OwnersAreFound, VersionsAreTold, EcusAreTold, InstalledIsTold, AssignedIsTold}
+use Rattle.up_rows.specs.Lookups.{stands_among, owner_among, installed_among}
+use Rattle.up_rows.specs.Laws.{VehiclesAreFound, OwnersAreFound, VersionsAreTold, EcusAreTold, InstalledIsTold}
 use Rattle.up_store.specs.Found.{vehicle_found, ecus_found, owner_found, campaigns_found}
 
 -- ---- vehicles

@@ -15,9 +15,9 @@ ghost use Rattle.up_tables.specs.Stands.{IfClean};
 ghost use Rattle.up_desk.specs.Serving.{GivesOrLost, Reads, Serves, Tells};
 ghost use Rattle.up_desk.specs.Gathered.{gathered, item_files};
 
+use crate::images::images_of;
 use crate::lost::{done_of, refusal_of};
 use crate::reading::is_founded;
-use crate::images::images_of;
 use sqlite::Alter;
 use std::alloc::Global;
 use up_canon::ident::Ident;
@@ -158,11 +158,7 @@ fn names_in(reach: &Reach) -> &[Ident]
 }
 
 /// Whether the vehicle is in the inventory.
-fn is_known<D: Alter>(
-    store: &mut Store<D>,
-    alloc: Global,
-    name: &Ident,
-) -> Result<bool, StoreFault>
+fn is_known<D: Alter>(store: &mut Store<D>, alloc: Global, name: &Ident) -> Result<bool, StoreFault>
     ensures told { Tells (λ k s. table.contains_key s.vehicles name.now) (state D.Store store.old) (state D.Store store.new) result }
     ensures reads { Reads (state D.Store store.old) (state D.Store store.new) }
 {

@@ -89,11 +89,7 @@ pub fn installed_on<D: Alter>(
 }
 
 /// The image in the row of the ECU.
-fn image_among(
-    alloc: Global,
-    rows: &[EcuRow],
-    ecu: &Ident,
-) -> Result<Option<Installed>, StoreFault>
+fn image_among(alloc: Global, rows: &[EcuRow], ecu: &Ident) -> Result<Option<Installed>, StoreFault>
     ensures { IfOk result (λ found. found ≡ installed_among ecu.now rows.now) }
 {
     Ok(image_of(alloc, row_of(rows, ecu))?)

@@ -94,6 +94,10 @@ pub plan_shown : {S : Type 0} (bytes : S → List ℕ) (result : Result S Refusa
     → GivesShown bytes result (Ok (vehicle_text vehicle version ++ ecus_text s plan ecus)) → GivesShown bytes result (Ok (line_of s vehicle version ecus))
 plan_shown bytes result vehicle version ecus plan s is h = subst (λ p. GivesShown bytes result (Ok (vehicle_text vehicle version ++ ecus_text s p ecus))) is h
 
+-- the line's beginning is made
+pub begun_shown : {S : Type 0} (bytes : S → List ℕ) (result : Result S Refusal) (out begun behind : List ℕ) → out ≡ begun → GivesShown bytes result (Ok (out ++ behind)) → GivesShown bytes result (Ok (begun ++ behind))
+begun_shown bytes result out begun behind is h = subst (λ t. GivesShown bytes result (Ok (t ++ behind))) is h
+
 -- a text that was made
 pub as_shown : {S : Type 0} (bytes : S → List ℕ) (out : S) (text : List ℕ) → bytes out ≡ text → GivesShown bytes (Ok out) (Ok text)
 as_shown bytes out text is = sym (ap (λ t. Ok t) is)

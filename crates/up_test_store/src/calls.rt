@@ -79,11 +79,7 @@ fn fault_of(error: Error) -> StoreFault {
     }
 }
 
-fn run<S: Alter>(
-    alloc: Global,
-    conn: &mut Connection<S>,
-    sql: &str,
-) -> Result<String, StoreFault> {
+fn run<S: Alter>(alloc: Global, conn: &mut Connection<S>, sql: &str) -> Result<String, StoreFault> {
     match conn.execute(sql, &[]) {
         Ok(_) => Ok("done".to_string(alloc)?),
         Err(error) => Err(fault_of(error)),
@@ -91,11 +87,7 @@ fn run<S: Alter>(
 }
 
 /// The rows of a query: a column ends with a space, and a row with a semicolon.
-fn ask<S: Alter>(
-    alloc: Global,
-    conn: &mut Connection<S>,
-    sql: &str,
-) -> Result<String, StoreFault> {
+fn ask<S: Alter>(alloc: Global, conn: &mut Connection<S>, sql: &str) -> Result<String, StoreFault> {
     match conn.query_all(sql, &[]) {
         Ok(rows) => Ok(rows_text(alloc, rows.as_slice())?),
         Err(error) => Err(fault_of(error)),

@@ -77,7 +77,12 @@ fn texts(alloc: Global, word: &str) -> Result<RoleTexts, StoreFault> {
     })
 }
 
-fn founding(alloc: Global, root: u64, image_version: u64, stamp: u64) -> Result<Founding, StoreFault> {
+fn founding(
+    alloc: Global,
+    root: u64,
+    image_version: u64,
+    stamp: u64,
+) -> Result<Founding, StoreFault> {
     let first = if root == 1 { 1 } else { 101 };
     Ok(Founding {
         root,
@@ -99,7 +104,11 @@ pub(crate) fn root_rows(alloc: Global, root: u64, word: &str) -> Result<RootRows
     })
 }
 
-pub(crate) fn register_rows(alloc: Global, version: u64, word: &str) -> Result<RegisterRows, StoreFault> {
+pub(crate) fn register_rows(
+    alloc: Global,
+    version: u64,
+    word: &str,
+) -> Result<RegisterRows, StoreFault> {
     Ok(RegisterRows {
         founding: founding(alloc, 2, version, 2000)?,
         files: texts(alloc, word)?,
@@ -205,7 +214,11 @@ pub(crate) fn campaign(alloc: Global, name: &str, names: &str) -> Result<Campaig
     }
 }
 
-pub(crate) fn accepted(alloc: Global, name: &str, version: u64) -> Result<AcceptedRows, StoreFault> {
+pub(crate) fn accepted(
+    alloc: Global,
+    name: &str,
+    version: u64,
+) -> Result<AcceptedRows, StoreFault> {
     let first = format!(in alloc; "b-{name}")?;
     let assigned = vec![in alloc;
         Assigned {

@@ -102,11 +102,7 @@ fn push_bytes(alloc: Global, out: &mut String, bytes: &[u8]) -> Result<(), Alloc
     Ok(())
 }
 
-fn file<S: Alter>(
-    alloc: Global,
-    store: &mut Store<S>,
-    given: &str,
-) -> Result<String, StoreFault> {
+fn file<S: Alter>(alloc: Global, store: &mut Store<S>, given: &str) -> Result<String, StoreFault> {
     match given.split_once(' ') {
         Some(("director", name)) => file_of(alloc, store, Repository::Director, name),
         Some(("image", name)) => file_of(alloc, store, Repository::Image, name),
@@ -130,11 +126,7 @@ fn file_of<S: Alter>(
 
 // ---- images
 
-fn image<S: Alter>(
-    alloc: Global,
-    store: &mut Store<S>,
-    name: &str,
-) -> Result<String, StoreFault> {
+fn image<S: Alter>(alloc: Global, store: &mut Store<S>, name: &str) -> Result<String, StoreFault> {
     let name = file_name(alloc, name)?;
     image_of(alloc, store, &name)
 }
@@ -308,11 +300,7 @@ fn push_ecu(alloc: Global, out: &mut String, row: &EcuRow) -> Result<(), AllocEr
     out.push_str(text.as_str())
 }
 
-fn owner<S: Alter>(
-    alloc: Global,
-    store: &mut Store<S>,
-    ecu: &Ident,
-) -> Result<String, StoreFault> {
+fn owner<S: Alter>(alloc: Global, store: &mut Store<S>, ecu: &Ident) -> Result<String, StoreFault> {
     match store.ecu_owner(alloc, ecu) {
         Ok(Some(vehicle)) => Ok(vehicle.text().to_string(alloc)?),
         Ok(None) => none(alloc),
@@ -322,11 +310,7 @@ fn owner<S: Alter>(
 
 // ---- accepted manifests
 
-fn kept<S: Alter>(
-    alloc: Global,
-    store: &mut Store<S>,
-    given: &str,
-) -> Result<String, StoreFault> {
+fn kept<S: Alter>(alloc: Global, store: &mut Store<S>, given: &str) -> Result<String, StoreFault> {
     let (vehicle, counter) = given.split_once(' ').unwrap_or((given, ""));
     let vehicle = ident(alloc, vehicle)?;
     match counter.parse::<u64>() {
@@ -343,10 +327,7 @@ fn latest<S: Alter>(
     kept_text(alloc, store.latest(alloc, vehicle))
 }
 
-fn kept_text(
-    alloc: Global,
-    found: Result<Option<Kept>, StoreFault>,
-) -> Result<String, StoreFault> {
+fn kept_text(alloc: Global, found: Result<Option<Kept>, StoreFault>) -> Result<String, StoreFault> {
     match found {
         Ok(Some(row)) => Ok(row_text(alloc, &row)?),
         Ok(None) => none(alloc),
@@ -357,9 +338,7 @@ fn kept_text(
 fn row_text(alloc: Global, row: &Kept) -> Result<String, AllocError> {
     let (vehicle, signed, reply) = (row.vehicle.text(), row.signed.as_str(), row.reply.as_str());
     let (counter, version, at, root) = (row.counter.get(), row.version, row.at.get(), row.root);
-    let mut out = format!(in alloc;
-        "{vehicle} {counter} {version} {at} {root} {signed} {reply}"
-    )?;
+    let mut out = format!(in alloc; "{vehicle} {counter} {version} {at} {root} {signed} {reply}")?;
     push_plan(&mut out, &row.plan)?;
     Ok(out)
 }

@@ -1,6 +1,5 @@
 use Rattle.std.proofs.Common.{◌∙◌}
 use Rattle.sqlite.specs.Held.{state}
-use Rattle.up_machine.specs.Decisions.{GivesFile}
 use Rattle.up_rows.specs.StateRows.{rows_of_state}
 use Rattle.up_desk.proofs.Steps.{clean_before, file_or_lost, keeps_after, lost_told, reads_then, store_reads}
 use Rattle.up_desk.proofs.files.read_file.Goals as goal

@@ -1,9 +1,5 @@
-use Rattle.std.proofs.Common.{◌+◌}
 use Rattle.sqlite.specs.Held.{state}
-use Rattle.up_machine.specs.Decisions.{GivesRows, GivesDecision, HasRootRows, HasRegisterRows}
-use Rattle.up_machine.specs.Repositories.{stamped, with_root, with_image}
-use Rattle.up_rows.specs.StateRows.{rows_of_state}
-use Rattle.up_desk.proofs.Steps.{clean_before, keeps_after, lost_told, reads_then, store_reads}
+use Rattle.up_desk.proofs.Steps.{clean_before, keeps_after, lost_told, reads_then}
 use Rattle.up_desk.proofs.register.decide_adding.Goals as goal
 
 pub returns-in-Ok-clause-decided : goal.returns-in-Ok-clause-decided

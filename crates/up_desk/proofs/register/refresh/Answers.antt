@@ -1,4 +1,4 @@
-use Rattle.std.proofs.Common.{◌≡◌, refl, sym, subst}
+use Rattle.std.proofs.Common.{refl, sym, subst}
 use Rattle.sqlite.specs.Held.{state}
 use Rattle.up_machine.specs.declared.answer.Answer.TheVariants.{Done}
 use Rattle.up_machine.specs.Repositories.{decide_refresh}

@@ -1,7 +1,6 @@
-use Rattle.std.proofs.Common.{◌+◌}
 use Rattle.sqlite.specs.Held.{state}
-use Rattle.up_machine.specs.Decisions.{GivesRows, GivesDecision, HasRootRows, HasRegisterRows}
-use Rattle.up_machine.specs.Repositories.{stamped, with_root, with_image}
+use Rattle.up_machine.specs.Decisions.{GivesRows, HasRootRows}
+use Rattle.up_machine.specs.Repositories.{stamped, with_root}
 use Rattle.up_rows.specs.StateRows.{rows_of_state}
 use Rattle.up_desk.proofs.Steps.{gives_or_lost, lost_told, store_reads}
 use Rattle.up_desk.proofs.roots.decide_founding_after.Goals as goal

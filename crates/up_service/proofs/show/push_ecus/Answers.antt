@@ -9,7 +9,7 @@ use Rattle.up_service.proofs.show.push_ecus.Goals as goal
 pub loop-ecu-preserved : goal.loop-ecu-preserved
 loop-ecu-preserved g c = record {
   sees = sees_then _ _ _ (state g.D.Store c.args.desk.now.store) (state g.D.Store c.loop-ecu.desk.store) (state g.D.Store c.push_seen.new.desk.store) c.loop-ecu.invariant.sees c.in-Ok.ensures.sees
-      (λ s so_far pushed. ecu_more s c.args.plan.now c.args.ecus.now c.loop-ecu.ecu-index _ _ _ _ c.loop-ecu-test.true c.item-ecu.is so_far pushed);
+      (λ s so_far pushed. ecu_more s c.args.plan.now c.args.ecus.now c.loop-ecu.ecu-index _ _ _ _ c.loop-ecu-test.true c.ecu-item.is so_far pushed);
   scheme = c.push_seen.ensures.scheme ∙ c.loop-ecu.invariant.scheme;
 }
 

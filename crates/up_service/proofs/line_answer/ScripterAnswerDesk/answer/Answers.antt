@@ -1,4 +1,4 @@
-use Rattle.std.proofs.Common.{inr, sym, subst}
+use Rattle.std.proofs.Common.{inr, ap, sym, subst}
 use Rattle.sqlite.specs.Held.{state}
 use Rattle.up_service.specs.LineAnswers.{AnswersLine, line_answer}
 use Rattle.up_service.proofs.line_answer.ScripterAnswerDesk.answer.Goals as goal
@@ -7,7 +7,7 @@ pub returns-in-Ok-clause-ok : goal.returns-in-Ok-clause-ok
 returns-in-Ok-clause-ok g c = (
   c.in-Ok.ensures.scheme,
   subst (λ t. AnswersLine (λ s. line_answer (g.K.Scheme.rules c.args.desk.now.scheme) s c.args.line.now) (g.K.Scheme.rules c.args.desk.now.scheme) t (state g.D.Store c.args.desk.now.store) (state g.D.Store c.line_text.new.desk.store))
-      (sym c.into_bytes.ensures) c.in-Ok.ensures.ok,
+      (sym (ap (λ v. v.items) c.into_bytes.ensures.value)) c.in-Ok.ensures.ok,
 )
 
 pub returns-in-Err-clause-err : goal.returns-in-Err-clause-err
