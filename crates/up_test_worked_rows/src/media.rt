@@ -8,49 +8,33 @@ use sqlite_disk::Memory;
 use std::alloc::{AllocError, Global};
 use up_store::store::Store;
 
-/// A medium on which databases are kept.
-pub(crate) trait Medium: Alter + Drop {
-    /// How it is told.
-    const NAME: &'static str;
-
-    /// The tables in a new database.
-    fn new_store(alloc: Global) -> Result<Store<Self>, AllocError>;
-
-    /// The tables of the same database, let go of and taken again.
-    fn taken_again(alloc: Global, store: Store<Self>) -> Result<Store<Self>, AllocError>;
+/// The tables in a new database in memory.
+pub(crate) fn in_memory(alloc: Global) -> Result<Store<MemStore>, AllocError> {
+    created(Connection::open_in_memory(alloc)?)
 }
 
-impl Medium for MemStore {
-    const NAME: &'static str = "memory";
-
-    fn new_store(alloc: Global) -> Result<Store<MemStore>, AllocError> {
-        created(Connection::open_in_memory(alloc)?)
-    }
-
-    fn taken_again(_alloc: Global, store: Store<MemStore>) -> Result<Store<MemStore>, AllocError> {
-        adopted(store.release())
-    }
+/// The tables of the same database, let go of and taken again.
+pub(crate) fn memory_again(store: Store<MemStore>) -> Result<Store<MemStore>, AllocError> {
+    adopted(store.release())
 }
 
-impl Medium for FileStore<Memory> {
-    const NAME: &'static str = "files";
+/// The tables in new files.
+pub(crate) fn in_files(alloc: Global) -> Result<Store<FileStore<Memory>>, AllocError> {
+    let files = Files {
+        log: Memory::new(alloc),
+        db: Memory::new(alloc),
+    };
+    created(opened(alloc, files)?)
+}
 
-    fn new_store(alloc: Global) -> Result<Store<FileStore<Memory>>, AllocError> {
-        let files = Files {
-            log: Memory::new(alloc),
-            db: Memory::new(alloc),
-        };
-        created(opened(alloc, files)?)
-    }
-
-    fn taken_again(
-        alloc: Global,
-        store: Store<FileStore<Memory>>,
-    ) -> Result<Store<FileStore<Memory>>, AllocError> {
-        match store.release().close_files() {
-            Ok(files) => adopted(opened(alloc, files)?),
-            Err(_) => Err(AllocError),
-        }
+/// The tables of the same files, closed and opened again.
+pub(crate) fn files_again(
+    alloc: Global,
+    store: Store<FileStore<Memory>>,
+) -> Result<Store<FileStore<Memory>>, AllocError> {
+    match store.release().close_files() {
+        Ok(files) => adopted(opened(alloc, files)?),
+        Err(_) => Err(AllocError),
     }
 }
 

@@ -1,15 +1,15 @@
 //! Rows as scripts.
-use crate::media::Medium;
 use crate::trickle::Trickle;
+use sqlite::Alter;
 use std::alloc::{AllocError, Global};
 use up_desk::desk::Desk;
 use up_service::script::run_script;
 use up_sign::scheme::Scheme;
 
 /// What the script prints, read so many bytes at a time.
-pub(crate) fn by_script<K: Scheme, M: Medium>(
+pub(crate) fn by_script<K: Scheme, D: Alter + Drop>(
     alloc: Global,
-    mut desk: Desk<K, M>,
+    mut desk: Desk<K, D>,
     script: &str,
     most: usize,
 ) -> Result<String, AllocError> {

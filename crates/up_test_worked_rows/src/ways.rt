@@ -6,8 +6,9 @@ ghost use Rattle.up_script.specs.AskedLines.{asks_running};
 
 use crate::commands::commands_of;
 use crate::marked::push_line;
-use crate::media::Medium;
-use sqlite::Alter;
+use crate::media::{files_again, memory_again};
+use sqlite::{Alter, FileStore, MemStore};
+use sqlite_disk::Memory;
 use std::alloc::{AllocError, Global};
 use up_canon::ident::Ident;
 use up_canon::listed::Duplicate;
@@ -21,9 +22,9 @@ use up_sign::scheme::Scheme;
 use up_store::store::{Store, StoreFault};
 
 /// The answers of one run over the lines, which are commands.
-pub(crate) fn by_run<K: Scheme, M: Medium>(
+pub(crate) fn by_run<K: Scheme, D: Alter + Drop>(
     alloc: Global,
-    mut desk: Desk<K, M>,
+    mut desk: Desk<K, D>,
     lines: &str,
 ) -> Result<String, AllocError> {
     match commands_of(alloc, desk.scheme(), lines) {
@@ -63,9 +64,9 @@ fn push_answer(alloc: Global, out: &mut String, answer: &Answer) -> Result<(), A
 }
 
 /// The answers of one call after another, a view by the calls that read.
-pub(crate) fn by_calls<K: Scheme, M: Medium>(
+pub(crate) fn by_calls<K: Scheme, D: Alter + Drop>(
     alloc: Global,
-    mut desk: Desk<K, M>,
+    mut desk: Desk<K, D>,
     lines: &str,
 ) -> Result<String, AllocError> {
     let mut out = String::new(alloc);
@@ -77,30 +78,46 @@ pub(crate) fn by_calls<K: Scheme, M: Medium>(
     Ok(out)
 }
 
-/// The same, where before each line the database is let go of and taken again by another desk.
-pub(crate) fn by_turns<K: Scheme + Copy, M: Medium>(
+/// The same, where before each line the database in memory is let go of and taken again by another desk.
+pub(crate) fn by_turns_in_memory<K: Scheme + Copy>(
     alloc: Global,
     scheme: K,
-    mut store: Store<M>,
+    mut store: Store<MemStore>,
     lines: &str,
 ) -> Result<String, AllocError> {
     let mut out = String::new(alloc);
     for line in lines.lines() {
         if !line.is_empty() {
-            store = turn(alloc, scheme, store, &mut out, line)?;
+            store = turn(alloc, scheme, memory_again(store)?, &mut out, line)?;
         }
     }
     Ok(out)
 }
 
-fn turn<K: Scheme, M: Medium>(
+/// The same, where before each line the files are closed and opened again.
+pub(crate) fn by_turns_in_files<K: Scheme + Copy>(
     alloc: Global,
     scheme: K,
-    store: Store<M>,
+    mut store: Store<FileStore<Memory>>,
+    lines: &str,
+) -> Result<String, AllocError> {
+    let mut out = String::new(alloc);
+    for line in lines.lines() {
+        if !line.is_empty() {
+            store = turn(alloc, scheme, files_again(alloc, store)?, &mut out, line)?;
+        }
+    }
+    Ok(out)
+}
+
+fn turn<K: Scheme, D: Alter + Drop>(
+    alloc: Global,
+    scheme: K,
+    store: Store<D>,
     out: &mut String,
     line: &str,
-) -> Result<Store<M>, AllocError> {
-    let mut desk = Desk::new(scheme, M::taken_again(alloc, store)?);
+) -> Result<Store<D>, AllocError> {
+    let mut desk = Desk::new(scheme, store);
     push_called(alloc, &mut desk, out, line)?;
     Ok(desk.release())
 }
