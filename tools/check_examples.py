@@ -15,6 +15,7 @@ import expected_files
 import pages
 import program_cases
 import row_texts
+import trials
 
 TOP = Path(__file__).resolve().parent.parent
 EXAMPLES, ROWS = TOP / "examples", TOP / "rows"
@@ -62,29 +63,34 @@ def wanted():
         words = [sys.executable, TOP / "crates" / crate / "expected.py"]
         ran = subprocess.run(words, capture_output=True, check=False)
         yield "answers that the rows of %s want" % crate, ran.returncode == 0
+    ran = subprocess.run([sys.executable, TOP / "tools" / "each_line.py", "wanted"], capture_output=True, check=False)
+    yield "answers that the rows of lines want", ran.returncode == 0
 
 
 def limits(program):
-    """1,024 images, 64 root versions and bodies of 262,144 bytes, and one more of each."""
+    """1,024 images and 64 root versions over a file, which another start opens before one more of each; and bodies of 262,144
+    bytes and of one more."""
     row = read(ROWS / "kept_reply_after_a_rotation" / "script").split("\n")
     rotate = next(line for line in row if '"do":"rotate"' in line)
     image = '{"at":1767225600,"do":"add_image","file":"%d.bin","hardware":["HS"],"length":0,"release":1,"sha256":"%s"}'
-    script = row[:1] + [image % (number, 64 * "0") for number in range(1025)] + 64 * [rotate]
-    wanted = 1025 * ["done"] + ["refused 20 RegisterFull"] + 63 * ["done"] + ["refused 30 RootFull", ""]
-    yield "images and root versions at their limits", printed(program, "\n".join(script)) == "\n".join(wanted)
+    most = [row[0], *63 * [rotate], *(image % (number, 64 * "0") for number in range(1024))]
+    with trials.folder() as folder:
+        well = trials.printed(program, folder / "most", most, 600) == len(most) * ["done"]
+        more = trials.printed(program, folder / "most", [image % (1024, 64 * "0"), rotate, image % (3, 64 * "0")])
+        yield "images and root versions at their limits", well and more == ["refused 20 RegisterFull", "refused 30 RootFull", "already"]
     body = '{"at":1767225600,"body":"%s","do":"deliver"}\n'
     bodies = body % (262144 * " ") + body % (262145 * " ")
     yield "bodies at their limit", printed(program, bodies) == "refused 5 NotJson\nrefused 4 TooLarge\n"
 
 
 def first_reply(rows, given, reply):
-    """Whether the desk answers the Primary's manifest by this text."""
+    """What is told of a row in which the desk answers the Primary's manifest by this text: a line over memory, and one over files."""
     found, vehicle = read(EXAMPLES / "first_path" / "script").split("\n")[:2]
     manifest = primary("line", "1767225600", given=given)[1].strip()
     told = ["", "row reply", "@ hmac-sha256", "> " + found, "< done", "> " + vehicle, "< done"]
     told += ["> " + manifest, "< reply V1 version 1 targets 0", "= " + reply.strip(), ""]
     ran = subprocess.run([rows], input="\n".join(told).encode(), capture_output=True, check=False)
-    return ran.returncode == 0 and ran.stdout == b"reply: script 3, by bytes 3, run 4, calls 4\n"
+    return ran.stdout.decode("utf-8", "replace").splitlines() if ran.returncode == 0 else []
 
 
 def primaries(program, rows):
@@ -94,8 +100,11 @@ def primaries(program, rows):
     yield "the Primary checks the reply that the page shows", primary("check", keys, given=reply)[0] == 0
     broken = reply.replace('"version":1}', '"version":2}', 1)
     yield "the Primary refuses a changed reply", broken != reply and primary("check", keys, given=broken)[0] == 1
-    yield "the desk answers the reply that the page shows", first_reply(rows, given, reply)
-    yield "the desk doesn't answer a changed reply", not first_reply(rows, given, broken)
+    had, of_changed = first_reply(rows, given, reply), first_reply(rows, given, broken)
+    scripts_told = ["reply in %s: script 3, by bytes 3, run " % it for it in ("memory", "files")]
+    yield "the desk answers the reply that the page shows", had == [it + "4, calls 4, in turns 4" for it in scripts_told]
+    differs = [line.startswith(it + "DIFFERS: ") for line, it in zip(of_changed, scripts_told)]
+    yield "the desk doesn't answer a changed reply", differs == [True, True]
     # the bench line of the first path builds the same manifest: delivered again it is a repeat, and the version stays
     again = read(EXAMPLES / "first_path" / "script") + primary("line", "1767225600", given=given)[1]
     wanted = ["done", "done"] + 2 * ["reply V1 version 1 targets 0"] + [""]

@@ -3,19 +3,23 @@
 
     file_cases.py PROGRAM [KILLS]
 
-The file is its owner's alone; a second program is refused and the first goes on; the log is copied at the end. A
-hundred bits of a file at rest are flipped, one at a time: each is answered by status 3 or by unchanged answers.
+The file is its owner's alone; a second program is refused and the first goes on; the log is copied at the end.
+Three hundred bits of a file at rest are flipped, one at a time: each is answered by status 3 or by unchanged answers.
 The program is killed (SIGKILL) at KILLS moments (100) of a fleet's day, and the day is repeated over what is
 left: what was printed is kept.
 """
+import json
 import os
 import random
+import re
 import signal
+import sqlite3
 import stat
 import subprocess
 import sys
 import tempfile
 import time
+from contextlib import closing
 
 sys.dont_write_bytecode = True
 
@@ -25,7 +29,7 @@ import trials
 DAY = list(fleet.script(vehicles=5, ecus=3, rounds=3, images=6, campaigns=2, seed=4))
 SHOWS = [fleet.line("show", vehicle="v%06d" % number) for number in range(5)]
 FILES = [line for line in DAY if '"do":"fetch"' in line]
-BITS = 100
+BITS = 300
 
 
 def mode(path):
@@ -68,12 +72,23 @@ class Running:
         return self.it.returncode, out, err
 
 
+def is_locked(path):
+    """Whether SQLite itself may not even read the file."""
+    with closing(sqlite3.connect(path, timeout=0)) as db:
+        try:
+            db.execute("SELECT 1 FROM meta").fetchall()
+        except sqlite3.OperationalError as error:
+            return str(error) == "database is locked"
+    return False
+
+
 def seconds(program, own):
     """A second program is refused, and the first goes on undisturbed."""
     path = own / "shared"
     first = Running(program, path)
     answers = [first.ask(line) for line in DAY[:4]]
     yield "a second program is refused", trials.run(program, path, DAY[:1]) == (3, b"", trials.NO_DATABASE)
+    yield "and so is SQLite", is_locked(path)
     answers += [first.ask(line) for line in DAY[4:]]
     yield "the first goes on", answers == trials.expected(":memory:", DAY)
     yield "and ends well", first.end() == (0, b"", b"")
@@ -117,12 +132,21 @@ def flipped(program, own):
 def operated(program, own):
     """The operator's first days, a start of the program for each part of the script, over one file and its copies."""
     folder, path, told = trials.TOP / "examples" / "operating", own / "operated", []
-    for part in (folder / "script").read_text(encoding="ascii").split("\n\n"):
+    parts = (folder / "script").read_text(encoding="ascii").split("\n\n")
+    for part in parts:
         answers = trials.printed(program, path, part.split("\n"))
         told += answers or ["no answer"]
         path = trials.copied(path, own / ("after%d" % len(told)))
     yield "an operator's first days", told == (folder / "printed").read_text(encoding="ascii").split("\n")[:-1]
     yield "the last copy is whole", trials.faults(path) == []
+    page = (trials.TOP / "docs" / "OPERATING.md").read_text(encoding="ascii")
+    shown = re.findall(r"^    ((?:reply|vehicle) .*)$", page, re.M)
+    yield "the page shows what is printed", len(shown) == 2 and set(shown) <= set(told)
+    reports = (report for part in parts for line in part.splitlines() for report in json.loads(line).get("reports", []))
+    attacks = sorted((report["ecu"], report["attack"]) for report in reports if report.get("attack"))
+    with trials.read(path) as db:
+        found = db.execute(re.search(r"^    (SELECT .*?)\n\n", page, re.S | re.M)[1]).fetchall()
+    yield "and a query that tells the attacks", sorted(found) == attacks != []
 
 
 # ---- kills

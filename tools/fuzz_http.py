@@ -6,20 +6,23 @@
 For each seed from FIRST (1) on, NUMBER (100) of them, a script of `tools/fuzz.py` founds and fills a file. The
 program serves it to one connection, which sends manifests, some of them damaged, and asks for files, in pieces
 that are cut anywhere. Each answer has to be, byte for byte, what `tools/reference.py` answers at the moment that
-the program's clock had, and the file has to have its rows.
+the program's clock had, and the file has to have its rows. Five more connections send requests whose heads are damaged
+anywhere: whatever they mean, whole answers come, and the file stays as it was.
 """
+import contextlib
 import json
 import random
+import re
 import shutil
 import socket
 import sqlite3
-import subprocess
 import sys
 from contextlib import closing
 
 sys.dont_write_bytecode = True
 
 import fuzz
+import http_cases
 import reference
 import trials
 
@@ -147,34 +150,55 @@ class Stream:
         return found + ([self.last()] if self.rng.random() < 0.5 else [])
 
 
-def free_port():
-    with closing(socket.socket()) as it:
-        it.bind(("127.0.0.1", 0))
-        return it.getsockname()[1]
+def came(running, sent, rng):
+    """What the program answers to the bytes, sent in pieces."""
+    told = b""
+    with http_cases.connected(running) as peer, contextlib.suppress(ConnectionError):
+        while sent:
+            size = rng.choice([1, 2, 7, 100, 1000, 10_000])
+            peer.sendall(sent[:size])
+            sent = sent[size:]
+        peer.shutdown(socket.SHUT_WR)
+        while piece := peer.recv(65_536):
+            told += piece
+    return told
 
 
-def served(program, path, sent, rng):
-    """What the program answers to the bytes, sent in pieces; its status and message."""
-    port = free_port()
-    words = [str(program), "serve", str(path), str(port), "1"]
-    with subprocess.Popen(words, stdout=subprocess.PIPE, stderr=subprocess.PIPE) as it:
-        if it.stdout.readline() != b"listening %d\n" % port:
-            return None, it.wait(30), it.stderr.read()
-        with closing(socket.create_connection(("127.0.0.1", port), timeout=30)) as peer:
-            peer.setsockopt(socket.IPPROTO_TCP, socket.TCP_NODELAY, 1)
-            told = b""
-            try:
-                while sent:
-                    size = rng.choice([1, 2, 7, 100, 1000, 10_000])
-                    peer.sendall(sent[:size])
-                    sent = sent[size:]
-                peer.shutdown(socket.SHUT_WR)
-                while piece := peer.recv(65_536):
-                    told += piece
-            except ConnectionError:
-                pass
-        it.wait(30)
-        return told, it.returncode, it.stderr.read()
+# ---- damaged heads
+
+ANSWER = re.compile(rb"HTTP/1\.1 (\d{3}) ([A-Za-z ]+)\r\nContent-Type: application/json\r\nContent-Length: (\d+)\r\n"
+                    rb"(?:Allow: (?:GET|POST)\r\n)?(Connection: close\r\n)?\r\n")
+
+
+def are_answers(told):
+    """Whether the bytes are whole answers, of which none stands behind one that closes the connection."""
+    open_still = True
+    while told:
+        head = ANSWER.match(told)
+        if not open_still or head is None or PHRASES.get(int(head[1])) != head[2].decode():
+            return False
+        body, told = told[head.end() : head.end() + int(head[3])], told[head.end() + int(head[3]) :]
+        open_still = head[4] is None
+        if len(body) < int(head[3]) or (head[1] != b"200" and set(json.loads(body)) != {"error", "text"}):
+            return False
+    return True
+
+
+def spoiled(rng):
+    """Requests that no manifest is accepted by, with bytes that are damaged anywhere."""
+    sent = b"".join(rng.choice([http_cases.GET_ROOT, http_cases.NO_FILE, http_cases.POST % 2 + b"{}"])
+                    for _ in range(rng.randint(1, 6)))
+    for _ in range(rng.randint(1, 4)):
+        sent = fuzz.damaged(rng, sent)
+    return sent
+
+
+def hostile(program, path, rng):
+    """Whether requests with damaged heads are answered by whole answers, and leave the file as it was."""
+    rows = trials.rows(path)
+    with http_cases.served(program, path, 5) as running:
+        well = all([are_answers(came(running, spoiled(rng), rng)) for _ in range(5)])
+        return well and http_cases.ended(running) and trials.rows(path) == rows
 
 
 def tried(program, seed, own):
@@ -185,9 +209,10 @@ def tried(program, seed, own):
     shutil.copy(path, rules)
     rng = random.Random(seed)
     requests = Stream(seed, script).made()
-    told, status, message = served(program, path, b"".join(it.sent for it in requests), rng)
-    if (status, message) != (0, b"") or told is None:
-        return "status %d: %s" % (status, message.decode("utf-8", "replace"))
+    with http_cases.served(program, path, 1) as running:
+        told = came(running, b"".join(it.sent for it in requests), rng)
+        if not http_cases.ended(running):
+            return "another end"
     with trials.read(path) as db:
         moments = {row[:2]: row[2] for row in db.execute("SELECT vehicle, counter, moment FROM kept")}
     with closing(sqlite3.connect(rules)) as db:
@@ -200,6 +225,8 @@ def tried(program, seed, own):
             told = told[len(wanted) :]
     if told:
         return "more than the answers: %r" % told[:300]
+    if not hostile(program, path, rng):
+        return "damaged heads"
     return None if trials.rows(path) == trials.rows(rules) else "other rows"
 
 

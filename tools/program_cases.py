@@ -35,7 +35,12 @@ def words(program):
     yield "three words", answers(program, [*RUN, "more"], b"", 2, b"", USAGE)
     yield "a word that isn't UTF-8", answers(program, ["run", b"\xff"], b"", 2, b"", USAGE)
     yield "no UTF-8 behind other words", answers(program, ["walk", "on", b"\xff"], b"", 2, b"", USAGE)
-    yield "another database", answers(program, ["run", "desk.db"], b"nope\n", 3, b"", NO_DATABASE)
+    for port, count in (("0", "1"), ("65536", "1"), ("080", "1"), ("+80", "1"), ("80", "0"), ("80", "1000001"), ("80", "")):
+        yield "serve at port %s for %s" % (port, count or "nothing"), answers(program, ["serve", ":memory:", port, count], b"", 2, b"", USAGE)
+    yield "serve without a count", answers(program, ["serve", ":memory:", "80"], b"", 2, b"", USAGE)
+    for path in ("/dev/null", "file:desk.db"):
+        yield "run over " + path, answers(program, ["run", path], b"nope\n", 3, b"", NO_DATABASE)
+        yield "serve over " + path, answers(program, ["serve", path, "80", "1"], b"", 3, b"", NO_DATABASE)
 
 
 def scripts(program):

@@ -5,17 +5,21 @@
     speed.py PROGRAM functions    the five functions that take most of them, in the fleet of `fleets` that is first
     speed.py PROGRAM lines        lines a second over a file, as a ratio to the same script over memory
     speed.py PROGRAM growth       how a manifest's time grows with kept replies, images, campaigns and vehicles
-    speed.py PROGRAM start        seconds and memory of a start over files of so many kept replies
+    speed.py PROGRAM start        processor seconds and memory of a start over files of so many kept replies
+    speed.py PROGRAM http         requests a second over a file, beside the same by script, and instructions; needs valgrind
+    speed.py PROGRAM head         instructions for a head of 16,384 bytes in one piece and a byte at a time; needs valgrind
 """
 import os
 import re
 import subprocess
 import sys
+import threading
 import time
 
 sys.dont_write_bytecode = True
 
 import fleet
+import http_cases
 import trials
 
 FLEETS = {
@@ -92,51 +96,148 @@ def prepared(vehicles, images, campaigns):
         yield fleet.line("open_campaign", campaign="c%d" % at, vehicles=["other"], items=items)
 
 
-def timed(program, before, script):
-    """The microseconds that a line of the script takes over memory, behind the lines before it."""
+def asked(it, script):
+    """The answers to the lines, of a program that is answering a script."""
+    def write():
+        it.stdin.write("".join(line + "\n" for line in script).encode())
+        it.stdin.flush()
+
+    writer = threading.Thread(target=write)
+    writer.start()
+    answers = [it.stdout.readline() for _ in script]
+    writer.join()
+    return answers
+
+
+def processor(pid):
+    """The processor microseconds that a program has taken so far."""
+    with open("/proc/%d/schedstat" % pid, encoding="ascii") as told:
+        return int(told.read().split()[0]) / 1000
+
+
+def cost(program, before, script):
+    """The processor microseconds that a line of the script takes over memory, behind the lines before it."""
     with subprocess.Popen([program, "run", ":memory:"], stdin=subprocess.PIPE, stdout=subprocess.PIPE) as it:
-        if os.fork() == 0:
-            it.stdin.write("".join(line + "\n" for line in [*before, *script]).encode())
-            it.stdin.flush()
-            os._exit(0)
+        asked(it, before)
+        begun = processor(it.pid)
+        answers = asked(it, script)
+        took = processor(it.pid) - begun
         it.stdin.close()
-        for _ in before:
-            it.stdout.readline()
-        begun = time.perf_counter()
-        answers = [it.stdout.readline() for _ in script]
-        took = time.perf_counter() - begun
-        it.stdout.read()
-        os.wait()
     assert all(answer.startswith(b"reply ") for answer in answers)
-    return took / len(script) * 1e6
+    return took / len(script)
 
 
-def growth(program, own):
+def growth(program, _):
     few, number = list(prepared(100, 10, 10)), 2000
-    for kept in (1000, 10_000, 95_000):
+    for kept in (1000, 10_000, 97_000):
         told = list(manifests(100, kept + number))
-        print("| %d kept replies | %.0f |" % (kept, timed(program, few + told[:kept], told[kept:])))
-    told = list(manifests(100, number))
-    others = {"1,000 images": (100, 1000, 10), "1,000 campaigns": (100, 10, 1000), "10,000 vehicles": (10_000, 10, 10)}
-    for name, words in {"100 vehicles, 10 images, 10 campaigns": (100, 10, 10), **others}.items():
-        print("| %s | %.0f |" % (name, timed(program, list(prepared(*words)), told)))
+        print("| %d kept replies | %.0f |" % (kept, cost(program, few + told[:kept], told[kept:])), flush=True)
+    others = {"10 images, 10 campaigns, 100 vehicles": (100, 10, 10), "1,000 images": (100, 1000, 10),
+              "1,000 campaigns": (100, 10, 1000), "10,000 vehicles": (10_000, 10, 10)}
+    for name, words in others.items():
+        told = list(manifests(100, number))
+        print("| %s | %.0f |" % (name, cost(program, list(prepared(*words)), told)), flush=True)
+
+
+def used(words, given=subprocess.DEVNULL):
+    """The processor seconds that a program takes, and its peak memory in MB."""
+    it = subprocess.Popen(words, stdin=given, stdout=subprocess.DEVNULL)
+    _, status, usage = os.wait4(it.pid, 0)
+    assert status == 0
+    return usage.ru_utime + usage.ru_stime, usage.ru_maxrss >> 10
 
 
 def start(program, own):
-    for kept in (10_000, 95_000):
-        path = own / ("kept%d" % kept)
-        assert trials.printed(program, path, [*prepared(100, 10, 10), *manifests(100, kept)], 3600) is not None
-        with open(os.devnull, "rb") as nothing:
+    path, there = own / "kept", 0
+    trials.printed(program, path, prepared(100, 10, 10))
+    for kept in (1000, 10_000, 100_000):
+        while there < kept:
+            more = min(kept - there, 90_000)
+            assert trials.printed(program, path, manifests(100, more, 1 + there // 100), 3600) is not None
+            there += more
+        took, memory = used([program, "run", str(path)])
+        print("| %d | %d MB | %.2f | %d MB |" % (kept, os.stat(path).st_size >> 20, took, memory), flush=True)
+
+
+# ---- HTTP
+
+
+def posts(bodies):
+    return [http_cases.POST % len(body) + body for body in bodies]
+
+
+def sent(running, requests):
+    """Whether so many requests, a hundred a connection, are all answered by a 200."""
+    well = 0
+    for at in range(0, len(requests), 100):
+        well += http_cases.told(running, b"".join(requests[at : at + 100])).count(b"HTTP/1.1 200 OK")
+    return well == len(requests)
+
+
+def kinds(number):
+    """The requests of each kind, with the lines that ask the same; the second kind is the first once more."""
+    lines = list(manifests(100, number))
+    fetch = fleet.line("fetch", repository="image", file="timestamp.json")
+    bodies = [http_cases.json.loads(line)["body"].encode("ascii") for line in lines]
+    gets = number * [b"GET /image/timestamp.json HTTP/1.1\r\nHost: d\r\n\r\n"]
+    return {"fresh manifests": (posts(bodies), lines), "repeats": (posts(bodies), lines), "fetches": (gets, number * [fetch])}
+
+
+def rates(program, own, number=2000):
+    """Requests and lines a second of each kind, over files."""
+    for name in ("served", "script"):
+        trials.printed(program, own / name, prepared(100, 10, 10))
+    for kind, (requests, lines) in kinds(number).items():
+        with http_cases.served(program, own / "served", number // 100) as running:
             begun = time.perf_counter()
-            it = subprocess.Popen([program, "run", str(path)], stdin=nothing)
-            _, status, usage = os.wait4(it.pid, 0)
-        took = time.perf_counter() - begun
-        assert status == 0
-        print("| %d | %d MB | %.2f | %d MB |" % (kept, os.stat(path).st_size >> 20, took, usage.ru_maxrss >> 10))
+            assert sent(running, requests)
+            took = time.perf_counter() - begun
+            assert http_cases.ended(running)
+        yield kind, number / took, number / seconds(program, own / "script", lines)
+
+
+def instructions(program, path, requests):
+    """The instructions that the program takes to serve a connection with these requests."""
+    told = path.parent / "requests"
+    program = ["valgrind", "--tool=callgrind", "--callgrind-out-file=%s" % told, program]
+    with http_cases.served(program, path, 1) as running:
+        assert http_cases.told(running, b"".join(requests)).count(b"HTTP/1.1 ") == len(requests)
+        _, err = running.communicate(timeout=600)
+    return int(re.search(rb"Collected : (\d+)", err)[1])
+
+
+def http(program, own):
+    counts = {}
+    path = own / "counted"
+    trials.printed(program, path, prepared(100, 10, 10))
+    for kind, (requests, _) in kinds(100).items():
+        few = instructions(program, trials.copied(path, own / "few"), requests[:1])
+        counts[kind] = (instructions(program, path, requests) - few) // (len(requests) - 1)
+    for kind, requests, lines in rates(program, own):
+        print("| %s | %d | %d | %d |" % (kind, requests, lines, counts[kind]))
+
+
+def head(program, own):
+    """A head at its limit, that asks for a file which isn't there."""
+    path = own / "head"
+    trials.printed(program, path, prepared(1, 1, 1))
+    begins, ends = b"GET /image/none HTTP/1.1\r\nHost: d\r\na: ", b"\r\n\r\n"
+    whole = begins + (16_384 - len(begins) - len(ends)) * b"b" + ends
+    for name, pause in (("in one piece", None), ("a byte at a time", 0.001)):
+        told = own / name
+        words = ["valgrind", "--tool=callgrind", "--callgrind-out-file=%s" % told, program]
+        with http_cases.served(words, path, 1) as running, http_cases.connected(running) as client:
+            for piece in [whole] if pause is None else (whole[at : at + 1] for at in range(len(whole))):
+                client.sendall(piece)
+                time.sleep(pause or 0)
+            client.shutdown(http_cases.socket.SHUT_WR)
+            assert b"404 Not Found" in http_cases.to_the_end(client)
+            _, err = running.communicate(timeout=600)
+        print("| %s | %s |" % (name, re.search(rb"Collected : (\d+)", err)[1].decode()), flush=True)
 
 
 if __name__ == "__main__":
-    parts = {part.__name__: part for part in (fleets, functions, lines, growth, start)}
+    parts = {part.__name__: part for part in (fleets, functions, lines, growth, start, http, head)}
     if len(sys.argv) != 3 or sys.argv[2] not in parts:
         sys.exit(__doc__)
     with trials.folder() as here:

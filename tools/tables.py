@@ -9,8 +9,10 @@ adopted and answers alike, and so are copies. The page's queries have to tell wh
 """
 import json
 import re
+import shlex
 import shutil
 import sqlite3
+import subprocess
 import sys
 from contextlib import closing
 
@@ -73,6 +75,18 @@ def dumped(path, to):
     return to
 
 
+def by_the_page(path, to):
+    """The page's own commands for a copy of a file and its log, where `sqlite3` is installed."""
+    commands = re.search(r"^    (sqlite3 FILE '\.backup BACKUP')\n    (python3 tools/page_sums\.py BACKUP)$",
+                         reference.PAGE.read_text(encoding="ascii"), re.M)
+    if not shutil.which("sqlite3"):
+        return shutil.copy(path, to)
+    for command in commands.groups():
+        words = shlex.split(command.replace("FILE", str(path)).replace("BACKUP", str(to)))
+        subprocess.run(words, capture_output=True, check=True, cwd=trials.TOP)
+    return to
+
+
 def copies(program, own):
     """What is made of the file halfway goes on as the file itself does."""
     half = own / "half"
@@ -80,6 +94,7 @@ def copies(program, own):
     made = {
         "a file that SQLite wrote": written_by_sqlite(half, own / "written"),
         "a backup by SQLite": backed_up(half, own / "backup"),
+        "a backup by the page's commands": by_the_page(trials.copied(half, own / "other"), own / "page"),
         "a dump read again": dumped(half, own / "dumped"),
         "a copy": shutil.copy(half, own / "copied"),
     }

@@ -11,7 +11,7 @@ from pathlib import Path
 sys.dont_write_bytecode = True
 from edits import lock
 from edits.check import is_shown, refusals
-from edits.edit import edits_in, groups_of
+from edits.edit import edits_in, functions_below, groups_of
 from edits.functions import Function, functions_in
 from edits.hashes import hashes
 from edits.kit import crates as crates_here
@@ -216,6 +216,22 @@ class Texts(OnATree):
         macro = b"macro_rules! made { () => { fn inner() { 1 } } }\nmade! { fn more() { 2 } }\nfn outer() { fn inside() {} }\n"
         self.assertEqual([it.name for it in functions_in(macro)], ["outer"])
 
+    def test_owners(self):
+        text = b"""
+        impl<D: Fn(u8) -> u8> crate::held::Held<'_, D> where D: Copy { fn first() {} const fn second() {} }
+        impl<T> From<Vec<T>> for Other { fn third() {} }
+        fn alone() {}
+        """
+        owners = {it.name: it.owner for it in functions_in(text)}
+        self.assertEqual(owners, {"first": "Held", "second": "Held", "third": "Other", "alone": None})
+
+    def test_an_owner_is_told_where_one_file_alone_has_its_method(self):
+        self.write("crates/low/src/more.rt", "impl Held { fn one() {} fn two() {} }\n")
+        self.write("crates/low/src/other.rt", "impl Held { fn two() {} }\n")
+        found = functions_below("crates/low")
+        self.assertEqual([(it.name, it.owner) for it in found["src/more.rt"]], [("one", "Held"), ("two", None)])
+        self.assertEqual([(it.name, it.owner) for it in found["src/other.rt"]], [("two", None)])
+
     def test_edits_of_something_else_than_one_body_are_bad(self):
         texts = {
             "a-constant": edit("LEAST: u64 = 3", "LEAST: u64 = 4"),
@@ -253,10 +269,12 @@ class Texts(OnATree):
             "fn low::counts::placed: no proof: expected answers in ./proofs/counts/placed/Answers.antt; `search` did not prove `invariant_of-table-2`",
             "fn low::counts::kept: not proved",
             "fn low::counts::either: not proved",
+            "proofs/held/Held/told/Proof.antt:4:1: error: `returns`: the two types differ",
+            "fn low::held::Held::told: not proved",
             "logic=not-proved",
         ]
         found = [*refusals(lines)]
-        self.assertEqual([it[0] for it in found], ["low::counts::reaches", "low::counts::placed", "low::counts::kept"])
+        self.assertEqual([it[0] for it in found], ["low::counts::reaches", "low::counts::placed", "low::counts::kept", "low::held::Held::told"])
         reaches = Function("reaches", (28, 32), 0, 0, None, False)
         self.assertTrue(is_shown("src/counts.rt", reaches, *found[0][:2]))
         self.assertFalse(is_shown("src/more.rt", reaches, *found[0][:2]))
@@ -265,6 +283,12 @@ class Texts(OnATree):
         placed = reaches._replace(name="placed", lines=(48, 52))
         self.assertTrue(is_shown("src/counts.rt", placed, *found[1][:2]))
         self.assertTrue(is_shown("src/counts.rt", reaches._replace(name="kept"), *found[2][:2]))
+        # a method of a type that another file has
+        told = reaches._replace(name="told", owner="Held")
+        self.assertTrue(is_shown("src/counts.rt", told, *found[3][:2]))
+        self.assertFalse(is_shown("src/counts.rt", told._replace(owner=None), *found[3][:2]))
+        self.assertFalse(is_shown("src/counts.rt", told._replace(owner="Other"), *found[3][:2]))
+        self.assertFalse(is_shown("src/counts.rt", told._replace(name="kept"), *found[3][:2]))
 
 
 class Verdicts(OnATree):

@@ -3,6 +3,7 @@
 
     primary.py build < manifest-input.json        prints the body to deliver
     primary.py line AT < manifest-input.json      prints it as a `deliver` line of a script, at the moment AT
+    primary.py send URL < manifest-input.json     posts it to the Director at http://HOST:PORT, and prints the reply
     primary.py check KEYS < reply.json            checks a reply: KEYS is a file with the Director's public keys of each role
 
 Nothing but Python's standard library is used. The input of `build` is one JSON object:
@@ -16,9 +17,13 @@ import hashlib
 import hmac
 import json
 import sys
+import urllib.error
+import urllib.request
 from datetime import datetime, timedelta
 
 METHOD = "hmac-sha256"
+TRIES = 3
+PATIENCE = 20
 
 
 def canonical(value):
@@ -72,6 +77,21 @@ def manifest(given):
     return sealed(bytes.fromhex(given["key"]), payload)
 
 
+def send(url, body):
+    """Posts a manifest: the status and the body of the answer. Where none comes, the same manifest is sent again; one that was
+    accepted meanwhile is answered by its kept reply."""
+    asked = urllib.request.Request(url + "/director/manifest", data=body.encode("ascii"), method="POST")
+    for tries_left in reversed(range(TRIES)):
+        try:
+            with urllib.request.urlopen(asked, timeout=PATIENCE) as answer:
+                return answer.status, answer.read().decode("ascii")
+        except urllib.error.HTTPError as refused:
+            return refused.code, refused.read().decode("ascii")
+        except OSError:
+            if not tries_left:
+                raise
+
+
 def is_signed(envelope, keys, threshold):
     """Whether at least so many of the keys have signed the envelope; a key counts once."""
     signed = canonical(envelope["signed"])
@@ -102,6 +122,10 @@ def main(words):
         print(manifest(json.load(sys.stdin)))
     elif len(words) == 2 and words[0] == "line":
         print(canonical({"at": int(words[1]), "body": manifest(json.load(sys.stdin)), "do": "deliver"}))
+    elif len(words) == 2 and words[0] == "send":
+        status, answer = send(words[1], manifest(json.load(sys.stdin)))
+        print(answer if status == 200 else "%d %s" % (status, answer))
+        return 0 if status == 200 else 1
     elif len(words) == 2 and words[0] == "check":
         with open(words[1], encoding="ascii") as keys:
             fault = check(sys.stdin.read(), json.load(keys))

@@ -186,9 +186,12 @@ def is_shown(path, function, name, places):
 
 
 def _is_of(name, path, function):
-    """Returns whether what rattle names so is this function or stands in it: CRATE::MODULE::NAME, or TYPE::NAME behind the module."""
+    """Returns whether what rattle names so is this function or stands in it: CRATE::MODULE::NAME, or TYPE::NAME behind the module, which for
+    a method of a type that another file has is that file's."""
     module, words = _module(path), name.split("::")[1:]
     here, rest = words[: len(module)], words[len(module) :]
+    if function.owner and words[-2:] == [function.owner, function.name]:
+        return True
     return here == module and (rest[:1] == [function.name] or rest[1:2] == [function.name] and not rest[0].islower())
 
 

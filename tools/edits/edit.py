@@ -43,10 +43,13 @@ class Edit:
 
 
 def functions_below(folder):
-    """Returns the functions of each file in src/ of a crate's folder, by the file's path in it, or nothing where one is no text of Rattle."""
+    """Returns the functions of each file in src/ of a crate's folder, by the file's path in it, or nothing where one is no text of Rattle.
+    A method's owner is told only where no method of another file has that name and owner, so that the two together say which it is."""
     files = sorted(Path(folder, "src").rglob("*.rt"))
     tokens = tokens_of(files)
-    return {str(file.relative_to(folder)): functions_of(rows) for file, rows in zip(files, tokens or [])}
+    found = {str(file.relative_to(folder)): functions_of(rows) for file, rows in zip(files, tokens or [])}
+    times = collections.Counter(method for here in found.values() for method in {(it.owner, it.name) for it in here})
+    return {path: [it if times[it.owner, it.name] == 1 else it._replace(owner=None) for it in here] for path, here in found.items()}
 
 
 def edits_in(crate, folder):

@@ -10,8 +10,9 @@ from .kit import rtlib
 Token = collections.namedtuple("Token", "line start end kind word")
 
 # An outermost function with a body, which lies between the bytes `opens` and `closes`. `lines` are its first and last, `cycle` is the cycle of calls
-# that it is in, or None, and `is_read_above` says that a crate above may read its body: that of a `const fn` or of a trait's default.
-Function = collections.namedtuple("Function", "name lines opens closes cycle is_read_above")
+# that it is in, or None, `is_read_above` says that a crate above may read its body: that of a `const fn` or of a trait's default, and `owner` is the
+# name of the type in whose `impl` it stands, or None.
+Function = collections.namedtuple("Function", "name lines opens closes cycle is_read_above owner", defaults=[None])
 
 ROW = re.compile(r'(?m)^(\d+) (\d+) (\d+) (\w+) "(.*)"$')
 CYCLE = re.compile(r"# \[ cycle \( (\w+) \)")
@@ -40,6 +41,7 @@ def functions_in(text):
 def functions_of(tokens):
     """Returns the functions among a text's tokens. What macros hold is passed over, and stays as it is."""
     code, found, at, start, trait_ends = [it for it in tokens if it.kind == "Code"], [], 0, 0, 0
+    owner, owner_ends = None, 0
     words = [it.word for it in code]
     while at < len(words):
         if words[at] == "fn" and re.fullmatch(r"\w+", "".join(words[at + 1 : at + 2])):
@@ -48,7 +50,8 @@ def functions_of(tokens):
             if closes < len(words):
                 cycle = CYCLE.search(" ".join(words[start:at]))
                 lines, is_read = (code[start].line, code[closes].line), at < trait_ends or "const" in words[start:at]
-                found.append(Function(name, lines, code[opens].end, code[closes].start, cycle and cycle[1], is_read))
+                mine = owner if at < owner_ends else None
+                found.append(Function(name, lines, code[opens].end, code[closes].start, cycle and cycle[1], is_read, mine))
                 opens = closes
             at = start = opens + 1
         elif words[at] == "!" and at and re.fullmatch(r"\w+", words[at - 1]):
@@ -58,8 +61,25 @@ def functions_of(tokens):
             if words[at] == "trait":
                 opens = _next(words, at, "{;")
                 trait_ends = max(trait_ends, _closing(words, opens) if words[opens : opens + 1] == ["{"] else 0)
+            if words[at] == "impl" and at >= owner_ends:
+                opens = _next(words, at, "{;")
+                owner, owner_ends = _owner(words[at + 1 : opens]), _closing(words, opens)
             at += 1
             start = at if words[at - 1] in "{};" else start
+    return found
+
+
+def _owner(words):
+    """Returns the name of the type of an `impl`, from the words before its brace, or None where it is no path."""
+    depth, found = 0, None
+    for before, word in zip(["", *words], words):
+        depth += (word in "<([") - (word in ">)]" and before != "-")
+        if depth == 0 and word == "where":
+            break
+        if depth == 0 and word == "for":
+            found = None
+        elif depth == 0 and re.fullmatch(r"\w+", word):
+            found = word
     return found
 
 

@@ -4,8 +4,9 @@ use Rattle.std.specs.Prelude.{nat_le, if◌then◌else◌}
 use Rattle.hex.specs.Hex.{decode_of}
 use Rattle.serde_json.specs.Data.{Data}
 use Rattle.up_canon.specs.declared.refusal.Refusal.{Refusal}
-use Rattle.up_canon.specs.declared.refusal.Refusal.TheVariants.{BadShape}
+use Rattle.up_canon.specs.declared.refusal.Refusal.TheVariants.{TooLarge, NotJson, BadShape}
 use Rattle.up_canon.specs.Names.{is_from_to, is_ident, is_file_name, is_note, is_short_text}
+use Rattle.up_canon.specs.JsonText.{value_within}
 use Rattle.up_canon.specs.HexText.{hex_of, hex_in, sha256_in}
 use Rattle.up_canon.specs.Members.{text_of, count_of, list_of, object_of, member_in, text_in, count_in, list_in, object_in}
 use Rattle.up_canon.specs.Readers.{fitting, ident_of, file_name_of, note_of, ident_in, file_name_in, note_in, word_in, short_text_in, positive_in, list_within, moment_in}
@@ -18,6 +19,10 @@ pub record Fails (F : Refusal → Type 0) {A : Type 0} (r : Result A Refusal) : 
 -- F allows the fault of each name
 pub record AllowsShapes (F : Refusal → Type 0) : Type 0 where
   pub shape : (name : List ℕ) → F (BadShape name)
+
+-- and so one that G allows, which allows more
+pub fails_more : {F G : Refusal → Type 0} {A : Type 0} (r : Result A Refusal) → ((e : Refusal) → F e → G e) → Fails F r → Fails G r
+fails_more r more first = record { allowed = λ e h. more e (first.allowed e h) }
 
 -- ---- steps
 
@@ -38,7 +43,7 @@ module _ {F : Refusal → Type 0} where
   unless_fails true d is = record { allowed = λ e h. cc }
   unless_fails false d is = record { allowed = λ e h. let same : d ≡ e = cc in subst F same is }
 
-  pub each_fails : {A : Type 0} (step : Data → Result A Refusal) → ((d : Data) → Fails F (step d)) → (ds : List Data) → Fails F (each step ds)
+  pub each_fails : {A B : Type 0} (step : B → Result A Refusal) → ((d : B) → Fails F (step d)) → (ds : List B) → Fails F (each step ds)
   unfolding each
   each_fails step one [] = ok_fails []
   each_fails step one (d ∷ ds) = then_fails _ _ (one d) (λ y. then_fails _ _ (each_fails step one ds) (λ ys. ok_fails (y ∷ ys)))
@@ -120,3 +125,9 @@ module _ {F : Refusal → Type 0} (law : AllowsShapes F) where
   pub moment_fails : (name : List ℕ) (d : Data) → Fails F (moment_in name d)
   unfolding moment_in
   moment_fails name d = then_fails _ _ (text_fails name d) (λ t. or_error_fails (BadShape name) _ (law.shape name))
+
+-- ---- bytes
+
+pub value_fails : {F : Refusal → Type 0} → F TooLarge → F NotJson → (most : ℕ) (bytes : List ℕ) → Fails F (value_within most bytes)
+unfolding value_within
+value_fails large not_json most bytes = then_fails _ _ (unless_fails _ TooLarge large) (λ a. or_error_fails NotJson _ not_json)

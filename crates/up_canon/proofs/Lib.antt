@@ -17,3 +17,4 @@ pub mod Repeated
 pub mod Steps
 pub mod Members
 pub mod Faults
+pub mod ByteTests

@@ -19,7 +19,7 @@ use Rattle.up_canon.proofs.Steps.{first_ok, bind-ok, or_error_ok, unless_ok, val
 
 -- ---- what a value is
 
-is_text : (d : Data) (t : List ℕ) → json.as_str d ≡ Some t → d ≡ string t
+pub is_text : (d : Data) (t : List ℕ) → json.as_str d ≡ Some t → d ≡ string t
 is_text null t h = cc
 is_text (boolean b) t h = cc
 is_text (number n) t h = cc
@@ -27,7 +27,7 @@ is_text (string s) t h = let same : s ≡ t = cc in ap string same
 is_text (array ds) t h = cc
 is_text (object ms) t h = cc
 
-is_number : (d : Data) (n : ℕ) → if_passes (λ m. nat_le m max_count) (option_and_then json.as_u64 (json.as_number d)) ≡ Some n → (d ≡ number (unsigned n)) × (n ≤ max_count)
+pub is_number : (d : Data) (n : ℕ) → if_passes (λ m. nat_le m max_count) (option_and_then json.as_u64 (json.as_number d)) ≡ Some n → (d ≡ number (unsigned n)) × (n ≤ max_count)
 is_number null n h = cc
 is_number (boolean b) n h = cc
 is_number (number (unsigned m)) n h = by_test (nat_le m max_count) refl h
@@ -41,7 +41,7 @@ is_number (string s) n h = cc
 is_number (array ds) n h = cc
 is_number (object ms) n h = cc
 
-is_list : (d : Data) (ds : List Data) → option_map items_list (json.as_array d) ≡ Some ds → (items : Items) × (d ≡ array items) × (items_list items ≡ ds)
+pub is_list : (d : Data) (ds : List Data) → option_map items_list (json.as_array d) ≡ Some ds → (items : Items) × (d ≡ array items) × (items_list items ≡ ds)
 is_list null ds h = cc
 is_list (boolean b) ds h = cc
 is_list (number n) ds h = cc
@@ -49,7 +49,7 @@ is_list (string s) ds h = cc
 is_list (array items) ds h = (items, refl, cc)
 is_list (object ms) ds h = cc
 
-is_some_object : (d o : Data) → option_map object (json.as_object d) ≡ Some o → (ms : Members) × (d ≡ object ms) × (o ≡ object ms)
+pub is_some_object : (d o : Data) → option_map object (json.as_object d) ≡ Some o → (ms : Members) × (d ≡ object ms) × (o ≡ object ms)
 is_some_object null o h = cc
 is_some_object (boolean b) o h = cc
 is_some_object (number n) o h = cc

@@ -13,6 +13,7 @@ use Rattle.std.proofs.lemmas.Cmp.{nat_list_cmp_total}
 use Rattle.std.proofs.lemmas.Option.{get_or_from_slice_get}
 use Rattle.up_canon.specs.Names.{Name}
 use Rattle.up_canon.specs.Tables.{IsInOrder, shifted, place_of}
+use Rattle.up_canon.proofs.TableLemmas.{both, less}
 
 abbrev R : Name → Name → Ordering
 R = slice_cmp nat_cmp
@@ -93,15 +94,6 @@ behind q ns last h is below =
     (λ k d a b. absurd (omega arith))
 
 -- ---- the names of a table in order rise
-
-both : (a b : Bool) → T (a && b) → T a × T b
-both true b p = (tt, p)
-both false b p = absurd p
-
-less : (o : Ordering) → T (is_lt o) → o ≡ Less
-less Less p = refl
-less Equal p = absurd p
-less Greater p = absurd p
 
 first_below : {X : Type 0} (n : Name) (ns : List Name) (vs : List X) → length ns ≡ length vs → T (below_all R n (zip ns vs)) → AllByRecursion (λ y. R n y ≡ Less) ns
 first_below n [] vs paired h = tt

@@ -34,11 +34,11 @@ abbrev pub row_at : {X : Type 0} → List X → Result ℕ ℕ → Option X
 row_at values (Ok i) = slice_get values i
 row_at values (Err i) = None
 
-both : (a b : Bool) → T (a && b) → T a × T b
+pub both : (a b : Bool) → T (a && b) → T a × T b
 both true b p = (tt, p)
 both false b p = absurd p
 
-less : (o : Ordering) → T (is_lt o) → o ≡ Less
+pub less : (o : Ordering) → T (is_lt o) → o ≡ Less
 less Less p = refl
 less Equal p = absurd p
 less Greater p = absurd p

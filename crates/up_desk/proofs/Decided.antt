@@ -6,7 +6,6 @@ use Rattle.up_canon.specs.Names.{Name}
 use Rattle.up_canon.specs.declared.refusal.Refusal.{Refusal}
 use Rattle.up_sign.specs.Schemes.{Rules}
 use Rattle.up_plan.specs.Campaigns.{CampaignData}
-use Rattle.up_machine.specs.declared.answer.Answer.TheVariants.{Already as Same}
 use Rattle.up_machine.specs.declared.decision.Decision.{Decision}
 use Rattle.up_machine.specs.declared.decision.Decision.TheVariants.{Already, New}
 use Rattle.up_machine.specs.declared.answer.Answer.TheVariants.{Reply as Replied}
@@ -18,10 +17,8 @@ use Rattle.up_machine.specs.Deliveries.{with_entry}
 use Rattle.up_machine.specs.Rows.{reply_kept}
 use Rattle.up_machine.specs.State.{Entry, Vehicle, State}
 use Rattle.up_machine.specs.Deciding.{Outcome, done, already}
-use Rattle.up_machine.specs.Inventory.{with_campaign}
+use Rattle.up_machine.specs.Inventory.{with_campaign, closed}
 use Rattle.up_machine.specs.Decisions.{IsDone, GivesDecision, GivesClosed, HasAcceptedRows, GivesDelivered}
-use Rattle.up_desk.specs.Rows.{Held, Shows}
-use Rattle.up_desk.specs.Serving.{Leaves}
 
 pub when_already : {R : Type 0} (has : R → Type 0) (s next : State) (d : Decision R) (computed : Result Outcome Refusal) → d ≡ Already → GivesDecision has s next (Ok d) computed
     → computed ≡ Ok (already s)
@@ -37,13 +34,18 @@ pub when_closed : (s : State) (name : Name) (d : Decision CampaignData) (compute
 when_closed s name Already computed is h = h
 when_closed s name (New row) computed is h = cc
 
-pub when_closing : (s : State) (name : Name) (d : Decision CampaignData) (row : CampaignData) (computed : Result Outcome Refusal) → d ≡ New row → GivesClosed s name (Ok d) computed
-    → computed ≡ Ok (done (with_campaign s row))
-when_closing s name Already row computed is h = cc
-when_closing s name (New other) row computed is h = let same : other ≡ row = cc in h.3 ∙ ap (λ (c : CampaignData). Ok (done (with_campaign s c))) same
+-- the campaign that is closed
+pub record IsClosed (s : State) (name : Name) (row : CampaignData) (computed : Result Outcome Refusal) : Type 0 where
+  pub was : CampaignData
+  pub there : table.get s.campaigns name ≡ Some was
+  pub is : row ≡ closed was
+  pub decided : computed ≡ Ok (done (with_campaign s row))
 
-pub unchanged : (k : Rules) (s : State) (b : Held) (computed : Result Outcome Refusal) → Shows k s b → computed ≡ Ok (already s) → Leaves k s b (Ok Same) computed
-unchanged k s b computed shows h = (refl, (s, h, shows))
+pub when_closing : (s : State) (name : Name) (d : Decision CampaignData) (row : CampaignData) (computed : Result Outcome Refusal) → d ≡ New row → GivesClosed s name (Ok d) computed
+    → IsClosed s name row computed
+when_closing s name Already row computed is h = cc
+when_closing s name (New other) row computed is h = let same : other ≡ row = cc in
+    subst (λ (c : CampaignData). IsClosed s name c computed) same (record { was = h.0; there = h.1; is = h.2; decided = h.3 })
 
 pub when_repeated : (k : Rules) (s : State) (name : Name) (d : Delivered) (reply : Reply) (computed : Result Outcome Refusal) → d ≡ Repeat reply
     → GivesDelivered k s name (Ok d) computed → computed ≡ Ok (record { answer = Replied reply; next = s })

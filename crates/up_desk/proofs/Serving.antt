@@ -1,10 +1,10 @@
 -- What is served is what a command over the rows comes to.
 use Rattle.std.proofs.Common.{◌≡◌, ℕ, ◌<◌, ◌≤◌, List, Bool, true, false, Option, Some, None, Result, Ok, Err, refl, sym, ap, ◌∙◌, subst, arith}
-use Rattle.std.specs.Prelude.{⊤, nat_lt, if◌then◌else◌, codes, length, IfSome, option_and_then, MatchBool, IsTrue}
+use Rattle.std.specs.Prelude.{◌||◌, ⊤, nat_lt, if◌then◌else◌, codes, length, IfSome, option_and_then, MatchBool, IsTrue}
 use Rattle.std.specs.List.{list_all}
 use Rattle.std.proofs.lemmas.Bool.Decides.{nat_tests}
 use Rattle.up_canon.specs.Moments.{last_command_moment}
-use Rattle.up_canon.specs.Steps.{and_then, refuse_if, value_of}
+use Rattle.up_canon.specs.Steps.{and_then, refuse_if, unless, value_of}
 use Rattle.up_canon.specs.Refusals.{is_memory}
 use Rattle.up_canon.specs.declared.refusal.Refusal.{Refusal}
 use Rattle.up_canon.specs.declared.refusal.Refusal.TheVariants.{MomentOutOfRange, TooLarge, BadShape}
@@ -17,7 +17,10 @@ use Rattle.up_machine.specs.declared.answer.Answer.TheVariants.{Reply as Replied
 use Rattle.up_machine.specs.Keys.{public_fits}
 use Rattle.up_machine.specs.Vehicles.{NewVehicleData}
 use Rattle.up_machine.specs.Commands.{is_command}
-use Rattle.up_machine.specs.State.{State}
+use Rattle.sqlite.specs.Tree.{Trees}
+use Rattle.sqlite_trees.specs.View.{doubt}
+use Rattle.up_machine.specs.Laws.{EmptyIsSound}
+use Rattle.up_machine.specs.State.{State, empty_state}
 use Rattle.up_machine.specs.Replies.{reply_to}
 use Rattle.up_machine.specs.Deciding.{Outcome, check_moment}
 use Rattle.up_machine.specs.Repositories.{decide_found, decide_rotate, decide_image, decide_refresh, decide_fetch}
@@ -28,9 +31,10 @@ use Rattle.up_machine.specs.Machine.{decide, outcome_of, step}
 use Rattle.up_machine.specs.Repeats.{Repeat, repeat_in, repeat_of, served_as, serve}
 use Rattle.up_machine.specs.Sound.{IsSound}
 use Rattle.up_machine.specs.RepeatLaws.{ServedStaysSound}
-use Rattle.up_desk.specs.Rows.{Held, state_of, Stands}
-use Rattle.up_desk.specs.Serving.{is_lost, IsAnswered, told, served, outright_in_time, outright, Leaves}
-use Rattle.up_desk.proofs.Shown.{determined, settled}
+use Rattle.sqlite.specs.State.{State as Connected, HasCleanDisk, Survives}
+use Rattle.up_tables.specs.Stands.{IfClean, LeavesOnly}
+use Rattle.up_store.specs.Connections.{KeepsState}
+use Rattle.up_desk.specs.Serving.{is_store, is_lost_by, is_lost, IsAnswered, told, served, outright_in_time, outright, HoldsState, Leaves, IsCommit, Serves}
 
 -- ---- the moment
 
@@ -54,6 +58,20 @@ pub stopped_at : {A B : Type 0} (m : Result A Refusal) (f : A → Result B Refus
 unfolding and_then
 stopped_at m f r h = ap (λ n. and_then n f) h
 
+-- what goes on is what comes of it
+pub went_on : {A B : Type 0} (m : Result A Refusal) (f : A → Result B Refusal) (x : A) → m ≡ Ok x → and_then m f ≡ f x
+unfolding and_then
+went_on m f x h = ap (λ n. and_then n f) h
+
+-- what is refused stays so, unless it is lost
+pub stopped_or_lost : {A B : Type 0} (m : Result A Refusal) (f : A → Result B Refusal) (r : Refusal) → MatchBool (is_memory r) ⊤ (m ≡ Err r) → MatchBool (is_lost_by r) ⊤ (and_then m f ≡ Err r)
+stopped_or_lost m f r h = by_loss (is_memory r) (is_store r) h
+  where
+    by_loss : (a b : Bool) → MatchBool a ⊤ (m ≡ Err r) → MatchBool (a || b) ⊤ (and_then m f ≡ Err r)
+    by_loss true b h = tt
+    by_loss false true h = tt
+    by_loss false false h = stopped_at m f r h
+
 pub passed : {A : Type 0} (m : Result ⊤ Refusal) (f : ⊤ → Result A Refusal) → m ≡ Ok tt → and_then m f ≡ f tt
 unfolding and_then
 passed m f h = ap (λ (n : Result ⊤ Refusal). and_then n f) h
@@ -75,12 +93,21 @@ pub delivery_served : (k : Rules) (s : State) (at : ℕ) (body : List ℕ) → a
 unfolding and_then
 delivery_served k s at body h = sym (ap (λ (m : Result ⊤ Refusal). and_then m (λ _. and_then (incoming_in body) (decide_incoming k s at))) (in_time at h))
 
-pub of_command : (k : Rules) (s : State) (new : Held) (r : Result Answer Refusal) (at : ℕ) (c d : Command) → c ≡ d → Leaves k s new r (served k s at d) → Leaves k s new r (served k s at c)
-of_command k s new r at c d is h = subst (λ (e : Command). Leaves k s new r (served k s at e)) (sym is) h
+pub of_command : (k : Rules) (s : State) (old new : Connected) (r : Result Answer Refusal) (at : ℕ) (c d : Command) → c ≡ d → Serves k s old new r (served k s at d) → Serves k s old new r (served k s at c)
+of_command k s old new r at c d is h = subst (λ (e : Command). Serves k s old new r (served k s at e)) (sym is) h
 
-pub of_delivery : (k : Rules) (s : State) (new : Held) (r : Result Answer Refusal) (at : ℕ) (c : Command) (body : List ℕ) → c ≡ Deliver body → at ≤ last_command_moment
-    → Leaves k s new r (and_then (incoming_in body) (decide_incoming k s at)) → Leaves k s new r (served k s at c)
-of_delivery k s new r at c body is moment h = of_command k s new r at c (Deliver body) is (subst (λ (o : Result Outcome Refusal). Leaves k s new r o) (delivery_served k s at body moment) h)
+pub of_delivery : (k : Rules) (s : State) (old new : Connected) (r : Result Answer Refusal) (at : ℕ) (c : Command) (body : List ℕ) → c ≡ Deliver body → at ≤ last_command_moment
+    → Serves k s old new r (and_then (incoming_in body) (decide_incoming k s at)) → Serves k s old new r (served k s at c)
+of_delivery k s old new r at c body is moment h = of_command k s old new r at c (Deliver body) is (subst (λ (o : Result Outcome Refusal). Serves k s old new r o) (delivery_served k s at body moment) h)
+
+-- a vehicle with a public part that doesn't fit is refused
+pub unfit_vehicle : (k : Rules) (s : State) (at : ℕ) (new : NewVehicleData) → at ≤ last_command_moment → list_all (λ e. public_fits k e.public) new.ecus ≡ false
+    → decide_vehicle k s at new ≡ Err (BadShape (codes "key"))
+unfolding decide_vehicle
+unfit_vehicle k s at new h none = passed _ _ (in_time at h) ∙ stopped _ _ _ (ap (λ b. unless b (BadShape (codes "key"))) none)
+
+pub by_key : (r : Refusal) (computed : Result Outcome Refusal) → computed ≡ Err (BadShape (codes "key")) → r ≡ BadShape (codes "key") → MatchBool (is_lost_by r) ⊤ (computed ≡ Err r)
+by_key r computed is same = subst (λ q. MatchBool (is_lost_by q) ⊤ (computed ≡ Err q)) (sym same) is
 
 -- ---- repeats
 
@@ -131,37 +158,47 @@ served_is k s at (Fetch repository name) = refl
 
 -- ---- one call
 
-pub record IsServed (k : Rules) (s : State) (at : ℕ) (c : Command) (a : Answer) (new : Held) : Type 0 where
-  pub answered : IsAnswered a s (state_of new) (serve k s at c)
-  pub stands : Stands k new
+-- the answer and the state that the tables show then
+pub record IsServed (k : Rules) (s : State) (at : ℕ) (c : Command) (a : Answer) (new : Connected) : Type 0 where
+  pub next : State
+  pub answered : IsAnswered a s next (serve k s at c)
+  pub sound : IsSound k next
+  pub keeps : KeepsState k next new
 
-by_memory : (k : Rules) (s : State) (at : ℕ) (c : Command) (r : Refusal) (new : Held) → state_of new ≡ s
-    → (b : Bool) → MatchBool b ⊤ (served k s at c ≡ Err r)
-    → MatchBool b (state_of new ≡ s) ((Refused r ≡ (serve k s at c).answer) × (state_of new ≡ (serve k s at c).next))
-by_memory k s at c r new same true h = same
-by_memory k s at c r new same false h =
+by_loss : (k : Rules) (s : State) (at : ℕ) (c : Command) (r : Refusal) (b : Bool) → MatchBool b ⊤ (served k s at c ≡ Err r)
+    → MatchBool b (s ≡ s) ((Refused r ≡ (serve k s at c).answer) × (s ≡ (serve k s at c).next))
+by_loss k s at c r true h = refl
+by_loss k s at c r false h =
     let is : serve k s at c ≡ record { answer = Refused r; next = s } = served_is k s at c ∙ ap (outcome_of s) h in
-    (sym (ap (λ (o : Outcome). o.answer) is), same ∙ sym (ap (λ (o : Outcome). o.next) is))
+    (sym (ap (λ (o : Outcome). o.answer) is), sym (ap (λ (o : Outcome). o.next) is))
 
-done_as : (k : Rules) (s next : State) (at : ℕ) (c : Command) (a : Answer) (new : Held) → state_of new ≡ next → serve k s at c ≡ record { answer = a; next = next }
-    → (b : Bool) → b ≡ false → MatchBool b (state_of new ≡ s) ((a ≡ (serve k s at c).answer) × (state_of new ≡ (serve k s at c).next))
-done_as k s next at c a new same is true h = cc
-done_as k s next at c a new same is false h = (sym (ap (λ (o : Outcome). o.answer) is), same ∙ sym (ap (λ (o : Outcome). o.next) is))
+done_as : (k : Rules) (s next : State) (at : ℕ) (c : Command) (a : Answer) → serve k s at c ≡ record { answer = a; next = next }
+    → (b : Bool) → b ≡ false → MatchBool b (next ≡ s) ((a ≡ (serve k s at c).answer) × (next ≡ (serve k s at c).next))
+done_as k s next at c a is true h = cc
+done_as k s next at c a is false h = (sym (ap (λ (o : Outcome). o.answer) is), sym (ap (λ (o : Outcome). o.next) is))
 
-pub answered : (k : Rules) (s : State) (new : Held) (at : ℕ) (c : Command) (r : Result Answer Refusal) → ServedStaysSound → IsTrue (is_command c) → IsSound k s
+pub answered : (k : Rules) (s : State) (new : Connected) (at : ℕ) (c : Command) (r : Result Answer Refusal) → ServedStaysSound → IsTrue (is_command c) → IsSound k s
     → Leaves k s new r (served k s at c) → IsServed k s at c (told r) new
 answered k s new at c (Ok a) stays fits sound h =
     let next : State = h.1.0 in
     let is : serve k s at c ≡ record { answer = a; next = next } = served_is k s at c ∙ ap (outcome_of s) h.1.1 in
-    let next_sound : IsSound k next = subst (λ (o : Outcome). IsSound k o.next) is (stays k s at c fits sound) in
     record {
-      answered = done_as k s next at c a new (determined k next new next_sound h.1.2) is (is_lost a) h.0;
-      stands = settled k next new next_sound h.1.2;
+      next = next;
+      answered = done_as k s next at c a is (is_lost a) h.0;
+      sound = subst (λ (o : Outcome). IsSound k o.next) is (stays k s at c fits sound);
+      keeps = h.1.2;
     }
-answered k s new at c (Err r) stays fits sound h = record {
-  answered = by_memory k s at c r new (determined k s new sound h.0) (is_memory r) h.1;
-  stands = settled k s new sound h.0;
-}
+answered k s new at c (Err r) stays fits sound h = record { next = s; answered = by_loss k s at c r (is_lost_by r) h.1; sound = sound; keeps = h.0 }
+
+next_is : (k : Rules) (s : State) (at : ℕ) (c : Command) → (outcome_of s (served k s at c)).next ≡ (serve k s at c).next
+next_is k s at c = sym (ap (λ (o : Outcome). o.next) (served_is k s at c))
+
+pub crashed : (k : Rules) (s : State) (old new : Connected) (at : ℕ) (c : Command) (r : Result Answer Refusal) → Serves k s old new r (served k s at c) → Survives old new (HoldsState k (serve k s at c).next)
+crashed k s old new at c r h = subst (λ (n : State). Survives old new (HoldsState k n)) (next_is k s at c) h.crash
+
+pub committed : (k : Rules) (s : State) (old new : Connected) (at : ℕ) (c : Command) (r : Result Answer Refusal) → Serves k s old new r (served k s at c)
+    → IsCommit s (told r) (serve k s at c).next → IfClean (LeavesOnly (HoldsState k (serve k s at c).next)) new
+committed k s old new at c r h = subst (λ (n : State). IsCommit s (told r) n → IfClean (LeavesOnly (HoldsState k n)) new) (next_is k s at c) h.durable
 
 -- ---- what is refused whether or not there is memory
 
@@ -199,3 +236,18 @@ late_outright k at c result h is =
 pub told_outright : (o : Option Refusal) (given : Result Answer Refusal) (answer : Answer) → answer ≡ told given → IfSome o (λ r. given ≡ Err r) → IfSome o (λ r. answer ≡ Refused r)
 told_outright None given answer is h = tt
 told_outright (Some r) given answer is h = is ∙ ap told h
+
+-- ---- a disk that is clean was clean
+
+pub clean_once : (k : Rules) (old new : Connected) (Left : State → Trees → Type 0) → EmptyIsSound
+    → ((s : State) → IsSound k s → IfClean (KeepsState k s) old → Survives old new (Left s)) → HasCleanDisk new → HasCleanDisk old
+unfolding doubt
+clean_once k old new Left sound survives now = by_test old.is_clean refl
+  where
+    by_test : (b : Bool) → old.is_clean ≡ b → HasCleanDisk old
+    by_test true is = ap doubt is
+    by_test false is =
+        let is_not : HasCleanDisk old → ⊥ = λ (clean : doubt old.is_clean ≡ 0). let one : doubt old.is_clean ≡ 1 = ap doubt is in absurd (omega arith) in
+        let all : Survives old new (Left empty_state) = survives empty_state (sound k) (λ clean. absurd (is_not clean)) in
+        let before : doubt old.is_clean ≡ 0 = omega (arith, all.clean) in
+        before

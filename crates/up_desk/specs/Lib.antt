@@ -1,5 +1,5 @@
-pub mod Tables
-pub mod Rows
-pub mod Changes
+pub mod Gathered
 pub mod Serving
+pub mod Calls
 pub mod Runs
+pub mod Laws

@@ -1,5 +1,5 @@
 -- Lists of commands, answered one after another.
-use Rattle.std.specs.Prelude.{◌≡◌, ℕ, List, [], ◌∷◌, Option, Some, None, if◌then◌else◌, map, length, ⊤, IfSome}
+use Rattle.std.specs.Prelude.{◌≡◌, ◌≢◌, ℕ, List, [], ◌∷◌, ◌++◌, Option, Some, None, if◌then◌else◌, map, length, ⊤, IfSome}
 use Rattle.std.specs.FinMap as table
 use Rattle.up_canon.specs.Names.{Name}
 use Rattle.up_sign.specs.Schemes.{Rules}
@@ -8,7 +8,12 @@ use Rattle.up_machine.specs.declared.answer.Answer.{Answer}
 use Rattle.up_machine.specs.declared.answer.Answer.TheVariants.{Refused}
 use Rattle.up_machine.specs.State.{State}
 use Rattle.up_machine.specs.Machine.{Timed, run}
-use Rattle.up_machine.specs.Repeats.{Sent, after, thinned, expected, not_lost, without_others, own_answers}
+use Rattle.sqlite.specs.State.{State as Connected, HasCleanDisk}
+use Rattle.up_machine.specs.Repeats.{Sent, after, thinned, expected, not_lost, vehicle_of, without_others, own_answers}
+use Rattle.up_machine.specs.ApartLaws.{AreExchanged}
+use Rattle.up_machine.specs.Sound.{IsSound}
+use Rattle.up_tables.specs.Stands.{IfClean}
+use Rattle.up_store.specs.Connections.{KeepsState}
 use Rattle.up_desk.specs.Serving.{is_lost, outright, RepliesStay}
 
 -- a command with its moment
@@ -25,21 +30,39 @@ sent (c ∷ cs) (a ∷ answers) = record { item = timed c; lost = is_lost a } �
 abbrev pub unless_lost : Answer → Option Answer
 unless_lost a = if is_lost a then None else Some a
 
--- what is refused whether or not there is memory is answered so
+-- one answer for each command, and what is refused whether or not there is memory is answered so
 abbrev pub AreOutright : Rules → List (ℕ × Command) → List Answer → Type 0
-AreOutright k [] answers = ⊤
-AreOutright k (c ∷ cs) [] = ⊤
+AreOutright k [] [] = ⊤
+AreOutright k [] (a ∷ answers) = ⊥
+AreOutright k (c ∷ cs) [] = ⊥
 AreOutright k (c ∷ cs) (a ∷ answers) = IfSome (outright k c.0 c.1) (λ r. a ≡ Refused r) × AreOutright k cs answers
 
+-- the list has these two neighbours, which deliver manifests of different vehicles
+pub record AreNeighbours (ms before rest : List Sent) (m n : Sent) : Type 0 where
+  pub list : ms ≡ before ++ m ∷ n ∷ rest
+  pub first : Name
+  pub second : Name
+  pub first_is : vehicle_of m.item.command ≡ Some first
+  pub second_is : vehicle_of n.item.command ≡ Some second
+  pub differ : first ≢ second
+
 -- One answer for each command; each that isn't lost is the expected one; the state is the plain machine's after the list without what
--- was lost and without the repeats, which is also that after the list with them; each reply that was kept is kept on; and each vehicle,
--- and the answers to its own deliveries, are those of the list without other vehicles' deliveries.
+-- was lost and without the repeats, which is also that after the list with them; each reply that was kept is kept on; each vehicle, and
+-- the answers to its own deliveries, are those of the list without other vehicles' deliveries; and with two neighbouring deliveries of
+-- different vehicles exchanged, the state and the answer to each command are the same.
 pub record IsRun (k : Rules) (old : State) (cs : List (ℕ × Command)) (answers : List Answer) (new : State) : Type 0 where
   pub count : length answers ≡ length cs
   pub told : map unless_lost answers ≡ expected k old (sent cs answers)
-  pub never_lost : AreOutright k cs answers
   pub state : new ≡ run k old (thinned k old (sent cs answers))
   pub with_repeats : new ≡ run k old (not_lost (sent cs answers))
   pub stays : RepliesStay k old new
   pub apart : (name : Name) → (table.get new.vehicles name ≡ table.get (after k old (without_others name (sent cs answers))).vehicles name)
       × (own_answers k old name (sent cs answers) ≡ own_answers k old name (without_others name (sent cs answers)))
+  pub exchanged : (before rest : List Sent) (m n : Sent) → AreNeighbours (sent cs answers) before rest m n
+      → (new ≡ run k old (thinned k old (before ++ n ∷ m ∷ rest)))
+      × AreExchanged (length before) (map unless_lost answers) (expected k old (before ++ n ∷ m ∷ rest))
+
+-- so from each sound state that the tables showed, where the disk is clean then; and the tables show the state
+abbrev pub RunsCalls : Rules → List (ℕ × Command) → List Answer → Connected → Connected → Type 0
+RunsCalls k cs answers old new =
+    HasCleanDisk new → (s : State) → IsSound k s → IfClean (KeepsState k s) old → (next : State) × IsRun k s cs answers next × IsSound k next × KeepsState k next new

@@ -1,38 +1,61 @@
--- What a desk answers, and the state that it leaves.
-use Rattle.std.specs.Prelude.{◌≡◌, ℕ, Bool, false, nat_lt, if◌then◌else◌, codes, length, Option, Some, None, MatchBool, ⊤, Result, Ok, Err}
+-- What a desk answers, the state that its tables show then, and what a crash leaves. All of it is said of a state that the tables show,
+-- over a disk that has returned what was written so far; what is answered outright is said of any.
+use Rattle.std.specs.Prelude.{◌≡◌, ◌||◌, ℕ, Bool, true, false, nat_lt, if◌then◌else◌, codes, length, Option, Some, None, MatchBool, ⊤, Result, Ok, Err, IfOk}
 use Rattle.std.specs.List.{list_all}
+use Rattle.std.specs.FinMap as table
+use Rattle.sqlite.specs.Held.{Held}
+use Rattle.sqlite.specs.State.{State as Connected, HasCleanDisk, Survives}
+use Rattle.sqlite.specs.Tree.{Trees}
 use Rattle.up_canon.specs.Moments.{last_command_moment}
-use Rattle.up_canon.specs.Names.{Name}
+use Rattle.up_canon.specs.Names.{Name, Table}
 use Rattle.up_canon.specs.Refusals.{is_memory}
 use Rattle.up_canon.specs.Steps.{◌>>=◌}
 use Rattle.up_canon.specs.declared.refusal.Refusal.{Refusal}
-use Rattle.up_canon.specs.declared.refusal.Refusal.TheVariants.{MomentOutOfRange, TooLarge, BadShape}
+use Rattle.up_canon.specs.declared.refusal.Refusal.TheVariants.{Memory, Store, MomentOutOfRange, TooLarge, BadShape}
 use Rattle.up_sign.specs.Schemes.{Rules}
+use Rattle.up_manifest.specs.declared.manifest.Manifest.{Manifest}
 use Rattle.up_manifest.specs.Manifests.{largest_body, incoming_in}
+use Rattle.up_plan.specs.Campaigns.{CampaignData}
+use Rattle.up_plan.specs.Images.{ImageData}
+use Rattle.up_plan.specs.Planning.{items_for}
 use Rattle.up_machine.specs.declared.command.Command.{Command}
 use Rattle.up_machine.specs.declared.command.Command.TheVariants.{AddVehicle, Deliver}
 use Rattle.up_machine.specs.declared.answer.Answer.{Answer}
-use Rattle.up_machine.specs.declared.answer.Answer.TheVariants.{Refused}
+use Rattle.up_machine.specs.declared.answer.Answer.TheVariants.{Done, Already, Reply as Replied, File, Refused}
 use Rattle.up_machine.specs.declared.answer.Reply.{Reply}
 use Rattle.up_machine.specs.Keys.{public_fits}
 use Rattle.up_machine.specs.State.{State}
 use Rattle.up_machine.specs.Deciding.{Outcome, check_moment}
-use Rattle.up_machine.specs.Decisions.{decide_incoming}
-use Rattle.up_machine.specs.Machine.{decide}
+use Rattle.up_machine.specs.Decisions.{decide_incoming, files_named, AreImagesOf}
+use Rattle.up_machine.specs.Machine.{decide, outcome_of}
 use Rattle.up_machine.specs.Replies.{kept_reply}
-use Rattle.up_desk.specs.Rows.{Held, Shows}
+use Rattle.up_rows.specs.StateRows.{StateRows, rows_of_state}
+use Rattle.up_tables.specs.declared.values.StoreFault.{StoreFault}
+use Rattle.up_tables.specs.declared.values.StoreFault.TheVariants as fault
+use Rattle.up_tables.specs.Stands.{IfClean, LeavesOnly}
+use Rattle.up_store.specs.Connections.{KeepsRows, KeepsState, HoldsRows}
 
--- a scheme, and the state that is kept under it
-pub record Holding (K : Type 0) : Type 0 where
+-- a scheme, and the connection over which the tables are kept
+pub record DeskView (K D : Type 0) : Type 0 where
   pub scheme : K
-  pub state : State
+  pub store : Held D
 
--- memory was refused
+-- ---- answers
+
+-- the database refused, for another cause than memory
+abbrev pub is_store : Refusal → Bool
+is_store Store = true
+is_store _ = false
+
+-- memory or the database refused
+abbrev pub is_lost_by : Refusal → Bool
+is_lost_by r = is_memory r || is_store r
+
 abbrev pub is_lost : Answer → Bool
-is_lost (Refused r) = is_memory r
+is_lost (Refused r) = is_lost_by r
 is_lost _ = false
 
--- the answer and the state are those of the outcome; where memory was refused the state is as before
+-- the answer and the state are those of the outcome; where memory or the database refused the state is as before
 abbrev pub IsAnswered : Answer → State → State → Outcome → Type 0
 IsAnswered a old new o = MatchBool (is_lost a) (new ≡ old) ((a ≡ o.answer) × (new ≡ o.next))
 
@@ -40,7 +63,7 @@ IsAnswered a old new o = MatchBool (is_lost a) (new ≡ old) ((a ≡ o.answer) �
 abbrev pub RepliesStay : Rules → State → State → Type 0
 RepliesStay k old new = (vehicle : Name) (number : ℕ) (reply : Reply) → kept_reply k old vehicle number ≡ Some reply → kept_reply k new vehicle number ≡ Some reply
 
--- ---- refusals that are answered whether or not there is memory
+-- ---- refusals that are answered whether or not there is memory, whatever the database does
 
 -- of a command in time: that of a body that is too large, and that of a new vehicle with a public part that doesn't fit
 abbrev pub outright_in_time : Rules → Command → Option Refusal
@@ -52,7 +75,7 @@ outright_in_time k c = None
 abbrev pub outright : Rules → ℕ → Command → Option Refusal
 outright k at c = if nat_lt last_command_moment at then Some MomentOutOfRange else outright_in_time k c
 
--- ---- one command over the rows
+-- ---- one command
 
 -- a refusal is told as one
 abbrev pub told : Result Answer Refusal → Answer
@@ -67,8 +90,58 @@ served k s at (Deliver body) = do
   decide_incoming k s at incoming
 served k s at c = decide k s at c
 
--- what is kept are the rows of the outcome that was computed; of a refusal, or where memory was refused, those of the state
-abbrev pub Leaves : Rules → State → Held → Result Answer Refusal → Result Outcome Refusal → Type 0
+-- what a crash may leave shows the state
+abbrev pub HoldsState : Rules → State → Trees → Type 0
+HoldsState k s = HoldsRows (rows_of_state k s)
+
+-- the tables show the state of the outcome that was computed; of a refusal, or where the command was lost, the state as it was
+abbrev pub Leaves : Rules → State → Connected → Result Answer Refusal → Result Outcome Refusal → Type 0
 Leaves k s new (Ok answer) computed =
-    (is_lost answer ≡ false) × ((next : State) × (computed ≡ Ok (record { answer = answer; next = next })) × Shows k next new)
-Leaves k s new (Err r) computed = Shows k s new × MatchBool (is_memory r) ⊤ (computed ≡ Err r)
+    (is_lost answer ≡ false) × ((next : State) × (computed ≡ Ok (record { answer = answer; next = next })) × KeepsState k next new)
+Leaves k s new (Err r) computed = KeepsState k s new × MatchBool (is_lost_by r) ⊤ (computed ≡ Err r)
+
+-- it was done, or is a reply with which the state changed: that to a newly accepted manifest
+abbrev pub IsCommit : State → Answer → State → Type 0
+IsCommit s Done next = ⊤
+IsCommit s Already next = ⊥
+IsCommit s (Replied reply) next = next ≡ s → ⊥
+IsCommit s (File text) next = ⊥
+IsCommit s (Refused r) next = ⊥
+
+-- It leaves what was computed. Whatever it answers, a crash leaves what it could leave before, or the next state; after a commit that
+-- state alone.
+pub record Serves (k : Rules) (s : State) (old new : Connected) (result : Result Answer Refusal) (computed : Result Outcome Refusal) : Type 0 where
+  pub leaves : HasCleanDisk new → Leaves k s new result computed
+  pub crash : Survives old new (HoldsState k (outcome_of s computed).next)
+  pub durable : IsCommit s (told result) (outcome_of s computed).next → IfClean (LeavesOnly (HoldsState k (outcome_of s computed).next)) new
+
+-- ---- its steps
+
+-- nothing is written: the tables list what they listed, and a crash leaves what it could leave before
+pub record Reads (old new : Connected) : Type 0 where
+  pub kept : (rows : StateRows) → IfClean (KeepsRows rows) old → IfClean (KeepsRows rows) new
+  pub survives : Survives old new (λ _. ⊥)
+
+-- what is read is told by the state that the tables show
+abbrev pub Tells : {A E : Type 0} → (Rules → State → A) → Connected → Connected → Result A E → Type 0
+Tells of_state old new result = HasCleanDisk new → IfOk result (λ found. (k : Rules) (s : State) → IfClean (KeepsState k s) old → found ≡ of_state k s)
+
+-- what is decided is what a decision gives, but that the database may refuse too
+abbrev pub GivesOrLost : {R : Type 0} → (Result R Refusal → Result Outcome Refusal → Type 0) → Result R Refusal → Result Outcome Refusal → Type 0
+GivesOrLost gives (Ok x) computed = gives (Ok x) computed
+GivesOrLost gives (Err r) computed = MatchBool (is_lost_by r) ⊤ (computed ≡ Err r)
+
+-- the campaigns and images that the plan for a manifest's vehicle reads
+pub record ArePlanRows (s : State) (manifest : Manifest) (campaigns : Table CampaignData) (images : Table ImageData) : Type 0 where
+  pub items : items_for (table.values campaigns) manifest.vehicle ≡ items_for (table.values s.campaigns) manifest.vehicle
+  pub images_are : AreImagesOf (files_named (table.values campaigns) manifest.vehicle manifest.reports) images s.images
+
+-- a fault of the store as a refusal
+abbrev pub refusal_told : StoreFault → Refusal
+refusal_told fault.Memory = Memory
+refusal_told fault.Store = Store
+
+-- the answer, where it was written
+abbrev pub answer_written : Answer → Result ⊤ StoreFault → Result Answer Refusal
+answer_written answer (Ok done) = Ok answer
+answer_written answer (Err f) = Err (refusal_told f)

@@ -1,24 +1,23 @@
 //! The two repositories under one scheme.
-ghost use Rattle.std.specs.Prelude.{◌≡◌, ◌++◌, List, IfOk, IfSome, OnOk, OnErr, IsTrue};
+ghost use Rattle.std.specs.Prelude.{◌≡◌, ◌++◌, List, IfSome, OnOk, OnErr, IsTrue};
 ghost use Rattle.std.specs.List.{AllByRecursion};
+ghost use Rattle.sqlite.specs.Held.{state};
+ghost use Rattle.sqlite.specs.State.{HasCleanDisk};
+ghost use Rattle.up_machine.specs.declared.answer.Answer.{Answer};
 ghost use Rattle.up_machine.specs.declared.answer.Answer.TheVariants.{Refused};
 ghost use Rattle.up_machine.specs.Commands.{opens_running};
-ghost use Rattle.up_machine.specs.State.{empty_state};
-ghost use Rattle.up_machine.specs.Repeats.{serve};
-ghost use Rattle.up_machine.specs.Reads.{ecus_of, version_of, installed as installed_in, assigned_to};
-ghost use Rattle.up_machine.specs.declared.answer.Answer.{Answer};
-ghost use Rattle.up_desk.specs.Runs.{IsRun};
-ghost use Rattle.up_machine.specs.Sound.{IsSound};
-ghost use Rattle.up_desk.specs.Serving.{Holding, IsAnswered, RepliesStay, outright as outright_of};
+ghost use Rattle.up_machine.specs.Reads.{ecus_of as ecus_in, version_of as version_in, installed as installed_in, assigned_to};
+ghost use Rattle.up_desk.specs.Runs.{AreOutright, RunsCalls};
+ghost use Rattle.up_desk.specs.Calls.{CommitsCall, ServesCall, SparesCall};
+ghost use Rattle.up_desk.specs.Serving.{Reads, Tells, outright as outright_of};
 
-use crate::book::Book;
 use crate::obeying::{answer_of, keeps_limits, obey};
-use crate::reads::{assigned_in, ecus_in, installed_of, version_in};
+use crate::views::{assigned_of, ecus_of, installed_on, version_of};
+use sqlite::Alter;
 use std::alloc::{AllocError, Global};
 use std::marker::Model;
 use up_canon::ident::Ident;
 use up_canon::listed::Listed;
-use up_canon::table::Table;
 use up_machine::answer::Answer;
 use up_machine::command::Command;
 use up_machine::laws::{
@@ -27,49 +26,41 @@ use up_machine::laws::{
 use up_manifest::report::Installed;
 use up_plan::assigned::Plan;
 use up_sign::scheme::Scheme;
+use up_store::store::{Store, StoreFault};
 
-/// The Image and the Director repository under one scheme, whose rows are kept in memory.
+/// The Image and the Director repository under one scheme, over a store.
 #[derive(Drop)]
-pub struct Desk<K: Scheme> {
+pub struct Desk<K: Scheme, D: Alter> {
     scheme: K,
-    book: Book,
+    store: Store<D>,
 }
 
-impl<K: Scheme> Model for Desk<K> {
-    ghost use Rattle.up_desk.specs.Serving.{Holding};
+impl<K: Scheme, D: Alter> Model for Desk<K, D> {
+    ghost use Rattle.up_desk.specs.Serving.{DeskView};
 
-    ghost Value = { Holding K };
+    ghost Value = { DeskView K D };
 
     ghost use Rattle.std.specs.Coded.{codes};
-    ghost use Rattle.std.specs.FinMap as table;
+    ghost use Rattle.sqlite.specs.Held.{held_code};
 
-    ghost coded = { Prim.hlevel (codes, table.code) };
+    ghost coded = { Prim.hlevel (codes, held_code D.code) };
 
-    ghost use Rattle.up_desk.specs.Rows.{held, state_of, Holds};
-
-    ghost view = { λ a. record { scheme = a.scheme; state = state_of (held a.book) } };
-
-    ghost invariant = { λ a. Holds (K.rules a.scheme) (state_of (held a.book)) (held a.book) };
+    ghost view = { λ a. record { scheme = a.scheme; store = a.store } };
 }
 
-impl<K: Scheme> Desk<K> {
-    /// A desk at which nothing is founded.
-    pub fn new(scheme: K, alloc: Global) -> Desk<K>
-        ensures { result ≡ record { scheme = scheme; state = empty_state } }
+impl<K: Scheme, D: Alter> Desk<K, D> {
+    /// A desk over this store.
+    pub fn new(scheme: K, store: Store<D>) -> Desk<K, D>
+        ensures { result ≡ record { scheme = scheme; store = store } }
     {
-        states_stay_sound();
-        Desk {
-            scheme,
-            book: Book {
-                founding: None,
-                roots: Vec::new(alloc),
-                images: Table::new(alloc),
-                files: None,
-                campaigns: Table::new(alloc),
-                vehicles: Table::new(alloc),
-                kept: Vec::new(alloc),
-            },
-        }
+        Desk { scheme, store }
+    }
+
+    /// The store.
+    pub fn release(self) -> Store<D>
+        ensures { result ≡ self.store }
+    {
+        self.store
     }
 
     /// The scheme that it was made with.
@@ -79,34 +70,30 @@ impl<K: Scheme> Desk<K> {
         &self.scheme
     }
 
-    /// The state is sound at any time: limits hold, keys fit, an ECU stands in one vehicle, what campaigns and plans name
-    /// exists, and each kept manifest is one of its vehicle, with counters that rise.
-    pub fn state_is_sound(&self)
-        ensures { IsSound (K.rules self.now.scheme) self.now.state }
-    {
-        let _ = &self.book;
-    }
-
     /// Answers a command at a moment: as the plain machine does, but a repeat of an accepted manifest is answered the reply
-    /// that was kept for it, and each kept reply stays. Where memory is refused nothing changes; a moment past
-    /// 2100-01-01T00:00:00Z, a body of more than 262,144 bytes and a key of a new vehicle that
-    /// doesn't fit are refused as that whether or not there is memory.
+    /// that was kept for it, and each kept reply stays. Where memory or the database refuses (`Refused(Memory)`,
+    /// `Refused(Store)`) nothing changes; a moment past 2100-01-01T00:00:00Z, a body of more than 262,144 bytes and a key of a
+    /// new vehicle that doesn't fit are refused as that whatever they do. Whatever is answered, a crash leaves what it could
+    /// leave before, or the next state; after `Done` and a reply to a newly accepted manifest that state alone.
     pub fn call(&mut self, alloc: Global, at: u64, command: &Command) -> Answer
         requires { IsTrue (opens_running command.now) }
-        ensures served { IsAnswered result self.old.state self.new.state (serve (K.rules self.old.scheme) self.old.state at command.now) }
+        ensures served { ServesCall (K.rules self.old.scheme) at command.now result (state D.Store self.old.store) (state D.Store self.new.store) }
         ensures outright { IfSome (outright_of (K.rules self.old.scheme) at command.now) (λ r. result ≡ Refused r) }
-        ensures stays { RepliesStay (K.rules self.old.scheme) self.old.state self.new.state }
+        ensures crash { SparesCall (K.rules self.old.scheme) at command.now (state D.Store self.old.store) (state D.Store self.new.store) }
+        ensures durable { CommitsCall (K.rules self.old.scheme) at command.now result (state D.Store self.old.store) (state D.Store self.new.store) }
+        ensures clean { HasCleanDisk (state D.Store self.new.store) → HasCleanDisk (state D.Store self.old.store) }
         ensures scheme { self.new.scheme ≡ self.old.scheme }
     {
         keeps_limits(command);
+        states_stay_sound();
         repeats_change_nothing();
         kept_replies_stay();
-        answer_of(obey(&mut self.book, alloc, &self.scheme, at, command))
+        answer_of(obey(&mut self.store, alloc, &self.scheme, at, command))
     }
 
     /// Answers commands one after another, each with its moment, and appends one answer for each: where some commands are
-    /// repeated or lost (answered `Refused(Memory)`), the state is the plain machine's after the list without them, and each
-    /// other answer is the expected one; each kept reply stays. An error means that nothing was done.
+    /// repeated or lost (answered `Refused(Memory)` or `Refused(Store)`), the state is the plain machine's after the list
+    /// without them, and each other answer is the expected one; each kept reply stays. An error means that nothing was done.
     pub fn run(
         &mut self,
         alloc: Global,
@@ -114,12 +101,12 @@ impl<K: Scheme> Desk<K> {
         answers: &mut Vec<Answer>,
     ) -> Result<(), AllocError>
         requires { AllByRecursion (λ c. IsTrue (opens_running c.1)) commands.now }
-        ensures ran { OnOk result ((told : List Answer) × (answers.new.items ≡ answers.old.items ++ told)
-            × IsRun (K.rules self.old.scheme) self.old.state commands.now told self.new.state) }
-        ensures err { OnErr result ((answers.new.items ≡ answers.old.items) × (self.new.state ≡ self.old.state)) }
+        ensures ran { OnOk result ((told : List Answer) × (answers.new.items ≡ answers.old.items ++ told) × AreOutright (K.rules self.old.scheme) commands.now told
+            × RunsCalls (K.rules self.old.scheme) commands.now told (state D.Store self.old.store) (state D.Store self.new.store)) }
+        ensures err { OnErr result ((answers.new.items ≡ answers.old.items) × (self.new ≡ self.old)) }
+        ensures clean { HasCleanDisk (state D.Store self.new.store) → HasCleanDisk (state D.Store self.old.store) }
         ensures scheme { self.new.scheme ≡ self.old.scheme }
     {
-        let _ = &self.book;
         repeats_change_nothing();
         kept_replies_stay();
         vehicles_stand_apart();
@@ -133,30 +120,42 @@ impl<K: Scheme> Desk<K> {
     }
 
     /// The ECUs of a vehicle in inventory order, none of an unknown vehicle.
-    pub fn ecus(&self, alloc: Global, vehicle: &Ident) -> Result<Option<Listed<Ident>>, AllocError>
-        ensures { IfOk result (λ found. found ≡ ecus_of self.now.state vehicle.now) }
+    pub fn ecus(
+        &mut self,
+        alloc: Global,
+        vehicle: &Ident,
+    ) -> Result<Option<Listed<Ident>>, StoreFault>
+        ensures told { Tells (λ k s. ecus_in s vehicle.now) (state D.Store self.old.store) (state D.Store self.new.store) result }
+        ensures reads { Reads (state D.Store self.old.store) (state D.Store self.new.store) }
+        ensures scheme { self.new.scheme ≡ self.old.scheme }
     {
-        ecus_in(&self.book, alloc, vehicle)
+        ecus_of(&mut self.store, alloc, vehicle)
     }
 
     /// How many manifests of a vehicle were accepted, none of an unknown vehicle.
-    pub fn version(&self, vehicle: &Ident) -> Option<u64>
-        ensures { result ≡ version_of self.now.state vehicle.now }
+    pub fn version(&mut self, alloc: Global, vehicle: &Ident) -> Result<Option<u64>, StoreFault>
+        ensures told { Tells (λ k s. version_in s vehicle.now) (state D.Store self.old.store) (state D.Store self.new.store) result }
+        ensures reads { Reads (state D.Store self.old.store) (state D.Store self.new.store) }
+        ensures scheme { self.new.scheme ≡ self.old.scheme }
     {
-        version_in(&self.book, vehicle)
+        version_of(&mut self.store, alloc, vehicle)
     }
 
     /// The image that an ECU reported last, none of an unknown ECU and before its first report.
-    pub fn installed(&self, alloc: Global, ecu: &Ident) -> Result<Option<Installed>, AllocError>
-        ensures { IfOk result (λ found. found ≡ installed_in self.now.state ecu.now) }
+    pub fn installed(&mut self, alloc: Global, ecu: &Ident) -> Result<Option<Installed>, StoreFault>
+        ensures told { Tells (λ k s. installed_in s ecu.now) (state D.Store self.old.store) (state D.Store self.new.store) result }
+        ensures reads { Reads (state D.Store self.old.store) (state D.Store self.new.store) }
+        ensures scheme { self.new.scheme ≡ self.old.scheme }
     {
-        installed_of(&self.book, alloc, ecu)
+        installed_on(&mut self.store, alloc, ecu)
     }
 
     /// What is assigned to a vehicle, none of an unknown vehicle and before its first manifest.
-    pub fn assigned(&self, alloc: Global, vehicle: &Ident) -> Result<Option<Plan>, AllocError>
-        ensures { IfOk result (λ found. found ≡ assigned_to self.now.state vehicle.now) }
+    pub fn assigned(&mut self, alloc: Global, vehicle: &Ident) -> Result<Option<Plan>, StoreFault>
+        ensures told { Tells (λ k s. assigned_to s vehicle.now) (state D.Store self.old.store) (state D.Store self.new.store) result }
+        ensures reads { Reads (state D.Store self.old.store) (state D.Store self.new.store) }
+        ensures scheme { self.new.scheme ≡ self.old.scheme }
     {
-        assigned_in(&self.book, alloc, vehicle)
+        assigned_of(&mut self.store, alloc, vehicle)
     }
 }

@@ -1,116 +1,174 @@
 //! Vehicles of the inventory.
-ghost use Rattle.std.specs.Prelude.{◌≡◌, ◌≤◌, OnOk, OnErr, [], map, take, length, codes, false};
+ghost use Rattle.std.specs.Prelude.{◌≡◌, ◌≤◌, IfOk, [], is_some, map, option_copied, codes, false, Err};
 ghost use Rattle.std.specs.List.{list_all};
+ghost use Rattle.sqlite.specs.Held.{state};
+ghost use Rattle.sqlite.specs.State.{HasCleanDisk};
 ghost use Rattle.up_canon.specs.declared.refusal.Refusal.TheVariants.{BadShape};
-ghost use Rattle.up_machine.specs.Keys.{public_fits};
 ghost use Rattle.up_canon.specs.Moments.{last_command_moment};
+ghost use Rattle.up_sign.specs.Schemes.{Rules};
+ghost use Rattle.up_machine.specs.Keys.{public_fits};
 ghost use Rattle.up_machine.specs.Inventory.{decide_vehicle as decide_vehicle_in, with_vehicle};
-ghost use Rattle.up_machine.specs.Rows.{rows_of};
+ghost use Rattle.up_machine.specs.Rows.{founding_row, rows_of, vehicle_rows};
 ghost use Rattle.up_machine.specs.Decisions.{GivesDecision};
-ghost use Rattle.up_desk.specs.Rows.{held, state_of, Stands, has_ecu_row, stands_among};
-ghost use Rattle.up_desk.specs.Changes.{with_vehicle_rows};
-ghost use Rattle.up_desk.specs.Serving.{Leaves};
+ghost use Rattle.up_machine.specs.Sound.{IsSound};
+ghost use Rattle.up_machine.specs.State.{State, is_recorded as is_recorded_in};
+ghost use Rattle.up_store.specs.Connections.{KeepsState};
+ghost use Rattle.up_tables.specs.Stands.{IfClean};
+ghost use Rattle.up_desk.specs.Serving.{GivesOrLost, Reads, Serves, Tells};
 
-use crate::book::Book;
-use crate::texts::text_of;
-use std::alloc::{AllocError, Global};
+use crate::lost::{done_of, refusal_of};
+use crate::reading::{is_founded, read_vehicle};
+use sqlite::Alter;
+use std::alloc::Global;
 use up_canon::ident::Ident;
 use up_canon::moment::Moment;
 use up_canon::refusal::Refusal;
 use up_machine::answer::Answer;
 use up_machine::decide_vehicle::decide_vehicle;
 use up_machine::decision::Decision;
+use up_machine::public_keys::publics_fit;
 use up_machine::rows::VehicleRows;
 use up_machine::vehicle::{NewEcu, NewVehicle};
+use up_rows::laws::{rows_are_found, vehicles_are_added};
 use up_sign::scheme::Scheme;
+use up_store::store::{Store, StoreFault};
 
-/// Adds a vehicle.
-pub fn add_vehicle<K: Scheme>(
-    book: &mut Book,
+/// Adds a vehicle. Its keys are tested before anything is read.
+pub fn add_vehicle<K: Scheme, D: Alter>(
+    store: &mut Store<D>,
     alloc: Global,
     scheme: &K,
     at: Moment,
     new: &NewVehicle,
 ) -> Result<Answer, Refusal>
     requires moment { at ≤ last_command_moment }
-    requires stands { Stands (K.rules scheme.now) (held book.old) }
     ensures key { list_all (λ e. public_fits (K.rules scheme.now) e.public) new.now.ecus ≡ false → result ≡ Err (BadShape (codes "key")) }
-    ensures leaves { Leaves (K.rules scheme.now) (state_of (held book.old)) (held book.new) result
-        (decide_vehicle_in (K.rules scheme.now) (state_of (held book.old)) at new.now) }
+    ensures serves { (s : State) → IsSound (K.rules scheme.now) s → IfClean (KeepsState (K.rules scheme.now) s) (state D.Store store.old)
+        → Serves (K.rules scheme.now) s (state D.Store store.old) (state D.Store store.new) result (decide_vehicle_in (K.rules scheme.now) s at new.now) }
 {
-    match decide(book, alloc, scheme, at, new)? {
-        Decision::Already => Ok(Answer::Already),
-        Decision::New(rows) => {
-            put_vehicle(alloc, book, rows)?;
-            Ok(Answer::Done)
-        }
+    if publics_fit(scheme, new.ecus.as_slice()) {
+        add_fitting(store, alloc, scheme, at, new)
+    } else {
+        Err(Refusal::from("key"))
     }
 }
 
-/// Decides on a vehicle over its rows.
-fn decide<K: Scheme>(
-    book: &Book,
+/// Adds a vehicle whose keys fit.
+fn add_fitting<K: Scheme, D: Alter>(
+    store: &mut Store<D>,
+    alloc: Global,
+    scheme: &K,
+    at: Moment,
+    new: &NewVehicle,
+) -> Result<Answer, Refusal>
+    requires moment { at ≤ last_command_moment }
+    ensures { (s : State) → IsSound (K.rules scheme.now) s → IfClean (KeepsState (K.rules scheme.now) s) (state D.Store store.old)
+        → Serves (K.rules scheme.now) s (state D.Store store.old) (state D.Store store.new) result (decide_vehicle_in (K.rules scheme.now) s at new.now) }
+{
+    rows_are_found();
+    vehicles_are_added();
+    match decide(store, alloc, scheme, at, new) {
+        Ok(Decision::Already) => Ok(Answer::Already),
+        Ok(Decision::New(rows)) => done_of(store.write_vehicle(alloc, &rows)),
+        Err(refusal) => Err(refusal),
+    }
+}
+
+/// Decides on a vehicle, over rows that are read one after another.
+fn decide<K: Scheme, D: Alter>(
+    store: &mut Store<D>,
     alloc: Global,
     scheme: &K,
     at: Moment,
     new: &NewVehicle,
 ) -> Result<Decision<VehicleRows>, Refusal>
-    requires moment { at ≤ last_command_moment }
-    requires stands { Stands (K.rules scheme.now) (held book.now) }
-    ensures key { list_all (λ e. public_fits (K.rules scheme.now) e.public) new.now.ecus ≡ false → result ≡ Err (BadShape (codes "key")) }
-    ensures decided { let s = state_of (held book.now) in
-        GivesDecision (λ rows. rows ≡ rows_of new.now.vehicle (record { primary = new.now.primary; ecus = new.now.ecus; entries = [] })) s (with_vehicle s new.now) result
+    requires { at ≤ last_command_moment }
+    ensures decided { HasCleanDisk (state D.Store store.new) → (s : State) → IsSound (K.rules scheme.now) s → IfClean (KeepsState (K.rules scheme.now) s) (state D.Store store.old)
+        → GivesOrLost (GivesDecision (λ rows. rows ≡ rows_of new.now.vehicle (record { primary = new.now.primary; ecus = new.now.ecus; entries = [] })) s (with_vehicle s new.now)) result
         (decide_vehicle_in (K.rules scheme.now) s at new.now) }
+    ensures reads { Reads (state D.Store store.old) (state D.Store store.new) }
 {
-    let ecus = new.ecus.as_slice();
-    let mut recorded = [false; 32];
-    mark_recorded(&mut recorded, book.vehicles.values(), ecus);
-    let marks = first_marks(&recorded, ecus.len());
-    let old = book.vehicles.get(new.vehicle.text());
-    let is_founded = book.founding.is_some();
-    decide_vehicle(alloc, scheme, at, new, is_founded, old, marks)
-}
-
-fn first_marks(marks: &[bool], count: usize) -> &[bool]
-    requires { count ≤ length marks.now }
-    ensures { result.now ≡ take count marks.now }
-{
-    &marks[..count]
-}
-
-/// Marks for each new ECU whether one of its name stands in a vehicle.
-fn mark_recorded(recorded: &mut [bool], vehicles: &[VehicleRows], ecus: &[NewEcu])
-    requires { length ecus.now ≤ length recorded.old }
-    ensures { take (length ecus.now) recorded.new ≡ map (λ e. has_ecu_row e.ecu vehicles.now) ecus.now }
-{
-    for place in 0..ecus.len() {
-        recorded[place] = is_recorded(vehicles, &ecus[place].ecu);
+    match is_founded(store, alloc) {
+        Ok(founded) => decide_founded(store, alloc, scheme, at, new, founded),
+        Err(fault) => Err(refusal_of(fault)),
     }
 }
 
+/// The same, once it was read whether the repositories are founded.
+fn decide_founded<K: Scheme, D: Alter>(
+    store: &mut Store<D>,
+    alloc: Global,
+    scheme: &K,
+    at: Moment,
+    new: &NewVehicle,
+    founded: bool,
+) -> Result<Decision<VehicleRows>, Refusal>
+    requires { at ≤ last_command_moment }
+    ensures decided { HasCleanDisk (state D.Store store.new) → (s : State) → IsSound (K.rules scheme.now) s → founded ≡ is_some (founding_row s) → IfClean (KeepsState (K.rules scheme.now) s) (state D.Store store.old)
+        → GivesOrLost (GivesDecision (λ rows. rows ≡ rows_of new.now.vehicle (record { primary = new.now.primary; ecus = new.now.ecus; entries = [] })) s (with_vehicle s new.now)) result
+        (decide_vehicle_in (K.rules scheme.now) s at new.now) }
+    ensures reads { Reads (state D.Store store.old) (state D.Store store.new) }
+{
+    match read_vehicle(store, alloc, &new.vehicle) {
+        Ok(old) => decide_named(store, alloc, scheme, at, new, founded, old.as_ref()),
+        Err(fault) => Err(refusal_of(fault)),
+    }
+}
+
+/// The same, once the vehicle of that name was read.
+fn decide_named<K: Scheme, D: Alter>(
+    store: &mut Store<D>,
+    alloc: Global,
+    scheme: &K,
+    at: Moment,
+    new: &NewVehicle,
+    founded: bool,
+    old: Option<&VehicleRows>,
+) -> Result<Decision<VehicleRows>, Refusal>
+    requires { at ≤ last_command_moment }
+    ensures decided { HasCleanDisk (state D.Store store.new) → (s : State) → IsSound (K.rules scheme.now) s → founded ≡ is_some (founding_row s) → option_copied old.entry ≡ vehicle_rows s new.now.vehicle → IfClean (KeepsState (K.rules scheme.now) s) (state D.Store store.old)
+        → GivesOrLost (GivesDecision (λ rows. rows ≡ rows_of new.now.vehicle (record { primary = new.now.primary; ecus = new.now.ecus; entries = [] })) s (with_vehicle s new.now)) result
+        (decide_vehicle_in (K.rules scheme.now) s at new.now) }
+    ensures reads { Reads (state D.Store store.old) (state D.Store store.new) }
+{
+    match recorded_marks(store, alloc, new.ecus.as_slice()) {
+        Ok(marks) => decide_vehicle(alloc, scheme, at, new, founded, old, marks.as_slice()),
+        Err(fault) => Err(refusal_of(fault)),
+    }
+}
+
+/// Marks for each new ECU whether one of its name stands in a vehicle.
+fn recorded_marks<D: Alter>(
+    store: &mut Store<D>,
+    alloc: Global,
+    ecus: &[NewEcu],
+) -> Result<Vec<bool>, StoreFault>
+    ensures told { HasCleanDisk (state D.Store store.new) → IfOk result (λ marks. (k : Rules) (s : State) → IfClean (KeepsState k s) (state D.Store store.old)
+        → marks.items ≡ map (λ e. is_recorded_in s e.ecu) ecus.now) }
+    ensures reads { Reads (state D.Store store.old) (state D.Store store.new) }
+{
+    let mut marks = Vec::with_capacity(alloc, ecus.len())?;
+    for ecu in ecus {
+        match is_recorded(store, alloc, &ecu.ecu) {
+            Ok(is_recorded) => marks.push(is_recorded)?,
+            Err(fault) => return Err(fault),
+        }
+    }
+    Ok(marks)
+}
+
 /// Whether an ECU of the name stands in one of the vehicles.
-fn is_recorded(vehicles: &[VehicleRows], ecu: &Ident) -> bool
-    ensures { result ≡ has_ecu_row ecu.now vehicles.now }
+fn is_recorded<D: Alter>(
+    store: &mut Store<D>,
+    alloc: Global,
+    ecu: &Ident,
+) -> Result<bool, StoreFault>
+    ensures told { Tells (λ k s. is_recorded_in s ecu.now) (state D.Store store.old) (state D.Store store.new) result }
+    ensures reads { Reads (state D.Store store.old) (state D.Store store.new) }
 {
-    vehicles.iter().any(|rows| stands_in(rows, ecu))
-}
-
-/// Whether an ECU of the name stands in the vehicle.
-pub fn stands_in(rows: &VehicleRows, ecu: &Ident) -> bool
-    ensures { result ≡ stands_among ecu.now rows.now.ecus }
-{
-    rows.ecus
-        .as_slice()
-        .iter()
-        .any(|row| row.ecu.text() == ecu.text())
-}
-
-/// Keeps a vehicle under its name.
-fn put_vehicle(alloc: Global, book: &mut Book, rows: VehicleRows) -> Result<(), AllocError>
-    ensures ok { OnOk result (held book.new ≡ with_vehicle_rows (held book.old) rows) }
-    ensures err { OnErr result (held book.new ≡ held book.old) }
-{
-    let name = text_of(alloc, rows.vehicle.vehicle.text())?;
-    book.vehicles.insert(name, rows)?;
-    Ok(())
+    rows_are_found();
+    match store.ecu_owner(alloc, ecu) {
+        Ok(owner) => Ok(owner.is_some()),
+        Err(fault) => Err(fault),
+    }
 }

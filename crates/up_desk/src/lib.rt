@@ -1,14 +1,16 @@
-//! The plain desk: the two repositories with all rows in memory.
+//! The desk: commands and views of the two repositories over the store.
 #![tactic(auto)]
 
-mod book;
 mod campaigns;
 mod deliveries;
 pub mod desk;
 mod files;
+mod images;
 mod inventory;
+pub mod laws;
+pub mod lost;
 mod obeying;
-mod reads;
+mod reading;
 mod register;
 mod roots;
-mod texts;
+mod views;

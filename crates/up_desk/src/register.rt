@@ -1,88 +1,153 @@
 //! The register of images.
-ghost use Rattle.std.specs.Prelude.{◌≡◌, ◌≤◌, OnOk, OnErr};
+ghost use Rattle.std.specs.Prelude.{◌≡◌, ◌≤◌, ◌+◌, IfSome, IsTrue};
+ghost use Rattle.sqlite.specs.Held.{state};
+ghost use Rattle.sqlite.specs.State.{HasCleanDisk};
 ghost use Rattle.up_canon.specs.Moments.{last_command_moment};
-ghost use Rattle.up_machine.specs.Repositories.{decide_image as decide_image_in, decide_refresh as decide_refresh_in};
-ghost use Rattle.up_desk.specs.Rows.{held, state_of, Stands};
-ghost use Rattle.up_desk.specs.Changes.{with_register_rows, with_image_rows};
-ghost use Rattle.up_desk.specs.Serving.{Leaves};
+ghost use Rattle.up_machine.specs.Repositories.{decide_image as decide_image_in, decide_refresh as decide_refresh_in, stamped, with_image};
+ghost use Rattle.up_machine.specs.Decisions.{GivesRows, GivesDecision, HasRegisterRows};
+ghost use Rattle.up_machine.specs.Rows.{founding_row};
+ghost use Rattle.up_machine.specs.RowsFit.{founding_fits};
+ghost use Rattle.up_machine.specs.Sound.{IsSound};
+ghost use Rattle.up_machine.specs.State.{State};
+ghost use Rattle.up_store.specs.Connections.{KeepsState};
+ghost use Rattle.up_tables.specs.Stands.{IfClean};
+ghost use Rattle.up_desk.specs.Serving.{GivesOrLost, Reads, Serves};
 
-use crate::book::Book;
-use crate::texts::text_of;
-use std::alloc::{AllocError, Global};
+use crate::lost::{done_of, refusal_of};
+use crate::reading::read_founding;
+use sqlite::Alter;
+use std::alloc::Global;
 use up_canon::count::Count;
-use up_canon::listed::Duplicate;
 use up_canon::moment::Moment;
 use up_canon::refusal::Refusal;
 use up_machine::answer::Answer;
 use up_machine::decide_register::{decide_image, decide_refresh};
 use up_machine::decision::{Decision, RegisterRows};
-use up_machine::laws::rows_are_sound;
+use up_machine::rows::Founding;
 use up_plan::image::Image;
+use up_rows::laws::images_are_added;
 use up_sign::scheme::Scheme;
+use up_store::store::Store;
 
 /// Registers an image.
-pub fn add_image<K: Scheme>(
-    book: &mut Book,
+pub fn add_image<K: Scheme, D: Alter>(
+    store: &mut Store<D>,
     alloc: Global,
     scheme: &K,
     at: Moment,
     image: &Image,
 ) -> Result<Answer, Refusal>
-    requires moment { at ≤ last_command_moment }
-    requires stands { Stands (K.rules scheme.now) (held book.old) }
-    ensures { Leaves (K.rules scheme.now) (state_of (held book.old)) (held book.new) result
-        (decide_image_in (state_of (held book.old)) at image.now) }
+    requires { at ≤ last_command_moment }
+    ensures { (s : State) → IsSound (K.rules scheme.now) s → IfClean (KeepsState (K.rules scheme.now) s) (state D.Store store.old)
+        → Serves (K.rules scheme.now) s (state D.Store store.old) (state D.Store store.new) result (decide_image_in s at image.now) }
 {
-    rows_are_sound();
-    match decide_image(alloc, scheme, at, image, &book.founding, &book.images)? {
-        Decision::Already => Ok(Answer::Already),
-        Decision::New(rows) => {
-            register(alloc, book, image, rows)?;
-            Ok(Answer::Done)
-        }
+    images_are_added();
+    match decide_adding(store, alloc, scheme, at, image) {
+        Ok(Decision::Already) => Ok(Answer::Already),
+        Ok(Decision::New(rows)) => done_of(store.write_image(alloc, image, &rows)),
+        Err(refusal) => Err(refusal),
+    }
+}
+
+/// Decides on an image, over the rows that are read.
+fn decide_adding<K: Scheme, D: Alter>(
+    store: &mut Store<D>,
+    alloc: Global,
+    scheme: &K,
+    at: Moment,
+    image: &Image,
+) -> Result<Decision<RegisterRows>, Refusal>
+    requires { at ≤ last_command_moment }
+    ensures decided { HasCleanDisk (state D.Store store.new) → (s : State) → IsSound (K.rules scheme.now) s → IfClean (KeepsState (K.rules scheme.now) s) (state D.Store store.old)
+        → GivesOrLost (GivesDecision (HasRegisterRows (K.rules scheme.now) (stamped (with_image s image.now) at (s.image_version + 1))) s (stamped (with_image s image.now) at (s.image_version + 1))) result
+        (decide_image_in s at image.now) }
+    ensures reads { Reads (state D.Store store.old) (state D.Store store.new) }
+{
+    match read_founding(store, alloc, scheme) {
+        Ok(founding) => decide_adding_after(store, alloc, scheme, at, image, &founding),
+        Err(fault) => Err(refusal_of(fault)),
+    }
+}
+
+/// The same, once the founding was read.
+fn decide_adding_after<K: Scheme, D: Alter>(
+    store: &mut Store<D>,
+    alloc: Global,
+    scheme: &K,
+    at: Moment,
+    image: &Image,
+    founding: &Option<Founding>,
+) -> Result<Decision<RegisterRows>, Refusal>
+    requires moment { at ≤ last_command_moment }
+    requires keys { IfSome founding.now (λ f. IsTrue (founding_fits (K.rules scheme.now) f)) }
+    ensures decided { HasCleanDisk (state D.Store store.new) → (s : State) → IsSound (K.rules scheme.now) s → founding.now ≡ founding_row s → IfClean (KeepsState (K.rules scheme.now) s) (state D.Store store.old)
+        → GivesOrLost (GivesDecision (HasRegisterRows (K.rules scheme.now) (stamped (with_image s image.now) at (s.image_version + 1))) s (stamped (with_image s image.now) at (s.image_version + 1))) result
+        (decide_image_in s at image.now) }
+    ensures reads { Reads (state D.Store store.old) (state D.Store store.new) }
+{
+    match store.images(alloc) {
+        Ok(images) => decide_image(alloc, scheme, at, image, founding, &images),
+        Err(fault) => Err(refusal_of(fault)),
     }
 }
 
 /// Makes the image repository's files anew, with this version.
-pub fn refresh<K: Scheme>(
-    book: &mut Book,
+pub fn refresh<K: Scheme, D: Alter>(
+    store: &mut Store<D>,
     alloc: Global,
     scheme: &K,
     at: Moment,
     version: Count,
 ) -> Result<Answer, Refusal>
-    requires moment { at ≤ last_command_moment }
-    requires stands { Stands (K.rules scheme.now) (held book.old) }
-    ensures { Leaves (K.rules scheme.now) (state_of (held book.old)) (held book.new) result
-        (decide_refresh_in (state_of (held book.old)) at version) }
+    requires { at ≤ last_command_moment }
+    ensures { (s : State) → IsSound (K.rules scheme.now) s → IfClean (KeepsState (K.rules scheme.now) s) (state D.Store store.old)
+        → Serves (K.rules scheme.now) s (state D.Store store.old) (state D.Store store.new) result (decide_refresh_in s at version) }
 {
-    rows_are_sound();
-    let rows = decide_refresh(alloc, scheme, at, version, &book.founding, &book.images)?;
-    put_files(book, rows);
-    Ok(Answer::Done)
+    images_are_added();
+    match decide_refreshing(store, alloc, scheme, at, version) {
+        Ok(rows) => done_of(store.write_refresh(alloc, &rows)),
+        Err(refusal) => Err(refusal),
+    }
 }
 
-/// Keeps one more image, and the files with it.
-fn register(
+/// Decides on new files, over the rows that are read.
+fn decide_refreshing<K: Scheme, D: Alter>(
+    store: &mut Store<D>,
     alloc: Global,
-    book: &mut Book,
-    image: &Image,
-    rows: RegisterRows,
-) -> Result<(), AllocError>
-    ensures ok { OnOk result (held book.new ≡ with_image_rows (held book.old) image.now rows) }
-    ensures err { OnErr result (held book.new ≡ held book.old) }
+    scheme: &K,
+    at: Moment,
+    version: Count,
+) -> Result<RegisterRows, Refusal>
+    requires { at ≤ last_command_moment }
+    ensures decided { HasCleanDisk (state D.Store store.new) → (s : State) → IsSound (K.rules scheme.now) s → IfClean (KeepsState (K.rules scheme.now) s) (state D.Store store.old)
+        → GivesOrLost (GivesRows (HasRegisterRows (K.rules scheme.now) (stamped s at version)) (stamped s at version)) result
+        (decide_refresh_in s at version) }
+    ensures reads { Reads (state D.Store store.old) (state D.Store store.new) }
 {
-    let name = text_of(alloc, image.file.text())?;
-    book.images.insert(name, image.copy(alloc)?)?;
-    put_files(book, rows);
-    Ok(())
+    match read_founding(store, alloc, scheme) {
+        Ok(founding) => decide_refreshing_after(store, alloc, scheme, at, version, &founding),
+        Err(fault) => Err(refusal_of(fault)),
+    }
 }
 
-/// Keeps the image repository's new files.
-fn put_files(book: &mut Book, rows: RegisterRows)
-    ensures { held book.new ≡ with_register_rows (held book.old) rows }
+/// The same, once the founding was read.
+fn decide_refreshing_after<K: Scheme, D: Alter>(
+    store: &mut Store<D>,
+    alloc: Global,
+    scheme: &K,
+    at: Moment,
+    version: Count,
+    founding: &Option<Founding>,
+) -> Result<RegisterRows, Refusal>
+    requires moment { at ≤ last_command_moment }
+    requires keys { IfSome founding.now (λ f. IsTrue (founding_fits (K.rules scheme.now) f)) }
+    ensures decided { HasCleanDisk (state D.Store store.new) → (s : State) → IsSound (K.rules scheme.now) s → founding.now ≡ founding_row s → IfClean (KeepsState (K.rules scheme.now) s) (state D.Store store.old)
+        → GivesOrLost (GivesRows (HasRegisterRows (K.rules scheme.now) (stamped s at version)) (stamped s at version)) result
+        (decide_refresh_in s at version) }
+    ensures reads { Reads (state D.Store store.old) (state D.Store store.new) }
 {
-    let RegisterRows { founding, files } = rows;
-    book.founding = Some(founding);
-    book.files = Some(files);
+    match store.images(alloc) {
+        Ok(images) => decide_refresh(alloc, scheme, at, version, founding, &images),
+        Err(fault) => Err(refusal_of(fault)),
+    }
 }

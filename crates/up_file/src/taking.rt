@@ -1,24 +1,26 @@
 //! Taking a database.
 
-ghost use Rattle.std.specs.Prelude.{◌≡◌, false, IfOk, IfErr};
+ghost use Rattle.std.specs.Prelude.{◌≡◌, ◌≢◌, false, IfOk, IfErr};
 ghost use Rattle.sqlite.specs.Held.{state};
 ghost use Rattle.sqlite.specs.State.{HasCleanDisk, Survives};
-ghost use Rattle.up_rows.specs.StateRows.{no_rows};
 ghost use Rattle.up_tables.specs.Stands.{IfClean, IsAsCommitted};
-ghost use Rattle.up_store.specs.Connections.{HoldsRows};
+ghost use Rattle.up_tables.specs.declared.open.OpenFault.TheVariants.{NotOurs};
+ghost use Rattle.up_store.specs.Connections.{MadeIn};
 ghost use Rattle.up_file.specs.Taking.{IsTaken};
 
 use sqlite::{Alter, Connection};
 use up_store::store::{OpenFault, Store};
 
-/// Adopts a database of this product, and makes the tables in one that isn't: `OpenFault::Store` where it has
-/// others. A fault hands the connection back as it was committed, with no transaction under way.
+/// Adopts a database of this product, and makes the tables in one without any: `OpenFault::Store` where it has those
+/// of another. A fault hands the connection back as it was committed, with no transaction under way, and is never
+/// `OpenFault::NotOurs`.
 pub fn take<D: Alter>(conn: Connection<D>) -> Result<Store<D>, (Connection<D>, OpenFault)>
     requires { (state D.Store conn).in_transaction ≡ false }
     ensures taken { IfOk result (λ s. HasCleanDisk (state D.Store s) → IsTaken (state D.Store conn) (state D.Store s)) }
-    ensures crash { IfOk result (λ s. Survives (state D.Store conn) (state D.Store s) (HoldsRows no_rows)) }
+    ensures crash { IfOk result (λ s. Survives (state D.Store conn) (state D.Store s) (MadeIn (state D.Store conn))) }
     ensures kept { IfErr result (λ e. IfClean (IsAsCommitted (state D.Store conn)) (state D.Store e.0)) }
-    ensures crash_err { IfErr result (λ e. Survives (state D.Store conn) (state D.Store e.0) (HoldsRows no_rows)) }
+    ensures crash_err { IfErr result (λ e. Survives (state D.Store conn) (state D.Store e.0) (MadeIn (state D.Store conn))) }
+    ensures fault { IfErr result (λ e. e.1 ≢ NotOurs) }
     ensures mode { IfErr result (λ e. (state D.Store e.0).in_transaction ≡ false) }
 {
     match Store::adopt(conn) {

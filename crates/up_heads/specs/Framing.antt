@@ -4,13 +4,10 @@ use Rattle.std.specs.List.{list_all}
 use Rattle.std.specs.Char.{is_ascii_digit}
 use Rattle.std.specs.Str.Parse.{digits_value}
 use Rattle.httparse.specs.Grammar.{RequestHead}
+use Rattle.up_manifest.specs.Manifests.{largest_body}
 use Rattle.up_heads.specs.Fields.{Pair, values, fields_of}
 use Rattle.up_heads.specs.declared.check.Check.{Check}
 use Rattle.up_heads.specs.declared.check.Check.TheVariants.{BadRequest, TooLarge, NotImplemented}
-
--- the most bytes of a body
-abbrev pub most_body : ℕ
-most_body = 262144
 
 -- one Host; none or one in HTTP/1.0
 abbrev pub host_fits : ℕ → ℕ → Bool
@@ -24,7 +21,7 @@ is_number value = nat_lt 0 (length value) && list_all is_ascii_digit value
 abbrev pub length_stated : List (List ℕ) → Result (Option ℕ) Check
 length_stated [] = Ok None
 length_stated (value ∷ []) =
-    if is_number value then (if nat_le (digits_value 10 value) most_body then Ok (Some (digits_value 10 value)) else Err TooLarge) else Err BadRequest
+    if is_number value then (if nat_le (digits_value 10 value) largest_body then Ok (Some (digits_value 10 value)) else Err TooLarge) else Err BadRequest
 length_stated (value ∷ other ∷ rest) = Err BadRequest
 
 -- the checks of a head alone, in order: Host, Transfer-Encoding, Content-Length; and the length of the body that it states

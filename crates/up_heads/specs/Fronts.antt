@@ -1,6 +1,6 @@
 -- What is said of the front of bytes.
 use Rattle.std.specs.Prelude.{◌≡◌, ◌≤◌, List, ℕ, length}
-use Rattle.httparse.specs.Grammar.{RequestHead, HasNoRequest}
+use Rattle.httparse.specs.Grammar.{RequestHead, HasNoRequest, MayBecomeRequest}
 use Rattle.httparse.specs.Spans.{span_bytes}
 use Rattle.up_heads.specs.Heads.{Heads, NeverHasHead}
 use Rattle.up_heads.specs.Framing.{framing}
@@ -19,8 +19,9 @@ pub record IsFactsOf (bytes : List ℕ) (head : RequestHead) (facts : Facts) : T
   pub ordered : facts.target.start ≤ facts.target.end
   pub inside : facts.target.end ≤ length bytes
 
--- what is said of bytes: they begin with a head of which that is said; they have none yet; or they never have one
+-- what is said of bytes: they begin with a head of which that is said; they have none, and more bytes
+-- may complete one; or they never have one
 abbrev pub Fronts : List ℕ → Front → Type 0
 Fronts bytes (Whole facts) = (head : RequestHead) × (after : List ℕ) × Heads bytes head after × IsFactsOf bytes head facts
-Fronts bytes Cut = HasNoRequest bytes
+Fronts bytes Cut = HasNoRequest bytes × MayBecomeRequest bytes
 Fronts bytes Bad = NeverHasHead bytes

@@ -3,14 +3,16 @@ ghost use Rattle.std.specs.Prelude.{◌≡◌, ◌≤◌, All, length, map, IfSo
 ghost use Rattle.std.specs.Char.{is_ascii_digit, digit_value};
 ghost use Rattle.std.specs.Str.Parse.{digits_value};
 ghost use Rattle.httparse.specs.Spans.{IsHeaderWithin, header_bytes};
-ghost use Rattle.up_heads.specs.Framing.{is_number as number, framing_of, length_stated as stated, most_body};
+ghost use Rattle.up_manifest.specs.Manifests.{largest_body};
+ghost use Rattle.up_heads.specs.Framing.{is_number as number, framing_of, length_stated as stated};
 
 use crate::check::Check;
 use crate::fields::{count_of, value_of};
 use httparse::spans::HeaderSpan;
+use up_manifest::body::LARGEST_BODY;
 
 /// One more than a body may have, in bytes.
-const PAST_BODY: usize = 262_145;
+const PAST_BODY: usize = LARGEST_BODY + 1;
 
 /// The length of the body that a head's fields state, or the first of the checks of a head alone that fails.
 #[tactic(auto, unfolding(crate::specs::Framing::framing_of))]
@@ -51,7 +53,7 @@ fn length_of(value: &[u8]) -> Result<Option<usize>, Check>
 
 /// The number that digits stand for, or one more than a body may have where it is greater; none for other bytes.
 fn number_of(value: &[u8]) -> Option<usize>
-    ensures some { IfSome result (λ n. (number value.now ≡ true) × (n ≡ min (digits_value 10 value.now) (most_body + 1))) }
+    ensures some { IfSome result (λ n. (number value.now ≡ true) × (n ≡ min (digits_value 10 value.now) (largest_body + 1))) }
     ensures none { IfNone result (number value.now ≡ false) }
 {
     if value.is_empty() {
@@ -69,9 +71,9 @@ fn number_of(value: &[u8]) -> Option<usize>
 
 /// The number with one digit more, as far as the limit.
 fn with_digit(number: usize, byte: u8) -> usize
-    requires small { number ≤ most_body + 1 }
+    requires small { number ≤ largest_body + 1 }
     requires digit { is_ascii_digit byte ≡ true }
-    ensures { result ≡ min (number * 10 + digit_value byte) (most_body + 1) }
+    ensures { result ≡ min (number * 10 + digit_value byte) (largest_body + 1) }
 {
     let more = number * 10 + usize::from(byte - b'0');
     if more < PAST_BODY { more } else { PAST_BODY }

@@ -30,7 +30,7 @@ pub struct Facts {
 pub enum Front {
     /// A head, which says this.
     Whole(Facts),
-    /// No head yet.
+    /// No head yet, but one may come.
     Cut,
     /// No head, whatever follows.
     Bad,

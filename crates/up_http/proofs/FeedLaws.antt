@@ -1,14 +1,14 @@
 -- What a stream gives, piece by piece.
 use Rattle.std.proofs.Common.{rules, ◌≡◌, inl, inr, ℕ, ◌+◌, ◌-◌, ◌<◌, ◌≤◌, min, true, false, List, [], ◌∷◌, ◌++◌, length, take, drop, MatchBool, Option, Some, None, Ok, Err, take_all, take-add, take-append-drop, length-drop, refl, sym, ap, ◌∙◌, subst, arith, append_assoc, append-nil, length-append}
 use Rattle.std.proofs.lemmas.Bool.{le-leb, lt-leb}
-use Rattle.std.proofs.lemmas.List.{length-take-le}
-use Rattle.std.proofs.Math.Seq.{take-append_seam}
+use Rattle.std.proofs.lemmas.List.{length-take-le, take_min}
+use Rattle.std.proofs.Math.Seq.{take-append_seam, take-append-add}
 use Rattle.httparse.specs.Grammar.{RequestHead}
 use Rattle.up_heads.specs.Heads.{Heads, NeverHasHead}
 use Rattle.std.specs.Prelude.{MatchOption, IsSome}
 use Rattle.up_manifest.specs.Manifests.{largest_body}
 use Rattle.up_heads.specs.Planned.{planned}
-use Rattle.up_heads.specs.Framing.{framing, most_body}
+use Rattle.up_heads.specs.Framing.{framing}
 use Rattle.up_http.specs.Requests.{is_head, size_of, most_requests, First, Serves, asked, refused, bad_request}
 use Rattle.up_manifest.specs.Bodies.{Coming}
 use Rattle.up_http.specs.Feeding.{Fed, Feeds, Gives, Waits, IsCut}
@@ -67,14 +67,22 @@ first_refused given bytes more head check heads is =
 pub first_bad : (given : ℕ) (bytes more : List ℕ) → NeverHasHead bytes → First given (bytes ++ more) bad_request more
 first_bad given bytes more never = inl (never more, refl)
 
+-- what was taken of a piece is what fits behind the bytes that were there
+taken_fits : (size taken : ℕ) (bytes piece : List ℕ) → length bytes ≤ size → taken ≡ min (length piece) (size - length bytes) → take size (bytes ++ piece) ≡ bytes ++ take taken piece
+taken_fits size taken bytes piece small is =
+    let k = size - length bytes in
+    let all : size ≡ length bytes + k = omega (arith, small) in
+    let same : min k (length piece) ≡ taken = omega (arith, is) in
+    ap (λ n. take n (bytes ++ piece)) all ∙ take-append-add bytes piece k ∙ ap (λ l. bytes ++ l) (sym (take_min k piece)) ∙ ap (λ n. bytes ++ take n piece) same
+
 -- a piece of a body
 pub gives_body : (bytes piece : List ℕ) (old new : Waiting) (given taken : ℕ) (result : Option Next) (fed : Fed)
-    → IsWaiting bytes old → new.plan ≡ old.plan → new.body ≡ record { size = old.body.size; bytes = old.body.bytes ++ take taken piece }
+    → IsWaiting bytes old → new.plan ≡ old.plan → new.body ≡ record { size = old.body.size; bytes = take old.body.size (old.body.bytes ++ piece) }
     → taken ≡ min (length piece) (old.body.size - length old.body.bytes) → length old.body.bytes ≤ old.body.size → given < most_requests
     → Settles bytes new given result fed → Gives (record { rest = bytes ++ old.body.bytes; given = given; ended = false }) piece taken result fed
 gives_body bytes piece old new given taken None fed waits plan body many fits below settles =
     let size : new.body.size ≡ old.body.size = ap (λ b. b.size) body in
-    let items : new.body.bytes ≡ old.body.bytes ++ take taken piece = ap (λ b. b.bytes) body in
+    let items : new.body.bytes ≡ old.body.bytes ++ take taken piece = ap (λ b. b.bytes) body ∙ taken_fits old.body.size taken old.body.bytes piece fits many in
     let within : taken ≤ length piece = omega arith in
     let some : length (take taken piece) ≡ taken = length-take-le taken piece within in
     let all : taken ≡ length piece = omega (arith, settles.0, ap length items, length-append old.body.bytes (take taken piece)) in
@@ -89,7 +97,7 @@ gives_body bytes piece old new given taken None fed waits plan body many fits be
     )
 gives_body bytes piece old new given taken (Some next) fed waits plan body many fits below settles =
     let size : new.body.size ≡ old.body.size = ap (λ b. b.size) body in
-    let items : new.body.bytes ≡ old.body.bytes ++ take taken piece = ap (λ b. b.bytes) body in
+    let items : new.body.bytes ≡ old.body.bytes ++ take taken piece = ap (λ b. b.bytes) body ∙ taken_fits old.body.size taken old.body.bytes piece fits many in
     let within : taken ≤ length piece = omega arith in
     let said : IsPlanOf waits.head waits.stated new.plan = subst (IsPlanOf waits.head waits.stated) (sym plan) waits.plan_is in
     let is : next ≡ asked given waits.head waits.stated new.body.bytes = settles.2 waits.head waits.stated said in
@@ -154,7 +162,7 @@ gives_bad old piece new taken given next fed below takes front is now =
           (subst (λ l. First given (l ++ more) bad_request more) takes.added (first_bad given new more never)),
     )
 
--- a head, and the front of its body behind it in the same piece
+-- a head, and the first bytes of its body behind it in the same piece
 pub gives_more : (old piece new : List ℕ) (given taken more : ℕ) (next : Option Next) (fed : Fed) → taken ≤ length piece → new ≡ old ++ take taken piece
     → Gives (record { rest = new; given = given; ended = false }) (drop taken piece) more next fed
     → Gives (record { rest = old; given = given; ended = false }) piece (taken + more) next fed
@@ -198,7 +206,7 @@ ends_cut bytes waiting given next waits cut is =
 -- ---- a head that has just become whole
 
 -- a body within its limit is made, and nothing of it has come
-pub made : (body : Option Coming) (size : ℕ) → size ≤ most_body → MatchOption body (largest_body < size) (λ b. (size ≤ largest_body) × (b ≡ record { size = size; bytes = [] })) → IsSome body
+pub made : (body : Option Coming) (size : ℕ) → size ≤ largest_body → MatchOption body (largest_body < size) (λ b. (size ≤ largest_body) × (b ≡ record { size = size; bytes = [] })) → IsSome body
 made None size small over = absurd (omega arith)
 made (Some b) size small is = search rules
 
@@ -207,7 +215,7 @@ pub made_is : (body : Option Coming) (b : Coming) (size : ℕ) → body ≡ Some
 made_is None b size is x = absurd (cc)
 made_is (Some other) b size is x = let same : b ≡ other = cc in same ∙ x.1
 
-pub size_small : (bytes : List ℕ) (facts : Facts) (stated : Option ℕ) → IsWhole bytes facts → facts.framing ≡ Ok stated → size_of stated ≤ most_body
+pub size_small : (bytes : List ℕ) (facts : Facts) (stated : Option ℕ) → IsWhole bytes facts → facts.framing ≡ Ok stated → size_of stated ≤ largest_body
 size_small bytes facts stated (head, heads, said) framed = framing_small head stated (sym said.framing_is ∙ framed)
 
 -- what is kept of it

@@ -7,7 +7,8 @@ use Rattle.std.proofs.lemmas.List.Elements.{filter-append}
 use Rattle.std.proofs.Math.Seq.{take-take, drop-drop, take-add}
 use Rattle.up_http.specs.Requests.{First, Firsts, most_requests, most_request}
 use Rattle.up_http.specs.Feeding.{Waits}
-use Rattle.up_http.specs.Serving.{Run, joined, is_call, calls, Sofar, Stopped, Finished, Breaks, IsBegun, Takes, Stops, Completes, Ran, told, most_bytes, IsNext, AnswersFirst, Unanswered}
+use Rattle.up_lines.specs.Runs.{Run}
+use Rattle.up_http.specs.Serving.{joined, is_call, calls, Sofar, Stopped, Finished, Breaks, IsBegun, Takes, Stops, Completes, Ran, told, most_bytes, IsNext, AnswersFirst, Unanswered}
 use Rattle.up_http.specs.declared.asked.Next.{Next}
 use Rattle.up_http.specs.declared.fault.Fault.{Fault}
 use Rattle.up_http.specs.declared.fault.ServeFault.{ServeFault}
@@ -115,9 +116,9 @@ module _ {S : Type 0} (gives : S → Next → List ℕ → S → Type 0) where
 
   -- what becomes of a request that was begun
   broken : (cause : Fault) (given : ℕ) (bytes : List ℕ) (next : Next) (old new : S) (held holds : Option (List ℕ)) (ended : Bool) → IsBegun given bytes ended next → Unanswered gives cause old next new held holds
-      → (front : List ℕ) × Breaks gives cause given bytes ended old new front (calls (next ∷ [])) × Appends held holds front
-  broken Memory given bytes next old new held holds ended begun (state, wrote) = ([], (refl, inr (next, begun, refl, state)), wrote)
-  broken Write given bytes next old new held holds ended begun (text, gave, front, proper, wrote) = (front, (next, begun, refl, text, gave, proper), wrote)
+      → (prefix : List ℕ) × Breaks gives cause given bytes ended old new prefix (calls (next ∷ [])) × Appends held holds prefix
+  broken Memory given bytes next old new held holds ended begun ((text, gave), wrote) = ([], (refl, inr (next, begun, refl, text, gave)), wrote)
+  broken Write given bytes next old new held holds ended begun (text, gave, prefix, proper, wrote) = (prefix, (next, begun, refl, text, gave, proper), wrote)
   broken Read given bytes next old new held holds ended begun h = absurd h
 
   -- a request that isn't answered whole
@@ -137,13 +138,13 @@ module _ {S : Type 0} (gives : S → Next → List ℕ → S → Type 0) where
         first = λ more _. subst (λ n. First n ((bytes' ++ others) ++ more) next (others ++ more)) so.given_is
             (subst (λ l. First old.feeder.given l next (others ++ more)) (sym (append_assoc bytes' others more)) (firsts (others ++ more)));
       } in
-      let (front, breaks, wrote) = broken cause (length so.done) (bytes' ++ others) next before after held holds false begun broke in
+      let (prefix, breaks, wrote) = broken cause (length so.done) (bytes' ++ others) next before after held holds false begun broke in
       record {
         done = so.done;
         texts = so.texts;
         rest = bytes' ++ others;
         last = before;
-        front = front;
+        prefix = prefix;
         more = calls (next ∷ []);
         firsts = subst (λ e. Firsts 0 (came ++ (bytes ++ others)) so.done e (bytes' ++ others)) goes_on
             (subst (λ l. Firsts 0 (came ++ (bytes ++ others)) so.done old.feeder.ended l) behind (so.firsts (bytes ++ others)));
@@ -162,7 +163,7 @@ module _ {S : Type 0} (gives : S → Next → List ℕ → S → Type 0) where
     texts = so.texts;
     rest = old.feeder.rest ++ piece;
     last = now;
-    front = [];
+    prefix = [];
     more = 0;
     firsts = subst (λ e. Firsts 0 (came ++ piece) so.done e (old.feeder.rest ++ piece)) goes_on (so.firsts piece);
     run = so.run;
@@ -225,13 +226,13 @@ module _ {S : Type 0} (gives : S → Next → List ℕ → S → Type 0) where
         first = λ more end. subst (λ l. First (length so.done) (old.feeder.rest ++ l) next l) (sym (end refl))
             (subst (λ l. First (length so.done) l next []) (sym (append-nil old.feeder.rest)) (subst (λ n. First n old.feeder.rest next []) so.given_is asks));
       } in
-      let (front, breaks, wrote) = broken cause (length so.done) old.feeder.rest next before after held holds true begun broke in
+      let (prefix, breaks, wrote) = broken cause (length so.done) old.feeder.rest next before after held holds true begun broke in
       record {
         done = so.done;
         texts = so.texts;
         rest = old.feeder.rest;
         last = before;
-        front = front;
+        prefix = prefix;
         more = calls (next ∷ []);
         firsts = subst (λ l. Firsts 0 l so.done false old.feeder.rest) (sym (append-nil came)) (at_end first empty came old before held so goes_on);
         run = so.run;
@@ -251,7 +252,7 @@ module _ {S : Type 0} (gives : S → Next → List ℕ → S → Type 0) where
     texts = so.texts;
     rest = at.feeder.rest;
     last = now;
-    front = [];
+    prefix = [];
     more = 0;
     firsts = at_end first empty came at now holds so goes_on;
     run = so.run;
@@ -319,34 +320,32 @@ piece_left xs at filled n h =
     ∙ sym (take-add n (filled - (at + n)) (drop at xs)) ∙ ap (λ k. take k (drop at xs)) (omega arith)
 
 module _ {S : Type 0} (gives : S → Next → List ℕ → S → Type 0) where
-  next_of : (cause : Fault) (given : ℕ) (bytes left : List ℕ) (ended : Bool) (old new : S) (front : List ℕ) (more : ℕ) → (ended ≡ true → left ≡ [])
-      → Breaks gives cause given bytes ended old new front more → IsNext gives given (bytes ++ left) old new front more
-  next_of Read given bytes left ended old new front more end (none, same, zero', waits) = inl (none, same, zero')
-  next_of Memory given bytes left ended old new front more end (none, inl (same, zero')) = inl (none, same, zero')
-  next_of Memory given bytes left ended old new front more end (none, inr (next, begun, many, inl same)) =
-      inr (next, begun.after ++ left, omega (arith, begun.some, length-append bytes left), begun.first left end, many, inl (none, same))
-  next_of Memory given bytes left ended old new front more end (none, inr (next, begun, many, inr (text, gave))) =
-      inr (next, begun.after ++ left, omega (arith, begun.some, length-append bytes left), begun.first left end, many, inr (text, text, gave, ap (λ l. l ++ text) (sym none)))
-  next_of Write given bytes left ended old new front more end (next, begun, many, text, gave, proper) =
-      inr (next, begun.after ++ left, omega (arith, begun.some, length-append bytes left), begun.first left end, many, inr (text, proper.0, gave, proper.1))
+  next_of : (cause : Fault) (given : ℕ) (bytes left : List ℕ) (ended : Bool) (old new : S) (prefix : List ℕ) (more : ℕ) → (ended ≡ true → left ≡ [])
+      → Breaks gives cause given bytes ended old new prefix more → IsNext gives given (bytes ++ left) old new prefix more
+  next_of Read given bytes left ended old new prefix more end (none, same, zero', waits) = inl (none, same, zero')
+  next_of Memory given bytes left ended old new prefix more end (none, inl (same, zero')) = inl (none, same, zero')
+  next_of Memory given bytes left ended old new prefix more end (none, inr (next, begun, many, text, gave)) =
+      inr (next, begun.after ++ left, omega (arith, begun.some, length-append bytes left), begun.first left end, many, text, gave, inl none)
+  next_of Write given bytes left ended old new prefix more end (next, begun, many, text, gave, proper) =
+      inr (next, begun.after ++ left, omega (arith, begun.some, length-append bytes left), begun.first left end, many, text, gave, inr proper)
 
   -- a run that ended early, where it is known what the reader had
-  pub known_front : (first now : S) (had has held holds : Option (List ℕ)) (fault : ServeFault) → Ran gives first now had has held holds (Err fault)
+  pub known_prefix : (first now : S) (had has held holds : Option (List ℕ)) (fault : ServeFault) → Ran gives first now had has held holds (Err fault)
       → IfSome had (λ input. AnswersFirst gives first held input fault now holds)
-  known_front first now None has held holds fault ran = tt
-  known_front first now (Some input) None held holds fault ran = absurd ran.read
-  known_front first now (Some input) (Some left) held holds fault ran =
+  known_prefix first now None has held holds fault ran = tt
+  known_prefix first now (Some input) None held holds fault ran = absurd ran.read
+  known_prefix first now (Some input) (Some left) held holds fault ran =
       let st = ran.leaves in
       subst (λ l. AnswersFirst gives first held l fault now holds) (sym ran.read) (record {
         done = st.done;
         texts = st.texts;
         rest = st.rest ++ left;
         last = st.last;
-        front = st.front;
+        prefix = st.prefix;
         more = st.more;
         firsts = firsts_more 0 ran.came left st.done st.rest st.firsts;
         run = st.run;
-        next = next_of fault.cause (length st.done) st.rest left ran.ended st.last now st.front st.more ran.at_end st.breaks;
+        next = next_of fault.cause (length st.done) st.rest left ran.ended st.last now st.prefix st.more ran.at_end st.breaks;
         answered_is = st.answered_is;
         called_is = st.called_is;
         wrote = st.wrote;

@@ -9,11 +9,14 @@ use Rattle.up_heads.specs.Heads.{NeverHasHead}
 use Rattle.up_heads.specs.Framing.{framing}
 use Rattle.up_heads.specs.Closing.{closes}
 use Rattle.up_heads.specs.Planned.{planned}
-use Rattle.up_http.specs.Requests.{First, Firsts, Requests, Serves, asked, refused, ends_with, most_requests, most_request, size_of}
+use Rattle.up_heads.specs.declared.planned.Planned.{Planned}
+use Rattle.up_heads.specs.declared.planned.Planned.TheVariants as planned_as
+use Rattle.up_http.specs.Requests.{First, Firsts, Requests, Serves, asked, asks_running, with_body, refused, ends_with, most_requests, most_request, size_of}
 use Rattle.up_http.specs.Feeding.{Waits, IsCut}
 use Rattle.up_heads.specs.declared.check.Check.{Check}
 use Rattle.up_heads.specs.declared.check.Check.TheVariants.{BadRequest}
 use Rattle.up_http.specs.declared.asked.Next.{Next}
+use Rattle.up_http.specs.declared.asked.What.TheVariants.{Fixed}
 use Rattle.up_http.proofs.HeadLaws.{heads_once, heads_more, no_head_blank, framing_small}
 
 -- nothing has come
@@ -71,6 +74,34 @@ below_serves given head after (Ok stated) next rest p goes_on = by_size (nat_le 
 pub first_below : (given : ℕ) (bytes : List ℕ) (next : Next) (rest : List ℕ) → First given bytes next rest → next.last ≡ false → given + 1 < most_requests
 first_below given bytes next rest (inl (none, is)) goes_on = absurd (cc (ap (λ n. n.last) is))
 first_below given bytes next rest (inr (head, after, heads, serves)) goes_on = below_serves given head after (framing head) next rest serves goes_on
+
+-- ---- what is asked opens no campaign
+
+with_body_runs : (p : Planned) (body : List ℕ) → asks_running (with_body p body) ≡ true
+unfolding asks_running
+with_body_runs (planned_as.Fixed check) body = refl
+with_body_runs planned_as.Deliver body = refl
+with_body_runs (planned_as.FetchDirector file) body = refl
+with_body_runs (planned_as.FetchImage file) body = refl
+
+fixed_runs : (check : Check) → asks_running (Fixed check) ≡ true
+unfolding asks_running
+fixed_runs check = refl
+
+runs_as : (next other : Next) → next ≡ other → asks_running other.what ≡ true → asks_running next.what ≡ true
+runs_as next other is runs = ap (λ n. asks_running n.what) is ∙ runs
+
+serves_runs : (given : ℕ) (head : RequestHead) (after : List ℕ) (r : Result (Option ℕ) Check) (next : Next) (rest : List ℕ) → Serves given head after r next rest → asks_running next.what ≡ true
+serves_runs given head after (Err check) next rest p = runs_as next _ p (fixed_runs check)
+serves_runs given head after (Ok stated) next rest p = by_size (nat_le (size_of stated) (length after)) p
+  where
+    by_size : (b : Bool) → MatchBool b ((next ≡ asked given head stated (take (size_of stated) after)) × (rest ≡ drop (size_of stated) after)) (next ≡ refused head BadRequest) → asks_running next.what ≡ true
+    by_size true x = runs_as next _ x.0 (with_body_runs (planned head stated) (take (size_of stated) after))
+    by_size false x = runs_as next _ x (fixed_runs BadRequest)
+
+pub first_runs : (given : ℕ) (bytes : List ℕ) (next : Next) (rest : List ℕ) → First given bytes next rest → asks_running next.what ≡ true
+first_runs given bytes next rest (inl (none, is)) = runs_as next _ is (fixed_runs BadRequest)
+first_runs given bytes next rest (inr (head, after, heads, serves)) = serves_runs given head after (framing head) next rest serves
 
 -- ---- each stream has its requests once
 

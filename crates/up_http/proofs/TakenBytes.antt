@@ -35,5 +35,5 @@ reads_blank bytes new byte begun b none is =
 pub reads_front : (bytes new : List ℕ) (byte : ℕ) (begun : Bool) (front : Front) → Begins bytes begun → new ≡ bytes ++ byte ∷ [] → Fronts new front → Reads new true front
 reads_front bytes new byte begun (Whole facts) b is (head, after, heads, said) =
     (head, subst (λ l. Heads l head []) (sym is) (head_is_all bytes byte head after b.none (subst (λ l. Heads l head after) is heads)), said)
-reads_front bytes new byte begun Cut b is none = (none, λ h. absurd (cc))
+reads_front bytes new byte begun Cut b is (none, _) = (none, λ h. absurd (cc))
 reads_front bytes new byte begun Bad b is never = never

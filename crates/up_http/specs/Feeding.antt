@@ -5,6 +5,8 @@ use Rattle.up_heads.specs.Heads.{Heads, most_head}
 use Rattle.up_heads.specs.Framing.{framing}
 use Rattle.up_http.specs.Requests.{First, most_requests, most_request, size_of}
 use Rattle.up_heads.specs.declared.check.Check.{Check}
+use Rattle.up_heads.specs.declared.check.Check.TheVariants.{BadRequest}
+use Rattle.up_http.specs.declared.asked.What.TheVariants.{Fixed}
 use Rattle.up_http.specs.declared.asked.Next.{Next}
 
 -- the bytes taken since the last request, how many requests were given, and whether the stream has ended
@@ -37,9 +39,9 @@ pub record Feeds (old : Fed) (piece : List ℕ) (taken : ℕ) (next : Option Nex
   pub going_on : old.ended ≡ false → Gives old piece taken next new
   pub over : old.ended ≡ true → (taken ≡ 0) × (next ≡ None) × (new ≡ old)
 
--- a rest that isn't empty at the end of the input is one request more; then the stream has ended
+-- a rest that isn't empty at the end of the input is one bad request more; then the stream has ended
 abbrev pub Ends : Fed → Option Next → Fed → Type 0
 Ends old None new = (old.ended ≡ false → old.rest ≡ []) × (new ≡ record { rest = old.rest; given = old.given; ended = true })
 Ends old (Some next) new =
     (old.ended ≡ false) × (old.given < most_requests) × (0 < length old.rest) × First old.given old.rest next []
-    × (next.last ≡ true) × (new ≡ record { rest = []; given = old.given + 1; ended = true })
+    × (next.what ≡ Fixed BadRequest) × (next.last ≡ true) × (new ≡ record { rest = []; given = old.given + 1; ended = true })

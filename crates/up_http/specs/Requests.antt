@@ -2,7 +2,8 @@
 use Rattle.std.specs.Prelude.{◌≡◌, ◌⊎◌, ℕ, ◌+◌, ◌<◌, ◌||◌, Bool, true, false, MatchBool, Option, unwrap_or, Result, Ok, Err, List, [], ◌∷◌, length, take, drop, nat_le}
 use Rattle.httparse.specs.Grammar.{RequestHead}
 use Rattle.up_heads.specs.Heads.{Heads, HasNoHead, most_head}
-use Rattle.up_heads.specs.Framing.{framing, most_body}
+use Rattle.up_manifest.specs.Manifests.{largest_body}
+use Rattle.up_heads.specs.Framing.{framing}
 use Rattle.up_heads.specs.Closing.{closes}
 use Rattle.up_heads.specs.Methods.{verb_of, is_head_verb}
 use Rattle.up_heads.specs.Planned.{planned}
@@ -10,7 +11,9 @@ use Rattle.up_heads.specs.declared.check.Check.{Check}
 use Rattle.up_heads.specs.declared.check.Check.TheVariants.{BadRequest, NotFound, AllowGet, AllowPost, LengthRequired, TooLarge, NotImplemented}
 use Rattle.up_heads.specs.declared.planned.Planned.{Planned}
 use Rattle.up_heads.specs.declared.planned.Planned.TheVariants as planned_as
-use Rattle.up_http.specs.declared.asked.Action.TheVariants.{Deliver, FetchDirector, FetchImage}
+use Rattle.up_roles.specs.declared.repository.Repository.TheVariants.{Director, Image}
+use Rattle.up_machine.specs.declared.command.Command.TheVariants.{Deliver, Fetch}
+use Rattle.up_machine.specs.Commands.{opens_running}
 use Rattle.up_http.specs.declared.asked.What.{What}
 use Rattle.up_http.specs.declared.asked.What.TheVariants.{Call, Fixed}
 use Rattle.up_http.specs.declared.asked.Next.{Next}
@@ -21,7 +24,7 @@ most_requests = 100
 
 -- the most bytes of a request
 abbrev pub most_request : ℕ
-most_request = most_head + most_body
+most_request = most_head + largest_body
 
 -- the bytes of a body; where no length is stated it is empty
 abbrev pub size_of : Option ℕ → ℕ
@@ -31,8 +34,13 @@ size_of stated = unwrap_or stated 0
 abbrev pub with_body : Planned → List ℕ → What
 with_body (planned_as.Fixed check) body = Fixed check
 with_body planned_as.Deliver body = Call (Deliver body)
-with_body (planned_as.FetchDirector file) body = Call (FetchDirector file)
-with_body (planned_as.FetchImage file) body = Call (FetchImage file)
+with_body (planned_as.FetchDirector file) body = Call (Fetch Director file)
+with_body (planned_as.FetchImage file) body = Call (Fetch Image file)
+
+-- whether a campaign that is opened is running
+unfoldable pub asks_running : What → Bool
+asks_running (Call command) = opens_running command
+asks_running (Fixed check) = true
 
 -- whether a length has to be stated: then the stream ends, since nobody knows where the body does
 abbrev pub needs_length : Check → Bool
@@ -54,7 +62,7 @@ ends_with (planned_as.FetchImage file) = false
 unfoldable pub is_head : RequestHead → Bool
 is_head head = is_head_verb (verb_of head.method)
 
--- bytes that have no head at the front are one bad request
+-- bytes that don't begin with a head are one bad request
 abbrev pub bad_request : Next
 bad_request = record { what = Fixed BadRequest; head = false; last = true }
 

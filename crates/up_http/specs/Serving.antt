@@ -1,7 +1,7 @@
 -- What a run over a stream leaves: answers, states, and what was written.
 use Rattle.std.specs.Prelude.{◌≡◌, ◌⊎◌, ℕ, ◌+◌, ◌*◌, ◌<◌, ◌≤◌, Bool, true, false, Option, List, [], ◌∷◌, ◌++◌, length, filter, flat_map, Result, Ok, Err}
 use Rattle.std.specs.Io.KnownBytes.{Appends, Consumes, IsAtEnd}
-use Rattle.up_lines.specs.Runs.{IsProperFront}
+use Rattle.up_lines.specs.Runs.{IsProperPrefix, Run}
 use Rattle.up_http.specs.Requests.{First, Firsts, Requests, most_requests, most_request}
 use Rattle.up_http.specs.Feeding.{Waits}
 use Rattle.up_http.specs.declared.asked.What.{What}
@@ -11,17 +11,11 @@ use Rattle.up_http.specs.declared.progress.Progress.{Progress}
 use Rattle.up_http.specs.declared.fault.Fault.{Fault}
 use Rattle.up_http.specs.declared.fault.Fault.TheVariants.{Memory, Read, Write}
 use Rattle.up_http.specs.declared.fault.ServeFault.{ServeFault}
+use Rattle.up_http.specs.declared.served.Served.{Served}
 
 -- the most bytes that are read
 abbrev pub most_bytes : ℕ
 most_bytes = most_requests * most_request
-
--- requests, answered one after another, may have these answers, which leave the new state
-abbrev pub Run : {S : Type 0} → (S → Next → List ℕ → S → Type 0) → S → List Next → List (List ℕ) → S → Type 0
-Run gives old [] [] new = new ≡ old
-Run {S} gives old (next ∷ nexts) (text ∷ texts) new = (mid : S) × gives old next text mid × Run gives mid nexts texts new
-Run gives old [] (text ∷ texts) new = ⊥
-Run gives old (next ∷ nexts) [] new = ⊥
 
 -- texts one after another
 abbrev pub joined : List (List ℕ) → List ℕ
@@ -29,7 +23,7 @@ joined texts = flat_map (λ text. text) texts
 
 -- whether a request is a command
 abbrev pub is_call : What → Bool
-is_call (Call action) = true
+is_call (Call command) = true
 is_call (Fixed check) = false
 
 -- how many of the requests are commands
@@ -59,12 +53,12 @@ pub record IsBegun (given : ℕ) (bytes : List ℕ) (ended : Bool) (next : Next)
 
 -- what became of the request behind those that were answered whole, and how many commands more were called
 abbrev pub Breaks : {S : Type 0} → (S → Next → List ℕ → S → Type 0) → Fault → ℕ → List ℕ → Bool → S → S → List ℕ → ℕ → Type 0
-Breaks gives Read given bytes ended old new front more = (front ≡ []) × (new ≡ old) × (more ≡ 0) × Waits bytes
-Breaks gives Memory given bytes ended old new front more =
-    (front ≡ []) × (((new ≡ old) × (more ≡ 0))
-    ⊎ ((next : Next) × IsBegun given bytes ended next × (more ≡ calls (next ∷ [])) × ((new ≡ old) ⊎ ((text : List ℕ) × gives old next text new))))
-Breaks gives Write given bytes ended old new front more =
-    (next : Next) × IsBegun given bytes ended next × (more ≡ calls (next ∷ [])) × (text : List ℕ) × gives old next text new × IsProperFront front text
+Breaks gives Read given bytes ended old new prefix more = (prefix ≡ []) × (new ≡ old) × (more ≡ 0) × Waits bytes
+Breaks gives Memory given bytes ended old new prefix more =
+    (prefix ≡ []) × (((new ≡ old) × (more ≡ 0))
+    ⊎ ((next : Next) × IsBegun given bytes ended next × (more ≡ calls (next ∷ [])) × (text : List ℕ) × gives old next text new))
+Breaks gives Write given bytes ended old new prefix more =
+    (next : Next) × IsBegun given bytes ended next × (more ≡ calls (next ∷ [])) × (text : List ℕ) × gives old next text new × IsProperPrefix prefix text
 
 -- what a run that ended early leaves: so many requests are answered, and their answers written whole
 pub record Stopped {S : Type 0} (gives : S → Next → List ℕ → S → Type 0) (cause : Fault) (first : S) (held : Option (List ℕ)) (came : List ℕ) (ended : Bool) (called answered : ℕ) (now : S) (holds : Option (List ℕ)) : Type 0 where
@@ -72,14 +66,14 @@ pub record Stopped {S : Type 0} (gives : S → Next → List ℕ → S → Type 
   pub texts : List (List ℕ)
   pub rest : List ℕ
   pub last : S
-  pub front : List ℕ
+  pub prefix : List ℕ
   pub more : ℕ
   pub firsts : Firsts 0 came done false rest
   pub run : Run gives first done texts last
-  pub breaks : Breaks gives cause (length done) rest ended last now front more
+  pub breaks : Breaks gives cause (length done) rest ended last now prefix more
   pub answered_is : answered ≡ length done
   pub called_is : called ≡ calls done + more
-  pub wrote : Appends held holds (joined texts ++ front)
+  pub wrote : Appends held holds (joined texts ++ prefix)
 
 -- what a run that ended leaves: each request has its answer, in order, and nothing else is written
 pub record Finished {S : Type 0} (gives : S → Next → List ℕ → S → Type 0) (first : S) (held : Option (List ℕ)) (came : List ℕ) (answered : ℕ) (now : S) (holds : Option (List ℕ)) : Type 0 where
@@ -91,12 +85,12 @@ pub record Finished {S : Type 0} (gives : S → Next → List ℕ → S → Type
   pub wrote : Appends held holds (joined texts)
 
 -- what a run leaves of the bytes that came: it ended at the input's end, or with a request, whatever follows
-abbrev pub Leaves : {S : Type 0} → (S → Next → List ℕ → S → Type 0) → S → Option (List ℕ) → List ℕ → Bool → Result ℕ ServeFault → S → Option (List ℕ) → Type 0
-Leaves gives first held came ended (Ok answered) now holds = (more : List ℕ) → (ended ≡ true → more ≡ []) → Finished gives first held (came ++ more) answered now holds
+abbrev pub Leaves : {S : Type 0} → (S → Next → List ℕ → S → Type 0) → S → Option (List ℕ) → List ℕ → Bool → Result Served ServeFault → S → Option (List ℕ) → Type 0
+Leaves gives first held came ended (Ok served) now holds = (more : List ℕ) → (ended ≡ true → more ≡ []) → Finished gives first held (came ++ more) served.requests now holds
 Leaves gives first held came ended (Err fault) now holds = Stopped gives fault.cause first held came ended fault.called fault.answered now holds
 
 -- a run over a reader and a writer
-pub record Ran {S : Type 0} (gives : S → Next → List ℕ → S → Type 0) (first now : S) (had has held holds : Option (List ℕ)) (result : Result ℕ ServeFault) : Type 0 where
+pub record Ran {S : Type 0} (gives : S → Next → List ℕ → S → Type 0) (first now : S) (had has held holds : Option (List ℕ)) (result : Result Served ServeFault) : Type 0 where
   pub came : List ℕ
   pub ended : Bool
   pub read : Consumes had has came
@@ -105,8 +99,8 @@ pub record Ran {S : Type 0} (gives : S → Next → List ℕ → S → Type 0) (
   pub leaves : Leaves gives first held came ended result now holds
 
 -- the result of a run, told with what was called and answered
-abbrev pub told : Result (Unit {0}) Fault → Progress → Result ℕ ServeFault
-told (Ok _) at = Ok at.answered
+abbrev pub told : Result (Unit {0}) Fault → Progress → Result Served ServeFault
+told (Ok _) at = Ok (record { requests = at.answered })
 told (Err cause) at = Err (record { cause = cause; called = at.called; answered = at.answered })
 
 -- ---- steps of a run
@@ -122,8 +116,8 @@ Stops {S} gives cause ended bytes old before held new after holds = (first : S) 
 
 -- a request isn't answered whole
 abbrev pub Unanswered : {S : Type 0} → (S → Next → List ℕ → S → Type 0) → Fault → S → Next → S → Option (List ℕ) → Option (List ℕ) → Type 0
-Unanswered gives Memory old next new held holds = ((new ≡ old) ⊎ ((text : List ℕ) × gives old next text new)) × Appends held holds []
-Unanswered gives Write old next new held holds = (text : List ℕ) × gives old next text new × (front : List ℕ) × IsProperFront front text × Appends held holds front
+Unanswered gives Memory old next new held holds = ((text : List ℕ) × gives old next text new) × Appends held holds []
+Unanswered gives Write old next new held holds = (text : List ℕ) × gives old next text new × (prefix : List ℕ) × IsProperPrefix prefix text × Appends held holds prefix
 Unanswered gives Read old next new held holds = ⊥
 
 -- a step takes bytes, all of the piece or those up to the end of a request
@@ -144,12 +138,12 @@ pub record IsFresh (at : Progress) : Type 0 where
 
 -- ---- where it is known what the reader had
 
--- nothing became of the next request, or it was begun: then its answer, of which a front was written, may have changed the state
+-- nothing became of the next request; or the state is as an answer to it leaves it, of which nothing or a prefix was written, never all
 abbrev pub IsNext : {S : Type 0} → (S → Next → List ℕ → S → Type 0) → ℕ → List ℕ → S → S → List ℕ → ℕ → Type 0
-IsNext gives given bytes old new front more =
-    ((front ≡ []) × (new ≡ old) × (more ≡ 0))
+IsNext gives given bytes old new prefix more =
+    ((prefix ≡ []) × (new ≡ old) × (more ≡ 0))
     ⊎ ((next : Next) × (after : List ℕ) × (0 < length bytes) × First given bytes next after × (more ≡ calls (next ∷ []))
-    × (((front ≡ []) × (new ≡ old)) ⊎ ((text : List ℕ) × (others : List ℕ) × gives old next text new × (text ≡ front ++ others))))
+    × (text : List ℕ) × gives old next text new × ((prefix ≡ []) ⊎ IsProperPrefix prefix text))
 
 -- of the requests of an input the first so many have their answers, written whole
 pub record AnswersFirst {S : Type 0} (gives : S → Next → List ℕ → S → Type 0) (first : S) (held : Option (List ℕ)) (input : List ℕ) (fault : ServeFault) (now : S) (holds : Option (List ℕ)) : Type 0 where
@@ -157,11 +151,11 @@ pub record AnswersFirst {S : Type 0} (gives : S → Next → List ℕ → S → 
   pub texts : List (List ℕ)
   pub rest : List ℕ
   pub last : S
-  pub front : List ℕ
+  pub prefix : List ℕ
   pub more : ℕ
   pub firsts : Firsts 0 input done false rest
   pub run : Run gives first done texts last
-  pub next : IsNext gives (length done) rest last now front more
+  pub next : IsNext gives (length done) rest last now prefix more
   pub answered_is : fault.answered ≡ length done
   pub called_is : fault.called ≡ calls done + more
-  pub wrote : Appends held holds (joined texts ++ front)
+  pub wrote : Appends held holds (joined texts ++ prefix)

@@ -1,30 +1,18 @@
 //! What a stream asks.
-use up_canon::bytes::Bytes;
-use up_canon::file_name::FileName;
 use up_heads::check::Check;
-
-/// What a request wants of the repositories.
-#[derive(Debug, Drop)]
-pub enum Action {
-    /// The delivery of a vehicle version manifest, the body.
-    Deliver(Bytes),
-    /// A file of the Director repository.
-    FetchDirector(FileName),
-    /// A file of the Image repository.
-    FetchImage(FileName),
-}
+use up_machine::command::Command;
 
 /// What a request asks.
-#[derive(Debug, Drop)]
+#[derive(Drop)]
 pub enum What {
-    /// An action.
-    Call(Action),
+    /// A command: the delivery of a vehicle version manifest, or the reading of a file.
+    Call(Command),
     /// A fixed answer.
     Fixed(Check),
 }
 
 /// A request.
-#[derive(Debug, Drop)]
+#[derive(Drop)]
 pub struct Next {
     /// What it asks.
     pub what: What,
@@ -35,7 +23,7 @@ pub struct Next {
 }
 
 /// What came of a piece.
-#[derive(Debug, Drop)]
+#[derive(Drop)]
 pub struct Step {
     /// How many bytes were taken.
     pub taken: usize,

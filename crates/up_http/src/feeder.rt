@@ -5,14 +5,16 @@ ghost use Rattle.up_http.specs.Parts.{Begins, IsPlanOf, IsWaiting, IsWhole, Keep
 ghost use Rattle.up_http.specs.Requests.{asked, ends_with, most_requests, with_body};
 ghost use Rattle.httparse.specs.Grammar.{RequestHead};
 
-use crate::asked::{Action, Next, Step, What};
+use crate::asked::{Next, Step, What};
 use crate::taking::take_head;
 use std::alloc::{AllocError, Global};
 use std::marker::Model;
 use up_heads::check::Check;
 use up_heads::heads::{Facts, Front};
 use up_heads::planned::{Planned, plan_of};
+use up_machine::command::Command;
 use up_manifest::body::Body;
+use up_roles::repository::Repository;
 
 /// The most requests of a stream.
 const MOST_REQUESTS: u32 = 100;
@@ -51,7 +53,7 @@ pub(crate) struct Parts {
     pub ended: bool,
 }
 
-/// A stream that comes in pieces.
+/// A stream that comes in pieces. Of a request that isn't whole it keeps what has come: at most 278,528 bytes.
 #[derive(Drop)]
 pub struct Feeder {
     parts: Parts,
@@ -85,7 +87,8 @@ impl Feeder {
         }
     }
 
-    /// Takes a piece, up to the end of the next request.
+    /// Takes a piece, up to the end of the next request. After the last request it takes nothing. An error takes nothing and
+    /// leaves the stream as it was.
     pub fn feed(&mut self, piece: &[u8]) -> Result<Step, AllocError>
         ensures ok { IfOk result (λ step. Feeds self.old piece.now step.taken step.next self.new) }
         ensures err { OnErr result (self.new ≡ self.old) }
@@ -209,9 +212,9 @@ fn joined(asks: Planned, body: Body) -> What
 {
     match asks {
         Planned::Fixed(check) => What::Fixed(check),
-        Planned::Deliver => What::Call(Action::Deliver(body.into_bytes())),
-        Planned::FetchDirector(file) => What::Call(Action::FetchDirector(file)),
-        Planned::FetchImage(file) => What::Call(Action::FetchImage(file)),
+        Planned::Deliver => What::Call(Command::Deliver(body.into_bytes())),
+        Planned::FetchDirector(file) => What::Call(Command::Fetch(Repository::Director, file)),
+        Planned::FetchImage(file) => What::Call(Command::Fetch(Repository::Image, file)),
     }
 }
 

@@ -7,6 +7,7 @@ pub mod feeder;
 pub mod laws;
 mod progress;
 pub mod respond;
+pub mod served;
 pub mod serving;
 pub mod stream;
 mod taking;

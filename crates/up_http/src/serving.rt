@@ -1,14 +1,15 @@
 //! A stream that is read, and the answers to its requests.
-ghost use Rattle.std.specs.Prelude.{◌≡◌, ◌≤◌, ◌<◌, ◌+◌, [], ◌∷◌, ℕ, List, if◌then◌else◌, is_ok, IfOk, IfErr, IfSome, OnOk, false, true, take};
+ghost use Rattle.std.specs.Prelude.{◌≡◌, ◌≤◌, ◌<◌, ◌+◌, [], ◌∷◌, ℕ, List, if◌then◌else◌, is_ok, IfOk, IfErr, IfSome, IsTrue, OnOk, false, true, take};
 ghost use Rattle.std.specs.Io.KnownBytes.{Appends};
-ghost use Rattle.up_http.specs.Requests.{most_requests};
+ghost use Rattle.up_http.specs.Requests.{asks_running, most_requests};
 ghost use Rattle.up_http.specs.Serving.{Ran, Finished, AnswersFirst, Unanswered, Takes, Stops, Moves, Completes, IsFresh, calls, told};
 
-use crate::asked::{Next, What};
+use crate::asked::{Next, Step, What};
 use crate::fault::{Fault, ServeFault};
 use crate::feeder::Feeder;
 use crate::progress::Progress;
 use crate::respond::Respond;
+use crate::served::Served;
 use std::alloc::Global;
 use std::io::{Read, Write};
 use up_lines::{read_piece, write_whole};
@@ -27,9 +28,10 @@ fn answer_next<S, A: Respond<S>, W: Write>(
     writer: &mut W,
     next: &Next,
 ) -> Result<(), Fault>
-    ensures ok { OnOk result ((text : List ℕ) × A.gives state.old next.now text state.new
+    requires { IsTrue (asks_running next.now.what) }
+    ensures ok { OnOk result ((text : List ℕ) × A.gives responder.now state.old next.now text state.new
         × Appends (W.contents writer.old) (W.contents writer.new) text) }
-    ensures err { IfErr result (λ cause. Unanswered A.gives cause state.old next.now state.new (W.contents writer.old) (W.contents writer.new)) }
+    ensures err { IfErr result (λ cause. Unanswered (A.gives responder.now) cause state.old next.now state.new (W.contents writer.old) (W.contents writer.new)) }
 {
     let text = responder.respond(alloc, state, next)?;
     match write_whole(writer, text.as_slice()) {
@@ -58,19 +60,20 @@ fn answer_counted<S, A: Respond<S>, W: Write>(
     writer: &mut W,
     called: &mut u32,
     answered: &mut u32,
-    next: &Next,
+    next: Next,
 ) -> Result<(), Fault>
+    requires asks { IsTrue (asks_running next.what) }
     requires calls_left { called.old < most_requests }
     requires answers_left { answered.old < most_requests }
-    ensures called { called.new ≡ called.old + calls (next.now ∷ []) }
+    ensures called { called.new ≡ called.old + calls (next ∷ []) }
     ensures one { called.new ≤ called.old + 1 }
     ensures answered { answered.new ≡ (if is_ok result then answered.old + 1 else answered.old) }
-    ensures ok { OnOk result ((text : List ℕ) × A.gives state.old next.now text state.new
+    ensures ok { OnOk result ((text : List ℕ) × A.gives responder.now state.old next text state.new
         × Appends (W.contents writer.old) (W.contents writer.new) text) }
-    ensures err { IfErr result (λ cause. Unanswered A.gives cause state.old next.now state.new (W.contents writer.old) (W.contents writer.new)) }
+    ensures err { IfErr result (λ cause. Unanswered (A.gives responder.now) cause state.old next state.new (W.contents writer.old) (W.contents writer.new)) }
 {
-    *called = count_call(*called, next);
-    answer_next(alloc, responder, state, writer, next)?;
+    *called = count_call(*called, &next);
+    answer_next(alloc, responder, state, writer, &next)?;
     *answered += 1;
     Ok(())
 }
@@ -86,30 +89,32 @@ fn serve_piece<S, A: Respond<S>, W: Write>(
 ) -> Result<usize, Fault>
     requires { progress.old.over ≡ false }
     ensures taken { IfOk result (λ n. Moves n piece.now progress.old progress.new) }
-    ensures ok { IfOk result (λ n. Takes A.gives (take n piece.now) progress.old state.old (W.contents writer.old)
+    ensures ok { IfOk result (λ n. Takes (A.gives responder.now) (take n piece.now) progress.old state.old (W.contents writer.old)
         progress.new state.new (W.contents writer.new)) }
-    ensures err { IfErr result (λ cause. Stops A.gives cause false piece.now
+    ensures err { IfErr result (λ cause. Stops (A.gives responder.now) cause false piece.now
         progress.old state.old (W.contents writer.old) progress.new state.new (W.contents writer.new)) }
 {
-    let step = match progress.feeder.feed(piece) {
+    let Step { taken, next } = match progress.feeder.feed(piece) {
         Ok(step) => step,
         Err(_) => return Err(Fault::Memory),
     };
-    let Some(next) = &step.next else {
-        return Ok(step.taken);
-    };
-    progress.over = next.last;
-    match answer_counted(
-        alloc,
-        responder,
-        state,
-        writer,
-        &mut progress.called,
-        &mut progress.answered,
-        next,
-    ) {
-        Ok(()) => Ok(step.taken),
-        Err(cause) => Err(cause),
+    match next {
+        None => Ok(taken),
+        Some(next) => {
+            progress.over = next.last;
+            match answer_counted(
+                alloc,
+                responder,
+                state,
+                writer,
+                &mut progress.called,
+                &mut progress.answered,
+                next,
+            ) {
+                Ok(()) => Ok(taken),
+                Err(cause) => Err(cause),
+            }
+        }
     }
 }
 
@@ -122,9 +127,9 @@ fn finish<S, A: Respond<S>, W: Write>(
     progress: &mut Progress,
 ) -> Result<(), Fault>
     requires { progress.old.over ≡ false }
-    ensures ok { OnOk result (Completes A.gives progress.old state.old (W.contents writer.old)
+    ensures ok { OnOk result (Completes (A.gives responder.now) progress.old state.old (W.contents writer.old)
         progress.new state.new (W.contents writer.new)) }
-    ensures err { IfErr result (λ cause. Stops A.gives cause true [] progress.old state.old (W.contents writer.old)
+    ensures err { IfErr result (λ cause. Stops (A.gives responder.now) cause true [] progress.old state.old (W.contents writer.old)
         progress.new state.new (W.contents writer.new)) }
 {
     match progress.feeder.end() {
@@ -141,7 +146,7 @@ fn finish<S, A: Respond<S>, W: Write>(
                 writer,
                 &mut progress.called,
                 &mut progress.answered,
-                &next,
+                next,
             ) {
                 Ok(()) => Ok(()),
                 Err(cause) => Err(cause),
@@ -160,7 +165,7 @@ fn serve_reads<S, A: Respond<S>, R: Read, W: Write>(
     progress: &mut Progress,
 ) -> Result<(), Fault>
     requires { IsFresh progress.old }
-    ensures { Ran A.gives state.old state.new (R.remaining reader.old) (R.remaining reader.new)
+    ensures { Ran (A.gives responder.now) state.old state.new (R.remaining reader.old) (R.remaining reader.new)
         (W.contents writer.old) (W.contents writer.new) (told result progress.new) }
 {
     let mut buffer = [0; PIECE_BYTES];
@@ -197,23 +202,25 @@ fn serve_reads<S, A: Respond<S>, R: Read, W: Write>(
 
 /// Reads a stream and answers its requests, each as soon as it is whole, until the stream ends.
 ///
-/// The number is that of the answers. At most 27,852,800 bytes are read; nothing is tried twice.
+/// At most 27,852,800 bytes are read; nothing is tried twice. A fault tells how many requests were handed on as commands, whose
+/// effects stand, and how many answers were written whole. `Read` comes after all requests that were whole before it, and
+/// `Write` also where the writer takes no byte.
 pub fn serve<S, A: Respond<S>, R: Read, W: Write>(
     alloc: Global,
     responder: &A,
     state: &mut S,
     reader: &mut R,
     writer: &mut W,
-) -> Result<u32, ServeFault>
+) -> Result<Served, ServeFault>
     // For any reader and writer: the bytes that came, what was answered of them, and what was written.
-    ensures ran { Ran A.gives state.old state.new (R.remaining reader.old) (R.remaining reader.new)
+    ensures ran { Ran (A.gives responder.now) state.old state.new (R.remaining reader.old) (R.remaining reader.new)
         (W.contents writer.old) (W.contents writer.new) result }
 
     // Where it is known what the reader has, by its requests.
-    ensures whole { IfOk result (λ answered. IfSome (R.remaining reader.old) (λ input.
-        Finished A.gives state.old (W.contents writer.old) input answered state.new (W.contents writer.new))) }
-    ensures front { IfErr result (λ fault. IfSome (R.remaining reader.old) (λ input.
-        AnswersFirst A.gives state.old (W.contents writer.old) input fault state.new (W.contents writer.new))) }
+    ensures whole { IfOk result (λ served. IfSome (R.remaining reader.old) (λ input.
+        Finished (A.gives responder.now) state.old (W.contents writer.old) input served.requests state.new (W.contents writer.new))) }
+    ensures prefix { IfErr result (λ fault. IfSome (R.remaining reader.old) (λ input.
+        AnswersFirst (A.gives responder.now) state.old (W.contents writer.old) input fault state.new (W.contents writer.new))) }
 {
     let mut progress = Progress {
         feeder: Feeder::new(alloc),
@@ -222,7 +229,9 @@ pub fn serve<S, A: Respond<S>, R: Read, W: Write>(
         answered: 0,
     };
     match serve_reads(alloc, responder, state, reader, writer, &mut progress) {
-        Ok(()) => Ok(progress.answered),
+        Ok(()) => Ok(Served {
+            requests: progress.answered,
+        }),
         Err(cause) => Err(ServeFault {
             cause,
             called: progress.called,

@@ -13,7 +13,7 @@ pub not_holds : (a : Bool) → not a ≡ true → a ≡ false
 not_holds true h = absurd (cc)
 not_holds false h = refl
 
--- a byte of a line's own goes to the front of what follows
+-- a byte of a line's own goes before what follows
 pub lines-inside : (ended : Bool) (b : ℕ) (bs : List ℕ) → is_inside b ≡ true → lines_of ended (b ∷ bs) ≡ begin_with ended b (lines_of ended bs)
 lines-inside ended b bs h = ap (λ t. cond t ([] ∷ lines_of ended bs) (begin_with ended b (lines_of ended bs))) (not_holds (b == newline) h)
 
@@ -38,11 +38,11 @@ lines-begun (b ∷ bs) h =
     let both = both_hold (is_inside b) (list_all is_inside bs) h in
     lines-inside false b bs both.0 ∙ ap (begin_with false b) (lines-begun bs both.1)
 
--- the lines begin with one that has this front
-pub record Begins (front : List ℕ) (lines : List (List ℕ)) : Type 0 where
+-- the lines begin with one that has this prefix
+pub record Begins (prefix : List ℕ) (lines : List (List ℕ)) : Type 0 where
   pub rest : List ℕ
   pub others : List (List ℕ)
-  pub is : lines ≡ (front ++ rest) ∷ others
+  pub is : lines ≡ (prefix ++ rest) ∷ others
 
 begins_one : (b : ℕ) (lines : List (List ℕ)) → Begins (b ∷ []) (begin_with true b lines)
 begins_one b [] = record { rest = []; others = []; is = refl }
@@ -51,28 +51,28 @@ begins_one b (l ∷ ls) = record { rest = l; others = ls; is = refl }
 begins_more : (ended : Bool) (b : ℕ) (bs : List ℕ) (lines : List (List ℕ)) → Begins bs lines → Begins (b ∷ bs) (begin_with ended b lines)
 begins_more ended b bs lines h = record { rest = h.rest; others = h.others; is = ap (begin_with ended b) h.is }
 
--- whatever follows a line that is begun, it is the front of the first line
-pub lines-front : (line : List ℕ) (b : ℕ) (more : List ℕ) → list_all is_inside line ≡ true → is_inside b ≡ true → Begins (line ++ b ∷ []) (lines_of true (line ++ b ∷ more))
-lines-front [] b more h own = subst (Begins (b ∷ [])) (sym (lines-inside true b more own)) (begins_one b (lines_of true more))
-lines-front (c ∷ cs) b more h own =
+-- whatever follows a line that is begun, it is a prefix of the first line
+pub lines-prefix : (line : List ℕ) (b : ℕ) (more : List ℕ) → list_all is_inside line ≡ true → is_inside b ≡ true → Begins (line ++ b ∷ []) (lines_of true (line ++ b ∷ more))
+lines-prefix [] b more h own = subst (Begins (b ∷ [])) (sym (lines-inside true b more own)) (begins_one b (lines_of true more))
+lines-prefix (c ∷ cs) b more h own =
     let both = both_hold (is_inside c) (list_all is_inside cs) h in
-    subst (Begins (c ∷ cs ++ b ∷ [])) (sym (lines-inside true c (cs ++ b ∷ more) both.0)) (begins_more true c (cs ++ b ∷ []) _ (lines-front cs b more both.1 own))
+    subst (Begins (c ∷ cs ++ b ∷ [])) (sym (lines-inside true c (cs ++ b ∷ more) both.0)) (begins_more true c (cs ++ b ∷ []) _ (lines-prefix cs b more both.1 own))
 
 begins_or_none : (b : ℕ) (lines : List (List ℕ)) → (begin_with false b lines ≡ []) ⊎ Begins (b ∷ []) (begin_with false b lines)
 begins_or_none b [] = inl refl
 begins_or_none b (l ∷ ls) = inr (record { rest = l; others = ls; is = refl })
 
 -- or there is none yet, where the line is never ended
-lines-front_whole : (line : List ℕ) (b : ℕ) (more : List ℕ) → list_all is_inside line ≡ true → is_inside b ≡ true
+lines-prefix_whole : (line : List ℕ) (b : ℕ) (more : List ℕ) → list_all is_inside line ≡ true → is_inside b ≡ true
     → (lines_of false (line ++ b ∷ more) ≡ []) ⊎ Begins (line ++ b ∷ []) (lines_of false (line ++ b ∷ more))
-lines-front_whole [] b more h own =
+lines-prefix_whole [] b more h own =
     let P : List (List ℕ) → Type 0 = λ l. (l ≡ []) ⊎ Begins (b ∷ []) l in
     subst P (sym (lines-inside false b more own)) (begins_or_none b (lines_of false more))
-lines-front_whole (c ∷ cs) b more h own =
+lines-prefix_whole (c ∷ cs) b more h own =
     let both = both_hold (is_inside c) (list_all is_inside cs) h in
     let P : List (List ℕ) → Type 0 = λ l. (l ≡ []) ⊎ Begins (c ∷ cs ++ b ∷ []) l in
     subst P (sym (lines-inside false c (cs ++ b ∷ more) both.0))
-    (elim (lines-front_whole cs b more both.1 own) as (λ _. P (begin_with false c (lines_of false (cs ++ b ∷ more)))) [
+    (elim (lines-prefix_whole cs b more both.1 own) as (λ _. P (begin_with false c (lines_of false (cs ++ b ∷ more)))) [
       | inl none ↦ inl (ap (begin_with false c) none)
       | inr some ↦ inr (begins_more false c (cs ++ b ∷ []) _ some)
     ])
@@ -80,8 +80,8 @@ lines-front_whole (c ∷ cs) b more h own =
 -- in both cases
 pub lines-begins : (ended : Bool) (line : List ℕ) (b : ℕ) (more : List ℕ) → list_all is_inside line ≡ true → is_inside b ≡ true
     → (lines_of ended (line ++ b ∷ more) ≡ []) ⊎ Begins (line ++ b ∷ []) (lines_of ended (line ++ b ∷ more))
-lines-begins true line b more h own = inr (lines-front line b more h own)
-lines-begins false line b more h own = lines-front_whole line b more h own
+lines-begins true line b more h own = inr (lines-prefix line b more h own)
+lines-begins false line b more h own = lines-prefix_whole line b more h own
 
 begins_some : (b : ℕ) (lines : List (List ℕ)) → 0 < length (begin_with true b lines)
 begins_some b [] = omega arith

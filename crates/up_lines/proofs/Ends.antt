@@ -25,9 +25,9 @@ pub none_of : (line : List ℕ) → length line ≡ 0 → line ≡ []
 none_of [] h = refl
 none_of (b ∷ bs) h = absurd (omega arith)
 
--- the front of the buffer, as a slice of the vector
-pub same_front : (n len : ℕ) (all new old : List ℕ) → all ≡ take len (new ++ drop (length new) old) → length new ≡ len → n ≤ length new → take n all ≡ take n new
-same_front n len all new old e same below = ap (take n) (e ∙ ap (λ k. take k (new ++ drop (length new) old)) (sym same) ∙ take-append_seam new (drop (length new) old))
+-- the first bytes of the buffer, as a slice of the vector
+pub same_prefix : (n len : ℕ) (all new old : List ℕ) → all ≡ take len (new ++ drop (length new) old) → length new ≡ len → n ≤ length new → take n all ≡ take n new
+same_prefix n len all new old e same below = ap (take n) (e ∙ ap (λ k. take k (new ++ drop (length new) old)) (sym same) ∙ take-append_seam new (drop (length new) old))
 
 -- past the last line no line is begun
 pub below_of : (at : Progress) → 0 < length at.line.items → at.counted < most_lines
@@ -110,7 +110,7 @@ module _ {S : Type 0} (gives : S → List ℕ → List ℕ → S → Type 0) (fi
           others = [];
           answers = so.answers;
           last = now;
-          front = [];
+          prefix = [];
           split = ap asked all ∙ asked-all so.whole so.each_short (few_whole came at now holds so) ∙ sym (append-nil (filter has_bytes so.whole));
           run = so.run;
           next = (refl, refl, refl);

@@ -15,13 +15,13 @@ first_of false came left end = whole_first came left
 first_of true came left end = ([], ap (λ l. asked (lines_of true l)) (ap (λ l. came ++ l) (end refl) ∙ append-nil came) ∙ sym (append-nil (asked (lines_of true came))))
 
 module _ {S : Type 0} (gives : S → List ℕ → List ℕ → S → Type 0) where
-  next_of : (cause : Cause) (old : S) (lines more : List (List ℕ)) (new : S) (front : List ℕ) → Next gives cause old lines new front → IsNext gives old (lines ++ more) new front
-  next_of Memory old lines more new front (none, inl same) = inl (none, same)
-  next_of Memory old lines more new front (none, inr (line, answer, rest, is, gave)) =
+  next_of : (cause : Cause) (old : S) (lines more : List (List ℕ)) (new : S) (prefix : List ℕ) → Next gives cause old lines new prefix → IsNext gives old (lines ++ more) new prefix
+  next_of Memory old lines more new prefix (none, inl same) = inl (none, same)
+  next_of Memory old lines more new prefix (none, inr (line, answer, rest, is, gave)) =
       inr (line, answer, rest ++ more, ap (λ l. l ++ more) is, gave, (print answer, ap (λ l. l ++ print answer) (sym none), omega (arith, length-append answer (newline ∷ []))))
-  next_of Write old lines more new front (line, answer, rest, is, gave, proper) = inr (line, answer, rest ++ more, ap (λ l. l ++ more) is, gave, proper)
-  next_of Read old lines more new front (none, same, _) = inl (none, same)
-  next_of TooLong old lines more new front (none, same, _) = inl (none, same)
+  next_of Write old lines more new prefix (line, answer, rest, is, gave, proper) = inr (line, answer, rest ++ more, ap (λ l. l ++ more) is, gave, proper)
+  next_of Read old lines more new prefix (none, same, _) = inl (none, same)
+  next_of TooLong old lines more new prefix (none, same, _) = inl (none, same)
 
   answers_first : (cause : Cause) (first : S) (held : Option (List ℕ)) (lines more : List (List ℕ)) (answered : ℕ) (now : S) (holds : Option (List ℕ)) → Stopped gives cause first held lines answered now holds
       → AnswersFirst gives first held (lines ++ more) answered now holds
@@ -30,10 +30,10 @@ module _ {S : Type 0} (gives : S → List ℕ → List ℕ → S → Type 0) whe
     others = st.others ++ more;
     answers = st.answers;
     last = st.last;
-    front = st.front;
+    prefix = st.prefix;
     split = ap (λ l. l ++ more) st.split ∙ append_assoc st.done st.others more;
     run = st.run;
-    next = next_of cause st.last st.others more now st.front st.next;
+    next = next_of cause st.last st.others more now st.prefix st.next;
     answered_is = st.answered_is;
     wrote = st.wrote;
   }
@@ -52,11 +52,11 @@ module _ {S : Type 0} (gives : S → List ℕ → List ℕ → S → Type 0) whe
         let past : Tells TooLong ran.came = subst (λ c. Tells c ran.came) is ran.leaves.0 in
         ap (λ l. fits (lines_of true l)) ran.read ∙ (past left).0
 
-    pub known_front : (had has : Option (List ℕ)) (fault : Fault) → Ran gives first now had has held holds (Err fault)
+    pub known_prefix : (had has : Option (List ℕ)) (fault : Fault) → Ran gives first now had has held holds (Err fault)
         → IfSome had (λ input. AnswersFirst gives first held (asked (lines_of true input)) fault.lines now holds)
-    known_front None has fault ran = tt
-    known_front (Some input) None fault ran = absurd ran.read
-    known_front (Some input) (Some left) fault ran =
+    known_prefix None has fault ran = tt
+    known_prefix (Some input) None fault ran = absurd ran.read
+    known_prefix (Some input) (Some left) fault ran =
         let (others, same) = first_of ran.ended ran.came left ran.at_end in
         subst (λ l. AnswersFirst gives first held l fault.lines now holds) (sym (ap (λ l. asked (lines_of true l)) ran.read ∙ same))
         (answers_first fault.cause first held (asked (lines_of ran.ended ran.came)) others fault.lines now holds ran.leaves.1)

@@ -15,11 +15,11 @@ record Cut (came : List ℕ) : Type 0 where
   own_bytes : list_all is_inside rest ≡ true
   cut : (ended : Bool) (more : List ℕ) → lines_of ended (came ++ more) ≡ whole ++ lines_of ended (rest ++ more)
 
--- a line's end at the front
+-- a line's end comes first
 cut_newline : (bytes : List ℕ) → Cut bytes → Cut (newline ∷ bytes)
 cut_newline bytes c = record { whole = [] ∷ c.whole; rest = c.rest; own_bytes = c.own_bytes; cut = λ ended more. ap (λ l. [] ∷ l) (c.cut ended more) }
 
--- a line's own byte at the front
+-- a line's own byte comes first
 cut_inside : (byte : ℕ) (bytes : List ℕ) → is_inside byte ≡ true → (whole : List (List ℕ)) (rest : List ℕ) → list_all is_inside rest ≡ true
     → ((ended : Bool) (more : List ℕ) → lines_of ended (bytes ++ more) ≡ whole ++ lines_of ended (rest ++ more)) → Cut (byte ∷ bytes)
 cut_inside byte bytes own [] rest own_bytes cut = record {

@@ -91,6 +91,6 @@ pub fits-true : (lines : List (List ℕ)) → length lines ≤ most_lines → li
 fits-true lines few h = ap (λ t. t && list_all is_short lines) (le-leb (length lines) most_lines few) ∙ h
 
 -- nothing is answered where no line is, or one that is too long
-pub asked_none : (n : ℕ) (front : List ℕ) (lines : List (List ℕ)) → ((rest : List ℕ) → is_short (front ++ rest) ≡ false) → (lines ≡ []) ⊎ Begins front lines → asked_among n lines ≡ []
-asked_none n front lines long (inl none) = ap (asked_among n) none ∙ asked_among-none n
-asked_none n front lines long (inr some) = ap (asked_among n) some.is ∙ asked_among-long n (front ++ some.rest) some.others (long some.rest)
+pub asked_none : (n : ℕ) (prefix : List ℕ) (lines : List (List ℕ)) → ((rest : List ℕ) → is_short (prefix ++ rest) ≡ false) → (lines ≡ []) ⊎ Begins prefix lines → asked_among n lines ≡ []
+asked_none n prefix lines long (inl none) = ap (asked_among n) none ∙ asked_among-none n
+asked_none n prefix lines long (inr some) = ap (asked_among n) some.is ∙ asked_among-long n (prefix ++ some.rest) some.others (long some.rest)

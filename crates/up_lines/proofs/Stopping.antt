@@ -13,7 +13,7 @@ use Rattle.up_lines.specs.declared.fault.Cause.{Cause}
 use Rattle.up_lines.specs.declared.fault.Cause.TheVariants.{Memory, Read, Write, TooLong}
 use Rattle.up_lines.specs.Runs.{printed, Stopped, Tells}
 use Rattle.up_lines.specs.Progress.{Sofar, Fails, Takes, Stops, is_inside}
-use Rattle.up_lines.proofs.Cuts.{lines-line, lines-begins, lines-front, lines-some}
+use Rattle.up_lines.proofs.Cuts.{lines-line, lines-begins, lines-prefix, lines-some}
 use Rattle.up_lines.proofs.RunLaws.{is_short-le, is_short-gt, filter-first, asked_among, asked-append, asked_none, fits-many, fits-long}
 
 -- the piece, in what was taken and the rest
@@ -39,7 +39,7 @@ module _ {S : Type 0} (gives : S → List ℕ → List ℕ → S → Type 0) whe
       others = [];
       answers = so.answers;
       last = now;
-      front = [];
+      prefix = [];
       split = h.settled false more ∙ sym (append-nil (filter has_bytes so.whole));
       run = so.run;
       next = (refl, refl, refl);
@@ -73,8 +73,8 @@ module _ {S : Type 0} (gives : S → List ℕ → List ℕ → S → Type 0) whe
       (λ rest. is_short-gt _ (omega (arith, length-append (line ++ byte ∷ []) rest, length-append line (byte ∷ [])))) in
       let within : length so.whole ≤ most_lines = omega (arith, so.counted_is, so.few) in
       stops_past first empty came at byte more now holds so (record {
-        past = λ rest. let front = lines-front line byte rest so.own_bytes own in
-            ap fits (so.cut true (byte ∷ rest) ∙ ap (λ l. so.whole ++ l) front.is) ∙ fits-long so.whole _ front.others (long front.rest);
+        past = λ rest. let prefix = lines-prefix line byte rest so.own_bytes own in
+            ap fits (so.cut true (byte ∷ rest) ∙ ap (λ l. so.whole ++ l) prefix.is) ∙ fits-long so.whole _ prefix.others (long prefix.rest);
         settled = λ ended rest.
             ap asked (so.cut ended (byte ∷ rest)) ∙ asked-append so.whole (lines_of ended (line ++ byte ∷ rest)) so.each_short within
             ∙ ap (λ l. filter has_bytes so.whole ++ l) (asked_none (most_lines - length so.whole) (line ++ byte ∷ []) _ long (lines-begins ended line byte rest so.own_bytes own))
@@ -91,7 +91,7 @@ module _ {S : Type 0} (gives : S → List ℕ → List ℕ → S → Type 0) whe
       others = asked_among (most_lines - length so.whole) (lines_of false (old.line.items ++ bytes));
       answers = so.answers;
       last = now;
-      front = [];
+      prefix = [];
       split = ap asked (so.cut false bytes) ∙ asked-append so.whole (lines_of false (old.line.items ++ bytes)) so.each_short (omega (arith, so.counted_is, so.few));
       run = so.run;
       next = (refl, inl refl);
@@ -126,7 +126,7 @@ module _ {S : Type 0} (gives : S → List ℕ → List ℕ → S → Type 0) whe
       others = old.line.items ∷ behind (so.whole ++ old.line.items ∷ []) more;
       answers = so.answers;
       last = before;
-      front = [];
+      prefix = [];
       split = ap asked (so.cut false (newline ∷ more)) ∙ split_end so.whole old.line.items more so.each_short (omega (arith, so.counted_is)) so.short so.own_bytes fails.some;
       run = so.run;
       next = (refl, elim fails.unanswered.0 [ inl same ↦ inl same | inr gave ↦ inr (old.line.items, gave.0, _, refl, gave.1) ]);
@@ -141,7 +141,7 @@ module _ {S : Type 0} (gives : S → List ℕ → List ℕ → S → Type 0) whe
       others = old.line.items ∷ behind (so.whole ++ old.line.items ∷ []) more;
       answers = so.answers;
       last = before;
-      front = fails.unanswered.2;
+      prefix = fails.unanswered.2;
       split = ap asked (so.cut false (newline ∷ more)) ∙ split_end so.whole old.line.items more so.each_short (omega (arith, so.counted_is)) so.short so.own_bytes fails.some;
       run = so.run;
       next = (old.line.items, fails.unanswered.0, _, refl, fails.unanswered.1, fails.unanswered.3);

@@ -5,7 +5,7 @@ use Rattle.std.specs.Io.KnownBytes.{Appends, Keeps}
 use Rattle.std.proofs.KnownBytes.{Appends-trans, Appends-kept}
 use Rattle.std.proofs.Math.Seq.{take-add}
 use Rattle.std.proofs.lemmas.Grind.{common_steps}
-use Rattle.up_lines.specs.Runs.{IsProperFront}
+use Rattle.up_lines.specs.Runs.{IsProperPrefix}
 
 -- the rest of a text, as the code slices it
 pub rest_is : (text : List ℕ) (at : ℕ) → take (length text - at) (drop at text) ≡ drop at text
@@ -15,8 +15,8 @@ pub wrote_more : (a b c : Option (List ℕ)) (text : List ℕ) (at n : ℕ) → 
 wrote_more a b c text at n before now =
     subst (Appends a c) (ap (λ l. take at text ++ take n l) (rest_is text at) ∙ sym (take-add at n text)) (Appends-trans a b c _ _ before now)
 
--- where a write failed, what was written before it is a front of the text
-pub wrote_front : (a b c : Option (List ℕ)) (text : List ℕ) (at : ℕ) → at < length text → Appends a b (take at text) → Keeps b c
-    → (front : List ℕ) × IsProperFront front text × Appends a c front
-wrote_front a b c text at below before kept =
+-- where a write failed, what was written before it is a prefix of the text
+pub wrote_prefix : (a b c : Option (List ℕ)) (text : List ℕ) (at : ℕ) → at < length text → Appends a b (take at text) → Keeps b c
+    → (prefix : List ℕ) × IsProperPrefix prefix text × Appends a c prefix
+wrote_prefix a b c text at below before kept =
     (take at text, (drop at text, sym (take-append-drop at text), omega (arith, length-drop at text)), Appends-kept a b c _ before kept)

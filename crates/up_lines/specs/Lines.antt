@@ -18,7 +18,7 @@ most_line_bytes = 2097152
 abbrev pub most_bytes : ℕ
 most_bytes = most_lines * (most_line_bytes + 1) + 1
 
--- a byte at the front of the first line; with no line after it, it begins the last one, which ends with the input
+-- a byte before the first line; with no line after it, it begins the last one, which ends with the input
 abbrev pub begin_with : Bool → ℕ → List (List ℕ) → List (List ℕ)
 begin_with ended byte [] = cond ended ((byte ∷ []) ∷ []) []
 begin_with ended byte (line ∷ lines) = (byte ∷ line) ∷ lines

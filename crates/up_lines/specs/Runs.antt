@@ -1,4 +1,4 @@
--- What a run over lines leaves: answers, states, and what was written.
+-- What a run over lines, or over other items, leaves: answers, states, and what was written.
 use Rattle.std.specs.Prelude.{◌≡◌, ◌⊎◌, ℕ, ◌<◌, ◌≤◌, Bool, true, false, ⊤, Option, List, [], ◌∷◌, ◌++◌, length, flat_map, Result, Ok, Err}
 use Rattle.std.specs.Io.KnownBytes.{Appends, Consumes, IsAtEnd}
 use Rattle.up_lines.specs.declared.fault.Cause.{Cause}
@@ -6,12 +6,12 @@ use Rattle.up_lines.specs.declared.fault.Cause.TheVariants.{Memory, Read, Write,
 use Rattle.up_lines.specs.declared.fault.Fault.{Fault}
 use Rattle.up_lines.specs.Lines.{newline, most_bytes, lines_of, fits, asked}
 
--- lines, answered one after another, may have these answers, which leave the new state
-abbrev pub Run : {S : Type 0} → (S → List ℕ → List ℕ → S → Type 0) → S → List (List ℕ) → List (List ℕ) → S → Type 0
+-- items, answered one after another, may have these answers, which leave the new state
+abbrev pub Run : {S : Type 0} {I : Type 0} → (S → I → List ℕ → S → Type 0) → S → List I → List (List ℕ) → S → Type 0
 Run gives old [] [] new = new ≡ old
-Run {S} gives old (line ∷ lines) (answer ∷ answers) new = (mid : S) × gives old line answer mid × Run gives mid lines answers new
+Run {S} gives old (item ∷ items) (answer ∷ answers) new = (mid : S) × gives old item answer mid × Run gives mid items answers new
 Run gives old [] (answer ∷ answers) new = ⊥
-Run gives old (line ∷ lines) [] new = ⊥
+Run gives old (item ∷ items) [] new = ⊥
 
 -- an answer as it is written
 abbrev pub print : List ℕ → List ℕ
@@ -21,28 +21,28 @@ print answer = answer ++ newline ∷ []
 abbrev pub printed : List (List ℕ) → List ℕ
 printed answers = flat_map print answers
 
--- a front of a text that isn't all of it
-abbrev pub IsProperFront : List ℕ → List ℕ → Type 0
-IsProperFront front text = (rest : List ℕ) × (text ≡ front ++ rest) × (0 < length rest)
+-- a prefix of a text that isn't all of it
+abbrev pub IsProperPrefix : List ℕ → List ℕ → Type 0
+IsProperPrefix prefix text = (rest : List ℕ) × (text ≡ prefix ++ rest) × (0 < length rest)
 
 -- the first of these lines was answered
 abbrev pub IsAnswered : {S : Type 0} → (S → List ℕ → List ℕ → S → Type 0) → S → List (List ℕ) → S → Type 0
 IsAnswered gives old lines new = (line answer : List ℕ) × (rest : List (List ℕ)) × (lines ≡ line ∷ rest) × gives old line answer new
 
 -- a line that wasn't answered whole: without memory the state is as before or as an answer leaves it, and nothing was written;
--- where the writer failed the state is as the answer leaves it, and a front of the answer was written
+-- where the writer failed the state is as the answer leaves it, and a prefix of the answer was written
 abbrev pub Unanswered : {S : Type 0} → (S → List ℕ → List ℕ → S → Type 0) → Cause → S → List ℕ → S → Option (List ℕ) → Option (List ℕ) → Type 0
 Unanswered gives Memory old line new held holds = ((new ≡ old) ⊎ ((answer : List ℕ) × gives old line answer new)) × Appends held holds []
-Unanswered gives Write old line new held holds = (answer : List ℕ) × gives old line answer new × (front : List ℕ) × IsProperFront front (print answer) × Appends held holds front
+Unanswered gives Write old line new held holds = (answer : List ℕ) × gives old line answer new × (prefix : List ℕ) × IsProperPrefix prefix (print answer) × Appends held holds prefix
 Unanswered gives Read old line new held holds = ⊥
 Unanswered gives TooLong old line new held holds = ⊥
 
--- what became of the line after those that were answered whole, of which a front of the answer may be written
+-- what became of the line after those that were answered whole, of which a prefix of the answer may be written
 abbrev pub Next : {S : Type 0} → (S → List ℕ → List ℕ → S → Type 0) → Cause → S → List (List ℕ) → S → List ℕ → Type 0
-Next gives Memory old lines new front = (front ≡ []) × ((new ≡ old) ⊎ IsAnswered gives old lines new)
-Next gives Write old lines new front = (line answer : List ℕ) × (rest : List (List ℕ)) × (lines ≡ line ∷ rest) × gives old line answer new × IsProperFront front (print answer)
-Next gives Read old lines new front = (front ≡ []) × (new ≡ old) × (lines ≡ [])
-Next gives TooLong old lines new front = (front ≡ []) × (new ≡ old) × (lines ≡ [])
+Next gives Memory old lines new prefix = (prefix ≡ []) × ((new ≡ old) ⊎ IsAnswered gives old lines new)
+Next gives Write old lines new prefix = (line answer : List ℕ) × (rest : List (List ℕ)) × (lines ≡ line ∷ rest) × gives old line answer new × IsProperPrefix prefix (print answer)
+Next gives Read old lines new prefix = (prefix ≡ []) × (new ≡ old) × (lines ≡ [])
+Next gives TooLong old lines new prefix = (prefix ≡ []) × (new ≡ old) × (lines ≡ [])
 
 -- what a run that ended early leaves, of the lines that it was to answer: so many are answered, and their answers written whole
 pub record Stopped {S : Type 0} (gives : S → List ℕ → List ℕ → S → Type 0) (cause : Cause) (first : S) (held : Option (List ℕ)) (lines : List (List ℕ)) (answered : ℕ) (now : S) (holds : Option (List ℕ)) : Type 0 where
@@ -50,12 +50,12 @@ pub record Stopped {S : Type 0} (gives : S → List ℕ → List ℕ → S → T
   pub others : List (List ℕ)
   pub answers : List (List ℕ)
   pub last : S
-  pub front : List ℕ
+  pub prefix : List ℕ
   pub split : lines ≡ done ++ others
   pub run : Run gives first done answers last
-  pub next : Next gives cause last others now front
+  pub next : Next gives cause last others now prefix
   pub answered_is : answered ≡ length answers
-  pub wrote : Appends held holds (printed answers ++ front)
+  pub wrote : Appends held holds (printed answers ++ prefix)
 
 -- a limit is passed, whatever else follows, and nothing that follows is answered
 abbrev pub IsPast : List ℕ → Type 0
@@ -92,7 +92,7 @@ pub record Ran {S : Type 0} (gives : S → List ℕ → List ℕ → S → Type 
 
 -- nothing became of the next line, or it was answered and less than the whole answer was written
 abbrev pub IsNext : {S : Type 0} → (S → List ℕ → List ℕ → S → Type 0) → S → List (List ℕ) → S → List ℕ → Type 0
-IsNext gives old lines new front = ((front ≡ []) × (new ≡ old)) ⊎ ((line answer : List ℕ) × (rest : List (List ℕ)) × (lines ≡ line ∷ rest) × gives old line answer new × IsProperFront front (print answer))
+IsNext gives old lines new prefix = ((prefix ≡ []) × (new ≡ old)) ⊎ ((line answer : List ℕ) × (rest : List (List ℕ)) × (lines ≡ line ∷ rest) × gives old line answer new × IsProperPrefix prefix (print answer))
 
 -- of lines to be answered the first so many have their answers, written whole; the next one may be answered, and less than its whole answer written
 pub record AnswersFirst {S : Type 0} (gives : S → List ℕ → List ℕ → S → Type 0) (first : S) (held : Option (List ℕ)) (lines : List (List ℕ)) (answered : ℕ) (now : S) (holds : Option (List ℕ)) : Type 0 where
@@ -100,9 +100,9 @@ pub record AnswersFirst {S : Type 0} (gives : S → List ℕ → List ℕ → S 
   pub others : List (List ℕ)
   pub answers : List (List ℕ)
   pub last : S
-  pub front : List ℕ
+  pub prefix : List ℕ
   pub split : lines ≡ done ++ others
   pub run : Run gives first done answers last
-  pub next : IsNext gives last others now front
+  pub next : IsNext gives last others now prefix
   pub answered_is : answered ≡ length answers
-  pub wrote : Appends held holds (printed answers ++ front)
+  pub wrote : Appends held holds (printed answers ++ prefix)

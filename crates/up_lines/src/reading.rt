@@ -119,7 +119,7 @@ pub fn run<S, A: Answer<S>, R: Read, W: Write>(
         Finished A.gives state.old (W.contents writer.old) input answered state.new (W.contents writer.new))) }
     ensures too_long { IfErr result (λ fault. fault.cause ≡ Cause.TooLong → IfSome (R.remaining reader.old) (λ input.
         fits (lines_of true input) ≡ false)) }
-    ensures front { IfErr result (λ fault. IfSome (R.remaining reader.old) (λ input.
+    ensures prefix { IfErr result (λ fault. IfSome (R.remaining reader.old) (λ input.
         AnswersFirst A.gives state.old (W.contents writer.old) (asked (lines_of true input)) fault.lines
         state.new (W.contents writer.new))) }
 {

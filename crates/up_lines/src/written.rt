@@ -1,7 +1,7 @@
 //! A text written whole, with nothing tried twice.
 ghost use Rattle.std.specs.Prelude.{ℕ, List, OnOk, OnErr};
 ghost use Rattle.std.specs.Io.KnownBytes.{Appends};
-ghost use Rattle.up_lines.specs.Runs.{IsProperFront};
+ghost use Rattle.up_lines.specs.Runs.{IsProperPrefix};
 
 use std::io::Write;
 
@@ -12,8 +12,8 @@ pub struct NotWritten;
 /// Writes a text, from where the writer stopped if it takes it in parts. Nothing is tried again after a failure.
 pub fn write_whole<W: Write>(writer: &mut W, text: &[u8]) -> Result<(), NotWritten>
     ensures ok { OnOk result (Appends (W.contents writer.old) (W.contents writer.new) text.now) }
-    ensures err { OnErr result ((front : List ℕ) × IsProperFront front text.now
-        × Appends (W.contents writer.old) (W.contents writer.new) front) }
+    ensures err { OnErr result ((prefix : List ℕ) × IsProperPrefix prefix text.now
+        × Appends (W.contents writer.old) (W.contents writer.new) prefix) }
 {
     let mut at = 0;
     while at < text.len() {

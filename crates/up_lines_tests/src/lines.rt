@@ -41,8 +41,8 @@ impl Read for Slow<'_> {
             return Err(io::Error::from(io::ErrorKind::Other));
         }
         let n = self.step.min(self.bytes.len()).min(buf.len());
-        let (front, rest) = self.bytes.split_at(n);
-        buf[..n].copy_from_slice(front);
+        let (taken, rest) = self.bytes.split_at(n);
+        buf[..n].copy_from_slice(taken);
         self.bytes = rest;
         Ok(n)
     }

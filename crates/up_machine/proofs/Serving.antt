@@ -8,13 +8,10 @@ use Rattle.up_roles.specs.declared.repository.Repository.TheVariants.{Director, 
 use Rattle.up_machine.specs.State.{Root, State, root_at}
 use Rattle.up_machine.specs.Files.{File, numbered_root_name, root_text_at, numbered_roots, latest_root, role_texts, image_making, texts_in, image_texts, files}
 use Rattle.up_machine.specs.SignedLaws.{IsRootText, IsImageText, IsServedText, ServedFilesAreKnown}
+use Rattle.up_canon.proofs.Lists.{each_of_both}
 use Rattle.up_canon.proofs.Steps.{map_some}
 use Rattle.up_machine.proofs.Installing.{found_is}
 use Rattle.up_machine.proofs.Repeating.{nth_at_place}
-
-each_of_both : {A : Type 0} (P : A → Type 0) (xs ys : List A) → AllByRecursion P xs → AllByRecursion P ys → AllByRecursion P (xs ++ ys)
-each_of_both P [] ys h i = i
-each_of_both P (x ∷ xs) ys h i = (h.0, each_of_both P xs ys h.1 i)
 
 abbrev IsRootFile : Rules → State → Repository → File → Type 0
 IsRootFile k s repository f = IsRootText k s repository f.1

@@ -5,6 +5,7 @@ use Rattle.std.specs.List.{AllByRecursion, list_all, list_any}
 use Rattle.std.specs.Cmp.Lexicographic.{bytes_decides}
 use Rattle.std.proofs.lemmas.Bool.{ne_eqb}
 use Rattle.std.proofs.lemmas.List.{length-map}
+use Rattle.serde_json.specs.Data.{Data}
 use Rattle.up_canon.specs.Canon.{text}
 use Rattle.up_canon.specs.Names.{Name, is_from_to}
 use Rattle.up_sign.specs.Schemes.{Rules, IsScheme}
@@ -15,15 +16,15 @@ use Rattle.up_roles.specs.declared.repository.Repository.{Repository}
 use Rattle.up_roles.specs.declared.repository.Repository.TheVariants.{Director, Image}
 use Rattle.up_roles.specs.Payload.{sealed_text}
 use Rattle.up_roles.specs.Root.{root_payload, root_text_of}
-use Rattle.up_roles.specs.Targets.{targets_text_of}
-use Rattle.up_roles.specs.Snapshot.{snapshot_text_of}
-use Rattle.up_roles.specs.Timestamp.{timestamp_text_of}
+use Rattle.up_roles.specs.Targets.{targets_payload, targets_text_of}
+use Rattle.up_roles.specs.Snapshot.{snapshot_payload, snapshot_text_of}
+use Rattle.up_roles.specs.Timestamp.{timestamp_payload, timestamp_text_of}
 use Rattle.up_machine.specs.declared.keys.RoleSecrets.{RoleSecrets}
 use Rattle.up_machine.specs.declared.keys.RepoKeys.{RepoKeys}
 use Rattle.up_machine.specs.declared.keys.KeySet.{KeySet}
 use Rattle.up_machine.specs.Keys.{secret_fits, keys_fit, threshold_fits, role_fits, repository_fits, key_set_fits}
 use Rattle.up_machine.specs.State.{Entry, Root, State, nth, root_at}
-use Rattle.up_machine.specs.Files.{keys_of, root_signers, root_file, root_text, root_text_at, Making, targets_text, snapshot_text, timestamp_text, role_texts, image_making}
+use Rattle.up_machine.specs.Files.{keys_of, root_signers, root_file, root_text, root_text_at, Making, targets_file, targets_text, snapshot_file, snapshot_text, timestamp_file, timestamp_text, role_texts, image_making}
 use Rattle.up_machine.specs.Replies.{reply_making, reply_json, reply_text}
 use Rattle.up_machine.specs.Sound.{IsSoundRoot, IsGrounded, IsSound}
 use Rattle.up_machine.specs.SignedLaws.{IsAcceptedBy, IsSignedFor, root_role, RootsAreSigned, AreSignedFor, ImageFilesAreSigned, RepliesAreSigned}
@@ -178,6 +179,7 @@ roots_signed k s repository i root law sound there =
     record {
       envelope = sealed k (root_signers repository root before) signed;
       is = root_sealed k s repository i root;
+      signed = refl;
       accepted = (
         accepted k law signed (root_signers repository root before) (root_role repository root)
             (root_fits k (keys_of repository root.keys) (sound_keys k s repository i root sound there))
@@ -188,27 +190,23 @@ roots_signed k s repository i root law sound there =
 
 -- ---- Targets, Snapshot and Timestamp files
 
-one_role : (k : Rules) → IsScheme k → (role : RoleSecrets) (signed file_text : List ℕ) → role_fits k role ≡ true → file_text ≡ envelope_text (sealed k role.keys signed) → IsSignedFor k (role ∷ []) file_text
-one_role k law role signed file_text fits is = record {
-  envelope = sealed k role.keys signed;
+one_role : (k : Rules) → IsScheme k → (role : RoleSecrets) (payload : Data) (file_text : List ℕ) → role_fits k role ≡ true → file_text ≡ envelope_text (sealed k role.keys (text payload)) → IsSignedFor k (role ∷ []) payload file_text
+one_role k law role payload file_text fits is = record {
+  envelope = sealed k role.keys (text payload);
   is = is;
-  accepted = (accepted k law signed role.keys role fits (each_in role.keys), tt);
+  signed = refl;
+  accepted = (accepted k law (text payload) role.keys role fits (each_in role.keys), tt);
 }
 
-targets_signed : (k : Rules) → IsScheme k → (m : Making) → repository_fits k (keys_of m.repository m.keys) ≡ true → IsSignedFor k ((keys_of m.repository m.keys).targets ∷ []) (targets_text k m)
-unfolding targets_text targets_text_of sealed_text
-targets_signed k law m fits = one_role k law (keys_of m.repository m.keys).targets _ _ (targets_fit k (keys_of m.repository m.keys) fits) refl
-
-snapshot_signed : (k : Rules) → IsScheme k → (m : Making) → repository_fits k (keys_of m.repository m.keys) ≡ true → IsSignedFor k ((keys_of m.repository m.keys).snapshot ∷ []) (snapshot_text k m)
-unfolding snapshot_text snapshot_text_of sealed_text
-snapshot_signed k law m fits = one_role k law (keys_of m.repository m.keys).snapshot _ _ (snapshot_fits k (keys_of m.repository m.keys) fits) refl
-
-timestamp_signed : (k : Rules) → IsScheme k → (m : Making) → repository_fits k (keys_of m.repository m.keys) ≡ true → IsSignedFor k ((keys_of m.repository m.keys).timestamp ∷ []) (timestamp_text k m)
-unfolding timestamp_text timestamp_text_of sealed_text
-timestamp_signed k law m fits = one_role k law (keys_of m.repository m.keys).timestamp _ _ (timestamp_fits k (keys_of m.repository m.keys) fits) refl
-
-making_signed : (k : Rules) → IsScheme k → (m : Making) → repository_fits k (keys_of m.repository m.keys) ≡ true → AreSignedFor k (keys_of m.repository m.keys) (role_texts k m)
-making_signed k law m fits = record { targets = targets_signed k law m fits; snapshot = snapshot_signed k law m fits; timestamp = timestamp_signed k law m fits }
+making_signed : (k : Rules) → IsScheme k → (m : Making) → repository_fits k (keys_of m.repository m.keys) ≡ true → AreSignedFor k m
+unfolding targets_text snapshot_text timestamp_text targets_text_of snapshot_text_of timestamp_text_of sealed_text
+making_signed k law m fits =
+    let keys = keys_of m.repository m.keys in
+    record {
+      targets = one_role k law keys.targets (targets_payload (targets_file m)) (targets_text k m) (targets_fit k keys fits) refl;
+      snapshot = one_role k law keys.snapshot (snapshot_payload (snapshot_file m)) (snapshot_text k m) (snapshot_fits k keys fits) refl;
+      timestamp = one_role k law keys.timestamp (timestamp_payload (timestamp_file k m)) (timestamp_text k m) (timestamp_fits k keys fits) refl;
+    }
 
 pub images_signed : ImageFilesAreSigned
 images_signed k s root law sound there = making_signed k law (image_making s root) (sound_keys k s Image (length s.roots) root sound there)
@@ -241,7 +239,6 @@ replies_signed k s vehicle v number e law sound there entry =
     record {
       root = root.0;
       there = root.1;
-      texts = role_texts k (reply_making s vehicle number e root.0);
-      holds = reply_is k s vehicle number e root.0 root.1;
+      made = reply_is k s vehicle number e root.0 root.1;
       signed = making_signed k law (reply_making s vehicle number e root.0) (sound_keys k s Director e.root root.0 sound root.1);
     }

@@ -10,7 +10,10 @@ use Rattle.up_roles.specs.declared.repository.Repository.TheVariants.{Director, 
 use Rattle.up_roles.specs.declared.root.RootKey.{RootKey}
 use Rattle.up_roles.specs.declared.root.RoleKeys.{RoleKeys}
 use Rattle.up_roles.specs.declared.root.RootFile.{RootFile}
+use Rattle.up_roles.specs.declared.snapshot.SnapshotFile.{SnapshotFile}
 use Rattle.up_roles.specs.declared.targets.Target.{Target}
+use Rattle.up_roles.specs.declared.targets.TargetsFile.{TargetsFile}
+use Rattle.up_roles.specs.declared.timestamp.TimestampFile.{TimestampFile}
 use Rattle.up_roles.specs.Lifetimes.{lifetimes}
 use Rattle.up_roles.specs.Root.{root_text_of}
 use Rattle.up_roles.specs.Targets.{targets_text_of}
@@ -78,33 +81,43 @@ pub record Making : Type 0 where
   pub at : ℕ
   pub targets : List Target
 
-unfoldable pub targets_text : Rules → Making → List ℕ
-targets_text k m = targets_text_of k (keys_of m.repository m.keys).targets.keys (record {
+abbrev pub targets_file : Making → TargetsFile
+targets_file m = record {
   repository = m.repository;
   version = m.version;
   expires = m.at + (lifetimes m.repository).targets;
   vehicle = m.vehicle;
   targets = m.targets;
-})
+}
 
-unfoldable pub snapshot_text : Rules → Making → List ℕ
-snapshot_text k m = snapshot_text_of k (keys_of m.repository m.keys).snapshot.keys (record {
+unfoldable pub targets_text : Rules → Making → List ℕ
+targets_text k m = targets_text_of k (keys_of m.repository m.keys).targets.keys (targets_file m)
+
+abbrev pub snapshot_file : Making → SnapshotFile
+snapshot_file m = record {
   repository = m.repository;
   version = m.version;
   expires = m.at + (lifetimes m.repository).snapshot;
   vehicle = m.vehicle;
   targets_version = m.version;
-})
+}
 
-unfoldable pub timestamp_text : Rules → Making → List ℕ
-timestamp_text k m = timestamp_text_of k (keys_of m.repository m.keys).timestamp.keys (record {
+unfoldable pub snapshot_text : Rules → Making → List ℕ
+snapshot_text k m = snapshot_text_of k (keys_of m.repository m.keys).snapshot.keys (snapshot_file m)
+
+-- it names the hash of the Snapshot file's text
+abbrev pub timestamp_file : Rules → Making → TimestampFile
+timestamp_file k m = record {
   repository = m.repository;
   version = m.version;
   expires = m.at + (lifetimes m.repository).timestamp;
   vehicle = m.vehicle;
   snapshot_version = m.version;
   snapshot_sha256 = sha256 (snapshot_text k m);
-})
+}
+
+unfoldable pub timestamp_text : Rules → Making → List ℕ
+timestamp_text k m = timestamp_text_of k (keys_of m.repository m.keys).timestamp.keys (timestamp_file k m)
 
 abbrev pub role_texts : Rules → Making → RoleTexts
 role_texts k m = record { targets = targets_text k m; snapshot = snapshot_text k m; timestamp = timestamp_text k m }

@@ -72,13 +72,14 @@ pub fn vehicles_stand_apart()
     ensures installed { InstalledIsOfTheVehicle }
 {}
 
-/// Every Root file, every file of the image repository and every file in a kept reply is accepted under the keys and the
-/// threshold of its role in its root version, and a later Root file also under those of the version before.
+/// Every Root file, every file of the image repository and every file in a kept reply is an envelope over the text of its
+/// payload, and is accepted under the keys and the threshold of its role in its root version, and a later Root file also
+/// under those of the version before. A kept reply has the three files of its making.
 pub fn files_are_signed()
     ensures roots { RootsAreSigned }
     ensures images { ImageFilesAreSigned }
     ensures replies { RepliesAreSigned }
-    ensures served { ServedFilesAreKnown }
+    ensures known { ServedFilesAreKnown }
 {}
 
 /// The rows of a sound state have what decisions ask of them.

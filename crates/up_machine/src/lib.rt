@@ -22,7 +22,7 @@ pub mod making;
 mod manifest_checks;
 mod new_files;
 mod new_vehicle;
-mod public_keys;
+pub mod public_keys;
 mod reported;
 pub mod root_making;
 pub mod rows;

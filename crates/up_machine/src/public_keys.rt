@@ -7,7 +7,7 @@ use crate::vehicle::NewEcu;
 use up_sign::scheme::Scheme;
 
 /// Whether the public parts of the ECUs fit.
-pub(crate) fn publics_fit<K: Scheme>(scheme: &K, ecus: &[NewEcu]) -> bool
+pub fn publics_fit<K: Scheme>(scheme: &K, ecus: &[NewEcu]) -> bool
     ensures { result ≡ list_all (λ e. public_fits_in (K.rules scheme.now) e.public) ecus.now }
 {
     ecus.iter()

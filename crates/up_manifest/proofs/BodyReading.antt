@@ -1,21 +1,12 @@
 -- What is read of a body is what it means.
-use Rattle.std.proofs.Common.{◌≡◌, ◌≤◌, ℕ, List, Bool, true, false, cond, Some, None, Result, Ok, Err, length, refl, ap, ap₂, ◌∙◌, subst, sym, arith}
-use Rattle.std.specs.Prelude.{IsUtf8, MatchResult, nat_le, codes}
-use Rattle.std.specs.Str.{is_utf8}
-use Rattle.std.proofs.lemmas.Str.{IsUtf8-from_is_utf8, is_utf8-from_IsUtf8}
-use Rattle.std.proofs.lemmas.Bool.Decides.{nat_tests}
+use Rattle.std.proofs.Common.{◌≡◌, ◌≤◌, ℕ, List, Some, Ok, length, ap, ◌∙◌, subst, sym, arith}
+use Rattle.std.specs.Prelude.{codes}
 use Rattle.serde_json.specs.Data.{Data, array, Items}
 use Rattle.serde_json.specs.Find as json
 use Rattle.serde_json.specs.Read.{read}
-use Rattle.up_canon.specs.JsonText.{value_in, value_within}
 use Rattle.up_canon.specs.Members.{items_list}
 use Rattle.up_canon.specs.Steps.{each}
-use Rattle.up_canon.specs.declared.refusal.Refusal.{Refusal}
-use Rattle.up_sign.specs.Laws.{IsEnvelopeFault, ValuesMeanOneOrFail}
 use Rattle.up_canon.specs.Meaning.{EachMeans}
-use Rattle.up_sign.specs.Meaning.{MeansEnvelope}
-use Rattle.up_sign.specs.declared.envelope.Envelope.{Envelope}
-use Rattle.up_sign.specs.Reading.{Opened, opened_in}
 use Rattle.up_manifest.specs.Manifests.{largest_body, most_reports, installed_in, report_in, signed_report_in, reports_in, manifest_in, incoming_in}
 use Rattle.up_manifest.specs.Meaning.{MeansInstalled, MeansReport, MeansSignedReport, MeansManifest, MeansBody}
 use Rattle.up_manifest.specs.declared.report.Installed.{Installed}
@@ -23,29 +14,10 @@ use Rattle.up_manifest.specs.declared.report.Report.{Report}
 use Rattle.up_manifest.specs.declared.report.SignedReport.{SignedReport}
 use Rattle.up_manifest.specs.declared.manifest.Manifest.{Manifest}
 use Rattle.up_manifest.specs.declared.manifest.Incoming.{Incoming}
-use Rattle.up_canon.proofs.Steps.{first_ok, bind-ok, same_ok, or_error_ok, unless_ok, unless_there, each_read, each_there, each_size}
+use Rattle.up_canon.proofs.JsonTexts.{value_read, value_there}
+use Rattle.up_sign.proofs.Meaning.{opened_read, opened_there}
+use Rattle.up_canon.proofs.Steps.{first_ok, bind-ok, same_ok, each_read, each_there, each_size}
 use Rattle.up_canon.proofs.Members.{count_read, count_there, object_read, object_there, ident_read, ident_there, file_name_read, file_name_there, note_read, note_there, word_read, word_there, positive_read, positive_there, list_within_read, list_within_there, sha256_read, sha256_there, moment_read, moment_there}
-
--- ---- envelopes
-
--- what the law of envelopes says of a value
-abbrev OneOrFail : Data → Result Opened Refusal → Type 0
-OneOrFail d r = MatchResult r
-    (λ o. MeansEnvelope d o.payload o.envelope × ((p : Data) (e : Envelope) → MeansEnvelope d p e → (p ≡ o.payload) × (e ≡ o.envelope)))
-    (λ fault. IsEnvelopeFault fault × ((p : Data) (e : Envelope) → MeansEnvelope d p e → ⊥))
-
-pub opened_read : ValuesMeanOneOrFail → (place : List ℕ) (d : Data) (o : Opened) → opened_in place d ≡ Ok o → MeansEnvelope d o.payload o.envelope
-opened_read law place d o h = (subst (OneOrFail d) h (law place d)).0
-
-pub opened_there : ValuesMeanOneOrFail → (place : List ℕ) (d payload : Data) (e : Envelope) → MeansEnvelope d payload e → opened_in place d ≡ Ok (record { envelope = e; payload = payload })
-opened_there law place d payload e m = by_case (opened_in place d) (law place d)
-  where
-    by_case : (r : Result Opened Refusal) → OneOrFail d r → r ≡ Ok (record { envelope = e; payload = payload })
-    by_case (Ok o) h = let same = h.1 payload e m in ap₂ (λ (x : Envelope) (y : Data). Ok (record { envelope = x; payload = y })) (sym same.1) (sym same.0)
-    by_case (Err fault) h = absurd (h.1 payload e m)
-
-pub opened_fault : ValuesMeanOneOrFail → (place : List ℕ) (d : Data) (fault : Refusal) → opened_in place d ≡ Err fault → IsEnvelopeFault fault
-opened_fault law place d fault h = (subst (OneOrFail d) h (law place d)).0
 
 -- ---- reports
 
@@ -105,20 +77,20 @@ report_there d r h =
     ∙ bind-ok _ _ _ (object_there (codes "image") d h.image_value h.has_image)
     ∙ bind-ok _ _ _ (installed_there h.image_value r.image h.image)
 
-signed_report_read : ValuesMeanOneOrFail → (place : List ℕ) (d : Data) (r : SignedReport) → signed_report_in place d ≡ Ok r → MeansSignedReport d r
+signed_report_read : (place : List ℕ) (d : Data) (r : SignedReport) → signed_report_in place d ≡ Ok r → MeansSignedReport d r
 unfolding signed_report_in
-signed_report_read law place d r h =
+signed_report_read place d r h =
     first_ok _ _ _ _ h (λ opened a h. first_ok _ _ _ _ h (λ report b h.
     subst (MeansSignedReport d) (same_ok _ _ h) (record {
       payload = opened.payload;
-      envelope = opened_read law place d opened a;
+      envelope = opened_read place d opened a;
       report = report_read opened.payload report b;
     })))
 
-signed_report_there : ValuesMeanOneOrFail → (place : List ℕ) (d : Data) (r : SignedReport) → MeansSignedReport d r → signed_report_in place d ≡ Ok r
+signed_report_there : (place : List ℕ) (d : Data) (r : SignedReport) → MeansSignedReport d r → signed_report_in place d ≡ Ok r
 unfolding signed_report_in
-signed_report_there law place d r h =
-    bind-ok _ _ _ (opened_there law place d h.payload r.envelope h.envelope)
+signed_report_there place d r h =
+    bind-ok _ _ _ (opened_there place d h.payload r.envelope h.envelope)
     ∙ bind-ok _ _ _ (report_there h.payload r.report h.report)
 
 -- ---- manifests and bodies
@@ -130,32 +102,32 @@ pub record MeansReports (d : Data) (rs : List SignedReport) : Type 0 where
   pub each_means : EachMeans MeansSignedReport listed rs
   pub few : length rs ≤ most_reports
 
-reports_read : ValuesMeanOneOrFail → (d : Data) (rs : List SignedReport) → reports_in d ≡ Ok rs → MeansReports d rs
+reports_read : (d : Data) (rs : List SignedReport) → reports_in d ≡ Ok rs → MeansReports d rs
 unfolding reports_in
-reports_read law d rs h = first_ok _ _ _ _ h (λ values a h.
+reports_read d rs h = first_ok _ _ _ _ h (λ values a h.
     let l = list_within_read 0 most_reports (codes "reports") d values a in
-    let each_report = each_read (signed_report_in (codes "reports")) MeansSignedReport (signed_report_read law (codes "reports")) l.0 rs (subst (λ ds. each (signed_report_in (codes "reports")) ds ≡ Ok rs) (sym l.2) h) in
+    let each_report = each_read (signed_report_in (codes "reports")) MeansSignedReport (signed_report_read (codes "reports")) l.0 rs (subst (λ ds. each (signed_report_in (codes "reports")) ds ≡ Ok rs) (sym l.2) h) in
     let size : length values ≡ length rs = ap length (sym l.2) ∙ each_size MeansSignedReport l.0 rs each_report in
     let high = l.4 in
     record { listed = l.0; has_reports = l.1; each_means = each_report; few = omega arith })
 
-reports_there : ValuesMeanOneOrFail → (d : Data) (rs : List SignedReport) → MeansReports d rs → reports_in d ≡ Ok rs
+reports_there : (d : Data) (rs : List SignedReport) → MeansReports d rs → reports_in d ≡ Ok rs
 unfolding reports_in
-reports_there law d rs h =
+reports_there d rs h =
     let size = each_size MeansSignedReport h.listed rs h.each_means in
     let high = h.few in
     bind-ok _ (each (signed_report_in (codes "reports"))) (items_list h.listed) (list_within_there 0 most_reports (codes "reports") d h.listed h.has_reports (omega arith) (omega arith))
-    ∙ each_there (signed_report_in (codes "reports")) MeansSignedReport (signed_report_there law (codes "reports")) h.listed rs h.each_means
+    ∙ each_there (signed_report_in (codes "reports")) MeansSignedReport (signed_report_there (codes "reports")) h.listed rs h.each_means
 
-manifest_read : ValuesMeanOneOrFail → (d : Data) (m : Manifest) → manifest_in d ≡ Ok m → MeansManifest d m
+manifest_read : (d : Data) (m : Manifest) → manifest_in d ≡ Ok m → MeansManifest d m
 unfolding manifest_in
-manifest_read law d m h =
+manifest_read d m h =
     first_ok _ _ _ _ h (λ x a h. first_ok _ _ _ _ h (λ vehicle b h. first_ok _ _ _ _ h (λ primary c h. first_ok _ _ _ _ h (λ counter e h.
     first_ok _ _ _ _ h (λ reports g h.
     let v = ident_read (codes "vehicle") d vehicle b in
     let p = ident_read (codes "primary") d primary c in
     let n = positive_read (codes "counter") d counter e in
-    let rs = reports_read law d reports g in
+    let rs = reports_read d reports g in
     subst (MeansManifest d) (same_ok _ _ h) (record {
       kind = word_read (codes "manifest") (codes "type") d a;
       vehicle = v.0;
@@ -170,33 +142,18 @@ manifest_read law d m h =
       few = rs.few;
     }))))))
 
-pub manifest_there : ValuesMeanOneOrFail → (d : Data) (m : Manifest) → MeansManifest d m → manifest_in d ≡ Ok m
+pub manifest_there : (d : Data) (m : Manifest) → MeansManifest d m → manifest_in d ≡ Ok m
 unfolding manifest_in
-manifest_there law d m h =
+manifest_there d m h =
     bind-ok _ _ tt (word_there (codes "manifest") (codes "type") d h.kind)
     ∙ bind-ok _ _ _ (ident_there (codes "vehicle") d m.vehicle h.vehicle h.vehicle_fits)
     ∙ bind-ok _ _ _ (ident_there (codes "primary") d m.primary h.primary h.primary_fits)
     ∙ bind-ok _ _ _ (positive_there (codes "counter") d m.counter h.counter h.positive)
-    ∙ bind-ok _ _ _ (reports_there law d m.reports (record { listed = h.listed; has_reports = h.has_reports; each_means = h.reports; few = h.few }))
+    ∙ bind-ok _ _ _ (reports_there d m.reports (record { listed = h.listed; has_reports = h.has_reports; each_means = h.reports; few = h.few }))
 
-value_read : (most : ℕ) (body : List ℕ) (d : Data) → value_within most body ≡ Ok d → (length body ≤ most) × IsUtf8 body × (read body ≡ Some d)
-unfolding value_within value_in
-value_read most body d h = first_ok _ _ _ _ h (λ x a h. by_test (unless_ok _ _ x a) (is_utf8 body) refl (or_error_ok _ _ d h))
-  where
-    by_test : nat_le (length body) most ≡ true → (b : Bool) → is_utf8 body ≡ b → cond b (read body) None ≡ Some d → (length body ≤ most) × IsUtf8 body × (read body ≡ Some d)
-    by_test small true e h = (grind (arith, nat_tests), IsUtf8-from_is_utf8 body e, h)
-    by_test small false e h = cc
-
-value_there : (most : ℕ) (body : List ℕ) (d : Data) → length body ≤ most → IsUtf8 body → read body ≡ Some d → value_within most body ≡ Ok d
-unfolding value_within value_in
-value_there most body d small utf8 reads =
-    let test : nat_le (length body) most ≡ true = grind (arith, nat_tests) in
-    let is = is_utf8-from_IsUtf8 body utf8 in
-    bind-ok _ _ tt (unless_there _ _ test) ∙ rw (is, reads) refl
-
-pub body_read : ValuesMeanOneOrFail → (body : List ℕ) (i : Incoming) → incoming_in body ≡ Ok i → MeansBody body i
+pub body_read : (body : List ℕ) (i : Incoming) → incoming_in body ≡ Ok i → MeansBody body i
 unfolding incoming_in
-body_read law body i h =
+body_read body i h =
     first_ok _ _ _ _ h (λ d a h. first_ok _ _ _ _ h (λ opened c h. first_ok _ _ _ _ h (λ manifest e h.
     let v = value_read largest_body body d a in
     subst (MeansBody body) (same_ok _ _ h) (record {
@@ -205,13 +162,13 @@ body_read law body i h =
       value = d;
       reads = v.2;
       payload = opened.payload;
-      envelope = opened_read law (codes "body") d opened c;
-      manifest = manifest_read law opened.payload manifest e;
+      envelope = opened_read (codes "body") d opened c;
+      manifest = manifest_read opened.payload manifest e;
     }))))
 
-pub body_there : ValuesMeanOneOrFail → (body : List ℕ) (i : Incoming) → MeansBody body i → incoming_in body ≡ Ok i
+pub body_there : (body : List ℕ) (i : Incoming) → MeansBody body i → incoming_in body ≡ Ok i
 unfolding incoming_in
-body_there law body i h =
+body_there body i h =
     bind-ok _ _ h.value (value_there largest_body body h.value h.small h.utf8 h.reads)
-    ∙ bind-ok _ _ _ (opened_there law (codes "body") h.value h.payload i.envelope h.envelope)
-    ∙ bind-ok _ _ _ (manifest_there law h.payload i.manifest h.manifest)
+    ∙ bind-ok _ _ _ (opened_there (codes "body") h.value h.payload i.envelope h.envelope)
+    ∙ bind-ok _ _ _ (manifest_there h.payload i.manifest h.manifest)

@@ -1,8 +1,7 @@
 -- What is built means what it was built of.
-use Rattle.std.proofs.Common.{◌≡◌, ℕ, ◌≤◌, suc, ◌<◌, lit≤, List, [], ◌∷◌, true, Some, length, refl, sym, ap, ap₂, ◌∙◌, subst, arith}
-use Rattle.std.specs.Prelude.{◌&&◌, IsTrue, IsUtf8, slice_index}
+use Rattle.std.proofs.Common.{◌≡◌, ℕ, ◌≤◌, lit≤, List, [], ◌∷◌, true, Some, length, refl, sym, ap, ◌∙◌, subst, arith}
+use Rattle.std.specs.Prelude.{◌&&◌, IsTrue, IsUtf8}
 use Rattle.std.specs.List.{list_all}
-use Rattle.std.proofs.lemmas.Bool.Decides.{nat_tests}
 use Rattle.serde_json.specs.Data.{Data}
 use Rattle.serde_json.specs.Read.{read}
 use Rattle.up_canon.specs.Canon.{max_count, canon}
@@ -10,8 +9,8 @@ use Rattle.up_canon.specs.Moments.{MomentTextIsPlain, MomentsAreRead}
 use Rattle.up_canon.specs.Names.{is_ident}
 use Rattle.up_sign.specs.Envelopes.{sealed}
 use Rattle.up_sign.specs.Formats.{envelope_text, IsSigned}
-use Rattle.up_sign.specs.Laws.{envelope_value, ValuesMeanOneOrFail, TextsAreRead, SealedFits}
-use Rattle.up_sign.specs.Schemes.{Rules, IsScheme, is_byte}
+use Rattle.up_sign.specs.Laws.{envelope_value, TextsAreRead, SealedFits}
+use Rattle.up_sign.specs.Schemes.{Rules, IsScheme}
 use Rattle.up_sign.specs.declared.envelope.Envelope.{Envelope}
 use Rattle.up_manifest.specs.Building.{report_value, report_text, ReportFits, IsReportEnvelope, AreReportEnvelopes, manifest_text, sealed_manifest, built}
 use Rattle.up_manifest.specs.Manifests.{most_reports}
@@ -35,16 +34,16 @@ report_envelope sealing k scheme secret r fits limits =
       fits = limits;
     }
 
-pub report_built : ValuesMeanOneOrFail → TextsAreRead → MomentTextIsPlain → MomentsAreRead → (e : Envelope) (r : Report) → IsReportEnvelope e r
+pub report_built : TextsAreRead → MomentTextIsPlain → MomentsAreRead → (e : Envelope) (r : Report) → IsReportEnvelope e r
     → (d : Data) × (read (envelope_text e) ≡ Some d) × MeansSignedReport d (record { report = r; envelope = e })
-report_built law texts plain moments e r h =
-    (pair_value (e, r), (texts [] e (report_value r) h.limits h.bytes (report_signed plain e r h)).0, signed_report_means law texts plain moments e r h)
+report_built texts plain moments e r h =
+    (pair_value (e, r), (texts [] e (report_value r) h.limits h.bytes (report_signed plain e r h)).0, signed_report_means texts plain moments e r h)
 
-pub built_means : ValuesMeanOneOrFail → TextsAreRead → SealedFits → MomentTextIsPlain → MomentsAreRead → (k : Rules) → IsScheme k
+pub built_means : TextsAreRead → SealedFits → MomentTextIsPlain → MomentsAreRead → (k : Rules) → IsScheme k
     → (secret vehicle primary : List ℕ) (counter : ℕ) (es : List Envelope) (rs : List Report)
     → IsTrue (k.secret_fits secret) → is_ident vehicle ≡ true → is_ident primary ≡ true → 1 ≤ counter → counter ≤ max_count → length es ≤ most_reports → AreReportEnvelopes es rs
     → (body : List ℕ) → IsUtf8 body → body ≡ envelope_text (sealed_manifest k secret vehicle primary counter es) → MeansBody body (built k secret vehicle primary counter rs es)
-built_means law texts sealing plain moments k scheme secret vehicle primary counter es rs fits v p low high few h body utf8 same =
+built_means texts sealing plain moments k scheme secret vehicle primary counter es rs fits v p low high few h body utf8 same =
     let signed = manifest_text vehicle primary counter es in
     let e = sealed k (secret ∷ []) signed in
     let limits = sealing k (secret ∷ []) signed scheme (one_fits k secret fits) (lit≤ tt) (lit≤ tt) in
@@ -60,11 +59,6 @@ built_means law texts sealing plain moments k scheme secret vehicle primary coun
       value = envelope_value e payload;
       reads = (texts [] e payload limits.0 limits.1 is_signed).0;
       payload = payload;
-      envelope = envelope_means law texts e payload limits.0 limits.1 is_signed;
-      manifest = manifest_means law texts plain moments (built k secret vehicle primary counter rs es).manifest es rs h refl v p low high few;
+      envelope = envelope_means texts e payload limits.0 limits.1 is_signed;
+      manifest = manifest_means texts plain moments (built k secret vehicle primary counter rs es).manifest es rs h refl v p low high few;
     })
-
--- numbers below 256 are bytes
-pub bytes_test : (xs : List ℕ) → ((i : ℕ) → slice_index xs i < 256) → list_all is_byte xs ≡ true
-bytes_test [] h = refl
-bytes_test (x ∷ xs) h = let small : x < 256 = h 0 in let test : is_byte x ≡ true = grind (arith, nat_tests) in ap₂ (λ a b. a && b) test (bytes_test xs (λ i. h (suc i)))

@@ -2,28 +2,15 @@
 use Rattle.std.proofs.Common.{ℕ, List}
 use Rattle.std.specs.Prelude.{codes}
 use Rattle.serde_json.specs.Data.{Data}
-use Rattle.up_canon.specs.declared.refusal.Refusal.{Refusal}
-use Rattle.up_canon.specs.declared.refusal.Refusal.TheVariants.{TooLarge, NotJson, NotCanonical, BadShape}
-use Rattle.up_canon.specs.JsonText.{value_within}
-use Rattle.up_canon.proofs.Faults.{Fails, AllowsShapes, then_fails, ok_fails, or_error_fails, unless_fails, each_fails, count_fails, object_fails, ident_fails, file_name_fails, note_fails, word_fails, positive_fails, list_within_fails, sha256_fails, moment_fails}
-use Rattle.up_sign.specs.Laws.{IsEnvelopeFault, ValuesMeanOneOrFail}
-use Rattle.up_sign.specs.Reading.{opened_in}
+use Rattle.up_canon.proofs.Faults.{Fails, AllowsShapes, then_fails, ok_fails, each_fails, count_fails, object_fails, ident_fails, file_name_fails, note_fails, word_fails, positive_fails, list_within_fails, sha256_fails, moment_fails, value_fails}
+use Rattle.up_sign.specs.Laws.{IsTextFault}
+use Rattle.up_sign.proofs.Faults.{opened_text_fails}
 use Rattle.up_manifest.specs.Manifests.{installed_in, report_in, signed_report_in, reports_in, manifest_in, incoming_in}
-use Rattle.up_manifest.specs.Laws.{IsBodyFault}
-use Rattle.up_manifest.proofs.BodyReading.{opened_fault}
 
-shapes : AllowsShapes IsBodyFault
+shapes : AllowsShapes IsTextFault
 shapes = record { shape = λ name. tt }
 
-body_fault : (fault : Refusal) → IsEnvelopeFault fault → IsBodyFault fault
-body_fault NotCanonical is = tt
-body_fault (BadShape name) is = tt
-body_fault _ is = absurd is
-
-opened_fails : ValuesMeanOneOrFail → (place : List ℕ) (d : Data) → Fails IsBodyFault (opened_in place d)
-opened_fails law place d = record { allowed = λ fault h. body_fault fault (opened_fault law place d fault h) }
-
-installed_fails : (d : Data) → Fails IsBodyFault (installed_in d)
+installed_fails : (d : Data) → Fails IsTextFault (installed_in d)
 unfolding installed_in
 installed_fails d =
     then_fails _ _ (file_name_fails shapes (codes "file") d) (λ a.
@@ -31,7 +18,7 @@ installed_fails d =
     then_fails _ _ (object_fails shapes (codes "hashes") d) (λ hashes.
     then_fails _ _ (sha256_fails shapes (codes "sha256") hashes) (λ c. ok_fails _))))
 
-report_fails : (d : Data) → Fails IsBodyFault (report_in d)
+report_fails : (d : Data) → Fails IsTextFault (report_in d)
 unfolding report_in
 report_fails d =
     then_fails _ _ (word_fails shapes (codes "report") (codes "type") d) (λ a.
@@ -42,34 +29,30 @@ report_fails d =
     then_fails _ _ (object_fails shapes (codes "image") d) (λ image.
     then_fails _ _ (installed_fails image) (λ g. ok_fails _)))))))
 
-signed_report_fails : ValuesMeanOneOrFail → (place : List ℕ) (d : Data) → Fails IsBodyFault (signed_report_in place d)
+signed_report_fails : (place : List ℕ) (d : Data) → Fails IsTextFault (signed_report_in place d)
 unfolding signed_report_in
-signed_report_fails law place d =
-    then_fails _ _ (opened_fails law place d) (λ opened.
+signed_report_fails place d =
+    then_fails _ _ (opened_text_fails place d) (λ opened.
     then_fails _ _ (report_fails opened.payload) (λ a. ok_fails _))
 
-reports_fails : ValuesMeanOneOrFail → (d : Data) → Fails IsBodyFault (reports_in d)
+reports_fails : (d : Data) → Fails IsTextFault (reports_in d)
 unfolding reports_in
-reports_fails law d =
+reports_fails d =
     then_fails _ _ (list_within_fails shapes 0 64 (codes "reports") d) (λ listed.
-    each_fails (signed_report_in (codes "reports")) (signed_report_fails law (codes "reports")) listed)
+    each_fails (signed_report_in (codes "reports")) (signed_report_fails (codes "reports")) listed)
 
-manifest_fails : ValuesMeanOneOrFail → (d : Data) → Fails IsBodyFault (manifest_in d)
+manifest_fails : (d : Data) → Fails IsTextFault (manifest_in d)
 unfolding manifest_in
-manifest_fails law d =
+manifest_fails d =
     then_fails _ _ (word_fails shapes (codes "manifest") (codes "type") d) (λ a.
     then_fails _ _ (ident_fails shapes (codes "vehicle") d) (λ b.
     then_fails _ _ (ident_fails shapes (codes "primary") d) (λ c.
     then_fails _ _ (positive_fails shapes (codes "counter") d) (λ e.
-    then_fails _ _ (reports_fails law d) (λ f. ok_fails _)))))
+    then_fails _ _ (reports_fails d) (λ f. ok_fails _)))))
 
-value_fails : (most : ℕ) (body : List ℕ) → Fails IsBodyFault (value_within most body)
-unfolding value_within
-value_fails most body = then_fails _ _ (unless_fails _ TooLarge tt) (λ a. or_error_fails NotJson _ tt)
-
-pub body_fails : ValuesMeanOneOrFail → (body : List ℕ) → Fails IsBodyFault (incoming_in body)
+pub body_fails : (body : List ℕ) → Fails IsTextFault (incoming_in body)
 unfolding incoming_in
-body_fails law body =
-    then_fails _ _ (value_fails 262_144 body) (λ d.
-    then_fails _ _ (opened_fails law (codes "body") d) (λ opened.
-    then_fails _ _ (manifest_fails law opened.payload) (λ b. ok_fails _)))
+body_fails body =
+    then_fails _ _ (value_fails tt tt 262_144 body) (λ d.
+    then_fails _ _ (opened_text_fails (codes "body") d) (λ opened.
+    then_fails _ _ (manifest_fails opened.payload) (λ b. ok_fails _)))

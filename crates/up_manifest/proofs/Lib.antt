@@ -1,3 +1,4 @@
+pub mod BodyLaws
 pub mod BodyReading
 pub mod Faults
 pub mod Laws

@@ -1,10 +1,10 @@
 -- The values that texts of envelopes, reports and manifests read as, and what they mean.
-use Rattle.std.proofs.Common.{◌≡◌, ℕ, zero, suc, lit<, lit≤, ◌+◌, ◌≤◌, List, [], ◌∷◌, ◌++◌, Bool, true, Some, length, map, append_assoc, refl, sym, ap, ap₂, ◌∙◌, subst, arith}
+use Rattle.std.proofs.Common.{◌≡◌, ℕ, suc, lit≤, ◌+◌, ◌≤◌, List, [], ◌∷◌, ◌++◌, Bool, true, Some, length, map, append_assoc, refl, sym, ap, ap₂, ◌∙◌, subst, arith}
 use Rattle.std.specs.Prelude.{◌&&◌, IsTrue, nat_le, codes, decimal}
 use Rattle.std.specs.List.{list_all, join_with_byte}
 use Rattle.std.proofs.lemmas.Bool.{and_parts}
 use Rattle.std.proofs.lemmas.Bool.Decides.{nat_tests}
-use Rattle.hex.specs.Hex.{IsBytes, encode_lower, lower_digits}
+use Rattle.hex.specs.Hex.{encode_lower, lower_digits}
 use Rattle.hex.proofs.HexLemmas.{length-encode_with, decode_of-encode_lower}
 use Rattle.serde_json.specs.Data.{Data, string, depth, items_depth}
 use Rattle.serde_json.specs.View.{items_of}
@@ -13,7 +13,7 @@ use Rattle.up_canon.specs.Canon.{max_count, max_nesting, is_printable, is_printa
 use Rattle.up_canon.specs.Moments.{moment_text, MomentTextIsPlain, MomentsAreRead}
 use Rattle.up_canon.specs.Names.{is_from_to, is_short_text, is_ident}
 use Rattle.up_sign.specs.Formats.{signature_fits, envelope_fits, has_bytes, IsSigned, signature_value, envelope_text}
-use Rattle.up_sign.specs.Laws.{envelope_value, ValuesMeanOneOrFail, TextsAreRead}
+use Rattle.up_sign.specs.Laws.{envelope_value, TextsAreRead}
 use Rattle.up_canon.specs.Meaning.{EachMeans}
 use Rattle.up_sign.specs.Meaning.{MeansEnvelope}
 use Rattle.up_sign.specs.Schemes.{is_byte}
@@ -24,7 +24,8 @@ use Rattle.up_manifest.specs.Manifests.{most_reports}
 use Rattle.up_manifest.specs.Meaning.{MeansInstalled, MeansReport, MeansSignedReport, MeansManifest}
 use Rattle.up_manifest.specs.declared.report.Report.{Report}
 use Rattle.up_manifest.specs.declared.manifest.Manifest.{Manifest}
-use Rattle.up_manifest.proofs.BodyReading.{opened_read}
+use Rattle.up_sign.proofs.Meaning.{opened_read}
+use Rattle.up_canon.proofs.ByteTests.{bytes_placed}
 use Rattle.up_canon.proofs.Joined.{listed_text}
 use Rattle.up_canon.proofs.Printable.{ident_prints, file_name_prints, note_prints, printable-hex}
 
@@ -49,11 +50,6 @@ and_five a b c d e p q r s t = rw (p, q, r, s, t) refl
 
 count_test : (n : ℕ) → n ≤ max_count → nat_le n max_count ≡ true
 count_test n h = grind (arith, nat_tests)
-
-is_bytes : (xs : List ℕ) → list_all is_byte xs ≡ true → IsBytes xs
-is_bytes [] h i = lit< tt
-is_bytes (x ∷ xs) h zero = let p = and_parts (is_byte x) _ h in let test = p.0 in grind (arith, nat_tests)
-is_bytes (x ∷ xs) h (suc i) = let p = and_parts (is_byte x) _ h in is_bytes xs p.1 i
 
 hex_plain : (xs : List ℕ) → list_all is_byte xs ≡ true → is_printable_text (encode_lower xs) ≡ true
 hex_plain xs h = printable-hex xs h
@@ -113,9 +109,9 @@ envelope_plain e payload h b plain =
 pub envelope_depth : (e : Envelope) (payload : Data) (n : ℕ) → depth payload ≤ n → 2 ≤ n → depth (envelope_value e payload) ≤ n + 1
 envelope_depth e payload n h two = omega (arith, signatures_depth e.signatures)
 
-pub envelope_means : ValuesMeanOneOrFail → TextsAreRead → (e : Envelope) (payload : Data) → envelope_fits e ≡ true → has_bytes e ≡ true → IsSigned e.signed payload
+pub envelope_means : TextsAreRead → (e : Envelope) (payload : Data) → envelope_fits e ≡ true → has_bytes e ≡ true → IsSigned e.signed payload
     → MeansEnvelope (envelope_value e payload) payload e
-envelope_means law texts e payload h b signed = opened_read law [] (envelope_value e payload) (record { envelope = e; payload = payload }) (texts [] e payload h b signed).1
+envelope_means texts e payload h b signed = opened_read [] (envelope_value e payload) (record { envelope = e; payload = payload }) (texts [] e payload h b signed).1
 
 -- ---- reports
 
@@ -145,7 +141,7 @@ installed_means r h =
       size = (refl, h.size);
       hashes = hashes_value r.image.sha256;
       has_hashes = (_, refl, refl);
-      sha256 = record { digits = encode_lower r.image.sha256; has_digits = refl; at_least = omega arith; at_most = omega arith; decoded = decode_of-encode_lower r.image.sha256 (is_bytes r.image.sha256 h.bytes) };
+      sha256 = record { digits = encode_lower r.image.sha256; has_digits = refl; at_least = omega arith; at_most = omega arith; decoded = decode_of-encode_lower r.image.sha256 (bytes_placed r.image.sha256 h.bytes) };
     }
 
 report_means : MomentsAreRead → (r : Report) → ReportFits r → MeansReport (report_value r) r
@@ -171,10 +167,10 @@ pair_value p = envelope_value p.0 (report_value p.1)
 pub report_signed : MomentTextIsPlain → (e : Envelope) (r : Report) → IsReportEnvelope e r → IsSigned e.signed (report_value r)
 report_signed plain e r h = (report_canon plain r h.fits ∙ ap Some (sym h.signed), refl)
 
-pub signed_report_means : ValuesMeanOneOrFail → TextsAreRead → MomentTextIsPlain → MomentsAreRead → (e : Envelope) (r : Report) → IsReportEnvelope e r → MeansSignedReport (pair_value (e, r)) (record { report = r; envelope = e })
-signed_report_means law texts plain moments e r h = record {
+pub signed_report_means : TextsAreRead → MomentTextIsPlain → MomentsAreRead → (e : Envelope) (r : Report) → IsReportEnvelope e r → MeansSignedReport (pair_value (e, r)) (record { report = r; envelope = e })
+signed_report_means texts plain moments e r h = record {
   payload = report_value r;
-  envelope = envelope_means law texts e (report_value r) h.limits h.bytes (report_signed plain e r h);
+  envelope = envelope_means texts e (report_value r) h.limits h.bytes (report_signed plain e r h);
   report = report_means moments r h.fits;
 }
 
@@ -198,11 +194,11 @@ zipped [] rs = []
 zipped (e ∷ es) [] = []
 zipped (e ∷ es) (r ∷ rs) = (e, r) ∷ zipped es rs
 
-pairs_mean : ValuesMeanOneOrFail → TextsAreRead → MomentTextIsPlain → MomentsAreRead → (es : List Envelope) (rs : List Report) → AreReportEnvelopes es rs → EachMeans MeansSignedReport (items_of (map pair_value (zipped es rs))) (signed_reports rs es)
-pairs_mean law texts plain moments [] [] h = tt
-pairs_mean law texts plain moments [] (r ∷ rs) h = absurd h
-pairs_mean law texts plain moments (e ∷ es) [] h = absurd h
-pairs_mean law texts plain moments (e ∷ es) (r ∷ rs) h = (signed_report_means law texts plain moments e r h.0, pairs_mean law texts plain moments es rs h.1)
+pairs_mean : TextsAreRead → MomentTextIsPlain → MomentsAreRead → (es : List Envelope) (rs : List Report) → AreReportEnvelopes es rs → EachMeans MeansSignedReport (items_of (map pair_value (zipped es rs))) (signed_reports rs es)
+pairs_mean texts plain moments [] [] h = tt
+pairs_mean texts plain moments [] (r ∷ rs) h = absurd h
+pairs_mean texts plain moments (e ∷ es) [] h = absurd h
+pairs_mean texts plain moments (e ∷ es) (r ∷ rs) h = (signed_report_means texts plain moments e r h.0, pairs_mean texts plain moments es rs h.1)
 
 pairs_plain : MomentTextIsPlain → (es : List Envelope) (rs : List Report) → AreReportEnvelopes es rs → items_are_plain (items_of (map pair_value (zipped es rs))) ≡ true
 pairs_plain law [] [] h = refl
@@ -249,10 +245,10 @@ manifest_plain law vehicle primary counter es rs h v p n =
 pub manifest_depth : (vehicle primary : List ℕ) (counter : ℕ) (ps : List (Envelope × Report)) → depth (manifest_value vehicle primary counter ps) ≤ 6
 manifest_depth vehicle primary counter ps = omega (arith, pairs_depth ps)
 
-pub manifest_means : ValuesMeanOneOrFail → TextsAreRead → MomentTextIsPlain → MomentsAreRead → (m : Manifest) (es : List Envelope) (rs : List Report) → AreReportEnvelopes es rs → m.reports ≡ signed_reports rs es
+pub manifest_means : TextsAreRead → MomentTextIsPlain → MomentsAreRead → (m : Manifest) (es : List Envelope) (rs : List Report) → AreReportEnvelopes es rs → m.reports ≡ signed_reports rs es
     → IsTrue (is_ident m.vehicle) → IsTrue (is_ident m.primary) → 1 ≤ m.counter → m.counter ≤ max_count → length es ≤ most_reports
     → MeansManifest (manifest_value m.vehicle m.primary m.counter (zipped es rs)) m
-manifest_means law texts plain moments m es rs h same v p low high few =
+manifest_means texts plain moments m es rs h same v p low high few =
     let size = ap length same ∙ pairs_size es rs h in
     record {
       kind = refl;
@@ -264,6 +260,6 @@ manifest_means law texts plain moments m es rs h same v p low high few =
       positive = low;
       listed = items_of (map pair_value (zipped es rs));
       has_reports = refl;
-      reports = subst (EachMeans MeansSignedReport (items_of (map pair_value (zipped es rs)))) (sym same) (pairs_mean law texts plain moments es rs h);
+      reports = subst (EachMeans MeansSignedReport (items_of (map pair_value (zipped es rs)))) (sym same) (pairs_mean texts plain moments es rs h);
       few = omega arith;
     }

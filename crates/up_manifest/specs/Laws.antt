@@ -1,7 +1,6 @@
 -- A body means one manifest, or it has one first fault.
-use Rattle.std.specs.Prelude.{◌≡◌, ℕ, List, Some, Ok, MatchResult, ⊤}
-use Rattle.up_canon.specs.declared.refusal.Refusal.{Refusal}
-use Rattle.up_canon.specs.declared.refusal.Refusal.TheVariants.{TooLarge, NotJson, NotCanonical, BadShape}
+use Rattle.std.specs.Prelude.{◌≡◌, ℕ, List, Some, Ok, MatchResult}
+use Rattle.up_sign.specs.Laws.{IsTextFault}
 use Rattle.up_manifest.specs.Manifests.{incoming_in, manifest_of}
 use Rattle.up_manifest.specs.Meaning.{MeansBody}
 use Rattle.up_manifest.specs.declared.manifest.Incoming.{Incoming}
@@ -10,19 +9,11 @@ use Rattle.up_manifest.specs.declared.manifest.Incoming.{Incoming}
 abbrev pub BodiesAreRead : Type 0
 BodiesAreRead = (body : List ℕ) (i : Incoming) → (incoming_in body ≡ Ok i → MeansBody body i) × (MeansBody body i → incoming_in body ≡ Ok i)
 
--- the faults that a body may have
-abbrev pub IsBodyFault : Refusal → Type 0
-IsBodyFault TooLarge = ⊤
-IsBodyFault NotJson = ⊤
-IsBodyFault NotCanonical = ⊤
-IsBodyFault (BadShape name) = ⊤
-IsBodyFault _ = ⊥
-
 -- a body means just one thing, or it means nothing and has a first fault
 abbrev pub BodiesMeanOneOrFail : Type 0
 BodiesMeanOneOrFail = (body : List ℕ) → MatchResult (incoming_in body)
     (λ i. MeansBody body i × ((j : Incoming) → MeansBody body j → j ≡ i))
-    (λ fault. IsBodyFault fault × ((j : Incoming) → MeansBody body j → ⊥))
+    (λ fault. IsTextFault fault × ((j : Incoming) → MeansBody body j → ⊥))
 
 -- the text that the Primary signed has the whole manifest in it
 abbrev pub SignedTextsMean : Type 0

@@ -7,7 +7,7 @@ use std::marker::Model;
 use up_canon::bytes::Bytes;
 
 /// The most bytes of a body.
-const LARGEST_BODY: u64 = 262_144;
+pub const LARGEST_BODY: usize = 262_144;
 
 /// A body of a known length, as far as it has come.
 #[derive(Debug, Drop)]
@@ -33,7 +33,7 @@ impl Body {
     pub fn new(alloc: Global, length: u64) -> Option<Body>
         ensures { MatchOption result (largest_body < length) (λ body. (length ≤ largest_body) × (body ≡ record { size = length; bytes = [] })) }
     {
-        if length > LARGEST_BODY {
+        if length > LARGEST_BODY as u64 {
             return None;
         }
         Some(Body {
@@ -52,15 +52,10 @@ impl Body {
     /// Takes as many bytes as are missing, or all of the piece, and tells how many. An error takes nothing.
     pub fn feed(&mut self, piece: &[u8]) -> Result<usize, AllocError>
         ensures taken { IfOk result (λ n. n ≡ min (length piece.now) (self.old.size - length self.old.bytes)) }
-        ensures ok { IfOk result (λ n. self.new ≡ record { size = self.old.size; bytes = self.old.bytes ++ take n piece.now }) }
+        ensures ok { IfOk result (λ _. self.new ≡ record { size = self.old.size; bytes = take self.old.size (self.old.bytes ++ piece.now) }) }
         ensures err { OnErr result (self.new ≡ self.old) }
     {
-        let missing = self.missing();
-        let taken = if piece.len() < missing {
-            piece.len()
-        } else {
-            missing
-        };
+        let taken = piece.len().min(self.missing());
         self.items.extend_from_slice(&piece[..taken])?;
         Ok(taken)
     }

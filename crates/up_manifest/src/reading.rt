@@ -5,6 +5,7 @@ ghost use Rattle.up_canon.specs.Refusals.{Gives};
 ghost use Rattle.up_canon.specs.declared.refusal.Refusal.TheVariants.{TooLarge};
 ghost use Rattle.up_manifest.specs.Manifests.{largest_body, installed_in, report_in, reports_in, manifest_in, incoming_in};
 
+use crate::body::LARGEST_BODY;
 use crate::manifest::{Incoming, Manifest};
 use crate::report::{Installed, Report, SignedReport};
 use serde_json::{Map, Value};
@@ -18,9 +19,6 @@ use up_canon::listed::Listed;
 use up_canon::readers::{file_name_at, ident_at, note_at};
 use up_canon::refusal::Refusal;
 use up_sign::reading::open;
-
-/// How long a body may be, in bytes.
-const LARGEST_BODY: usize = 262144;
 
 /// How many reports a manifest may have.
 const MOST_REPORTS: usize = 64;

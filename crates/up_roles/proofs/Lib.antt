@@ -7,7 +7,10 @@ pub mod Repeats
 pub mod ReadAgain
 pub mod Heads
 pub mod ReadFiles
-pub mod Lists
 pub mod ReadTargets
 pub mod Gathered
 pub mod ReadRoot
+pub mod MeantParts
+pub mod MeantFiles
+pub mod MeantRoot
+pub mod MeantLimits

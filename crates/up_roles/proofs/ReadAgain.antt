@@ -1,32 +1,26 @@
 -- What was sealed is read and opened again.
-use Rattle.std.proofs.Common.{◌≡◌, ℕ, ◌≤◌, List, [], ◌∷◌, ◌++◌, true, Some, Ok, Result, length, map, refl, ap, ◌∙◌, arith}
-use Rattle.std.specs.Prelude.{IsTrue, IsAscii, codes, nat_le}
+use Rattle.std.proofs.Common.{◌≡◌, ℕ, ◌≤◌, List, [], ◌∷◌, ◌++◌, true, Ok, Result, length, map, refl}
+use Rattle.std.specs.Prelude.{IsTrue, IsAscii, codes}
 use Rattle.std.specs.List.{list_all}
 use Rattle.std.proofs.lemmas.Bool.{and_parts}
-use Rattle.std.proofs.lemmas.Bool.Decides.{nat_tests}
-use Rattle.std.proofs.lemmas.Str.{IsAscii-append, IsUtf8-from_ascii, is_utf8-from_IsUtf8}
+use Rattle.std.proofs.lemmas.Str.{IsAscii-append, IsUtf8-from_ascii}
 use Rattle.serde_json.specs.Data.{Data, string}
 use Rattle.serde_json.specs.Read.{read}
 use Rattle.up_canon.specs.Build.{list_with, hex_value}
 use Rattle.up_canon.specs.Canon.{has_canon, is_plain, text}
-use Rattle.up_canon.specs.JsonText.{value_in, value_within}
-use Rattle.up_canon.specs.Moments.{MomentsAreRead}
 use Rattle.up_canon.specs.Names.{is_from_to, is_short_text}
-use Rattle.up_canon.specs.Steps.{or_error}
 use Rattle.up_canon.specs.declared.refusal.Refusal.{Refusal}
-use Rattle.up_canon.specs.declared.refusal.Refusal.TheVariants.{NotJson}
 use Rattle.up_sign.specs.Envelopes.{sealed}
 use Rattle.up_sign.specs.Formats.{signature_value, signature_fits, envelope_text, envelope_fits, has_bytes, is_object}
 use Rattle.up_sign.specs.Laws.{TextsAreRead, SealedFits, envelope_value}
-use Rattle.up_sign.specs.Reading.{Opened, opened_in}
 use Rattle.up_sign.specs.Schemes.{Rules, is_byte}
 use Rattle.up_sign.specs.declared.envelope.Envelope.{Envelope}
 use Rattle.up_sign.specs.declared.envelope.Signature.{Signature}
-use Rattle.up_canon.proofs.Steps.{bind-ok}
+use Rattle.up_sign.proofs.Meaning.{opened_read}
 use Rattle.up_roles.specs.Laws.{AreSigners}
 use Rattle.up_roles.specs.Payload.{largest_file, sealed_text, file_in}
 use Rattle.up_canon.proofs.Ascii.{small-ascii, text-ascii}
-use Rattle.up_roles.proofs.Heads.{unless-there}
+use Rattle.up_roles.proofs.MeantFiles.{ReadsAs, file_there}
 use Rattle.up_canon.proofs.PlainValues.{IsPlain, AllItems, plain-object, plain-list, plain-string}
 use Rattle.up_canon.proofs.Printable.{printable-hex}
 
@@ -34,7 +28,6 @@ use Rattle.up_canon.proofs.Printable.{printable-hex}
 pub record Lower : Type 0 where
   pub texts : TextsAreRead
   pub limits : SealedFits
-  pub moments : MomentsAreRead
 
 -- ---- the text of an envelope is ASCII
 
@@ -67,26 +60,21 @@ envelope-ascii e fits bytes signed =
 
 -- ---- and is read as the envelope that was sealed
 
-value-there : (most : ℕ) (bytes : List ℕ) (d : Data) → length bytes ≤ most → IsAscii bytes → read bytes ≡ Some d → value_within most bytes ≡ Ok d
-unfolding value_within value_in
-value-there most bytes d small ascii reads =
-    let le : nat_le (length bytes) most ≡ true = grind (arith, nat_tests) in
-    let is = is_utf8-from_IsUtf8 bytes (IsUtf8-from_ascii bytes ascii) in
-    bind-ok _ _ tt (unless-there _ _ le) ∙ rw is (ap (or_error NotJson) reads)
-
-file-there : {F : Type 0} (meaning : Data → Result F Refusal) (bytes : List ℕ) (d : Data) (o : Opened) (file : F)
-    → value_within largest_file bytes ≡ Ok d → opened_in (codes "body") d ≡ Ok o → meaning o.payload ≡ Ok file → file_in meaning bytes ≡ Ok (file, o.envelope)
-unfolding file_in
-file-there meaning bytes d o file a b c = bind-ok _ _ d a ∙ bind-ok _ _ o b ∙ bind-ok _ _ file c
-
-pub read-again : {F : Type 0} (meaning : Data → Result F Refusal) (k : Rules) (secrets : List (List ℕ)) (payload : Data) (file : F)
-    → Lower → AreSigners k secrets → has_canon payload ≡ true → IsTrue (is_object payload) → meaning payload ≡ Ok file
+pub read-again : {F : Type 0} (meaning : Data → Result F Refusal) (M : Data → F → Type 0) → ReadsAs meaning M → (k : Rules) (secrets : List (List ℕ)) (payload : Data) (file : F)
+    → Lower → AreSigners k secrets → has_canon payload ≡ true → IsTrue (is_object payload) → M payload file
     → length (sealed_text k secrets payload) ≤ largest_file → file_in meaning (sealed_text k secrets payload) ≡ Ok (file, sealed k secrets (text payload))
 unfolding sealed_text
-read-again meaning k secrets payload file law signers canon object means small =
+read-again meaning M reads k secrets payload file law signers canon object means small =
     let e = sealed k secrets (text payload) in
     let limits = law.limits k secrets (text payload) signers.scheme signers.fit signers.some signers.few in
     let read = law.texts (codes "body") e payload limits.0 limits.1 (rw canon refl, object) in
     let ascii = envelope-ascii e limits.0 limits.1 (text-ascii payload (and_parts (is_plain payload) _ canon).0) in
-    file-there meaning (envelope_text e) (envelope_value e payload) (record { envelope = e; payload = payload }) file
-    (value-there largest_file (envelope_text e) (envelope_value e payload) small ascii read.0) read.1 means
+    file_there meaning M reads (envelope_text e) file e (record {
+      small = small;
+      utf8 = IsUtf8-from_ascii (envelope_text e) ascii;
+      value = envelope_value e payload;
+      reads = read.0;
+      payload = payload;
+      enveloped = opened_read (codes "body") (envelope_value e payload) (record { envelope = e; payload = payload }) read.1;
+      means = means;
+    })

@@ -5,4 +5,5 @@ pub mod Targets
 pub mod Snapshot
 pub mod Timestamp
 pub mod Lifetimes
+pub mod Meaning
 pub mod Laws

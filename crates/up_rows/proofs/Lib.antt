@@ -4,7 +4,7 @@ mod Staying
 mod Told
 mod Found
 mod Files
-mod Roots
+pub mod Roots
 mod Registers
 mod Vehicles
 mod Fitting

@@ -31,7 +31,7 @@ slice_last : {A : Type 0} (xs : List A) (x : A) → slice_get (xs ++ x ∷ []) (
 slice_last [] x = refl
 slice_last (y ∷ xs) x = slice_last xs x
 
-nth_last : {A : Type 0} (xs : List A) (x : A) → nth (xs ++ x ∷ []) (length (xs ++ x ∷ [])) ≡ Some x
+pub nth_last : {A : Type 0} (xs : List A) (x : A) → nth (xs ++ x ∷ []) (length (xs ++ x ∷ [])) ≡ Some x
 nth_last xs x =
     let size = length-append xs (x ∷ []) in
     let some = ne_eqb (length (xs ++ x ∷ [])) 0 (λ e. omega arith) in

@@ -2,21 +2,14 @@
 use Rattle.std.specs.Prelude.{ℕ, List, [], Option, Some, None, Result, Ok, Err, codes}
 use Rattle.serde_json.specs.Data.{Data}
 use Rattle.serde_json.specs.Find as json
-use Rattle.up_canon.specs.Members.{object_of, count_in, list_in, list_of}
+use Rattle.up_canon.specs.Members.{count_in, list_in, list_of}
 use Rattle.up_canon.specs.HexText.{sha256_in}
-use Rattle.up_canon.specs.Readers.{ident_in, file_name_in, ident_of, file_name_of}
+use Rattle.up_canon.specs.Readers.{file_name_in, ident_of, file_name_of}
 use Rattle.up_canon.specs.Steps.{◌>>=◌, each}
 use Rattle.up_canon.specs.declared.refusal.Refusal.{Refusal}
 use Rattle.up_canon.specs.declared.refusal.Refusal.TheVariants.{BadShape}
+use Rattle.up_columns.specs.Columns.{need_of}
 use Rattle.up_plan.specs.Images.{ImageData, image_fault}
-use Rattle.up_plan.specs.declared.image.Need.{Need}
-
-unfoldable pub need_of : List ℕ → Data → Result Need Refusal
-need_of place value = do
-  d ← object_of place value
-  hardware ← ident_in (codes "hardware") d
-  release ← count_in (codes "release") d
-  Ok (record { hardware = hardware; release = release })
 
 -- a list that may be left out, and is then empty
 abbrev pub list_or_empty : List ℕ → Option Data → Result (List Data) Refusal

@@ -6,33 +6,14 @@ ghost use Rattle.up_script.specs.ImageLines.{image_in};
 use crate::optional::optional_list_at;
 use serde_json::{Map, Value};
 use std::alloc::Global;
-use up_canon::each::{Reading, each_of};
+use up_canon::each::each_of;
 use up_canon::fields::{count_at, list_at};
 use up_canon::hex_text::sha256_at;
-use up_canon::kinds::object_of;
 use up_canon::name_readings::{FileNameReading, IdentReading};
-use up_canon::readers::{file_name_at, ident_at};
+use up_canon::readers::file_name_at;
 use up_canon::refusal::Refusal;
-use up_plan::image::{Image, Need};
-
-/// The needs of an image, `{"hardware","release"}`.
-struct NeedReading;
-
-impl Reading for NeedReading {
-    ghost use Rattle.up_script.specs.ImageLines.{need_of};
-
-    type Item = Need;
-
-    ghost meaning = { need_of };
-
-    #[tactic(auto, unfolding(crate::specs::ImageLines::need_of, up_canon::specs::Steps::and_then))]
-    fn read(alloc: Global, value: &Value, place: &'static str) -> Result<Need, Refusal> {
-        let need = object_of(value, place)?;
-        let hardware = ident_at(alloc, need, "hardware")?;
-        let release = count_at(need, "release")?;
-        Ok(Need { hardware, release })
-    }
-}
+use up_columns::needs::NeedReading;
+use up_plan::image::Image;
 
 /// The image that a line adds, or the first fault of its members.
 #[tactic(auto, unfolding(crate::specs::ImageLines::image_in, up_canon::specs::Steps::and_then))]

@@ -1,78 +1,158 @@
--- What a line is answered where memory may be refused.
-use Rattle.std.proofs.Common.{◌≡◌, inl, inr, ℕ, List, Bool, true, false, Result, Ok, Err, refl, ap, ◌∙◌}
-use Rattle.std.specs.Prelude.{◌⊎◌, MatchBool, OnErr}
+-- What a line or a request is answered where memory or the database may refuse.
+use Rattle.std.proofs.Common.{◌≡◌, inl, inr, ℕ, List, Bool, true, false, Result, Ok, Err, refl, sym, subst, ap, ◌∙◌}
+use Rattle.std.specs.Prelude.{◌⊎◌, ◌||◌, ⊤, MatchBool, OnErr}
+use Rattle.sqlite.specs.State.{State as Connected, HasCleanDisk}
+use Rattle.sqlite_trees.specs.declared.store.Store.{Ghosts}
+use Rattle.up_canon.specs.Names.{Name}
 use Rattle.up_canon.specs.Refusals.{is_memory}
 use Rattle.up_canon.specs.declared.refusal.Refusal.{Refusal}
 use Rattle.up_canon.specs.declared.refusal.Refusal.TheVariants.{Memory, Store, MomentOutOfRange, TooLarge, NotJson, NotCanonical, BadShape, NotFounded, AlreadyFounded, UnknownVehicle, WrongPrimary, BadManifestSignature, Stale, UnknownEcu, DuplicateEcu, MissingEcu, BadReportSignature, ReportReplayed, ImageTaken, RegisterFull, VersionLimit, VehicleTaken, EcuTaken, CampaignTaken, UnknownCampaign, UnknownImage, WrongHardware, VersionNotGreater, UnknownFile, RootFull, PrimaryFixed}
 use Rattle.up_sign.specs.Schemes.{Rules}
 use Rattle.up_machine.specs.declared.answer.Answer.{Answer}
 use Rattle.up_machine.specs.declared.answer.Answer.TheVariants.{Done, Already, Reply, File, Refused}
+use Rattle.up_machine.specs.declared.command.Command.{Command}
 use Rattle.up_machine.specs.Deciding.{Outcome}
+use Rattle.up_machine.specs.Repeats.{serve}
 use Rattle.up_machine.specs.State.{State}
-use Rattle.up_desk.specs.Serving.{Holding, IsAnswered, is_lost}
-use Rattle.up_script.specs.PrintedLines.{answer_text}
-use Rattle.up_service.specs.LineAnswers.{line_answer, IsAnswer, IsStopped, Lines}
+use Rattle.up_desk.specs.Serving.{DeskView, is_store, is_lost_by, is_lost}
+use Rattle.up_desk.specs.Calls.{ServesCall}
+use Rattle.up_script.specs.AskedLines.{asked_in}
+use Rattle.up_script.specs.declared.asked.Asked.{Asked}
+use Rattle.up_script.specs.PrintedLines.{answer_text, refused_text}
+use Rattle.up_heads.specs.Responses.{check_response_of, refusal_response_of}
+use Rattle.up_heads.specs.declared.check.Check.{Check}
+use Rattle.up_http.specs.declared.asked.What.{What}
+use Rattle.up_http.specs.declared.asked.What.TheVariants.{Fixed}
+use Rattle.up_service.specs.Answers.{served_as, IsLost, IsAnswerOrLost, AnswersAs}
+use Rattle.up_service.specs.LineAnswers.{line_answer, answer_to, carried_out, served, viewed, shown_in, shown_text, Sees, AnswersLine}
+use Rattle.up_service.specs.Responses.{answer_response, AnswersCall, IsResponseTo}
 
--- ---- what says that memory was refused
+-- ---- what says that memory or the database refused
 
-only_memory : (r : Refusal) → is_memory r ≡ true → r ≡ Memory
-only_memory Memory h = refl
-only_memory Store h = cc
-only_memory MomentOutOfRange h = cc
-only_memory TooLarge h = cc
-only_memory NotJson h = cc
-only_memory NotCanonical h = cc
-only_memory (BadShape x) h = cc
-only_memory NotFounded h = cc
-only_memory AlreadyFounded h = cc
-only_memory UnknownVehicle h = cc
-only_memory WrongPrimary h = cc
-only_memory BadManifestSignature h = cc
-only_memory (Stale x) h = cc
-only_memory (UnknownEcu x) h = cc
-only_memory (DuplicateEcu x) h = cc
-only_memory (MissingEcu x) h = cc
-only_memory (BadReportSignature x) h = cc
-only_memory (ReportReplayed x) h = cc
-only_memory ImageTaken h = cc
-only_memory RegisterFull h = cc
-only_memory VersionLimit h = cc
-only_memory VehicleTaken h = cc
-only_memory (EcuTaken x) h = cc
-only_memory CampaignTaken h = cc
-only_memory UnknownCampaign h = cc
-only_memory UnknownImage h = cc
-only_memory WrongHardware h = cc
-only_memory VersionNotGreater h = cc
-only_memory UnknownFile h = cc
-only_memory RootFull h = cc
-only_memory PrimaryFixed h = cc
+refused_by : (r : Refusal) → is_lost_by r ≡ true → (r ≡ Memory) ⊎ (r ≡ Store)
+refused_by Memory h = inl refl
+refused_by Store h = inr refl
+refused_by MomentOutOfRange h = cc
+refused_by TooLarge h = cc
+refused_by NotJson h = cc
+refused_by NotCanonical h = cc
+refused_by (BadShape x) h = cc
+refused_by NotFounded h = cc
+refused_by AlreadyFounded h = cc
+refused_by UnknownVehicle h = cc
+refused_by WrongPrimary h = cc
+refused_by BadManifestSignature h = cc
+refused_by (Stale x) h = cc
+refused_by (UnknownEcu x) h = cc
+refused_by (DuplicateEcu x) h = cc
+refused_by (MissingEcu x) h = cc
+refused_by (BadReportSignature x) h = cc
+refused_by (ReportReplayed x) h = cc
+refused_by ImageTaken h = cc
+refused_by RegisterFull h = cc
+refused_by VersionLimit h = cc
+refused_by VehicleTaken h = cc
+refused_by (EcuTaken x) h = cc
+refused_by CampaignTaken h = cc
+refused_by UnknownCampaign h = cc
+refused_by UnknownImage h = cc
+refused_by WrongHardware h = cc
+refused_by VersionNotGreater h = cc
+refused_by UnknownFile h = cc
+refused_by RootFull h = cc
+refused_by PrimaryFixed h = cc
 
-only_lost : (a : Answer) → is_lost a ≡ true → a ≡ Refused Memory
-only_lost Done h = cc
-only_lost Already h = cc
-only_lost (Reply r) h = cc
-only_lost (File t) h = cc
-only_lost (Refused r) h = ap Refused (only_memory r h)
+lost_refusal : (tell : Refusal → List ℕ) (r : Refusal) (t : List ℕ) → is_lost_by r ≡ true → t ≡ tell r → IsLost tell t
+lost_refusal tell r t h is = by_case (refused_by r h)
+  where
+    by_case : (r ≡ Memory) ⊎ (r ≡ Store) → IsLost tell t
+    by_case (inl same) = inl (is ∙ ap tell same)
+    by_case (inr same) = inr (is ∙ ap tell same)
+
+lost_answer : (tell : Refusal → List ℕ) (tell_answer : Answer → List ℕ) → ((r : Refusal) → tell_answer (Refused r) ≡ tell r) → (a : Answer) (t : List ℕ) → is_lost a ≡ true → t ≡ tell_answer a → IsLost tell t
+lost_answer tell tell_answer same Done t h is = cc
+lost_answer tell tell_answer same Already t h is = cc
+lost_answer tell tell_answer same (Reply r) t h is = cc
+lost_answer tell tell_answer same (File f) t h is = cc
+lost_answer tell tell_answer same (Refused r) t h is = lost_refusal tell r t h (is ∙ same r)
 
 -- ---- commands
 
-by_loss : (lost : Bool) (a : Answer) (old new : State) (o : Outcome) (t : List ℕ) → is_lost a ≡ lost → MatchBool lost (new ≡ old) ((a ≡ o.answer) × (new ≡ o.next)) → t ≡ answer_text a
-    → IsAnswer (record { text = answer_text o.answer; next = o.next }) old t new
+by_loss : (tell : Refusal → List ℕ) (tell_answer : Answer → List ℕ) → ((r : Refusal) → tell_answer (Refused r) ≡ tell r) → (lost : Bool) (a : Answer) (old new : State) (o : Outcome) (t : List ℕ)
+    → is_lost a ≡ lost → MatchBool lost (new ≡ old) ((a ≡ o.answer) × (new ≡ o.next)) → t ≡ tell_answer a → IsAnswerOrLost tell (record { text = tell_answer o.answer; next = o.next }) old t new
+by_loss tell tell_answer same true a old new o t is h e = inr (lost_answer tell tell_answer same a t is e, h)
+by_loss tell tell_answer same false a old new o t is h e = inl (e ∙ ap tell_answer h.0, h.1)
+
+-- what is told of what the desk answered a command
+called : (tell : Refusal → List ℕ) (tell_answer : Answer → List ℕ) → ((r : Refusal) → tell_answer (Refused r) ≡ tell r) → (k : Rules) (at : ℕ) (c : Command) (a : Answer) (t : List ℕ) (old new : Connected)
+    → (HasCleanDisk new → HasCleanDisk old) → ServesCall k at c a old new
+    → t ≡ tell_answer a → AnswersAs tell (λ s. served_as tell_answer k s at c) k t old new
+called tell tell_answer same k at c a t old new clean answered is = record {
+  clean = clean;
+  answered = λ now s sound was. let it = answered now s sound was in (it.0, by_loss tell tell_answer same (is_lost a) a s it.0 (serve k s at c) t refl it.1 is, it.3, it.4);
+}
+
+-- as a line
+pub printed : (k : Rules) (at : ℕ) (c : Command) (a : Answer) (t : List ℕ) (old new : Connected) → (HasCleanDisk new → HasCleanDisk old) → ServesCall k at c a old new
+    → t ≡ answer_text a → AnswersLine (λ s. served k s at c) k t old new
 unfolding answer_text
-by_loss true a old new o t is h e = inr (e ∙ ap answer_text (only_lost a is), h)
-by_loss false a old new o t is h e = inl (e ∙ ap answer_text h.0, h.1)
+printed k at c a t old new clean answered is = called refused_text answer_text (λ r. refl) k at c a t old new clean answered is
 
-pub said : (a : Answer) (old new : State) (o : Outcome) (t : List ℕ) → IsAnswered a old new o → t ≡ answer_text a → IsAnswer (record { text = answer_text o.answer; next = o.next }) old t new
-said a old new o t h e = by_loss (is_lost a) a old new o t refl h e
+-- as a response
+pub responded : (k : Rules) (at : ℕ) (c : Command) (last head : Bool) (a : Answer) (t : List ℕ) (old new : Connected) → (HasCleanDisk new → HasCleanDisk old) → ServesCall k at c a old new
+    → t ≡ answer_response a last head → AnswersCall k at c last head t old new
+unfolding answer_response
+responded k at c last head a t old new clean answered is =
+    called (λ r. refusal_response_of r last head) (λ answer. answer_response answer last head) (λ r. refl) k at c a t old new clean answered is
 
--- ---- lines without an answer
+-- ---- lines that are refused, views, and fixed answers
+
+pub refused_line : (k : Rules) (line : List ℕ) (r : Refusal) (t : List ℕ) (s : Connected) → MatchBool (is_memory r) ⊤ (asked_in k line ≡ Err r) → t ≡ refused_text r → AnswersLine (λ q. line_answer k q line) k t s s
+unfolding line_answer
+refused_line k line r t s due is = record { clean = λ now. now; answered = λ now q sound was. (q, by_memory q (is_memory r) refl due, sound, was now) }
+  where
+    memory_lost : is_memory r ≡ true → is_lost_by r ≡ true
+    memory_lost h = ap (λ b. b || is_store r) h
+
+    by_memory : (q : State) (b : Bool) → is_memory r ≡ b → MatchBool b ⊤ (asked_in k line ≡ Err r) → IsAnswerOrLost refused_text (answer_to k q (asked_in k line)) q t q
+    by_memory q true same due = inr (lost_refusal refused_text r t (memory_lost same) is, refl)
+    by_memory q false same due = inl (is ∙ sym (ap (λ a. (answer_to k q a).text) due), sym (ap (λ a. (answer_to k q a).next) due))
+
+-- a line that asks this is answered as that is
+pub asked_line : (k : Rules) (line : List ℕ) (asked : Asked) (t : List ℕ) (old new : Connected) → asked_in k line ≡ Ok asked → AnswersLine (λ s. carried_out k s asked.at asked.what) k t old new
+    → AnswersLine (λ s. line_answer k s line) k t old new
+unfolding line_answer
+asked_line k line asked t old new is h = record {
+  clean = h.clean;
+  answered = λ now s sound was. let it = h.answered now s sound was in (it.0, subst (λ a. IsAnswerOrLost refused_text (answer_to k s a) s t it.0) (sym is) it.1, it.2, it.3);
+}
+
+-- a view is told, or its refusal
+pub told_view : (k : Rules) (vehicle : Name) (t : List ℕ) (old new : Connected) → Sees (λ s. shown_in s vehicle ≡ Ok t) old new → AnswersLine (λ s. viewed s vehicle) k t old new
+told_view k vehicle t old new sees = record {
+  clean = sees.clean;
+  answered = λ now s sound was. let it = sees.seen now k s was in (s, inl (sym (ap shown_text it.0), refl), sound, it.1);
+}
+
+pub told_refusal : (k : Rules) (vehicle : Name) (r : Refusal) (t : List ℕ) (old new : Connected) → Sees (λ s. MatchBool (is_lost_by r) ⊤ (shown_in s vehicle ≡ Err r)) old new → t ≡ refused_text r
+    → AnswersLine (λ s. viewed s vehicle) k t old new
+told_refusal k vehicle r t old new sees is = record {
+  clean = sees.clean;
+  answered = λ now s sound was. let it = sees.seen now k s was in (s, by_loss_of s (is_lost_by r) refl it.0, sound, it.1);
+}
+  where
+    by_loss_of : (s : State) (b : Bool) → is_lost_by r ≡ b → MatchBool b ⊤ (shown_in s vehicle ≡ Err r) → IsAnswerOrLost refused_text (viewed s vehicle) s t s
+    by_loss_of s true same due = inr (lost_refusal refused_text r t same is, refl)
+    by_loss_of s false same due = inl (is ∙ sym (ap shown_text due), refl)
+
+-- a fixed answer leaves the desk as it is
+pub checked : {K D : Type 0} (rules : K → Rules) (g : Ghosts D) (at : ℕ) (desk : DeskView K D) (what : What) (check : Check) (last head : Bool) → what ≡ Fixed check
+    → (text : List ℕ) × IsResponseTo rules g at desk what last head text desk
+checked rules g at desk what check last head is =
+    subst (λ w. (text : List ℕ) × IsResponseTo rules g at desk w last head text desk) (sym is) (check_response_of check last head, (refl, refl))
+
+-- ---- what holds after a fault
 
 pub on_err : {T E P : Type 0} (r : Result T E) → P → OnErr r P
 on_err (Ok x) p = tt
 on_err (Err e) p = p
-
-pub stopped : {K : Type 0} (rules : K → Rules) (old new : Holding K) (line : List ℕ) → new.scheme ≡ old.scheme → IsStopped (line_answer (rules old.scheme) old.state line) old.state new.state
-    → (new ≡ old) ⊎ ((text : List ℕ) × Lines rules old line text new)
-stopped rules old new line scheme (inl same) = inl (λ i. record { scheme = scheme i; state = same i })
-stopped rules old new line scheme (inr next) = inr ((line_answer (rules old.scheme) old.state line).text, (scheme, inl (refl, next)))

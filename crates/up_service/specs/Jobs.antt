@@ -1,23 +1,44 @@
 -- The words of the command line.
-use Rattle.std.specs.Prelude.{ℕ, List, [], ◌∷◌, Option, None, Some, codes, bytes_eq, if◌then◌else◌, string_bytes}
+use Rattle.std.specs.Prelude.{ℕ, ◌&&◌, List, [], ◌∷◌, Option, None, Some, codes, bytes_eq, decimal, nat_lt, nat_le, if◌then◌else◌, string_bytes}
+use Rattle.std.specs.Str.Parse.{digits_value}
 use Rattle.up_service.specs.declared.job.Job.{Job}
-use Rattle.up_service.specs.declared.job.Job.TheVariants.{Run, Digest}
+use Rattle.up_service.specs.declared.job.Job.TheVariants.{Run, Serve, Digest}
 
 -- a job, with the bytes of its file's name
 pub data Asked : Type 0 where
   running : List ℕ → Asked
+  serving : List ℕ → ℕ → ℕ → Asked
   digesting : List ℕ → Asked
 
 abbrev pub job_shown : Job → Asked
 job_shown (Run file) = running (string_bytes file)
+job_shown (Serve file port count) = serving (string_bytes file) port count
 job_shown (Digest file) = digesting (string_bytes file)
 
 abbrev pub job_named : List ℕ → List ℕ → Option Asked
 job_named word file = if bytes_eq word (codes "run") then Some (running file) else if bytes_eq word (codes "digest") then Some (digesting file) else None
 
--- `run FILE` and `digest FILE`
+-- the number of 1 to so many that is written so in decimal
+abbrev pub number_to : ℕ → List ℕ → Option ℕ
+number_to most text =
+    let n = digits_value 10 text in
+    if bytes_eq text (decimal n) && (nat_lt 0 n && nat_le n most) then Some n else None
+
+-- a port is 1 to 65535, a count of connections 1 to 1000000
+abbrev pub serve_numbered : List ℕ → Option ℕ → Option ℕ → Option Asked
+serve_numbered file (Some port) (Some count) = Some (serving file port count)
+serve_numbered file (Some port) None = None
+serve_numbered file None count = None
+
+abbrev pub serve_named : List ℕ → List ℕ → List ℕ → List ℕ → Option Asked
+serve_named word file port count =
+    if bytes_eq word (codes "serve") then serve_numbered file (number_to 65535 port) (number_to 1000000 count) else None
+
+-- `run FILE`, `digest FILE` and `serve FILE PORT COUNT`
 abbrev pub job_of : List (List ℕ) → Option Asked
 job_of [] = None
 job_of (word ∷ []) = None
 job_of (word ∷ file ∷ []) = job_named word file
-job_of (word ∷ file ∷ more ∷ rest) = None
+job_of (word ∷ file ∷ port ∷ []) = None
+job_of (word ∷ file ∷ port ∷ count ∷ []) = serve_named word file port count
+job_of (word ∷ file ∷ port ∷ count ∷ more ∷ rest) = None

@@ -1,53 +1,78 @@
 -- What each line of a script is answered, and the state that it leaves.
-use Rattle.std.specs.Prelude.{◌≡◌, ◌⊎◌, ℕ, List, ◌++◌, flat_map, Result, Ok, Err}
+use Rattle.std.specs.Prelude.{◌≡◌, ℕ, List, ◌++◌, flat_map, MatchBool, ⊤, Option, Result, Ok, Err}
+use Rattle.sqlite.specs.Held.{state}
+use Rattle.sqlite.specs.State.{State as Connected, HasCleanDisk}
+use Rattle.sqlite_trees.specs.declared.store.Store.{Ghosts}
 use Rattle.up_canon.specs.Names.{Name}
 use Rattle.up_canon.specs.Steps.{◌>>=◌, or_error}
 use Rattle.up_canon.specs.declared.refusal.Refusal.{Refusal}
-use Rattle.up_canon.specs.declared.refusal.Refusal.TheVariants.{Memory, UnknownVehicle}
+use Rattle.up_canon.specs.declared.refusal.Refusal.TheVariants.{UnknownVehicle}
 use Rattle.up_sign.specs.Schemes.{Rules}
+use Rattle.up_plan.specs.declared.assigned.Plan.{Plan}
 use Rattle.up_machine.specs.declared.command.Command.{Command}
 use Rattle.up_machine.specs.Reads.{ecus_of, version_of, installed, assigned_to}
-use Rattle.up_machine.specs.Repeats.{serve}
 use Rattle.up_machine.specs.State.{State}
-use Rattle.up_desk.specs.Serving.{Holding}
+use Rattle.up_tables.specs.Stands.{IfClean}
+use Rattle.up_store.specs.Connections.{KeepsState}
+use Rattle.up_desk.specs.Serving.{DeskView, is_lost_by}
 use Rattle.up_script.specs.AskedLines.{asked_in}
 use Rattle.up_script.specs.PrintedLines.{answer_text, refused_text, vehicle_text, ecu_text}
 use Rattle.up_script.specs.declared.asked.Asked.{Asked}
 use Rattle.up_script.specs.declared.asked.What.{What}
 use Rattle.up_script.specs.declared.asked.What.TheVariants.{Call, Show}
+use Rattle.up_service.specs.Answers.{Answered, served_as, AnswersAs}
 
 -- ---- views of a vehicle
 
--- the ECUs of a vehicle, each with what is installed and what is assigned
-abbrev pub ecus_text : State → Name → List Name → List ℕ
-ecus_text s vehicle ecus = flat_map (λ ecu. ecu_text (assigned_to s vehicle) ecu (installed s ecu)) ecus
+-- ECUs, each with what is installed and what of a plan is assigned
+abbrev pub ecus_text : State → Option Plan → List Name → List ℕ
+ecus_text s plan ecus = flat_map (λ ecu. ecu_text plan ecu (installed s ecu)) ecus
 
 -- a vehicle's version, and its ECUs in inventory order
+abbrev pub line_of : State → Name → ℕ → List Name → List ℕ
+line_of s vehicle version ecus = vehicle_text vehicle version ++ ecus_text s (assigned_to s vehicle) ecus
+
+-- that of a vehicle of this version
+abbrev pub shown_with : State → Name → ℕ → Result (List ℕ) Refusal
+shown_with s vehicle version = do
+  ecus ← or_error UnknownVehicle (ecus_of s vehicle)
+  Ok (line_of s vehicle version ecus)
+
 unfoldable pub shown_in : State → Name → Result (List ℕ) Refusal
 shown_in s vehicle = do
   version ← or_error UnknownVehicle (version_of s vehicle)
-  ecus ← or_error UnknownVehicle (ecus_of s vehicle)
-  Ok (vehicle_text vehicle version ++ ecus_text s vehicle ecus)
+  shown_with s vehicle version
 
+-- the line, or the refusal that is due, unless memory or the database refused
+abbrev pub GivesShown : {S : Type 0} → (S → List ℕ) → Result S Refusal → Result (List ℕ) Refusal → Type 0
+GivesShown bytes (Ok text) computed = computed ≡ Ok (bytes text)
+GivesShown bytes (Err r) computed = MatchBool (is_lost_by r) ⊤ (computed ≡ Err r)
+
+-- the text that is told of it
 abbrev pub shown_text : Result (List ℕ) Refusal → List ℕ
 shown_text (Ok text) = text
 shown_text (Err r) = refused_text r
 
--- ---- lines
+-- a step of a view, over a disk that has returned what was written so far: this holds of each state that the tables show, and they
+-- go on showing it
+pub record Sees (holds : State → Type 0) (old new : Connected) : Type 0 where
+  pub clean : HasCleanDisk new → HasCleanDisk old
+  pub seen : HasCleanDisk new → (k : Rules) (s : State) → IfClean (KeepsState k s) old → holds s × KeepsState k s new
 
--- the text of an answer, and the state after it
-pub record Answered : Type 0 where
-  pub text : List ℕ
-  pub next : State
+-- ---- lines
 
 -- what the desk answers a command, as it is printed
 abbrev pub served : Rules → State → ℕ → Command → Answered
-served k s at command = let o = serve k s at command in record { text = answer_text o.answer; next = o.next }
+served k s at command = served_as answer_text k s at command
 
--- a command is served; a view changes nothing
+-- a view of a vehicle changes nothing
+abbrev pub viewed : State → Name → Answered
+viewed s vehicle = record { text = shown_text (shown_in s vehicle); next = s }
+
+-- a command is served, and a view is shown
 abbrev pub carried_out : Rules → State → ℕ → What → Answered
 carried_out k s at (Call command) = served k s at command
-carried_out k s at (Show vehicle) = record { text = shown_text (shown_in s vehicle); next = s }
+carried_out k s at (Show vehicle) = viewed s vehicle
 
 -- the first fault of a line is its answer, and changes nothing
 abbrev pub answer_to : Rules → State → Result Asked Refusal → Answered
@@ -57,20 +82,11 @@ answer_to k s (Err r) = record { text = refused_text r; next = s }
 unfoldable pub line_answer : Rules → State → List ℕ → Answered
 line_answer k s line = answer_to k s (asked_in k line)
 
--- ---- where memory may be refused
-
--- the text, or what says that memory was refused
-abbrev pub IsLostOr : List ℕ → List ℕ → Type 0
-IsLostOr text shown = (shown ≡ text) ⊎ (shown ≡ refused_text Memory)
-
--- a line is answered so, or it is lost for want of memory: it says so, and the state is as before
-abbrev pub IsAnswer : Answered → State → List ℕ → State → Type 0
-IsAnswer a old text new = ((text ≡ a.text) × (new ≡ a.next)) ⊎ ((text ≡ refused_text Memory) × (new ≡ old))
-
--- without a text the state is as before, or as the answer leaves it
-abbrev pub IsStopped : Answered → State → State → Type 0
-IsStopped a old new = (new ≡ old) ⊎ (new ≡ a.next)
+-- the line is such an answer, or says that memory or the database refused
+abbrev pub AnswersLine : (State → Answered) → Rules → List ℕ → Connected → Connected → Type 0
+AnswersLine answer k text old new = AnswersAs refused_text answer k text old new
 
 -- what a desk may answer a line, and how it leaves it
-abbrev pub Lines : {K : Type 0} → (K → Rules) → Holding K → List ℕ → List ℕ → Holding K → Type 0
-Lines rules old line text new = (new.scheme ≡ old.scheme) × IsAnswer (line_answer (rules old.scheme) old.state line) old.state text new.state
+abbrev pub Lines : {K D : Type 0} → (K → Rules) → Ghosts D → DeskView K D → List ℕ → List ℕ → DeskView K D → Type 0
+Lines rules g old line text new =
+    (new.scheme ≡ old.scheme) × AnswersLine (λ s. line_answer (rules old.scheme) s line) (rules old.scheme) text (state g old.store) (state g new.store)

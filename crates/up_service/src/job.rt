@@ -5,6 +5,8 @@
 pub enum Job {
     /// Runs a script from standard input over the database of this file.
     Run(String),
+    /// Answers HTTP over the database of this file, at this port of 127.0.0.1, on so many connections.
+    Serve(String, u16, u32),
     /// Prints the length and the digest of this file.
     Digest(String),
 }

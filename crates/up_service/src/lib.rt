@@ -1,9 +1,18 @@
-//! The service: scripts, digests of files, and what the words of the command line ask.
+//! The service: scripts, streams of HTTP requests, digests of files, and what the words of the command line ask.
 #![tactic(auto)]
 
 pub mod digest;
 pub mod job;
 pub mod line_answer;
+mod numbers;
+pub mod response;
 pub mod script;
 mod show;
+pub mod stream;
 pub mod words;
+
+pub use up_heads::check::Check;
+pub use up_http::asked::{Next, Step, What};
+pub use up_http::fault::{Fault, ServeFault};
+pub use up_http::feeder::Feeder;
+pub use up_http::served::Served;

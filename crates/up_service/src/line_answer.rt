@@ -1,10 +1,12 @@
 //! The answer to a line of a script.
-ghost use Rattle.std.specs.Prelude.{◌≡◌, IsTrue, IfOk, OnErr, string_bytes};
+ghost use Rattle.std.specs.Prelude.{◌≡◌, List, ℕ, IsTrue, IfOk, OnErr, string_bytes};
+ghost use Rattle.sqlite.specs.Held.{state};
 ghost use Rattle.up_machine.specs.Commands.{opens_running};
 ghost use Rattle.up_script.specs.AskedLines.{asks_running};
-ghost use Rattle.up_service.specs.LineAnswers.{carried_out, served, line_answer, IsAnswer, IsStopped, IsLostOr, shown_in, shown_text as shown_text_of};
+ghost use Rattle.up_service.specs.LineAnswers.{AnswersLine, carried_out, served, line_answer, viewed};
 
 use crate::show::shown;
+use sqlite::Alter;
 use std::alloc::{AllocError, Global};
 use up_canon::ident::Ident;
 use up_desk::desk::Desk;
@@ -18,32 +20,33 @@ use up_sign::scheme::Scheme;
 #[derive(Clone, Copy, Debug)]
 pub struct Scripter;
 
-impl<K: Scheme> Answer<Desk<K>> for Scripter {
+impl<K: Scheme, D: Alter> Answer<Desk<K, D>> for Scripter {
     ghost use Rattle.up_service.specs.LineAnswers.{Lines};
 
-    ghost gives = { Lines (K.rules) };
+    ghost gives = { Lines (K.rules) D.Store };
 
     fn answer(
         &self,
         alloc: Global,
-        desk: &mut Desk<K>,
+        desk: &mut Desk<K, D>,
         line: &[u8],
     ) -> Result<Vec<u8>, AllocError> {
-        let text = line_text(alloc, desk, line)?;
-        Ok(text.into_bytes())
+        match line_text(alloc, desk, line) {
+            Ok(text) => Ok(text.into_bytes()),
+            Err(refused) => Err(refused),
+        }
     }
 }
 
 /// The line that answers a line, which is carried out at the desk.
-#[tactic(auto, unfolding(crate::specs::LineAnswers::line_answer))]
-fn line_text<K: Scheme>(
+fn line_text<K: Scheme, D: Alter>(
     alloc: Global,
-    desk: &mut Desk<K>,
+    desk: &mut Desk<K, D>,
     line: &[u8],
 ) -> Result<String, AllocError>
     ensures scheme { desk.new.scheme ≡ desk.old.scheme }
-    ensures ok { IfOk result (λ t. IsAnswer (line_answer (K.rules desk.old.scheme) desk.old.state line.now) desk.old.state (string_bytes t) desk.new.state) }
-    ensures err { OnErr result (IsStopped (line_answer (K.rules desk.old.scheme) desk.old.state line.now) desk.old.state desk.new.state) }
+    ensures ok { IfOk result (λ t. AnswersLine (λ s. line_answer (K.rules desk.old.scheme) s line.now) (K.rules desk.old.scheme) (string_bytes t) (state D.Store desk.old.store) (state D.Store desk.new.store)) }
+    ensures err { OnErr result ((text : List ℕ) × AnswersLine (λ s. line_answer (K.rules desk.old.scheme) s line.now) (K.rules desk.old.scheme) text (state D.Store desk.old.store) (state D.Store desk.new.store)) }
 {
     match asked_by(alloc, desk.scheme(), line) {
         Ok(asked) => carry_out(alloc, desk, &asked),
@@ -51,15 +54,16 @@ fn line_text<K: Scheme>(
     }
 }
 
-fn carry_out<K: Scheme>(
+/// The line that answers what is asked.
+fn carry_out<K: Scheme, D: Alter>(
     alloc: Global,
-    desk: &mut Desk<K>,
+    desk: &mut Desk<K, D>,
     asked: &Asked,
 ) -> Result<String, AllocError>
     requires { IsTrue (asks_running asked.now.what) }
     ensures scheme { desk.new.scheme ≡ desk.old.scheme }
-    ensures ok { IfOk result (λ t. IsAnswer (carried_out (K.rules desk.old.scheme) desk.old.state asked.now.at asked.now.what) desk.old.state (string_bytes t) desk.new.state) }
-    ensures err { OnErr result (IsStopped (carried_out (K.rules desk.old.scheme) desk.old.state asked.now.at asked.now.what) desk.old.state desk.new.state) }
+    ensures ok { IfOk result (λ t. AnswersLine (λ s. carried_out (K.rules desk.old.scheme) s asked.now.at asked.now.what) (K.rules desk.old.scheme) (string_bytes t) (state D.Store desk.old.store) (state D.Store desk.new.store)) }
+    ensures err { OnErr result ((text : List ℕ) × AnswersLine (λ s. carried_out (K.rules desk.old.scheme) s asked.now.at asked.now.what) (K.rules desk.old.scheme) text (state D.Store desk.old.store) (state D.Store desk.new.store)) }
 {
     match &asked.what {
         What::Call(command) => called_text(alloc, desk, asked.at.get(), command),
@@ -67,27 +71,31 @@ fn carry_out<K: Scheme>(
     }
 }
 
-fn called_text<K: Scheme>(
+/// The line that answers a command.
+fn called_text<K: Scheme, D: Alter>(
     alloc: Global,
-    desk: &mut Desk<K>,
+    desk: &mut Desk<K, D>,
     at: u64,
     command: &Command,
 ) -> Result<String, AllocError>
     requires { IsTrue (opens_running command.now) }
     ensures scheme { desk.new.scheme ≡ desk.old.scheme }
-    ensures ok { IfOk result (λ t. IsAnswer (served (K.rules desk.old.scheme) desk.old.state at command.now) desk.old.state (string_bytes t) desk.new.state) }
-    ensures err { OnErr result (IsStopped (served (K.rules desk.old.scheme) desk.old.state at command.now) desk.old.state desk.new.state) }
+    ensures ok { IfOk result (λ t. AnswersLine (λ s. served (K.rules desk.old.scheme) s at command.now) (K.rules desk.old.scheme) (string_bytes t) (state D.Store desk.old.store) (state D.Store desk.new.store)) }
+    ensures err { OnErr result ((text : List ℕ) × AnswersLine (λ s. served (K.rules desk.old.scheme) s at command.now) (K.rules desk.old.scheme) text (state D.Store desk.old.store) (state D.Store desk.new.store)) }
 {
     let answer = desk.call(alloc, at, command);
     answer_text(alloc, &answer)
 }
 
-fn shown_text<K: Scheme>(
+/// The line that shows a vehicle, or its refusal.
+fn shown_text<K: Scheme, D: Alter>(
     alloc: Global,
-    desk: &Desk<K>,
+    desk: &mut Desk<K, D>,
     vehicle: &Ident,
 ) -> Result<String, AllocError>
-    ensures { IfOk result (λ t. IsLostOr (shown_text_of (shown_in desk.now.state vehicle.now)) (string_bytes t)) }
+    ensures scheme { desk.new.scheme ≡ desk.old.scheme }
+    ensures ok { IfOk result (λ t. AnswersLine (λ s. viewed s vehicle.now) (K.rules desk.old.scheme) (string_bytes t) (state D.Store desk.old.store) (state D.Store desk.new.store)) }
+    ensures err { OnErr result ((text : List ℕ) × AnswersLine (λ s. viewed s vehicle.now) (K.rules desk.old.scheme) text (state D.Store desk.old.store) (state D.Store desk.new.store)) }
 {
     match shown(alloc, desk, vehicle) {
         Ok(text) => Ok(text),

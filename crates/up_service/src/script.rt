@@ -2,10 +2,10 @@
 ghost use Rattle.std.specs.Prelude.{◌≡◌, IfOk, IfErr, IfSome, true, false};
 ghost use Rattle.up_lines.specs.Lines.{lines_of, fits, asked};
 ghost use Rattle.up_lines.specs.Runs.{Ran, Finished, AnswersFirst};
-ghost use Rattle.up_desk.specs.Serving.{Holding};
 ghost use Rattle.up_service.specs.LineAnswers.{Lines};
 
 use crate::line_answer::Scripter;
+use sqlite::Alter;
 use std::alloc::Global;
 use std::io::{Read, Write};
 use up_desk::desk::Desk;
@@ -17,23 +17,23 @@ use up_sign::scheme::Scheme;
 ///
 /// The number is that of the lines answered. A line has at most 2,097,152 bytes, and there are at most 100,000. A fault tells
 /// how many answers were written whole; what was answered before it stays done.
-pub fn run_script<K: Scheme, R: Read, W: Write>(
+pub fn run_script<K: Scheme, D: Alter, R: Read, W: Write>(
     alloc: Global,
-    desk: &mut Desk<K>,
+    desk: &mut Desk<K, D>,
     reader: &mut R,
     writer: &mut W,
 ) -> Result<u32, Fault>
     // For any reader and writer: the bytes that came, what was answered of them, and what was written.
-    ensures ran { Ran (Lines (K.rules)) desk.old desk.new (R.remaining reader.old) (R.remaining reader.new)
+    ensures ran { Ran (Lines (K.rules) D.Store) desk.old desk.new (R.remaining reader.old) (R.remaining reader.new)
         (W.contents writer.old) (W.contents writer.new) result }
 
     // Where it is known what the reader has, by its lines.
     ensures whole { IfOk result (λ answered. IfSome (R.remaining reader.old) (λ input.
-        Finished (Lines (K.rules)) desk.old (W.contents writer.old) input answered desk.new (W.contents writer.new))) }
+        Finished (Lines (K.rules) D.Store) desk.old (W.contents writer.old) input answered desk.new (W.contents writer.new))) }
     ensures too_long { IfErr result (λ fault. fault.cause ≡ Cause.TooLong → IfSome (R.remaining reader.old) (λ input.
         fits (lines_of true input) ≡ false)) }
-    ensures front { IfErr result (λ fault. IfSome (R.remaining reader.old) (λ input.
-        AnswersFirst (Lines (K.rules)) desk.old (W.contents writer.old) (asked (lines_of true input)) fault.lines
+    ensures prefix { IfErr result (λ fault. IfSome (R.remaining reader.old) (λ input.
+        AnswersFirst (Lines (K.rules) D.Store) desk.old (W.contents writer.old) (asked (lines_of true input)) fault.lines
         desk.new (W.contents writer.new))) }
 {
     run(alloc, &Scripter, desk, reader, writer)

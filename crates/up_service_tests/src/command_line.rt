@@ -63,6 +63,9 @@ fn shown(rt: &HostRuntime, words: &[&str]) -> Result<String, Fail> {
     }
     Ok(match job(given) {
         Some(Job::Run(file)) => format!(in rt.alloc(); "run {file}")?,
+        Some(Job::Serve(file, port, count)) => {
+            format!(in rt.alloc(); "serve {file} {port} {count}")?
+        }
         Some(Job::Digest(file)) => format!(in rt.alloc(); "digest {file}")?,
         None => "none".to_string(rt.alloc())?,
     })
@@ -70,15 +73,29 @@ fn shown(rt: &HostRuntime, words: &[&str]) -> Result<String, Fail> {
 
 #[test]
 fn words(rt: HostRuntime) -> Result<(), Fail> {
-    let table: [(&[&str], &str); 8] = [
+    let table: [(&[&str], &str); 22] = [
         (&["run", ":memory:"], "run :memory:"),
         (&["digest", "a b"], "digest a b"),
         (&[], "none"),
         (&["run"], "none"),
         (&["run", "a", "b"], "none"),
+        (&["run", "a", "80", "1"], "none"),
         (&["Run", "a"], "none"),
-        (&["serve", "a", "80", "1"], "none"),
         (&["digest"], "none"),
+        (&["serve", "a", "80", "1"], "serve a 80 1"),
+        (&["serve", "f", "65535", "1000000"], "serve f 65535 1000000"),
+        (&["serve", "f", "1", "999999"], "serve f 1 999999"),
+        (&["serve", "f", "0", "1"], "none"),
+        (&["serve", "f", "65536", "1"], "none"),
+        (&["serve", "f", "080", "1"], "none"),
+        (&["serve", "f", "+80", "1"], "none"),
+        (&["serve", "f", "8 0", "1"], "none"),
+        (&["serve", "f", "80", "0"], "none"),
+        (&["serve", "f", "80", "1000001"], "none"),
+        (&["serve", "f", "80", ""], "none"),
+        (&["serve", "f", "80"], "none"),
+        (&["serve", "f", "80", "1", "1"], "none"),
+        (&["serve", "f", "4294967376", "1"], "none"),
     ];
     for (words, wanted) in table {
         assert_eq!(rt; shown(&rt, words)?.as_str(), wanted);

@@ -4,12 +4,12 @@ use Rattle.std.specs.Prelude.{codes, MatchResult}
 use Rattle.std.specs.List.{list_all}
 use Rattle.serde_json.specs.Data.{Data}
 use Rattle.up_canon.specs.declared.refusal.Refusal.{Refusal}
-use Rattle.up_canon.specs.declared.refusal.Refusal.TheVariants.{NotCanonical}
+use Rattle.up_canon.specs.declared.refusal.Refusal.TheVariants.{NotCanonical, BadShape}
 use Rattle.up_canon.specs.Refusals.{canonical_text}
-use Rattle.up_canon.proofs.Faults.{Fails, AllowsShapes, then_fails, ok_fails, or_error_fails, each_fails, fitting_fails, self_fails, object_fails, short_text_fails, list_within_fails, hex_fails}
+use Rattle.up_canon.proofs.Faults.{Fails, AllowsShapes, fails_more, then_fails, ok_fails, or_error_fails, each_fails, fitting_fails, self_fails, object_fails, short_text_fails, list_within_fails, hex_fails}
 use Rattle.up_canon.proofs.Steps.{same_ok}
 use Rattle.up_sign.specs.Formats.{is_object}
-use Rattle.up_sign.specs.Laws.{IsEnvelopeFault, ValuesMeanOneOrFail}
+use Rattle.up_sign.specs.Laws.{IsEnvelopeFault, IsTextFault, ValuesMeanOneOrFail}
 use Rattle.up_sign.specs.Meaning.{MeansEnvelope}
 use Rattle.up_sign.specs.Reading.{signature_in, signatures_in, signed_in, Opened, opened_in}
 use Rattle.up_sign.specs.declared.envelope.Envelope.{Envelope}
@@ -40,6 +40,15 @@ signed_fails d = then_fails _ _ (object_fails shapes (codes "signed") d) (λ pay
 opened_fails : (place : List ℕ) (d : Data) → Fails IsEnvelopeFault (opened_in place d)
 unfolding opened_in
 opened_fails place d = then_fails _ _ (self_fails shapes place d) (λ members. then_fails _ _ (signatures_fails members) (λ signatures. then_fails _ _ (signed_fails members) (λ signed. ok_fails _)))
+
+-- among the faults of the bytes of an envelope
+text_fault : (fault : Refusal) → IsEnvelopeFault fault → IsTextFault fault
+text_fault NotCanonical is = tt
+text_fault (BadShape name) is = tt
+text_fault _ is = absurd is
+
+pub opened_text_fails : (place : List ℕ) (d : Data) → Fails IsTextFault (opened_in place d)
+opened_text_fails place d = fails_more _ text_fault (opened_fails place d)
 
 pub values_mean_one_or_fail : ValuesMeanOneOrFail
 values_mean_one_or_fail place d = by_case (opened_in place d) refl

@@ -6,3 +6,4 @@ pub mod Meaning
 pub mod Faults
 pub mod Texts
 pub mod Accepted
+pub mod Limits

@@ -1,10 +1,10 @@
 -- The text of an envelope is read as the same envelope.
-use Rattle.std.proofs.Common.{◌≡◌, ℕ, zero, suc, ◌≤◌, List, [], ◌∷◌, ◌++◌, Bool, true, false, cond, Some, None, length, map, refl, sym, ap, ap₂, ◌∙◌, arith, append_assoc}
-use Rattle.std.specs.Prelude.{◌&&◌, nat_le, codes}
+use Rattle.std.proofs.Common.{◌≡◌, ℕ, ◌≤◌, List, [], ◌∷◌, ◌++◌, Bool, true, false, cond, Some, None, length, map, refl, sym, ap, ap₂, ◌∙◌, arith, append_assoc}
+use Rattle.std.specs.Prelude.{◌&&◌, codes}
 use Rattle.std.specs.List.{list_all}
 use Rattle.std.proofs.lemmas.Bool.{and_parts}
 use Rattle.std.proofs.lemmas.Bool.Decides.{nat_tests}
-use Rattle.hex.specs.Hex.{IsBytes, encode_lower, lower_digits}
+use Rattle.hex.specs.Hex.{encode_lower, lower_digits}
 use Rattle.hex.proofs.HexLemmas.{length-encode_with, decode_of-encode_lower}
 use Rattle.serde_json.specs.Data.{Data, depth, items_depth}
 use Rattle.serde_json.specs.View.{items_of}
@@ -12,6 +12,7 @@ use Rattle.serde_json.specs.Read.{read, max_depth}
 use Rattle.up_canon.specs.Build.{list_with}
 use Rattle.up_canon.specs.Canon.{is_printable_text, is_plain, items_are_plain, has_canon, text, PlainIsRead}
 use Rattle.up_canon.specs.Meaning.{EachMeans}
+use Rattle.up_canon.proofs.ByteTests.{bytes_placed}
 use Rattle.up_canon.proofs.Members.{within}
 use Rattle.up_canon.proofs.Printable.{printable-hex}
 use Rattle.up_canon.specs.Names.{is_from_to, is_short_text}
@@ -24,11 +25,6 @@ use Rattle.up_sign.specs.declared.envelope.Envelope.{Envelope}
 use Rattle.up_sign.proofs.Meaning.{opened_there}
 
 -- ---- its value means it
-
-are_bytes : (xs : List ℕ) → list_all is_byte xs ≡ true → IsBytes xs
-are_bytes [] h i = omega arith
-are_bytes (x ∷ xs) h zero = let first = (and_parts (is_byte x) (list_all is_byte xs) h).0 in grind (arith, nat_tests)
-are_bytes (x ∷ xs) h (suc i) = are_bytes xs (and_parts (is_byte x) (list_all is_byte xs) h).1 i
 
 signature_means : (s : Signature) → signature_fits s ≡ true → list_all is_byte s.sig ≡ true → MeansSignature (signature_value s) s
 unfolding signature_value
@@ -44,7 +40,7 @@ signature_means s fits bytes =
       keyid_fits = p.0;
       method = refl;
       method_fits = q.0;
-      sig = record { digits = encode_lower s.sig; has_digits = refl; at_least = omega arith; at_most = omega arith; decoded = decode_of-encode_lower s.sig (are_bytes s.sig bytes) };
+      sig = record { digits = encode_lower s.sig; has_digits = refl; at_least = omega arith; at_most = omega arith; decoded = decode_of-encode_lower s.sig (bytes_placed s.sig bytes) };
     }
 
 signatures_mean : (ss : List Signature) → list_all signature_fits ss ≡ true → list_all (λ s. list_all is_byte s.sig) ss ≡ true → EachMeans MeansSignature (items_of (map signature_value ss)) ss

@@ -5,7 +5,7 @@ use Rattle.serde_json.specs.Data.{Data}
 use Rattle.serde_json.specs.Read.{read}
 use Rattle.up_canon.specs.Build.{object_with, list_with}
 use Rattle.up_canon.specs.declared.refusal.Refusal.{Refusal}
-use Rattle.up_canon.specs.declared.refusal.Refusal.TheVariants.{NotCanonical, BadShape}
+use Rattle.up_canon.specs.declared.refusal.Refusal.TheVariants.{TooLarge, NotJson, NotCanonical, BadShape}
 use Rattle.up_sign.specs.Envelopes.{sealed, is_accepted}
 use Rattle.up_sign.specs.Formats.{signature_value, envelope_text, envelope_fits, has_bytes, IsSigned}
 use Rattle.up_sign.specs.Meaning.{MeansEnvelope}
@@ -21,11 +21,23 @@ IsEnvelopeFault NotCanonical = ⊤
 IsEnvelopeFault (BadShape name) = ⊤
 IsEnvelopeFault _ = ⊥
 
+-- the faults that bytes may have as the envelope of some payload
+abbrev pub IsTextFault : Refusal → Type 0
+IsTextFault TooLarge = ⊤
+IsTextFault NotJson = ⊤
+IsTextFault NotCanonical = ⊤
+IsTextFault (BadShape name) = ⊤
+IsTextFault _ = ⊥
+
 -- a value means one envelope of one object, or none and then it has a first fault
 abbrev pub ValuesMeanOneOrFail : Type 0
 ValuesMeanOneOrFail = (place : List ℕ) (d : Data) → MatchResult (opened_in place d)
     (λ o. MeansEnvelope d o.payload o.envelope × ((p : Data) (e : Envelope) → MeansEnvelope d p e → (p ≡ o.payload) × (e ≡ o.envelope)))
     (λ fault. IsEnvelopeFault fault × ((p : Data) (e : Envelope) → MeansEnvelope d p e → ⊥))
+
+-- an envelope that a value means is within the limits of the format, so that it can be written again
+abbrev pub MeantFits : Type 0
+MeantFits = (d payload : Data) (e : Envelope) → MeansEnvelope d payload e → IsTrue (envelope_fits e) × IsTrue (has_bytes e)
 
 -- ---- writing
 

@@ -1,6 +1,6 @@
 //! Envelopes: a signed text with its signatures.
-ghost use Rattle.std.specs.Prelude.{◌≡◌, IsTrue, IfOk, string_bytes};
-ghost use Rattle.up_sign.specs.Formats.{envelope_fits, envelope_text};
+ghost use Rattle.std.specs.Prelude.{◌≡◌, IsTrue, IfOk, OnOk, string_bytes, true};
+ghost use Rattle.up_sign.specs.Formats.{envelope_fits, has_bytes, envelope_text};
 
 use crate::writing::push_signatures;
 use std::alloc::{AllocError, Global};
@@ -36,11 +36,13 @@ pub struct Envelope {
 }
 
 impl Envelope {
-    /// Its JSON text, in which the signed text stands as it is.
+    /// Its JSON text, in which the signed text stands as it is. Its signatures are bytes, so that by `envelope_laws` the
+    /// text is read as the same envelope.
     #[tactic(auto, unfolding(crate::specs::Formats::envelope_text))]
     pub fn text(&self, alloc: Global) -> Result<String, AllocError>
         requires limits { IsTrue (envelope_fits self.now) }
-        ensures { IfOk result (λ text. string_bytes text ≡ envelope_text self.now) }
+        ensures value { IfOk result (λ text. string_bytes text ≡ envelope_text self.now) }
+        ensures bytes { OnOk result (has_bytes self.now ≡ true) }
     {
         let mut out = String::new(alloc);
         out.push_str("{\"signatures\":")?;

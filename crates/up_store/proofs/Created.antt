@@ -2,8 +2,11 @@
 use Rattle.std.proofs.Common.{inl, inr}
 use Rattle.sqlite.specs.State.{State as Connected, Survives}
 use Rattle.sqlite.specs.Tree.{Trees}
-use Rattle.up_tables.specs.Stands.{Stands, Holds}
+use Rattle.up_rows.specs.StateRows.{no_rows}
+use Rattle.up_tables.specs.Stands.{Stands, Holds, HasNoTables}
 use Rattle.up_tables.specs.Tables.{up_schema}
+use Rattle.up_store.specs.Connections.{MadeIn}
+use Rattle.up_store.specs.Listing.{ListsRows}
 
 -- what holds of the trees follows from what held
 pub stands_as : (P Q : Trees → Type 0) → ((trees : Trees) → P trees → Q trees) → (s : Connected) → Stands up_schema P s → Stands up_schema Q s
@@ -16,12 +19,13 @@ stands_as P Q is s stands = record {
 pub holds_as : (P Q : Trees → Type 0) → ((trees : Trees) → P trees → Q trees) → (trees : Trees) → Holds up_schema P trees → Holds up_schema Q trees
 holds_as P Q is trees holds = record { schema_is = holds.schema_is; sound = holds.sound; rows = is trees holds.rows }
 
-pub survives_as : (P Q : Trees → Type 0) → ((trees : Trees) → P trees → Q trees) → (old new : Connected) → Survives old new (Holds up_schema P) → Survives old new (Holds up_schema Q)
-survives_as P Q is old new survives = record {
+-- what was made in a database without tables lists no rows
+pub made_as : (P : Trees → Type 0) → ((trees : Trees) → P trees → ListsRows no_rows trees) → (old new : Connected) → Survives old new (λ trees. HasNoTables old × Holds up_schema P trees) → Survives old new (MadeIn old)
+made_as P is old new survives = record {
   clean = survives.clean;
   shield = survives.shield;
   counts = survives.counts;
   limit = survives.limit;
   closes = survives.closes;
-  crash = λ clean db may. elim (survives.crash clean db may) [ inl before ↦ inl before | inr next ↦ inr (holds_as P Q is db next) ];
+  crash = λ clean db may. elim (survives.crash clean db may) [ inl before ↦ inl before | inr made ↦ inr (made.0, holds_as P (ListsRows no_rows) is db made.1) ];
 }

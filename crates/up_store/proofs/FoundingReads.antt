@@ -34,17 +34,17 @@ use Rattle.up_store.specs.Typed.{HasKeys, HaveKeys, EachHasKeys}
 -- ---- rows of one root version
 
 -- its root version, in a row whose columns are all read
-abbrev IsOfRoot : ℕ → Row → Type 0
+abbrev pub IsOfRoot : ℕ → Row → Type 0
 IsOfRoot m row = (column row 0 ≡ Int (pos m)) × (columns_at role_key_places row ≡ row)
 
-abbrev AreOfRoot : ℕ → List Row → Type 0
+abbrev pub AreOfRoot : ℕ → List Row → Type 0
 AreOfRoot m rows = AllByRecursion (IsOfRoot m) rows
 
 both_of : (m : ℕ) (xs ys : List Row) → AreOfRoot m xs → AreOfRoot m ys → AreOfRoot m (xs ++ ys)
 both_of m [] ys a b = b
 both_of m (x ∷ xs) ys a b = (a.0, both_of m xs ys a.1 b)
 
-abbrev key_line : ℕ → List ℕ → List ℕ → ℕ → ℕ × List ℕ → Row
+abbrev pub key_line : ℕ → List ℕ → List ℕ → ℕ → ℕ × List ℕ → Row
 key_line root word role threshold key = Int (pos root) ∷ Text word ∷ Text role ∷ Int (pos key.0) ∷ Blob key.1 ∷ Int (pos threshold) ∷ []
 
 role_of_root : (m : ℕ) (word role : List ℕ) (threshold i : ℕ) (keys : List (List ℕ)) → AreOfRoot m (map (key_line m word role threshold) (enumerate_from i keys))
@@ -57,7 +57,7 @@ repository_of_root m repository keys =
     both_of m _ _ (both_of m _ _ (both_of m _ _ (role_of_root m word (codes "root") keys.root.threshold 0 keys.root.keys) (role_of_root m word (codes "targets") keys.targets.threshold 0 keys.targets.keys))
     (role_of_root m word (codes "snapshot") keys.snapshot.threshold 0 keys.snapshot.keys)) (role_of_root m word (codes "timestamp") keys.timestamp.threshold 0 keys.timestamp.keys)
 
-lines_of_root : (m : ℕ) (root : RootRow) → AreOfRoot m (root_lines m root)
+pub lines_of_root : (m : ℕ) (root : RootRow) → AreOfRoot m (root_lines m root)
 lines_of_root m root = both_of m _ _ (repository_of_root m Director root.keys.director) (repository_of_root m Image root.keys.image)
 
 -- ---- those of a root version among all
@@ -68,7 +68,7 @@ own_number n = ap is_eq (value_cmp-Int (pos n) (pos n)) ∙ grind (arith)
 lower_number : (m n : ℕ) → m < n → is_eq (value_cmp (Int (pos m)) (Int (pos n))) ≡ false
 lower_number m n h = ap is_eq (value_cmp-Int (pos m) (pos n)) ∙ grind (arith, h)
 
-all_kept : (n : ℕ) (rows : List Row) → AreOfRoot n rows → filter (has_number 0 (pos n)) rows ≡ rows
+pub all_kept : (n : ℕ) (rows : List Row) → AreOfRoot n rows → filter (has_number 0 (pos n)) rows ≡ rows
 all_kept n [] h = refl
 all_kept n (row ∷ rows) h =
     let test : has_number 0 (pos n) row ≡ true = ap (λ v. is_eq (value_cmp v (Int (pos n)))) h.0.0 ∙ own_number n in
@@ -80,7 +80,7 @@ none_kept m n (row ∷ rows) low h =
     let test : has_number 0 (pos n) row ≡ false = ap (λ v. is_eq (value_cmp v (Int (pos n)))) h.0.0 ∙ lower_number m n low in
     rw (test, none_kept m n rows low h.1) refl
 
-filter_both : {A : Type 0} (test : A → Bool) (xs ys : List A) → filter test (xs ++ ys) ≡ filter test xs ++ filter test ys
+pub filter_both : {A : Type 0} (test : A → Bool) (xs ys : List A) → filter test (xs ++ ys) ≡ filter test xs ++ filter test ys
 filter_both test [] ys = refl
 filter_both {A} test (x ∷ xs) ys = by_test (test x) (filter_both test xs ys)
   where
@@ -95,7 +95,7 @@ none_before i n (root ∷ roots) h =
     filter_both (has_number 0 (pos n)) (root_lines i root) (flat_map (λ (r : ℕ × RootRow). root_lines r.0 r.1) (enumerate_from (i + 1) roots))
     ∙ ap₂ (λ (a b : List Row). a ++ b) (none_kept i n (root_lines i root) (omega (arith, h)) (lines_of_root i root)) (none_before (i + 1) n roots (omega (arith, h)))
 
-assoc : {A : Type 0} (a b c : List A) → (a ++ b) ++ c ≡ a ++ (b ++ c)
+pub assoc : {A : Type 0} (a b c : List A) → (a ++ b) ++ c ≡ a ++ (b ++ c)
 assoc [] b c = refl
 assoc {A} (y ∷ a) b c = ap (λ (zs : List A). y ∷ zs) (assoc a b c)
 

@@ -20,3 +20,5 @@ pub mod ColumnPuts
 pub mod WholeTables
 pub mod ValuesWhere
 pub mod ColumnTables
+pub mod OneKeys
+pub mod OneState

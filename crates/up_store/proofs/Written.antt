@@ -1,14 +1,20 @@
 -- A write from the start of its transaction to its commit.
 use Rattle.std.proofs.Common.{◌≡◌, Result, Ok, Err, OnOk, IsTrue, subst, sym, true, arith}
 use Rattle.sqlite.specs.Held.{Held, state}
-use Rattle.sqlite.specs.State.{State, HasCleanDisk, Survives, Shows as Sees}
+use Rattle.sqlite.specs.State.{State, HasCleanDisk, Survives}
+use Rattle.sqlite.specs.Tree.{Trees}
 use Rattle.sqlite_trees.specs.declared.store.Store.{Ghosts}
 use Rattle.up_rows.specs.StateRows.{StateRows}
-use Rattle.up_tables.specs.Stands.{IfClean, IsOpen, IsWithin, GoesOn, Steps, LeavesOnly}
+use Rattle.up_tables.specs.Stands.{IfClean, IsOpen, IsWithin, GoesOn, Steps}
+use Rattle.up_tables.specs.declared.values.StoreFault.{StoreFault}
 use Rattle.up_tables.specs.Tables.{up_schema}
 use Rattle.up_tables.proofs.TransactionLemmas.{within_begun, crash_after, stands_after, durable_after}
-use Rattle.up_store.specs.Connections.{KeepsRows, HoldsRows, MayWrite}
+use Rattle.up_store.specs.Connections.{MayWrite, Commits, TakesRows, CommitsRows, SparesRows}
 use Rattle.up_store.specs.Listing.{ListsRows}
+
+on_ok : {A E : Type 0} {P Q : Type 0} (r : Result A E) → OnOk r P → (P → Q) → OnOk r Q
+on_ok (Ok x) h f = f h
+on_ok (Err e) h f = tt
 
 module _ {S : Type 0} (g : Ghosts S) (old first mid : Held S) (rows next : StateRows) (fit : Type 0) (begun : first ≡ record old { in_transaction = true }) where
   -- what is put goes on from what the tables list
@@ -17,6 +23,27 @@ module _ {S : Type 0} (g : Ghosts S) (old first mid : Held S) (rows next : State
   goes steps put may clean =
       let before : HasCleanDisk (state g first) = omega (arith, steps.survives.clean) in
       put clean (within_begun g up_schema old first (ListsRows rows) begun may.keeps before) (may.fits (subst (λ h. HasCleanDisk (state g h)) begun before))
+
+-- A write: what is put within the transaction, and then the commit.
+module _ {S A : Type 0} (g : Ghosts S) (old first mid last : Held S) (fits : StateRows → Type 0) (next : StateRows → StateRows) (r : Result A StoreFault) (begun : first ≡ record old { in_transaction = true })
+    (steps : Steps (state g first) (state g mid))
+    (put : HasCleanDisk (state g mid) → (rows : StateRows) → IsWithin up_schema (ListsRows rows) (state g first) → fits rows → GoesOn up_schema (ListsRows (next rows)) (state g mid))
+    (ends : Survives (state g mid) (state g last) (λ trees. trees ≡ (state g mid).now.trees)) where
+  before : HasCleanDisk (state g last) → HasCleanDisk (state g mid)
+  before clean = omega (arith, ends.clean)
+
+  going : (rows : StateRows) → MayWrite rows (fits rows) (state g old) → HasCleanDisk (state g mid) → GoesOn up_schema (ListsRows (next rows)) (state g mid)
+  going rows may = goes g old first mid rows (next rows) (fits rows) begun steps (λ now. put now rows) may
+
+  pub written : OnOk r (IfClean (Commits (state g mid)) (state g last)) → TakesRows fits next (state g old) (state g last) r
+  written committed = on_ok r committed (λ commits rows may clean. stands_after up_schema (ListsRows (next rows)) (state g mid) (state g last) (going rows may (before clean)) (commits clean))
+
+  pub durable : (IsTrue (state g last).is_open → (trees : Trees) → (state g last).may_leave trees → trees ≡ (state g last).committed.trees)
+      → OnOk r (IfClean (Commits (state g mid)) (state g last)) → CommitsRows fits next (state g old) (state g last) r
+  durable settled committed = on_ok r committed (λ commits rows may clean. durable_after up_schema (ListsRows (next rows)) (state g mid) (state g last) settled (going rows may (before clean)) (commits clean))
+
+  pub spared : SparesRows fits next (state g old) (state g last)
+  spared rows may = crash_after g up_schema old first mid last (ListsRows (next rows)) begun steps (going rows may) ends
 
 -- where nothing is refused the connection was open
 pub was_open : {S A E : Type 0} (g : Ghosts S) (old first mid : Held S) (r : Result A E) → first ≡ record old { in_transaction = true } → Steps (state g first) (state g mid)

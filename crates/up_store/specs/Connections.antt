@@ -1,12 +1,12 @@
 -- What a call of the store answers, leaves, and may leave after a crash. All of it is said of connections whose disk has returned what
 -- was written so far; one that a fault shut shows nothing, and answers a fault from then on.
-use Rattle.std.specs.Prelude.{◌≡◌, Result, IfOk, OnOk, IsTrue}
-use Rattle.sqlite.specs.State.{State as Connected, HasCleanDisk, Survives}
+use Rattle.std.specs.Prelude.{◌≡◌, false, Result, IfOk, OnOk, IsTrue}
+use Rattle.sqlite.specs.State.{State as Connected, HasCleanDisk, Survives, Shows}
 use Rattle.sqlite.specs.Tree.{Trees}
 use Rattle.up_sign.specs.Schemes.{Rules}
 use Rattle.up_machine.specs.State.{State}
-use Rattle.up_rows.specs.StateRows.{StateRows, rows_of_state}
-use Rattle.up_tables.specs.Stands.{IfClean, Stands, IsWithin, GoesOn, Holds, LeavesOnly}
+use Rattle.up_rows.specs.StateRows.{StateRows, no_rows, rows_of_state}
+use Rattle.up_tables.specs.Stands.{IfClean, Stands, IsWithin, GoesOn, Holds, HasNoTables, LeavesOnly}
 use Rattle.up_tables.specs.Listed.{TableRows, ListsTables}
 use Rattle.up_tables.specs.Tables.{up_schema}
 use Rattle.up_store.specs.Listing.{ListsRows}
@@ -22,6 +22,10 @@ HoldsRows rows = Holds up_schema (ListsRows rows)
 -- no transaction is under way, and the tables show the state
 abbrev pub KeepsState : Rules → State → Connected → Type 0
 KeepsState k s = KeepsRows (rows_of_state k s)
+
+-- what a crash may leave of a database without tables in which they are made
+abbrev pub MadeIn : Connected → Trees → Type 0
+MadeIn old trees = HasNoTables old × HoldsRows no_rows trees
 
 -- ---- any call
 
@@ -40,6 +44,10 @@ abbrev pub FindsRows : {A E : Type 0} → (StateRows → A) → Connected → Co
 FindsRows told old new result = HasCleanDisk new → IfOk result (λ found. (rows : StateRows) → IsWithin up_schema (ListsRows rows) old → found ≡ told rows)
 
 -- ---- writes
+
+-- what the transaction saw is committed
+abbrev pub Commits : Connected → Connected → Type 0
+Commits old new = Shows old new old.now old.now false
 
 -- the tables list these rows, and they fit what is written
 pub record MayWrite (rows : StateRows) (fit : Type 0) (s : Connected) : Type 0 where

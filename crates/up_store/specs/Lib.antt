@@ -8,3 +8,4 @@ pub mod Found
 pub mod ColumnRows
 pub mod Shown
 pub mod Stopped
+pub mod Laws

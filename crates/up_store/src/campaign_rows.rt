@@ -51,7 +51,7 @@ pub fn read_reaching(
     Ok(reaching)
 }
 
-/// Reads a row as it stands in the table, and puts the campaign under its name where it reaches the vehicle.
+/// Puts a campaign under its name where it reaches the vehicle. Of the rows of others the reach alone is read.
 fn add_reaching(
     reaching: &mut Table<Campaign>,
     alloc: Global,
@@ -61,12 +61,33 @@ fn add_reaching(
     ensures { OnOk result ((name : Name) (campaign : CampaignData) → IsTypedCampaign name campaign → IsCampaign shown.now campaign
         → reaching.new ≡ (if is_reached vehicle.now campaign.reach then table.insert reaching.old campaign.name campaign else reaching.old)) }
 {
-    let campaign = read_campaign(alloc, shown)?;
-    if reaches(&campaign.reach, vehicle) {
-        let name = name_of(alloc, campaign.name.text())?;
-        reaching.insert(name, campaign)?;
+    let reach = read_its_reach(alloc, shown)?;
+    if !reaches(&reach, vehicle) {
+        return Ok(());
     }
+    put_campaign_in(reaching, alloc, shown)
+}
+
+/// Reads a row as it stands in the table, and puts the campaign under its name.
+fn put_campaign_in(
+    reaching: &mut Table<Campaign>,
+    alloc: Global,
+    shown: &CampaignRow,
+) -> Result<(), StoreFault>
+    ensures { OnOk result ((name : Name) (campaign : CampaignData) → IsTypedCampaign name campaign → IsCampaign shown.now campaign
+        → reaching.new ≡ table.insert reaching.old campaign.name campaign) }
+{
+    let campaign = read_campaign(alloc, shown)?;
+    let name = name_of(alloc, campaign.name.text())?;
+    reaching.insert(name, campaign)?;
     Ok(())
+}
+
+/// The reach in a row as it stands in the table, read.
+fn read_its_reach(alloc: Global, shown: &CampaignRow) -> Result<Reach, StoreFault>
+    ensures { IfOk result (λ read. (name : Name) (campaign : CampaignData) → IsTypedCampaign name campaign → IsCampaign shown.now campaign → read ≡ campaign.reach) }
+{
+    read_column(read_reach(alloc, shown.reach.as_str()))
 }
 
 fn reaches(reach: &Reach, vehicle: &Ident) -> bool

@@ -14,7 +14,7 @@ ghost use Rattle.up_tables.specs.Stands.{IfClean, IsAsCommitted, IsInside, IsOpe
 ghost use Rattle.up_store.specs.Connections.{Answers, FindsRows, NeedsOpen, TakesRows, CommitsRows, SparesRows, PutsRows};
 
 use crate::campaign_rows::{make_campaign, read_campaign, read_reaching};
-use crate::store::{Store, StoreFault};
+use crate::store::{Store, StoreFault, commit};
 use sqlite::{Alter, Transaction};
 use std::alloc::Global;
 use up_canon::ident::Ident;
@@ -24,7 +24,6 @@ use up_tables::campaign::{
     CampaignRow, campaign as campaign_shown, close_campaign, insert_campaign,
     running_campaigns as running_shown,
 };
-use up_tables::values::fault_of;
 
 impl<D: Alter> Store<D> {
     /// The campaign of this name, none where there is none.
@@ -66,10 +65,7 @@ impl<D: Alter> Store<D> {
         if let Err(fault) = put_campaign(&mut tx, alloc, new) {
             return Err(fault);
         }
-        match tx.commit() {
-            Ok(()) => Ok(()),
-            Err(error) => Err(fault_of(error)),
-        }
+        commit(tx)
     }
 
     /// Closes a campaign that is there: `closed` is the same, not running.
@@ -86,10 +82,7 @@ impl<D: Alter> Store<D> {
         if let Err(fault) = put_closed(&mut tx, closed) {
             return Err(fault);
         }
-        match tx.commit() {
-            Ok(()) => Ok(()),
-            Err(error) => Err(fault_of(error)),
-        }
+        commit(tx)
     }
 }
 

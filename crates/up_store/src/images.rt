@@ -14,7 +14,7 @@ ghost use Rattle.up_store.specs.Typed.{IsTypedImage};
 
 use crate::image_rows::{make_image, read_image, read_images};
 use crate::roots::put_register;
-use crate::store::{Store, StoreFault};
+use crate::store::{Store, StoreFault, commit};
 use sqlite::{Alter, Transaction};
 use std::alloc::Global;
 use up_canon::file_name::FileName;
@@ -22,7 +22,6 @@ use up_canon::table::Table;
 use up_machine::decision::RegisterRows;
 use up_plan::image::Image;
 use up_tables::image::{ImageRow, image as image_shown, images as images_shown, insert_image};
-use up_tables::values::fault_of;
 
 impl<D: Alter> Store<D> {
     /// The image of this filename, none where there is none.
@@ -65,10 +64,7 @@ impl<D: Alter> Store<D> {
         if let Err(fault) = put_image(&mut tx, alloc, image, new) {
             return Err(fault);
         }
-        match tx.commit() {
-            Ok(()) => Ok(()),
-            Err(error) => Err(fault_of(error)),
-        }
+        commit(tx)
     }
 }
 

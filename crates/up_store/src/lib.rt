@@ -9,6 +9,7 @@ mod image_rows;
 mod images;
 mod kept_rows;
 mod keys;
+pub mod laws;
 mod manifests;
 mod reading;
 mod roots;

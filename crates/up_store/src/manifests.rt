@@ -15,7 +15,7 @@ ghost use Rattle.up_store.specs.Connections.{Answers, FindsRows, NeedsOpen, Puts
 
 use crate::ecus::make_ecus;
 use crate::kept_rows::{make_kept, read_kept};
-use crate::store::{MOST_NUMBER, MOST_ROWS, Store, StoreFault};
+use crate::store::{MOST_NUMBER, MOST_ROWS, Store, StoreFault, commit};
 use crate::vehicles::make_vehicle;
 use sqlite::{Alter, Transaction};
 use std::alloc::Global;
@@ -25,7 +25,6 @@ use up_machine::decision::AcceptedRows;
 use up_machine::rows::{Kept, VehicleRows};
 use up_tables::ecu::upsert_ecus;
 use up_tables::kept::{KeptRow, insert_kept, kept as kept_shown};
-use up_tables::values::fault_of;
 use up_tables::vehicle::{upsert_vehicle, vehicle as vehicle_shown};
 
 impl<D: Alter> Store<D> {
@@ -69,10 +68,7 @@ impl<D: Alter> Store<D> {
         if let Err(fault) = put_accepted(&mut tx, alloc, new) {
             return Err(fault);
         }
-        match tx.commit() {
-            Ok(()) => Ok(()),
-            Err(error) => Err(fault_of(error)),
-        }
+        commit(tx)
     }
 }
 

@@ -17,7 +17,7 @@ ghost use Rattle.up_store.specs.Connections.{Answers, FindsRows, NeedsOpen, Puts
 use crate::files::{make_role_files, make_root_files};
 use crate::keys::{make_keys, read_keys, repository_word};
 use crate::reading::moment_in;
-use crate::store::{MOST_NUMBER, Store, StoreFault};
+use crate::store::{MOST_NUMBER, Store, StoreFault, commit};
 use sqlite::{Alter, Transaction};
 use std::alloc::Global;
 use up_canon::file_name::FileName;
@@ -28,7 +28,6 @@ use up_roles::repository::Repository;
 use up_tables::meta::{MetaRow, meta, update_meta};
 use up_tables::repo_file::{file as file_shown, upsert_files};
 use up_tables::role_key::{RoleKeyRow, insert_role_keys, role_keys_of};
-use up_tables::values::fault_of;
 
 impl<D: Alter> Store<D> {
     /// The founding: the last root version with its keys, the image repository's version and its moment; none before founding.
@@ -68,14 +67,7 @@ impl<D: Alter> Store<D> {
         ensures clean { HasCleanDisk (state D.Store self.new) → HasCleanDisk (state D.Store self.old) }
         ensures open { NeedsOpen (state D.Store self.old) (state D.Store self.new) result }
     {
-        let mut tx = self.conn.transaction();
-        if let Err(fault) = put_root(&mut tx, alloc, new) {
-            return Err(fault);
-        }
-        match tx.commit() {
-            Ok(()) => Ok(()),
-            Err(error) => Err(fault_of(error)),
-        }
+        self.write_root(alloc, new)
     }
 
     /// Writes the next root version, with new files of the image repository.
@@ -87,14 +79,23 @@ impl<D: Alter> Store<D> {
         ensures clean { HasCleanDisk (state D.Store self.new) → HasCleanDisk (state D.Store self.old) }
         ensures open { NeedsOpen (state D.Store self.old) (state D.Store self.new) result }
     {
+        self.write_root(alloc, new)
+    }
+
+    /// Writes a root version, the first or the next.
+    fn write_root(&mut self, alloc: Global, new: &RootRows) -> Result<(), StoreFault>
+        ensures written { TakesRows (IsNextRoot new.now) (λ rows. with_root_rows rows new.now) (state D.Store self.old) (state D.Store self.new) result }
+        ensures durable { CommitsRows (IsNextRoot new.now) (λ rows. with_root_rows rows new.now) (state D.Store self.old) (state D.Store self.new) result }
+        ensures kept { OnErr result (IfClean (IsAsCommitted (state D.Store self.old)) (state D.Store self.new)) }
+        ensures crash { SparesRows (IsNextRoot new.now) (λ rows. with_root_rows rows new.now) (state D.Store self.old) (state D.Store self.new) }
+        ensures clean { HasCleanDisk (state D.Store self.new) → HasCleanDisk (state D.Store self.old) }
+        ensures open { NeedsOpen (state D.Store self.old) (state D.Store self.new) result }
+    {
         let mut tx = self.conn.transaction();
         if let Err(fault) = put_root(&mut tx, alloc, new) {
             return Err(fault);
         }
-        match tx.commit() {
-            Ok(()) => Ok(()),
-            Err(error) => Err(fault_of(error)),
-        }
+        commit(tx)
     }
 
     /// Writes new files of the image repository.
@@ -110,10 +111,7 @@ impl<D: Alter> Store<D> {
         if let Err(fault) = put_register(&mut tx, alloc, new) {
             return Err(fault);
         }
-        match tx.commit() {
-            Ok(()) => Ok(()),
-            Err(error) => Err(fault_of(error)),
-        }
+        commit(tx)
     }
 }
 

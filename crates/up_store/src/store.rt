@@ -1,17 +1,19 @@
 //! The store: the tables of the two repositories over a connection to a database.
-ghost use Rattle.std.specs.Prelude.{◌≡◌, false, IfOk, IfErr, IsTrue};
+ghost use Rattle.std.specs.Prelude.{◌≡◌, ◌≢◌, false, IfOk, IfErr, OnOk, OnErr, IsTrue};
 ghost use Rattle.sqlite.specs.Held.{state};
-ghost use Rattle.sqlite.specs.State.{HasCleanDisk, Survives};
-ghost use Rattle.up_rows.specs.StateRows.{no_rows};
-ghost use Rattle.up_tables.specs.Ours.{NamesUs};
-ghost use Rattle.up_tables.specs.Stands.{IfClean, IsAsCommitted, LeavesOnly};
-ghost use Rattle.up_store.specs.Connections.{KeepsRows, HoldsRows};
+ghost use Rattle.sqlite.specs.State.{HasCleanDisk, Survives, IsRolledBack};
+ghost use Rattle.up_rows.specs.StateRows.{StateRows, no_rows};
+ghost use Rattle.up_tables.specs.Ours.{NamesUs, NamesOthers};
+ghost use Rattle.up_tables.specs.Stands.{IfClean, IsInside, IsAsCommitted, LeavesOnly, HasNoTables};
+ghost use Rattle.up_tables.specs.declared.open.OpenFault.TheVariants.{NotOurs};
+ghost use Rattle.up_store.specs.Connections.{KeepsRows, HoldsRows, MadeIn, Commits};
 
-use sqlite::{Alter, Connection};
+use sqlite::{Alter, Connection, Transaction};
 use std::marker::Model;
 pub use up_tables::open::OpenFault;
 use up_tables::open::{create_tables, names_us};
 pub use up_tables::values::StoreFault;
+use up_tables::values::fault_of;
 
 /// The greatest number that a column holds, 2^63-1.
 pub(crate) const MOST_NUMBER: u64 = 9_223_372_036_854_775_807;
@@ -50,10 +52,12 @@ impl<D: Alter> Store<D> {
         requires { (state D.Store conn).in_transaction ≡ false }
         ensures made { IfOk result (λ s. IfClean (KeepsRows no_rows) (state D.Store s)) }
         ensures durable { IfOk result (λ s. IfClean (LeavesOnly (HoldsRows no_rows)) (state D.Store s)) }
-        ensures crash { IfOk result (λ s. Survives (state D.Store conn) (state D.Store s) (HoldsRows no_rows)) }
+        ensures empty { IfOk result (λ s. HasCleanDisk (state D.Store s) → HasNoTables (state D.Store conn)) }
+        ensures crash { IfOk result (λ s. Survives (state D.Store conn) (state D.Store s) (MadeIn (state D.Store conn))) }
         ensures open { IfOk result (λ s. HasCleanDisk (state D.Store s) → IsTrue (state D.Store conn).is_open) }
         ensures kept { IfErr result (λ e. IfClean (IsAsCommitted (state D.Store conn)) (state D.Store e.0)) }
-        ensures crash_err { IfErr result (λ e. Survives (state D.Store conn) (state D.Store e.0) (HoldsRows no_rows)) }
+        ensures crash_err { IfErr result (λ e. Survives (state D.Store conn) (state D.Store e.0) (MadeIn (state D.Store conn))) }
+        ensures fault { IfErr result (λ e. e.1 ≢ NotOurs) }
         ensures mode { IfErr result (λ e. (state D.Store e.0).in_transaction ≡ false) }
     {
         match create_tables(&mut conn) {
@@ -62,8 +66,10 @@ impl<D: Alter> Store<D> {
         }
     }
 
-    /// Takes a database that this product left: `NotOurs` where `meta` can't be read, or names another product or schema. What
-    /// the tables show stays, and a fault hands the connection back with no transaction under way.
+    /// Takes a database that this product left: `NotOurs` where the database refuses the query on `meta`, as one without such a
+    /// table does, or `meta` names another product or schema, and never of tables that list rows of this product. `Memory` for want of memory, and
+    /// `Store` where the disk failed or a limit on steps was met. What the tables show stays, and a fault hands the connection back with no
+    /// transaction under way.
     pub fn adopt(mut conn: Connection<D>) -> Result<Store<D>, (Connection<D>, OpenFault)>
         requires { (state D.Store conn).in_transaction ≡ false }
         ensures ours { IfOk result (λ s. HasCleanDisk (state D.Store s) → NamesUs (state D.Store conn)) }
@@ -71,6 +77,8 @@ impl<D: Alter> Store<D> {
         ensures crash { IfOk result (λ s. Survives (state D.Store conn) (state D.Store s) (λ _. ⊥)) }
         ensures open { IfOk result (λ s. HasCleanDisk (state D.Store s) → IsTrue (state D.Store conn).is_open) }
         ensures kept_err { IfErr result (λ e. IfClean (IsAsCommitted (state D.Store conn)) (state D.Store e.0)) }
+        ensures others { IfErr result (λ e. e.1 ≡ NotOurs → HasCleanDisk (state D.Store e.0) → NamesOthers (state D.Store conn)) }
+        ensures never { IfErr result (λ e. HasCleanDisk (state D.Store e.0) → (rows : StateRows) → IfClean (KeepsRows rows) (state D.Store conn) → e.1 ≢ NotOurs) }
         ensures crash_err { IfErr result (λ e. Survives (state D.Store conn) (state D.Store e.0) (λ _. ⊥)) }
         ensures mode { IfErr result (λ e. (state D.Store e.0).in_transaction ≡ false) }
     {
@@ -87,5 +95,19 @@ impl<D: Alter> Store<D> {
         ensures mode { (state D.Store result).in_transaction ≡ false }
     {
         self.conn
+    }
+}
+
+/// Commits what a transaction wrote. A fault rolls it back.
+pub(crate) fn commit<D: Alter>(tx: Transaction<'_, D>) -> Result<(), StoreFault>
+    requires mode { IfClean IsInside (state D.Store tx.conn.now) }
+    ensures ended { tx.exit.0.now.in_transaction ≡ false }
+    ensures committed { OnOk result (IfClean (Commits (state D.Store tx.entry.conn.now)) (state D.Store tx.exit.0.now)) }
+    ensures undone { OnErr result (IfClean (IsRolledBack (state D.Store tx.entry.conn.now)) (state D.Store tx.exit.0.now)) }
+    ensures survives { Survives (state D.Store tx.entry.conn.now) (state D.Store tx.exit.0.now) (λ trees. trees ≡ (state D.Store tx.entry.conn.now).now.trees) }
+{
+    match tx.commit() {
+        Ok(()) => Ok(()),
+        Err(error) => Err(fault_of(error)),
     }
 }

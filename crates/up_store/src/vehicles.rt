@@ -12,14 +12,13 @@ ghost use Rattle.up_store.specs.Connections.{Answers, FindsRows, NeedsOpen, Take
 
 use crate::ecus::{make_ecus, read_ecus};
 use crate::reading::{count_in, ident_in};
-use crate::store::{MOST_NUMBER, MOST_ROWS, Store, StoreFault};
+use crate::store::{MOST_NUMBER, MOST_ROWS, Store, StoreFault, commit};
 use sqlite::{Alter, Transaction};
 use std::alloc::Global;
 use up_canon::ident::Ident;
 use up_canon::listed::Listed;
 use up_machine::rows::{EcuRow, VehicleRow, VehicleRows};
 use up_tables::ecu::{ecu_owner as owner_shown, ecus as ecus_shown, insert_ecus};
-use up_tables::values::fault_of;
 use up_tables::vehicle::{VehicleRow as VehicleShown, insert_vehicle, vehicle as vehicle_shown};
 
 impl<D: Alter> Store<D> {
@@ -75,10 +74,7 @@ impl<D: Alter> Store<D> {
         if let Err(fault) = put_vehicle(&mut tx, alloc, new) {
             return Err(fault);
         }
-        match tx.commit() {
-            Ok(()) => Ok(()),
-            Err(error) => Err(fault_of(error)),
-        }
+        commit(tx)
     }
 }
 

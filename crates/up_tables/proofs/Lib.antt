@@ -25,6 +25,7 @@ pub mod EcuLines
 pub mod MetaLemmas
 pub mod TransactionLemmas
 pub mod OursLemmas
+pub mod OursReads
 pub mod CrashLemmas
 pub mod CampaignSteps
 pub mod KeptLemmas

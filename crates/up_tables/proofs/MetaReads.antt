@@ -38,11 +38,11 @@ use Rattle.up_tables.proofs.PlaceLemmas.{itself}
 use Rattle.up_tables.proofs.UpdateLemmas.{updates_row}
 use Rattle.sqlite.proofs.Callers.{reads_as}
 
-abbrev is_one : Term
+abbrev pub is_one : Term
 is_one = op2 (Compare Eq Binary) (col 1 0) (lit (Int (pos 1)))
 
 -- the one row passes
-one_row : (params : Row) (root image_version stamp : ℕ) (rows : List Row) → rows ≡ meta_row root image_version stamp ∷ [] → filter (λ r. list_all (holds (params ∷ r ∷ [])) (is_one ∷ [])) rows ≡ meta_row root image_version stamp ∷ []
+pub one_row : (params : Row) (root image_version stamp : ℕ) (rows : List Row) → rows ≡ meta_row root image_version stamp ∷ [] → filter (λ r. list_all (holds (params ∷ r ∷ [])) (is_one ∷ [])) rows ≡ meta_row root image_version stamp ∷ []
 one_row params root image_version stamp rows is =
     let hit : list_all (holds (params ∷ meta_row root image_version stamp ∷ [])) (is_one ∷ []) ≡ true = and-true _ ∙ equals_int (Int (pos 1)) (pos 1) ∙ itself (pos 1) in
     rw (is, hit) refl

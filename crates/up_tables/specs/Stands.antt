@@ -9,7 +9,7 @@ use Rattle.sqlite.specs.Schema.{Schema}
 use Rattle.sqlite.specs.Table.{Table}
 use Rattle.sqlite_trees.specs.View.{IsShaped}
 use Rattle.sqlite_trees.specs.declared.store.Shape.TheVariants.{Table as TableShape}
-use Rattle.up_tables.specs.Tables.{up_schema, meta_table, role_key_table, repo_file_table, image_table, campaign_table, vehicle_table, ecu_table, kept_table}
+use Rattle.up_tables.specs.Tables.{no_schema, up_schema, meta_table, role_key_table, repo_file_table, image_table, campaign_table, vehicle_table, ecu_table, kept_table}
 use Rattle.up_tables.specs.Rows.{bare, rows_with, has_texts}
 
 -- ---- databases
@@ -119,6 +119,11 @@ pub record Stands (schema : Schema) (P : Trees → Type 0) (s : State) : Type 0 
   pub mode : s.in_transaction ≡ false
   pub here : IsTrue s.is_open → IsWith schema P s.now
   pub committed : IsTrue s.is_open → s.now ≡ s.committed
+
+-- the connection is open, and what was committed has no table, index or view
+pub record HasNoTables (s : State) : Type 0 where
+  pub is_open : IsTrue s.is_open
+  pub schema_is : s.committed.schema ≡ no_schema
 
 -- it shows what was committed before
 pub record IsAsCommitted (old new : State) : Type 0 where

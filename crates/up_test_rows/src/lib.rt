@@ -3,5 +3,6 @@
 
 pub mod calls;
 mod changes;
+pub mod devices;
 mod repeated;
 pub mod sections;

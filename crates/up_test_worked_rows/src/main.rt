@@ -1,10 +1,12 @@
 //! Worked rows: lists of lines, each with the answer that the rules give it. Each row is carried out as a script in one piece,
-//! as a script read one byte at a time, as one run over its commands, and by one call after another.
+//! as a script read one byte at a time, as one run over its commands, by one call after another, and by calls of which each has
+//! a desk of its own, which takes the database that the one before it let go of: over a database in memory, and over files.
 #![tactic(auto)]
 
 mod commands;
 mod compared;
 mod marked;
+mod media;
 mod scripts;
 mod telling;
 mod trickle;

@@ -1,34 +1,23 @@
 //! Rows as scripts.
 use crate::trickle::Trickle;
+use sqlite::Alter;
 use std::alloc::{AllocError, Global};
 use up_desk::desk::Desk;
 use up_service::script::run_script;
 use up_sign::scheme::Scheme;
 
 /// What the script prints, read so many bytes at a time.
-pub(crate) fn by_script<K: Scheme>(
+pub(crate) fn by_script<K: Scheme, D: Alter + Drop>(
     alloc: Global,
-    scheme: K,
+    mut desk: Desk<K, D>,
     script: &str,
     most: usize,
 ) -> Result<String, AllocError> {
     let mut written = Vec::new(alloc);
-    let answered = answered_by(alloc, scheme, script, most, &mut written);
-    counted(alloc, written.as_slice(), answered)
-}
-
-/// How many lines the script tells as answered, none where it stops.
-fn answered_by<K: Scheme>(
-    alloc: Global,
-    scheme: K,
-    script: &str,
-    most: usize,
-    written: &mut Vec<u8>,
-) -> Option<u32> {
-    let mut desk = Desk::new(scheme, alloc);
     let bytes = script.as_bytes();
     let mut reader = Trickle { bytes, most };
-    run_script(alloc, &mut desk, &mut reader, written).ok()
+    let answered = run_script(alloc, &mut desk, &mut reader, &mut written).ok();
+    counted(alloc, written.as_slice(), answered)
 }
 
 /// What was written, if it has as many lines as are told.

@@ -6,6 +6,9 @@ ghost use Rattle.up_script.specs.AskedLines.{asks_running};
 
 use crate::commands::commands_of;
 use crate::marked::push_line;
+use crate::media::{files_again, memory_again};
+use sqlite::{Alter, FileStore, MemStore};
+use sqlite_disk::Memory;
 use std::alloc::{AllocError, Global};
 use up_canon::ident::Ident;
 use up_canon::listed::Duplicate;
@@ -16,22 +19,23 @@ use up_machine::command::Command;
 use up_script::asked::{Asked, What, asked_by};
 use up_script::printed::{answer_text, push_ecu, refused_text, vehicle_text};
 use up_sign::scheme::Scheme;
+use up_store::store::{Store, StoreFault};
 
 /// The answers of one run over the lines, which are commands.
-pub(crate) fn by_run<K: Scheme>(
+pub(crate) fn by_run<K: Scheme, D: Alter + Drop>(
     alloc: Global,
-    scheme: K,
+    mut desk: Desk<K, D>,
     lines: &str,
 ) -> Result<String, AllocError> {
-    match commands_of(alloc, &scheme, lines) {
-        Ok(commands) => run_at(alloc, &mut Desk::new(scheme, alloc), commands.as_slice()),
+    match commands_of(alloc, desk.scheme(), lines) {
+        Ok(commands) => run_at(alloc, &mut desk, commands.as_slice()),
         Err(refused) => Err(refused),
     }
 }
 
-fn run_at<K: Scheme>(
+fn run_at<K: Scheme, D: Alter>(
     alloc: Global,
-    desk: &mut Desk<K>,
+    desk: &mut Desk<K, D>,
     commands: &[(u64, Command)],
 ) -> Result<String, AllocError>
     requires { AllByRecursion (λ c. IsTrue (opens_running c.1)) commands.now }
@@ -60,31 +64,67 @@ fn push_answer(alloc: Global, out: &mut String, answer: &Answer) -> Result<(), A
 }
 
 /// The answers of one call after another, a view by the calls that read.
-pub(crate) fn by_calls<K: Scheme>(
+pub(crate) fn by_calls<K: Scheme, D: Alter + Drop>(
     alloc: Global,
-    scheme: K,
-    lines: &str,
-) -> Result<String, AllocError> {
-    called_at(alloc, &mut Desk::new(scheme, alloc), lines)
-}
-
-fn called_at<K: Scheme>(
-    alloc: Global,
-    desk: &mut Desk<K>,
+    mut desk: Desk<K, D>,
     lines: &str,
 ) -> Result<String, AllocError> {
     let mut out = String::new(alloc);
     for line in lines.lines() {
         if !line.is_empty() {
-            push_called(alloc, desk, &mut out, line)?;
+            push_called(alloc, &mut desk, &mut out, line)?;
         }
     }
     Ok(out)
 }
 
-fn push_called<K: Scheme>(
+/// The same, where before each line the database in memory is let go of and taken again by another desk.
+pub(crate) fn by_turns_in_memory<K: Scheme + Copy>(
     alloc: Global,
-    desk: &mut Desk<K>,
+    scheme: K,
+    mut store: Store<MemStore>,
+    lines: &str,
+) -> Result<String, AllocError> {
+    let mut out = String::new(alloc);
+    for line in lines.lines() {
+        if !line.is_empty() {
+            store = turn(alloc, scheme, memory_again(store)?, &mut out, line)?;
+        }
+    }
+    Ok(out)
+}
+
+/// The same, where before each line the files are closed and opened again.
+pub(crate) fn by_turns_in_files<K: Scheme + Copy>(
+    alloc: Global,
+    scheme: K,
+    mut store: Store<FileStore<Memory>>,
+    lines: &str,
+) -> Result<String, AllocError> {
+    let mut out = String::new(alloc);
+    for line in lines.lines() {
+        if !line.is_empty() {
+            store = turn(alloc, scheme, files_again(alloc, store)?, &mut out, line)?;
+        }
+    }
+    Ok(out)
+}
+
+fn turn<K: Scheme, D: Alter + Drop>(
+    alloc: Global,
+    scheme: K,
+    store: Store<D>,
+    out: &mut String,
+    line: &str,
+) -> Result<Store<D>, AllocError> {
+    let mut desk = Desk::new(scheme, store);
+    push_called(alloc, &mut desk, out, line)?;
+    Ok(desk.release())
+}
+
+fn push_called<K: Scheme, D: Alter>(
+    alloc: Global,
+    desk: &mut Desk<K, D>,
     out: &mut String,
     line: &str,
 ) -> Result<(), AllocError> {
@@ -98,9 +138,9 @@ fn push_refused(alloc: Global, out: &mut String, refusal: &Refusal) -> Result<()
     push_line(out, refused_text(alloc, refusal)?.as_str())
 }
 
-fn push_asked<K: Scheme>(
+fn push_asked<K: Scheme, D: Alter>(
     alloc: Global,
-    desk: &mut Desk<K>,
+    desk: &mut Desk<K, D>,
     out: &mut String,
     asked: &Asked,
 ) -> Result<(), AllocError>
@@ -113,9 +153,9 @@ fn push_asked<K: Scheme>(
 }
 
 /// Calls the desk with a copy of the command, and tells a copy of its answer.
-fn push_answered<K: Scheme>(
+fn push_answered<K: Scheme, D: Alter>(
     alloc: Global,
-    desk: &mut Desk<K>,
+    desk: &mut Desk<K, D>,
     out: &mut String,
     at: u64,
     command: &Command,
@@ -133,7 +173,12 @@ fn push_copy(alloc: Global, out: &mut String, answer: &Answer) -> Result<(), All
 }
 
 /// The desk's answer, and where memory was refused that of the same command called once more.
-fn call_again<K: Scheme>(alloc: Global, desk: &mut Desk<K>, at: u64, command: &Command) -> Answer
+fn call_again<K: Scheme, D: Alter>(
+    alloc: Global,
+    desk: &mut Desk<K, D>,
+    at: u64,
+    command: &Command,
+) -> Answer
     requires { IsTrue (opens_running command.now) }
 {
     match desk.call(alloc, at, command) {
@@ -142,13 +187,15 @@ fn call_again<K: Scheme>(alloc: Global, desk: &mut Desk<K>, at: u64, command: &C
     }
 }
 
-fn push_view<K: Scheme>(
+fn push_view<K: Scheme, D: Alter>(
     alloc: Global,
-    desk: &Desk<K>,
+    desk: &mut Desk<K, D>,
     out: &mut String,
     vehicle: &Ident,
 ) -> Result<(), AllocError> {
-    let (Some(version), Some(ecus)) = (desk.version(vehicle), desk.ecus(alloc, vehicle)?) else {
+    let version = told(desk.version(alloc, vehicle))?;
+    let ecus = told(desk.ecus(alloc, vehicle))?;
+    let (Some(version), Some(ecus)) = (version, ecus) else {
         return push_line(out, refused_text(alloc, &Refusal::UnknownVehicle)?.as_str());
     };
     let mut line = vehicle_text(alloc, vehicle, version)?;
@@ -156,17 +203,25 @@ fn push_view<K: Scheme>(
     push_line(out, line.as_str())
 }
 
-fn push_ecus<K: Scheme>(
+fn push_ecus<K: Scheme, D: Alter>(
     alloc: Global,
-    desk: &Desk<K>,
+    desk: &mut Desk<K, D>,
     line: &mut String,
     vehicle: &Ident,
     ecus: &[Ident],
 ) -> Result<(), AllocError> {
-    let plan = desk.assigned(alloc, vehicle)?;
+    let plan = told(desk.assigned(alloc, vehicle))?;
     for ecu in ecus {
-        let installed = desk.installed(alloc, ecu)?;
+        let installed = told(desk.installed(alloc, ecu))?;
         push_ecu(line, &plan, ecu, &installed)?;
     }
     Ok(())
+}
+
+/// What was read. With memory at hand there is no fault.
+fn told<T>(read: Result<T, StoreFault>) -> Result<T, AllocError> {
+    match read {
+        Ok(value) => Ok(value),
+        Err(_) => Err(AllocError),
+    }
 }

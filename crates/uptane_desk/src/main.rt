@@ -1,19 +1,24 @@
-//! The program: runs a script over the repositories, or prints the length and the SHA-256 of a file.
+//! The program: runs a script over the repositories, serves them over HTTP, or prints the length and the SHA-256 of a file.
 #![tactic(auto)]
 
+mod connections;
+mod databases;
+mod files;
+mod scripts;
+
+use databases::{Work, work_over};
+use files::digest;
+use std::env;
 use std::process::ExitCode;
-use std::{env, fs};
-use up_desk::desk::Desk;
-use up_lines::fault::{Cause, Fault};
-use up_service::digest::digest_stream;
 use up_service::job::Job;
-use up_service::script::run_script;
 use up_service::words::job;
-use up_sign::hmac_sha256::HmacSha256;
 
 fn main(rt: HostRuntime) -> ExitCode {
     match asked(&rt) {
-        Some(Job::Run(file)) => run(&rt, file.as_str()),
+        Some(Job::Run(file)) => work_over(&rt, file.as_str(), Work::Script),
+        Some(Job::Serve(file, port, count)) => {
+            work_over(&rt, file.as_str(), Work::Serve { port, count })
+        }
         Some(Job::Digest(file)) => digest(&rt, file.as_str()),
         None => {
             eprintln!(rt; "usage: uptane_desk run FILE | serve FILE PORT COUNT | digest FILE").ok();
@@ -26,57 +31,4 @@ fn main(rt: HostRuntime) -> ExitCode {
 fn asked(rt: &HostRuntime) -> Option<Job> {
     let words = env::args(rt).ok()?;
     job(words.skip(1).collect(rt.alloc()).ok()?)
-}
-
-/// Runs the script on standard input. `:memory:` is the one database that there is yet.
-fn run(rt: &HostRuntime, file: &str) -> ExitCode {
-    if file != ":memory:" {
-        eprintln!(rt; "uptane_desk: cannot open the database").ok();
-        return ExitCode::from(3);
-    }
-    let mut desk = Desk::new(HmacSha256, rt.alloc());
-    match run_script(rt.alloc(), &mut desk, &mut rt.stdin(), &mut rt.stdout()) {
-        Ok(_) => ExitCode::SUCCESS,
-        Err(fault) => stopped(rt, fault),
-    }
-}
-
-fn stopped(rt: &HostRuntime, fault: Fault) -> ExitCode {
-    let cause = match fault.cause {
-        Cause::Memory => "memory",
-        Cause::Read => "read",
-        Cause::Write => "write",
-        Cause::TooLong => "line limit",
-    };
-    eprintln!(rt; "uptane_desk: stopped after {} lines: {cause}", fault.lines).ok();
-    ExitCode::from(4)
-}
-
-/// Prints the length and the SHA-256 of the file.
-fn digest(rt: &HostRuntime, file: &str) -> ExitCode {
-    let Ok(mut opened) = fs::open(rt, file) else {
-        return unread(rt);
-    };
-    match digest_stream(&mut opened) {
-        Ok(told) => {
-            print_digest(rt, told.0, &told.1[..]);
-            ExitCode::SUCCESS
-        }
-        Err(_) => unread(rt),
-    }
-}
-
-/// A line that can't be written is ignored.
-fn print_digest(rt: &HostRuntime, length: u64, digest: &[u8]) {
-    let mut digits = [0; 64];
-    if hex::encode_to_slice(digest, &mut digits[..]).is_ok() {
-        if let Ok(shown) = std::str::from_utf8(&digits[..]) {
-            println!(rt; "{length} {shown}").ok();
-        }
-    }
-}
-
-fn unread(rt: &HostRuntime) -> ExitCode {
-    eprintln!(rt; "uptane_desk: cannot read the file").ok();
-    ExitCode::from(4)
 }

@@ -3,7 +3,7 @@ use Rattle.up_manifest.proofs.body_laws.Goals as goal
 
 pub returns : goal.returns
 returns c = record {
-  read = laws.bodies_are_read c.envelope_laws.ensures.meaning;
-  one = laws.bodies_mean_one_or_fail c.envelope_laws.ensures.meaning;
-  signed = laws.signed_texts_mean c.envelope_laws.ensures.meaning c.canonical_laws.ensures.read;
+  read = laws.bodies_are_read;
+  one = laws.bodies_mean_one_or_fail;
+  signed = laws.signed_texts_mean c.canonical_laws.ensures.read;
 }

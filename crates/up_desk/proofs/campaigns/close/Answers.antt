@@ -1,19 +1,34 @@
-use Rattle.std.proofs.Common.{ap, ◌∙◌}
-use Rattle.std.specs.Prelude.{is_some}
-use Rattle.std.specs.FinMap as table
-use Rattle.up_desk.specs.Rows.{held, state_of}
-use Rattle.up_desk.proofs.Decided.{when_closed, when_closing, unchanged}
-use Rattle.up_desk.proofs.Campaigned.{close_done}
+use Rattle.std.proofs.Common.{refl, sym, subst}
+use Rattle.sqlite.specs.Held.{state}
+use Rattle.up_machine.specs.declared.answer.Answer.TheVariants.{Done, Already}
+use Rattle.up_machine.specs.Inventory.{decide_close}
+use Rattle.up_rows.specs.Changes.{with_campaign_row}
+use Rattle.up_store.specs.Fitting.{IsClosing}
+use Rattle.up_desk.specs.Serving.{Serves}
+use Rattle.up_desk.proofs.Decided.{when_closed, when_closing}
+use Rattle.up_desk.proofs.Fitting.{closing_fits}
+use Rattle.up_desk.proofs.Steps.{refused, unchanged, written}
 use Rattle.up_desk.proofs.campaigns.close.Goals as goal
 
-pub returns-in-Already : goal.returns-in-Already
-returns-in-Already c = λ k stands.
-    let old = c.get-campaign.ensures ∙ ap (table.get c.args.book.now.campaigns) c.text.ensures.value ∙ ap (λ t. table.get t c.args.name.now) stands.shows.campaigns in
-    let decided = c.in_ok-decide_close.ensures (state_of (held c.args.book.now)) (c.is_some-is_founded.ensures ∙ ap is_some stands.shows.founding) old in
-    unchanged k _ (held c.args.book.now) _ stands.shows (when_closed _ c.args.name.now _ _ c.in-Already.is decided)
+pub returns-in-Ok-Already : goal.returns-in-Ok-Already
+returns-in-Ok-Already g c = λ k s sound was.
+    unchanged k s (state g.D.Store c.args.store.now) (state g.D.Store c.decide_closing.new.store) Already (decide_close s c.args.at c.args.name.now) refl (λ next commit same. commit) was c.decide_closing.ensures.reads
+    (λ clean. when_closed s c.args.name.now c.in-Ok-Already.field-0 _ c.in-Ok-Already.field-0-is (c.in-Ok-Already.ensures.decided clean k s was))
 
-pub returns-in_ok-put_campaign-in-New : goal.returns-in_ok-put_campaign-in-New
-returns-in_ok-put_campaign-in-New c = λ k stands.
-    let old = c.get-campaign.ensures ∙ ap (table.get c.args.book.now.campaigns) c.text.ensures.value ∙ ap (λ t. table.get t c.args.name.now) stands.shows.campaigns in
-    let decided = c.in_ok-decide_close.ensures (state_of (held c.args.book.now)) (c.is_some-is_founded.ensures ∙ ap is_some stands.shows.founding) old in
-    close_done k _ (held c.args.book.now) _ _ c.args.name.now _ stands (when_closing _ c.args.name.now _ _ _ c.in-New.is decided) c.in_ok-put_campaign-in-New.ensures.ok
+pub returns-in-Ok-New : goal.returns-in-Ok-New
+returns-in-Ok-New g c = λ k s sound was.
+    let old = state g.D.Store c.args.store.now in
+    let mid = state g.D.Store c.decide_closing.new.store in
+    let new = state g.D.Store c.write_close.new.self in
+    let row = c.in-Ok-New.row in
+    let computed = decide_close s c.args.at c.args.name.now in
+    subst (λ r. Serves k s old new r computed) (sym c.done_of.ensures)
+    (written k s old mid new Done c.write_close.result (IsClosing row) (λ rows. with_campaign_row rows row) computed refl was c.decide_closing.ensures.reads
+    (λ clean. closing_fits k s c.args.name.now row computed sound c.campaigns_are_written.ensures.campaigns
+    (when_closing s c.args.name.now c.in-Ok-New.field-0 row computed c.in-Ok-New.field-0-is (c.in-Ok-New.ensures.decided clean k s was)))
+    c.write_close.ensures.written c.write_close.ensures.durable c.write_close.ensures.kept c.write_close.ensures.crash c.write_close.ensures.clean)
+
+pub returns-in-Err : goal.returns-in-Err
+returns-in-Err g c = λ k s sound was.
+    refused k s (state g.D.Store c.args.store.now) (state g.D.Store c.decide_closing.new.store) c.in-Err.refusal (decide_close s c.args.at c.args.name.now) was c.decide_closing.ensures.reads
+    (λ clean. c.in-Err.ensures.decided clean k s was)

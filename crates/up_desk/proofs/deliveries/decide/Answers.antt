@@ -1,31 +1,24 @@
-use Rattle.std.proofs.Common.{sym, ap, ◌∙◌}
-use Rattle.std.specs.FinMap as table
-use Rattle.up_plan.specs.Planning.{items_for}
-use Rattle.up_desk.specs.Rows.{held, state_of, kept_with}
-use Rattle.up_desk.proofs.Decided.{if_some}
-use Rattle.up_desk.proofs.Reading.{kept_found, all_images}
+use Rattle.std.proofs.Common.{sym, subst, ◌∙◌}
+use Rattle.std.specs.Prelude.{IfSome, IsTrue}
+use Rattle.sqlite.specs.Held.{state}
+use Rattle.up_machine.specs.RowsFit.{founding_fits}
+use Rattle.up_desk.proofs.Steps.{clean_before, keeps_after, lost_told, reads_then}
 use Rattle.up_desk.proofs.deliveries.decide.Goals as goal
 
-pub returns : goal.returns
-returns g c =
-    let stands = c.requires.stands in
-    let name = c.args.incoming.now.manifest.vehicle in
-    c.decide_manifest.ensures (state_of (held c.args.book.now)) stands.sound (record {
-      founding = c.as_ref.ensures.value ∙ stands.shows.founding;
-      vehicle = c.get.ensures ∙ ap (table.get c.args.book.now.vehicles) c.text.ensures.value ∙ stands.shows.vehicles name;
-      kept = c.find_kept.ensures ∙ ap (kept_with name c.args.incoming.now.manifest.counter) c.as_slice.ensures.value ∙ kept_found _ _ (held c.args.book.now) name c.args.incoming.now.manifest.counter stands.shows;
-      images = all_images _ _ (held c.args.book.now) _ stands;
-      campaigns = ap (λ campaigns. items_for campaigns name) (c.values.ensures ∙ ap table.values stands.shows.campaigns);
-    })
+pub returns-in-Ok-clause-decided : goal.returns-in-Ok-clause-decided
+returns-in-Ok-clause-decided g c clean = λ s sound was.
+    let k = g.K.Scheme.rules c.args.scheme.now in
+    let before = clean_before (state g.D.Store c.read_founding.new.store) (state g.D.Store c.decide_founded.new.store) c.decide_founded.ensures.reads clean in
+    c.decide_founded.ensures.decided clean s sound (c.as_ref.ensures.value ∙ c.in-Ok.ensures.told before k s was) (keeps_after k s (state g.D.Store c.args.store.now) (state g.D.Store c.read_founding.new.store) was c.read_founding.ensures.reads)
 
-pub decide_manifest-requires-clause-keys : goal.decide_manifest-requires-clause-keys
-decide_manifest-requires-clause-keys g c =
-    let stands = c.requires.stands in
-    if_some _ _ (λ f is. c.rows_are_sound.ensures.founding (g.K.Scheme.rules c.args.scheme.now) (state_of (held c.args.book.now)) f stands.sound (sym (c.as_ref.ensures.value ∙ stands.shows.founding) ∙ is))
+pub returns-in-Ok-clause-reads : goal.returns-in-Ok-clause-reads
+returns-in-Ok-clause-reads g c = reads_then (state g.D.Store c.args.store.now) (state g.D.Store c.read_founding.new.store) (state g.D.Store c.decide_founded.new.store) c.read_founding.ensures.reads c.decide_founded.ensures.reads
 
-pub decide_manifest-requires-clause-rows : goal.decide_manifest-requires-clause-rows
-decide_manifest-requires-clause-rows g c =
-    let stands = c.requires.stands in
-    let name = c.args.incoming.now.manifest.vehicle in
-    let there = c.get.ensures ∙ ap (table.get c.args.book.now.vehicles) c.text.ensures.value ∙ stands.shows.vehicles name in
-    if_some _ _ (λ rows is. c.rows_are_sound.ensures.vehicles (g.K.Scheme.rules c.args.scheme.now) (state_of (held c.args.book.now)) name rows stands.sound (sym there ∙ is))
+pub returns-in-Err-clause-decided : goal.returns-in-Err-clause-decided
+returns-in-Err-clause-decided g c = λ clean s sound was. lost_told c.refusal_of.result c.in-Err.fault _ c.refusal_of.ensures
+
+pub returns-in-Err-clause-reads : goal.returns-in-Err-clause-reads
+returns-in-Err-clause-reads g c = c.read_founding.ensures.reads
+
+pub decide_founded-requires-clause-keys : goal.decide_founded-requires-clause-keys
+decide_founded-requires-clause-keys g c = subst (λ o. IfSome o (λ f. IsTrue (founding_fits (g.K.Scheme.rules c.args.scheme.now) f))) (sym c.as_ref.ensures.value) c.in-Ok.ensures.fits

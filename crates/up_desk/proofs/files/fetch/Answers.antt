@@ -1,17 +1,16 @@
-use Rattle.std.proofs.Common.{ap, ◌∙◌}
-use Rattle.std.specs.Prelude.{is_some}
-use Rattle.up_desk.specs.Rows.{held, state_of}
-use Rattle.up_desk.proofs.Fetching.{text_read, fetch_done, fetch_refused}
+use Rattle.std.proofs.Common.{refl}
+use Rattle.sqlite.specs.Held.{state}
+use Rattle.up_machine.specs.declared.answer.Answer.TheVariants.{File}
+use Rattle.up_machine.specs.Repositories.{decide_fetch}
+use Rattle.up_desk.proofs.Steps.{refused, unchanged}
 use Rattle.up_desk.proofs.files.fetch.Goals as goal
 
 pub returns-in-Ok : goal.returns-in-Ok
-returns-in-Ok c = λ k stands.
-    let founded = c.is_some.ensures ∙ ap is_some stands.shows.founding in
-    let text = c.in_ok-text.ensures ∙ c.text_named.ensures ∙ text_read k _ (held c.args.book.now) c.args.repository c.args.name.now stands.shows in
-    fetch_done k _ (held c.args.book.now) _ _ stands.shows (c.in-Ok.ensures k (state_of (held c.args.book.now)) c.args.repository c.args.name.now founded text)
+returns-in-Ok g c = λ k s sound was.
+    unchanged k s (state g.D.Store c.args.store.now) (state g.D.Store c.read_file.new.store) (File c.in-Ok.text) (decide_fetch k s c.args.at c.args.repository c.args.name.now) refl (λ next commit same. commit) was c.read_file.ensures.reads
+    (λ clean. c.in-Ok.ensures.decided clean k s was)
 
 pub returns-in-Err : goal.returns-in-Err
-returns-in-Err c = λ k stands.
-    let founded = c.is_some.ensures ∙ ap is_some stands.shows.founding in
-    let text = c.in_ok-text.ensures ∙ c.text_named.ensures ∙ text_read k _ (held c.args.book.now) c.args.repository c.args.name.now stands.shows in
-    fetch_refused k _ (held c.args.book.now) _ _ stands.shows (c.in-Err.ensures k (state_of (held c.args.book.now)) c.args.repository c.args.name.now founded text)
+returns-in-Err g c = λ k s sound was.
+    refused k s (state g.D.Store c.args.store.now) (state g.D.Store c.read_file.new.store) c.in-Err.refusal (decide_fetch k s c.args.at c.args.repository c.args.name.now) was c.read_file.ensures.reads
+    (λ clean. c.in-Err.ensures.decided clean k s was)

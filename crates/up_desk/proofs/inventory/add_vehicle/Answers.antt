@@ -1,12 +1,24 @@
-use Rattle.up_desk.specs.Rows.{held}
-use Rattle.up_desk.proofs.Decided.{when_already, when_new, unchanged}
-use Rattle.up_desk.proofs.Added.{vehicle_done}
+use Rattle.std.proofs.Common.{◌≡◌, List, false, sym, ap, ◌∙◌}
+use Rattle.std.specs.List.{list_all}
+use Rattle.sqlite.specs.Held.{state}
+use Rattle.up_machine.specs.Inventory.{decide_vehicle}
+use Rattle.up_machine.specs.Keys.{public_fits}
+use Rattle.up_machine.specs.Vehicles.{NewVehicleData}
+use Rattle.up_machine.specs.declared.vehicle.NewEcu.{NewEcu}
+use Rattle.up_desk.proofs.Serving.{by_key, unfit_vehicle}
+use Rattle.up_desk.proofs.Steps.{refused, reads_none}
 use Rattle.up_desk.proofs.inventory.add_vehicle.Goals as goal
 
-pub returns-in-Already-clause-leaves : goal.returns-in-Already-clause-leaves
-returns-in-Already-clause-leaves g c = unchanged _ _ (held c.args.book.now) _ c.requires.stands.shows (when_already _ _ _ _ _ c.in-Already.is c.in_ok-decide.ensures.decided)
+pub returns-then-publics_fit-clause-key : goal.returns-then-publics_fit-clause-key
+returns-then-publics_fit-clause-key g c = λ none.
+    let all = λ (es : List NewEcu). list_all (λ (e : NewEcu). public_fits (g.K.Scheme.rules c.args.scheme.now) e.public) es in
+    let is : c.publics_fit.result ≡ false = c.publics_fit.ensures ∙ ap all (c.as_slice.ensures ∙ ap (λ (d : NewVehicleData). d.ecus) c.new.view_is) ∙ none in
+    absurd (let e = sym c.if-publics_fit.true ∙ is in cc)
 
-pub returns-in_ok-put_vehicle-in-New-clause-leaves : goal.returns-in_ok-put_vehicle-in-New-clause-leaves
-returns-in_ok-put_vehicle-in-New-clause-leaves g c =
-    let decided = when_new _ _ _ _ _ _ c.in-New.is c.in_ok-decide.ensures.decided in
-    vehicle_done _ _ (held c.args.book.now) _ _ _ _ c.requires.stands decided.0 decided.1 c.in_ok-put_vehicle-in-New.ensures.ok
+pub returns-else-publics_fit-clause-serves : goal.returns-else-publics_fit-clause-serves
+returns-else-publics_fit-clause-serves g c = λ s sound was.
+    let k = g.K.Scheme.rules c.args.scheme.now in
+    let all = λ (es : List NewEcu). list_all (λ (e : NewEcu). public_fits k e.public) es in
+    let none : all c.args.new.now.ecus ≡ false = sym (c.publics_fit.ensures ∙ ap all (c.as_slice.ensures ∙ ap (λ (d : NewVehicleData). d.ecus) c.new.view_is)) ∙ c.if-publics_fit.false in
+    refused k s (state g.D.Store c.args.store.now) (state g.D.Store c.args.store.now) c.from.result (decide_vehicle k s c.args.at c.args.new.now) was (reads_none (state g.D.Store c.args.store.now))
+    (λ clean. by_key c.from.result _ (unfit_vehicle k s c.args.at c.args.new.now c.requires.moment none) c.from.ensures)

@@ -1,15 +1,18 @@
-use Rattle.std.proofs.Common.{ap, ap₂, map, ◌∙◌}
-use Rattle.std.specs.Prelude.{is_some}
-use Rattle.std.specs.FinMap as table
-use Rattle.up_desk.specs.Rows.{held, state_of, has_ecu_row}
-use Rattle.up_desk.proofs.Added.{recorded_are}
+use Rattle.sqlite.specs.Held.{state}
+use Rattle.up_desk.proofs.Steps.{clean_before, keeps_after, lost_told, reads_then}
 use Rattle.up_desk.proofs.inventory.decide.Goals as goal
 
-pub returns-clause-decided : goal.returns-clause-decided
-returns-clause-decided g c =
-    let stands = c.requires.stands in
-    c.decide_vehicle.ensures.decided (state_of (held c.args.book.now)) stands.sound (c.is_some-is_founded.ensures ∙ ap is_some stands.shows.founding)
-    (c.get-old.ensures ∙ ap (table.get c.args.book.now.vehicles) (c.text.ensures.value ∙ ap (λ d. d.vehicle) c.new.view_is) ∙ stands.shows.vehicles c.args.new.now.vehicle)
-    (c.first_marks-marks.ensures ∙ c.mark_recorded.ensures
-    ∙ ap₂ (λ vs es. map (λ e. has_ecu_row e.ecu vs) es) c.values.ensures (c.as_slice-ecus.ensures ∙ ap (λ d. d.ecus) c.new.view_is)
-    ∙ recorded_are (g.K.Scheme.rules c.args.scheme.now) _ (held c.args.book.now) c.args.new.now.ecus stands.shows)
+pub returns-in-Ok-clause-decided : goal.returns-in-Ok-clause-decided
+returns-in-Ok-clause-decided g c clean = λ s sound was.
+    let k = g.K.Scheme.rules c.args.scheme.now in
+    let before = clean_before (state g.D.Store c.is_founded.new.store) (state g.D.Store c.decide_founded.new.store) c.decide_founded.ensures.reads clean in
+    c.decide_founded.ensures.decided clean s sound (c.in-Ok.ensures.told before k s was) (keeps_after k s (state g.D.Store c.args.store.now) (state g.D.Store c.is_founded.new.store) was c.is_founded.ensures.reads)
+
+pub returns-in-Ok-clause-reads : goal.returns-in-Ok-clause-reads
+returns-in-Ok-clause-reads g c = reads_then (state g.D.Store c.args.store.now) (state g.D.Store c.is_founded.new.store) (state g.D.Store c.decide_founded.new.store) c.is_founded.ensures.reads c.decide_founded.ensures.reads
+
+pub returns-in-Err-clause-decided : goal.returns-in-Err-clause-decided
+returns-in-Err-clause-decided g c = λ clean s sound was. lost_told c.refusal_of.result c.in-Err.fault _ c.refusal_of.ensures
+
+pub returns-in-Err-clause-reads : goal.returns-in-Err-clause-reads
+returns-in-Err-clause-reads g c = c.is_founded.ensures.reads

@@ -1,20 +1,38 @@
-use Rattle.up_desk.specs.Rows.{held, state_of}
-use Rattle.up_desk.proofs.Decided.{when_already, when_new, unchanged}
-use Rattle.up_desk.proofs.Registered.{image_done}
-use Rattle.up_desk.proofs.Founding.{founding_is_fit}
+use Rattle.std.proofs.Common.{refl, sym, subst}
+use Rattle.sqlite.specs.Held.{state}
+use Rattle.up_machine.specs.declared.answer.Answer.TheVariants.{Done, Already}
+use Rattle.std.proofs.Common.{◌+◌}
+use Rattle.up_machine.specs.Repositories.{decide_image, stamped, with_image}
+use Rattle.up_machine.specs.Decisions.{HasRegisterRows}
+use Rattle.up_rows.specs.Changes.{with_image_rows}
+use Rattle.up_store.specs.Fitting.{IsNewImage}
+use Rattle.up_desk.specs.Serving.{Serves}
+use Rattle.up_desk.proofs.Decided.{when_already, when_new}
+use Rattle.up_desk.proofs.Fitting.{image_fits}
+use Rattle.up_desk.proofs.Steps.{refused, unchanged, written}
 use Rattle.up_desk.proofs.register.add_image.Goals as goal
 
-pub returns-in-Already : goal.returns-in-Already
-returns-in-Already g c =
-    let stands = c.requires.stands in
-    let decided = c.in_ok-decide_image.ensures (state_of (held c.args.book.now)) stands.sound stands.shows.founding stands.shows.images in
-    unchanged _ _ (held c.args.book.now) _ stands.shows (when_already _ _ _ _ _ c.in-Already.is decided)
+pub returns-in-Ok-Already : goal.returns-in-Ok-Already
+returns-in-Ok-Already g c = λ s sound was.
+    let k = g.K.Scheme.rules c.args.scheme.now in
+    unchanged k s (state g.D.Store c.args.store.now) (state g.D.Store c.decide_adding.new.store) Already (decide_image s c.args.at c.args.image.now) refl (λ next commit same. commit) was c.decide_adding.ensures.reads
+    (λ clean. when_already (HasRegisterRows (g.K.Scheme.rules c.args.scheme.now) (stamped (with_image s c.args.image.now) c.args.at (s.image_version + 1))) s (stamped (with_image s c.args.image.now) c.args.at (s.image_version + 1)) c.in-Ok-Already.field-0 _ c.in-Ok-Already.field-0-is (c.in-Ok-Already.ensures.decided clean s sound was))
 
-pub returns-in_ok-register-in-New : goal.returns-in_ok-register-in-New
-returns-in_ok-register-in-New g c =
-    let stands = c.requires.stands in
-    let decided = when_new _ _ _ _ _ _ c.in-New.is (c.in_ok-decide_image.ensures (state_of (held c.args.book.now)) stands.sound stands.shows.founding stands.shows.images) in
-    image_done _ _ (held c.args.book.now) _ _ _ _ stands decided.0 decided.1 c.in_ok-register-in-New.ensures.ok
+pub returns-in-Ok-New : goal.returns-in-Ok-New
+returns-in-Ok-New g c = λ s sound was.
+    let k = g.K.Scheme.rules c.args.scheme.now in
+    let old = state g.D.Store c.args.store.now in
+    let mid = state g.D.Store c.decide_adding.new.store in
+    let new = state g.D.Store c.write_image.new.self in
+    let row = c.in-Ok-New.rows in
+    let computed = decide_image s c.args.at c.args.image.now in
+    subst (λ r. Serves k s old new r computed) (sym c.done_of.ensures)
+    (written k s old mid new Done c.write_image.result (IsNewImage c.args.image.now row) (λ rows. with_image_rows rows c.args.image.now row) computed refl was c.decide_adding.ensures.reads
+    (λ clean. image_fits k s c.args.at c.args.image.now row sound c.images_are_added.ensures.images c.images_are_added.ensures.new
+    (when_new (HasRegisterRows (g.K.Scheme.rules c.args.scheme.now) (stamped (with_image s c.args.image.now) c.args.at (s.image_version + 1))) s (stamped (with_image s c.args.image.now) c.args.at (s.image_version + 1)) c.in-Ok-New.field-0 row computed c.in-Ok-New.field-0-is (c.in-Ok-New.ensures.decided clean s sound was)))
+    c.write_image.ensures.written c.write_image.ensures.durable c.write_image.ensures.kept c.write_image.ensures.crash c.write_image.ensures.clean)
 
-pub decide_image-requires-clause-keys : goal.decide_image-requires-clause-keys
-decide_image-requires-clause-keys g c = founding_is_fit c.rows_are_sound.ensures.founding _ _ (held c.args.book.now) c.requires.stands
+pub returns-in-Err : goal.returns-in-Err
+returns-in-Err g c = λ s sound was.
+    refused (g.K.Scheme.rules c.args.scheme.now) s (state g.D.Store c.args.store.now) (state g.D.Store c.decide_adding.new.store) c.in-Err.refusal (decide_image s c.args.at c.args.image.now) was c.decide_adding.ensures.reads
+    (λ clean. c.in-Err.ensures.decided clean s sound was)

@@ -1,13 +1,29 @@
-use Rattle.up_desk.specs.Rows.{held, state_of}
-use Rattle.up_desk.proofs.Rooted.{rotate_done}
-use Rattle.up_desk.proofs.Founding.{founding_is_fit}
+use Rattle.std.proofs.Common.{refl, sym, subst}
+use Rattle.sqlite.specs.Held.{state}
+use Rattle.up_machine.specs.declared.answer.Answer.TheVariants.{Done}
+use Rattle.up_machine.specs.Repositories.{decide_rotate}
+use Rattle.up_rows.specs.Changes.{with_root_rows}
+use Rattle.up_store.specs.Fitting.{IsNextRoot}
+use Rattle.up_desk.specs.Serving.{Serves}
+use Rattle.up_desk.proofs.Fitting.{rotation_fits}
+use Rattle.up_desk.proofs.Steps.{refused, written}
 use Rattle.up_desk.proofs.roots.rotate.Goals as goal
 
-pub returns : goal.returns
-returns g c =
-    let stands = c.requires.stands in
-    let decided = c.in_ok-rows.ensures (state_of (held c.args.book.now)) stands.sound stands.shows.founding stands.shows.images in
-    rotate_done _ _ (held c.args.book.now) _ _ _ c.in_ok-rows.rows stands decided.0 decided.1 c.in_ok-add_root.ensures.ok
+pub returns-in-Ok : goal.returns-in-Ok
+returns-in-Ok g c = λ s sound was.
+    let k = g.K.Scheme.rules c.args.scheme.now in
+    let old = state g.D.Store c.args.store.now in
+    let mid = state g.D.Store c.decide_rotation.new.store in
+    let new = state g.D.Store c.write_rotate.new.self in
+    let row = c.in-Ok.rows in
+    let computed = decide_rotate k s c.args.at c.args.keys.now in
+    subst (λ r. Serves k s old new r computed) (sym c.done_of.ensures)
+    (written k s old mid new Done c.write_rotate.result (IsNextRoot row) (λ rows. with_root_rows rows row) computed refl was c.decide_rotation.ensures.reads
+    (λ clean. rotation_fits k s c.args.at c.args.keys.now row sound c.roots_are_added.ensures
+    (c.in-Ok.ensures.decided clean s sound was))
+    c.write_rotate.ensures.written c.write_rotate.ensures.durable c.write_rotate.ensures.kept c.write_rotate.ensures.crash c.write_rotate.ensures.clean)
 
-pub decide_rotate-requires-clause-keys : goal.decide_rotate-requires-clause-keys
-decide_rotate-requires-clause-keys g c = founding_is_fit c.rows_are_sound.ensures.founding _ _ (held c.args.book.now) c.requires.stands
+pub returns-in-Err : goal.returns-in-Err
+returns-in-Err g c = λ s sound was.
+    refused (g.K.Scheme.rules c.args.scheme.now) s (state g.D.Store c.args.store.now) (state g.D.Store c.decide_rotation.new.store) c.in-Err.refusal (decide_rotate (g.K.Scheme.rules c.args.scheme.now) s c.args.at c.args.keys.now) was c.decide_rotation.ensures.reads
+    (λ clean. c.in-Err.ensures.decided clean s sound was)

@@ -1,11 +1,11 @@
 use Rattle.std.proofs.Common.{◌≤◌, ◌∙◌, refl, sym, ap, subst}
-use Rattle.up_heads.specs.Framing.{most_body}
+use Rattle.up_manifest.specs.Manifests.{largest_body}
 use Rattle.up_http.proofs.FeedLaws.{made, made_is, size_small, begins_body}
 use Rattle.up_http.proofs.feeder.begin.Goals as goal
 
 pub unwrap-body-requires : goal.unwrap-body-requires
 unwrap-body-requires c =
-    made c.new.result c.unwrap_or.result (subst (λ n. n ≤ most_body) (sym c.unwrap_or.ensures) (size_small c.args.head.now c.args.facts.now c.args.stated c.requires.whole c.requires.framed)) c.new.ensures
+    made c.new.result c.unwrap_or.result (subst (λ n. n ≤ largest_body) (sym c.unwrap_or.ensures) (size_small c.args.head.now c.args.facts.now c.args.stated c.requires.whole c.requires.framed)) c.new.ensures
 
 pub returns-clause-waits : goal.returns-clause-waits
 returns-clause-waits c =

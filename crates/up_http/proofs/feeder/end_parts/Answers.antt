@@ -16,6 +16,7 @@ returns-in-Some-clause-ends c =
       c.requires.more c.if-parts.false,
       subst (λ l. 0 < length l) rest ends.0,
       subst (λ l. First c.args.parts.now.given l c.give.result []) rest ends.1,
+      ap (λ n. n.what) is,
       ap (λ n. n.last) is,
       c.give.ensures.fed ∙ ap (λ n. record { rest = []; given = c.args.parts.now.given + 1; ended = n.last }) c.fixed.ensures,
     )

@@ -9,7 +9,7 @@ use Rattle.up_http.proofs.ServeLaws.{fresh, nearer, piece_left, room_left, ran_e
 use Rattle.up_http.proofs.serving.serve_reads.Goals as goal
 
 pub loop-progress-init : goal.loop-progress-init
-loop-progress-init g c = ([], Consumes-nil _, fresh g.A.Respond.gives c.args.state.now _ c.args.progress.now c.requires.feeder c.requires.none_called c.requires.none_answered, omega arith, omega arith, omega arith, omega arith)
+loop-progress-init g c = ([], Consumes-nil _, fresh (g.A.Respond.gives c.args.responder.now) c.args.state.now _ c.args.progress.now c.requires.feeder c.requires.none_called c.requires.none_answered, omega arith, omega arith, omega arith, omega arith)
 
 -- the length of what is left of a piece
 left : (xs : List ℕ) (at filled : ℕ) → at ≤ filled → filled ≤ length xs → length (take (filled - at) (drop at xs)) ≡ filled - at
@@ -48,8 +48,8 @@ pub returns-in-Ok-eq0 : goal.returns-in-Ok-eq0
 returns-in-Ok-eq0 g c = let (came, read, so, budget, inside, within, room) = c.loop-progress.invariant in
     let none : c.loop-progress.filled - c.loop-progress.at ≡ 0 = omega (arith, c.if-at-filled.false) in
     let goes_on : c.loop-progress.progress.feeder.ended ≡ false = sym c.loop-progress.progress.ends ∙ c.loop-progress-test.true in
-    let below = room_left g.A.Respond.gives c.args.state.now (g.W.Write.contents c.args.writer.now) came c.loop-progress.progress c.loop-progress.state (g.W.Write.contents c.loop-progress.writer) so goes_on in
-    ran_end g.A.Respond.gives c.finish.result c.args.state.now c.finish.new.state (g.R.Read.remaining c.args.reader.now) (g.R.Read.remaining c.read_piece.new.reader) (g.W.Write.contents c.args.writer.now) (g.W.Write.contents c.finish.new.writer)
+    let below = room_left (g.A.Respond.gives c.args.responder.now) c.args.state.now (g.W.Write.contents c.args.writer.now) came c.loop-progress.progress c.loop-progress.state (g.W.Write.contents c.loop-progress.writer) so goes_on in
+    ran_end (g.A.Respond.gives c.args.responder.now) c.finish.result c.args.state.now c.finish.new.state (g.R.Read.remaining c.args.reader.now) (g.R.Read.remaining c.read_piece.new.reader) (g.W.Write.contents c.args.writer.now) (g.W.Write.contents c.finish.new.writer)
     came c.loop-progress.progress c.loop-progress.state (g.W.Write.contents c.loop-progress.writer) c.finish.new.progress
     (consumed_none _ (g.R.Read.remaining c.loop-progress.reader) _ came (drop c.loop-progress.at c.loop-progress.buffer) c.read_piece.new.buffer (c.loop-progress.filled - c.loop-progress.at) c.in-Ok-eq0.field-0 none c.in-Ok-eq0.field-0-test read c.in-Ok-eq0.ensures.bytes)
     (omega (arith, below)) (c.in-Ok-eq0.ensures.end c.in-Ok-eq0.field-0-test (omega (arith, below, budget, none)) room) so c.finish.ensures.ok c.finish.ensures.err

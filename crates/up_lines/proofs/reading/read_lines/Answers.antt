@@ -8,7 +8,7 @@ use Rattle.up_lines.specs.Lines.{lines_of, asked}
 use Rattle.up_lines.specs.Runs.{Tells, Stopped}
 use Rattle.up_lines.specs.Progress.{Sofar}
 use Rattle.up_lines.proofs.Stopping.{stops_memory}
-use Rattle.up_lines.proofs.Ends.{fresh, same_front, ran_stop, ran_err, ran_on, stops_read}
+use Rattle.up_lines.proofs.Ends.{fresh, same_prefix, ran_stop, ran_err, ran_on, stops_read}
 use Rattle.up_lines.proofs.reading.read_lines.Goals as goal
 
 pub loop-most-init : goal.loop-most-init
@@ -28,7 +28,7 @@ loop-most-preserved g c = let (came, read, so, budget, room) = c.loop-most.invar
     let within : c.in-Ok.n ≤ length c.read_piece.new.buffer = c.in-Ok.ensures.count.0 in
     let most : c.in-Ok.n ≤ c.loop-most.most = c.in-Ok.ensures.count.1 in
     let long : length (take c.in-Ok.n c.read_piece.new.buffer) ≡ c.in-Ok.n = length-take-le c.in-Ok.n c.read_piece.new.buffer within in
-    let same : take c.in-Ok.n c.deref.result.now ≡ take c.in-Ok.n c.read_piece.new.buffer = same_front c.in-Ok.n c.loop-most.buffer.len c.deref.result.now c.read_piece.new.buffer c.loop-most.buffer.items c.deref.ensures.value
+    let same : take c.in-Ok.n c.deref.result.now ≡ take c.in-Ok.n c.read_piece.new.buffer = same_prefix c.in-Ok.n c.loop-most.buffer.len c.deref.result.now c.read_piece.new.buffer c.loop-most.buffer.items c.deref.ensures.value
     (kept _ c.deref_mut.result.now _ c.read_piece.auto.buffer c.deref_mut.ensures.len) within in (
       came ++ take c.in-Ok.n c.read_piece.new.buffer,
       Consumes-trans _ _ _ _ _ read c.in-Ok.ensures.bytes,
@@ -43,7 +43,7 @@ returns-in_err-take_piece-in-Ok g c = let (came, read, so, budget, room) = c.loo
     let within : c.in-Ok.n ≤ length c.read_piece.new.buffer = c.in-Ok.ensures.count.0 in
     let most : c.in-Ok.n ≤ c.loop-most.most = c.in-Ok.ensures.count.1 in
     let long : length (take c.in-Ok.n c.read_piece.new.buffer) ≡ c.in-Ok.n = length-take-le c.in-Ok.n c.read_piece.new.buffer within in
-    let same : take c.in-Ok.n c.deref.result.now ≡ take c.in-Ok.n c.read_piece.new.buffer = same_front c.in-Ok.n c.loop-most.buffer.len c.deref.result.now c.read_piece.new.buffer c.loop-most.buffer.items c.deref.ensures.value
+    let same : take c.in-Ok.n c.deref.result.now ≡ take c.in-Ok.n c.read_piece.new.buffer = same_prefix c.in-Ok.n c.loop-most.buffer.len c.deref.result.now c.read_piece.new.buffer c.loop-most.buffer.items c.deref.ensures.value
     (kept _ c.deref_mut.result.now _ c.read_piece.auto.buffer c.deref_mut.ensures.len) within in
     let cause = c.in_err-take_piece-in-Ok.field-0.0 in
     ran_stop g.A.Answer.gives c.from_residual-in_err-take_piece-in-Ok.result cause c.args.state.now c.take_piece.new.state _ _ _ _ (came ++ take c.in-Ok.n c.read_piece.new.buffer) c.take_piece.new.progress.answered

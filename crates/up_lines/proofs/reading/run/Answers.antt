@@ -1,4 +1,4 @@
-use Rattle.up_lines.proofs.Known.{known_whole, known_too_long, known_front}
+use Rattle.up_lines.proofs.Known.{known_whole, known_too_long, known_prefix}
 use Rattle.up_lines.proofs.reading.run.Goals as goal
 
 pub returns-in-Ok-clause-whole : goal.returns-in-Ok-clause-whole
@@ -7,5 +7,5 @@ returns-in-Ok-clause-whole g c = known_whole g.A.Answer.gives _ _ _ _ _ _ _ c.in
 pub returns-clause-too_long : goal.returns-clause-too_long
 returns-clause-too_long g c = known_too_long g.A.Answer.gives _ _ _ _ _ _ _ c.in-Err.ensures
 
-pub returns-clause-front : goal.returns-clause-front
-returns-clause-front g c = known_front g.A.Answer.gives _ _ _ _ _ _ _ c.in-Err.ensures
+pub returns-clause-prefix : goal.returns-clause-prefix
+returns-clause-prefix g c = known_prefix g.A.Answer.gives _ _ _ _ _ _ _ c.in-Err.ensures

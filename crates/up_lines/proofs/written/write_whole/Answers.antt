@@ -1,6 +1,6 @@
 use Rattle.std.proofs.Common.{arith}
 use Rattle.std.proofs.lemmas.Grind.{common_steps}
-use Rattle.up_lines.proofs.Writes.{wrote_more, wrote_front}
+use Rattle.up_lines.proofs.Writes.{wrote_more, wrote_prefix}
 use Rattle.up_lines.proofs.written.write_whole.Goals as goal
 
 pub loop-at-preserved : goal.loop-at-preserved
@@ -10,4 +10,4 @@ loop-at-preserved g c = record {
 }
 
 pub returns-in-Err-clause-err : goal.returns-in-Err-clause-err
-returns-in-Err-clause-err g c = wrote_front _ _ _ c.args.text.now c.loop-at.at c.loop-at-test.true c.loop-at.invariant.wrote c.in-Err.ensures.bytes
+returns-in-Err-clause-err g c = wrote_prefix _ _ _ c.args.text.now c.loop-at.at c.loop-at-test.true c.loop-at.invariant.wrote c.in-Err.ensures.bytes

@@ -3,4 +3,4 @@ use Rattle.up_machine.proofs.Signing as signing
 use Rattle.up_machine.proofs.laws.files_are_signed.Goals as goal
 
 pub returns : goal.returns
-returns c = record { roots = signing.roots_signed; images = signing.images_signed; replies = signing.replies_signed; served = serving.served_files_known }
+returns c = record { roots = signing.roots_signed; images = signing.images_signed; replies = signing.replies_signed; known = serving.served_files_known }

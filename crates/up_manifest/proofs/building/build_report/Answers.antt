@@ -21,4 +21,4 @@ returns-clause-means g c =
     let is = c.in_ok-envelope.ensures.value ∙ ap (sealed k (c.args.secret.now ∷ [])) c.in_ok-signed.ensures in
     let e = built.report_envelope c.envelope_laws.ensures.limits k (g.met.K.Scheme.lawful c.args.scheme.now) c.args.secret.now c.args.report.now c.requires c.keeps_limits.ensures in
     subst (λ e. (d : Data) × (read (envelope_text e) ≡ Some d) × MeansSignedReport d (record { report = c.args.report.now; envelope = e })) (sym is)
-    (built.report_built c.envelope_laws.ensures.meaning c.envelope_laws.ensures.text c.moment_laws.ensures.plain c.moment_laws.ensures.read _ c.args.report.now e)
+    (built.report_built c.envelope_laws.ensures.text c.moment_laws.ensures.plain c.moment_laws.ensures.read _ c.args.report.now e)

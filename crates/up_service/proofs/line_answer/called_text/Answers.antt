@@ -1,10 +1,22 @@
+use Rattle.std.proofs.Common.{refl}
 use Rattle.std.proofs.lemmas.Result.{IfOk-weaker}
 use Rattle.std.specs.Prelude.{string_bytes}
-use Rattle.up_machine.specs.Repeats.{serve}
-use Rattle.up_service.proofs.Answering.{said}
+use Rattle.sqlite.specs.Held.{state}
+use Rattle.up_script.specs.PrintedLines.{answer_text}
+use Rattle.up_service.proofs.Answering.{printed, on_err}
 use Rattle.up_service.proofs.line_answer.called_text.Goals as goal
 
 pub returns-clause-ok : goal.returns-clause-ok
 returns-clause-ok g c =
-    let o = serve (g.K.Scheme.rules c.args.desk.now.scheme) c.args.desk.now.state c.args.at c.args.command.now in
-    IfOk-weaker c.answer_text.result _ _ (λ t is. said c.call-answer.result c.args.desk.now.state c.call-answer.new.self.state o (string_bytes t) c.call-answer.ensures.served is) c.answer_text.ensures
+    let k = g.K.Scheme.rules c.args.desk.now.scheme in
+    IfOk-weaker c.answer_text.result _ _ (λ t is. printed k c.args.at c.args.command.now c.call-answer.result (string_bytes t) (state g.D.Store c.args.desk.now.store) (state g.D.Store c.call-answer.new.self.store)
+    c.call-answer.ensures.clean c.call-answer.ensures.served is) c.answer_text.ensures
+
+pub returns-clause-err : goal.returns-clause-err
+returns-clause-err g c =
+    let k = g.K.Scheme.rules c.args.desk.now.scheme in
+    on_err c.answer_text.result (
+      answer_text c.call-answer.result,
+      printed k c.args.at c.args.command.now c.call-answer.result (answer_text c.call-answer.result) (state g.D.Store c.args.desk.now.store) (state g.D.Store c.call-answer.new.self.store)
+          c.call-answer.ensures.clean c.call-answer.ensures.served refl,
+    )

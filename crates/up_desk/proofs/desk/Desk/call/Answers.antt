@@ -1,28 +1,24 @@
-use Rattle.std.proofs.Common.{◌≡◌, sym, ap, subst}
-use Rattle.std.specs.Prelude.{IfSome}
-use Rattle.up_machine.specs.declared.answer.Answer.TheVariants.{Refused}
-use Rattle.up_machine.specs.Repeats.{serve}
-use Rattle.up_desk.specs.Rows.{held, state_of}
-use Rattle.up_desk.specs.Serving.{IsAnswered, RepliesStay, outright}
-use Rattle.up_desk.proofs.Outlasting.{answered_stays}
-use Rattle.up_desk.proofs.Serving.{answered, told_outright}
+use Rattle.std.proofs.Common.{ap, subst}
+use Rattle.sqlite.specs.Held.{state}
+use Rattle.up_desk.proofs.Calls.{CallLaws, IsCall, called}
 use Rattle.up_desk.proofs.desk.Desk.call.Goals as goal
-
-pub invariant_of-self : goal.invariant_of-self
-invariant_of-self g c =
-    (answered (g.K.Scheme.rules c.self.inside.scheme) (state_of (held c.self.inside.book)) (held c.obey.new.book) c.args.at c.args.command.now c.obey.result
-    c.repeats_change_nothing.ensures.sound c.keeps_limits.ensures c.self.invariant.sound c.obey.ensures.leaves).stands
 
 pub returns : goal.returns
 returns g c =
-    let is = answered (g.K.Scheme.rules c.self.inside.scheme) (state_of (held c.self.inside.book)) (held c.obey.new.book) c.args.at c.args.command.now c.obey.result
-    c.repeats_change_nothing.ensures.sound c.keeps_limits.ensures c.self.invariant.sound c.obey.ensures.leaves in
-    let told = subst (λ a. IsAnswered a (state_of (held c.self.inside.book)) (state_of (held c.obey.new.book)) (serve (g.K.Scheme.rules c.self.inside.scheme) (state_of (held c.self.inside.book)) c.args.at c.args.command.now)) (sym c.answer_of.ensures) is.answered in
+    let laws : CallLaws = record {
+      empty = c.states_stay_sound.ensures.empty;
+      sound = c.repeats_change_nothing.ensures.sound;
+      served = c.repeats_change_nothing.ensures.served;
+      replies = c.kept_replies_stay.ensures.run;
+    } in
+    let inside = called laws (g.K.Scheme.rules c.self.inside.scheme) c.args.at c.args.command.now c.obey.result c.answer_of.result
+    (state g.D.Store c.self.inside.store) (state g.D.Store c.obey.new.store) c.keeps_limits.ensures c.obey.ensures.serves c.obey.ensures.outright c.answer_of.ensures in
+    let call = subst (λ d. IsCall (g.K.Scheme.rules d.scheme) c.args.at c.args.command.now c.answer_of.result (state g.D.Store d.store) (state g.D.Store c.obey.new.store)) c.self.view_is inside in
     record {
-      served = subst (λ d. IsAnswered c.answer_of.result d.state (state_of (held c.obey.new.book)) (serve (g.K.Scheme.rules d.scheme) d.state c.args.at c.args.command.now)) c.self.view_is told;
-      outright = subst (λ d. IfSome (outright (g.K.Scheme.rules d.scheme) c.args.at c.args.command.now) (λ r. c.answer_of.result ≡ Refused r)) c.self.view_is
-          (told_outright _ c.obey.result _ c.answer_of.ensures c.obey.ensures.outright);
-      stays = subst (λ d. RepliesStay (g.K.Scheme.rules d.scheme) d.state (state_of (held c.obey.new.book))) c.self.view_is
-          (answered_stays _ _ _ c.args.at c.args.command.now _ c.repeats_change_nothing.ensures.served c.kept_replies_stay.ensures.run c.self.invariant.sound is.answered);
+      served = call.served;
+      outright = call.outright;
+      crash = call.crash;
+      durable = call.durable;
+      clean = call.clean;
       scheme = ap (λ d. d.scheme) c.self.view_is;
     }

@@ -1,29 +1,34 @@
-use Rattle.std.proofs.Common.{◌≡◌, ◌+◌, List, [], ◌∷◌, ◌++◌, ◌∙◌, ap, arith, append_assoc, subst, vec_len}
-use Rattle.up_machine.specs.Sound.{IsSound}
-use Rattle.up_desk.proofs.Runs.{ran_more, ran_all, chosen_ok}
+use Rattle.std.proofs.Common.{◌≡◌, ◌+◌, ◌∙◌, refl, ap, arith, vec_len}
+use Rattle.sqlite.specs.Held.{state}
+use Rattle.up_desk.proofs.Runs.{ListLaws, none_so_far, one_more, chosen_ok, run_whole}
 use Rattle.up_desk.proofs.desk.Desk.run.Goals as goal
+
+pub loop-item-init : goal.loop-item-init
+loop-item-init g c = record {
+  far = none_so_far (g.K.Scheme.rules c.args.self.now.scheme) (state g.D.Store c.args.self.now.store) c.args.commands.now c.args.answers.now.items c.reserve.new.self.items c.reserve.ensures.items;
+  scheme = refl;
+  room = omega (arith, c.in_ok-reserve.ensures.ok);
+}
 
 pub loop-item-preserved : goal.loop-item-preserved
 loop-item-preserved g c =
     let kept = c.loop-item.invariant in
-    let answer = c.call-answer.result in
     let pushed = chosen_ok c.push.result c.unwrap.result _ _ _ c.unwrap.ensures c.push.ensures.items in
     let longer : vec_len c.push.new.self ≡ vec_len c.loop-item.answers + 1 = chosen_ok c.push.result c.unwrap.result _ _ _ c.unwrap.ensures c.push.ensures.len in
     record {
-      ran = (
-        kept.ran.0 ++ answer ∷ [],
-        pushed ∙ ap (λ (items : List _). items ++ answer ∷ []) kept.ran.1 ∙ append_assoc _ kept.ran.0 (answer ∷ []),
-        ran_more _ _ _ _ _ _ _ _ _ _ c.loop-item-test.true c.item-item.is (ap g.K.Scheme.rules kept.scheme) kept.ran.2 c.call-answer.ensures.served c.keeps_limits.ensures c.call-answer.ensures.outright,
-      );
+      far = one_more _ _ _ (state g.D.Store c.loop-item.self.store) _ _ _ _ _ _ _ _ c.loop-item-test.true c.item-item.is (ap g.K.Scheme.rules kept.scheme) kept.far pushed c.call-answer.ensures.clean
+          c.call-answer.ensures.served c.keeps_limits.ensures c.call-answer.ensures.outright;
       scheme = c.call-answer.ensures.scheme ∙ kept.scheme;
       room = omega arith;
     }
 
 pub returns-clause-ran : goal.returns-clause-ran
 returns-clause-ran g c =
-    let kept = c.loop-item.invariant in (
-      kept.ran.0,
-      kept.ran.1,
-      ran_all _ _ c.args.commands.now c.loop-item.item-index _ _ c.repeats_change_nothing.ensures.served c.repeats_change_nothing.ensures.thinned c.kept_replies_stay.ensures.run
-          c.vehicles_stand_apart.ensures.apart (subst (λ d. IsSound (g.K.Scheme.rules d.scheme) d.state) c.self.view_is c.self.invariant.sound) c.loop-item-test.false kept.ran.2,
-    )
+    let laws : ListLaws = record {
+      served = c.repeats_change_nothing.ensures.served;
+      repeats = c.repeats_change_nothing.ensures.thinned;
+      replies = c.kept_replies_stay.ensures.run;
+      apart = c.vehicles_stand_apart.ensures.apart;
+      exchanged = c.vehicles_stand_apart.ensures.exchanged;
+    } in
+    run_whole laws _ _ _ c.args.commands.now c.loop-item.item-index _ _ c.loop-item-test.false c.loop-item.invariant.far

@@ -1,0 +1,58 @@
+-- What a call of a desk comes to, from what its command comes to over the store.
+use Rattle.std.proofs.Common.{◌≡◌, ℕ, refl, sym, subst}
+use Rattle.std.specs.Prelude.{IfSome, IsTrue, Result, Err}
+use Rattle.sqlite.specs.State.{State as Connected, HasCleanDisk}
+use Rattle.up_canon.specs.declared.refusal.Refusal.{Refusal}
+use Rattle.up_sign.specs.Schemes.{Rules}
+use Rattle.up_machine.specs.declared.command.Command.{Command}
+use Rattle.up_machine.specs.declared.answer.Answer.{Answer}
+use Rattle.up_machine.specs.declared.answer.Answer.TheVariants.{Refused}
+use Rattle.up_machine.specs.Commands.{is_command}
+use Rattle.up_machine.specs.Laws.{EmptyIsSound, KeptRepliesOutlastRuns}
+use Rattle.up_machine.specs.RepeatLaws.{ServedIsThinned, ServedStaysSound}
+use Rattle.up_machine.specs.Repeats.{serve}
+use Rattle.up_machine.specs.Sound.{IsSound}
+use Rattle.up_machine.specs.State.{State}
+use Rattle.up_tables.specs.Stands.{IfClean}
+use Rattle.up_store.specs.Connections.{KeepsState}
+use Rattle.up_desk.specs.Serving.{HoldsState, told, served, outright, Serves}
+use Rattle.up_desk.specs.Calls.{ServesCall, SparesCall, CommitsCall}
+use Rattle.up_desk.proofs.Serving.{answered, crashed, committed, clean_once, told_outright}
+use Rattle.up_desk.proofs.Outlasting.{answered_stays}
+
+-- the laws of the machine that tell what a call comes to
+pub record CallLaws : Type 0 where
+  pub empty : EmptyIsSound
+  pub sound : ServedStaysSound
+  pub served : ServedIsThinned
+  pub replies : KeptRepliesOutlastRuns
+
+-- what a command over the store comes to, from each sound state that the tables showed
+abbrev pub Obeys : Rules → ℕ → Command → Result Answer Refusal → Connected → Connected → Type 0
+Obeys k at c r old new = (s : State) → IsSound k s → IfClean (KeepsState k s) old → Serves k s old new r (served k s at c)
+
+pub record IsCall (k : Rules) (at : ℕ) (c : Command) (a : Answer) (old new : Connected) : Type 0 where
+  pub served : ServesCall k at c a old new
+  pub outright : IfSome (outright k at c) (λ r. a ≡ Refused r)
+  pub crash : SparesCall k at c old new
+  pub durable : CommitsCall k at c a old new
+  pub clean : HasCleanDisk new → HasCleanDisk old
+
+serves : (laws : CallLaws) (k : Rules) (at : ℕ) (c : Command) (r : Result Answer Refusal) (old new : Connected) → IsTrue (is_command c) → Obeys k at c r old new → ServesCall k at c (told r) old new
+serves laws k at c r old new fits obeys = λ now s sound was.
+    let it = answered k s new at c r laws.sound fits sound ((obeys s sound was).leaves now) in
+    (it.next, it.answered, answered_stays k s it.next at c (told r) laws.served laws.replies sound it.answered, it.sound, it.keeps)
+
+told_call : (laws : CallLaws) (k : Rules) (at : ℕ) (c : Command) (r : Result Answer Refusal) (old new : Connected) → IsTrue (is_command c) → Obeys k at c r old new
+    → IfSome (outright k at c) (λ q. r ≡ Err q) → IsCall k at c (told r) old new
+told_call laws k at c r old new fits obeys due = record {
+  served = serves laws k at c r old new fits obeys;
+  outright = told_outright (outright k at c) r (told r) refl due;
+  crash = λ s sound was. crashed k s old new at c r (obeys s sound was);
+  durable = λ s sound was commit. committed k s old new at c r (obeys s sound was) commit;
+  clean = clean_once k old new (λ s. HoldsState k (serve k s at c).next) laws.empty (λ s sound was. crashed k s old new at c r (obeys s sound was));
+}
+
+pub called : (laws : CallLaws) (k : Rules) (at : ℕ) (c : Command) (r : Result Answer Refusal) (a : Answer) (old new : Connected) → IsTrue (is_command c) → Obeys k at c r old new
+    → IfSome (outright k at c) (λ q. r ≡ Err q) → a ≡ told r → IsCall k at c a old new
+called laws k at c r a old new fits obeys due is = subst (λ (x : Answer). IsCall k at c x old new) (sym is) (told_call laws k at c r old new fits obeys due)

@@ -1,0 +1,142 @@
+-- Images that are looked up one after another.
+use Rattle.std.proofs.Common.{◌≡◌, List, [], ◌∷◌, ◌++◌, Bool, true, false, cond, Option, Some, None, map, refl, sym, ap, ◌∙◌, subst}
+use Rattle.std.specs.Prelude.{◌&&◌, filter, flat_map}
+use Rattle.std.specs.List.{AllByRecursion}
+use Rattle.std.specs.FinMap as table
+use Rattle.std.specs.FinMap.{get-empty}
+use Rattle.std.specs.Ordering.{nat_cmp, eq_by_cmp}
+use Rattle.std.specs.Cmp.Lexicographic.{slice_cmp}
+use Rattle.up_canon.specs.Names.{Name, Table}
+use Rattle.up_sign.specs.Schemes.{Rules}
+use Rattle.up_manifest.specs.declared.report.SignedReport.{SignedReport}
+use Rattle.up_plan.specs.declared.campaign.Item.{Item}
+use Rattle.up_plan.specs.Campaigns.{CampaignData}
+use Rattle.up_plan.specs.Images.{ImageData}
+use Rattle.up_plan.specs.Planning.{items_for, reaches}
+use Rattle.up_machine.specs.Decisions.{AreImagesOf, files_named}
+use Rattle.up_machine.specs.State.{State}
+use Rattle.up_machine.specs.Sound.{IsSound}
+use Rattle.up_machine.proofs.Tables.{get_new, get_same, get_after-insert, one_name}
+use Rattle.up_desk.specs.Gathered.{with_image_found, with_found, gathered, item_files, campaign_files, report_files}
+
+-- each of these images is registered
+abbrev IsPart : Table ImageData → Table ImageData → Type 0
+IsPart registered images = (file : Name) (image : ImageData) → table.get images file ≡ Some image → table.get registered file ≡ Some image
+
+-- at this filename there is what is registered
+abbrev Has : Table ImageData → Table ImageData → Name → Type 0
+Has registered images file = table.get images file ≡ table.get registered file
+
+-- ---- one more
+
+part_found : (registered images : Table ImageData) (file : Name) (o : Option ImageData) → table.get registered file ≡ o → IsPart registered images → IsPart registered (with_image_found images file o)
+part_found registered images file None is part = part
+part_found registered images file (Some new) is part = λ other image found.
+    get_after-insert (λ name x. table.get registered name ≡ Some x) images file other image new found is (part other image)
+
+nothing_there : (registered images : Table ImageData) (file : Name) → IsPart registered images → table.get registered file ≡ None → (o : Option ImageData) → table.get images file ≡ o → o ≡ None
+nothing_there registered images file part none None is = refl
+nothing_there registered images file part none (Some image) is = let there : table.get registered file ≡ Some image = part file image is in absurd (let e = sym none ∙ there in cc)
+
+has_found : (registered images : Table ImageData) (file : Name) (o : Option ImageData) → table.get registered file ≡ o → IsPart registered images → Has registered (with_image_found images file o) file
+has_found registered images file None is part = nothing_there registered images file part is (table.get images file) refl ∙ sym is
+has_found registered images file (Some new) is part = get_same images file new ∙ sym is
+
+has_stays : (registered images : Table ImageData) (file other : Name) (o : Option ImageData) → table.get registered file ≡ o → Has registered images other → Has registered (with_image_found images file o) other
+has_stays registered images file other None is has = has
+has_stays registered images file other (Some new) is has = get_new images file other new ∙ by_test (eq_by_cmp (slice_cmp nat_cmp) other file) refl
+  where
+    by_test : (b : Bool) → eq_by_cmp (slice_cmp nat_cmp) other file ≡ b → cond b (Some new) (table.get images other) ≡ table.get registered other
+    by_test true same = sym is ∙ ap (table.get registered) (sym (one_name other file same))
+    by_test false same = has
+
+-- ---- all
+
+part_gathered : (registered : Table ImageData) (files : List Name) (images : Table ImageData) → IsPart registered images → IsPart registered (gathered registered files images)
+part_gathered registered [] images part = part
+part_gathered registered (file ∷ files) images part = part_gathered registered files (with_found registered images file) (part_found registered images file (table.get registered file) refl part)
+
+stays_gathered : (registered : Table ImageData) (files : List Name) (images : Table ImageData) (other : Name) → Has registered images other → Has registered (gathered registered files images) other
+stays_gathered registered [] images other has = has
+stays_gathered registered (file ∷ files) images other has =
+    stays_gathered registered files (with_found registered images file) other (has_stays registered images file other (table.get registered file) refl has)
+
+all_gathered : (registered : Table ImageData) (files : List Name) (images : Table ImageData) → IsPart registered images → AllByRecursion (Has registered (gathered registered files images)) files
+all_gathered registered [] images part = tt
+all_gathered registered (file ∷ files) images part =
+    let more = with_found registered images file in (
+      stays_gathered registered files more file (has_found registered images file (table.get registered file) refl part),
+      all_gathered registered files more (part_found registered images file (table.get registered file) refl part),
+    )
+
+none_part : (registered : Table ImageData) → IsPart registered table.empty
+none_part registered file image found = absurd (let e = sym (get-empty (slice_cmp nat_cmp) file) ∙ found in cc)
+
+-- ---- the lists of files
+
+each_of_map : {A B : Type 0} (f : A → B) (P : B → Type 0) (xs : List A) → AllByRecursion P (map f xs) → AllByRecursion (λ x. P (f x)) xs
+each_of_map f P [] h = tt
+each_of_map f P (x ∷ xs) h = (h.0, each_of_map f P xs h.1)
+
+each_weaker : {A : Type 0} (P Q : A → Type 0) → ((x : A) → P x → Q x) → (xs : List A) → AllByRecursion P xs → AllByRecursion Q xs
+each_weaker P Q f [] h = tt
+each_weaker P Q f (x ∷ xs) h = (f x h.0, each_weaker P Q f xs h.1)
+
+each_front : {A : Type 0} (P : A → Type 0) (xs ys : List A) → AllByRecursion P (xs ++ ys) → AllByRecursion P xs
+each_front P [] ys h = tt
+each_front P (x ∷ xs) ys h = (h.0, each_front P xs ys h.1)
+
+each_rest : {A : Type 0} (P : A → Type 0) (xs ys : List A) → AllByRecursion P (xs ++ ys) → AllByRecursion P ys
+each_rest P [] ys h = h
+each_rest P (x ∷ xs) ys h = each_rest P xs ys h.1
+
+each_both : {A : Type 0} (P : A → Type 0) (xs ys : List A) → AllByRecursion P xs → AllByRecursion P ys → AllByRecursion P (xs ++ ys)
+each_both P [] ys h more = more
+each_both P (x ∷ xs) ys h more = (h.0, each_both P xs ys h.1 more)
+
+map_both : (xs ys : List Item) → item_files (xs ++ ys) ≡ item_files xs ++ item_files ys
+map_both [] ys = refl
+map_both (x ∷ xs) ys = ap (λ fs. x.file ∷ fs) (map_both xs ys)
+
+each_offered : (P : Name → Type 0) (test : CampaignData → Bool) (campaigns : List CampaignData) → AllByRecursion P (campaign_files campaigns)
+    → AllByRecursion P (item_files (flat_map (λ (c : CampaignData). c.items) (filter test campaigns)))
+each_offered P test [] h = tt
+each_offered P test (c ∷ campaigns) h = by_test (test c) (each_offered P test campaigns (each_rest P (item_files c.items) (campaign_files campaigns) h))
+  where
+    by_test : (b : Bool) → AllByRecursion P (item_files (flat_map (λ (c : CampaignData). c.items) (filter test campaigns)))
+        → AllByRecursion P (item_files (flat_map (λ (c : CampaignData). c.items) (cond b (c ∷ filter test campaigns) (filter test campaigns))))
+    by_test true more = subst (AllByRecursion P) (sym (map_both c.items (flat_map (λ (d : CampaignData). d.items) (filter test campaigns))))
+        (each_both P (item_files c.items) (item_files (flat_map (λ (d : CampaignData). d.items) (filter test campaigns))) (each_front P (item_files c.items) (campaign_files campaigns) h) more)
+    by_test false more = more
+
+-- ---- what decisions ask
+
+-- the images that a new campaign names
+pub images_known : (registered images : Table ImageData) (items : List Item) → images ≡ gathered registered (item_files items) table.empty
+    → AllByRecursion (λ (item : Item). table.get images item.file ≡ table.get registered item.file) items
+images_known registered images items is =
+    each_of_map (λ (i : Item). i.file) (Has registered images) items
+    (subst (λ (t : Table ImageData). AllByRecursion (Has registered t) (item_files items)) (sym is) (all_gathered registered (item_files items) table.empty (none_part registered)))
+
+-- the images that the items for a vehicle and its reports name
+pub images_planned : (k : Rules) (s : State) (campaigns : List CampaignData) (vehicle : Name) (reports : List SignedReport) (images : Table ImageData) → IsSound k s
+    → images ≡ gathered s.images (report_files reports) (gathered s.images (campaign_files campaigns) table.empty) → AreImagesOf (files_named campaigns vehicle reports) images s.images
+images_planned k s campaigns vehicle reports images sound is =
+    let some = gathered s.images (campaign_files campaigns) table.empty in
+    let all = gathered s.images (report_files reports) some in
+    let part : IsPart s.images some = part_gathered s.images (campaign_files campaigns) table.empty (none_part s.images) in
+    let whole : AreImagesOf (files_named campaigns vehicle reports) all s.images = record {
+      named = λ file image found. (sound.repositories.each_image file image (part_gathered s.images (report_files reports) some part file image found)).named;
+      same = each_both (Has s.images all) (item_files (items_for campaigns vehicle)) (report_files reports)
+          (each_offered (Has s.images all) (λ (c : CampaignData). c.running && reaches vehicle c.reach) campaigns
+          (each_weaker (Has s.images some) (Has s.images all) (λ file has. stays_gathered s.images (report_files reports) some file has) (campaign_files campaigns)
+          (all_gathered s.images (campaign_files campaigns) table.empty (none_part s.images))))
+          (all_gathered s.images (report_files reports) some part);
+    } in
+    subst (λ (t : Table ImageData). AreImagesOf (files_named campaigns vehicle reports) t s.images) (sym is) whole
+
+-- ---- step by step
+
+pub gathered_more : (registered : Table ImageData) (files others : List Name) (images : Table ImageData) → gathered registered (files ++ others) images ≡ gathered registered others (gathered registered files images)
+gathered_more registered [] others images = refl
+gathered_more registered (file ∷ files) others images = gathered_more registered files others (with_found registered images file)

@@ -1,0 +1,29 @@
+use Rattle.std.proofs.Common.{refl, sym, subst}
+use Rattle.sqlite.specs.Held.{state}
+use Rattle.up_canon.specs.declared.refusal.Refusal.TheVariants.{Memory}
+use Rattle.up_machine.specs.declared.answer.Answer.TheVariants.{Reply as Replied}
+use Rattle.up_machine.specs.declared.decision.Delivered.TheVariants.{Accepted}
+use Rattle.up_rows.specs.Changes.{with_accepted_rows}
+use Rattle.up_store.specs.Fitting.{IsRecorded}
+use Rattle.up_desk.specs.Serving.{Serves}
+use Rattle.up_desk.proofs.Decided.{when_accepted}
+use Rattle.up_desk.proofs.Fitting.{accepting_fits}
+use Rattle.up_desk.proofs.Steps.{WillWrite, reads_none, refused, written}
+use Rattle.up_desk.proofs.deliveries.accept.Goals as goal
+
+pub returns-in-Ok : goal.returns-in-Ok
+returns-in-Ok g c = λ k s name computed sound was gives.
+    let old = state g.D.Store c.args.store.now in
+    let new = state g.D.Store c.write_accept.new.self in
+    let rows = c.args.rows.now in
+    let reply = c.in-Ok.reply in
+    subst (λ r. Serves k s old new r computed) (sym c.replied.ensures)
+    (written k s old old new (Replied reply) c.write_accept.result (IsRecorded rows) (λ r. with_accepted_rows r rows) computed refl was (reads_none old)
+    (λ clean. subst (λ r. WillWrite k s (IsRecorded rows) (λ q. with_accepted_rows q rows) (Replied r) computed) (sym c.in-Ok.ensures)
+    (accepting_fits k s name rows computed sound c.rows_are_found.ensures.vehicles c.manifests_are_added.ensures
+    (when_accepted k s name (Accepted rows) rows computed refl (gives clean))))
+    c.write_accept.ensures.written c.write_accept.ensures.durable c.write_accept.ensures.kept c.write_accept.ensures.crash c.write_accept.ensures.clean)
+
+pub returns-in-Err : goal.returns-in-Err
+returns-in-Err g c = λ k s name computed sound was gives.
+    refused k s (state g.D.Store c.args.store.now) (state g.D.Store c.args.store.now) Memory computed was (reads_none (state g.D.Store c.args.store.now)) (λ clean. tt)

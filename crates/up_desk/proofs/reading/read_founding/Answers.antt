@@ -1,0 +1,8 @@
+use Rattle.std.proofs.Common.{◌∙◌}
+use Rattle.up_rows.specs.StateRows.{rows_of_state}
+use Rattle.up_desk.proofs.Steps.{if_ok_then}
+use Rattle.up_desk.proofs.reading.read_founding.Goals as goal
+
+pub returns-in-Ok-clause-told : goal.returns-in-Ok-clause-told
+returns-in-Ok-clause-told g c clean =
+    if_ok_then c.fitting_founding.result _ _ c.fitting_founding.ensures.same (λ found is. λ k s was. is ∙ c.in-Ok.ensures.told clean (rows_of_state k s) was)

@@ -1,0 +1,33 @@
+-- Images that are looked up one after another, by the files that name them.
+use Rattle.std.specs.Prelude.{List, [], ◌∷◌, Option, None, Some, map, flat_map}
+use Rattle.std.specs.FinMap as table
+use Rattle.up_canon.specs.Names.{Name, Table}
+use Rattle.up_manifest.specs.declared.report.SignedReport.{SignedReport}
+use Rattle.up_plan.specs.declared.campaign.Item.{Item}
+use Rattle.up_plan.specs.Campaigns.{CampaignData}
+use Rattle.up_plan.specs.Images.{ImageData}
+
+-- an image under its filename, if there is one
+abbrev pub with_image_found : Table ImageData → Name → Option ImageData → Table ImageData
+with_image_found images file None = images
+with_image_found images file (Some image) = table.insert images file image
+
+-- what is registered under this filename, among the others
+abbrev pub with_found : Table ImageData → Table ImageData → Name → Table ImageData
+with_found registered images file = with_image_found images file (table.get registered file)
+
+-- what is registered under each of these filenames, among the others
+abbrev pub gathered : Table ImageData → List Name → Table ImageData → Table ImageData
+gathered registered [] images = images
+gathered registered (file ∷ files) images = gathered registered files (with_found registered images file)
+
+-- ---- the files that are named
+
+abbrev pub item_files : List Item → List Name
+item_files items = map (λ i. i.file) items
+
+abbrev pub campaign_files : List CampaignData → List Name
+campaign_files campaigns = flat_map (λ c. item_files c.items) campaigns
+
+abbrev pub report_files : List SignedReport → List Name
+report_files reports = map (λ r. r.report.image.file) reports

@@ -1,0 +1,155 @@
+//! Images that are read by the files that name them.
+ghost use Rattle.std.specs.Prelude.{◌≡◌, IfOk, OnOk, map};
+ghost use Rattle.std.specs.FinMap as table;
+ghost use Rattle.sqlite.specs.Held.{state};
+ghost use Rattle.sqlite.specs.State.{HasCleanDisk};
+ghost use Rattle.up_sign.specs.Schemes.{Rules};
+ghost use Rattle.up_machine.specs.State.{State};
+ghost use Rattle.up_store.specs.Connections.{KeepsState};
+ghost use Rattle.up_tables.specs.Stands.{IfClean};
+ghost use Rattle.up_desk.specs.Serving.{Reads};
+ghost use Rattle.up_desk.specs.Gathered.{with_found, gathered, item_files, campaign_files, report_files};
+
+use sqlite::Alter;
+use std::alloc::{AllocError, Global};
+use up_canon::file_name::FileName;
+use up_canon::table::Table;
+use up_canon::text::Text;
+use up_manifest::report::SignedReport;
+use up_plan::campaign::{Campaign, Item};
+use up_plan::image::Image;
+use up_store::store::{Store, StoreFault};
+
+/// The images of these items' files, each under its filename.
+pub fn images_of<D: Alter>(
+    store: &mut Store<D>,
+    alloc: Global,
+    items: &[Item],
+) -> Result<Table<Image>, StoreFault>
+    ensures told { HasCleanDisk (state D.Store store.new) → IfOk result (λ images. (k : Rules) (s : State) → IfClean (KeepsState k s) (state D.Store store.old)
+        → images ≡ gathered s.images (item_files items.now) table.empty) }
+    ensures reads { Reads (state D.Store store.old) (state D.Store store.new) }
+{
+    let mut images = Table::new(alloc);
+    match add_items(store, alloc, &mut images, items) {
+        Ok(()) => Ok(images),
+        Err(fault) => Err(fault),
+    }
+}
+
+/// The images of the files that these campaigns' items and these reports name, each under its filename.
+pub fn images_for<D: Alter>(
+    store: &mut Store<D>,
+    alloc: Global,
+    campaigns: &[Campaign],
+    reports: &[SignedReport],
+) -> Result<Table<Image>, StoreFault>
+    ensures told { HasCleanDisk (state D.Store store.new) → IfOk result (λ images. (k : Rules) (s : State) → IfClean (KeepsState k s) (state D.Store store.old)
+        → images ≡ gathered s.images (report_files reports.now) (gathered s.images (campaign_files campaigns.now) table.empty)) }
+    ensures reads { Reads (state D.Store store.old) (state D.Store store.new) }
+{
+    let mut images = Table::new(alloc);
+    match add_campaigns(store, alloc, &mut images, campaigns) {
+        Ok(()) => {}
+        Err(fault) => return Err(fault),
+    }
+    match add_reports(store, alloc, &mut images, reports) {
+        Ok(()) => Ok(images),
+        Err(fault) => Err(fault),
+    }
+}
+
+fn add_campaigns<D: Alter>(
+    store: &mut Store<D>,
+    alloc: Global,
+    images: &mut Table<Image>,
+    campaigns: &[Campaign],
+) -> Result<(), StoreFault>
+    ensures told { HasCleanDisk (state D.Store store.new) → OnOk result ((k : Rules) (s : State) → IfClean (KeepsState k s) (state D.Store store.old)
+        → images.new ≡ gathered s.images (campaign_files campaigns.now) images.old) }
+    ensures reads { Reads (state D.Store store.old) (state D.Store store.new) }
+{
+    for campaign in campaigns {
+        match add_items(store, alloc, images, campaign.items.as_slice()) {
+            Ok(()) => {}
+            Err(fault) => return Err(fault),
+        }
+    }
+    Ok(())
+}
+
+fn add_items<D: Alter>(
+    store: &mut Store<D>,
+    alloc: Global,
+    images: &mut Table<Image>,
+    items: &[Item],
+) -> Result<(), StoreFault>
+    ensures told { HasCleanDisk (state D.Store store.new) → OnOk result ((k : Rules) (s : State) → IfClean (KeepsState k s) (state D.Store store.old)
+        → images.new ≡ gathered s.images (item_files items.now) images.old) }
+    ensures reads { Reads (state D.Store store.old) (state D.Store store.new) }
+{
+    for item in items {
+        match add_file(store, alloc, images, &item.file) {
+            Ok(()) => {}
+            Err(fault) => return Err(fault),
+        }
+    }
+    Ok(())
+}
+
+fn add_reports<D: Alter>(
+    store: &mut Store<D>,
+    alloc: Global,
+    images: &mut Table<Image>,
+    reports: &[SignedReport],
+) -> Result<(), StoreFault>
+    ensures told { HasCleanDisk (state D.Store store.new) → OnOk result ((k : Rules) (s : State) → IfClean (KeepsState k s) (state D.Store store.old)
+        → images.new ≡ gathered s.images (report_files reports.now) images.old) }
+    ensures reads { Reads (state D.Store store.old) (state D.Store store.new) }
+{
+    for report in reports {
+        match add_file(store, alloc, images, &report.report.image.file) {
+            Ok(()) => {}
+            Err(fault) => return Err(fault),
+        }
+    }
+    Ok(())
+}
+
+/// Puts the image of this filename among the others, where one is registered.
+fn add_file<D: Alter>(
+    store: &mut Store<D>,
+    alloc: Global,
+    images: &mut Table<Image>,
+    file: &FileName,
+) -> Result<(), StoreFault>
+    ensures told { HasCleanDisk (state D.Store store.new) → OnOk result ((k : Rules) (s : State) → IfClean (KeepsState k s) (state D.Store store.old)
+        → images.new ≡ with_found s.images images.old file.now) }
+    ensures reads { Reads (state D.Store store.old) (state D.Store store.new) }
+{
+    match store.image(alloc, file) {
+        Ok(Some(image)) => put_image(alloc, images, file, image),
+        Ok(None) => Ok(()),
+        Err(fault) => Err(fault),
+    }
+}
+
+fn put_image(
+    alloc: Global,
+    images: &mut Table<Image>,
+    file: &FileName,
+    image: Image,
+) -> Result<(), StoreFault>
+    ensures { OnOk result (images.new ≡ table.insert images.old file.now image) }
+{
+    let name = text_of(alloc, file.text())?;
+    images.insert(name, image)?;
+    Ok(())
+}
+
+/// The same text in memory of its own.
+fn text_of(alloc: Global, text: &str) -> Result<Text, AllocError>
+    ensures { IfOk result (λ made. made ≡ text.now) }
+{
+    Ok(Text::new(text.to_string(alloc)?))
+}

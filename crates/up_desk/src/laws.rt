@@ -1,0 +1,32 @@
+//! The laws of commits, and of deliveries that come again.
+ghost use Rattle.up_desk.specs.Laws.{NewRepliesCommit, DeliveriesActOnce, CrashesActOnce, ReopenedActsOnce};
+
+use sqlite::Alter;
+use sqlite_disk::Disk;
+use up_machine::laws::{repeats_are_found, repeats_change_nothing, states_only_grow};
+
+/// The reply to a newly accepted manifest is a commit: the state changes with it.
+pub fn new_replies_commit()
+    ensures { NewRepliesCommit }
+{}
+
+/// A delivery that the plain machine accepts acts once when it comes again before another manifest of its vehicle, whether or
+/// not its call came through: the state then has exactly one entry for it, and the answer is that entry's reply. So it does
+/// after a crash at any moment of that call.
+pub fn deliveries_act_once<D: Alter>()
+    ensures again { DeliveriesActOnce }
+    ensures crash { CrashesActOnce D.Store }
+{
+    repeats_are_found();
+    repeats_change_nothing();
+    states_only_grow();
+}
+
+/// The same where the program stopped and the files are opened again as a crash left them.
+pub fn reopened_deliveries_act_once<D: Disk>()
+    ensures { ReopenedActsOnce D.Disk }
+{
+    repeats_are_found();
+    repeats_change_nothing();
+    states_only_grow();
+}

@@ -1,0 +1,114 @@
+//! What commands read of the store.
+ghost use Rattle.std.specs.Prelude.{◌≡◌, IfOk, IfSome, IsTrue, is_some};
+ghost use Rattle.sqlite.specs.Held.{state};
+ghost use Rattle.up_machine.specs.Rows.{founding_row, vehicle_rows as vehicle_rows_in};
+ghost use Rattle.up_machine.specs.RowsFit.{founding_fits as founding_fits_in, rows_fit as rows_fit_in};
+ghost use Rattle.up_desk.specs.Serving.{Tells, Reads};
+
+use sqlite::Alter;
+use std::alloc::Global;
+use up_canon::ident::Ident;
+use up_machine::rows::{Founding, VehicleRows};
+use up_machine::rows_fit::{founding_fits, rows_fit};
+use up_rows::laws::rows_are_found;
+use up_sign::scheme::Scheme;
+use up_store::store::{Store, StoreFault};
+
+/// Whether the repositories are founded.
+pub fn is_founded<D: Alter>(store: &mut Store<D>, alloc: Global) -> Result<bool, StoreFault>
+    ensures told { Tells (λ k s. is_some (founding_row s)) (state D.Store store.old) (state D.Store store.new) result }
+    ensures reads { Reads (state D.Store store.old) (state D.Store store.new) }
+{
+    match store.founding(alloc) {
+        Ok(founding) => Ok(founding.is_some()),
+        Err(fault) => Err(fault),
+    }
+}
+
+/// The founding, none before it. `Store` where its keys can't sign, which no call of this product leaves.
+pub fn read_founding<K: Scheme, D: Alter>(
+    store: &mut Store<D>,
+    alloc: Global,
+    scheme: &K,
+) -> Result<Option<Founding>, StoreFault>
+    ensures told { Tells (λ k s. founding_row s) (state D.Store store.old) (state D.Store store.new) result }
+    ensures reads { Reads (state D.Store store.old) (state D.Store store.new) }
+    ensures fits { IfOk result (λ found. IfSome found (λ f. IsTrue (founding_fits_in (K.rules scheme.now) f))) }
+{
+    match store.founding(alloc) {
+        Ok(founding) => fitting_founding(scheme, founding),
+        Err(fault) => Err(fault),
+    }
+}
+
+fn fitting_founding<K: Scheme>(
+    scheme: &K,
+    founding: Option<Founding>,
+) -> Result<Option<Founding>, StoreFault>
+    ensures same { IfOk result (λ found. found ≡ founding) }
+    ensures fits { IfOk result (λ found. IfSome found (λ f. IsTrue (founding_fits_in (K.rules scheme.now) f))) }
+{
+    match founding {
+        Some(founding) => {
+            if founding_fits(scheme, &founding) {
+                Ok(Some(founding))
+            } else {
+                Err(StoreFault::Store)
+            }
+        }
+        None => Ok(None),
+    }
+}
+
+/// The rows of a vehicle, none of an unknown one.
+pub fn read_vehicle<D: Alter>(
+    store: &mut Store<D>,
+    alloc: Global,
+    name: &Ident,
+) -> Result<Option<VehicleRows>, StoreFault>
+    ensures told { Tells (λ k s. vehicle_rows_in s name.now) (state D.Store store.old) (state D.Store store.new) result }
+    ensures reads { Reads (state D.Store store.old) (state D.Store store.new) }
+{
+    rows_are_found();
+    let vehicle = match store.vehicle(alloc, name) {
+        Ok(Some(vehicle)) => vehicle,
+        Ok(None) => return Ok(None),
+        Err(fault) => return Err(fault),
+    };
+    match store.ecus(alloc, name) {
+        Ok(ecus) => Ok(Some(VehicleRows { vehicle, ecus })),
+        Err(fault) => Err(fault),
+    }
+}
+
+/// The same: `Store` where the version is past the last counter or an ECU stands twice, which no call of this product leaves.
+pub fn read_fitting_vehicle<D: Alter>(
+    store: &mut Store<D>,
+    alloc: Global,
+    name: &Ident,
+) -> Result<Option<VehicleRows>, StoreFault>
+    ensures told { Tells (λ k s. vehicle_rows_in s name.now) (state D.Store store.old) (state D.Store store.new) result }
+    ensures reads { Reads (state D.Store store.old) (state D.Store store.new) }
+    ensures fits { IfOk result (λ found. IfSome found (λ v. IsTrue (rows_fit_in v))) }
+{
+    match read_vehicle(store, alloc, name) {
+        Ok(rows) => fitting_rows(rows),
+        Err(fault) => Err(fault),
+    }
+}
+
+fn fitting_rows(rows: Option<VehicleRows>) -> Result<Option<VehicleRows>, StoreFault>
+    ensures same { IfOk result (λ found. found ≡ rows) }
+    ensures fits { IfOk result (λ found. IfSome found (λ v. IsTrue (rows_fit_in v))) }
+{
+    match rows {
+        Some(rows) => {
+            if rows_fit(&rows) {
+                Ok(Some(rows))
+            } else {
+                Err(StoreFault::Store)
+            }
+        }
+        None => Ok(None),
+    }
+}

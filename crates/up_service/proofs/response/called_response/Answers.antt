@@ -1,0 +1,26 @@
+use Rattle.std.proofs.Common.{refl}
+use Rattle.std.proofs.lemmas.Result.{IfOk-weaker}
+use Rattle.std.specs.Prelude.{string_bytes}
+use Rattle.sqlite.specs.Held.{state}
+use Rattle.up_service.specs.Responses.{answer_response}
+use Rattle.up_service.proofs.Answering.{on_err, responded}
+use Rattle.up_service.proofs.response.called_response.Goals as goal
+
+pub returns-clause-ok : goal.returns-clause-ok
+returns-clause-ok g c =
+    IfOk-weaker c.answer_response.result _ _ (λ t is. (
+      c.call-answer.ensures.scheme,
+      responded (g.K.Scheme.rules c.args.desk.now.scheme) c.args.at c.args.command.now c.args.last c.args.head c.call-answer.result (string_bytes t)
+          (state g.D.Store c.args.desk.now.store) (state g.D.Store c.call-answer.new.self.store) c.call-answer.ensures.clean c.call-answer.ensures.served is,
+    )) c.answer_response.ensures
+
+pub returns-clause-err : goal.returns-clause-err
+returns-clause-err g c =
+    on_err c.answer_response.result (
+      answer_response c.call-answer.result c.args.last c.args.head,
+      (
+        c.call-answer.ensures.scheme,
+        responded (g.K.Scheme.rules c.args.desk.now.scheme) c.args.at c.args.command.now c.args.last c.args.head c.call-answer.result (answer_response c.call-answer.result c.args.last c.args.head)
+            (state g.D.Store c.args.desk.now.store) (state g.D.Store c.call-answer.new.self.store) c.call-answer.ensures.clean c.call-answer.ensures.served refl,
+      ),
+    )

@@ -1,0 +1,37 @@
+-- What is told of an answer, and the state that it leaves; or that memory or the database refused.
+use Rattle.std.specs.Prelude.{◌≡◌, ◌⊎◌, ℕ, List}
+use Rattle.sqlite.specs.State.{State as Connected, HasCleanDisk}
+use Rattle.up_canon.specs.declared.refusal.Refusal.{Refusal}
+use Rattle.up_canon.specs.declared.refusal.Refusal.TheVariants.{Memory, Store}
+use Rattle.up_sign.specs.Schemes.{Rules}
+use Rattle.up_machine.specs.declared.answer.Answer.{Answer}
+use Rattle.up_machine.specs.declared.command.Command.{Command}
+use Rattle.up_machine.specs.Repeats.{serve}
+use Rattle.up_machine.specs.Sound.{IsSound}
+use Rattle.up_machine.specs.State.{State}
+use Rattle.up_tables.specs.Stands.{IfClean}
+use Rattle.up_store.specs.Connections.{KeepsState}
+
+-- the text of an answer, and the state after it
+pub record Answered : Type 0 where
+  pub text : List ℕ
+  pub next : State
+
+-- what the desk answers a command, as it is told
+abbrev pub served_as : (Answer → List ℕ) → Rules → State → ℕ → Command → Answered
+served_as tell k s at command = let o = serve k s at command in record { text = tell o.answer; next = o.next }
+
+-- the text tells, as refusals are told, that memory or the database refused
+abbrev pub IsLost : (Refusal → List ℕ) → List ℕ → Type 0
+IsLost tell text = (text ≡ tell Memory) ⊎ (text ≡ tell Store)
+
+-- it is answered so, or it is lost: the text says so, and the state is as before
+abbrev pub IsAnswerOrLost : (Refusal → List ℕ) → Answered → State → List ℕ → State → Type 0
+IsAnswerOrLost tell a old text new = ((text ≡ a.text) × (new ≡ a.next)) ⊎ (IsLost tell text × (new ≡ old))
+
+-- of each state that the tables show, over a disk that has returned what was written so far: the text is its answer or tells
+-- that it is lost, and the tables show the next state
+pub record AnswersAs (tell : Refusal → List ℕ) (answer : State → Answered) (k : Rules) (text : List ℕ) (old new : Connected) : Type 0 where
+  pub clean : HasCleanDisk new → HasCleanDisk old
+  pub answered : HasCleanDisk new → (s : State) → IsSound k s → IfClean (KeepsState k s) old
+      → (next : State) × IsAnswerOrLost tell (answer s) s text next × IsSound k next × KeepsState k next new

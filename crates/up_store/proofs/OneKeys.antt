@@ -1,0 +1,211 @@
+-- The rows of keys tell the keys.
+use Rattle.std.proofs.Common.{◌≡◌, ◌≤◌, ◌<◌, ◌+◌, ℕ, suc, pos, List, [], ◌∷◌, ◌++◌, Bool, true, false, Option, Some, None, map, filter, length, refl, sym, ap, ap₂, subst, ◌∙◌, arith, append-nil, codes}
+use Rattle.std.specs.Prelude.{flat_map}
+use Rattle.std.specs.List.{AllByRecursion, enumerate_from}
+use Rattle.std.specs.Cmp.Lexicographic.{slice_cmp}
+use Rattle.std.specs.Ordering.{is_eq, nat_cmp}
+use Rattle.sqlite.specs.declared.types.Value.TheVariants.{Int, Text, Blob}
+use Rattle.sqlite.specs.Order.{Row, column, value_cmp}
+use Rattle.up_roles.specs.declared.repository.Repository.{Repository}
+use Rattle.up_roles.specs.declared.repository.Repository.TheVariants.{Director, Image}
+use Rattle.up_machine.specs.declared.keys.KeySet.{KeySet}
+use Rattle.up_machine.specs.declared.keys.RepoKeys.{RepoKeys}
+use Rattle.up_machine.specs.declared.keys.RoleSecrets.{RoleSecrets}
+use Rattle.up_rows.specs.declared.root_row.RootRow.{RootRow}
+use Rattle.up_tables.specs.Rows.{has_number, has_text}
+use Rattle.up_store.specs.Lines.{repository_word, role_lines, repository_lines, root_lines, roots_lines}
+use Rattle.up_store.specs.Typed.{HasKeys, HaveKeys, EachHasKeys}
+use Rattle.up_store.proofs.FoundingReads.{AreOfRoot, lines_of_root, all_kept, filter_both, assoc, key_line}
+use Rattle.sqlite_value.proofs.OrderLemmas.{value_cmp-Int, value_cmp-Text}
+
+-- ---- parts that a test tells apart
+
+same_front : {A : Type 0} (xs ys zs : List A) → xs ++ ys ≡ xs ++ zs → ys ≡ zs
+same_front [] ys zs h = h
+same_front (x ∷ xs) ys zs h = same_front xs ys zs (cc)
+
+record Apart (test : Row → Bool) (xs ys : List Row) : Type 0 where
+  front : filter test xs ≡ xs
+  behind : filter test ys ≡ []
+
+front_of : (test : Row → Bool) (xs ys : List Row) → Apart test xs ys → filter test (xs ++ ys) ≡ xs
+front_of test xs ys h = filter_both test xs ys ∙ ap₂ (λ (a b : List Row). a ++ b) h.front h.behind ∙ append-nil xs
+
+fronts : (test : Row → Bool) (xs ys us vs : List Row) → Apart test xs ys → Apart test us vs → xs ++ ys ≡ us ++ vs → xs ≡ us
+fronts test xs ys us vs a b h = sym (front_of test xs ys a) ∙ ap (filter test) h ∙ front_of test us vs b
+
+behinds : (test : Row → Bool) (xs ys us vs : List Row) → Apart test xs ys → Apart test us vs → xs ++ ys ≡ us ++ vs → ys ≡ vs
+behinds test xs ys us vs a b h = same_front us ys vs (ap (λ (zs : List Row). zs ++ ys) (sym (fronts test xs ys us vs a b h)) ∙ h)
+
+none_both : (test : Row → Bool) (xs ys : List Row) → filter test xs ≡ [] → filter test ys ≡ [] → filter test (xs ++ ys) ≡ []
+none_both test xs ys h k = filter_both test xs ys ∙ ap₂ (λ (a b : List Row). a ++ b) h k
+
+-- ---- a role
+
+-- two texts are told apart as SQL compares them
+by_text : (a b : List ℕ) → is_eq (value_cmp (Text a) (Text b)) ≡ is_eq (slice_cmp nat_cmp a b)
+by_text a b = ap is_eq (value_cmp-Text a b)
+
+-- of the rows of a role each passes a test of its words, or none
+lines_pass : (test : Row → Bool) (m threshold : ℕ) (word role : List ℕ) → ((key : ℕ × List ℕ) → test (key_line m word role threshold key) ≡ true) → (i : ℕ) (keys : List (List ℕ))
+    → filter test (map (key_line m word role threshold) (enumerate_from i keys)) ≡ map (key_line m word role threshold) (enumerate_from i keys)
+lines_pass test m threshold word role h i [] = refl
+lines_pass test m threshold word role h i (key ∷ keys) = rw (h (i, key), lines_pass test m threshold word role h (i + 1) keys) refl
+
+lines_fail : (test : Row → Bool) (m threshold : ℕ) (word role : List ℕ) → ((key : ℕ × List ℕ) → test (key_line m word role threshold key) ≡ false) → (i : ℕ) (keys : List (List ℕ))
+    → filter test (map (key_line m word role threshold) (enumerate_from i keys)) ≡ []
+lines_fail test m threshold word role h i [] = refl
+lines_fail test m threshold word role h i (key ∷ keys) = rw (h (i, key), lines_fail test m threshold word role h (i + 1) keys) refl
+
+keys_of_lines : (m t u i : ℕ) (word role : List ℕ) (ks ls : List (List ℕ)) → map (key_line m word role t) (enumerate_from i ks) ≡ map (key_line m word role u) (enumerate_from i ls) → ks ≡ ls
+keys_of_lines m t u i word role [] [] h = refl
+keys_of_lines m t u i word role [] (l ∷ ls) h = absurd (cc)
+keys_of_lines m t u i word role (k ∷ ks) [] h = absurd (cc)
+keys_of_lines m t u i word role (k ∷ ks) (l ∷ ls) h =
+    let head : k ≡ l = cc in
+    let tail : map (key_line m word role t) (enumerate_from (i + 1) ks) ≡ map (key_line m word role u) (enumerate_from (i + 1) ls) = cc in
+    ap₂ (λ (x : List ℕ) (xs : List (List ℕ)). x ∷ xs) head (keys_of_lines m t u (i + 1) word role ks ls tail)
+
+threshold_of_lines : (m t u : ℕ) (word role : List ℕ) (ks ls : List (List ℕ)) → 1 ≤ length ks → 1 ≤ length ls
+    → map (key_line m word role t) (enumerate_from 0 ks) ≡ map (key_line m word role u) (enumerate_from 0 ls) → t ≡ u
+threshold_of_lines m t u word role [] ls some more h = absurd (omega (arith, some))
+threshold_of_lines m t u word role (k ∷ ks) [] some more h = absurd (omega (arith, more))
+threshold_of_lines m t u word role (k ∷ ks) (l ∷ ls) some more h = cc
+
+abbrev the_role : List (List ℕ) → ℕ → RoleSecrets
+the_role ks t = record { keys = ks; threshold = t }
+
+one_role : (m : ℕ) (repository : Repository) (role : List ℕ) (a b : RoleSecrets) → HasKeys a → HasKeys b → role_lines m repository role a ≡ role_lines m repository role b → a ≡ b
+one_role m repository role a b some more h =
+    let keys : a.keys ≡ b.keys = keys_of_lines m a.threshold b.threshold 0 (repository_word repository) role a.keys b.keys h in
+    let threshold : a.threshold ≡ b.threshold = threshold_of_lines m a.threshold b.threshold (repository_word repository) role a.keys b.keys some more h in
+    ap₂ (λ (ks : List (List ℕ)) (t : ℕ). the_role ks t) keys threshold
+
+-- ---- a repository
+
+abbrev has_role : List ℕ → Row → Bool
+has_role role row = is_eq (value_cmp (column row 2) (Text role))
+
+-- the rows of a repository, its roles one behind another
+abbrev behind_root : ℕ → Repository → RepoKeys → List Row
+behind_root m r keys = role_lines m r (codes "targets") keys.targets ++ (role_lines m r (codes "snapshot") keys.snapshot ++ role_lines m r (codes "timestamp") keys.timestamp)
+
+in_turn : (m : ℕ) (r : Repository) (keys : RepoKeys) → repository_lines m r keys ≡ role_lines m r (codes "root") keys.root ++ behind_root m r keys
+in_turn m r keys =
+    assoc (role_lines m r (codes "root") keys.root ++ role_lines m r (codes "targets") keys.targets) (role_lines m r (codes "snapshot") keys.snapshot) (role_lines m r (codes "timestamp") keys.timestamp)
+    ∙ assoc (role_lines m r (codes "root") keys.root) (role_lines m r (codes "targets") keys.targets) (role_lines m r (codes "snapshot") keys.snapshot ++ role_lines m r (codes "timestamp") keys.timestamp)
+
+root_apart : (m : ℕ) (r : Repository) (keys : RepoKeys) → Apart (has_role (codes "root")) (role_lines m r (codes "root") keys.root) (behind_root m r keys)
+root_apart m r keys = record {
+  front = lines_pass (has_role (codes "root")) m keys.root.threshold (repository_word r) (codes "root") (λ _. by_text (codes "root") (codes "root")) 0 keys.root.keys;
+  behind = none_both (has_role (codes "root")) (role_lines m r (codes "targets") keys.targets) (role_lines m r (codes "snapshot") keys.snapshot ++ role_lines m r (codes "timestamp") keys.timestamp) (lines_fail (has_role (codes "root")) m keys.targets.threshold (repository_word r) (codes "targets") (λ _. by_text (codes "targets") (codes "root")) 0 keys.targets.keys)
+      (none_both (has_role (codes "root")) (role_lines m r (codes "snapshot") keys.snapshot) (role_lines m r (codes "timestamp") keys.timestamp) (lines_fail (has_role (codes "root")) m keys.snapshot.threshold (repository_word r) (codes "snapshot") (λ _. by_text (codes "snapshot") (codes "root")) 0 keys.snapshot.keys)
+      (lines_fail (has_role (codes "root")) m keys.timestamp.threshold (repository_word r) (codes "timestamp") (λ _. by_text (codes "timestamp") (codes "root")) 0 keys.timestamp.keys));
+}
+
+targets_apart : (m : ℕ) (r : Repository) (keys : RepoKeys)
+    → Apart (has_role (codes "targets")) (role_lines m r (codes "targets") keys.targets) (role_lines m r (codes "snapshot") keys.snapshot ++ role_lines m r (codes "timestamp") keys.timestamp)
+targets_apart m r keys = record {
+  front = lines_pass (has_role (codes "targets")) m keys.targets.threshold (repository_word r) (codes "targets") (λ _. by_text (codes "targets") (codes "targets")) 0 keys.targets.keys;
+  behind = none_both (has_role (codes "targets")) (role_lines m r (codes "snapshot") keys.snapshot) (role_lines m r (codes "timestamp") keys.timestamp) (lines_fail (has_role (codes "targets")) m keys.snapshot.threshold (repository_word r) (codes "snapshot") (λ _. by_text (codes "snapshot") (codes "targets")) 0 keys.snapshot.keys)
+      (lines_fail (has_role (codes "targets")) m keys.timestamp.threshold (repository_word r) (codes "timestamp") (λ _. by_text (codes "timestamp") (codes "targets")) 0 keys.timestamp.keys);
+}
+
+snapshot_apart : (m : ℕ) (r : Repository) (keys : RepoKeys) → Apart (has_role (codes "snapshot")) (role_lines m r (codes "snapshot") keys.snapshot) (role_lines m r (codes "timestamp") keys.timestamp)
+snapshot_apart m r keys = record {
+  front = lines_pass (has_role (codes "snapshot")) m keys.snapshot.threshold (repository_word r) (codes "snapshot") (λ _. by_text (codes "snapshot") (codes "snapshot")) 0 keys.snapshot.keys;
+  behind = lines_fail (has_role (codes "snapshot")) m keys.timestamp.threshold (repository_word r) (codes "timestamp") (λ _. by_text (codes "timestamp") (codes "snapshot")) 0 keys.timestamp.keys;
+}
+
+abbrev the_keys : RoleSecrets → RoleSecrets → RoleSecrets → RoleSecrets → RepoKeys
+the_keys root targets snapshot timestamp = record { root = root; targets = targets; snapshot = snapshot; timestamp = timestamp }
+
+one_repository : (m : ℕ) (r : Repository) (a b : RepoKeys) → HaveKeys a → HaveKeys b → repository_lines m r a ≡ repository_lines m r b → a ≡ b
+one_repository m r a b some more h =
+    let all = sym (in_turn m r a) ∙ h ∙ in_turn m r b in
+    let first = fronts (has_role (codes "root")) _ _ _ _ (root_apart m r a) (root_apart m r b) all in
+    let after = behinds (has_role (codes "root")) _ _ _ _ (root_apart m r a) (root_apart m r b) all in
+    let second = fronts (has_role (codes "targets")) _ _ _ _ (targets_apart m r a) (targets_apart m r b) after in
+    let rest = behinds (has_role (codes "targets")) _ _ _ _ (targets_apart m r a) (targets_apart m r b) after in
+    let third = fronts (has_role (codes "snapshot")) _ _ _ _ (snapshot_apart m r a) (snapshot_apart m r b) rest in
+    let last = behinds (has_role (codes "snapshot")) _ _ _ _ (snapshot_apart m r a) (snapshot_apart m r b) rest in
+    let root : a.root ≡ b.root = one_role m r (codes "root") a.root b.root some.root more.root first in
+    let targets : a.targets ≡ b.targets = one_role m r (codes "targets") a.targets b.targets some.targets more.targets second in
+    let snapshot : a.snapshot ≡ b.snapshot = one_role m r (codes "snapshot") a.snapshot b.snapshot some.snapshot more.snapshot third in
+    let timestamp : a.timestamp ≡ b.timestamp = one_role m r (codes "timestamp") a.timestamp b.timestamp some.timestamp more.timestamp last in
+    ap₂ (λ (x y : RoleSecrets). the_keys x y a.snapshot a.timestamp) root targets ∙ ap₂ (λ (x y : RoleSecrets). the_keys b.root b.targets x y) snapshot timestamp
+
+-- ---- a root version
+
+abbrev is_of : Repository → Row → Bool
+is_of r = has_text 1 (repository_word r)
+
+director_passes : (m : ℕ) (keys : RepoKeys) → filter (is_of Director) (repository_lines m Director keys) ≡ repository_lines m Director keys
+director_passes m keys =
+    let t = is_of Director in
+    let w = repository_word Director in
+    filter_both t (role_lines m Director (codes "root") keys.root ++ role_lines m Director (codes "targets") keys.targets ++ role_lines m Director (codes "snapshot") keys.snapshot) (role_lines m Director (codes "timestamp") keys.timestamp) ∙ ap₂ (λ (a b : List Row). a ++ b)
+    (filter_both t (role_lines m Director (codes "root") keys.root ++ role_lines m Director (codes "targets") keys.targets) (role_lines m Director (codes "snapshot") keys.snapshot) ∙ ap₂ (λ (a b : List Row). a ++ b)
+    (filter_both t (role_lines m Director (codes "root") keys.root) (role_lines m Director (codes "targets") keys.targets) ∙ ap₂ (λ (a b : List Row). a ++ b) (lines_pass t m keys.root.threshold w (codes "root") (λ _. by_text (codes "director") (codes "director")) 0 keys.root.keys) (lines_pass t m keys.targets.threshold w (codes "targets") (λ _. by_text (codes "director") (codes "director")) 0 keys.targets.keys))
+    (lines_pass t m keys.snapshot.threshold w (codes "snapshot") (λ _. by_text (codes "director") (codes "director")) 0 keys.snapshot.keys))
+    (lines_pass t m keys.timestamp.threshold w (codes "timestamp") (λ _. by_text (codes "director") (codes "director")) 0 keys.timestamp.keys)
+
+image_fails : (m : ℕ) (keys : RepoKeys) → filter (is_of Director) (repository_lines m Image keys) ≡ []
+image_fails m keys =
+    let t = is_of Director in
+    let w = repository_word Image in
+    none_both t (role_lines m Image (codes "root") keys.root ++ role_lines m Image (codes "targets") keys.targets ++ role_lines m Image (codes "snapshot") keys.snapshot) (role_lines m Image (codes "timestamp") keys.timestamp) (none_both t (role_lines m Image (codes "root") keys.root ++ role_lines m Image (codes "targets") keys.targets) (role_lines m Image (codes "snapshot") keys.snapshot) (none_both t (role_lines m Image (codes "root") keys.root) (role_lines m Image (codes "targets") keys.targets) (lines_fail t m keys.root.threshold w (codes "root") (λ _. by_text (codes "image") (codes "director")) 0 keys.root.keys) (lines_fail t m keys.targets.threshold w (codes "targets") (λ _. by_text (codes "image") (codes "director")) 0 keys.targets.keys))
+    (lines_fail t m keys.snapshot.threshold w (codes "snapshot") (λ _. by_text (codes "image") (codes "director")) 0 keys.snapshot.keys))
+    (lines_fail t m keys.timestamp.threshold w (codes "timestamp") (λ _. by_text (codes "image") (codes "director")) 0 keys.timestamp.keys)
+
+director_apart : (m : ℕ) (keys : KeySet) → Apart (is_of Director) (repository_lines m Director keys.director) (repository_lines m Image keys.image)
+director_apart m keys = record { front = director_passes m keys.director; behind = image_fails m keys.image }
+
+abbrev the_set : RepoKeys → RepoKeys → KeySet
+the_set x y = record { director = x; image = y }
+
+one_root : (m : ℕ) (a b : RootRow) → EachHasKeys a.keys → EachHasKeys b.keys → root_lines m a ≡ root_lines m b → a.keys ≡ b.keys
+one_root m a b some more h =
+    let director : a.keys.director ≡ b.keys.director =
+    one_repository m Director a.keys.director b.keys.director some.director more.director (fronts (is_of Director) _ _ _ _ (director_apart m a.keys) (director_apart m b.keys) h) in
+    let image : a.keys.image ≡ b.keys.image =
+    one_repository m Image a.keys.image b.keys.image some.image more.image (behinds (is_of Director) _ _ _ _ (director_apart m a.keys) (director_apart m b.keys) h) in
+    ap₂ (λ (x y : RepoKeys). the_set x y) director image
+
+-- ---- all root versions
+
+abbrev numbered : ℕ × RootRow → List Row
+numbered r = root_lines r.0 r.1
+
+higher_number : (m n : ℕ) → n < m → is_eq (value_cmp (Int (pos m)) (Int (pos n))) ≡ false
+higher_number m n h = ap is_eq (value_cmp-Int (pos m) (pos n)) ∙ grind (arith, h)
+
+none_of_higher : (m n : ℕ) (rows : List Row) → n < m → AreOfRoot m rows → filter (has_number 0 (pos n)) rows ≡ []
+none_of_higher m n [] high h = refl
+none_of_higher m n (row ∷ rows) high h =
+    let test : has_number 0 (pos n) row ≡ false = ap (λ v. is_eq (value_cmp v (Int (pos n)))) h.0.0 ∙ higher_number m n high in
+    rw (test, none_of_higher m n rows high h.1) refl
+
+none_after : (n i : ℕ) (roots : List RootRow) → n < i → filter (has_number 0 (pos n)) (flat_map numbered (enumerate_from i roots)) ≡ []
+none_after n i [] h = refl
+none_after n i (root ∷ roots) h = none_both (has_number 0 (pos n)) (root_lines i root) (flat_map numbered (enumerate_from (i + 1) roots)) (none_of_higher i n (root_lines i root) h (lines_of_root i root))
+    (none_after n (i + 1) roots (omega (arith, h)))
+
+first_apart : (i : ℕ) (root : RootRow) (roots : List RootRow) → Apart (has_number 0 (pos i)) (root_lines i root) (flat_map numbered (enumerate_from (i + 1) roots))
+first_apart i root roots = record { front = all_kept i (root_lines i root) (lines_of_root i root); behind = none_after i (i + 1) roots (omega (arith)) }
+
+one_list : (i : ℕ) (xs ys : List RootRow) → length xs ≡ length ys → AllByRecursion (λ (r : RootRow). EachHasKeys r.keys) xs → AllByRecursion (λ (r : RootRow). EachHasKeys r.keys) ys
+    → flat_map numbered (enumerate_from i xs) ≡ flat_map numbered (enumerate_from i ys) → map (λ (r : RootRow). r.keys) xs ≡ map (λ (r : RootRow). r.keys) ys
+one_list i [] [] same some more h = refl
+one_list i [] (y ∷ ys) same some more h = absurd (omega (arith, same))
+one_list i (x ∷ xs) [] same some more h = absurd (omega (arith, same))
+one_list i (x ∷ xs) (y ∷ ys) same some more h =
+    let t = has_number 0 (pos i) in
+    let first = fronts t _ _ _ _ (first_apart i x xs) (first_apart i y ys) h in
+    let rest = behinds t _ _ _ _ (first_apart i x xs) (first_apart i y ys) h in
+    ap₂ (λ (k : KeySet) (ks : List KeySet). k ∷ ks) (one_root i x y some.0 more.0 first) (one_list (i + 1) xs ys (omega (arith, same)) some.1 more.1 rest)
+
+-- as many root versions with the same rows of keys have the same keys
+pub one_keys : (xs ys : List RootRow) → length xs ≡ length ys → AllByRecursion (λ (r : RootRow). EachHasKeys r.keys) xs → AllByRecursion (λ (r : RootRow). EachHasKeys r.keys) ys
+    → roots_lines xs ≡ roots_lines ys → map (λ (r : RootRow). r.keys) xs ≡ map (λ (r : RootRow). r.keys) ys
+one_keys xs ys same some more h = one_list 1 xs ys same some more h

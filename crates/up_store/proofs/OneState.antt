@@ -1,0 +1,226 @@
+-- Tables that show two sound states show one.
+use Rattle.std.proofs.Common.{◌≡◌, ℕ, suc, pos, List, [], ◌∷◌, Bool, true, false, Option, Some, None, Ok, map, length, refl, sym, ap, ap₂, subst, ◌∙◌}
+use Rattle.std.specs.Prelude.{option_map, unwrap_or}
+use Rattle.std.specs.List.{AllByRecursion, list_all}
+use Rattle.std.specs.FinMap as table
+use Rattle.sqlite.specs.Order.{Row}
+use Rattle.sqlite.specs.Tree.{Trees}
+use Rattle.sqlite.specs.declared.types.Value.TheVariants.{Int, Text}
+use Rattle.up_canon.specs.Canon.{CanonIsRead}
+use Rattle.up_canon.specs.Names.{Name}
+use Rattle.up_sign.specs.Schemes.{Rules}
+use Rattle.up_plan.specs.Campaigns.{CampaignData}
+use Rattle.up_plan.specs.Images.{ImageData}
+use Rattle.up_plan.specs.declared.campaign.Item.{Item}
+use Rattle.up_plan.specs.declared.campaign.Reach.{Reach}
+use Rattle.up_plan.specs.declared.image.Need.{Need}
+use Rattle.up_columns.specs.Columns.{names_column, names_in, file_names_in, needs_column, needs_in}
+use Rattle.up_columns.specs.CampaignColumns.{reach_column, reach_in, items_column, campaign_items_in}
+use Rattle.up_columns.specs.PlanColumns.{plan_column, plan_in}
+use Rattle.up_columns.proofs.NamesRead.{names-there, file_names-there}
+use Rattle.up_columns.proofs.NeedsRead.{needs-there}
+use Rattle.up_columns.proofs.CampaignsRead.{reach-there, campaign_items-there}
+use Rattle.up_columns.proofs.PlansRead.{plan-there}
+use Rattle.up_machine.specs.Sound.{IsSound}
+use Rattle.up_machine.specs.State.{Entry, Vehicle, Root, State}
+use Rattle.up_machine.specs.declared.rows.EcuRow.{EcuRow}
+use Rattle.up_machine.specs.declared.rows.Founding.{Founding}
+use Rattle.up_machine.specs.declared.rows.Kept.{Kept}
+use Rattle.up_machine.specs.declared.rows.VehicleRows.{VehicleRows}
+use Rattle.up_machine.specs.declared.vehicle.NewEcu.{NewEcu}
+use Rattle.up_rows.specs.declared.root_row.RootRow.{RootRow}
+use Rattle.up_rows.specs.Laws.{RowsTellTheState}
+use Rattle.up_rows.specs.StateRows.{StateRows, rows_of_state, state_of_rows, root_of, ecu_of, entry_of, vehicle_of}
+use Rattle.up_rows.proofs.Tables.{get_changed}
+use Rattle.up_tables.specs.Lines.{ecu_row, meta_row, yes_or_no}
+use Rattle.up_tables.specs.Listed.{ListsTables}
+use Rattle.up_store.specs.Laws.{AreOneButForMoments}
+use Rattle.up_store.specs.Lines.{founding_number, image_lines, campaign_lines, vehicle_lines, ecu_lines, ecus_lines, kept_line}
+use Rattle.up_store.specs.Listing.{ListsRows, IsOfLastRoot, table_rows}
+use Rattle.up_store.specs.Typed.{IsTypedImage, IsTypedCampaign, IsTypedKept}
+use Rattle.up_store.proofs.OneKeys.{one_keys}
+use Rattle.up_store.proofs.WholeTables.{same_table}
+
+-- ---- columns
+
+one_names : CanonIsRead → (xs ys : List Name) → list_all Rattle.up_canon.specs.Names.is_ident xs ≡ true → list_all Rattle.up_canon.specs.Names.is_ident ys ≡ true → names_column xs ≡ names_column ys → xs ≡ ys
+one_names law xs ys h k same = let e = sym (names-there law xs h) ∙ ap names_in same ∙ names-there law ys k in cc
+
+one_files : CanonIsRead → (xs ys : List Name) → list_all Rattle.up_canon.specs.Names.is_file_name xs ≡ true → list_all Rattle.up_canon.specs.Names.is_file_name ys ≡ true → names_column xs ≡ names_column ys → xs ≡ ys
+one_files law xs ys h k same = let e = sym (file_names-there law xs h) ∙ ap file_names_in same ∙ file_names-there law ys k in cc
+
+one_needs : CanonIsRead → (xs ys : List Need) → list_all Rattle.up_columns.specs.Typed.is_typed_need xs ≡ true → list_all Rattle.up_columns.specs.Typed.is_typed_need ys ≡ true → needs_column xs ≡ needs_column ys → xs ≡ ys
+one_needs law xs ys h k same = let e = sym (needs-there law xs h) ∙ ap needs_in same ∙ needs-there law ys k in cc
+
+one_items : CanonIsRead → (xs ys : List Item) → list_all Rattle.up_columns.specs.Typed.is_typed_item xs ≡ true → list_all Rattle.up_columns.specs.Typed.is_typed_item ys ≡ true → items_column xs ≡ items_column ys → xs ≡ ys
+one_items law xs ys h k same = let e = sym (campaign_items-there law xs h) ∙ ap campaign_items_in same ∙ campaign_items-there law ys k in cc
+
+one_reach : CanonIsRead → (x y : Reach) → Rattle.up_columns.specs.Typed.is_typed_reach x ≡ true → Rattle.up_columns.specs.Typed.is_typed_reach y ≡ true → reach_column x ≡ reach_column y → x ≡ y
+one_reach law x y h k same = let e = sym (reach-there law x h) ∙ ap reach_in same ∙ reach-there law y k in cc
+
+-- ---- an image
+
+abbrev the_image : Name → ℕ → List ℕ → List Name → ℕ → List Need → List Name → ImageData
+the_image file size hash hardware release needs conflicts = record { file = file; length = size; sha256 = hash; hardware = hardware; release = release; needs = needs; conflicts = conflicts }
+
+one_image : CanonIsRead → (n : Name) (i j : ImageData) → IsTypedImage n i → IsTypedImage n j → image_lines (Some i) ≡ image_lines (Some j) → i ≡ j
+one_image law n i j ti tj h =
+    let file : i.file ≡ j.file = cc in
+    let size : i.length ≡ j.length = cc in
+    let hash : i.sha256 ≡ j.sha256 = cc in
+    let hardware_text : names_column i.hardware ≡ names_column j.hardware = cc in
+    let release : i.release ≡ j.release = cc in
+    let needs_text : needs_column i.needs ≡ needs_column j.needs = cc in
+    let conflicts_text : names_column i.conflicts ≡ names_column j.conflicts = cc in
+    let hardware : i.hardware ≡ j.hardware = one_names law i.hardware j.hardware ti.hardware tj.hardware hardware_text in
+    let needs : i.needs ≡ j.needs = one_needs law i.needs j.needs ti.needs tj.needs needs_text in
+    let conflicts : i.conflicts ≡ j.conflicts = one_files law i.conflicts j.conflicts ti.conflicts tj.conflicts conflicts_text in
+    let same : the_image i.file i.length i.sha256 i.hardware i.release i.needs i.conflicts ≡ the_image j.file j.length j.sha256 j.hardware j.release j.needs j.conflicts =
+    rw (file, size, hash, hardware, release, needs, conflicts) refl in
+    same
+
+one_image_or_none : CanonIsRead → (n : Name) (a b : Option ImageData) → ((i : ImageData) → a ≡ Some i → IsTypedImage n i) → ((i : ImageData) → b ≡ Some i → IsTypedImage n i) → image_lines a ≡ image_lines b → a ≡ b
+one_image_or_none law n None None ta tb h = refl
+one_image_or_none law n None (Some j) ta tb h = absurd (cc)
+one_image_or_none law n (Some i) None ta tb h = absurd (cc)
+one_image_or_none law n (Some i) (Some j) ta tb h = ap Some (one_image law n i j (ta i refl) (tb j refl) h)
+
+-- ---- a campaign
+
+one_flag : (a b : Bool) → Int (yes_or_no a) ≡ Int (yes_or_no b) → a ≡ b
+one_flag true true h = refl
+one_flag true false h = absurd (cc)
+one_flag false true h = absurd (cc)
+one_flag false false h = refl
+
+abbrev the_campaign : Name → Reach → List Item → Bool → CampaignData
+the_campaign name reach items running = record { name = name; reach = reach; items = items; running = running }
+
+one_campaign : CanonIsRead → (n : Name) (c d : CampaignData) → IsTypedCampaign n c → IsTypedCampaign n d → campaign_lines (Some c) ≡ campaign_lines (Some d) → c ≡ d
+one_campaign law n c d tc td h =
+    let name : c.name ≡ d.name = cc in
+    let reach_text : reach_column c.reach ≡ reach_column d.reach = cc in
+    let items_text : items_column c.items ≡ items_column d.items = cc in
+    let flag : Int (yes_or_no c.running) ≡ Int (yes_or_no d.running) = cc in
+    let reach : c.reach ≡ d.reach = one_reach law c.reach d.reach tc.reach td.reach reach_text in
+    let items : c.items ≡ d.items = one_items law c.items d.items tc.items td.items items_text in
+    let running : c.running ≡ d.running = one_flag c.running d.running flag in
+    let same : the_campaign c.name c.reach c.items c.running ≡ the_campaign d.name d.reach d.items d.running = rw (name, reach, items, running) refl in
+    same
+
+one_campaign_or_none : CanonIsRead → (n : Name) (a b : Option CampaignData) → ((c : CampaignData) → a ≡ Some c → IsTypedCampaign n c) → ((c : CampaignData) → b ≡ Some c → IsTypedCampaign n c) → campaign_lines a ≡ campaign_lines b → a ≡ b
+one_campaign_or_none law n None None ta tb h = refl
+one_campaign_or_none law n None (Some d) ta tb h = absurd (cc)
+one_campaign_or_none law n (Some c) None ta tb h = absurd (cc)
+one_campaign_or_none law n (Some c) (Some d) ta tb h = ap Some (one_campaign law n c d (ta c refl) (tb d refl) h)
+
+-- ---- a vehicle
+
+abbrev the_ecu : Name → Name → List ℕ → NewEcu
+the_ecu ecu hardware public = record { ecu = ecu; hardware = hardware; public = public }
+
+one_ecus : (n : Name) (i : ℕ) (xs ys : List EcuRow) → map ecu_row (ecu_lines n i xs) ≡ map ecu_row (ecu_lines n i ys) → map ecu_of xs ≡ map ecu_of ys
+one_ecus n i [] [] h = refl
+one_ecus n i [] (y ∷ ys) h = absurd (cc)
+one_ecus n i (x ∷ xs) [] h = absurd (cc)
+one_ecus n i (x ∷ xs) (y ∷ ys) h =
+    let ecu : x.ecu ≡ y.ecu = cc in
+    let hardware : x.hardware ≡ y.hardware = cc in
+    let public : x.public ≡ y.public = cc in
+    let tail : map ecu_row (ecu_lines n (suc i) xs) ≡ map ecu_row (ecu_lines n (suc i) ys) = cc in
+    let head : the_ecu x.ecu x.hardware x.public ≡ the_ecu y.ecu y.hardware y.public = rw (ecu, hardware, public) refl in
+    ap₂ (λ (e : NewEcu) (es : List NewEcu). e ∷ es) head (one_ecus n (suc i) xs ys tail)
+
+abbrev the_entry : ℕ → List ℕ → ℕ → ℕ → Rattle.up_plan.specs.declared.assigned.Plan.Plan → Entry
+the_entry counter signed at root plan = record { counter = counter; signed = signed; at = at; root = root; plan = plan }
+
+one_kept : CanonIsRead → (n : Name) (xs ys : List Kept) → AllByRecursion (IsTypedKept n) xs → AllByRecursion (IsTypedKept n) ys → map kept_line xs ≡ map kept_line ys → map entry_of xs ≡ map entry_of ys
+one_kept law n [] [] tx ty h = refl
+one_kept law n [] (y ∷ ys) tx ty h = absurd (cc)
+one_kept law n (x ∷ xs) [] tx ty h = absurd (cc)
+one_kept law n (x ∷ xs) (y ∷ ys) tx ty h =
+    let counter : x.counter ≡ y.counter = cc in
+    let signed : x.signed ≡ y.signed = cc in
+    let at : x.at ≡ y.at = cc in
+    let root : x.root ≡ y.root = cc in
+    let plan_text : plan_column x.plan ≡ plan_column y.plan = cc in
+    let tail : map kept_line xs ≡ map kept_line ys = cc in
+    let plan : x.plan ≡ y.plan = let e = sym (plan-there law x.plan tx.0.plan) ∙ ap plan_in plan_text ∙ plan-there law y.plan ty.0.plan in cc in
+    let head : the_entry x.counter x.signed x.at x.root x.plan ≡ the_entry y.counter y.signed y.at y.root y.plan = rw (counter, signed, at, root, plan) refl in
+    ap₂ (λ (e : Entry) (es : List Entry). e ∷ es) head (one_kept law n xs ys tx.1 ty.1 tail)
+
+abbrev the_vehicle : Name → List NewEcu → List Entry → Vehicle
+the_vehicle primary ecus entries = record { primary = primary; ecus = ecus; entries = entries }
+
+one_vehicle : (n : Name) (kept last : Name → List Kept) (a b : Option VehicleRows) → map entry_of (kept n) ≡ map entry_of (last n) → vehicle_lines a ≡ vehicle_lines b → ecus_lines n a ≡ ecus_lines n b
+    → option_map (vehicle_of kept n) a ≡ option_map (vehicle_of last n) b
+one_vehicle n kept last None None entries h k = refl
+one_vehicle n kept last None (Some w) entries h k = absurd (cc)
+one_vehicle n kept last (Some v) None entries h k = absurd (cc)
+one_vehicle n kept last (Some v) (Some w) entries h k =
+    let primary : v.vehicle.primary ≡ w.vehicle.primary = cc in
+    let ecus = one_ecus n 0 v.ecus w.ecus k in
+    let same : the_vehicle v.vehicle.primary (map ecu_of v.ecus) (map entry_of (kept n)) ≡ the_vehicle w.vehicle.primary (map ecu_of w.ecus) (map entry_of (last n)) = rw (primary, ecus, entries) refl in
+    ap Some same
+
+-- ---- the numbers of `meta`
+
+abbrev number_of : (Founding → ℕ) → StateRows → ℕ
+number_of part rows = founding_number part rows.founding
+
+counted : (founding : Option Founding) (roots : List RootRow) → IsOfLastRoot founding roots → founding_number (λ f. f.root) founding ≡ length roots
+counted None roots h = sym (ap length h)
+counted (Some f) roots h = h.0
+
+numbers_alike : (a b c x y z : ℕ) → meta_row a b c ∷ [] ≡ meta_row x y z ∷ [] → (a ≡ x) × (b ≡ y) × (c ≡ z)
+numbers_alike a b c x y z h = (cc, cc, cc)
+
+-- ---- a state
+
+keys_again : (roots : List RootRow) → map (λ (r : Root). r.keys) (map root_of roots) ≡ map (λ (r : RootRow). r.keys) roots
+keys_again [] = refl
+keys_again (root ∷ roots) = ap (λ ks. root.keys ∷ ks) (keys_again roots)
+
+module _ (law : CanonIsRead) (tell : RowsTellTheState) (k : Rules) (s t : State) (sound : IsSound k s) (also : IsSound k t) (trees : Trees) (one : ListsRows (rows_of_state k s) trees) (two : ListsRows (rows_of_state k t) trees) where
+  abbrev first : StateRows
+  first = rows_of_state k s
+
+  abbrev second : StateRows
+  second = rows_of_state k t
+
+  numbers : (number_of (λ f. f.root) first ≡ number_of (λ f. f.root) second) × (number_of (λ f. f.image_version) first ≡ number_of (λ f. f.image_version) second) × (number_of (λ f. f.stamp) first ≡ number_of (λ f. f.stamp) second)
+  numbers = numbers_alike _ _ _ _ _ _ (sym one.tables.meta ∙ two.tables.meta)
+
+  roots : map (λ (r : RootRow). r.keys) first.roots ≡ map (λ (r : RootRow). r.keys) second.roots
+  roots = one_keys first.roots second.roots (sym (counted first.founding first.roots one.last) ∙ numbers.0 ∙ counted second.founding second.roots two.last) one.typed.roots two.typed.roots
+      (sym one.tables.role_keys.every ∙ two.tables.role_keys.every)
+
+  keys_told : (u : State) → IsSound k u → map (λ (r : RootRow). r.keys) (rows_of_state k u).roots ≡ map (λ (r : Root). r.keys) u.roots
+  keys_told u is = sym (keys_again (rows_of_state k u).roots) ∙ ap (λ (x : State). map (λ (r : Root). r.keys) x.roots) (tell k u is)
+
+  images : s.images ≡ t.images
+  images = same_table s.images t.images (λ n. one_image_or_none law n (table.get s.images n) (table.get t.images n) (one.typed.images n) (two.typed.images n) (sym (one.tables.images.parts n) ∙ two.tables.images.parts n))
+
+  campaigns : s.campaigns ≡ t.campaigns
+  campaigns = same_table s.campaigns t.campaigns (λ n. one_campaign_or_none law n (table.get s.campaigns n) (table.get t.campaigns n) (one.typed.campaigns n) (two.typed.campaigns n) (sym (one.tables.campaigns.parts n) ∙ two.tables.campaigns.parts n))
+
+  vehicle_at : (n : Name) → option_map (vehicle_of first.kept n) (table.get first.vehicles n) ≡ option_map (vehicle_of second.kept n) (table.get second.vehicles n)
+  vehicle_at n = one_vehicle n first.kept second.kept (table.get first.vehicles n) (table.get second.vehicles n)
+      (one_kept law n (first.kept n) (second.kept n) (one.typed.kept n) (two.typed.kept n) (sym (one.tables.kept.parts n) ∙ two.tables.kept.parts n))
+      (sym (one.tables.vehicles.parts n) ∙ two.tables.vehicles.parts n) (sym (one.tables.ecus.parts n) ∙ two.tables.ecus.parts n)
+
+  told : (u : State) → IsSound k u → (n : Name) → table.get u.vehicles n ≡ option_map (vehicle_of (rows_of_state k u).kept n) (table.get (rows_of_state k u).vehicles n)
+  told u is n = sym (ap (λ (x : State). table.get x.vehicles n) (tell k u is)) ∙ get_changed (vehicle_of (rows_of_state k u).kept) (rows_of_state k u).vehicles n
+
+  vehicles : s.vehicles ≡ t.vehicles
+  vehicles = same_table s.vehicles t.vehicles (λ n. told s sound n ∙ vehicle_at n ∙ sym (told t also n))
+
+  pub one_but_for_moments : AreOneButForMoments s t
+  one_but_for_moments = record {
+    roots = sym (keys_told s sound) ∙ roots ∙ keys_told t also;
+    images = images;
+    image_version = sym (ap (λ (x : State). x.image_version) (tell k s sound)) ∙ numbers.1 ∙ ap (λ (x : State). x.image_version) (tell k t also);
+    stamp = sym (ap (λ (x : State). x.stamp) (tell k s sound)) ∙ numbers.2 ∙ ap (λ (x : State). x.stamp) (tell k t also);
+    campaigns = campaigns;
+    vehicles = vehicles;
+  }

@@ -1,0 +1,307 @@
+#!/usr/bin/env python3
+"""Tries the program over HTTP, with clients of several kinds: what `docs/HTTP.md` says. Each wait is bounded.
+
+    http_cases.py PROGRAM
+
+The program serves a file in which `examples/first_path` was carried out, so that its files and the reply that it kept
+are known beforehand.
+"""
+import contextlib
+import http.client
+import json
+import re
+import select
+import shlex
+import shutil
+import socket
+import sqlite3
+import struct
+import subprocess
+import sys
+from contextlib import closing
+
+sys.dont_write_bytecode = True
+
+import reference
+import trials
+
+PRIMARY = trials.TOP / "examples" / "primary"
+FIRST_PATH = (trials.TOP / "examples" / "first_path" / "script").read_text(encoding="ascii").split("\n")[:-1]
+GIVEN, MANIFEST, REPLY = ((PRIMARY / name).read_bytes() for name in ("manifest-input.json", "manifest.json", "reply.json"))
+MANIFEST, REPLY = MANIFEST.strip(), REPLY.strip()
+PATIENCE = 30
+
+GET_ROOT = b"GET /image/root.json HTTP/1.1\r\nHost: d\r\n\r\n"
+NO_FILE = b"GET /image/nofile HTTP/1.1\r\nHost: d\r\n\r\n"
+POST = b"POST /director/manifest HTTP/1.1\r\nHost: d\r\nContent-Length: %d\r\n\r\n"
+UNKNOWN_FILE = b'{"error":29,"text":"UnknownFile"}'
+
+
+def answer(status, body, ends=False):
+    """The bytes of an answer, whose connection ends with it or goes on."""
+    lines = [b"HTTP/1.1 " + status, b"Content-Type: application/json", b"Content-Length: %d" % len(body)]
+    return b"\r\n".join(lines + [b"Connection: close"] * ends) + b"\r\n\r\n" + body
+
+
+OPEN, CLOSED = (answer(b"404 Not Found", UNKNOWN_FILE, ends) for ends in (False, True))
+TOO_LARGE = answer(b"413 Payload Too Large", b'{"error":4,"text":"TooLarge"}', True)
+BAD = answer(b"400 Bad Request", b'{"error":0,"text":"bad request"}', True)
+KEPT = answer(b"200 OK", REPLY)
+
+
+def closing_one(request):
+    return request.replace(b"\r\n\r\n", b"\r\nConnection: Close\r\n\r\n", 1)
+
+
+def free_port():
+    with socket.socket() as probe:
+        probe.bind(("127.0.0.1", 0))
+        return probe.getsockname()[1]
+
+
+@contextlib.contextmanager
+def served(program, path, count):
+    """The program, or the words that run it, while it serves so many connections, and its port."""
+    port = free_port()
+    words = [*(program if isinstance(program, list) else [str(program)]), "serve", str(path), str(port), str(count)]
+    running = subprocess.Popen(words, stdout=subprocess.PIPE, stderr=subprocess.PIPE)
+    try:
+        ready = select.select([running.stdout], [], [], PATIENCE)[0]
+        if not ready or running.stdout.readline() != b"listening %d\n" % port:
+            raise OSError("the program doesn't listen")
+        running.port = port
+        yield running
+    finally:
+        running.kill()
+        running.communicate()
+
+
+def ended(running, err=b""):
+    """Whether the program ends by itself, with status 0 and these lines on standard error."""
+    try:
+        out, told = running.communicate(timeout=PATIENCE)
+    except subprocess.TimeoutExpired:
+        return False
+    return (running.returncode, out, told) == (0, b"", err)
+
+
+def connected(running):
+    client = socket.create_connection(("127.0.0.1", running.port), timeout=PATIENCE)
+    client.setsockopt(socket.IPPROTO_TCP, socket.TCP_NODELAY, 1)
+    return client
+
+
+def to_the_end(client):
+    """What comes until the other side has ended its half."""
+    parts = []
+    while part := client.recv(65536):
+        parts.append(part)
+    return b"".join(parts)
+
+
+def told(running, sent):
+    """What is answered to a client that sends this and ends its half."""
+    with connected(running) as client:
+        client.sendall(sent)
+        client.shutdown(socket.SHUT_WR)
+        return to_the_end(client)
+
+
+def root_text():
+    """The Image repository's Root, by the rules."""
+    with closing(sqlite3.connect(":memory:")) as db:
+        desk = reference.Desk(db)
+        for line in FIRST_PATH:
+            desk.answer(line)
+        return desk.one("SELECT body FROM repo_file WHERE repository = 'image' AND name = 'root.json'")[0].encode()
+
+
+# ---- clients
+
+
+def library(program, path):
+    """Python's client: five requests on one connection."""
+    requests = [("GET", "/image/root.json", None), ("POST", "/director/manifest", MANIFEST),
+                ("POST", "/director/manifest", b"{"), ("HEAD", "/x", None), ("GET", "/image/root.json?a=%20", b"body")]
+    with served(program, path, 1) as running:
+        client = http.client.HTTPConnection("127.0.0.1", running.port, timeout=PATIENCE)
+        answers = []
+        for method, target, body in requests:
+            client.request(method, target, body)
+            came = client.getresponse()
+            answers.append((came.status, came.read()))
+        client.close()
+        root = (200, root_text())
+        return answers == [root, (200, REPLY), (400, b'{"error":5,"text":"NotJson"}'), (404, b""), root] and ended(running)
+
+
+def before_founding(program, _):
+    """Before founding a file is unavailable."""
+    with served(program, ":memory:", 1) as running:
+        wanted = answer(b"503 Service Unavailable", b'{"error":8,"text":"NotFounded"}')
+        return told(running, GET_ROOT) == wanted and ended(running)
+
+
+def half_closed(program, path):
+    """A client that ends its half, then reads."""
+    with served(program, path, 1) as running:
+        return told(running, 2 * NO_FILE + POST % len(MANIFEST) + MANIFEST) == 2 * OPEN + KEPT and ended(running)
+
+
+def silent(program, path):
+    """A client that sends nothing is answered nothing."""
+    with served(program, path, 2) as running:
+        return told(running, b"") == b"" and told(running, NO_FILE) == OPEN and ended(running)
+
+
+def held_open(program, path):
+    """A client that asks for the connection to be closed, and keeps its half open: it is answered, and so is the next one."""
+    with served(program, path, 2) as running, connected(running) as first:
+        first.sendall(closing_one(NO_FILE))
+        well = to_the_end(first) == CLOSED
+        with connected(running) as second:
+            second.sendall(closing_one(NO_FILE))
+            return well and to_the_end(second) == CLOSED and ended(running)
+
+
+def unread(program, path):
+    """A client whose bytes are not all read gets its answer, and no reset."""
+    with served(program, path, 1) as running:
+        return told(running, POST % 262145 + 65 * 65536 * b" ") == TOO_LARGE and ended(running)
+
+
+def behind_the_last(program, path):
+    """What follows a request that closes the connection is not answered, and no reset."""
+    with served(program, path, 1) as running:
+        return told(running, NO_FILE + closing_one(NO_FILE) + 10_000 * NO_FILE) == OPEN + CLOSED and ended(running)
+
+
+def half_a_head(program, path):
+    """A client that leaves in the middle of a head; the next one is served."""
+    with served(program, path, 2) as running:
+        return told(running, b"GET /image/no") == BAD and told(running, NO_FILE) == OPEN and ended(running)
+
+
+def half_a_body(program, path):
+    """A client that leaves in the middle of a body; the next one is served."""
+    with served(program, path, 2) as running:
+        well = told(running, POST % len(MANIFEST) + MANIFEST[:-1]) == BAD
+        return well and told(running, POST % len(MANIFEST) + MANIFEST) == KEPT and ended(running)
+
+
+def reset(program, path):
+    """A connection that is reset is a fault that is told, and the next one is served."""
+    with served(program, path, 2) as running:
+        with connected(running) as client:
+            client.sendall(NO_FILE)
+            well = client.recv(len(OPEN), socket.MSG_WAITALL) == OPEN
+            client.setsockopt(socket.SOL_SOCKET, socket.SO_LINGER, struct.pack("ii", 1, 0))
+        well = well and told(running, NO_FILE) == OPEN
+        return well and ended(running, b"uptane_desk: connection 1: read\n")
+
+
+def gone(program, path):
+    """A client that is gone before its answers are written is a fault that is told, and the next one is served."""
+    with served(program, path, 2) as running:
+        with connected(running) as client:
+            client.setsockopt(socket.SOL_SOCKET, socket.SO_RCVBUF, 4096)
+            client.sendall(99 * (POST % len(MANIFEST) + MANIFEST))
+            client.setsockopt(socket.SOL_SOCKET, socket.SO_LINGER, struct.pack("ii", 1, 0))
+        well = told(running, NO_FILE) == OPEN
+        return well and any(ended(running, b"uptane_desk: connection 1: %s\n" % cause) for cause in (b"read", b"write"))
+
+
+def hundredth(program, path):
+    """A connection ends with its hundredth request."""
+    with served(program, path, 1) as running, connected(running) as client:
+        client.sendall(101 * NO_FILE)
+        return to_the_end(client) == 99 * OPEN + CLOSED and ended(running)
+
+
+def byte_by_byte(program, path):
+    """A request that comes a byte at a time."""
+    with served(program, path, 1) as running, connected(running) as client:
+        for byte in NO_FILE + POST % len(MANIFEST) + MANIFEST:
+            client.sendall(bytes([byte]))
+        client.shutdown(socket.SHUT_WR)
+        return to_the_end(client) == OPEN + KEPT and ended(running)
+
+
+def no_listener(program, path):
+    """A port that is taken."""
+    with socket.socket() as taken:
+        taken.bind(("127.0.0.1", 0))
+        taken.listen()
+        words = [program, "serve", path, str(taken.getsockname()[1]), "1"]
+        ran = subprocess.run(words, capture_output=True, check=False, timeout=PATIENCE)
+    return (ran.returncode, ran.stdout, ran.stderr) == (4, b"", b"uptane_desk: cannot listen\n")
+
+
+def second_program(program, path):
+    """While it serves, a second program on its file is refused."""
+    with served(program, path, 1) as running:
+        refused = trials.run(program, path, FIRST_PATH) == (3, b"", trials.NO_DATABASE)
+        return refused and told(running, NO_FILE) == OPEN and ended(running)
+
+
+# ---- the small Primary and curl
+
+
+def primary(running, *words, given):
+    words = [sys.executable, str(PRIMARY / "primary.py"), *words]
+    words += ["http://127.0.0.1:%d" % running.port] if words[-1] == "send" else []
+    ran = subprocess.run(words, input=given, capture_output=True, check=False, timeout=PATIENCE)
+    return ran.returncode, ran.stdout.strip()
+
+
+def small_primary(program, path):
+    """The small Primary posts its manifest and is answered by the kept reply, then its next one and checks the reply."""
+    after = json.loads(GIVEN)
+    after["counter"] = after["reports"][0]["counter"] = 2
+    with served(program, path, 3) as running:
+        well = primary(running, "send", given=GIVEN) == (0, REPLY)
+        status, reply = primary(running, "send", given=json.dumps(after).encode())
+        well = well and status == 0 and json.loads(reply)["version"] == 2
+        well = well and primary(running, "check", str(PRIMARY / "director-keys.json"), given=reply)[0] == 0
+        after["reports"][0]["key"] = 64 * "e"
+        after["counter"] = 3
+        refused = 1, b'403 {"error":17,"text":"BadReportSignature P1"}'
+        return well and primary(running, "send", given=json.dumps(after).encode()) == refused and ended(running)
+
+
+def exchanges(program, path):
+    """The exchanges that the page shows, as `curl` shows them where it is installed."""
+    page = (trials.TOP / "docs" / "HTTP.md").read_text(encoding="ascii")
+    blocks = re.findall(r"^    \$ (curl [^\n]*)\n((?:    [^\n]*\n|\n(?=    ))*)", page, re.M)
+    yield "the page shows three exchanges", len(blocks) == 3
+    for asked, shown in blocks if shutil.which("curl") else []:
+        with served(program, path, 1) as running:
+            words = shlex.split(asked.replace(":8080", ":%d" % running.port))
+            ran = subprocess.run([*words, "-s", "-m", str(PATIENCE)], capture_output=True, check=False, cwd=PRIMARY)
+            came = ran.stdout.decode("ascii").replace("\r\n", "\n")
+            wanted = re.sub("(?m)^    ", "", shown).strip()
+            yield "`%s`" % asked, came.strip() == wanted and ended(running)
+
+
+CLIENTS = [library, before_founding, half_closed, silent, held_open, unread, behind_the_last, half_a_head, half_a_body, reset,
+           gone, hundredth, byte_by_byte, no_listener, second_program, small_primary]
+
+
+def cases(program):
+    """Each case with whether the program does as the page says."""
+    with trials.folder() as own:
+        trials.printed(program, own / "first", FIRST_PATH)
+        for client in CLIENTS:
+            path = trials.copied(own / "first", own / client.__name__)
+            try:
+                well = client(program, path)
+            except OSError:
+                well = False
+            yield client.__doc__.strip().rstrip("."), well
+        yield from exchanges(program, own / "first")
+
+
+if __name__ == "__main__":
+    if len(sys.argv) != 2:
+        sys.exit(__doc__)
+    sys.exit(trials.judged("HTTP", cases(sys.argv[1])))
