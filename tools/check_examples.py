@@ -26,8 +26,8 @@ def read(path):
     return path.read_text(encoding="ascii")
 
 
-def printed(program, script):
-    ran = subprocess.run([program, "run", ":memory:"], input=script.encode(), capture_output=True, check=False)
+def printed(program, script, path=":memory:"):
+    ran = subprocess.run([program, "run", path], input=script.encode(), capture_output=True, check=False)
     if ran.returncode or ran.stderr:
         return "status %d: %s" % (ran.returncode, ran.stderr.decode())
     return ran.stdout.decode("ascii")
@@ -40,11 +40,15 @@ def primary(*words, given):
 
 
 def scripts(program):
-    """Each script, but those under a scheme that the program hasn't."""
+    """Each script over memory and over a new file, but those under a scheme that the program hasn't."""
     for script in sorted([*EXAMPLES.glob("*/script"), *ROWS.glob("*/script")]):
         folder = script.parent
         if not (folder / "under").exists():
-            yield str(folder.relative_to(TOP)), printed(program, read(script)) == read(folder / "printed")
+            name, wanted = str(folder.relative_to(TOP)), read(folder / "printed")
+            yield name, printed(program, read(script)) == wanted
+            with trials.folder() as own:
+                over_file = printed(program, read(script), own / "desk") == wanted
+                yield name + " over a file", over_file and trials.faults(own / "desk") == []
 
 
 def texts(rows):
@@ -58,13 +62,10 @@ def texts(rows):
 
 
 def wanted():
-    """What the rows of texts and of decisions want is what Python computes from the formats."""
-    for crate in ("up_test_texts", "up_test_decisions"):
-        words = [sys.executable, TOP / "crates" / crate / "expected.py"]
-        ran = subprocess.run(words, capture_output=True, check=False)
-        yield "answers that the rows of %s want" % crate, ran.returncode == 0
-    ran = subprocess.run([sys.executable, TOP / "tools" / "each_line.py", "wanted"], capture_output=True, check=False)
-    yield "answers that the rows of lines want", ran.returncode == 0
+    """What the rows of texts, of decisions and of lines want is what Python computes from the formats and the rules."""
+    for rows, *words in (("texts", "expected_texts.py"), ("decisions", "expected_decisions.py"), ("lines", "each_line.py", "wanted")):
+        ran = subprocess.run([sys.executable, TOP / "tools" / words[0], *words[1:]], capture_output=True, check=False)
+        yield "answers that the rows of %s want" % rows, ran.returncode == 0
 
 
 def limits(program):

@@ -169,8 +169,7 @@ def by_starts(program, path, rows):
         if lines:
             desk.told(text)
             well &= told(lines, trials.printed(program, path, lines) or []) == without_digest(wanted)
-    left = {table: sorted(map(tuple, desk.all("SELECT * FROM " + table)), key=repr) for table in trials.TABLES}
-    return well and trials.rows(path) == left and not trials.faults(path)
+    return well and trials.rows(path) == trials.rows_in(desk.db) and not trials.faults(path)
 
 
 def by_posts(program, path, rows):

@@ -1,5 +1,10 @@
-"""Which examples, rows and texts there have to be: what is missing, and what nobody lists."""
+#!/usr/bin/env python3
+"""Which examples, rows and texts there have to be: what is missing, and what nobody lists.
+
+    expected_files.py       tells it
+"""
 import re
+import sys
 from pathlib import Path
 
 import row_texts
@@ -66,3 +71,9 @@ def gaps():
     yield from apart("rows", listed(rows / "README.md") | set(row_texts.REPLIES) | set(row_texts.FILES), folders(rows))
     for name in sorted(folders(rows)):
         yield from row_gaps(rows / name)
+
+
+if __name__ == "__main__":
+    other = list(gaps())
+    print("\n".join(other) or "nothing is missing")
+    sys.exit(bool(other))

@@ -1,13 +1,15 @@
 #!/usr/bin/env python3
-"""Sends random requests over HTTP in random pieces, and compares the answers and the tables with the rules.
+"""Sends random requests over HTTP in random pieces, and compares the answers and the tables with the rules and with scripts.
 
     fuzz_http.py PROGRAM [FIRST [NUMBER]]
 
 For each seed from FIRST (1) on, NUMBER (100) of them, a script of `tools/fuzz.py` founds and fills a file. The
 program serves it to one connection, which sends manifests, some of them damaged, and asks for files, in pieces
 that are cut anywhere. Each answer has to be, byte for byte, what `tools/reference.py` answers at the moment that
-the program's clock had, and the file has to have its rows. Five more connections send requests whose heads are damaged
-anywhere: whatever they mean, whole answers come, and the file stays as it was.
+the program's clock had, and the file has to have its rows. The same manifests and files are then asked for by script, each
+manifest at the moment that was kept: over a copy of the file as it was, and over memory after the script that filled it.
+Both have to answer alike, and the copy has to have the same rows, byte for byte. Five more connections send requests whose
+heads are damaged anywhere: whatever they mean, whole answers come, and the file stays as it was.
 """
 import contextlib
 import json
@@ -21,6 +23,7 @@ from contextlib import closing
 
 sys.dont_write_bytecode = True
 
+import fleet
 import fuzz
 import http_cases
 import reference
@@ -164,6 +167,46 @@ def came(running, sent, rng):
     return told
 
 
+# ---- by script
+
+
+def line_of(asks, moments):
+    """The line that asks the same; a manifest that was accepted at its moment."""
+    if isinstance(asks, tuple):
+        return fleet.line("fetch", repository=asks[0], file=asks[1])
+    at = fleet.START
+    with contextlib.suppress(reference.Refused):
+        told = reference.read_manifest(asks)
+        at = moments.get((told["vehicle"], told["counter"]), at)
+    return fleet.line("deliver", at, body=asks.decode())
+
+
+def printed_as(line, asks, answer, replies):
+    """Whether a script's line says what the answer says."""
+    head, _, body = answer.partition(b"\r\n\r\n")
+    if not head.startswith(b"HTTP/1.1 200 "):
+        return line == "refused %(error)d %(text)s" % json.loads(body)
+    if isinstance(asks, tuple):
+        return line == "file " + body.decode()
+    told = json.loads(body)
+    said = line.startswith("reply %(vehicle)s version %(version)d targets " % told)
+    return said and replies[told["vehicle"], told["version"]] == body.decode()
+
+
+def by_script(program, before, path, commands, moments):
+    """What went otherwise where the same is asked by script: over the file, and over memory after the lines that filled it."""
+    lines = [line_of(asks, moments) for asks, _ in commands]
+    told, whole = trials.printed(program, path, lines), trials.printed(program, ":memory:", before + lines)
+    if told is None or whole is None or whole[len(whole) - len(lines) :] != told:
+        return "a script over memory"
+    with trials.read(path) as db:
+        replies = {row[:2]: row[2] for row in db.execute("SELECT vehicle, version, reply FROM kept")}
+    for line, (asks, answer) in zip(told, commands, strict=True):
+        if not printed_as(line, asks, answer, replies):
+            return "a script over a file: %s\n  over HTTP: %r" % (line[:300], answer[:300])
+    return None
+
+
 # ---- damaged heads
 
 ANSWER = re.compile(rb"HTTP/1\.1 (\d{3}) ([A-Za-z ]+)\r\nContent-Type: application/json\r\nContent-Length: (\d+)\r\n"
@@ -203,11 +246,12 @@ def hostile(program, path, rng):
 
 def tried(program, seed, own):
     script = fuzz.Script(seed)
-    path, rules = own / "served", own / "rules"
-    if trials.printed(program, path, script.made()) is None:
+    path, rules, scripted, lines = own / "served", own / "rules", own / "scripted", script.made()
+    if trials.printed(program, path, lines) is None:
         return "the script"
     shutil.copy(path, rules)
-    rng = random.Random(seed)
+    shutil.copy(path, scripted)
+    rng, commands = random.Random(seed), []
     requests = Stream(seed, script).made()
     with http_cases.served(program, path, 1) as running:
         told = came(running, b"".join(it.sent for it in requests), rng)
@@ -223,11 +267,14 @@ def tried(program, seed, own):
                 words = number, request.sent[:300], wanted[:300], told[:300]
                 return "request %d: %r\n  rules: %r\n  program: %r" % words
             told = told[len(wanted) :]
+            if request.check is None:
+                commands.append((request.asks, wanted))
     if told:
         return "more than the answers: %r" % told[:300]
     if not hostile(program, path, rng):
         return "damaged heads"
-    return None if trials.rows(path) == trials.rows(rules) else "other rows"
+    other = by_script(program, lines, scripted, commands, moments)
+    return other or (None if trials.rows(path) == trials.rows(rules) == trials.rows(scripted) else "other rows")
 
 
 def cases(program, first=1, number=100):

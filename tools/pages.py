@@ -1,6 +1,11 @@
-"""What the pages name is there: links, headings, contracts, tests, refused edits, rows, and the texts of the Primary's page.
-Tests are functions, or sections of the rows that a crate carries out, named by their words."""
+#!/usr/bin/env python3
+"""What the pages name is there: links, headings, files, contracts, calls, tests, refused edits, rows, and the texts of the
+Primary's page. Tests are functions, or sections of the rows that a crate or a tool carries out, named by their words.
+
+    pages.py        tells what isn't there
+"""
 import re
+import sys
 from pathlib import Path
 
 TOP = Path(__file__).resolve().parent.parent
@@ -31,13 +36,24 @@ def links():
                 yield "%s: the link %s" % (page.relative_to(TOP), link), leads(page, link)
 
 
+def files():
+    """The files and folders of the repository that the pages name, but for what is built."""
+    for page in pages():
+        named = re.findall(r"`((?:tools|docs|rows|examples|crates|up_\w+)/[\w./-]*)`", page.read_text(encoding="utf-8"))
+        for name in sorted(set(named)):
+            if "/NAME/" not in name and "/out/" not in name:
+                yield "%s: the file %s" % (page.relative_to(TOP), name), any((top / name).exists() for top in (TOP, TOP / "crates"))
+
+
 def promised():
-    """The names that the page of proofs and that on the Standard give, with what each names."""
+    """The names that the front page, the page of proofs and that on the Standard give, with what each names."""
     proofs, standard = ((TOP / "docs" / name).read_text(encoding="utf-8") for name in ("PROOFS.md", "STANDARD.md"))
-    for label in ("Contract", "Tests", "Rows", "Edits"):
+    front = (TOP / "README.md").read_text(encoding="utf-8").split("\n## What is proved\n")[1].split("\n## ")[0]
+    yield from (("README.md", "Contract", name) for name in re.findall(r"`([\w:]+)`", front))
+    for label in ("Contract", "Calls", "Tests", "Rows", "Edits"):
         for part in re.findall(r"\*%s\*(.*?)(?=\n  \*|\n- |\n\n|\n#)" % label, proofs, re.DOTALL):
-            named = r"`([\w:\- ]+)`" if label == "Tests" else r"`([\w:\-]+)`"
-            yield from (("PROOFS.md", label, name) for name in re.findall(named, part))
+            named = r"[\w:\-, ]+" if label == "Tests" else r"[\w:\-]+"
+            yield from (("PROOFS.md", label, name) for name in re.findall(r"`([^`]+)`", part) if re.fullmatch(named, name))
     for begins, label in (("Contract", "Contract"), ("Shown by", "Tests, Rows")):
         for part in re.findall(r"- %s:(.*?)(?=\n- |\n\n)" % begins, standard, re.DOTALL):
             yield from (("STANDARD.md", label, name) for name in re.findall(r"`([\w: ]+)`", part))
@@ -49,7 +65,7 @@ def read_all(pattern):
 
 def sections():
     """The words of the sections of rows, with and without the scheme under which they stand."""
-    words = re.findall(r"^# (.+)$", read_all("crates/*/stdin"), re.MULTILINE)
+    words = re.findall(r"^# (.+)$", read_all("crates/*/stdin") + "\n" + read_all("rows/each_answer"), re.MULTILINE)
     return {name for it in words for name in (it, it.split(" under ")[0])}
 
 
@@ -59,6 +75,7 @@ def names_there():
     contracts = re.findall(r"\b(?:fn|ensures|struct|enum|trait|mod) (\w+)", code)
     return {
         "Contract": set(contracts) | set(re.findall(r"\bpub (?:record |data )?(\w+)", specs)),
+        "Calls": set(re.findall(r"\b(?:fn|impl|struct|trait) (\w+)", code)),
         "Tests": set(re.findall(r"#\[test\]\s*fn (\w+)", code)) | {path.name for path in TOP.glob("crates/*")} | sections(),
         "Rows": {path.parent.name for path in TOP.glob("rows/*/script")},
         "Edits": {path.stem for path in TOP.glob("crates/*/*/*.edit")},
@@ -71,7 +88,7 @@ def promises():
     for page, labels, name in sorted(set(promised())):
         words = set(name.split("::"))
         if labels != "Edits" or "-" in name:
-            yield "docs/%s: %s" % (page, name), any(words <= there[label] for label in labels.split(", "))
+            yield "%s: %s" % (page, name), any(words <= there[label] for label in labels.split(", "))
 
 
 def primary():
@@ -83,7 +100,13 @@ def primary():
 
 def cases():
     """Each of the names that lead nowhere, and what the pages show."""
-    found = [*links(), *promises()]
+    found = [*links(), *files(), *promises()]
     yield "%d links and names of the pages" % len(found), all(well for _, well in found)
     yield from ((name, well) for name, well in found if not well)
     yield from primary()
+
+
+if __name__ == "__main__":
+    other = [name for name, well in cases() if not well]
+    print("\n".join(other) or "nothing is missing")
+    sys.exit(bool(other))

@@ -3,6 +3,7 @@
 
     speed.py PROGRAM fleets       instructions a line, by callgrind, of scripts of three fleets; needs valgrind
     speed.py PROGRAM functions    the five functions that take most of them, in the fleet of `fleets` that is first
+    speed.py PROGRAM commands     instructions of a line of each kind, by callgrind; needs valgrind
     speed.py PROGRAM lines        lines a second over a file, as a ratio to the same script over memory
     speed.py PROGRAM growth       how a manifest's time grows with kept replies, images, campaigns and vehicles
     speed.py PROGRAM start        processor seconds and memory of a start over files of so many kept replies
@@ -55,6 +56,38 @@ def functions(program, own):
     found = re.findall(r"^ *([\d,]+) \(([ \d.]+%)\)  *(?:[^:\n]*):(.*?)(?: \[.*)?$", shown, re.M)
     for _, share, name in found[:5]:
         print("| `%s` | %s |" % (name, share.strip()))
+
+
+def kinds_of_lines():
+    """Lines of each kind, ten but for the founding, after lines that are carried out first."""
+    desk = fleet.Fleet(vehicles=10, ecus=4, images=20, campaigns=5, seed=1)
+    setup, few = list(desk.setup()), range(10)
+    manifests = [fleet.line("deliver", body=fleet.body(told)) for told in desk.manifests(1)]
+    ecus = [{"hardware": kind, "key": key} for _, kind, key in desk.vehicles["v000000"]]
+    named = lambda name: [ecu | {"ecu": "%s-e%d" % (name, at)} for at, ecu in enumerate(ecus)]
+    items = [{"hardware": desk.images[0]["hardware"][0], "file": desk.images[0]["file"]}]
+    campaigns = [fleet.line("open_campaign", campaign="n%d" % at, vehicles="all", items=items) for at in few]
+    image = {"length": 1, "sha256": fleet.digest("new"), "hardware": ["HP"], "release": 99}
+    yield "`found`", [], setup[:1]
+    yield "`rotate`", setup, [fleet.line("rotate", **fleet.key_set(81))] * 10
+    yield "`add_vehicle`, of 4 ECUs", setup, [
+        fleet.line("add_vehicle", vehicle="n%d" % at, primary="n%d-e0" % at, ecus=named("n%d" % at)) for at in few]
+    yield "`add_image`, the 21st to the 30th", setup, [fleet.line("add_image", file="n%d" % at, **image) for at in few]
+    yield "`refresh`, with 20 images", setup, [fleet.line("refresh", version=100 + at) for at in few]
+    yield "`open_campaign`, for all", setup, campaigns
+    yield "`close_campaign`", setup + campaigns, [fleet.line("close_campaign", campaign="n%d" % at) for at in few]
+    yield "a manifest of 4 ECUs", setup, manifests
+    yield "its repeat", setup + manifests, manifests
+    yield "`fetch` of a Timestamp", setup, [fleet.line("fetch", repository="image", file="timestamp.json")] * 10
+    yield "`show`, of 4 ECUs", setup + manifests, [fleet.line("show", vehicle="v%06d" % at) for at in few]
+
+
+def commands(program, own):
+    for name, before, lines in kinds_of_lines():
+        answers = trials.printed(program, ":memory:", before + lines)
+        assert answers is not None and not any(answer.startswith(("refused", "already")) for answer in answers)
+        more = counted(program, before + lines, own, own / "told") - counted(program, before, own, own / "told")
+        print("| %s | %d |" % (name, more // len(lines)), flush=True)
 
 
 def seconds(program, path, script):
@@ -237,7 +270,7 @@ def head(program, own):
 
 
 if __name__ == "__main__":
-    parts = {part.__name__: part for part in (fleets, functions, lines, growth, start, http, head)}
+    parts = {part.__name__: part for part in (fleets, functions, commands, lines, growth, start, http, head)}
     if len(sys.argv) != 3 or sys.argv[2] not in parts:
         sys.exit(__doc__)
     with trials.folder() as here:

@@ -86,7 +86,7 @@ def ruled(lines, lost):
     with closing(sqlite3.connect(":memory:")) as db:
         desk = reference.Desk(db)
         answers = [desk.answer(line.encode()) for i, line in enumerate(lines) if i not in lost]
-        return answers, {table: sorted(map(tuple, desk.all("SELECT * FROM " + table)), key=repr) for table in trials.TABLES}
+        return answers, trials.rows_in(db)
 
 
 def swept(program, lines, own, call):

@@ -1,18 +1,28 @@
 #!/usr/bin/env python3
 """Makes one call of the program fail, the first, the second, and so on until a run ends without: needs a C compiler.
 
-    sweeps.py PROGRAM KIND [EVERY]      KIND is memory, disk or http; EVERY (1) tries only each so manieth call
+    sweeps.py PROGRAM KIND [EVERY [FIRST]]
+
+KIND is memory, disk or http. Only every EVERY-th (1) call is tried, from call FIRST (1) on. A word in place of FIRST
+draws one of the calls 1 to EVERY, so that another part is tried each time.
 
 `memory` refuses a request for memory, `disk` fails a read, write or sync of the database's files, each over the rows of
 `rows/` that are named here, a line at a time over a file. Every answer has to be the row's, or `refused 1 Memory`, upon
-which the line is given again at once and has to have the row's answer, or, where the disk failed, `refused 2 Store`; or the
-program stops with its message. Then the file has to have the rows that `tools/reference.py` makes of just the lines that
-were answered, or of the next one too; the rest of the row is carried out over it by a new start, and has to end as the row
-does. `http` refuses memory while a manifest is posted twice, a request a connection.
+which the tables are those before the line, and the line is given again at once and has to have the row's answer; or, where
+the disk failed, `refused 2 Store`; or the program stops with its message. Then the file has to have the rows that
+`tools/reference.py` makes of just the lines that were answered, or of the next one too; the rest of the row is carried out
+over it by a new start, and has to end as the row does.
+
+`http` refuses memory while a vehicle's first manifest is posted four times, a request a connection. Each answer has to be
+the kept reply, but for one, which may be a 503 for want of memory or none, and the tables those of the rules at the moment
+that was kept.
 """
+import hashlib
 import os
+import sqlite3
 import subprocess
 import sys
+from contextlib import closing
 from pathlib import Path
 
 sys.dont_write_bytecode = True
@@ -21,11 +31,12 @@ import http_cases
 import reference
 import trials
 
-ROWS = ["first_manifest", "withheld_for_a_need", "kept_reply_after_a_rotation", "images_taken",
+ROWS = ["first_manifest", "equal_and_greater_releases", "kept_reply_after_a_rotation", "images_taken",
         "files_of_the_image_repository", "campaigns"]
 REFUSED = {"memory": "refused 1 Memory", "disk": "refused 2 Store"}
 VARIABLES = {"memory": "FAIL_ALLOC", "disk": "FAIL_IO", "http": "FAIL_ALLOC"}
 MESSAGES = [b"", b"uptane_desk: stopped after %d lines: memory\n", trials.NO_DATABASE]
+POSTS = 4
 
 
 def built(own):
@@ -50,6 +61,28 @@ class Failing:
         return self.mark.exists()
 
 
+class Sweep:
+    """Which calls are made to fail."""
+
+    def __init__(self, own, kind, every, first):
+        self.own, self.kind, self.every, self.first = own, kind, every, first
+        self.library = built(own)
+
+    def over(self, name, attempt):
+        """Makes calls of attempts fail in turn, until one ends without; tells each that went otherwise than it has to."""
+        number, tries, bad = self.first, 0, 0
+        while True:
+            failing = Failing(self.library, self.own / "mark", self.kind, number)
+            other = attempt(failing)
+            if other:
+                bad += 1
+                print("%s, call %d: %s" % (name, number, other), flush=True)
+            if not failing.failed():
+                break
+            number, tries = number + self.every, tries + 1
+        return "%s: %d calls failed in turn, of fewer than %d" % (name, tries, number), tries > 0 and not bad
+
+
 class Row:
     """A row's lines, what they print, and the tables after each of them."""
 
@@ -62,6 +95,13 @@ class Row:
             assert trials.expected(path, self.lines[max(count - 1, 0) : count]) == self.printed[max(count - 1, 0) : count]
             self.states.append(trials.rows(path))
 
+    def shown(self, path):
+        """The tables of the file, or none where it isn't a database; those of the empty state where nothing was written."""
+        try:
+            return trials.rows(path) if path.exists() and path.stat().st_size else self.states[0]
+        except sqlite3.DatabaseError:
+            return None
+
 
 def ask(it, line):
     """The answer to a line, without its newline; empty where the program has ended."""
@@ -73,11 +113,13 @@ def ask(it, line):
     return it.stdout.readline().decode("ascii").removesuffix("\n")
 
 
-def answered(it, row, kind):
+def answered(it, row, kind, path):
     """How many lines had the row's answers, and whether the last answer, if another, is one that there may be."""
     for count, (line, wanted) in enumerate(zip(row.lines, row.printed)):
         told = ask(it, line)
         if kind == "memory" and told == REFUSED[kind]:
+            if row.shown(path) != row.states[count]:
+                return count, False
             told = ask(it, line)
         if told != wanted:
             return count, told == "" or (kind == "disk" and told == REFUSED[kind])
@@ -94,17 +136,18 @@ def ended(it, count):
 
 def found(path, row, count):
     """How many lines of the row the file has carried out; none where it isn't what it has to be."""
-    try:
-        rows = trials.rows(path) if path.exists() and path.stat().st_size else row.states[0]
-    except trials.sqlite3.DatabaseError:
+    rows = row.shown(path)
+    if rows is None:
         return 0 if count == 0 else None
     return next((at for at in (count, count + 1) if row.states[at : at + 1] == [rows]), None)
 
 
 def tried(program, row, failing, kind, path):
     """What went otherwise than it has to, in words; none where all went well."""
+    for part in (path, trials.log_of(path)):
+        part.unlink(missing_ok=True)
     it = failing.start([program, "run", path])
-    count, well = answered(it, row, kind)
+    count, well = answered(it, row, kind, path)
     if not ended(it, count) or not well:
         return "another answer or end after %d lines" % count
     if not failing.failed():
@@ -117,70 +160,76 @@ def tried(program, row, failing, kind, path):
     return None if trials.rows(path) == row.states[-1] and trials.faults(path) == [] else "other rows at the end"
 
 
-def swept(program, own, kind, every):
-    library = built(own)
+def over_rows(program, own, sweep):
     for row in [Row(name, own) for name in ROWS]:
-        number, tries, bad = 1, 0, []
-        while True:
-            path, failing = own / "swept", Failing(library, own / "mark", kind, number)
-            for part in (path, trials.log_of(path)):
-                part.unlink(missing_ok=True)
-            other = tried(program, row, failing, kind, path)
-            if other:
-                bad.append("%s, call %d: %s" % (row.name, number, other))
-                print(bad[-1], flush=True)
-            if not failing.failed():
-                break
-            number, tries = number + every, tries + 1
-        yield "%s: %d calls of %d failed in turn" % (row.name, tries, number), not bad
+        yield sweep.over(row.name, lambda failing: tried(program, row, failing, sweep.kind, own / "swept"))
 
 
 # ---- HTTP
 
 
+def by_the_rules(path):
+    """The tables after the manifest was accepted at the moment that the file has kept, and its reply."""
+    with trials.read(path) as db:
+        moment = db.execute("SELECT moment FROM kept").fetchone()
+    if moment is None:
+        return None, None
+    with closing(sqlite3.connect(":memory:")) as db:
+        desk = reference.Desk(db)
+        for line in http_cases.FIRST_PATH[:2]:
+            desk.answer(line)
+        desk.delivered(http_cases.MANIFEST, moment[0])
+        return trials.rows_in(db), desk.one("SELECT reply FROM kept")[0].encode()
+
+
 def posted(program, path, failing):
-    """What went otherwise than it has to while a manifest was posted twice over connections of its own each."""
-    body, port, got = http_cases.MANIFEST, http_cases.free_port(), []
+    """What went otherwise than it has to while the manifest was posted over connections of its own each."""
+    body, port, before = http_cases.MANIFEST, http_cases.free_port(), trials.rows(path)
     it = failing.start([program, "serve", path, port, 20])
     if it.stdout.readline() != b"listening %d\n" % port:
         status, err = it.wait(60), it.stderr.read()
-        return None if (status, err) == (3, trials.NO_DATABASE) or err.startswith(b"usage: ") else "no start"
+        well = (status, err) == (3, trials.NO_DATABASE) or err.startswith(b"usage: ")
+        return None if well and trials.rows(path) == before else "no start"
     it.port = port
-    for _ in range(4):
-        got.append(http_cases.told(it, http_cases.POST % len(body) + body))
+    got = [http_cases.told(it, http_cases.POST % len(body) + body) for _ in range(POSTS)]
     it.kill()
     _, err = it.communicate()
+    rows, reply = by_the_rules(path)
+    if rows != trials.rows(path):
+        return "other rows"
+    lost = [at for at, answer in enumerate(got, 1) if answer != http_cases.answer(b"200 OK", reply)]
     memory = http_cases.answer(b"503 Service Unavailable", b'{"error":1,"text":"Memory"}')
-    whole = [answer for answer in got if answer not in (b"", memory)]
-    if len(whole) < 3 or any(answer != http_cases.KEPT for answer in whole):
+    if len(lost) > 1 or any(got[at - 1] not in (b"", memory) for at in lost):
         return "other answers: %r" % got
-    told = [b"uptane_desk: connection %d: memory\n" % (at + 1) for at, answer in enumerate(got) if answer == b""]
+    told = [b"uptane_desk: connection %d: memory\n" % at for at in lost if got[at - 1] == b""]
     return None if err == b"".join(told) else "another message: %r" % err
 
 
-def over_http(program, own, every):
-    """The manifest is a repeat: the desk has its reply already, so that the clock doesn't matter."""
-    library, number, tries, bad = built(own), 1, 0, []
-    trials.printed(program, own / "first", http_cases.FIRST_PATH)
-    while True:
-        path, failing = trials.copied(own / "first", own / "swept"), Failing(library, own / "mark", "http", number)
-        other = posted(program, path, failing)
-        if other or trials.rows(path) != trials.rows(own / "first"):
-            bad.append(other or "other rows")
-            print("call %d: %s" % (number, bad[-1]), flush=True)
-        if not failing.failed():
-            break
-        number, tries = number + every, tries + 1
-    yield "manifests over HTTP: %d calls of %d failed in turn" % (tries, number), not bad
+def over_http(program, own, sweep):
+    """The file was founded and has the vehicle, so that the first post is accepted and the others are repeats."""
+    assert trials.printed(program, own / "first", http_cases.FIRST_PATH[:2]) == ["done", "done"]
+
+    def attempt(failing):
+        trials.log_of(own / "swept").unlink(missing_ok=True)
+        return posted(program, trials.copied(own / "first", own / "swept"), failing)
+
+    yield sweep.over("a manifest over HTTP", attempt)
 
 
-def main(program, kind, every="1"):
+def drawn(first, every):
+    """The call to begin with: a number, or the one that a word draws."""
+    if first.isdecimal():
+        return int(first)
+    return 1 + int(hashlib.sha256(first.encode()).hexdigest(), 16) % every
+
+
+def main(program, kind, every="1", first="1"):
     with trials.folder() as own:
-        tries = over_http(program, own, int(every)) if kind == "http" else swept(program, own, kind, int(every))
-        return trials.judged(kind, tries)
+        sweep = Sweep(own, kind, int(every), drawn(first, int(every)))
+        return trials.judged(kind, (over_http if kind == "http" else over_rows)(program, own, sweep))
 
 
 if __name__ == "__main__":
-    if len(sys.argv) not in (3, 4) or sys.argv[2] not in VARIABLES:
+    if len(sys.argv) not in (3, 4, 5) or sys.argv[2] not in VARIABLES:
         sys.exit(__doc__)
     sys.exit(main(*sys.argv[1:]))

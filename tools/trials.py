@@ -59,10 +59,15 @@ def read(path):
         yield db
 
 
+def rows_in(db):
+    """All rows of all tables of a database."""
+    return {table: sorted(map(tuple, db.execute("SELECT * FROM " + table)), key=repr) for table in TABLES}
+
+
 def rows(path):
-    """All rows of all tables."""
+    """All rows of all tables of a file."""
     with read(path) as db:
-        return {table: sorted(db.execute("SELECT * FROM " + table), key=repr) for table in TABLES}
+        return rows_in(db)
 
 
 def faults(path):

@@ -1,8 +1,11 @@
-"""Computes what the rows of stdin want, by Python's own libraries from the formats in docs/FORMATS.md, and tells where it is something else.
-Refusals and the rows that are wrong on purpose are left out: their answers are by hand."""
+#!/usr/bin/env python3
+"""Computes what the rows of texts want, by Python's own libraries from the formats in docs/FORMATS.md, and tells where it is
+something else. The rows are the standard input of the crate `up_test_texts`. Refusals and the rows that are wrong on purpose
+are left out: their answers are by hand."""
 import datetime, hashlib, hmac, json, re, sys
 from pathlib import Path
 
+ROWS = Path(__file__).resolve().parent.parent / "crates" / "up_test_texts" / "stdin"
 UTC = datetime.timezone.utc
 FORM = "%Y-%m-%dT%H:%M:%SZ"
 time = lambda second: datetime.datetime.fromtimestamp(second, UTC).strftime(FORM)
@@ -164,7 +167,7 @@ def computed(call, given):
 
 def main():
     same = by_hand = 0
-    text = (Path(__file__).parent / "stdin").read_text(encoding="utf-8")
+    text = ROWS.read_text(encoding="utf-8")
     for section in text.split("\n# dance")[0].rsplit("\n# canonical", 1)[0].split("\n# ")[1:]:
         call = section.split("\n", 1)[0]
         for given, wanted in rows(section):

@@ -1,7 +1,11 @@
-"""Computes the answers that the rows of stdin want where they have digests, under each scheme, by Python's own libraries from
-the formats in docs/FORMATS.md, and tells which of them no row wants, and which wanted ones aren't among them."""
+#!/usr/bin/env python3
+"""Computes the answers that the rows of decisions want where they have digests, under each scheme, by Python's own libraries
+from the formats in docs/FORMATS.md, and tells which of them no row wants, and which wanted ones aren't among them. The rows
+are the standard input of the crate `up_test_decisions`."""
 import datetime, hashlib, hmac, json, re, sys
 from pathlib import Path
+
+ROWS = Path(__file__).resolve().parent.parent / "crates" / "up_test_decisions" / "stdin"
 H = lambda b: hashlib.sha256(b).hexdigest()
 canon = lambda v: json.dumps(v, sort_keys=True, separators=(",", ":"))
 class Hmac:
@@ -110,7 +114,7 @@ def both(name):
 
 
 def main():
-    rows = (Path(__file__).parent / "stdin").read_text(encoding="utf-8").split("\n")
+    rows = ROWS.read_text(encoding="utf-8").split("\n")
     wanted = {row.split(" => ", 1)[1] for row in rows if re.search(r" => .*[0-9a-f]{64}", row)}
     computed = {both(name) for name in EXPECTED}
     for answer in sorted(wanted ^ computed):
