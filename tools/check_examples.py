@@ -62,8 +62,9 @@ def texts(rows):
 
 
 def wanted():
-    """What the rows of texts, of decisions and of lines want is what Python computes from the formats and the rules."""
-    for rows, *words in (("texts", "expected_texts.py"), ("decisions", "expected_decisions.py"), ("lines", "each_line.py", "wanted")):
+    """What the rows of texts, of decisions, of streams and of lines want is what Python computes from the formats and the rules."""
+    computed = [("texts", "expected_texts.py"), ("decisions", "expected_decisions.py"), ("streams", "expected_streams.py")]
+    for rows, *words in [*computed, ("lines", "each_line.py", "wanted")]:
         ran = subprocess.run([sys.executable, TOP / "tools" / words[0], *words[1:]], capture_output=True, check=False)
         yield "answers that the rows of %s want" % rows, ran.returncode == 0
 

@@ -1,12 +1,14 @@
 #!/usr/bin/env python3
 """Tries the program from outside, over files and over HTTP: runs the tools that do, as many at once as there are processors.
 
-    check_program.py PROGRAM
+    check_program.py PROGRAM [WORD]
 
 Random scripts and requests are those of a hundred seeds. Each tool has five minutes; on four processors all take about two.
+Where there is a WORD it draws a part of the sweeps of `tools/sweeps.py`, some ten seconds of each kind; they need a C compiler.
 """
 import os
 import re
+import shutil
 import subprocess
 import sys
 from concurrent.futures import ThreadPoolExecutor
@@ -17,6 +19,8 @@ LIMIT = 300
 # the longest first
 TRIED = [("file_cases.py",), ("fuzz.py", "1", "50"), ("fuzz.py", "51", "50"), ("http_fleet.py",), ("fuzz_http.py", "1", "50"),
          ("fuzz_http.py", "51", "50"), ("http_cases.py",), ("each_line.py",), ("tables.py",)]
+# every so manieth call of a kind
+SWEPT = {"memory": "997", "disk": "31", "http": "199"}
 
 
 def ran(program, words):
@@ -35,10 +39,20 @@ def ran(program, words):
     return told, passed, max(failed, int(done.returncode != 0))
 
 
-def main(program):
+def tried(word):
+    """The words of each tool. Without a C compiler no call can be made to fail."""
+    if not word:
+        return TRIED
+    if not shutil.which("cc"):
+        print("no C compiler, so no sweeps")
+        return TRIED
+    return TRIED + [("sweeps.py", kind, every, word) for kind, every in SWEPT.items()]
+
+
+def main(program, word=""):
     passed = failed = 0
     with ThreadPoolExecutor(os.cpu_count()) as pool:
-        for told, good, bad in pool.map(lambda words: ran(program, words), TRIED):
+        for told, good, bad in pool.map(lambda words: ran(program, words), tried(word)):
             print(told, end="", flush=True)
             passed, failed = passed + good, failed + bad
     print("%d passed, %d failed" % (passed, failed))
@@ -46,6 +60,6 @@ def main(program):
 
 
 if __name__ == "__main__":
-    if len(sys.argv) != 2:
+    if len(sys.argv) not in (2, 3):
         sys.exit(__doc__)
-    sys.exit(main(sys.argv[1]))
+    sys.exit(main(*sys.argv[1:]))

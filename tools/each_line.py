@@ -106,10 +106,17 @@ def bodies(text):
 # ---- what is told
 
 
-def told(lines, printed):
-    """What is told of printed lines, without the digests of replies."""
-    one = [re.sub(r"^vehicle \S+ ", "", line) for line in printed]
-    one = ["file " + digest(line[5:]) if line.startswith("file ") else line for line in one]
+def short(answer):
+    """What is told of a printed line, behind which the text of its reply may stand."""
+    line, _, text = answer.partition("\n")
+    if line.startswith("file "):
+        return "file " + digest(line[5:])
+    return line + " " + digest(text) if text else re.sub(r"^vehicle \S+ ", "", line)
+
+
+def told(printed):
+    """What is told of printed lines, with the digests of replies whose texts stand behind them."""
+    one = list(map(short, printed))
     if len(one) > 1:
         return "%d %s" % (len(one), one[0] if one[0] == "done" else "times " + one[0]) if len(set(one)) == 1 else "not all alike"
     return one[0] if one else "nothing"
@@ -120,14 +127,14 @@ def without_digest(wanted):
 
 
 class Desk(reference.Desk):
-    """The rules, with digests of replies."""
+    """The rules over tables in memory, with the text of a reply behind its line."""
 
     def __init__(self):
         super().__init__(sqlite3.connect(":memory:"))
 
     def printed(self, kept):
         sql = "SELECT reply FROM kept WHERE vehicle = ? AND version = ?"
-        return super().printed(kept) + " " + digest(self.one(sql, kept["vehicle"], kept["version"])[0])
+        return super().printed(kept) + "\n" + self.one(sql, kept["vehicle"], kept["version"])[0]
 
     def body(self, body):
         try:
@@ -139,8 +146,8 @@ class Desk(reference.Desk):
     def told(self, text):
         lines = script(text)
         if lines:
-            return told(lines, [self.answer(line.encode()) for line in lines])
-        return "".join(map(self.body, bodies(text))) or "no hex"
+            return told([self.answer(line.encode()) for line in lines])
+        return "".join(short(self.body(body)) for body in bodies(text)) or "no hex"
 
 
 # ---- the program
@@ -158,7 +165,7 @@ def wells(rows, printed):
     for _, text, wanted in rows:
         if text and script(text):
             lines = script(text)
-            yield told(lines, [next(printed) for _ in lines]) == without_digest(wanted)
+            yield told([next(printed) for _ in lines]) == without_digest(wanted)
 
 
 def by_starts(program, path, rows):
@@ -168,7 +175,7 @@ def by_starts(program, path, rows):
         lines = script(text) if text else []
         if lines:
             desk.told(text)
-            well &= told(lines, trials.printed(program, path, lines) or []) == without_digest(wanted)
+            well &= told(trials.printed(program, path, lines) or []) == without_digest(wanted)
     return well and trials.rows(path) == trials.rows_in(desk.db) and not trials.faults(path)
 
 

@@ -46,7 +46,7 @@ def row_gaps(folder):
         return
     printed = lines(folder / "printed")
     replies = [line for line in printed if line.startswith("reply ")]
-    yield from apart(what, ROW | ({"replies"} if replies else set()), names(folder) - {"under", "unread"})
+    yield from apart(what, ROW | ({"replies"} if replies else set()), names(folder) - {"under"})
     if len(printed) != sum(bool(line) for line in lines(folder / "script")):
         yield what + ": another number of printed lines than of lines that are answered"
     if replies and (folder / "replies").exists() and len(lines(folder / "replies")) != len(replies):

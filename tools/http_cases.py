@@ -18,6 +18,7 @@ import sqlite3
 import struct
 import subprocess
 import sys
+import urllib.parse
 from contextlib import closing
 
 sys.dont_write_bytecode = True
@@ -269,22 +270,52 @@ def small_primary(program, path):
         return well and primary(running, "send", given=json.dumps(after).encode()) == refused and ended(running)
 
 
+def by_curl(words):
+    """What this `curl -i` shows."""
+    ran = subprocess.run([*words, "-s", "-m", str(PATIENCE)], capture_output=True, check=False, cwd=PRIMARY)
+    return ran.stdout.decode("ascii").replace("\r\n", "\n")
+
+
+def by_library(words):
+    """The same by Python's client: `curl -i`, a body or the name of its file behind `-d` or `--data-binary`, and the target."""
+    *_, given, target = words
+    body = (PRIMARY / given[1:]).read_bytes() if given.startswith("@") else given.encode() if "-d" in words else None
+    asked = urllib.parse.urlsplit(target)
+    with closing(http.client.HTTPConnection(asked.netloc, timeout=PATIENCE)) as client:
+        client.request("GET" if body is None else "POST", asked.path, body)
+        came = client.getresponse()
+        lines = ["HTTP/1.1 %d %s" % (came.status, came.reason), *map(": ".join, came.getheaders())]
+        return "\n".join(lines) + "\n\n" + came.read().decode("ascii")
+
+
+def exchange(program, path, client, asked, wanted):
+    with served(program, path, 1) as running:
+        came = client(shlex.split(asked.replace(":8080", ":%d" % running.port)))
+        return came.strip() == wanted and ended(running)
+
+
 def exchanges(program, path):
-    """The exchanges that the page shows, as `curl` shows them where it is installed."""
+    """The exchanges that the page shows, as Python's client sees them, and `curl` where it is installed."""
     page = (trials.TOP / "docs" / "HTTP.md").read_text(encoding="ascii")
     blocks = re.findall(r"^    \$ (curl [^\n]*)\n((?:    [^\n]*\n|\n(?=    ))*)", page, re.M)
     yield "the page shows three exchanges", len(blocks) == 3
-    for asked, shown in blocks if shutil.which("curl") else []:
-        with served(program, path, 1) as running:
-            words = shlex.split(asked.replace(":8080", ":%d" % running.port))
-            ran = subprocess.run([*words, "-s", "-m", str(PATIENCE)], capture_output=True, check=False, cwd=PRIMARY)
-            came = ran.stdout.decode("ascii").replace("\r\n", "\n")
-            wanted = re.sub("(?m)^    ", "", shown).strip()
-            yield "`%s`" % asked, came.strip() == wanted and ended(running)
+    for asked, shown in blocks:
+        wanted = re.sub("(?m)^    ", "", shown).strip()
+        for client in [by_library, by_curl] if shutil.which("curl") else [by_library]:
+            well = goes_well(exchange, program, path, client, asked, wanted)
+            yield "`%s` %s" % (asked, client.__name__.replace("_", " ")), well
 
 
 CLIENTS = [library, before_founding, half_closed, silent, held_open, unread, behind_the_last, half_a_head, half_a_body, reset,
            gone, hundredth, byte_by_byte, no_listener, second_program, small_primary]
+
+
+def goes_well(case, *given):
+    """Whether a case goes well, and its connections too."""
+    try:
+        return case(*given)
+    except (OSError, http.client.HTTPException):
+        return False
 
 
 def cases(program):
@@ -293,11 +324,7 @@ def cases(program):
         trials.printed(program, own / "first", FIRST_PATH)
         for client in CLIENTS:
             path = trials.copied(own / "first", own / client.__name__)
-            try:
-                well = client(program, path)
-            except OSError:
-                well = False
-            yield client.__doc__.strip().rstrip("."), well
+            yield client.__doc__.strip().rstrip("."), goes_well(client, program, path)
         yield from exchanges(program, own / "first")
 
 

@@ -105,22 +105,23 @@ def lines(program, own):
         print("| %s | %d | %d | %.2f |" % (name, len(script) / file, len(script) / memory, memory / file))
 
 
-def manifests(vehicles, number, first=1):
-    """So many manifests, one vehicle after another, each of one ECU with the factory's image."""
+def manifests(vehicles, number, first=1, ecus=1):
+    """So many manifests, one vehicle after another, each of so many ECUs with the factory's image."""
     names = ["v%06d" % at for at in range(vehicles)]
     for at in range(number):
         name, counter = names[at % vehicles], first + at // vehicles
-        ecu = {"ecu": name + "-e0", "key": fleet.key(7), "counter": counter, "time": fleet.START, **fleet.FACTORY}
-        told = {"vehicle": name, "primary": ecu["ecu"], "key": ecu["key"], "counter": counter, "reports": [ecu]}
+        report = {"key": fleet.key(7), "counter": counter, "time": fleet.START, **fleet.FACTORY}
+        reports = [report | {"ecu": "%s-e%d" % (name, ecu)} for ecu in range(ecus)]
+        told = {"vehicle": name, "primary": name + "-e0", "key": fleet.key(7), "counter": counter, "reports": reports}
         yield fleet.line("deliver", body=fleet.body(told))
 
 
-def prepared(vehicles, images, campaigns):
-    """Founding, vehicles of one ECU, images of other hardware, campaigns for a vehicle that sends nothing."""
+def prepared(vehicles, images, campaigns, ecus=1):
+    """Founding, vehicles of so many ECUs, images of other hardware, campaigns for a vehicle that sends nothing."""
     yield fleet.line("found", **fleet.key_set(1))
     for name in [*("v%06d" % at for at in range(vehicles)), "other"]:
-        ecus = [{"ecu": name + "-e0", "hardware": "HP", "key": fleet.key(7)}]
-        yield fleet.line("add_vehicle", vehicle=name, primary=name + "-e0", ecus=ecus)
+        told = [{"ecu": "%s-e%d" % (name, ecu), "hardware": "HP", "key": fleet.key(7)} for ecu in range(ecus)]
+        yield fleet.line("add_vehicle", vehicle=name, primary=name + "-e0", ecus=told)
     for at in range(images):
         image = {"file": "i%d" % at, "length": 1, "sha256": fleet.digest("%d" % at), "hardware": ["HS"]}
         yield fleet.line("add_image", **image, release=at + 1)
@@ -165,6 +166,8 @@ def growth(program, _):
     for kept in (1000, 10_000, 97_000):
         told = list(manifests(100, kept + number))
         print("| %d kept replies | %.0f |" % (kept, cost(program, few + told[:kept], told[kept:])), flush=True)
+        repeats = cost(program, few + told[:kept], told[kept - 1000 : kept])
+        print("| %d kept replies, a repeat | %.0f |" % (kept, repeats), flush=True)
     others = {"10 images, 10 campaigns, 100 vehicles": (100, 10, 10), "1,000 images": (100, 1000, 10),
               "1,000 campaigns": (100, 10, 1000), "10,000 vehicles": (10_000, 10, 10)}
     for name, words in others.items():
@@ -181,15 +184,17 @@ def used(words, given=subprocess.DEVNULL):
 
 
 def start(program, own):
-    path, there = own / "kept", 0
-    trials.printed(program, path, prepared(100, 10, 10))
-    for kept in (1000, 10_000, 100_000):
-        while there < kept:
-            more = min(kept - there, 90_000)
-            assert trials.printed(program, path, manifests(100, more, 1 + there // 100), 3600) is not None
-            there += more
-        took, memory = used([program, "run", str(path)])
-        print("| %d | %d MB | %.2f | %d MB |" % (kept, os.stat(path).st_size >> 20, took, memory), flush=True)
+    for ecus in (1, 4):
+        path, there = own / ("kept of %d" % ecus), 0
+        trials.printed(program, path, prepared(100, 10, 10, ecus))
+        for kept in (1000, 10_000, 100_000):
+            while there < kept:
+                more = min(kept - there, 90_000)
+                assert trials.printed(program, path, manifests(100, more, 1 + there // 100, ecus), 3600) is not None
+                there += more
+            took, memory = used([program, "run", str(path)])
+            words = kept, ecus, os.stat(path).st_size >> 20, took, memory
+            print("| %d of %d | %d MB | %.2f | %d MB |" % words, flush=True)
 
 
 # ---- HTTP

@@ -1,5 +1,6 @@
 pub mod Steps
 pub mod Decided
+pub mod Due
 pub mod Fitting
 pub mod Told
 pub mod LookedUp

@@ -1,5 +1,6 @@
 pub mod Gathered
 pub mod Serving
+pub mod Making
 pub mod Calls
 pub mod Runs
 pub mod Laws

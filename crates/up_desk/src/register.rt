@@ -1,10 +1,12 @@
 //! The register of images.
-ghost use Rattle.std.specs.Prelude.{◌≡◌, ◌≤◌, ◌+◌, IfSome, IsTrue};
+ghost use Rattle.std.specs.Prelude.{◌≡◌, ◌≤◌, ◌+◌, IfSome, IsTrue, None, option_copied};
+ghost use Rattle.std.specs.FinMap as table;
 ghost use Rattle.sqlite.specs.Held.{state};
 ghost use Rattle.sqlite.specs.State.{HasCleanDisk};
 ghost use Rattle.up_canon.specs.Moments.{last_command_moment};
-ghost use Rattle.up_machine.specs.Repositories.{decide_image as decide_image_in, decide_refresh as decide_refresh_in, stamped, with_image};
+ghost use Rattle.up_machine.specs.Repositories.{decide_image as decide_image_in, decide_new_image as decide_new_image_in, decide_refresh as decide_refresh_in, stamped, with_image};
 ghost use Rattle.up_machine.specs.Decisions.{GivesRows, GivesDecision, HasRegisterRows};
+ghost use Rattle.up_machine.specs.Due.{CanMakeFiles, HasFounding};
 ghost use Rattle.up_machine.specs.Rows.{founding_row};
 ghost use Rattle.up_machine.specs.RowsFit.{founding_fits};
 ghost use Rattle.up_machine.specs.Sound.{IsSound};
@@ -12,6 +14,7 @@ ghost use Rattle.up_machine.specs.State.{State};
 ghost use Rattle.up_store.specs.Connections.{KeepsState};
 ghost use Rattle.up_tables.specs.Stands.{IfClean};
 ghost use Rattle.up_desk.specs.Serving.{GivesOrLost, Reads, Serves};
+ghost use Rattle.up_desk.specs.Making.{MadeOrLost};
 
 use crate::lost::{done_of, refusal_of};
 use crate::reading::read_founding;
@@ -21,8 +24,9 @@ use up_canon::count::Count;
 use up_canon::moment::Moment;
 use up_canon::refusal::Refusal;
 use up_machine::answer::Answer;
-use up_machine::decide_register::{decide_image, decide_refresh};
+use up_machine::decide_register::{decide_image, decide_new_image, decide_refresh};
 use up_machine::decision::{Decision, RegisterRows};
+use up_machine::new_files::register_rows;
 use up_machine::rows::Founding;
 use up_plan::image::Image;
 use up_rows::laws::images_are_added;
@@ -49,7 +53,7 @@ pub fn add_image<K: Scheme, D: Alter>(
     }
 }
 
-/// Decides on an image, over the rows that are read.
+/// Decides on an image, over rows that are read one after another.
 fn decide_adding<K: Scheme, D: Alter>(
     store: &mut Store<D>,
     alloc: Global,
@@ -64,7 +68,7 @@ fn decide_adding<K: Scheme, D: Alter>(
     ensures reads { Reads (state D.Store store.old) (state D.Store store.new) }
 {
     match read_founding(store, alloc, scheme) {
-        Ok(founding) => decide_adding_after(store, alloc, scheme, at, image, &founding),
+        Ok(founding) => decide_adding_after(store, alloc, scheme, at, image, founding),
         Err(fault) => Err(refusal_of(fault)),
     }
 }
@@ -76,17 +80,65 @@ fn decide_adding_after<K: Scheme, D: Alter>(
     scheme: &K,
     at: Moment,
     image: &Image,
-    founding: &Option<Founding>,
+    founding: Option<Founding>,
 ) -> Result<Decision<RegisterRows>, Refusal>
     requires moment { at ≤ last_command_moment }
-    requires keys { IfSome founding.now (λ f. IsTrue (founding_fits (K.rules scheme.now) f)) }
-    ensures decided { HasCleanDisk (state D.Store store.new) → (s : State) → IsSound (K.rules scheme.now) s → founding.now ≡ founding_row s → IfClean (KeepsState (K.rules scheme.now) s) (state D.Store store.old)
+    requires keys { IfSome founding (λ f. IsTrue (founding_fits (K.rules scheme.now) f)) }
+    ensures decided { HasCleanDisk (state D.Store store.new) → (s : State) → IsSound (K.rules scheme.now) s → founding ≡ founding_row s → IfClean (KeepsState (K.rules scheme.now) s) (state D.Store store.old)
         → GivesOrLost (GivesDecision (HasRegisterRows (K.rules scheme.now) (stamped (with_image s image.now) at (s.image_version + 1))) s (stamped (with_image s image.now) at (s.image_version + 1))) result
         (decide_image_in s at image.now) }
     ensures reads { Reads (state D.Store store.old) (state D.Store store.new) }
 {
+    match store.image(alloc, &image.file) {
+        Ok(old) => decide_named(store, alloc, scheme, at, image, founding, old.as_ref()),
+        Err(fault) => Err(refusal_of(fault)),
+    }
+}
+
+/// The same, once the image of that filename was read.
+fn decide_named<K: Scheme, D: Alter>(
+    store: &mut Store<D>,
+    alloc: Global,
+    scheme: &K,
+    at: Moment,
+    image: &Image,
+    founding: Option<Founding>,
+    old: Option<&Image>,
+) -> Result<Decision<RegisterRows>, Refusal>
+    requires moment { at ≤ last_command_moment }
+    requires keys { IfSome founding (λ f. IsTrue (founding_fits (K.rules scheme.now) f)) }
+    ensures decided { HasCleanDisk (state D.Store store.new) → (s : State) → IsSound (K.rules scheme.now) s → founding ≡ founding_row s → option_copied old.entry ≡ table.get s.images image.now.file → IfClean (KeepsState (K.rules scheme.now) s) (state D.Store store.old)
+        → GivesOrLost (GivesDecision (HasRegisterRows (K.rules scheme.now) (stamped (with_image s image.now) at (s.image_version + 1))) s (stamped (with_image s image.now) at (s.image_version + 1))) result
+        (decide_image_in s at image.now) }
+    ensures reads { Reads (state D.Store store.old) (state D.Store store.new) }
+{
+    match decide_image(at, image, founding, old) {
+        Ok(Decision::Already) => Ok(Decision::Already),
+        Ok(Decision::New(founding)) => Ok(Decision::New(decide_new(
+            store, alloc, scheme, at, image, founding,
+        )?)),
+        Err(refusal) => Err(refusal),
+    }
+}
+
+/// Decides on an image whose filename is new, over all images, which are read here.
+fn decide_new<K: Scheme, D: Alter>(
+    store: &mut Store<D>,
+    alloc: Global,
+    scheme: &K,
+    at: Moment,
+    image: &Image,
+    founding: Founding,
+) -> Result<RegisterRows, Refusal>
+    requires moment { at ≤ last_command_moment }
+    requires keys { IsTrue (founding_fits (K.rules scheme.now) founding) }
+    ensures decided { HasCleanDisk (state D.Store store.new) → (s : State) → IsSound (K.rules scheme.now) s → HasFounding s founding → table.get s.images image.now.file ≡ None → IfClean (KeepsState (K.rules scheme.now) s) (state D.Store store.old)
+        → GivesOrLost (GivesRows (HasRegisterRows (K.rules scheme.now) (stamped (with_image s image.now) at (s.image_version + 1))) (stamped (with_image s image.now) at (s.image_version + 1))) result
+        (decide_new_image_in s at image.now) }
+    ensures reads { Reads (state D.Store store.old) (state D.Store store.new) }
+{
     match store.images(alloc) {
-        Ok(images) => decide_image(alloc, scheme, at, image, founding, &images),
+        Ok(images) => decide_new_image(alloc, scheme, at, image, founding, &images),
         Err(fault) => Err(refusal_of(fault)),
     }
 }
@@ -110,7 +162,7 @@ pub fn refresh<K: Scheme, D: Alter>(
     }
 }
 
-/// Decides on new files, over the rows that are read.
+/// Decides on new files, and makes their rows.
 fn decide_refreshing<K: Scheme, D: Alter>(
     store: &mut Store<D>,
     alloc: Global,
@@ -125,7 +177,7 @@ fn decide_refreshing<K: Scheme, D: Alter>(
     ensures reads { Reads (state D.Store store.old) (state D.Store store.new) }
 {
     match read_founding(store, alloc, scheme) {
-        Ok(founding) => decide_refreshing_after(store, alloc, scheme, at, version, &founding),
+        Ok(founding) => decide_refreshing_after(store, alloc, scheme, at, version, founding),
         Err(fault) => Err(refusal_of(fault)),
     }
 }
@@ -137,17 +189,35 @@ fn decide_refreshing_after<K: Scheme, D: Alter>(
     scheme: &K,
     at: Moment,
     version: Count,
-    founding: &Option<Founding>,
+    founding: Option<Founding>,
 ) -> Result<RegisterRows, Refusal>
     requires moment { at ≤ last_command_moment }
-    requires keys { IfSome founding.now (λ f. IsTrue (founding_fits (K.rules scheme.now) f)) }
-    ensures decided { HasCleanDisk (state D.Store store.new) → (s : State) → IsSound (K.rules scheme.now) s → founding.now ≡ founding_row s → IfClean (KeepsState (K.rules scheme.now) s) (state D.Store store.old)
+    requires keys { IfSome founding (λ f. IsTrue (founding_fits (K.rules scheme.now) f)) }
+    ensures decided { HasCleanDisk (state D.Store store.new) → (s : State) → founding ≡ founding_row s → IfClean (KeepsState (K.rules scheme.now) s) (state D.Store store.old)
         → GivesOrLost (GivesRows (HasRegisterRows (K.rules scheme.now) (stamped s at version)) (stamped s at version)) result
         (decide_refresh_in s at version) }
     ensures reads { Reads (state D.Store store.old) (state D.Store store.new) }
 {
+    match decide_refresh(at, version, founding) {
+        Ok(founding) => make_rows(store, alloc, scheme, founding),
+        Err(refusal) => Err(refusal),
+    }
+}
+
+/// Makes the rows of new files that are due, with all images, which are read here, after every refusal.
+fn make_rows<K: Scheme, D: Alter>(
+    store: &mut Store<D>,
+    alloc: Global,
+    scheme: &K,
+    founding: Founding,
+) -> Result<RegisterRows, Refusal>
+    requires { CanMakeFiles (K.rules scheme.now) founding }
+    ensures made { HasCleanDisk (state D.Store store.new) → (s next : State) → IfClean (KeepsState (K.rules scheme.now) s) (state D.Store store.old)
+        → HasFounding next founding → next.images ≡ s.images → MadeOrLost (HasRegisterRows (K.rules scheme.now) next) result }
+    ensures reads { Reads (state D.Store store.old) (state D.Store store.new) }
+{
     match store.images(alloc) {
-        Ok(images) => decide_refresh(alloc, scheme, at, version, founding, &images),
+        Ok(images) => Ok(register_rows(alloc, scheme, founding, &images)?),
         Err(fault) => Err(refusal_of(fault)),
     }
 }

@@ -1,10 +1,11 @@
 //! Foundings and rotations.
-ghost use Rattle.std.specs.Prelude.{◌≡◌, ◌≤◌, ◌+◌, IfSome, IsTrue};
+ghost use Rattle.std.specs.Prelude.{◌≡◌, ◌≤◌, ◌+◌, IfSome, IsTrue, is_some};
 ghost use Rattle.sqlite.specs.Held.{state};
 ghost use Rattle.sqlite.specs.State.{HasCleanDisk};
 ghost use Rattle.up_canon.specs.Moments.{last_command_moment};
 ghost use Rattle.up_machine.specs.Repositories.{decide_found as decide_found_in, decide_rotate as decide_rotate_in, stamped, with_root};
 ghost use Rattle.up_machine.specs.Decisions.{GivesRows, HasRootRows};
+ghost use Rattle.up_machine.specs.Due.{CanMakeRoot, HasRoot};
 ghost use Rattle.up_machine.specs.Rows.{founding_row};
 ghost use Rattle.up_machine.specs.RowsFit.{founding_fits};
 ghost use Rattle.up_machine.specs.Sound.{IsSound};
@@ -12,17 +13,19 @@ ghost use Rattle.up_machine.specs.State.{State};
 ghost use Rattle.up_store.specs.Connections.{KeepsState};
 ghost use Rattle.up_tables.specs.Stands.{IfClean};
 ghost use Rattle.up_desk.specs.Serving.{GivesOrLost, Reads, Serves};
+ghost use Rattle.up_desk.specs.Making.{MadeOrLost};
 
 use crate::lost::{done_of, refusal_of};
-use crate::reading::read_founding;
+use crate::reading::{is_founded, read_founding};
 use sqlite::Alter;
 use std::alloc::Global;
 use up_canon::moment::Moment;
 use up_canon::refusal::Refusal;
 use up_machine::answer::Answer;
 use up_machine::decide_root::{decide_found, decide_rotate};
-use up_machine::decision::RootRows;
+use up_machine::decision::{NextRoot, RootRows};
 use up_machine::keys::KeySet;
+use up_machine::new_files::root_rows;
 use up_machine::rows::Founding;
 use up_rows::laws::roots_are_added;
 use up_sign::scheme::Scheme;
@@ -47,7 +50,7 @@ pub fn found<K: Scheme, D: Alter>(
     }
 }
 
-/// Decides on a founding, over the rows that are read.
+/// Decides on a founding, and makes its rows.
 fn decide_founding<K: Scheme, D: Alter>(
     store: &mut Store<D>,
     alloc: Global,
@@ -61,30 +64,30 @@ fn decide_founding<K: Scheme, D: Alter>(
         (decide_found_in (K.rules scheme.now) s at keys.now) }
     ensures reads { Reads (state D.Store store.old) (state D.Store store.new) }
 {
-    match store.founding(alloc) {
-        Ok(founding) => decide_founding_after(store, alloc, scheme, at, keys, &founding),
+    match is_founded(store, alloc) {
+        Ok(founded) => decide_founding_after(store, alloc, scheme, at, keys, founded),
         Err(fault) => Err(refusal_of(fault)),
     }
 }
 
-/// The same, once the founding was read.
+/// The same, once it was read whether the repositories are founded.
 fn decide_founding_after<K: Scheme, D: Alter>(
     store: &mut Store<D>,
     alloc: Global,
     scheme: &K,
     at: Moment,
     keys: &KeySet,
-    founding: &Option<Founding>,
+    founded: bool,
 ) -> Result<RootRows, Refusal>
-    requires moment { at ≤ last_command_moment }
-    ensures decided { HasCleanDisk (state D.Store store.new) → (s : State) → IsSound (K.rules scheme.now) s → founding.now ≡ founding_row s → IfClean (KeepsState (K.rules scheme.now) s) (state D.Store store.old)
+    requires { at ≤ last_command_moment }
+    ensures decided { HasCleanDisk (state D.Store store.new) → (s : State) → founded ≡ is_some (founding_row s) → IfClean (KeepsState (K.rules scheme.now) s) (state D.Store store.old)
         → GivesOrLost (GivesRows (HasRootRows (K.rules scheme.now) (stamped (with_root s at keys.now) at 1)) (stamped (with_root s at keys.now) at 1)) result
         (decide_found_in (K.rules scheme.now) s at keys.now) }
     ensures reads { Reads (state D.Store store.old) (state D.Store store.new) }
 {
-    match store.images(alloc) {
-        Ok(images) => decide_found(alloc, scheme, at, keys, founding, &images),
-        Err(fault) => Err(refusal_of(fault)),
+    match decide_found(alloc, scheme, at, keys, founded) {
+        Ok(new) => make_rows(store, alloc, scheme, at, keys, &new),
+        Err(refusal) => Err(refusal),
     }
 }
 
@@ -107,7 +110,7 @@ pub fn rotate<K: Scheme, D: Alter>(
     }
 }
 
-/// Decides on a rotation, over the rows that are read.
+/// Decides on a rotation, and makes its rows.
 fn decide_rotation<K: Scheme, D: Alter>(
     store: &mut Store<D>,
     alloc: Global,
@@ -122,7 +125,7 @@ fn decide_rotation<K: Scheme, D: Alter>(
     ensures reads { Reads (state D.Store store.old) (state D.Store store.new) }
 {
     match read_founding(store, alloc, scheme) {
-        Ok(founding) => decide_rotation_after(store, alloc, scheme, at, keys, &founding),
+        Ok(founding) => decide_rotation_after(store, alloc, scheme, at, keys, founding),
         Err(fault) => Err(refusal_of(fault)),
     }
 }
@@ -134,17 +137,37 @@ fn decide_rotation_after<K: Scheme, D: Alter>(
     scheme: &K,
     at: Moment,
     keys: &KeySet,
-    founding: &Option<Founding>,
+    founding: Option<Founding>,
 ) -> Result<RootRows, Refusal>
     requires moment { at ≤ last_command_moment }
-    requires keys { IfSome founding.now (λ f. IsTrue (founding_fits (K.rules scheme.now) f)) }
-    ensures decided { HasCleanDisk (state D.Store store.new) → (s : State) → IsSound (K.rules scheme.now) s → founding.now ≡ founding_row s → IfClean (KeepsState (K.rules scheme.now) s) (state D.Store store.old)
+    requires keys { IfSome founding (λ f. IsTrue (founding_fits (K.rules scheme.now) f)) }
+    ensures decided { HasCleanDisk (state D.Store store.new) → (s : State) → founding ≡ founding_row s → IfClean (KeepsState (K.rules scheme.now) s) (state D.Store store.old)
         → GivesOrLost (GivesRows (HasRootRows (K.rules scheme.now) (stamped (with_root s at keys.now) at (s.image_version + 1))) (stamped (with_root s at keys.now) at (s.image_version + 1))) result
         (decide_rotate_in (K.rules scheme.now) s at keys.now) }
     ensures reads { Reads (state D.Store store.old) (state D.Store store.new) }
 {
+    match decide_rotate(alloc, scheme, at, keys, founding) {
+        Ok(new) => make_rows(store, alloc, scheme, at, keys, &new),
+        Err(refusal) => Err(refusal),
+    }
+}
+
+/// Makes the rows of a root version that is due, with all images, which are read here, after every refusal.
+fn make_rows<K: Scheme, D: Alter>(
+    store: &mut Store<D>,
+    alloc: Global,
+    scheme: &K,
+    at: Moment,
+    keys: &KeySet,
+    new: &NextRoot,
+) -> Result<RootRows, Refusal>
+    requires { CanMakeRoot (K.rules scheme.now) at keys.now new.now }
+    ensures made { HasCleanDisk (state D.Store store.new) → (s next : State) → IfClean (KeepsState (K.rules scheme.now) s) (state D.Store store.old)
+        → HasRoot next at keys.now new.now → next.images ≡ s.images → MadeOrLost (HasRootRows (K.rules scheme.now) next) result }
+    ensures reads { Reads (state D.Store store.old) (state D.Store store.new) }
+{
     match store.images(alloc) {
-        Ok(images) => decide_rotate(alloc, scheme, at, keys, founding, &images),
+        Ok(images) => Ok(root_rows(alloc, scheme, at, keys, new, &images)?),
         Err(fault) => Err(refusal_of(fault)),
     }
 }

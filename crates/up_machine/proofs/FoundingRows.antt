@@ -1,21 +1,25 @@
--- The founding's row of a state, and the rows of the state that a new root version or a change of the register leaves.
-use Rattle.std.proofs.Common.{◌≡◌, ℕ, ◌+◌, ◌-◌, ◌<◌, List, [], ◌∷◌, ◌++◌, false, Option, Some, None, length, refl, sym, ap, ◌∙◌, subst, arith}
-use Rattle.std.specs.Prelude.{slice_get, option_map, map, is_some}
+-- The founding's row of a state, what is due of the state that a new root version or a change of the register leaves, and its rows.
+use Rattle.std.proofs.Common.{◌≡◌, ℕ, ◌+◌, ◌-◌, ◌<◌, List, [], ◌∷◌, ◌++◌, false, Option, Some, None, Result, Ok, Err, length, refl, sym, ap, ◌∙◌, subst, arith}
+use Rattle.std.specs.Prelude.{slice_get, option_map, map, is_some, IfOk}
 use Rattle.std.specs.FinMap as table
 use Rattle.std.proofs.lemmas.List.{length-append}
 use Rattle.up_canon.specs.Names.{Table}
 use Rattle.up_sign.specs.Schemes.{Rules}
 use Rattle.up_roles.specs.declared.repository.Repository.TheVariants.{Director, Image}
+use Rattle.up_roles.specs.declared.targets.Target.{Target}
 use Rattle.up_plan.specs.Images.{ImageData}
 use Rattle.up_machine.specs.declared.keys.KeySet.{KeySet}
 use Rattle.up_machine.specs.declared.rows.Founding.{Founding}
+use Rattle.up_machine.specs.declared.decision.NextRoot.{NextRoot}
+use Rattle.up_machine.specs.declared.decision.RegisterRows.{RegisterRows}
 use Rattle.up_machine.specs.declared.decision.RootRows.{RootRows}
 use Rattle.up_machine.specs.declared.decision.RoleTexts.{RoleTexts}
 use Rattle.up_machine.specs.State.{Root, State, nth, root_at}
-use Rattle.up_machine.specs.Files.{root_text, role_texts, image_making, target_of}
+use Rattle.up_machine.specs.Files.{Making, root_text, role_texts, image_making, target_of}
 use Rattle.up_machine.specs.Rows.{founding_row}
 use Rattle.up_machine.specs.Repositories.{stamped, with_root}
 use Rattle.up_machine.specs.Decisions.{HasRootRows, HasRegisterRows}
+use Rattle.up_machine.specs.Due.{row_with_root, HasRoot, HasFounding}
 use Rattle.up_canon.proofs.Steps.{map_some}
 use Rattle.up_machine.proofs.Keeping.{nth_stays}
 use Rattle.up_machine.proofs.Repeating.{nth_at_place}
@@ -98,47 +102,84 @@ old_before s at keys f h =
     ∙ ap (option_map (λ (r : Root). r.keys)) (nth_stays s.roots _ (length s.roots) of.root of.there)
     ∙ ap (λ (f : Founding). Some f.keys) (sym of.is)
 
--- ---- the rows of the next state
+-- ---- what is due
 
--- the image repository's files
-abbrev pub files_of : Rules → KeySet → ℕ → ℕ → List ImageData → RoleTexts
-files_of k keys version at images = role_texts k (record { repository = Image; keys = keys; vehicle = None; version = version; at = at; targets = map (target_of None) images })
-
-abbrev pub root_rows_of : Rules → ℕ → KeySet → ℕ → Option Root → ℕ → List ImageData → RootRows
-root_rows_of k number keys at before version images = record {
-  founding = record { root = number; keys = keys; image_version = version; stamp = at };
-  director = root_text k Director number (record { keys = keys; at = at }) before;
-  image = root_text k Image number (record { keys = keys; at = at }) before;
-  files = files_of k keys version at images;
-}
-
-pub root_rows_hold : (k : Rules) (s : State) (at : ℕ) (keys : KeySet) (version number : ℕ) → number ≡ 1 + length s.roots
-    → HasRootRows k (stamped (with_root s at keys) at version) (root_rows_of k number keys at (root_before s at keys) version (table.values s.images))
-root_rows_hold k s at keys version number is =
+pub root_is_due : (s : State) (at : ℕ) (keys : KeySet) (version number : ℕ) (before : Option KeySet) → number ≡ 1 + length s.roots → option_map (λ r. r.keys) (root_before s at keys) ≡ before
+    → HasRoot (stamped (with_root s at keys) at version) at keys (record { number = number; version = version; before = before })
+root_is_due s at keys version number before is old =
     let next = stamped (with_root s at keys) at version in
     let root : Root = record { keys = keys; at = at } in
-    let last : root_at next (length next.roots) ≡ Some root = new_last s.roots root in
-    subst (λ n. HasRootRows k next (root_rows_of k n keys at (root_before s at keys) version (table.values s.images))) (new_number s at keys ∙ sym is) (record {
-      founding = ap (option_map (row_of next)) last;
-      root = root;
-      there = last;
-      director = refl;
-      image = refl;
-      files = ap (option_map (λ r. role_texts k (image_making next r))) last;
-    })
+    let last : root_at next (length next.roots) ≡ Some root = new_last s.roots root in record {
+      root = last;
+      founding = ap (option_map (row_of next)) last ∙ ap (λ n. Some (row_with_root at keys (record { number = n; version = version; before = before }))) (new_number s at keys ∙ sym is);
+      before = old;
+    }
 
-pub register_rows_hold : (k : Rules) (s : State) (images : Table ImageData) (at version : ℕ) (f : Founding) → Some f ≡ founding_row s
-    → HasRegisterRows k (stamped (record s { images = images }) at version) (record {
-      founding = record { root = f.root; keys = f.keys; image_version = version; stamp = at };
-      files = files_of k f.keys version at (table.values images);
-    })
-register_rows_hold k s images at version f h =
-    let of = founding_of s f h in
+-- the founding's row with new files of the image repository
+abbrev pub row_with : Founding → ℕ → ℕ → Founding
+row_with f version at = record { root = f.root; keys = f.keys; image_version = version; stamp = at }
+
+pub files_are_due : (s : State) (images : Table ImageData) (at version : ℕ) (f : Founding) → founding_row s ≡ Some f
+    → HasFounding (stamped (record s { images = images }) at version) (row_with f version at)
+files_are_due s images at version f h =
+    let of = founding_of s f (sym h) in
     let next = stamped (record s { images = images }) at version in
-    subst (λ (f : Founding). HasRegisterRows k next (record {
-      founding = record { root = f.root; keys = f.keys; image_version = version; stamp = at };
-      files = files_of k f.keys version at (table.values images);
-    })) (sym of.is) (record {
-      founding = ap (option_map (row_of next)) of.there;
-      files = ap (option_map (λ r. role_texts k (image_making next r))) of.there;
-    })
+    subst (λ f. HasFounding next (row_with f version at)) (sym of.is) (ap (option_map (row_of next)) of.there)
+
+-- ---- the rows of what is due
+
+-- the image repository's files
+abbrev pub making_of : Founding → List Target → Making
+making_of f targets = record { repository = Image; keys = f.keys; vehicle = None; version = f.image_version; at = f.stamp; targets = targets }
+
+abbrev pub files_of : Rules → Founding → List ImageData → RoleTexts
+files_of k f images = role_texts k (making_of f (map (target_of None) images))
+
+pub register_rows_hold : (k : Rules) (next : State) (f : Founding) → HasFounding next f → HasRegisterRows k next (record { founding = f; files = files_of k f (table.values next.images) })
+register_rows_hold k next f has =
+    let of = founding_of next f (sym has) in record {
+      founding = has;
+      files = ap (option_map (λ r. role_texts k (image_making next r))) of.there ∙ ap (λ f. Some (files_of k f (table.values next.images))) (sym of.is);
+    }
+
+abbrev pub root_rows_of : Rules → ℕ → KeySet → NextRoot → Option Root → List ImageData → RootRows
+root_rows_of k at keys new before images = record {
+  founding = row_with_root at keys new;
+  director = root_text k Director new.number (record { keys = keys; at = at }) before;
+  image = root_text k Image new.number (record { keys = keys; at = at }) before;
+  files = files_of k (row_with_root at keys new) images;
+}
+
+pub root_rows_hold : (k : Rules) (next : State) (at : ℕ) (keys : KeySet) (new : NextRoot) → HasRoot next at keys new
+    → HasRootRows k next (root_rows_of k at keys new (root_at next (length next.roots - 1)) (table.values next.images))
+root_rows_hold k next at keys new has =
+    let of = founding_of next (row_with_root at keys new) (sym has.founding) in
+    let number : new.number ≡ length next.roots = ap (λ f. f.root) of.is in
+    let before = root_at next (length next.roots - 1) in
+    let root : Root = record { keys = keys; at = at } in record {
+      founding = has.founding;
+      root = root;
+      there = has.root;
+      director = ap (λ n. root_text k Director n root before) number;
+      image = ap (λ n. root_text k Image n root before) number;
+      files = (register_rows_hold k next (row_with_root at keys new) has.founding).files;
+    }
+
+-- what is made of the targets of these images
+pub of_targets : {E : Type 0} (k : Rules) (f : Founding) (images : List ImageData) (targets : List Target) → targets ≡ map (target_of None) images → (result : Result RegisterRows E)
+    → IfOk result (λ rows. rows ≡ record { founding = f; files = role_texts k (making_of f targets) }) → IfOk result (λ rows. rows ≡ record { founding = f; files = files_of k f images })
+of_targets k f images targets are (Ok rows) is = is ∙ ap (λ ts. record { founding = f; files = role_texts k (making_of f ts) }) are
+of_targets k f images targets are (Err e) is = tt
+
+-- what is made of these images
+pub register_rows_are : {E : Type 0} (k : Rules) (next : State) (f : Founding) → HasFounding next f → (images : List ImageData) → images ≡ table.values next.images → (result : Result RegisterRows E)
+    → IfOk result (λ rows. rows ≡ record { founding = f; files = files_of k f images }) → IfOk result (λ rows. HasRegisterRows k next rows)
+register_rows_are k next f has images are (Ok rows) is =
+    subst (HasRegisterRows k next) (sym (is ∙ ap (λ xs. record { founding = f; files = files_of k f xs }) are)) (register_rows_hold k next f has)
+register_rows_are k next f has images are (Err e) is = tt
+
+pub root_rows_are : {E : Type 0} (k : Rules) (next : State) (at : ℕ) (keys : KeySet) (new : NextRoot) → HasRoot next at keys new → (images : List ImageData) → images ≡ table.values next.images → (result : Result RootRows E)
+    → IfOk result (λ rows. rows ≡ root_rows_of k at keys new (root_at next (length next.roots - 1)) images) → IfOk result (λ rows. HasRootRows k next rows)
+root_rows_are k next at keys new has images are (Ok rows) is =
+    subst (HasRootRows k next) (sym (is ∙ ap (root_rows_of k at keys new (root_at next (length next.roots - 1))) are)) (root_rows_hold k next at keys new has)
+root_rows_are k next at keys new has images are (Err e) is = tt

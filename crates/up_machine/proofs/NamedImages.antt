@@ -19,7 +19,7 @@ use Rattle.up_plan.specs.declared.campaign.Item.{Item}
 use Rattle.up_plan.specs.Campaigns.{CampaignData}
 use Rattle.up_plan.specs.Images.{ImageData}
 use Rattle.up_plan.specs.Laws.{OtherImagesChangeNothing}
-use Rattle.up_plan.specs.Planning.{items_for, plan_of}
+use Rattle.up_plan.specs.Planning.{items_for}
 use Rattle.up_machine.specs.declared.rows.EcuRow.{EcuRow}
 use Rattle.up_machine.specs.declared.rows.Founding.{Founding}
 use Rattle.up_machine.specs.declared.rows.Kept.{Kept}

@@ -105,7 +105,7 @@ unfolding decide_rotate
 rotate_done k s at keys moment good some room below =
     bind-ok _ _ tt (in_time at moment) ∙ bind-ok _ _ tt good ∙ bind-ok _ _ tt (founded s some) ∙ bind-ok _ _ tt (room_for_root s room) ∙ bind-ok _ _ tt (below_limit s below)
 
--- ---- new images
+-- ---- images
 
 pub image_unfounded : (s : State) (at : ℕ) (image : ImageData) → at ≤ last_command_moment → length s.roots ≡ 0 → decide_image s at image ≡ Err NotFounded
 unfolding decide_image
@@ -126,31 +126,29 @@ pub image_taken : (s : State) (at : ℕ) (image old : ImageData) → at ≤ last
 image_taken s at image old moment some there other =
     of_founded s at image moment some ∙ ap (λ o. where_new s (same_image image) ImageTaken o (decide_new_image s at image)) there ∙ ap (λ b. cond b (Ok (already s)) (Err ImageTaken)) other
 
-of_new : (s : State) (at : ℕ) (image : ImageData) → at ≤ last_command_moment → 0 < length s.roots → table.get s.images image.file ≡ None → decide_image s at image ≡ decide_new_image s at image
-of_new s at image moment some none =
+pub image_new : (s : State) (at : ℕ) (image : ImageData) → at ≤ last_command_moment → 0 < length s.roots → table.get s.images image.file ≡ None → decide_image s at image ≡ decide_new_image s at image
+image_new s at image moment some none =
     of_founded s at image moment some ∙ ap (λ o. where_new s (same_image image) ImageTaken o (decide_new_image s at image)) none
 
-pub image_full : (s : State) (at : ℕ) (image : ImageData) → at ≤ last_command_moment → 0 < length s.roots → table.get s.images image.file ≡ None → 1024 ≤ table.len s.images
-    → decide_image s at image ≡ Err RegisterFull
+-- ---- images of a new filename
+
+pub image_full : (s : State) (at : ℕ) (image : ImageData) → 1024 ≤ table.len s.images → decide_new_image s at image ≡ Err RegisterFull
 unfolding decide_new_image
-image_full s at image moment some none full =
+image_full s at image full =
     let test : nat_le 1024 (table.len s.images) ≡ true = grind (arith, nat_tests) in
-    of_new s at image moment some none ∙ bind-err _ _ RegisterFull (ap (λ b. refuse_if b RegisterFull) test)
+    bind-err _ _ RegisterFull (ap (λ b. refuse_if b RegisterFull) test)
 
 room_for_image : (s : State) → table.len s.images < 1024 → refuse_if (nat_le 1024 (table.len s.images)) RegisterFull ≡ Ok tt
 room_for_image s room = let test : nat_le 1024 (table.len s.images) ≡ false = grind (arith, nat_tests) in ap (λ b. refuse_if b RegisterFull) test
 
-pub image_limit : (s : State) (at : ℕ) (image : ImageData) → at ≤ last_command_moment → 0 < length s.roots → table.get s.images image.file ≡ None → table.len s.images < 1024 → max_count ≤ s.image_version
-    → decide_image s at image ≡ Err VersionLimit
+pub image_limit : (s : State) (at : ℕ) (image : ImageData) → table.len s.images < 1024 → max_count ≤ s.image_version → decide_new_image s at image ≡ Err VersionLimit
 unfolding decide_new_image
-image_limit s at image moment some none room limit =
-    of_new s at image moment some none ∙ bind-ok _ _ tt (room_for_image s room) ∙ bind-err _ _ VersionLimit (at_limit s limit)
+image_limit s at image room limit = bind-ok _ _ tt (room_for_image s room) ∙ bind-err _ _ VersionLimit (at_limit s limit)
 
-pub image_done : (s : State) (at : ℕ) (image : ImageData) → at ≤ last_command_moment → 0 < length s.roots → table.get s.images image.file ≡ None → table.len s.images < 1024 → s.image_version < max_count
-    → decide_image s at image ≡ Ok (done (stamped (with_image s image) at (s.image_version + 1)))
+pub image_done : (s : State) (at : ℕ) (image : ImageData) → table.len s.images < 1024 → s.image_version < max_count
+    → decide_new_image s at image ≡ Ok (done (stamped (with_image s image) at (s.image_version + 1)))
 unfolding decide_new_image
-image_done s at image moment some none room below =
-    of_new s at image moment some none ∙ bind-ok _ _ tt (room_for_image s room) ∙ bind-ok _ _ tt (below_limit s below)
+image_done s at image room below = bind-ok _ _ tt (room_for_image s room) ∙ bind-ok _ _ tt (below_limit s below)
 
 -- ---- new files
 

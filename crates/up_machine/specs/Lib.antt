@@ -15,6 +15,7 @@ pub mod Registers
 pub mod Rows
 pub mod RowsFit
 pub mod Decisions
+pub mod Due
 pub mod ManifestRows
 pub mod Reads
 pub mod Laws

@@ -1,16 +1,21 @@
-//! Decisions on the register of images.
-ghost use Rattle.std.specs.Prelude.{◌≡◌, ◌+◌, ◌≤◌, IfSome, IsTrue};
+//! Decisions on the register of images. All but that on an image whose filename is new are taken over the founding and one
+//! image; `new_files::register_rows` makes the rows of what is due.
+ghost use Rattle.std.specs.Prelude.{◌≡◌, ◌+◌, ◌≤◌, IfOk, IfSome, IsTrue, None, Ok, option_copied};
+ghost use Rattle.std.specs.FinMap as table;
 ghost use Rattle.up_canon.specs.Moments.{last_command_moment};
+ghost use Rattle.up_sign.specs.Schemes.{Rules};
+ghost use Rattle.up_machine.specs.declared.decision.Decision.TheVariants.{New};
+ghost use Rattle.up_machine.specs.declared.rows.Founding.{Founding};
 ghost use Rattle.up_machine.specs.RowsFit.{founding_fits};
 ghost use Rattle.up_machine.specs.State.{State};
 ghost use Rattle.up_machine.specs.Sound.{IsSound};
 ghost use Rattle.up_machine.specs.Rows.{founding_row};
-ghost use Rattle.up_machine.specs.Repositories.{decide_image as decide_image_in, decide_refresh as decide_refresh_in, stamped, with_image};
-ghost use Rattle.up_machine.specs.Decisions.{GivesRows, GivesDecision, HasRegisterRows};
+ghost use Rattle.up_machine.specs.Repositories.{decide_image as decide_image_in, decide_new_image as decide_new_image_in, decide_refresh as decide_refresh_in, stamped, with_image};
+ghost use Rattle.up_machine.specs.Decisions.{GivesRows, HasRegisterRows};
+ghost use Rattle.up_machine.specs.Due.{CanMakeFiles, GivesNewImage, GivesOutright, HasFounding};
 
 use crate::decision::{Decision, RegisterRows};
-use crate::image_targets::{image_targets, targets_with};
-use crate::new_files::register_rows;
+use crate::new_files::rows_with_image;
 use crate::rows::Founding;
 use crate::same_image::same_image;
 use std::alloc::Global;
@@ -24,58 +29,73 @@ use up_sign::scheme::Scheme;
 /// How many images may be registered.
 const MAX_IMAGES: usize = 1024;
 
-/// Decides on a new image, at a command's moment: `NotFounded`; `Already` where an equal image is registered;
-/// `ImageTaken` where another one has its filename; `RegisterFull` at 1,024 images; `VersionLimit`; `Memory`.
-pub fn decide_image<K: Scheme>(
+/// Decides on an image, at a command's moment, given the one that is registered under its filename: `NotFounded`;
+/// `Already` where that one is equal; `ImageTaken` where it is another one. Where there is none the founding is handed back,
+/// for `decide_new_image`.
+pub fn decide_image(
+    at: Moment,
+    image: &Image,
+    founding: Option<Founding>,
+    old: Option<&Image>,
+) -> Result<Decision<Founding>, Refusal>
+    requires { at ≤ last_command_moment }
+    ensures decided { (s : State) → founding ≡ founding_row s → option_copied old.entry ≡ table.get s.images image.now.file
+        → GivesNewImage s at image.now result (decide_image_in s at image.now) }
+    ensures same { (new : Founding) → result ≡ Ok (New new) → founding ≡ Some new }
+{
+    let Some(founding) = founding else {
+        return Err(Refusal::NotFounded);
+    };
+    match old {
+        Some(old) => {
+            if same_image(image, old) {
+                Ok(Decision::Already)
+            } else {
+                Err(Refusal::ImageTaken)
+            }
+        }
+        None => Ok(Decision::New(founding)),
+    }
+}
+
+/// Decides on an image whose filename is new, at a command's moment: `RegisterFull` at 1,024 images; `VersionLimit`;
+/// `Memory`; else the rows with it.
+pub fn decide_new_image<K: Scheme>(
     alloc: Global,
     scheme: &K,
     at: Moment,
     image: &Image,
-    founding: &Option<Founding>,
-    images: &Table<Image>,
-) -> Result<Decision<RegisterRows>, Refusal>
-    requires moment { at ≤ last_command_moment }
-    requires keys { IfSome founding.now (λ f. IsTrue (founding_fits (K.rules scheme.now) f)) }
-    ensures { (s : State) → IsSound (K.rules scheme.now) s → founding.now ≡ founding_row s → images.now ≡ s.images
-        → GivesDecision (HasRegisterRows (K.rules scheme.now) (stamped (with_image s image.now) at (s.image_version + 1))) s (stamped (with_image s image.now) at (s.image_version + 1)) result
-        (decide_image_in s at image.now) }
-{
-    let Some(old) = founding else {
-        return Err(Refusal::NotFounded);
-    };
-    if let Some(other) = images.get(image.file.text()) {
-        return if same_image(image, other) {
-            Ok(Decision::Already)
-        } else {
-            Err(Refusal::ImageTaken)
-        };
-    }
-    if images.len() >= MAX_IMAGES {
-        return Err(Refusal::RegisterFull);
-    }
-    if old.image_version >= MAX_COUNT {
-        return Err(Refusal::VersionLimit);
-    }
-    let targets = targets_with(alloc, images.values(), image)?;
-    let rows = register_rows(alloc, scheme, old, old.image_version + 1, at, targets)?;
-    Ok(Decision::New(rows))
-}
-
-/// Decides on making the image repository's files anew with this version, at a command's moment: `NotFounded`;
-/// `VersionNotGreater`; `Memory`.
-pub fn decide_refresh<K: Scheme>(
-    alloc: Global,
-    scheme: &K,
-    at: Moment,
-    version: Count,
-    founding: &Option<Founding>,
+    founding: Founding,
     images: &Table<Image>,
 ) -> Result<RegisterRows, Refusal>
     requires moment { at ≤ last_command_moment }
-    requires keys { IfSome founding.now (λ f. IsTrue (founding_fits (K.rules scheme.now) f)) }
-    ensures { (s : State) → IsSound (K.rules scheme.now) s → founding.now ≡ founding_row s → images.now ≡ s.images
-        → GivesRows (HasRegisterRows (K.rules scheme.now) (stamped s at version)) (stamped s at version) result
-        (decide_refresh_in s at version) }
+    requires keys { IsTrue (founding_fits (K.rules scheme.now) founding) }
+    ensures { (s : State) → IsSound (K.rules scheme.now) s → HasFounding s founding → images.now ≡ s.images → table.get s.images image.now.file ≡ None
+        → GivesRows (HasRegisterRows (K.rules scheme.now) (stamped (with_image s image.now) at (s.image_version + 1))) (stamped (with_image s image.now) at (s.image_version + 1)) result
+        (decide_new_image_in s at image.now) }
+{
+    if images.len() >= MAX_IMAGES {
+        return Err(Refusal::RegisterFull);
+    }
+    if founding.image_version >= MAX_COUNT {
+        return Err(Refusal::VersionLimit);
+    }
+    let version = founding.image_version + 1;
+    let founding = with_version(founding, version, at);
+    Ok(rows_with_image(alloc, scheme, founding, images.values(), image)?)
+}
+
+/// Decides on making the image repository's files anew with this version, at a command's moment: `NotFounded`;
+/// `VersionNotGreater`; else the founding's row with that version.
+pub fn decide_refresh(
+    at: Moment,
+    version: Count,
+    founding: Option<Founding>,
+) -> Result<Founding, Refusal>
+    requires { at ≤ last_command_moment }
+    ensures decided { (s : State) → founding ≡ founding_row s
+        → GivesOutright (HasFounding (stamped s at version)) (stamped s at version) result (decide_refresh_in s at version) }
+    ensures fits { (k : Rules) → IfSome founding (λ f. IsTrue (founding_fits k f)) → IfOk result (λ new. CanMakeFiles k new) }
 {
     let Some(old) = founding else {
         return Err(Refusal::NotFounded);
@@ -83,6 +103,17 @@ pub fn decide_refresh<K: Scheme>(
     if version.get() <= old.image_version {
         return Err(Refusal::VersionNotGreater);
     }
-    let targets = image_targets(alloc, images.values())?;
-    Ok(register_rows(alloc, scheme, old, version.get(), at, targets)?)
+    Ok(with_version(old, version.get(), at))
+}
+
+/// The founding's row with new files of the image repository.
+fn with_version(old: Founding, version: u64, at: Moment) -> Founding
+    ensures { result ≡ record { root = old.root; keys = old.keys; image_version = version; stamp = at } }
+{
+    Founding {
+        root: old.root,
+        keys: old.keys,
+        image_version: version,
+        stamp: at,
+    }
 }

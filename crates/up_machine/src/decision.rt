@@ -1,5 +1,6 @@
 //! What decisions answer: new rows, with all texts.
 use crate::answer::Reply;
+use crate::keys::KeySet;
 use crate::rows::{Founding, Kept, VehicleRows};
 use up_canon::text::Text;
 
@@ -9,6 +10,15 @@ pub struct RoleTexts {
     pub targets: Text,
     pub snapshot: Text,
     pub timestamp: Text,
+}
+
+/// A root version that is due: its number, the image repository's version with it, and the keys of the version before, none at
+/// a founding.
+#[derive(Drop)]
+pub struct NextRoot {
+    pub number: u64,
+    pub version: u64,
+    pub before: Option<KeySet>,
 }
 
 /// What a new root version changes: the founding's row, the texts of both repositories' Root files, and the image

@@ -20,7 +20,7 @@ pub mod keys;
 pub mod laws;
 pub mod making;
 mod manifest_checks;
-mod new_files;
+pub mod new_files;
 mod new_vehicle;
 pub mod public_keys;
 mod reported;

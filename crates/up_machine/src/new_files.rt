@@ -1,18 +1,21 @@
-//! The rows and files that a new root version or a change of the register makes.
-ghost use Rattle.std.specs.Prelude.{◌≡◌, ◌≤◌, Option, IsTrue, IfOk, MatchOption, ⊤, None, map, option_copied, option_map};
+//! The rows and files of a root version, or of a change of the register, that is due.
+ghost use Rattle.std.specs.Prelude.{◌≡◌, ◌≤◌, Option, IsTrue, IfOk, MatchOption, ⊤, None, insert, map, option_copied, option_map};
 ghost use Rattle.std.specs.List.{list_all};
 ghost use Rattle.up_canon.specs.Moments.{last_command_moment};
 ghost use Rattle.up_roles.specs.declared.repository.Repository.TheVariants.{Director, Image as ImageRepository};
 ghost use Rattle.up_canon.specs.Names.{are_distinct};
 ghost use Rattle.up_roles.specs.Payload.{version_fits};
 ghost use Rattle.up_roles.specs.Targets.{target_fits, ecus_of};
+ghost use Rattle.up_machine.specs.Decisions.{HasRegisterRows, HasRootRows};
+ghost use Rattle.up_machine.specs.Due.{CanMakeFiles, CanMakeRoot, HasFounding, HasRoot};
 ghost use Rattle.up_machine.specs.Files.{role_texts as role_texts_of, root_text as root_text_of, target_of};
 ghost use Rattle.up_machine.specs.Keys.{key_set_fits};
-ghost use Rattle.up_machine.specs.RowsFit.{roles_can_sign, all_can_sign};
-ghost use Rattle.up_machine.specs.State.{Root};
+ghost use Rattle.up_machine.specs.Registers.{place_among};
+ghost use Rattle.up_machine.specs.RowsFit.{all_can_sign};
+ghost use Rattle.up_machine.specs.State.{Root, State};
 
-use crate::decision::{RegisterRows, RootRows};
-use crate::image_targets::image_targets;
+use crate::decision::{NextRoot, RegisterRows, RoleTexts, RootRows};
+use crate::image_targets::{image_targets, targets_with};
 use crate::keys::KeySet;
 use crate::making::role_texts;
 use crate::root_making::root_text;
@@ -20,50 +23,42 @@ use crate::rows::Founding;
 use std::alloc::{AllocError, Global};
 use up_canon::listed::{Duplicate, Listed};
 use up_canon::moment::Moment;
+use up_canon::table::Table;
 use up_plan::image::Image;
 use up_roles::repository::Repository;
 use up_roles::targets::Target;
 use up_sign::scheme::Scheme;
 
-/// What a change of the register makes: the founding's row with this version and moment, and the image repository's files.
-pub(crate) fn register_rows<K: Scheme>(
+/// The rows of a root version that is due, with these keys at a command's moment: the founding's, both repositories' Root
+/// files, signed with the keys of the version before too, and the image repository's files of these images.
+pub fn root_rows<K: Scheme>(
     alloc: Global,
     scheme: &K,
-    founding: &Founding,
-    version: u64,
     at: Moment,
-    targets: Listed<Target>,
-) -> Result<RegisterRows, AllocError>
-    requires keys { IsTrue (roles_can_sign (K.rules scheme.now) founding.now.keys.image) }
-    requires version { IsTrue (version_fits version) }
-    requires moment { at ≤ last_command_moment }
-    requires targets { IsTrue (list_all (target_fits ImageRepository) targets) }
-    requires ecus { IsTrue (are_distinct (ecus_of targets)) }
-    ensures { IfOk result (λ rows. rows ≡ record {
-      founding = record { root = founding.now.root; keys = founding.now.keys; image_version = version; stamp = at };
-      files = role_texts_of (K.rules scheme.now) (record { repository = ImageRepository; keys = founding.now.keys; vehicle = None; version = version; at = at; targets = targets });
-    }) }
+    keys: &KeySet,
+    new: &NextRoot,
+    images: &Table<Image>,
+) -> Result<RootRows, AllocError>
+    requires { CanMakeRoot (K.rules scheme.now) at keys.now new.now }
+    ensures { (next : State) → HasRoot next at keys.now new.now → images.now ≡ next.images → IfOk result (λ rows. HasRootRows (K.rules scheme.now) next rows) }
 {
-    let files = role_texts(
+    let before = new.before.as_ref();
+    let images = images.values();
+    rows_of_root(
         alloc,
         scheme,
-        Repository::Image,
-        &founding.keys,
-        &None,
-        version,
+        new.number,
+        keys,
         at,
-        targets,
-    )?;
-    Ok(RegisterRows {
-        founding: founding_with(alloc, founding.root, &founding.keys, version, at)?,
-        files,
-    })
+        before,
+        new.version,
+        images,
+    )
 }
 
-/// What a new root version makes: the founding's row, both repositories' Root files of this number, signed with the keys of
-/// the version before too, and the image repository's files with this version.
+/// The same of this number, with these keys before and this version of the image repository.
 #[tactic(auto, using(crate::proofs::NewFiles::both_fit, crate::proofs::NewFiles::no_ecus))]
-pub(crate) fn root_rows<K: Scheme>(
+fn rows_of_root<K: Scheme>(
     alloc: Global,
     scheme: &K,
     number: u64,
@@ -129,4 +124,85 @@ fn founding_with(
         image_version,
         stamp,
     })
+}
+
+/// The rows of new files of the image repository that are due: the founding's, and the files of these images.
+pub fn register_rows<K: Scheme>(
+    alloc: Global,
+    scheme: &K,
+    founding: Founding,
+    images: &Table<Image>,
+) -> Result<RegisterRows, AllocError>
+    requires { CanMakeFiles (K.rules scheme.now) founding }
+    ensures { (next : State) → HasFounding next founding → images.now ≡ next.images → IfOk result (λ rows. HasRegisterRows (K.rules scheme.now) next rows) }
+{
+    match image_targets(alloc, images.values()) {
+        Ok(targets) => rows_with_targets(alloc, scheme, founding, targets),
+        Err(error) => Err(error),
+    }
+}
+
+/// The same with these targets.
+pub(crate) fn rows_with_targets<K: Scheme>(
+    alloc: Global,
+    scheme: &K,
+    founding: Founding,
+    targets: Listed<Target>,
+) -> Result<RegisterRows, AllocError>
+    requires founding { CanMakeFiles (K.rules scheme.now) founding }
+    requires targets { IsTrue (list_all (target_fits ImageRepository) targets) }
+    requires ecus { IsTrue (are_distinct (ecus_of targets)) }
+    ensures { IfOk result (λ rows. rows ≡ record {
+      founding = founding;
+      files = role_texts_of (K.rules scheme.now) (record { repository = ImageRepository; keys = founding.keys; vehicle = None; version = founding.image_version; at = founding.stamp; targets = targets });
+    }) }
+{
+    match image_files(alloc, scheme, &founding, targets) {
+        Ok(files) => Ok(RegisterRows { founding, files }),
+        Err(error) => Err(error),
+    }
+}
+
+/// The same with a new image at its place among these.
+pub(crate) fn rows_with_image<K: Scheme>(
+    alloc: Global,
+    scheme: &K,
+    founding: Founding,
+    images: &[Image],
+    image: &Image,
+) -> Result<RegisterRows, AllocError>
+    requires { CanMakeFiles (K.rules scheme.now) founding }
+    ensures { IfOk result (λ rows. rows ≡ record {
+      founding = founding;
+      files = role_texts_of (K.rules scheme.now) (record { repository = ImageRepository; keys = founding.keys; vehicle = None; version = founding.image_version; at = founding.stamp; targets = map (target_of None) (insert images.now (place_among image.now.file images.now) image.now) });
+    }) }
+{
+    match targets_with(alloc, images, image) {
+        Ok(targets) => rows_with_targets(alloc, scheme, founding, targets),
+        Err(error) => Err(error),
+    }
+}
+
+/// The image repository's files.
+fn image_files<K: Scheme>(
+    alloc: Global,
+    scheme: &K,
+    founding: &Founding,
+    targets: Listed<Target>,
+) -> Result<RoleTexts, AllocError>
+    requires founding { CanMakeFiles (K.rules scheme.now) founding.now }
+    requires targets { IsTrue (list_all (target_fits ImageRepository) targets) }
+    requires ecus { IsTrue (are_distinct (ecus_of targets)) }
+    ensures { IfOk result (λ files. files ≡ role_texts_of (K.rules scheme.now) (record { repository = ImageRepository; keys = founding.now.keys; vehicle = None; version = founding.now.image_version; at = founding.now.stamp; targets = targets })) }
+{
+    role_texts(
+        alloc,
+        scheme,
+        Repository::Image,
+        &founding.keys,
+        &None,
+        founding.image_version,
+        founding.stamp,
+        targets,
+    )
 }

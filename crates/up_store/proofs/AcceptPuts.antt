@@ -1,12 +1,12 @@
 -- A manifest is accepted into the tables: its vehicle's rows are set, and a row is kept.
-use Rattle.std.proofs.Common.{◌≡◌, ℕ, suc, List, [], ◌∷◌, ◌++◌, Bool, true, false, ◌||◌, Option, Some, None, Result, Ok, Err, OnOk, IsTrue, map, refl, sym, ap, ap₂, subst, ◌∙◌, bytes_eq, string_bytes}
+use Rattle.std.proofs.Common.{◌≡◌, ℕ, suc, List, [], ◌∷◌, ◌++◌, Bool, true, false, Result, Ok, Err, OnOk, IsTrue, map, refl, sym, ap, ap₂, subst, ◌∙◌, bytes_eq, string_bytes}
 use Rattle.std.specs.Prelude.{if◌then◌else◌, ⊤}
 use Rattle.std.specs.List.{AllByRecursion, list_any}
 use Rattle.std.specs.FinMap as table
 use Rattle.std.proofs.lemmas.List.{map-append}
 use Rattle.sqlite.specs.Order.{Row}
 use Rattle.sqlite.specs.State.{State as Connected}
-use Rattle.up_canon.specs.Names.{Name, first_repeated}
+use Rattle.up_canon.specs.Names.{Name}
 use Rattle.up_machine.specs.declared.decision.AcceptedRows.{AcceptedRows}
 use Rattle.up_machine.specs.declared.rows.EcuRow.{EcuRow}
 use Rattle.up_machine.specs.declared.rows.VehicleRows.{VehicleRows}
@@ -19,15 +19,15 @@ use Rattle.up_tables.specs.declared.values.StoreFault.{StoreFault}
 use Rattle.up_tables.specs.declared.vehicle.VehicleRow.{VehicleRow as VehicleShown}
 use Rattle.up_tables.specs.Ecus.{lines}
 use Rattle.up_tables.specs.Forms.{vehicle_row}
-use Rattle.up_tables.specs.Lines.{EcuLine, ecu_row, vehicle_line, IsSameEcu, AreSameEcus, AreDistinct, AreRecorded, set_ecus}
+use Rattle.up_tables.specs.Lines.{EcuLine, ecu_row, vehicle_line, AreSameEcus, AreDistinct, AreRecorded, set_ecus}
 use Rattle.up_tables.specs.Listed.{TableRows, ListsTables}
-use Rattle.up_tables.specs.Rows.{changed_at, with_row, with_only}
+use Rattle.up_tables.specs.Rows.{with_row, with_only}
 use Rattle.up_tables.specs.Stands.{IsWithin, GoesOn, HasTables, Alters, Lists}
 use Rattle.up_tables.specs.Tables.{up_schema, vehicle_table, ecu_table, kept_table}
 use Rattle.up_tables.proofs.ListedLemmas.{goes_on, lists_vehicles, lists_ecus}
 use Rattle.up_store.specs.ColumnRows.{with_kept}
 use Rattle.up_store.specs.Fitting.{IsRecorded}
-use Rattle.up_store.specs.Lines.{vehicle_lines, ecu_line, ecu_lines, ecus_lines, kept_line}
+use Rattle.up_store.specs.Lines.{vehicle_lines, ecu_lines, ecus_lines, kept_line}
 use Rattle.up_store.specs.Listing.{ListsRows, table_rows}
 use Rattle.up_store.specs.Puts.{IsReported, with_reported}
 use Rattle.up_store.specs.Shown.{vehicle_of, ecu_of}

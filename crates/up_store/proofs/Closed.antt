@@ -6,10 +6,9 @@ use Rattle.std.specs.Cmp.{both_ways, tied_itself}
 use Rattle.std.specs.Cmp.Lexicographic.{slice_cmp, bytes_decides}
 use Rattle.std.proofs.lemmas.Cmp.{nat_list_cmp_total}
 use Rattle.sqlite.specs.Order.{Row}
-use Rattle.sqlite.specs.State.{State as Connected, HasCleanDisk}
+use Rattle.sqlite.specs.State.{State as Connected}
 use Rattle.up_canon.specs.Names.{Name, Table}
 use Rattle.up_plan.specs.Campaigns.{CampaignData}
-use Rattle.up_machine.specs.Inventory.{closed}
 use Rattle.up_machine.proofs.Tables.{one_name, get_new}
 use Rattle.up_columns.specs.CampaignColumns.{reach_column, items_column}
 use Rattle.up_rows.specs.StateRows.{StateRows}

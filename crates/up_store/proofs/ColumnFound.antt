@@ -12,9 +12,7 @@ use Rattle.sqlite.specs.State.{State as Connected}
 use Rattle.sqlite_value.proofs.OrderLemmas.{value_cmp-Int}
 use Rattle.up_canon.specs.Names.{Name}
 use Rattle.up_canon.specs.Steps.{if_passes}
-use Rattle.up_columns.specs.Columns.{names_column, needs_column}
 use Rattle.up_columns.specs.CampaignColumns.{reach_column, items_column}
-use Rattle.up_columns.specs.PlanColumns.{plan_column}
 use Rattle.up_plan.specs.Campaigns.{CampaignData}
 use Rattle.up_plan.specs.Images.{ImageData}
 use Rattle.up_machine.specs.declared.rows.Kept.{Kept}
@@ -28,7 +26,7 @@ use Rattle.up_tables.specs.declared.kept.KeptRow.{KeptRow}
 use Rattle.up_tables.specs.Forms.{image_places, image_row, campaign_places, campaign_row, kept_places, kept_row}
 use Rattle.up_tables.specs.Lines.{yes_or_no}
 use Rattle.up_tables.specs.Rows.{columns_at, has_number}
-use Rattle.up_tables.specs.Stands.{IsWith, IsWithin, HasTables, Reads, Lists, AnyRows}
+use Rattle.up_tables.specs.Stands.{IsWith, IsWithin, HasTables, Reads, Lists}
 use Rattle.up_tables.specs.Tables.{up_schema, image_table, campaign_table, kept_table}
 use Rattle.up_store.specs.ColumnRows.{IsImage, IsCampaign, IsKept, AreImages, AreRunning, last_found}
 use Rattle.up_store.specs.Found.{vehicle_found}

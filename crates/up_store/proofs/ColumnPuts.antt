@@ -1,10 +1,9 @@
 -- Images, campaigns and kept manifests are put into the tables.
-use Rattle.std.proofs.Common.{◌≡◌, ℕ, pos, List, [], ◌∷◌, ◌++◌, Option, Some, None, Result, Ok, Err, OnOk, IsTrue, refl, sym, ap, ◌∙◌, string_bytes}
+use Rattle.std.proofs.Common.{◌≡◌, ℕ, pos, List, [], ◌∷◌, Some, None, Result, Ok, Err, OnOk, IsTrue, refl, sym, ap, ◌∙◌, string_bytes}
 use Rattle.std.specs.FinMap as table
 use Rattle.sqlite.specs.declared.types.Value.TheVariants.{Int, Text, Blob}
 use Rattle.sqlite.specs.Order.{Row}
 use Rattle.sqlite.specs.State.{State as Connected}
-use Rattle.up_canon.specs.Names.{Name}
 use Rattle.up_plan.specs.Campaigns.{CampaignData}
 use Rattle.up_plan.specs.Images.{ImageData}
 use Rattle.up_machine.specs.declared.decision.RegisterRows.{RegisterRows}

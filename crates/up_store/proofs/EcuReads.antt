@@ -1,5 +1,5 @@
 -- What is read of the table of ECUs.
-use Rattle.std.proofs.Common.{◌≡◌, ℕ, suc, pos, List, [], ◌∷◌, Bool, true, false, cond, ◌||◌, Option, Some, None, IsTrue, map, refl, sym, ap, ap₂, ◌∙◌, string_bytes, bytes_eq}
+use Rattle.std.proofs.Common.{◌≡◌, ℕ, suc, pos, List, [], ◌∷◌, Bool, true, false, cond, ◌||◌, Option, Some, None, map, refl, sym, ap, ap₂, ◌∙◌, string_bytes, bytes_eq}
 use Rattle.std.specs.Prelude.{option_map, unwrap_or, find}
 use Rattle.std.specs.List.{AllByRecursion, list_any}
 use Rattle.std.specs.Ordering.{nat_cmp, eq_by_cmp}

@@ -1,12 +1,12 @@
 -- Tables that show two sound states show one.
-use Rattle.std.proofs.Common.{◌≡◌, ℕ, suc, pos, List, [], ◌∷◌, Bool, true, false, Option, Some, None, Ok, map, length, refl, sym, ap, ap₂, subst, ◌∙◌}
-use Rattle.std.specs.Prelude.{option_map, unwrap_or}
+use Rattle.std.proofs.Common.{◌≡◌, ◌+◌, ◌≤◌, ◌^◌, ℕ, suc, List, [], ◌∷◌, Bool, true, false, Option, Some, None, map, length, refl, sym, ap, ap₂, ◌∙◌, arith, codes}
+use Rattle.std.specs.Prelude.{option_map}
 use Rattle.std.specs.List.{AllByRecursion, list_all}
 use Rattle.std.specs.FinMap as table
-use Rattle.sqlite.specs.Order.{Row}
 use Rattle.sqlite.specs.Tree.{Trees}
-use Rattle.sqlite.specs.declared.types.Value.TheVariants.{Int, Text}
+use Rattle.sqlite.specs.declared.types.Value.TheVariants.{Int}
 use Rattle.up_canon.specs.Canon.{CanonIsRead}
+use Rattle.up_canon.specs.Moments.{MomentsAreRead}
 use Rattle.up_canon.specs.Names.{Name}
 use Rattle.up_sign.specs.Schemes.{Rules}
 use Rattle.up_plan.specs.Campaigns.{CampaignData}
@@ -30,15 +30,14 @@ use Rattle.up_machine.specs.declared.rows.VehicleRows.{VehicleRows}
 use Rattle.up_machine.specs.declared.vehicle.NewEcu.{NewEcu}
 use Rattle.up_rows.specs.declared.root_row.RootRow.{RootRow}
 use Rattle.up_rows.specs.Laws.{RowsTellTheState}
-use Rattle.up_rows.specs.StateRows.{StateRows, rows_of_state, state_of_rows, root_of, ecu_of, entry_of, vehicle_of}
+use Rattle.up_rows.specs.StateRows.{StateRows, rows_of_state, root_of, ecu_of, entry_of, vehicle_of}
 use Rattle.up_rows.proofs.Tables.{get_changed}
 use Rattle.up_tables.specs.Lines.{ecu_row, meta_row, yes_or_no}
-use Rattle.up_tables.specs.Listed.{ListsTables}
-use Rattle.up_store.specs.Laws.{AreOneButForMoments}
 use Rattle.up_store.specs.Lines.{founding_number, image_lines, campaign_lines, vehicle_lines, ecu_lines, ecus_lines, kept_line}
-use Rattle.up_store.specs.Listing.{ListsRows, IsOfLastRoot, table_rows}
+use Rattle.up_store.specs.Listing.{ListsRows, IsOfLastRoot}
 use Rattle.up_store.specs.Typed.{IsTypedImage, IsTypedCampaign, IsTypedKept}
 use Rattle.up_store.proofs.OneKeys.{one_keys}
+use Rattle.up_store.proofs.RootTexts.{rows_size, same_found, one_texts, one_roots}
 use Rattle.up_store.proofs.WholeTables.{same_table}
 
 -- ---- columns
@@ -181,7 +180,7 @@ keys_again : (roots : List RootRow) → map (λ (r : Root). r.keys) (map root_of
 keys_again [] = refl
 keys_again (root ∷ roots) = ap (λ ks. root.keys ∷ ks) (keys_again roots)
 
-module _ (law : CanonIsRead) (tell : RowsTellTheState) (k : Rules) (s t : State) (sound : IsSound k s) (also : IsSound k t) (trees : Trees) (one : ListsRows (rows_of_state k s) trees) (two : ListsRows (rows_of_state k t) trees) where
+module _ (law : CanonIsRead) (moments : MomentsAreRead) (tell : RowsTellTheState) (k : Rules) (s t : State) (sound : IsSound k s) (also : IsSound k t) (trees : Trees) (one : ListsRows (rows_of_state k s) trees) (two : ListsRows (rows_of_state k t) trees) where
   abbrev first : StateRows
   first = rows_of_state k s
 
@@ -191,12 +190,24 @@ module _ (law : CanonIsRead) (tell : RowsTellTheState) (k : Rules) (s t : State)
   numbers : (number_of (λ f. f.root) first ≡ number_of (λ f. f.root) second) × (number_of (λ f. f.image_version) first ≡ number_of (λ f. f.image_version) second) × (number_of (λ f. f.stamp) first ≡ number_of (λ f. f.stamp) second)
   numbers = numbers_alike _ _ _ _ _ _ (sym one.tables.meta ∙ two.tables.meta)
 
-  roots : map (λ (r : RootRow). r.keys) first.roots ≡ map (λ (r : RootRow). r.keys) second.roots
-  roots = one_keys first.roots second.roots (sym (counted first.founding first.roots one.last) ∙ numbers.0 ∙ counted second.founding second.roots two.last) one.typed.roots two.typed.roots
-      (sym one.tables.role_keys.every ∙ two.tables.role_keys.every)
+  sizes : length first.roots ≡ length second.roots
+  sizes = sym (counted first.founding first.roots one.last) ∙ numbers.0 ∙ counted second.founding second.roots two.last
+
+  keys : map (λ (r : RootRow). r.keys) first.roots ≡ map (λ (r : RootRow). r.keys) second.roots
+  keys = one_keys first.roots second.roots sizes one.typed.roots two.typed.roots (sym one.tables.role_keys.every ∙ two.tables.role_keys.every)
 
   keys_told : (u : State) → IsSound k u → map (λ (r : RootRow). r.keys) (rows_of_state k u).roots ≡ map (λ (r : Root). r.keys) u.roots
   keys_told u is = sym (keys_again (rows_of_state k u).roots) ∙ ap (λ (x : State). map (λ (r : Root). r.keys) x.roots) (tell k u is)
+
+  few : 1 + length first.roots ≤ 2 ^ 64
+  few = let size = rows_size k s 1 s.roots in let limit = sound.repositories.root_limit in omega (arith, size, limit)
+
+  texts : map (λ (r : RootRow). r.director) first.roots ≡ map (λ (r : RootRow). r.director) second.roots
+  texts = one_texts 1 first.roots second.roots sizes few one.numbered two.numbered
+      (λ number low high. same_found first second (λ name. sym (one.tables.files.parts (codes "director") name) ∙ two.tables.files.parts (codes "director") name) number)
+
+  roots : s.roots ≡ t.roots
+  roots = one_roots moments k s t 1 s.roots t.roots sound.repositories.each_root also.repositories.each_root (sym (keys_told s sound) ∙ keys ∙ keys_told t also) texts
 
   images : s.images ≡ t.images
   images = same_table s.images t.images (λ n. one_image_or_none law n (table.get s.images n) (table.get t.images n) (one.typed.images n) (two.typed.images n) (sym (one.tables.images.parts n) ∙ two.tables.images.parts n))
@@ -215,12 +226,11 @@ module _ (law : CanonIsRead) (tell : RowsTellTheState) (k : Rules) (s t : State)
   vehicles : s.vehicles ≡ t.vehicles
   vehicles = same_table s.vehicles t.vehicles (λ n. told s sound n ∙ vehicle_at n ∙ sym (told t also n))
 
-  pub one_but_for_moments : AreOneButForMoments s t
-  one_but_for_moments = record {
-    roots = sym (keys_told s sound) ∙ roots ∙ keys_told t also;
-    images = images;
-    image_version = sym (ap (λ (x : State). x.image_version) (tell k s sound)) ∙ numbers.1 ∙ ap (λ (x : State). x.image_version) (tell k t also);
-    stamp = sym (ap (λ (x : State). x.stamp) (tell k s sound)) ∙ numbers.2 ∙ ap (λ (x : State). x.stamp) (tell k t also);
-    campaigns = campaigns;
-    vehicles = vehicles;
-  }
+  image_version : s.image_version ≡ t.image_version
+  image_version = sym (ap (λ (x : State). x.image_version) (tell k s sound)) ∙ numbers.1 ∙ ap (λ (x : State). x.image_version) (tell k t also)
+
+  stamp : s.stamp ≡ t.stamp
+  stamp = sym (ap (λ (x : State). x.stamp) (tell k s sound)) ∙ numbers.2 ∙ ap (λ (x : State). x.stamp) (tell k t also)
+
+  pub one_state : s ≡ t
+  one_state = λ i. record { roots = roots i; images = images i; image_version = image_version i; stamp = stamp i; campaigns = campaigns i; vehicles = vehicles i }

@@ -1,5 +1,5 @@
 -- The files that are served after a root version is put into the tables.
-use Rattle.std.proofs.Common.{◌≡◌, ◌≤◌, ◌<◌, ◌+◌, ◌-◌, ◌^◌, ℕ, suc, List, [], ◌∷◌, ◌++◌, Bool, true, false, cond, Option, Some, None, Result, Ok, Err, OnOk, IsTrue, map, length, slice_get, refl, sym, ap, ap₂, subst, ◌∙◌, arith, bytes_eq, codes}
+use Rattle.std.proofs.Common.{◌≡◌, ◌<◌, ◌+◌, ◌-◌, ◌^◌, ℕ, suc, List, [], ◌∷◌, ◌++◌, Bool, true, false, cond, Option, Some, None, Result, Ok, Err, OnOk, IsTrue, map, length, slice_get, refl, sym, ap, ap₂, subst, ◌∙◌, arith, bytes_eq, codes}
 use Rattle.std.specs.Prelude.{if◌then◌else◌, option_map, find}
 use Rattle.std.specs.List.{enumerate_from}
 use Rattle.std.specs.Option.{option_or}
@@ -10,7 +10,6 @@ use Rattle.sqlite.specs.State.{State as Connected}
 use Rattle.up_canon.specs.Names.{Name}
 use Rattle.up_roles.specs.declared.repository.Repository.{Repository}
 use Rattle.up_roles.specs.declared.repository.Repository.TheVariants.{Director, Image}
-use Rattle.up_machine.specs.declared.decision.RegisterRows.{RegisterRows}
 use Rattle.up_machine.specs.declared.decision.RootRows.{RootRows}
 use Rattle.up_machine.specs.Files.{numbered_root_name}
 use Rattle.up_rows.specs.declared.root_row.RootRow.{RootRow}
@@ -22,12 +21,12 @@ use Rattle.up_tables.specs.Listed.{TableRows, ListsTables}
 use Rattle.up_tables.specs.Stands.{IsWithin, GoesOn, ListsAll}
 use Rattle.up_tables.specs.Tables.{up_schema, role_key_table, repo_file_table}
 use Rattle.up_store.specs.Fitting.{IsNextRoot}
-use Rattle.up_store.specs.Lines.{file_row, file_line, file_lines, set_lines, root_file_lines, role_file_lines, repository_word, root_lines, roots_lines}
+use Rattle.up_store.specs.Lines.{file_row, file_line, file_lines, set_lines, root_file_lines, role_file_lines, root_lines, roots_lines}
 use Rattle.up_store.specs.Listing.{ListsRows, AreNumbered, files_lines, table_rows}
 use Rattle.up_store.specs.Puts.{with_founding, with_keys, HasFilesOnce, with_files}
 use Rattle.up_store.proofs.Alike.{pairs_as}
 use Rattle.up_store.proofs.FoundingReads.{roots_push, size_last}
-use Rattle.up_store.proofs.RootPuts.{Numbered, none_named, numbers_apart, role_files_set, files_once, set_once, within_goes, tables_within}
+use Rattle.up_store.proofs.RootPuts.{none_named, numbers_apart, role_files_set, files_once, set_once, within_goes, tables_within}
 use Rattle.up_store.proofs.TypedRows.{typed_root}
 
 abbrev body_of : Repository → RootRows → List ℕ

@@ -1,11 +1,11 @@
 -- A root version, or new files of the image repository, are put into the tables.
-use Rattle.std.proofs.Common.{◌≡◌, ◌≤◌, ◌<◌, ◌+◌, ◌-◌, ◌^◌, ℕ, suc, pos, List, [], ◌∷◌, ◌++◌, Bool, true, false, ◌&&◌, Option, Some, None, Result, Ok, Err, OnOk, IsTrue, map, length, slice_get, drop, refl, sym, ap, ap₂, subst, ◌∙◌, arith, bytes_eq, codes, string_bytes, decimal}
+use Rattle.std.proofs.Common.{◌≡◌, ◌≤◌, ◌<◌, ◌+◌, ◌-◌, ◌^◌, ℕ, List, [], ◌∷◌, ◌++◌, Bool, true, false, ◌&&◌, Option, Some, None, Result, Ok, Err, OnOk, IsTrue, map, length, drop, refl, sym, ap, ap₂, subst, ◌∙◌, arith, bytes_eq, codes, string_bytes, decimal}
 use Rattle.std.specs.Prelude.{if◌then◌else◌, option_map, find}
 use Rattle.std.specs.List.{enumerate_from}
 use Rattle.std.specs.Option.{option_or}
 use Rattle.std.specs.Cmp.Lexicographic.{bytes_decides}
 use Rattle.std.proofs.lemmas.Fmt.{decimal_injective}
-use Rattle.std.proofs.lemmas.List.{map-append, length-append}
+use Rattle.std.proofs.lemmas.List.{length-append}
 use Rattle.sqlite.specs.Order.{Row}
 use Rattle.sqlite.specs.State.{State as Connected}
 use Rattle.up_canon.specs.Names.{Name}
@@ -13,12 +13,11 @@ use Rattle.up_roles.specs.declared.repository.Repository.{Repository}
 use Rattle.up_roles.specs.declared.repository.Repository.TheVariants.{Director, Image}
 use Rattle.up_machine.specs.declared.decision.RegisterRows.{RegisterRows}
 use Rattle.up_machine.specs.declared.decision.RoleTexts.{RoleTexts}
-use Rattle.up_machine.specs.declared.decision.RootRows.{RootRows}
 use Rattle.up_machine.specs.declared.rows.Founding.{Founding}
 use Rattle.up_machine.specs.Files.{numbered_root_name}
 use Rattle.up_rows.specs.declared.root_row.RootRow.{RootRow}
-use Rattle.up_rows.specs.Changes.{new_root, with_root_rows, with_register_rows}
-use Rattle.up_rows.specs.Lookups.{text_in, row_named, text_among, other_text, text_held}
+use Rattle.up_rows.specs.Changes.{with_register_rows}
+use Rattle.up_rows.specs.Lookups.{text_in, row_named, text_among, text_held}
 use Rattle.up_rows.specs.StateRows.{StateRows}
 use Rattle.up_tables.specs.declared.repo_file.FileRow.{FileRow as FileShown}
 use Rattle.up_tables.specs.declared.role_key.RoleKeyRow.{RoleKeyRow}
@@ -30,14 +29,13 @@ use Rattle.up_tables.specs.Rows.{with_only_at}
 use Rattle.up_tables.specs.Stands.{IsWithin, GoesOn, HasTables, Alters, ListsAll, ListsPairs}
 use Rattle.up_tables.specs.Tables.{up_schema, meta_table, role_key_table, repo_file_table}
 use Rattle.up_tables.proofs.ListedLemmas.{goes_on, lists_meta, lists_role_keys, lists_files}
-use Rattle.up_store.specs.Fitting.{IsNextRoot, IsSameRoot}
-use Rattle.up_store.specs.Lines.{FileLine, file_row, file_line, file_lines, set_lines, root_file_lines, role_file_lines, repository_word, repository_lines, roots_lines}
-use Rattle.up_store.specs.Listing.{ListsRows, IsOfLastRoot, AreNumbered, files_lines, table_rows}
+use Rattle.up_store.specs.Fitting.{IsSameRoot}
+use Rattle.up_store.specs.Lines.{FileLine, file_row, file_line, file_lines, set_lines, role_file_lines, repository_word, repository_lines}
+use Rattle.up_store.specs.Listing.{ListsRows, AreNumbered, files_lines, table_rows}
 use Rattle.up_store.specs.Puts.{with_founding, with_keys, HasFilesOnce, with_files}
 use Rattle.up_store.specs.Shown.{file_of}
-use Rattle.up_store.proofs.Alike.{pairs_as, alters_as}
-use Rattle.up_store.proofs.FoundingReads.{roots_push, size_last}
-use Rattle.up_store.proofs.TypedRows.{typed_root, typed_register}
+use Rattle.up_store.proofs.Alike.{pairs_as}
+use Rattle.up_store.proofs.TypedRows.{typed_register}
 
 -- ---- each part by itself
 

@@ -1,15 +1,13 @@
 -- What is read of the table of vehicles.
-use Rattle.std.proofs.Common.{◌≡◌, ℕ, List, [], ◌∷◌, Option, Some, None, Result, Ok, Err, IfOk, OnOk, IsTrue, map, refl, sym, ap, ◌∙◌, Bool, true, false, string_bytes}
+use Rattle.std.proofs.Common.{◌≡◌, ℕ, List, Option, Some, None, map, refl, string_bytes}
 use Rattle.std.specs.Prelude.{option_map}
 use Rattle.std.specs.Option.{option_to_list}
 use Rattle.std.specs.FinMap as table
 use Rattle.sqlite.specs.Order.{Row}
-use Rattle.sqlite.specs.State.{State as Connected, HasCleanDisk}
+use Rattle.sqlite.specs.State.{State as Connected}
 use Rattle.up_canon.specs.Names.{Name}
-use Rattle.up_machine.specs.declared.rows.VehicleRow.{VehicleRow}
 use Rattle.up_machine.specs.declared.rows.VehicleRows.{VehicleRows}
 use Rattle.up_rows.specs.StateRows.{StateRows}
-use Rattle.up_tables.specs.declared.values.StoreFault.{StoreFault}
 use Rattle.up_tables.specs.declared.vehicle.VehicleRow.{VehicleRow as VehicleShown}
 use Rattle.up_tables.specs.Forms.{vehicle_places, vehicle_row}
 use Rattle.up_tables.specs.Rows.{columns_at}

@@ -1,5 +1,5 @@
 -- A write from the start of its transaction to its commit.
-use Rattle.std.proofs.Common.{◌≡◌, Result, Ok, Err, OnOk, IsTrue, subst, sym, true, arith}
+use Rattle.std.proofs.Common.{◌≡◌, Result, Ok, Err, OnOk, IsTrue, subst, true, arith}
 use Rattle.sqlite.specs.Held.{Held, state}
 use Rattle.sqlite.specs.State.{State, HasCleanDisk, Survives}
 use Rattle.sqlite.specs.Tree.{Trees}

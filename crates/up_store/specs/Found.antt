@@ -13,7 +13,7 @@ use Rattle.up_rows.specs.Lookups.{owner_among}
 abbrev pub vehicle_found : Name → StateRows → Option VehicleRow
 vehicle_found vehicle rows = option_map (λ v. v.vehicle) (table.get rows.vehicles vehicle)
 
--- in inventory order; none of an unknown vehicle
+-- in inventory order; empty of an unknown vehicle
 abbrev pub ecus_found : Name → StateRows → List EcuRow
 ecus_found vehicle rows = unwrap_or (option_map (λ v. v.ecus) (table.get rows.vehicles vehicle)) []
 

@@ -1,5 +1,5 @@
 -- What the types of rows say of them: each stands under its own name, and what is kept as JSON can be read again.
-use Rattle.std.specs.Prelude.{◌≡◌, ℕ, ◌<◌, ◌≤◌, ◌^◌, List, Some, true, length}
+use Rattle.std.specs.Prelude.{◌≡◌, ◌≤◌, Some, true, length}
 use Rattle.std.specs.List.{AllByRecursion, list_all}
 use Rattle.std.specs.FinMap as table
 use Rattle.up_canon.specs.Names.{Name, is_ident, is_file_name}

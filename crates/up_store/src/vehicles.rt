@@ -38,7 +38,7 @@ impl<D: Alter> Store<D> {
         find_vehicle(&mut tx, vehicle)
     }
 
-    /// The vehicle's ECUs in inventory order, none of an unknown vehicle.
+    /// The vehicle's ECUs in inventory order; empty of an unknown vehicle.
     pub fn ecus(&mut self, alloc: Global, vehicle: &Ident) -> Result<Listed<EcuRow>, StoreFault>
         ensures told { Answers (ecus_found vehicle.now) (state D.Store self.old) (state D.Store self.new) result }
         ensures kept { IfClean (IsAsCommitted (state D.Store self.old)) (state D.Store self.new) }

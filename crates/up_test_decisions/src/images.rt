@@ -8,10 +8,12 @@ use crate::refused::refused;
 use crate::register::{Register, founding_text, keep_founding, put_image};
 use std::alloc::{AllocError, Global};
 use up_canon::count::Count;
+use up_canon::listed::Duplicate;
 use up_canon::moment::Moment;
 use up_canon::refusal::Refusal;
-use up_machine::decide_register::{decide_image, decide_refresh};
+use up_machine::decide_register::{decide_image, decide_new_image, decide_refresh};
 use up_machine::decision::{Decision, RegisterRows};
+use up_machine::new_files::register_rows;
 use up_plan::image::Image;
 use up_sign::scheme::Scheme;
 
@@ -55,9 +57,16 @@ fn addition<K: Scheme>(
 ) -> Result<Decision<RegisterRows>, Refusal>
     requires { at ≤ last_command_moment }
 {
-    let founding = &register.founding;
-    check_founding(scheme, founding)?;
-    decide_image(alloc, scheme, at, image, founding, &register.images)
+    let founding = register.founding.copy(alloc)?;
+    check_founding(scheme, &founding)?;
+    let old = register.images.get(image.file.text());
+    match decide_image(at, image, founding, old)? {
+        Decision::Already => Ok(Decision::Already),
+        Decision::New(founding) => {
+            let rows = decide_new_image(alloc, scheme, at, image, founding, &register.images)?;
+            Ok(Decision::New(rows))
+        }
+    }
 }
 
 fn added(
@@ -102,9 +111,10 @@ fn refreshed<K: Scheme>(
 ) -> Result<RegisterRows, Refusal>
     requires { at ≤ last_command_moment }
 {
-    let founding = &register.founding;
-    check_founding(scheme, founding)?;
-    decide_refresh(alloc, scheme, at, version, founding, &register.images)
+    let founding = register.founding.copy(alloc)?;
+    check_founding(scheme, &founding)?;
+    let new = decide_refresh(at, version, founding)?;
+    Ok(register_rows(alloc, scheme, new, &register.images)?)
 }
 
 /// Tells a new version of the image repository.

@@ -7,11 +7,13 @@ use crate::digests::digest_of;
 use crate::refused::refused;
 use crate::register::{Register, founding_text, keep_founding};
 use std::alloc::{AllocError, Global};
+use up_canon::listed::Duplicate;
 use up_canon::moment::Moment;
 use up_canon::refusal::Refusal;
 use up_machine::decide_root::{decide_found, decide_rotate};
 use up_machine::decision::RootRows;
 use up_machine::keys::KeySet;
+use up_machine::new_files::root_rows;
 use up_sign::scheme::Scheme;
 
 /// The answer to a founding.
@@ -24,9 +26,22 @@ pub(crate) fn found<K: Scheme>(
 ) -> Result<String, AllocError>
     requires { at ≤ last_command_moment }
 {
-    let founding = &register.founding;
-    let decided = decide_found(alloc, scheme, at, &keys, founding, &register.images);
+    let decided = founding(alloc, scheme, at, register, &keys);
     decided_on(alloc, register, decided)
+}
+
+fn founding<K: Scheme>(
+    alloc: Global,
+    scheme: &K,
+    at: Moment,
+    register: &Register,
+    keys: &KeySet,
+) -> Result<RootRows, Refusal>
+    requires { at ≤ last_command_moment }
+{
+    let is_founded = register.founding.is_some();
+    let new = decide_found(alloc, scheme, at, keys, is_founded)?;
+    Ok(root_rows(alloc, scheme, at, keys, &new, &register.images)?)
 }
 
 /// The answer to a rotation.
@@ -52,9 +67,10 @@ fn rotation<K: Scheme>(
 ) -> Result<RootRows, Refusal>
     requires { at ≤ last_command_moment }
 {
-    let founding = &register.founding;
-    check_founding(scheme, founding)?;
-    decide_rotate(alloc, scheme, at, keys, founding, &register.images)
+    let founding = register.founding.copy(alloc)?;
+    check_founding(scheme, &founding)?;
+    let new = decide_rotate(alloc, scheme, at, keys, founding)?;
+    Ok(root_rows(alloc, scheme, at, keys, &new, &register.images)?)
 }
 
 fn decided_on(

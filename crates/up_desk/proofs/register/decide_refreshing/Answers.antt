@@ -7,7 +7,7 @@ returns-in-Ok-clause-decided g c clean = λ s sound was.
     let k = g.K.Scheme.rules c.args.scheme.now in
     let mid = (state g.D.Store c.read_founding.new.store) in
     let before = clean_before mid (state g.D.Store c.decide_refreshing_after.new.store) c.decide_refreshing_after.ensures.reads clean in
-    c.decide_refreshing_after.ensures.decided clean s sound (c.in-Ok.ensures.told before k s was) (keeps_after k s (state g.D.Store c.args.store.now) mid was c.read_founding.ensures.reads)
+    c.decide_refreshing_after.ensures.decided clean s (c.in-Ok.ensures.told before k s was) (keeps_after k s (state g.D.Store c.args.store.now) mid was c.read_founding.ensures.reads)
 
 pub returns-in-Ok-clause-reads : goal.returns-in-Ok-clause-reads
 returns-in-Ok-clause-reads g c = reads_then (state g.D.Store c.args.store.now) (state g.D.Store c.read_founding.new.store) (state g.D.Store c.decide_refreshing_after.new.store) c.read_founding.ensures.reads c.decide_refreshing_after.ensures.reads

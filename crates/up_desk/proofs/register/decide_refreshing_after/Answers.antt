@@ -1,20 +1,25 @@
+use Rattle.std.proofs.Common.{refl}
 use Rattle.sqlite.specs.Held.{state}
-use Rattle.up_machine.specs.Decisions.{GivesRows, HasRegisterRows}
-use Rattle.up_machine.specs.Repositories.{stamped}
-use Rattle.up_rows.specs.StateRows.{rows_of_state}
-use Rattle.up_desk.proofs.Steps.{gives_or_lost, lost_told, store_reads}
+use Rattle.up_machine.specs.Decisions.{HasRegisterRows}
+use Rattle.up_machine.specs.Due.{HasFounding}
+use Rattle.up_machine.specs.Repositories.{decide_refresh, stamped}
+use Rattle.up_desk.proofs.Due.{rows_made, surely_refused}
+use Rattle.up_desk.proofs.Steps.{reads_none}
 use Rattle.up_desk.proofs.register.decide_refreshing_after.Goals as goal
 
 pub returns-in-Ok-clause-decided : goal.returns-in-Ok-clause-decided
-returns-in-Ok-clause-decided g c clean = λ s sound founding was.
+returns-in-Ok-clause-decided g c clean = λ s founding was.
     let k = g.K.Scheme.rules c.args.scheme.now in
-    gives_or_lost (GivesRows (HasRegisterRows (g.K.Scheme.rules c.args.scheme.now) (stamped s c.args.at c.args.version)) (stamped s c.args.at c.args.version)) c.decide_refresh.result _ (λ r h. h) (c.decide_refresh.ensures s sound founding (c.in-Ok.ensures.told clean (rows_of_state k s) was))
-
-pub returns-in-Ok-clause-reads : goal.returns-in-Ok-clause-reads
-returns-in-Ok-clause-reads g c = store_reads (state g.D.Store c.args.store.now) (state g.D.Store c.images.new.self) c.images.ensures.kept c.images.ensures.crash
+    let next = stamped s c.args.at c.args.version in
+    rows_made (HasFounding next) (HasRegisterRows k next) next c.in-Ok.founding c.make_rows.result (decide_refresh s c.args.at c.args.version)
+    (c.in-Ok.ensures.decided s founding) (λ due. c.make_rows.ensures.made clean s next was due refl)
 
 pub returns-in-Err-clause-decided : goal.returns-in-Err-clause-decided
-returns-in-Err-clause-decided g c = λ clean s sound founding was. lost_told c.refusal_of.result c.in-Err.fault _ c.refusal_of.ensures
+returns-in-Err-clause-decided g c = λ clean s founding was.
+    surely_refused c.in-Err.refusal (decide_refresh s c.args.at c.args.version) (c.in-Err.ensures.decided s founding)
 
 pub returns-in-Err-clause-reads : goal.returns-in-Err-clause-reads
-returns-in-Err-clause-reads g c = store_reads (state g.D.Store c.args.store.now) (state g.D.Store c.images.new.self) c.images.ensures.kept c.images.ensures.crash
+returns-in-Err-clause-reads g c = reads_none (state g.D.Store c.args.store.now)
+
+pub make_rows-requires : goal.make_rows-requires
+make_rows-requires g c = c.in-Ok.ensures.fits (g.K.Scheme.rules c.args.scheme.now) c.requires.keys

@@ -1,21 +1,22 @@
-use Rattle.std.proofs.Common.{◌+◌}
+use Rattle.std.proofs.Common.{◌+◌, refl}
 use Rattle.sqlite.specs.Held.{state}
-use Rattle.up_machine.specs.Decisions.{GivesRows, HasRootRows}
-use Rattle.up_machine.specs.Repositories.{stamped, with_root}
-use Rattle.up_rows.specs.StateRows.{rows_of_state}
-use Rattle.up_desk.proofs.Steps.{gives_or_lost, lost_told, store_reads}
+use Rattle.up_machine.specs.Decisions.{HasRootRows}
+use Rattle.up_machine.specs.Due.{HasRoot}
+use Rattle.up_machine.specs.Repositories.{decide_rotate, stamped, with_root}
+use Rattle.up_desk.proofs.Due.{rows_made, due_refused}
+use Rattle.up_desk.proofs.Steps.{reads_none}
 use Rattle.up_desk.proofs.roots.decide_rotation_after.Goals as goal
 
 pub returns-in-Ok-clause-decided : goal.returns-in-Ok-clause-decided
-returns-in-Ok-clause-decided g c clean = λ s sound founding was.
+returns-in-Ok-clause-decided g c clean = λ s founding was.
     let k = g.K.Scheme.rules c.args.scheme.now in
-    gives_or_lost (GivesRows (HasRootRows (g.K.Scheme.rules c.args.scheme.now) (stamped (with_root s c.args.at c.args.keys.now) c.args.at (s.image_version + 1))) (stamped (with_root s c.args.at c.args.keys.now) c.args.at (s.image_version + 1))) c.decide_rotate.result _ (λ r h. h) (c.decide_rotate.ensures s sound founding (c.in-Ok.ensures.told clean (rows_of_state k s) was))
-
-pub returns-in-Ok-clause-reads : goal.returns-in-Ok-clause-reads
-returns-in-Ok-clause-reads g c = store_reads (state g.D.Store c.args.store.now) (state g.D.Store c.images.new.self) c.images.ensures.kept c.images.ensures.crash
+    let next = stamped (with_root s c.args.at c.args.keys.now) c.args.at (s.image_version + 1) in
+    rows_made (HasRoot next c.args.at c.args.keys.now) (HasRootRows k next) next c.in-Ok.new c.make_rows.result (decide_rotate k s c.args.at c.args.keys.now)
+    (c.in-Ok.ensures.decided s founding) (λ due. c.make_rows.ensures.made clean s next was due refl)
 
 pub returns-in-Err-clause-decided : goal.returns-in-Err-clause-decided
-returns-in-Err-clause-decided g c = λ clean s sound founding was. lost_told c.refusal_of.result c.in-Err.fault _ c.refusal_of.ensures
+returns-in-Err-clause-decided g c = λ clean s founding was.
+    due_refused c.in-Err.refusal (decide_rotate (g.K.Scheme.rules c.args.scheme.now) s c.args.at c.args.keys.now) (c.in-Err.ensures.decided s founding)
 
 pub returns-in-Err-clause-reads : goal.returns-in-Err-clause-reads
-returns-in-Err-clause-reads g c = store_reads (state g.D.Store c.args.store.now) (state g.D.Store c.images.new.self) c.images.ensures.kept c.images.ensures.crash
+returns-in-Err-clause-reads g c = reads_none (state g.D.Store c.args.store.now)

@@ -1,4 +1,4 @@
-use Rattle.std.proofs.Common.{sym, ◌∙◌}
+use Rattle.std.proofs.Common.{◌∙◌}
 use Rattle.up_store.proofs.ColumnReads.{same_image}
 use Rattle.up_store.proofs.image_rows.read_image.Goals as goal
 

@@ -1,9 +1,5 @@
 use Rattle.sqlite.specs.Held.{state}
-use Rattle.up_rows.specs.StateRows.{StateRows}
-use Rattle.up_tables.specs.Stands.{IsWithin}
-use Rattle.up_tables.specs.Tables.{up_schema}
 use Rattle.up_tables.proofs.StateLemmas.{ok_then}
-use Rattle.up_store.specs.Listing.{ListsRows}
 use Rattle.up_store.proofs.ColumnFound.{are_images}
 use Rattle.up_store.proofs.images.find_images.Goals as goal
 

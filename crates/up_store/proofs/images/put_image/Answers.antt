@@ -1,9 +1,7 @@
-use Rattle.std.proofs.Common.{◌≡◌, arith, OnOk, Ok, Err}
+use Rattle.std.proofs.Common.{arith}
 use Rattle.sqlite.specs.Held.{state}
 use Rattle.sqlite.specs.State.{HasCleanDisk}
-use Rattle.up_rows.specs.StateRows.{StateRows}
-use Rattle.up_store.specs.ColumnRows.{with_image}
-use Rattle.up_store.proofs.ColumnPuts.{within_on, puts_both}
+use Rattle.up_store.proofs.ColumnPuts.{puts_both}
 use Rattle.up_store.proofs.images.put_image.Goals as goal
 
 pub returns-clause-put : goal.returns-clause-put

@@ -1,4 +1,4 @@
-use Rattle.std.proofs.Common.{◌≡◌, Some, ◌∙◌, sym, ap, string_bytes}
+use Rattle.std.proofs.Common.{Some, ◌∙◌, sym, ap, string_bytes}
 use Rattle.std.specs.Prelude.{option_map}
 use Rattle.sqlite.specs.Held.{state}
 use Rattle.up_tables.specs.declared.repo_file.FileRow.{FileRow}
