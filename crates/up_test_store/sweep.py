@@ -1,10 +1,9 @@
 #!/usr/bin/env python3
 """Makes one call of this crate's program fail, the first, the second, and so on until a run ends without: needs a C compiler.
 
-    python3 crates/up_test_store/sweep.py PROGRAM KIND PLACE [EVERY [FIRST [LAST]]]
+    python3 crates/up_test_store/sweep.py PROGRAM PLACE [EVERY [FIRST [LAST]]]
 
-KIND is `memory`, which refuses a request for memory, or `disk`, which fails a read, write, sync or cut of a file. PLACE is `memory`
-or `files` (on disks that are memory). The section `each disk call refused` is carried out: each of the eight
+Each request for memory is refused in turn. PLACE is `memory` or `files` (on disks that are memory). The section `each disk call refused` is carried out: each of the eight
 writes, and each of the eleven reads after each. What is told has to be the same whichever call failed: a write that was refused
 changed nothing, or stands whole, and goes through when it is made again. Else the program has to end with a message, having told
 nothing.
@@ -16,7 +15,6 @@ import sys
 import tempfile
 
 HERE = pathlib.Path(__file__).resolve().parent
-VARIABLES = {"memory": "FAIL_ALLOC", "disk": "FAIL_IO"}
 
 
 def section():
@@ -24,25 +22,23 @@ def section():
     return "\n# " + next(text for text in sections if text.startswith("each disk call refused\n"))
 
 
-def carried_out(program, place, own, variables):
-    """The status and what is told; `path` has a folder of its own each time."""
-    with tempfile.TemporaryDirectory(dir=own) as folder:
-        words = [program, place]
-        ran = subprocess.run(words, input=section().encode(), capture_output=True, cwd=folder, env=variables, timeout=120, check=False)
+def carried_out(program, place, variables):
+    """The status and what is told."""
+    ran = subprocess.run([program, place], input=section().encode(), capture_output=True, env=variables, timeout=120, check=False)
     return ran.returncode, ran.stdout, ran.stderr
 
 
-def main(program, kind, place, every="1", first="1", last="1000000000"):
+def main(program, place, every="1", first="1", last="1000000000"):
     program = str(pathlib.Path(program).resolve())
     with tempfile.TemporaryDirectory() as own:
         library, mark = f"{own}/failing.so", pathlib.Path(own) / "mark"
         subprocess.run(["cc", "-shared", "-fPIC", "-O1", "-o", library, str(HERE.parents[1] / "tools" / "failing.c"), "-ldl"], check=True)
-        whole = carried_out(program, place, own, {})
+        whole = carried_out(program, place, {})
         assert whole[0] == 0 and whole[1].startswith(b"each disk call refused: "), whole
         tries, ended, bad = 0, 0, 0
         for number in range(int(first), int(last), int(every)):
             mark.unlink(missing_ok=True)
-            told = carried_out(program, place, own, {"LD_PRELOAD": library, "FAIL_MARK": str(mark), VARIABLES[kind]: str(number)})
+            told = carried_out(program, place, {"LD_PRELOAD": library, "FAIL_MARK": str(mark), "FAIL_ALLOC": str(number)})
             if not mark.exists():
                 break
             tries += 1
@@ -51,11 +47,11 @@ def main(program, kind, place, every="1", first="1", last="1000000000"):
             elif told != whole:
                 bad += 1
                 print(f"call {number}: {told}", flush=True)
-    print(f"{kind} over {place}: {tries} calls failed in turn, to number {number}; {tries - ended - bad} told the same, {ended} ended with a message, {bad} otherwise")
+    print(f"over {place}: {tries} calls failed in turn, to number {number}; {tries - ended - bad} told the same, {ended} ended with a message, {bad} otherwise")
     return bad > 0
 
 
 if __name__ == "__main__":
-    if len(sys.argv) < 4 or sys.argv[2] not in VARIABLES:
+    if len(sys.argv) < 3:
         sys.exit(__doc__)
     sys.exit(main(*sys.argv[1:]))

@@ -71,8 +71,7 @@ fn failing_at(
 
 fn log_failing(alloc: Global, section: &str, calls: u64) -> Result<(String, bool), AllocError> {
     match carried_out(alloc, section, calls, NEVER) {
-        Ok((text, Some(files))) => Ok((text, fails_within(files.log, calls))),
-        Ok((text, None)) => Ok((text, false)),
+        Ok((text, files)) => Ok((text, log_is_whole(files, calls))),
         Err(refused) => Err(refused),
     }
 }
@@ -83,9 +82,22 @@ fn database_failing(
     calls: u64,
 ) -> Result<(String, bool), AllocError> {
     match carried_out(alloc, section, NEVER, calls) {
-        Ok((text, Some(files))) => Ok((text, fails_within(files.db, calls))),
-        Ok((text, None)) => Ok((text, false)),
+        Ok((text, files)) => Ok((text, database_is_whole(files, calls))),
         Err(refused) => Err(refused),
+    }
+}
+
+fn log_is_whole(files: Option<Files<Fuse<Memory>>>, calls: u64) -> bool {
+    match files {
+        Some(files) => fails_within(files.log, calls),
+        None => false,
+    }
+}
+
+fn database_is_whole(files: Option<Files<Fuse<Memory>>>, calls: u64) -> bool {
+    match files {
+        Some(files) => fails_within(files.db, calls),
+        None => false,
     }
 }
 
