@@ -1,75 +1,37 @@
-//! Plans: each column is read, and written as it stood.
-use crate::values::{file, ident};
-use std::alloc::Global;
-use std::process::Abort;
-use std::test::Fail;
-use up_canon::listed::Listed;
+//! Columns that are plans.
+use crate::shown::{again, fields_of};
+use std::alloc::{AllocError, Global};
 use up_columns::plans::{plan_text, read_plan};
-use up_plan::assigned::{Assigned, Cause, Plan};
+use up_plan::assigned::{Cause, Plan};
 
-const ASSIGNED: &str =
-    "{\"assigned\":[{\"ecu\":\"P1\",\"file\":\"p/1.bin\"},{\"ecu\":\"S1\",\"file\":\"s.bin\"}],\"withheld\":null}";
-
-const NEED: &str = "{\"assigned\":[],\"withheld\":{\"ecu\":\"S1\",\"hardware\":\"HP\"}}";
-
-const CONFLICT: &str = "{\"assigned\":[],\"withheld\":{\"ecu\":\"S1\",\"file\":\"p/1.bin\"}}";
-
-#[test]
-fn assigned(rt: HostRuntime) -> Result<(), Fail> {
-    let alloc = rt.alloc();
-    let first = Assigned {
-        ecu: ident(alloc, "P1")?,
-        file: file(alloc, "p/1.bin")?,
-    };
-    let second = Assigned {
-        ecu: ident(alloc, "S1")?,
-        file: file(alloc, "s.bin")?,
-    };
-    let plan = Plan {
-        assigned: Listed::new(vec![in alloc; first, second]?),
-        withheld: None,
-    };
-    assert_eq!(rt; plan_text(alloc, &plan)?.as_str(), ASSIGNED);
-    let read = read_plan(alloc, ASSIGNED)?;
-    assert_eq!(rt; read.assigned.as_slice().len(), 2);
-    assert_eq!(rt; read.assigned.as_slice()[1].ecu.text(), "S1");
-    assert_eq!(rt; read.assigned.as_slice()[1].file.text(), "s.bin");
-    assert!(rt; read.withheld.is_none());
-    Ok(())
+/// What is read of a plan's column, and whether it is written so again.
+pub(crate) fn plan(alloc: Global, column: &str) -> Result<String, AllocError> {
+    match read_plan(alloc, column) {
+        Ok(plan) => plan_again(alloc, &plan, column),
+        Err(refusal) => refusal.text(alloc),
+    }
 }
 
-#[test]
-fn withheld(rt: HostRuntime) -> Result<(), Fail> {
-    let alloc = rt.alloc();
-    let need = read_plan(alloc, NEED)?;
-    assert!(rt;
-        matches!(&need.withheld, Some(Cause::Need { ecu, hardware }) if ecu.text() == "S1" && hardware.text() == "HP")
-    );
-    assert_eq!(rt; plan_text(alloc, &need)?.as_str(), NEED);
-    let conflict = read_plan(alloc, CONFLICT)?;
-    assert!(rt;
-        matches!(&conflict.withheld, Some(Cause::Conflict { ecu, file }) if ecu.text() == "S1" && file.text() == "p/1.bin")
-    );
-    assert_eq!(rt; plan_text(alloc, &conflict)?.as_str(), CONFLICT);
-    Ok(())
+fn plan_again(alloc: Global, plan: &Plan, column: &str) -> Result<String, AllocError> {
+    let fields = plan_fields(alloc, plan)?;
+    again(alloc, fields, plan_text(alloc, plan), column)
 }
 
-#[test]
-fn what_is_no_plan(rt: HostRuntime) -> Result<(), Fail> {
-    let alloc = rt.alloc();
-    check(&rt, alloc, "[]", "BadShape plan")?;
-    check(&rt, alloc, "{\"withheld\":null}", "BadShape assigned")?;
-    check(&rt, alloc, "{\"assigned\":[]}", "BadShape withheld")?;
-    check(
-        &rt,
-        alloc,
-        "{\"assigned\":[],\"withheld\":{\"ecu\":\"S1\"}}",
-        "BadShape file",
-    )
+fn plan_fields(alloc: Global, plan: &Plan) -> Result<String, AllocError> {
+    let assigned = fields_of(alloc, plan.assigned.as_slice())?;
+    match &plan.withheld {
+        None => Ok(assigned),
+        Some(cause) => with_cause(alloc, assigned, cause),
+    }
 }
 
-fn check(rt: &impl Abort, alloc: Global, column: &str, fault: &str) -> Result<(), Fail> {
-    let refused = read_plan(alloc, column).err().ok_or("read as a plan")?;
-    assert_eq!(rt; refused.text(alloc)?.as_str(), fault);
-    Ok(())
+fn with_cause(alloc: Global, assigned: String, cause: &Cause) -> Result<String, AllocError> {
+    match cause {
+        Cause::Need { ecu, hardware } => {
+            format!(in alloc; "{assigned} {} needs {}", ecu.text(), hardware.text())
+        }
+        Cause::Conflict { ecu, file } => {
+            format!(in alloc; "{assigned} {} conflicts with {}", ecu.text(), file.text())
+        }
+    }
 }

@@ -1,170 +1,96 @@
-//! Rows read, and printed a line each.
-ghost use Rattle.std.specs.Prelude.{◌<◌, ◌^◌};
+//! Statements that read.
+ghost use Rattle.std.specs.Prelude.{◌≡◌};
+ghost use Rattle.sqlite.specs.Held.{state};
+ghost use Rattle.up_tables.specs.Stands.{IfClean, IsInside};
 
-use sqlite::{Alter, Connection};
+use crate::texts::{all, one};
+use crate::words::{first_of, number, word};
+use sqlite::{Alter, Transaction};
 use std::alloc::Global;
-use std::test::Fail;
-use up_tables::campaign::{CampaignRow, campaign, running_campaigns};
-use up_tables::ecu::{EcuRow, ecu_owner, ecus};
-use up_tables::image::{ImageRow, image, images};
-use up_tables::kept::{KeptRow, kept};
-use up_tables::meta::{MetaRow, meta};
-use up_tables::repo_file::{FileRow, file};
-use up_tables::role_key::{RoleKeyRow, role_keys, role_keys_of};
+use up_tables::campaign::{campaign, running_campaigns};
+use up_tables::ecu::{ecu_owner, ecus};
+use up_tables::image::{image, images};
+use up_tables::kept::kept;
+use up_tables::meta::meta;
+use up_tables::repo_file::file;
+use up_tables::role_key::{role_keys, role_keys_of};
 use up_tables::values::StoreFault;
-use up_tables::vehicle::{VehicleRow, vehicle};
+use up_tables::vehicle::vehicle;
 
-pub(crate) fn read_image<S: Alter>(
-    conn: &mut Connection<S>,
-    file: &str,
-) -> Result<Option<ImageRow>, StoreFault> {
-    if !conn.is_autocommit() {
-        return Err(StoreFault::Store);
-    }
-    image(&mut conn.transaction(), file)
-}
-
-pub(crate) fn read_images<S: Alter>(
-    conn: &mut Connection<S>,
+/// What a statement reads.
+pub(crate) fn read<S: Alter>(
+    tx: &mut Transaction<'_, S>,
     alloc: Global,
-) -> Result<Vec<ImageRow>, StoreFault> {
-    if !conn.is_autocommit() {
-        return Err(StoreFault::Store);
-    }
-    images(&mut conn.transaction(), alloc)
-}
-
-pub(crate) fn read_campaign<S: Alter>(
-    conn: &mut Connection<S>,
-    name: &str,
-) -> Result<Option<CampaignRow>, StoreFault> {
-    if !conn.is_autocommit() {
-        return Err(StoreFault::Store);
-    }
-    campaign(&mut conn.transaction(), name)
-}
-
-pub(crate) fn read_running<S: Alter>(
-    conn: &mut Connection<S>,
-    alloc: Global,
-) -> Result<Vec<CampaignRow>, StoreFault> {
-    if !conn.is_autocommit() {
-        return Err(StoreFault::Store);
-    }
-    running_campaigns(&mut conn.transaction(), alloc)
-}
-
-pub(crate) fn read_meta<S: Alter>(conn: &mut Connection<S>) -> Result<Option<MetaRow>, StoreFault> {
-    if !conn.is_autocommit() {
-        return Err(StoreFault::Store);
-    }
-    meta(&mut conn.transaction())
-}
-
-pub(crate) fn read_keys_of<S: Alter>(
-    conn: &mut Connection<S>,
-    alloc: Global,
-    root: u64,
-) -> Result<Vec<RoleKeyRow>, StoreFault>
-    requires { root < 2 ^ 63 }
+    given: &str,
+) -> Result<String, StoreFault>
+    requires { IfClean IsInside (state S.Store tx.old.conn.now) }
+    ensures { tx.new.conn.ghost_name ≡ tx.old.conn.ghost_name }
 {
-    if !conn.is_autocommit() {
-        return Err(StoreFault::Store);
+    let (word, rest) = first_of(given);
+    match word {
+        "meta" => one(alloc, meta(tx)),
+        "keys" => all(alloc, role_keys(tx, alloc)),
+        "keys_of" => all(alloc, role_keys_of(tx, alloc, number(rest, 0))),
+        "file" => read_file(tx, alloc, rest),
+        _ => read_image(tx, alloc, word, rest),
     }
-    role_keys_of(&mut conn.transaction(), alloc, root)
 }
 
-pub(crate) fn read_keys<S: Alter>(
-    conn: &mut Connection<S>,
+fn read_file<S: Alter>(
+    tx: &mut Transaction<'_, S>,
     alloc: Global,
-) -> Result<Vec<RoleKeyRow>, StoreFault> {
-    if !conn.is_autocommit() {
-        return Err(StoreFault::Store);
-    }
-    role_keys(&mut conn.transaction(), alloc)
-}
-
-pub(crate) fn read_file<S: Alter>(
-    conn: &mut Connection<S>,
-    name: &str,
-) -> Result<Option<FileRow>, StoreFault> {
-    if !conn.is_autocommit() {
-        return Err(StoreFault::Store);
-    }
-    file(&mut conn.transaction(), "director", name)
-}
-
-pub(crate) fn read_vehicle<S: Alter>(
-    conn: &mut Connection<S>,
-) -> Result<Option<VehicleRow>, StoreFault> {
-    if !conn.is_autocommit() {
-        return Err(StoreFault::Store);
-    }
-    vehicle(&mut conn.transaction(), "V1")
-}
-
-pub(crate) fn read_ecus<S: Alter>(
-    conn: &mut Connection<S>,
-    alloc: Global,
-) -> Result<Vec<EcuRow>, StoreFault> {
-    if !conn.is_autocommit() {
-        return Err(StoreFault::Store);
-    }
-    ecus(&mut conn.transaction(), alloc, "V1")
-}
-
-pub(crate) fn read_owner<S: Alter>(
-    conn: &mut Connection<S>,
-    ecu: &str,
-) -> Result<Option<String>, StoreFault> {
-    if !conn.is_autocommit() {
-        return Err(StoreFault::Store);
-    }
-    ecu_owner(&mut conn.transaction(), ecu)
-}
-
-pub(crate) fn read_kept<S: Alter>(
-    conn: &mut Connection<S>,
-    counter: u64,
-) -> Result<Option<KeptRow>, StoreFault>
-    requires { counter < 2 ^ 63 }
+    given: &str,
+) -> Result<String, StoreFault>
+    requires { IfClean IsInside (state S.Store tx.old.conn.now) }
+    ensures { tx.new.conn.ghost_name ≡ tx.old.conn.ghost_name }
 {
-    if !conn.is_autocommit() {
-        return Err(StoreFault::Store);
-    }
-    kept(&mut conn.transaction(), "V1", counter)
+    let (repository, name) = first_of(given);
+    one(alloc, file(tx, repository, name))
 }
 
-/// The names of images, in the order read.
-pub(crate) fn image_names(alloc: Global, images: &[ImageRow]) -> Result<String, Fail> {
-    let mut text = String::new(alloc);
-    for image in images {
-        text.push_str(image.file.as_str())?;
-        text.push_str(" ")?;
+fn read_image<S: Alter>(
+    tx: &mut Transaction<'_, S>,
+    alloc: Global,
+    word: &str,
+    given: &str,
+) -> Result<String, StoreFault>
+    requires { IfClean IsInside (state S.Store tx.old.conn.now) }
+    ensures { tx.new.conn.ghost_name ≡ tx.old.conn.ghost_name }
+{
+    match word {
+        "image" => one(alloc, image(tx, given)),
+        "images" => all(alloc, images(tx, alloc)),
+        "campaign" => one(alloc, campaign(tx, given)),
+        "running" => all(alloc, running_campaigns(tx, alloc)),
+        _ => read_vehicle(tx, alloc, word, given),
     }
-    Ok(text)
 }
 
-/// The names of ECUs and what they have installed, in the order read.
-pub(crate) fn ecu_names(alloc: Global, ecus: &[EcuRow]) -> Result<String, Fail> {
-    let mut text = String::new(alloc);
-    for ecu in ecus {
-        text.push_str(ecu.ecu.as_str())?;
-        text.push_str("=")?;
-        if let Some(installed) = &ecu.installed {
-            text.push_str(installed.file.as_str())?;
-        }
-        text.push_str(" ")?;
+fn read_vehicle<S: Alter>(
+    tx: &mut Transaction<'_, S>,
+    alloc: Global,
+    word: &str,
+    given: &str,
+) -> Result<String, StoreFault>
+    requires { IfClean IsInside (state S.Store tx.old.conn.now) }
+    ensures { tx.new.conn.ghost_name ≡ tx.old.conn.ghost_name }
+{
+    match word {
+        "vehicle" => one(alloc, vehicle(tx, given)),
+        "ecus" => all(alloc, ecus(tx, alloc, given)),
+        "owner" => one(alloc, ecu_owner(tx, given)),
+        "kept" => read_kept(tx, alloc, given),
+        _ => Ok("no such statement".to_string(alloc)?),
     }
-    Ok(text)
 }
 
-/// The roles of keys, in the order read.
-pub(crate) fn role_names(alloc: Global, keys: &[RoleKeyRow]) -> Result<String, Fail> {
-    let mut text = String::new(alloc);
-    for key in keys {
-        text.push_str(key.role.as_str())?;
-        text.push_str(" ")?;
-    }
-    Ok(text)
+fn read_kept<S: Alter>(
+    tx: &mut Transaction<'_, S>,
+    alloc: Global,
+    given: &str,
+) -> Result<String, StoreFault>
+    requires { IfClean IsInside (state S.Store tx.old.conn.now) }
+    ensures { tx.new.conn.ghost_name ≡ tx.old.conn.ghost_name }
+{
+    one(alloc, kept(tx, word(given, 0), number(given, 1)))
 }

@@ -1,9 +1,15 @@
-//! Rows written, each in a transaction of its own.
-ghost use Rattle.std.specs.Prelude.{◌≡◌, ◌<◌, ◌^◌, All, length};
-ghost use Rattle.up_tables.specs.Ecus.{FitEcu};
-ghost use Rattle.up_tables.specs.Forms.{FitImage, FitKept, FitMeta, FitRoleKey, FitVehicle};
+//! Statements that write.
+//!
+//! `put image`, `put campaign`, `put vehicle VEHICLE ; ECU ; ..`, `put root META ; KEY ; ..`, `set files META ; FILE ; ..` and `set
+//! manifest VEHICLE ; KEPT ; ECU ; ..`, which puts in the kept row and sets the others.
+ghost use Rattle.std.specs.Prelude.{◌≡◌, OnOk};
+ghost use Rattle.sqlite.specs.Held.{state};
+ghost use Rattle.up_tables.specs.Stands.{IfClean, IsInside, IsOpen};
 
-use sqlite::{Alter, Connection};
+use crate::spelled::{Spelled, each};
+use crate::words::{first_of, parts_of};
+use sqlite::{Alter, Transaction};
+use std::alloc::Global;
 use up_tables::campaign::{CampaignRow, close_campaign, insert_campaign};
 use up_tables::ecu::{EcuRow, insert_ecus, upsert_ecus};
 use up_tables::image::{ImageRow, insert_image};
@@ -11,119 +17,221 @@ use up_tables::kept::{KeptRow, insert_kept};
 use up_tables::meta::{MetaRow, update_meta};
 use up_tables::repo_file::{FileRow, upsert_files};
 use up_tables::role_key::{RoleKeyRow, insert_role_keys};
-use up_tables::values::{StoreFault, fault_of};
+use up_tables::values::StoreFault;
 use up_tables::vehicle::{VehicleRow, insert_vehicle, upsert_vehicle};
 
-pub(crate) fn write_image<S: Alter>(
-    conn: &mut Connection<S>,
-    image: &ImageRow,
-) -> Result<(), StoreFault>
-    requires { FitImage image.now }
+/// What is told of a statement that is carried out, if it is committed.
+pub(crate) fn write<S: Alter>(
+    tx: &mut Transaction<'_, S>,
+    alloc: Global,
+    given: &str,
+) -> Result<&'static str, StoreFault>
+    requires { IfClean IsInside (state S.Store tx.old.conn.now) }
+    ensures { tx.new.conn.ghost_name ≡ tx.old.conn.ghost_name }
 {
-    if !conn.is_autocommit() {
-        return Err(StoreFault::Store);
+    let (word, rest) = first_of(given);
+    match word {
+        "put" => put(tx, alloc, rest),
+        "set" => set(tx, alloc, rest),
+        _ => told(close_campaign(tx, rest)),
     }
-    let mut tx = conn.transaction();
-    insert_image(&mut tx, image)?;
-    tx.commit().map_err(fault_of)
 }
 
-pub(crate) fn write_campaign<S: Alter>(
-    conn: &mut Connection<S>,
-    campaign: &CampaignRow,
-) -> Result<(), StoreFault> {
-    if !conn.is_autocommit() {
-        return Err(StoreFault::Store);
+fn told(done: Result<(), StoreFault>) -> Result<&'static str, StoreFault> {
+    match done {
+        Ok(()) => Ok("done"),
+        Err(fault) => Err(fault),
     }
-    let mut tx = conn.transaction();
-    insert_campaign(&mut tx, campaign)?;
-    tx.commit().map_err(fault_of)
 }
 
-pub(crate) fn write_close<S: Alter>(
-    conn: &mut Connection<S>,
-    name: &str,
-) -> Result<(), StoreFault> {
-    if !conn.is_autocommit() {
-        return Err(StoreFault::Store);
-    }
-    let mut tx = conn.transaction();
-    close_campaign(&mut tx, name)?;
-    tx.commit().map_err(fault_of)
-}
-
-/// The keys and the numbers of a root version, in one transaction.
-pub(crate) fn write_root<S: Alter>(
-    conn: &mut Connection<S>,
-    meta: &MetaRow,
-    keys: &[RoleKeyRow],
-) -> Result<(), StoreFault>
-    requires meta { FitMeta meta.now }
-    requires keys { All FitRoleKey keys.now }
+fn put<S: Alter>(
+    tx: &mut Transaction<'_, S>,
+    alloc: Global,
+    given: &str,
+) -> Result<&'static str, StoreFault>
+    requires { IfClean IsInside (state S.Store tx.old.conn.now) }
+    ensures { tx.new.conn.ghost_name ≡ tx.old.conn.ghost_name }
 {
-    if !conn.is_autocommit() {
-        return Err(StoreFault::Store);
+    let (word, rest) = first_of(given);
+    match word {
+        "image" => told(put_image(tx, alloc, rest)),
+        "campaign" => told(put_campaign(tx, alloc, rest)),
+        "root" => told(put_root(tx, alloc, rest)),
+        "vehicle" => told(put_vehicle(tx, alloc, rest)),
+        _ => Ok("no such statement"),
     }
-    let mut tx = conn.transaction();
-    update_meta(&mut tx, meta)?;
-    insert_role_keys(&mut tx, keys)?;
-    tx.commit().map_err(fault_of)
 }
 
-/// Files, set twice: by this name and then again.
-pub(crate) fn write_files<S: Alter>(
-    conn: &mut Connection<S>,
-    meta: &MetaRow,
-    files: &[FileRow],
-) -> Result<(), StoreFault>
-    requires meta { FitMeta meta.now }
+fn set<S: Alter>(
+    tx: &mut Transaction<'_, S>,
+    alloc: Global,
+    given: &str,
+) -> Result<&'static str, StoreFault>
+    requires { IfClean IsInside (state S.Store tx.old.conn.now) }
+    ensures { tx.new.conn.ghost_name ≡ tx.old.conn.ghost_name }
 {
-    if !conn.is_autocommit() {
-        return Err(StoreFault::Store);
+    let (word, rest) = first_of(given);
+    match word {
+        "files" => told(set_files(tx, alloc, rest)),
+        "manifest" => told(set_manifest(tx, alloc, rest)),
+        _ => Ok("no such statement"),
     }
-    let mut tx = conn.transaction();
-    update_meta(&mut tx, meta)?;
-    upsert_files(&mut tx, files)?;
-    tx.commit().map_err(fault_of)
 }
 
-/// A vehicle with its ECUs, in one transaction.
-pub(crate) fn write_vehicle<S: Alter>(
-    conn: &mut Connection<S>,
-    vehicle: &VehicleRow,
-    ecus: &[EcuRow],
+fn put_image<S: Alter>(
+    tx: &mut Transaction<'_, S>,
+    alloc: Global,
+    given: &str,
 ) -> Result<(), StoreFault>
-    requires vehicle { FitVehicle vehicle.now }
-    requires few { length ecus.now < 2 ^ 63 }
-    requires ecus { All FitEcu ecus.now }
+    requires { IfClean IsInside (state S.Store tx.old.conn.now) }
+    ensures { tx.new.conn.ghost_name ≡ tx.old.conn.ghost_name }
 {
-    if !conn.is_autocommit() {
-        return Err(StoreFault::Store);
+    match ImageRow::spelled(alloc, given) {
+        Ok(row) => insert_image(tx, &row),
+        Err(_) => Err(StoreFault::Memory),
     }
-    let mut tx = conn.transaction();
-    insert_vehicle(&mut tx, vehicle)?;
-    insert_ecus(&mut tx, vehicle.vehicle.as_str(), ecus)?;
-    tx.commit().map_err(fault_of)
 }
 
-/// An accepted manifest: the vehicle's numbers, what its ECUs reported, and the kept row, in one transaction.
-pub(crate) fn write_accept<S: Alter>(
-    conn: &mut Connection<S>,
-    vehicle: &VehicleRow,
-    ecus: &[EcuRow],
-    kept: &KeptRow,
+fn put_campaign<S: Alter>(
+    tx: &mut Transaction<'_, S>,
+    alloc: Global,
+    given: &str,
 ) -> Result<(), StoreFault>
-    requires vehicle { FitVehicle vehicle.now }
-    requires few { length ecus.now < 2 ^ 63 }
-    requires ecus { All FitEcu ecus.now }
-    requires kept { FitKept kept.now }
+    requires { IfClean IsInside (state S.Store tx.old.conn.now) }
+    ensures { tx.new.conn.ghost_name ≡ tx.old.conn.ghost_name }
 {
-    if !conn.is_autocommit() {
-        return Err(StoreFault::Store);
+    match CampaignRow::spelled(alloc, given) {
+        Ok(row) => insert_campaign(tx, &row),
+        Err(_) => Err(StoreFault::Memory),
     }
-    let mut tx = conn.transaction();
-    upsert_vehicle(&mut tx, vehicle)?;
-    upsert_ecus(&mut tx, vehicle.vehicle.as_str(), ecus)?;
-    insert_kept(&mut tx, kept)?;
-    tx.commit().map_err(fault_of)
+}
+
+/// The numbers and the keys of a root version.
+fn put_root<S: Alter>(
+    tx: &mut Transaction<'_, S>,
+    alloc: Global,
+    given: &str,
+) -> Result<(), StoreFault>
+    requires { IfClean IsInside (state S.Store tx.old.conn.now) }
+    ensures { tx.new.conn.ghost_name ≡ tx.old.conn.ghost_name }
+{
+    let (numbers, keys) = parts_of(given);
+    update_meta(tx, &MetaRow::spelled(alloc, numbers)?)?;
+    match each::<RoleKeyRow>(alloc, keys) {
+        Ok(rows) => insert_role_keys(tx, rows.as_slice()),
+        Err(_) => Err(StoreFault::Memory),
+    }
+}
+
+/// The numbers and files.
+fn set_files<S: Alter>(
+    tx: &mut Transaction<'_, S>,
+    alloc: Global,
+    given: &str,
+) -> Result<(), StoreFault>
+    requires { IfClean IsInside (state S.Store tx.old.conn.now) }
+    ensures { tx.new.conn.ghost_name ≡ tx.old.conn.ghost_name }
+{
+    let (numbers, files) = parts_of(given);
+    update_meta(tx, &MetaRow::spelled(alloc, numbers)?)?;
+    match each::<FileRow>(alloc, files) {
+        Ok(rows) => upsert_files(tx, rows.as_slice()),
+        Err(_) => Err(StoreFault::Memory),
+    }
+}
+
+/// A vehicle with its ECUs.
+fn put_vehicle<S: Alter>(
+    tx: &mut Transaction<'_, S>,
+    alloc: Global,
+    given: &str,
+) -> Result<(), StoreFault>
+    requires { IfClean IsInside (state S.Store tx.old.conn.now) }
+    ensures { tx.new.conn.ghost_name ≡ tx.old.conn.ghost_name }
+{
+    let (row, ecus) = parts_of(given);
+    put_vehicle_row(tx, alloc, row)?;
+    match each::<EcuRow>(alloc, ecus) {
+        Ok(rows) => insert_ecus(tx, first_of(row).0, rows.as_slice()),
+        Err(_) => Err(StoreFault::Memory),
+    }
+}
+
+fn put_vehicle_row<S: Alter>(
+    tx: &mut Transaction<'_, S>,
+    alloc: Global,
+    given: &str,
+) -> Result<(), StoreFault>
+    requires { IfClean IsInside (state S.Store tx.old.conn.now) }
+    ensures same_reference { tx.new.conn.ghost_name ≡ tx.old.conn.ghost_name }
+    ensures inside { OnOk result (IfClean IsInside (state S.Store tx.new.conn.now)) }
+    ensures open { OnOk result (IfClean IsOpen (state S.Store tx.new.conn.now)) }
+{
+    match VehicleRow::spelled(alloc, given) {
+        Ok(row) => insert_vehicle(tx, &row),
+        Err(_) => Err(StoreFault::Memory),
+    }
+}
+
+/// The vehicle's numbers, what its ECUs reported, and the kept row of a manifest.
+fn set_manifest<S: Alter>(
+    tx: &mut Transaction<'_, S>,
+    alloc: Global,
+    given: &str,
+) -> Result<(), StoreFault>
+    requires { IfClean IsInside (state S.Store tx.old.conn.now) }
+    ensures { tx.new.conn.ghost_name ≡ tx.old.conn.ghost_name }
+{
+    let (row, rest) = parts_of(given);
+    let (kept, ecus) = parts_of(rest);
+    set_vehicle(tx, alloc, row)?;
+    set_ecus(tx, alloc, first_of(row).0, ecus)?;
+    put_kept(tx, alloc, kept)
+}
+
+fn set_vehicle<S: Alter>(
+    tx: &mut Transaction<'_, S>,
+    alloc: Global,
+    given: &str,
+) -> Result<(), StoreFault>
+    requires { IfClean IsInside (state S.Store tx.old.conn.now) }
+    ensures same_reference { tx.new.conn.ghost_name ≡ tx.old.conn.ghost_name }
+    ensures inside { OnOk result (IfClean IsInside (state S.Store tx.new.conn.now)) }
+    ensures open { OnOk result (IfClean IsOpen (state S.Store tx.new.conn.now)) }
+{
+    match VehicleRow::spelled(alloc, given) {
+        Ok(row) => upsert_vehicle(tx, &row),
+        Err(_) => Err(StoreFault::Memory),
+    }
+}
+
+fn set_ecus<S: Alter>(
+    tx: &mut Transaction<'_, S>,
+    alloc: Global,
+    vehicle: &str,
+    given: &str,
+) -> Result<(), StoreFault>
+    requires mode { IfClean IsInside (state S.Store tx.old.conn.now) }
+    requires open { IfClean IsOpen (state S.Store tx.old.conn.now) }
+    ensures same_reference { tx.new.conn.ghost_name ≡ tx.old.conn.ghost_name }
+    ensures inside { OnOk result (IfClean IsInside (state S.Store tx.new.conn.now)) }
+{
+    match each::<EcuRow>(alloc, given) {
+        Ok(rows) => upsert_ecus(tx, vehicle, rows.as_slice()),
+        Err(_) => Err(StoreFault::Memory),
+    }
+}
+
+fn put_kept<S: Alter>(
+    tx: &mut Transaction<'_, S>,
+    alloc: Global,
+    given: &str,
+) -> Result<(), StoreFault>
+    requires { IfClean IsInside (state S.Store tx.old.conn.now) }
+    ensures { tx.new.conn.ghost_name ≡ tx.old.conn.ghost_name }
+{
+    match KeptRow::spelled(alloc, given) {
+        Ok(row) => insert_kept(tx, &row),
+        Err(_) => Err(StoreFault::Memory),
+    }
 }
