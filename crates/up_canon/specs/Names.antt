@@ -42,12 +42,12 @@ is_short_text least most text = is_from_to least most (length text) && list_all 
 abbrev pub is_note : Name → Bool
 is_note text = is_short_text 0 256 text
 
--- the first name that stood before it
+-- the first name that was seen, or has come before
 abbrev pub first_repeated_after : List Name → List Name → Option Name
 first_repeated_after seen [] = None
 first_repeated_after seen (name ∷ names) = if list_any (bytes_eq name) seen then Some name else first_repeated_after (name ∷ seen) names
 
--- the first name that stands twice
+-- the first name to come a second time
 abbrev pub first_repeated : List Name → Option Name
 first_repeated names = first_repeated_after [] names
 

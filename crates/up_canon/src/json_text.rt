@@ -11,8 +11,8 @@ use crate::refusal::Refusal;
 use serde_json::{Category, Value};
 use std::alloc::Global;
 
-/// The value that at most so many bytes read as: `TooLarge` where there are more, `NotJson` where they are not JSON in
-/// UTF-8 (RFC 8259), `Memory` where it was refused.
+/// The value that at most so many bytes read as: `TooLarge` where there are more, whatever memory there is, `NotJson` where
+/// they are not JSON in UTF-8 (RFC 8259), `Memory` where it was refused.
 #[tactic(auto, unfolding(crate::specs::JsonText::value_within, crate::specs::Steps::and_then))]
 pub fn value_within(alloc: Global, bytes: &[u8], most: usize) -> Result<Value, Refusal>
     ensures value { GivesAs view result (value_within_of most bytes.now) }

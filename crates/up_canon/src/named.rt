@@ -46,7 +46,7 @@ impl Named for Text {
     }
 }
 
-/// The first item whose name stood before it.
+/// An item of the first name to come a second time; which of the items of that name isn't said.
 pub fn first_repeated<T: Named>(items: &[T]) -> Option<&T>
     ensures { option_map (λ x. T.name_of x.now) result ≡ first_repeated_name (map T.name_of items.now) }
 {

@@ -42,7 +42,7 @@ impl Field {
 pub enum Refusal {
     /// Memory was refused.
     Memory,
-    /// The database refused a call.
+    /// The database refused a call, a fault has shut its connection, or it holds what no call of this product leaves.
     Store,
     /// The moment of a command is past 2100-01-01T00:00:00Z.
     MomentOutOfRange,
@@ -86,7 +86,7 @@ pub enum Refusal {
     VehicleTaken,
     /// An ECU that is recorded already.
     EcuTaken(Ident),
-    /// Another campaign has the name.
+    /// Another campaign, or a closed one, has the name.
     CampaignTaken,
     /// There is no such campaign.
     UnknownCampaign,

@@ -10,7 +10,8 @@ use crate::ident::Ident;
 use crate::note::Note;
 use std::alloc::{AllocError, Global};
 
-/// Appends printable ASCII in quotes, with a backslash before each quote and backslash of it.
+/// Appends printable ASCII in quotes, with a backslash before each quote and backslash of it. On an error `out` may hold some
+/// of it.
 pub fn push_quoted(out: &mut String, text: &str) -> Result<(), AllocError>
     requires { IsTrue (list_all is_printable text.now) }
     ensures { IfOk result (λ _. string_bytes out.new ≡ string_bytes out.old ++ quoted text.now) }
@@ -34,7 +35,7 @@ fn push_escaped(out: &mut String, byte: u8) -> Result<(), AllocError>
     Ok(())
 }
 
-/// Appends the bytes as lower case hexadecimal digits in quotes.
+/// Appends the bytes as lower case hexadecimal digits in quotes. On an error `out` may hold some of it.
 pub fn push_hex(alloc: Global, out: &mut String, bytes: &[u8]) -> Result<(), AllocError>
     ensures { IfOk result (λ _. string_bytes out.new ≡ string_bytes out.old ++ quoted (encode_lower bytes.now)) }
 {
@@ -44,21 +45,21 @@ pub fn push_hex(alloc: Global, out: &mut String, bytes: &[u8]) -> Result<(), All
     Ok(())
 }
 
-/// Appends the digits of a count.
+/// Appends the digits of a count. On an error `out` may hold some of it.
 pub fn push_count(alloc: Global, out: &mut String, count: Count) -> Result<(), AllocError>
     ensures { IfOk result (λ _. string_bytes out.new ≡ string_bytes out.old ++ decimal count) }
 {
     push_number(alloc, out, count.get())
 }
 
-/// Appends the digits of a number.
+/// Appends the digits of a number. On an error `out` may hold some of it.
 pub fn push_number(alloc: Global, out: &mut String, number: u64) -> Result<(), AllocError>
     ensures { IfOk result (λ _. string_bytes out.new ≡ string_bytes out.old ++ decimal number) }
 {
     out.push_str(number.to_string(alloc)?.as_str())
 }
 
-/// Appends an identifier in quotes.
+/// Appends an identifier in quotes. On an error `out` may hold some of it.
 #[tactic(auto, using(crate::proofs::Printable::ident_prints))]
 pub fn push_ident(out: &mut String, ident: &Ident) -> Result<(), AllocError>
     ensures { IfOk result (λ _. string_bytes out.new ≡ string_bytes out.old ++ quoted ident.now) }
@@ -66,7 +67,7 @@ pub fn push_ident(out: &mut String, ident: &Ident) -> Result<(), AllocError>
     push_quoted(out, ident.text())
 }
 
-/// Appends a filename in quotes.
+/// Appends a filename in quotes. On an error `out` may hold some of it.
 #[tactic(auto, using(crate::proofs::Printable::file_name_prints))]
 pub fn push_file_name(out: &mut String, file: &FileName) -> Result<(), AllocError>
     ensures { IfOk result (λ _. string_bytes out.new ≡ string_bytes out.old ++ quoted file.now) }
@@ -74,7 +75,7 @@ pub fn push_file_name(out: &mut String, file: &FileName) -> Result<(), AllocErro
     push_quoted(out, file.text())
 }
 
-/// Appends a note in quotes.
+/// Appends a note in quotes. On an error `out` may hold some of it.
 #[tactic(auto, using(crate::proofs::Printable::note_prints))]
 pub fn push_note(out: &mut String, note: &Note) -> Result<(), AllocError>
     ensures { IfOk result (λ _. string_bytes out.new ≡ string_bytes out.old ++ quoted note.now) }

@@ -63,7 +63,7 @@ pub fn items_text(alloc: Global, items: &[Item]) -> Result<String, AllocError>
     column_text(alloc, &value)
 }
 
-/// The items of a column: `Memory`, or the first fault of a text that no list of items is written as.
+/// The items of a column: `Memory`, or the first fault of a text that can't be read as a list of items.
 pub fn read_campaign_items(alloc: Global, column: &str) -> Result<Listed<Item>, Refusal>
     ensures read { Gives result (campaign_items_in column.now) }
     ensures again { (items : List ItemData) → list_all is_typed_item items ≡ true → column.now ≡ items_column items → Gives result (Ok items) }
@@ -92,7 +92,7 @@ fn reach_value(alloc: Global, reach: &Reach) -> Result<Value, AllocError>
     }
 }
 
-/// The reach of a column: `Memory`, or the first fault of a text that no reach is written as.
+/// The reach of a column: `Memory`, or the first fault of a text that can't be read as a reach.
 pub fn read_reach(alloc: Global, column: &str) -> Result<Reach, Refusal>
     ensures read { Gives result (reach_in column.now) }
     ensures again { (reach : ReachData) → is_typed_reach reach ≡ true → column.now ≡ reach_column reach → Gives result (Ok reach) }

@@ -60,7 +60,7 @@ pub fn needs_text(alloc: Global, needs: &[Need]) -> Result<String, AllocError>
     column_text(alloc, &value)
 }
 
-/// The needs of a column: `Memory`, or the first fault of a text that no list of needs is written as.
+/// The needs of a column: `Memory`, or the first fault of a text that can't be read as a list of needs.
 pub fn read_needs(alloc: Global, column: &str) -> Result<Listed<Need>, Refusal>
     ensures read { Gives result (needs_in column.now) }
     ensures again { (needs : List NeedData) → list_all is_typed_need needs ≡ true → column.now ≡ needs_column needs → Gives result (Ok needs) }

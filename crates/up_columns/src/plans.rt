@@ -87,7 +87,7 @@ fn withheld_value(alloc: Global, withheld: &Option<Cause>) -> Result<Value, Allo
     }
 }
 
-/// The plan of a column: `Memory`, or the first fault of a text that no plan is written as.
+/// The plan of a column: `Memory`, or the first fault of a text that can't be read as a plan.
 pub fn read_plan(alloc: Global, column: &str) -> Result<Plan, Refusal>
     ensures read { Gives result (plan_in column.now) }
     ensures again { (plan : PlanData) → is_typed_plan plan ≡ true → column.now ≡ plan_column plan → Gives result (Ok plan) }

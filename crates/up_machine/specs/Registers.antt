@@ -1,4 +1,4 @@
--- The register of images in the order of their filenames.
+-- The register of images in the order of their filenames, of which no public contract speaks.
 use Rattle.std.specs.Prelude.{ℕ, suc, List, [], ◌∷◌, if◌then◌else◌}
 use Rattle.std.specs.Ordering.{nat_cmp, is_lt}
 use Rattle.std.specs.Cmp.Lexicographic.{slice_cmp}

@@ -1,4 +1,4 @@
--- Every file is signed for its role: so many of the role's keys are satisfied, over the canonical text of the file's payload.
+-- Every file is signed for its role: so many of the role's keys are satisfied, over the text of the file's payload.
 use Rattle.std.specs.Prelude.{◌≡◌, ℕ, ◌⊎◌, ◌-◌, List, [], ◌∷◌, Some, IsTrue, map, length, option_map, option_to_list}
 use Rattle.std.specs.List.{AllByRecursion}
 use Rattle.std.specs.FinMap as table
@@ -25,7 +25,7 @@ use Rattle.up_machine.specs.Sound.{IsSound}
 abbrev pub IsAcceptedBy : Rules → Envelope → RoleSecrets → Type 0
 IsAcceptedBy k envelope role = IsTrue (is_accepted k (map k.public_of role.keys) role.threshold envelope)
 
--- the text is that of one envelope of the payload's canonical text, which each of these roles accepts
+-- the text is that of one envelope of the payload's text, which each of these roles accepts
 pub record IsSignedFor (k : Rules) (roles : List RoleSecrets) (payload : Data) (file_text : List ℕ) : Type 0 where
   pub envelope : Envelope
   pub is : file_text ≡ envelope_text envelope

@@ -22,9 +22,9 @@ use up_plan::campaign::{Campaign, Item};
 use up_plan::image::Image;
 
 /// Decides on opening a campaign, at a command's moment: `NotFounded`; `Already` where an equal one is running;
-/// `CampaignTaken` where another one has its name; `UnknownVehicle`, `UnknownImage`, `WrongHardware`; `Memory`. For each
-/// vehicle that the campaign names, in order, it is told whether the inventory has it, and of the images only those that the
-/// campaign names are read.
+/// `CampaignTaken` where another one, or a closed one, has its name; `UnknownVehicle`, `UnknownImage`, `WrongHardware`;
+/// `Memory`. For each vehicle that the campaign names, in order, it is told whether the inventory has it, and of the images
+/// only those that the campaign names are read.
 #[tactic(auto, unfolding(crate::specs::Inventory::decide_open, up_canon::specs::Steps::and_then))]
 pub fn decide_open(
     alloc: Global,

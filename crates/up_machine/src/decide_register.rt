@@ -1,5 +1,5 @@
-//! Decisions on the register of images. All but that on an image whose filename is new are taken over the founding and one
-//! image; `new_files::register_rows` makes the rows of what is due.
+//! Decisions on the register of images: on an image over the founding and the image of its filename, on a new filename over all
+//! images, on new files over the founding alone, whose rows `new_files::register_rows` makes.
 ghost use Rattle.std.specs.Prelude.{◌≡◌, ◌+◌, ◌≤◌, IfOk, IfSome, IsTrue, None, Ok, option_copied};
 ghost use Rattle.std.specs.FinMap as table;
 ghost use Rattle.up_canon.specs.Moments.{last_command_moment};

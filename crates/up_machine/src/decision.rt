@@ -1,4 +1,4 @@
-//! What decisions answer: new rows, with all texts.
+//! What decisions answer: new rows with all texts, or, in a first step, what is due.
 use crate::answer::Reply;
 use crate::keys::KeySet;
 use crate::rows::{Founding, Kept, VehicleRows};
@@ -50,7 +50,7 @@ pub struct AcceptedRows {
 pub enum Decision<N> {
     /// An equal one is there already, or is closed already.
     Already,
-    /// The new rows.
+    /// The new rows; of `decide_image` the founding's row, with which `decide_new_image` goes on.
     New(N),
 }
 

@@ -3,7 +3,7 @@ use std::alloc::{AllocError, Global};
 use up_canon::bytes::Bytes;
 use up_canon::listed::{Duplicate, Listed};
 
-/// The secret keys of a role, 1 to 4 of 1 to 256 bytes each, and how many of them have to sign.
+/// The secret keys of a role, and how many of them have to sign. The type bounds none of them; `check_keys` tells.
 #[derive(Drop)]
 pub struct RoleSecrets {
     pub keys: Listed<Bytes>,

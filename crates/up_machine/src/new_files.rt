@@ -29,8 +29,9 @@ use up_roles::repository::Repository;
 use up_roles::targets::Target;
 use up_sign::scheme::Scheme;
 
-/// The rows of a root version that is due, with these keys at a command's moment: the founding's, both repositories' Root
-/// files, signed with the keys of the version before too, and the image repository's files of these images.
+/// The rows of a root version that a first step answered as due, with these keys at a command's moment: the founding's, both
+/// repositories' Root files, signed with the keys of the version before too, and the image repository's files of these images.
+/// Nothing is said of the rows of a root version that no state has.
 pub fn root_rows<K: Scheme>(
     alloc: Global,
     scheme: &K,
@@ -126,7 +127,8 @@ fn founding_with(
     })
 }
 
-/// The rows of new files of the image repository that are due: the founding's, and the files of these images.
+/// The rows of new files of the image repository that a first step answered as due: the founding's, and the files of these
+/// images. Nothing is said of those of a founding's row that no state has.
 pub fn register_rows<K: Scheme>(
     alloc: Global,
     scheme: &K,

@@ -43,8 +43,9 @@ pub fn build_report<K: Scheme>(
     Ok(envelope)
 }
 
-/// The body of a vehicle version manifest: the reports in order, signed by the Primary's secret. Each report is an
-/// envelope of `build_report`, and the body means the manifest that it was built of.
+/// The body of a vehicle version manifest with a counter from 1 on: at most 64 reports in order, signed by the Primary's
+/// secret. Where each report is an envelope of `build_report`, the body means the manifest that it was built of; of other
+/// envelopes within their limits only the text of the body is said.
 pub fn build_manifest<K: Scheme>(
     alloc: Global,
     scheme: &K,

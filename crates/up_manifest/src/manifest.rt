@@ -6,7 +6,8 @@ use up_canon::ident::Ident;
 use up_canon::listed::{Duplicate, Listed};
 use up_sign::envelope::Envelope;
 
-/// A vehicle version manifest: the vehicle, its Primary, the manifest's counter from 1 on, and the reports in order.
+/// A vehicle version manifest: the vehicle, its Primary, the manifest's counter, and the reports in order. The type bounds
+/// none of them: `read_manifest` gives only counters from 1 on, and at most 64 reports.
 #[derive(Debug, Drop)]
 pub struct Manifest {
     pub vehicle: Ident,

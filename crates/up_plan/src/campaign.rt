@@ -8,7 +8,7 @@ use up_canon::file_name::FileName;
 use up_canon::ident::Ident;
 use up_canon::listed::{Duplicate, Listed};
 
-/// Which vehicles a campaign reaches: all, or 1 to 1,000 of them by name.
+/// Which vehicles a campaign reaches: all, or some by name. The type doesn't bound their number; `Campaign::new` tells.
 #[derive(Debug, Drop)]
 pub enum Reach {
     All,
@@ -40,7 +40,7 @@ impl Duplicate for Item {
     }
 }
 
-/// A campaign: its name, the vehicles that it reaches, 1 to 16 items, and whether it is running.
+/// A campaign: its name, the vehicles that it reaches (all, or 1 to 1,000 names), 1 to 16 items, and whether it is running.
 #[derive(Debug, Drop)]
 pub struct Campaign {
     pub name: Ident,

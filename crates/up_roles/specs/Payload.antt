@@ -46,11 +46,11 @@ payload_members kind repository version expires vehicle more =
 abbrev pub payload : List ℕ → Repository → ℕ → ℕ → Option Name → List (List ℕ × Data) → Data
 payload kind repository version expires vehicle more = object_with (payload_members kind repository version expires vehicle more)
 
--- the text of a file: the envelope of its payload's canonical text, signed with these secrets in order
+-- the text of a file: the envelope of its payload's text, signed with these secrets in order
 unfoldable pub sealed_text : Rules → List (List ℕ) → Data → List ℕ
 sealed_text k secrets payload = envelope_text (sealed k secrets (text payload))
 
--- the signed text of a file is the canonical one
+-- the payload has a canonical text, which is that
 abbrev pub IsCanonical : Data → Type 0
 IsCanonical payload = canon payload ≡ Some (text payload)
 

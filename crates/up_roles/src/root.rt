@@ -47,7 +47,8 @@ impl Named for RootKey {
     }
 }
 
-/// The keys of a role, 1 to 4 in the operator's order, and how many of them have to sign.
+/// The keys of a role in the operator's order, and how many of them have to sign. The type bounds none of them;
+/// `RootFile::fits` tells.
 #[derive(Debug, Drop)]
 pub struct RoleKeys {
     pub keys: Listed<RootKey>,
@@ -63,7 +64,7 @@ impl Duplicate for RoleKeys {
     }
 }
 
-/// Root metadata: the keys of the four roles.
+/// Root metadata: the keys of the four roles. The type keeps no limits; `fits` tells.
 #[derive(Debug, Drop)]
 pub struct RootFile {
     pub repository: Repository,

@@ -16,7 +16,8 @@ use std::alloc::{AllocError, Global};
 use up_canon::bytes::Bytes;
 use up_sign::scheme::Scheme;
 
-/// The text of the Root file: its envelope, signed with each secret in order.
+/// The text of the Root file, which is within its limits (`fits`): its envelope, signed with each of 1 to 8 secrets that fit,
+/// in order.
 pub fn root_text<K: Scheme>(
     alloc: Global,
     scheme: &K,

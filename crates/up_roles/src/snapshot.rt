@@ -26,7 +26,8 @@ use up_canon::refusal::Refusal;
 use up_sign::envelope::Envelope;
 use up_sign::scheme::Scheme;
 
-/// Snapshot metadata: the version of the Targets file. The Director's is for one vehicle, which it names.
+/// Snapshot metadata: the version of the Targets file. The Director's is for one vehicle, which it names. The type keeps no
+/// limits; `fits` tells.
 #[derive(Debug, Drop)]
 pub struct SnapshotFile {
     pub repository: Repository,
@@ -97,7 +98,8 @@ fn targets_version_at(map: &Map<String, Value>) -> Result<u64, &'static str>
     Ok(positive_part(entry, "version", "meta")?.get())
 }
 
-/// The text of the Snapshot file: its envelope, signed with each secret in order.
+/// The text of the Snapshot file, which is within its limits (`fits`): its envelope, signed with each of 1 to 8 secrets that
+/// fit, in order.
 pub fn snapshot_text<K: Scheme>(
     alloc: Global,
     scheme: &K,

@@ -29,8 +29,8 @@ use up_canon::readers::ident_of;
 use up_canon::refusal::Refusal;
 use up_sign::envelope::Envelope;
 
-/// An image: its filename, length in bytes, SHA-256, the hardware that it is for (1 to 16, distinct) and its release
-/// counter. The Director's names the ECU that installs it.
+/// An image: its filename, length in bytes, SHA-256, the hardware that it is for and its release counter. The Director's
+/// names the ECU that installs it. The type keeps no limits; `TargetsFile::fits` tells.
 #[derive(Debug, Drop)]
 pub struct Target {
     pub ecu: Option<Ident>,
@@ -54,7 +54,8 @@ impl Duplicate for Target {
     }
 }
 
-/// Targets metadata. The Director's is for one vehicle, which it names, and has no ECU twice.
+/// Targets metadata. The Director's is for one vehicle, which it names, and has no ECU twice. The type keeps no limits;
+/// `fits` tells.
 #[derive(Debug, Drop)]
 pub struct TargetsFile {
     pub repository: Repository,

@@ -17,7 +17,8 @@ use up_canon::bytes::Bytes;
 use up_canon::ident::Ident;
 use up_sign::scheme::Scheme;
 
-/// The text of the Targets file: its envelope, signed with each secret in order.
+/// The text of the Targets file, which is within its limits (`fits`): its envelope, signed with each of 1 to 8 secrets that
+/// fit, in order.
 pub fn targets_text<K: Scheme>(
     alloc: Global,
     scheme: &K,

@@ -27,7 +27,7 @@ use up_sign::envelope::Envelope;
 use up_sign::scheme::Scheme;
 
 /// Timestamp metadata: the version of the Snapshot file, and the SHA-256 of that file's whole text. The Director's is
-/// for one vehicle, which it names.
+/// for one vehicle, which it names. The type keeps no limits; `fits` tells.
 #[derive(Debug, Drop)]
 pub struct TimestampFile {
     pub repository: Repository,
@@ -101,7 +101,8 @@ fn snapshot_entry_at(map: &Map<String, Value>) -> Result<&Map<String, Value>, &'
     object_part(object_at(map, "meta")?, "snapshot.json", "meta")
 }
 
-/// The text of the Timestamp file: its envelope, signed with each secret in order.
+/// The text of the Timestamp file, which is within its limits (`fits`): its envelope, signed with each of 1 to 8 secrets that
+/// fit, in order.
 pub fn timestamp_text<K: Scheme>(
     alloc: Global,
     scheme: &K,

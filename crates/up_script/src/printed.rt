@@ -79,7 +79,7 @@ pub fn refused_text(alloc: Global, refusal: &Refusal) -> Result<String, AllocErr
     format!(in alloc; "refused {} {}", refusal.number(), text)
 }
 
-/// The front of the line that shows a vehicle: its name and version.
+/// The beginning of the line that shows a vehicle: its name and version.
 pub fn vehicle_text(alloc: Global, vehicle: &Ident, version: u64) -> Result<String, AllocError>
     ensures { IfOk result (λ t. string_bytes t ≡ vehicle_text_of vehicle.now version) }
 {
@@ -90,7 +90,8 @@ pub fn vehicle_text(alloc: Global, vehicle: &Ident, version: u64) -> Result<Stri
     Ok(out)
 }
 
-/// Appends an ECU of the line that shows its vehicle: the file that is installed, and the file that the plan assigns to it.
+/// Appends an ECU of the line that shows its vehicle: the file that is installed, and the file that the plan assigns to it. On
+/// an error `out` may hold some of it.
 #[tactic(auto, unfolding(crate::specs::PrintedLines::ecu_text))]
 pub fn push_ecu(
     out: &mut String,

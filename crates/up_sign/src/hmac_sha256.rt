@@ -35,7 +35,7 @@ impl Scheme for HmacSha256 {
         hmac(secret, message).to_vec(alloc)
     }
 
-    /// Whether the signature is the tag. The time that this takes doesn't depend on where they differ.
+    /// Whether the signature is the tag. The time that this takes doesn't depend on where they differ; no contract says so.
     fn verify(&self, public: &[u8], message: &[u8], signature: &[u8]) -> bool {
         are_equal(signature, &hmac(public, message)[..])
     }

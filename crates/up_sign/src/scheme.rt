@@ -9,7 +9,7 @@ pub trait Scheme: Drop {
     /// What its calls answer.
     ghost rules: { Self → Rules };
 
-    /// The name of the method.
+    /// The name of the method, 1 to 64 bytes of printable ASCII.
     fn method(&self) -> &str
         ensures { result.now ≡ (rules self.now).method };
 

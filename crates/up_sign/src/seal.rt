@@ -12,7 +12,7 @@ use up_canon::bytes::Bytes;
 use up_canon::listed::Listed;
 use up_canon::text::Text;
 
-/// The text in an envelope with a signature for each secret, in their order.
+/// The text in an envelope with a signature for each of 1 to 8 secrets that fit, in their order.
 pub fn seal<K: Scheme>(
     alloc: Global,
     scheme: &K,
