@@ -3,7 +3,8 @@
 
     reference.py run FILE < SCRIPT      FILE is `:memory:`, or is made where it isn't there
 
-It is slow and short, and tests nothing of a database's own. The tables are those of `docs/TABLES.md`.
+It is slow and short, and tests nothing of a database's own. It has no limits of lines or of a script: those are tried by
+`tools/program_cases.py`. The tables are those of `docs/TABLES.md`.
 """
 import hashlib
 import hmac
@@ -54,17 +55,37 @@ def finite(text):
     return value
 
 
+def whole(text):
+    """A number of digits alone: one that 64 bits can't hold is a float, and so is a negative zero."""
+    return finite(text) if text == "-0" or len(text) > 20 else int(text)
+
+
+def nesting(text):
+    """How deep lists and objects stand in one another in the text, those of members that come again included."""
+    deepest = now = 0
+    for bracket in re.findall(r'"(?:[^"\\]|\\.)*"|[][{}]', text, re.S):
+        now += {"[": 1, "{": 1, "]": -1, "}": -1}.get(bracket, 0)
+        deepest = max(deepest, now)
+    return deepest
+
+
 def read_json(text):
-    """The value of the text, a string or bytes."""
+    """The value of the text, a string or bytes. Of members of one name the last counts, but each has to be JSON."""
+    dropped = []
+
+    def members(pairs):
+        kept = dict(pairs)
+        dropped.extend(pairs if len(kept) < len(pairs) else [])
+        return kept
 
     try:
         text = text.decode("utf-8") if isinstance(text, bytes) else text
-        value = json.loads(text, parse_constant=finite, parse_float=finite)
-        json.dumps(value, ensure_ascii=False).encode("utf-8")
+        if nesting(text) > 127:
+            raise ValueError
+        value = json.loads(text, parse_constant=finite, parse_float=finite, parse_int=whole, object_pairs_hook=members)
+        json.dumps([value, dropped], ensure_ascii=False).encode("utf-8")
     except (ValueError, RecursionError):
         raise Refused(5) from None
-    if depth(value) > 127:
-        raise Refused(5)
     return value
 
 
