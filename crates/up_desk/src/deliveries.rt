@@ -121,7 +121,7 @@ fn decide<K: Scheme, D: Alter>(
     }
 }
 
-/// The same, once the founding was read.
+/// The same, once the founding's row was read.
 fn decide_founded<K: Scheme, D: Alter>(
     store: &mut Store<D>,
     alloc: Global,

@@ -25,7 +25,7 @@ pub fn is_founded<D: Alter>(store: &mut Store<D>, alloc: Global) -> Result<bool,
     }
 }
 
-/// The founding, none before it. `Store` where its keys can't sign, which no call of this product leaves.
+/// The founding's row, none before founding. `Store` where its keys can't sign, which no call of this product leaves.
 pub fn read_founding<K: Scheme, D: Alter>(
     store: &mut Store<D>,
     alloc: Global,

@@ -73,7 +73,7 @@ fn decide_adding<K: Scheme, D: Alter>(
     }
 }
 
-/// The same, once the founding was read.
+/// The same, once the founding's row was read.
 fn decide_adding_after<K: Scheme, D: Alter>(
     store: &mut Store<D>,
     alloc: Global,
@@ -182,7 +182,7 @@ fn decide_refreshing<K: Scheme, D: Alter>(
     }
 }
 
-/// The same, once the founding was read.
+/// The same, once the founding's row was read.
 fn decide_refreshing_after<K: Scheme, D: Alter>(
     store: &mut Store<D>,
     alloc: Global,

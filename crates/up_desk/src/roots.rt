@@ -130,7 +130,7 @@ fn decide_rotation<K: Scheme, D: Alter>(
     }
 }
 
-/// The same, once the founding was read.
+/// The same, once the founding's row was read.
 fn decide_rotation_after<K: Scheme, D: Alter>(
     store: &mut Store<D>,
     alloc: Global,

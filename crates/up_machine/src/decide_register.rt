@@ -1,5 +1,5 @@
-//! Decisions on the register of images: on an image over the founding and the image of its filename, on a new filename over all
-//! images, on new files over the founding alone, whose rows `new_files::register_rows` makes.
+//! Decisions on the register of images: on an image over the founding's row and the image of its filename, on one of a new
+//! filename over all images too, and on new files over the founding's row alone, of which `new_files::register_rows` makes them.
 ghost use Rattle.std.specs.Prelude.{◌≡◌, ◌+◌, ◌≤◌, IfOk, IfSome, IsTrue, None, Ok, option_copied};
 ghost use Rattle.std.specs.FinMap as table;
 ghost use Rattle.up_canon.specs.Moments.{last_command_moment};
@@ -30,8 +30,8 @@ use up_sign::scheme::Scheme;
 const MAX_IMAGES: usize = 1024;
 
 /// Decides on an image, at a command's moment, given the one that is registered under its filename: `NotFounded`;
-/// `Already` where that one is equal; `ImageTaken` where it is another one. Where there is none the founding is handed back,
-/// for `decide_new_image`.
+/// `Already` where that one is equal; `ImageTaken` where it is another one. Where there is none the founding's row is
+/// handed back, for `decide_new_image`.
 pub fn decide_image(
     at: Moment,
     image: &Image,

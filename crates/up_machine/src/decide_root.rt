@@ -1,5 +1,5 @@
-//! Decisions on new root versions: foundings and rotations. Each is taken over the founding alone; `new_files::root_rows` makes
-//! the rows of what is due.
+//! Decisions on new root versions: foundings and rotations. Each is taken over the founding's row alone;
+//! `new_files::root_rows` makes the rows of what is due.
 ghost use Rattle.std.specs.Prelude.{◌≡◌, ◌+◌, ◌≤◌, IfOk, IfSome, IsTrue, is_some};
 ghost use Rattle.up_canon.specs.Moments.{last_command_moment};
 ghost use Rattle.up_machine.specs.RowsFit.{founding_fits};
