@@ -140,11 +140,29 @@ class Hashes(OnATree):
         self.turn("crates/low/src/counts.rt", "b <= a", "b <= a && true")
         self.assertEqual(now(), ["low"])
 
-    def test_a_comment_below_is_not_read_above(self):
+    def test_comments_are_not_read(self):
         now = self.changed()
-        self.turn("crates/low/specs/Numbers.antt", "-- the least count", "-- the least of all counts")
-        self.turn("crates/low/src/counts.rt", "/// The least count.", "/// The least of all counts.")
+        self.turn("crates/low/specs/Numbers.antt", "-- the least count", "-- the least of all counts\n")
+        self.turn("crates/low/src/counts.rt", "/// The least count.", "/// The least\n/// of all counts.")
+        self.turn("crates/low/src/counts.rt", "    // a brace }", "    // no brace")
+        self.assertEqual(now(), [])
+
+    def test_a_comment_that_an_edit_names_is_read(self):
+        self.write("crates/low/refused/same-below.edit", edit("    b <= a // of counts", "    b < a"))
+        self.turn("crates/low/src/counts.rt", "b <= a", "b <= a // of counts")
+        now = self.changed()
+        self.turn("crates/low/src/counts.rt", "// of counts", "// of numbers")
         self.assertEqual(now(), ["low"])
+
+    def test_of_layout_the_columns_of_antt_are_read(self):
+        now = self.changed()
+        self.turn("crates/low/src/counts.rt", "    items\n", "  items\n\n")
+        self.assertEqual(now(), [])
+        self.turn("crates/low/proofs/Facts.antt", "three = 3", "three =\n 3")
+        low = hashes(crates_here(), ["low"])
+        self.assertEqual(now(), ["low"])
+        self.turn("crates/low/proofs/Facts.antt", "\n 3", "\n  3")
+        self.assertNotEqual(hashes(crates_here(), ["low"]), low)
 
     def test_what_crosses_the_boundary_is_read_above(self):
         texts = [

@@ -52,9 +52,14 @@ def functions_below(folder):
     return {path: [it if times[it.owner, it.name] == 1 else it._replace(owner=None) for it in here] for path, here in found.items()}
 
 
+def edit_files(folder):
+    """Returns the files in refused/ of a crate's folder that are to be edits."""
+    return sorted(it for it in Path(folder, "refused").glob("*") if it.suffix != ".md")
+
+
 def edits_in(crate, folder):
     """Returns the edits that stand in refused/ of a crate's folder."""
-    files = sorted(it for it in Path(folder, "refused").glob("*") if it.suffix != ".md")
+    files = edit_files(folder)
     functions = functions_below(folder) if files else {}
     return [Edit(crate, folder, file, functions) for file in files]
 
