@@ -1,6 +1,7 @@
 #!/usr/bin/env python3
 """What the pages name is there: links, headings, files, contracts, calls, tests, refused edits, rows, and the texts of the
-Primary's page. Tests are functions, or sections of the rows that a crate or a tool carries out, named by their words.
+Primary's page. Tests are functions, or sections of the rows that a crate or a tool carries out, named by their words. And each
+public call of the program's libraries is named by the page of proofs.
 
     pages.py        tells what isn't there
 """
@@ -91,6 +92,20 @@ def promises():
             yield "%s: %s" % (page, name), any(words <= there[label] for label in labels.split(", "))
 
 
+def calls():
+    """The public calls of the program's libraries, and whether the page of proofs names them."""
+    proofs = (TOP / "docs" / "PROOFS.md").read_text(encoding="utf-8")
+    named = {word for it in re.findall(r"`([^`]+)`", proofs) for word in re.findall(r"\w+", it)}
+    libraries = (TOP / "crates.txt").read_text(encoding="utf-8").split("\n#")[0]
+    for crate in re.findall(r"^(up_\w+):", libraries, re.MULTILINE):
+        source = TOP / "crates" / crate / "src"
+        modules = re.findall(r"^pub mod (\w+);", (source / "lib.rt").read_text(encoding="utf-8"), re.MULTILINE)
+        for module in ("lib", *modules):
+            text = (source / ("%s.rt" % module)).read_text(encoding="utf-8")
+            for name in sorted(set(re.findall(r"^ *pub fn (\w+)", text, re.MULTILINE))):
+                yield "docs/PROOFS.md: the call %s::%s::%s" % (crate, module, name), name in named
+
+
 def primary():
     page = (TOP / "docs" / "PRIMARY.md").read_text(encoding="utf-8")
     for name in ("manifest.json", "reply.json"):
@@ -100,7 +115,7 @@ def primary():
 
 def cases():
     """Each of the names that lead nowhere, and what the pages show."""
-    found = [*links(), *files(), *promises()]
+    found = [*links(), *files(), *promises(), *calls()]
     yield "%d links and names of the pages" % len(found), all(well for _, well in found)
     yield from ((name, well) for name, well in found if not well)
     yield from primary()
