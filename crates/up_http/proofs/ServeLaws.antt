@@ -284,6 +284,12 @@ module _ {S : Type 0} (gives : S → Next → List ℕ → S → Type 0) where
   pub room_left : (first : S) (empty : Option (List ℕ)) (came : List ℕ) (at : Progress) (now : S) (holds : Option (List ℕ)) → Sofar gives first empty came at now holds → at.feeder.ended ≡ false → length came < most_bytes
   room_left first empty came at now holds so goes_on = omega (arith, so.bytes, so.below goes_on, waits_short at.feeder.rest (so.waits goes_on))
 
+  -- a run that stopped among the bytes
+  pub ran_stop : (cause : Fault) (first now : S) (had has held holds : Option (List ℕ)) (came : List ℕ) (at : Progress) → Consumes had has came → length came ≤ most_bytes
+      → Stopped gives cause first held came false at.called at.answered now holds → Ran gives first now had has held holds (told (Err cause) at)
+  ran_stop cause first now had has held holds came at read bounded stopped =
+      record { came = came; ended = false; read = read; bounded = bounded; at_end = λ h. absurd (cc); leaves = stopped }
+
   -- a run to the input's end
   pub ran_end : (r : Result (Unit {0}) Fault) (first now : S) (had has held holds : Option (List ℕ)) (came : List ℕ) (old : Progress) (before : S) (have : Option (List ℕ)) (new : Progress)
       → Consumes had has came → length came ≤ most_bytes → IsAtEnd has → Sofar gives first held came old before have

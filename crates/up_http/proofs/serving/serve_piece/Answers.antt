@@ -1,4 +1,4 @@
-use Rattle.std.proofs.Common.{[], ◌≡◌, ◌+◌, ◌++◌, ◌∙◌, false, sym, ap, subst, take, drop, take-append-drop, Some}
+use Rattle.std.proofs.Common.{[], ◌≡◌, ◌++◌, ◌∙◌, false, sym, subst, take, drop, take-append-drop, Some}
 use Rattle.up_http.specs.Serving.{Stopped}
 use Rattle.up_http.specs.Feeding.{Gives}
 use Rattle.up_http.proofs.ServeLaws.{takes_next, stops_next}
