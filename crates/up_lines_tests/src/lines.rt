@@ -3,7 +3,7 @@ use std::alloc::{AllocError, Global};
 use std::io;
 use std::io::{Read, Write};
 use std::test::Fail;
-use up_lines::fault::{ScriptCause, ScriptFault};
+use up_lines::fault::{ScriptCause as Cause, ScriptFault};
 use up_lines::interpret::Interpret;
 use up_lines::limits::MOST_LINE_BYTES;
 use up_lines::run;
@@ -16,7 +16,12 @@ impl Interpret<u32> for Bracket {
 
     ghost gives = { λ _ line text _. text ≡ (91 ∷ []) ++ line ++ (93 ∷ []) };
 
-    fn interpret(&self, alloc: Global, state: &mut u32, line: &[u8]) -> Result<Vec<u8>, AllocError> {
+    fn interpret(
+        &self,
+        alloc: Global,
+        state: &mut u32,
+        line: &[u8],
+    ) -> Result<Vec<u8>, AllocError> {
         let mut text = vec![in alloc; b'[']?;
         text.extend_from_slice(line)?;
         text.push(b']')?;
@@ -77,7 +82,7 @@ impl Write for Shaky {
     }
 }
 
-fn fault(cause: ScriptCause, lines: u32) -> Result<u32, ScriptFault> {
+fn fault(cause: Cause, lines: u32) -> Result<u32, ScriptFault> {
     Err(ScriptFault { cause, lines })
 }
 
@@ -142,16 +147,16 @@ fn ends_at_one_failure(rt: HostRuntime) {
         ((3, 0), (9, 0, 0), Ok(3), b"[a]\n[bc]\n[d]\n", 3),
         ((9, 0), (1, 0, 0), Ok(3), b"[a]\n[bc]\n[d]\n", 3),
         // A read fails at once, amid a line, behind a newline, and before the end is told.
-        ((1, 1), (9, 0, 0), fault(ScriptCause::Read, 0), b"", 0),
-        ((1, 5), (9, 0, 0), fault(ScriptCause::Read, 1), b"[a]\n", 1),
-        ((1, 7), (9, 0, 0), fault(ScriptCause::Read, 2), b"[a]\n[bc]\n", 2),
-        ((1, 8), (9, 0, 0), fault(ScriptCause::Read, 2), b"[a]\n[bc]\n", 2),
+        ((1, 1), (9, 0, 0), fault(Cause::Read, 0), b"", 0),
+        ((1, 5), (9, 0, 0), fault(Cause::Read, 1), b"[a]\n", 1),
+        ((1, 7), (9, 0, 0), fault(Cause::Read, 2), b"[a]\n[bc]\n", 2),
+        ((1, 8), (9, 0, 0), fault(Cause::Read, 2), b"[a]\n[bc]\n", 2),
         // A write fails, or takes nothing: the line's command was done.
-        ((9, 0), (9, 1, 0), fault(ScriptCause::Write, 0), b"", 1),
-        ((9, 0), (9, 2, 0), fault(ScriptCause::Write, 1), b"[a]\n", 2),
-        ((9, 0), (9, 0, 3), fault(ScriptCause::Write, 2), b"[a]\n[bc]\n", 3),
-        ((9, 0), (3, 3, 0), fault(ScriptCause::Write, 1), b"[a]\n", 2),
-        ((9, 0), (3, 0, 4), fault(ScriptCause::Write, 1), b"[a]\n[bc", 2),
+        ((9, 0), (9, 1, 0), fault(Cause::Write, 0), b"", 1),
+        ((9, 0), (9, 2, 0), fault(Cause::Write, 1), b"[a]\n", 2),
+        ((9, 0), (9, 0, 3), fault(Cause::Write, 2), b"[a]\n[bc]\n", 3),
+        ((9, 0), (3, 3, 0), fault(Cause::Write, 1), b"[a]\n", 2),
+        ((9, 0), (3, 0, 4), fault(Cause::Write, 1), b"[a]\n[bc", 2),
     ];
     for (reads, writes, wanted, output, answered) in table {
         let (result, written, state) = shaky_run(rt.alloc(), reads, writes);
@@ -162,11 +167,34 @@ fn ends_at_one_failure(rt: HostRuntime) {
 }
 
 #[test]
+fn reads_no_more_behind_the_end(rt: HostRuntime) {
+    let table: [(&[u8], u32, u32); 4] = [
+        (b"", 1, 0),
+        (b"a\n", 3, 1),
+        (b"a\n\n", 4, 1),
+        (b"a\nb", 4, 2),
+    ];
+    for (input, reads, answered) in table {
+        let mut state = 0;
+        let mut reader = Slow {
+            bytes: input,
+            step: 1,
+            calls: 0,
+            fails_at: 0,
+        };
+        let mut written = Vec::new(rt.alloc());
+        let result = run(rt.alloc(), &Bracket, &mut state, &mut reader, &mut written);
+        assert_eq!(rt; result, Ok(answered));
+        assert_eq!(rt; reader.calls, reads);
+    }
+}
+
+#[test]
 fn counts_empty_lines(rt: HostRuntime) -> Result<(), Fail> {
     for (newlines, more, wanted) in [
         (100_000, b"".as_slice(), Ok(1)),
-        (100_000, b"\n".as_slice(), fault(ScriptCause::TooLong, 1)),
-        (100_000, b"b".as_slice(), fault(ScriptCause::TooLong, 1)),
+        (100_000, b"\n".as_slice(), fault(Cause::TooLong, 1)),
+        (100_000, b"b".as_slice(), fault(Cause::TooLong, 1)),
         (99_999, b"b".as_slice(), Ok(2)),
     ] {
         let mut state = 0;
@@ -185,7 +213,7 @@ fn counts_empty_lines(rt: HostRuntime) -> Result<(), Fail> {
 fn measures_lines(rt: HostRuntime) -> Result<(), Fail> {
     for (long, wanted, written_len) in [
         (MOST_LINE_BYTES, Ok(2), MOST_LINE_BYTES + 7),
-        (MOST_LINE_BYTES + 1, fault(ScriptCause::TooLong, 1), 4),
+        (MOST_LINE_BYTES + 1, fault(Cause::TooLong, 1), 4),
     ] {
         let mut state = 0;
         let mut input = vec![in rt.alloc(); b'a', b'\n']?;
