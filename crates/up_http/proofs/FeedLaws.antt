@@ -9,11 +9,11 @@ use Rattle.std.specs.Prelude.{MatchOption, IsSome}
 use Rattle.up_manifest.specs.Manifests.{largest_body}
 use Rattle.up_heads.specs.Planned.{planned}
 use Rattle.up_heads.specs.Framing.{framing}
-use Rattle.up_http.specs.Requests.{is_head, size_of, most_requests, First, Serves, asked, refused, bad_request}
+use Rattle.up_http.specs.Requests.{is_head, size_of, most_requests, First, Framed, asked, refused, bad_request}
 use Rattle.up_manifest.specs.Bodies.{Coming}
 use Rattle.up_http.specs.Feeding.{Fed, Feeds, Gives, Waits, IsCut}
 use Rattle.up_heads.specs.Fronts.{IsFactsOf}
-use Rattle.up_http.specs.Parts.{Begins, IsPlanOf, IsWaiting, IsWhole, Stands, Takes, Settles, body_of, fed_of}
+use Rattle.up_http.specs.Parts.{Begins, IsPlanOf, IsWaiting, IsWhole, ReadsPiece, TakesHead, Settles, body_of, fed_of}
 use Rattle.up_heads.specs.declared.check.Check.{Check}
 use Rattle.up_heads.specs.declared.check.Check.TheVariants.{BadRequest}
 use Rattle.up_heads.specs.Methods.{verb_of, is_head_verb}
@@ -52,7 +52,7 @@ first_whole given bytes body more head stated heads is whole =
       head,
       body ++ more,
       head_then bytes body more head heads,
-      subst (λ r. Serves given head (body ++ more) r (asked given head stated body) more) (sym is)
+      subst (λ r. Framed given head (body ++ more) r (asked given head stated body) more) (sym is)
           (subst (λ b. MatchBool b ((asked given head stated body ≡ asked given head stated (take size (body ++ more))) × (more ≡ drop size (body ++ more))) (asked given head stated body ≡ refused head BadRequest))
           (sym (le-leb size (length (body ++ more)) long)) (ap (asked given head stated) (sym front), sym behind)),
     )
@@ -61,7 +61,7 @@ first_whole given bytes body more head stated heads is whole =
 pub first_refused : (given : ℕ) (bytes more : List ℕ) (head : RequestHead) (check : Check) → Heads bytes head [] → framing head ≡ Err check
     → First given (bytes ++ more) (refused head check) more
 first_refused given bytes more head check heads is =
-    inr (head, more, heads_more bytes head [] more heads, subst (λ r. Serves given head more r (refused head check) more) (sym is) refl)
+    inr (head, more, heads_more bytes head [] more heads, subst (λ r. Framed given head more r (refused head check) more) (sym is) refl)
 
 -- what never has a head is refused
 pub first_bad : (given : ℕ) (bytes more : List ℕ) → NeverHasHead bytes → First given (bytes ++ more) bad_request more
@@ -129,10 +129,10 @@ head_verb head verb is = ap is_head_verb is
 
 -- a head that fails a check
 pub gives_refused : (old piece new : List ℕ) (taken : Taken) (facts : Facts) (check : Check) (given : ℕ) (next : Next) (fed : Fed)
-    → given < most_requests → Takes old piece taken new → taken.front ≡ Whole facts → facts.framing ≡ Err check → next ≡ record { what = Fixed check; head = is_head_verb facts.verb; last = true }
+    → given < most_requests → TakesHead old piece taken new → taken.front ≡ Whole facts → facts.framing ≡ Err check → next ≡ record { what = Fixed check; head = is_head_verb facts.verb; last = true }
     → fed ≡ record { rest = []; given = given + 1; ended = next.last } → Gives (record { rest = old; given = given; ended = false }) piece taken.bytes (Some next) fed
 gives_refused old piece new taken facts check given next fed below takes front framed is now =
-    let (head, heads, said) : IsWhole new facts = subst (Stands new piece taken) front takes.stands in
+    let (head, heads, said) : IsWhole new facts = subst (ReadsPiece new piece taken) front takes.stands in
     let same : next ≡ refused head check = is ∙ ap (λ h. record { what = Fixed check; head = h; last = true }) (head_verb head facts.verb said.verb_is) in (
       takes.within,
       now,
@@ -149,10 +149,10 @@ has_bytes [] never = absurd (never_empty never)
 has_bytes (b ∷ bytes) never = omega arith
 
 pub gives_bad : (old piece new : List ℕ) (taken : Taken) (given : ℕ) (next : Next) (fed : Fed)
-    → given < most_requests → Takes old piece taken new → taken.front ≡ Bad → next ≡ bad_request
+    → given < most_requests → TakesHead old piece taken new → taken.front ≡ Bad → next ≡ bad_request
     → fed ≡ record { rest = []; given = given + 1; ended = next.last } → Gives (record { rest = old; given = given; ended = false }) piece taken.bytes (Some next) fed
 gives_bad old piece new taken given next fed below takes front is now =
-    let never : NeverHasHead new = subst (Stands new piece taken) front takes.stands in (
+    let never : NeverHasHead new = subst (ReadsPiece new piece taken) front takes.stands in (
       takes.within,
       now,
       below,
@@ -197,7 +197,7 @@ ends_cut bytes waiting given next waits cut is =
         waits.head,
         waiting.body.bytes,
         heads_more bytes waits.head [] waiting.body.bytes waits.heads,
-        subst (λ r. Serves given waits.head waiting.body.bytes r next []) (sym waits.framing_is)
+        subst (λ r. Framed given waits.head waiting.body.bytes r next []) (sym waits.framing_is)
             (subst (λ b. MatchBool b ((next ≡ asked given waits.head waits.stated (take size waiting.body.bytes)) × ([] ≡ drop size waiting.body.bytes)) (next ≡ refused waits.head BadRequest))
             (sym (lt-leb size (length waiting.body.bytes) short)) same),
       ),

@@ -115,11 +115,11 @@ module _ {S : Type 0} (gives : S → Next → List ℕ → S → Type 0) where
       }
 
   -- what becomes of a request that was begun
-  broken : (cause : Fault) (given : ℕ) (bytes : List ℕ) (next : Next) (old new : S) (held holds : Option (List ℕ)) (ended : Bool) → IsBegun given bytes ended next → Unanswered gives cause old next new held holds
-      → (prefix : List ℕ) × Breaks gives cause given bytes ended old new prefix (calls (next ∷ [])) × Appends held holds prefix
-  broken Memory given bytes next old new held holds ended begun ((text, gave), wrote) = ([], (refl, inr (next, begun, refl, text, gave)), wrote)
-  broken Write given bytes next old new held holds ended begun (text, gave, prefix, proper, wrote) = (prefix, (next, begun, refl, text, gave, proper), wrote)
-  broken Read given bytes next old new held holds ended begun h = absurd h
+  broken : (cause : Fault) (ended : Bool) (given : ℕ) (bytes : List ℕ) (next : Next) (old new : S) (held holds : Option (List ℕ)) → IsBegun given bytes ended next → Unanswered gives cause old next new held holds
+      → (prefix : List ℕ) × Breaks gives cause ended given bytes old new prefix (calls (next ∷ [])) × Appends held holds prefix
+  broken Memory ended given bytes next old new held holds begun ((text, gave), wrote) = ([], (refl, inr (next, begun, refl, text, gave)), wrote)
+  broken Write ended given bytes next old new held holds begun (text, gave, prefix, proper, wrote) = (prefix, (next, begun, refl, text, gave, proper), wrote)
+  broken Read ended given bytes next old new held holds begun h = absurd h
 
   -- a request that isn't answered whole
   pub stops_next : (cause : Fault) (old : Progress) (called' answered' : ℕ) (bytes others : List ℕ) (next : Next) (before after : S) (held holds : Option (List ℕ)) → old.feeder.ended ≡ false
@@ -138,7 +138,7 @@ module _ {S : Type 0} (gives : S → Next → List ℕ → S → Type 0) where
         first = λ more _. subst (λ n. First n ((bytes' ++ others) ++ more) next (others ++ more)) so.given_is
             (subst (λ l. First old.feeder.given l next (others ++ more)) (sym (append_assoc bytes' others more)) (firsts (others ++ more)));
       } in
-      let (prefix, breaks, wrote) = broken cause (length so.done) (bytes' ++ others) next before after held holds false begun broke in
+      let (prefix, breaks, wrote) = broken cause false (length so.done) (bytes' ++ others) next before after held holds begun broke in
       record {
         done = so.done;
         texts = so.texts;
@@ -149,7 +149,7 @@ module _ {S : Type 0} (gives : S → Next → List ℕ → S → Type 0) where
         firsts = subst (λ e. Firsts 0 (came ++ (bytes ++ others)) so.done e (bytes' ++ others)) goes_on
             (subst (λ l. Firsts 0 (came ++ (bytes ++ others)) so.done old.feeder.ended l) behind (so.firsts (bytes ++ others)));
         run = so.run;
-        breaks = breaks;
+        after = breaks;
         answered_is = answered ∙ so.answered_is;
         called_is = omega (arith, called, so.called_is);
         wrote = Appends-trans _ _ _ _ _ so.wrote wrote;
@@ -167,7 +167,7 @@ module _ {S : Type 0} (gives : S → Next → List ℕ → S → Type 0) where
     more = 0;
     firsts = subst (λ e. Firsts 0 (came ++ piece) so.done e (old.feeder.rest ++ piece)) goes_on (so.firsts piece);
     run = so.run;
-    breaks = (refl, inl (refl, refl));
+    after = (refl, inl (refl, refl));
     answered_is = answered ∙ so.answered_is;
     called_is = omega (arith, called, so.called_is);
     wrote = subst (Appends empty holds) (sym (append-nil (joined so.texts))) so.wrote;
@@ -226,7 +226,7 @@ module _ {S : Type 0} (gives : S → Next → List ℕ → S → Type 0) where
         first = λ more end. subst (λ l. First (length so.done) (old.feeder.rest ++ l) next l) (sym (end refl))
             (subst (λ l. First (length so.done) l next []) (sym (append-nil old.feeder.rest)) (subst (λ n. First n old.feeder.rest next []) so.given_is asks));
       } in
-      let (prefix, breaks, wrote) = broken cause (length so.done) old.feeder.rest next before after held holds true begun broke in
+      let (prefix, breaks, wrote) = broken cause true (length so.done) old.feeder.rest next before after held holds begun broke in
       record {
         done = so.done;
         texts = so.texts;
@@ -236,7 +236,7 @@ module _ {S : Type 0} (gives : S → Next → List ℕ → S → Type 0) where
         more = calls (next ∷ []);
         firsts = subst (λ l. Firsts 0 l so.done false old.feeder.rest) (sym (append-nil came)) (at_end first empty came old before held so goes_on);
         run = so.run;
-        breaks = breaks;
+        after = breaks;
         answered_is = answered ∙ so.answered_is;
         called_is = omega (arith, called, so.called_is);
         wrote = Appends-trans _ _ _ _ _ so.wrote wrote;
@@ -256,7 +256,7 @@ module _ {S : Type 0} (gives : S → Next → List ℕ → S → Type 0) where
     more = 0;
     firsts = at_end first empty came at now holds so goes_on;
     run = so.run;
-    breaks = (refl, refl, refl, so.waits goes_on);
+    after = (refl, refl, refl, refl, so.waits goes_on);
     answered_is = so.answered_is;
     called_is = omega (arith, so.called_is);
     wrote = subst (Appends empty holds) (sym (append-nil (joined so.texts))) so.wrote;
@@ -283,6 +283,12 @@ module _ {S : Type 0} (gives : S → Next → List ℕ → S → Type 0) where
   -- while the stream goes on there is room for more bytes
   pub room_left : (first : S) (empty : Option (List ℕ)) (came : List ℕ) (at : Progress) (now : S) (holds : Option (List ℕ)) → Sofar gives first empty came at now holds → at.feeder.ended ≡ false → length came < most_bytes
   room_left first empty came at now holds so goes_on = omega (arith, so.bytes, so.below goes_on, waits_short at.feeder.rest (so.waits goes_on))
+
+  -- a run that stopped among the bytes
+  pub ran_stop : (cause : Fault) (first now : S) (had has held holds : Option (List ℕ)) (came : List ℕ) (at : Progress) → Consumes had has came → length came ≤ most_bytes
+      → Stopped gives cause first held came false at.called at.answered now holds → Ran gives first now had has held holds (told (Err cause) at)
+  ran_stop cause first now had has held holds came at read bounded stopped =
+      record { came = came; ended = false; read = read; bounded = bounded; at_end = λ h. absurd (cc); leaves = stopped }
 
   -- a run to the input's end
   pub ran_end : (r : Result (Unit {0}) Fault) (first now : S) (had has held holds : Option (List ℕ)) (came : List ℕ) (old : Progress) (before : S) (have : Option (List ℕ)) (new : Progress)
@@ -320,13 +326,13 @@ piece_left xs at filled n h =
     ∙ sym (take-add n (filled - (at + n)) (drop at xs)) ∙ ap (λ k. take k (drop at xs)) (omega arith)
 
 module _ {S : Type 0} (gives : S → Next → List ℕ → S → Type 0) where
-  next_of : (cause : Fault) (given : ℕ) (bytes left : List ℕ) (ended : Bool) (old new : S) (prefix : List ℕ) (more : ℕ) → (ended ≡ true → left ≡ [])
-      → Breaks gives cause given bytes ended old new prefix more → IsNext gives given (bytes ++ left) old new prefix more
-  next_of Read given bytes left ended old new prefix more end (none, same, zero', waits) = inl (none, same, zero')
-  next_of Memory given bytes left ended old new prefix more end (none, inl (same, zero')) = inl (none, same, zero')
-  next_of Memory given bytes left ended old new prefix more end (none, inr (next, begun, many, text, gave)) =
+  next_of : (cause : Fault) (ended : Bool) (given : ℕ) (bytes left : List ℕ) (old new : S) (prefix : List ℕ) (more : ℕ) → (ended ≡ true → left ≡ [])
+      → Breaks gives cause ended given bytes old new prefix more → IsNext gives given (bytes ++ left) old new prefix more
+  next_of Read ended given bytes left old new prefix more end (before, none, same, zero', waits) = inl (none, same, zero')
+  next_of Memory ended given bytes left old new prefix more end (none, inl (same, zero')) = inl (none, same, zero')
+  next_of Memory ended given bytes left old new prefix more end (none, inr (next, begun, many, text, gave)) =
       inr (next, begun.after ++ left, omega (arith, begun.some, length-append bytes left), begun.first left end, many, text, gave, inl none)
-  next_of Write given bytes left ended old new prefix more end (next, begun, many, text, gave, proper) =
+  next_of Write ended given bytes left old new prefix more end (next, begun, many, text, gave, proper) =
       inr (next, begun.after ++ left, omega (arith, begun.some, length-append bytes left), begun.first left end, many, text, gave, inr proper)
 
   -- a run that ended early, where it is known what the reader had
@@ -345,7 +351,7 @@ module _ {S : Type 0} (gives : S → Next → List ℕ → S → Type 0) where
         more = st.more;
         firsts = firsts_more 0 ran.came left st.done st.rest st.firsts;
         run = st.run;
-        next = next_of fault.cause (length st.done) st.rest left ran.ended st.last now st.prefix st.more ran.at_end st.breaks;
+        after = next_of fault.cause ran.ended (length st.done) st.rest left st.last now st.prefix st.more ran.at_end st.after;
         answered_is = st.answered_is;
         called_is = st.called_is;
         wrote = st.wrote;

@@ -11,7 +11,7 @@ use Rattle.up_heads.specs.Closing.{closes}
 use Rattle.up_heads.specs.Planned.{planned}
 use Rattle.up_heads.specs.declared.planned.Planned.{Planned}
 use Rattle.up_heads.specs.declared.planned.Planned.TheVariants as planned_as
-use Rattle.up_http.specs.Requests.{First, Firsts, Requests, Serves, asked, asks_running, with_body, refused, ends_with, most_requests, most_request, size_of}
+use Rattle.up_http.specs.Requests.{First, Firsts, Requests, Framed, asked, asks_running, with_body, refused, ends_with, most_requests, most_request, size_of}
 use Rattle.up_http.specs.Feeding.{Waits, IsCut}
 use Rattle.up_heads.specs.declared.check.Check.{Check}
 use Rattle.up_heads.specs.declared.check.Check.TheVariants.{BadRequest}
@@ -63,9 +63,9 @@ or_false : (a b : Bool) → (a || b) ≡ false → b ≡ false
 or_false true b h = absurd (cc)
 or_false false b h = h
 
-below_serves : (given : ℕ) (head : RequestHead) (after : List ℕ) (r : Result (Option ℕ) Check) (next : Next) (rest : List ℕ) → Serves given head after r next rest → next.last ≡ false → given + 1 < most_requests
-below_serves given head after (Err check) next rest p goes_on = absurd (cc (ap (λ n. n.last) p))
-below_serves given head after (Ok stated) next rest p goes_on = by_size (nat_le (size_of stated) (length after)) p
+below_framed : (given : ℕ) (head : RequestHead) (after : List ℕ) (r : Result (Option ℕ) Check) (next : Next) (rest : List ℕ) → Framed given head after r next rest → next.last ≡ false → given + 1 < most_requests
+below_framed given head after (Err check) next rest p goes_on = absurd (cc (ap (λ n. n.last) p))
+below_framed given head after (Ok stated) next rest p goes_on = by_size (nat_le (size_of stated) (length after)) p
   where
     by_size : (b : Bool) → MatchBool b ((next ≡ asked given head stated (take (size_of stated) after)) × (rest ≡ drop (size_of stated) after)) (next ≡ refused head BadRequest) → given + 1 < most_requests
     by_size true x = leb-false most_requests (given + 1) (or_false (ends_with (planned head stated)) (nat_le most_requests (given + 1)) (or_false (closes head) (ends_with (planned head stated) || nat_le most_requests (given + 1)) (sym (ap (λ n. n.last) x.0) ∙ goes_on)))
@@ -73,7 +73,7 @@ below_serves given head after (Ok stated) next rest p goes_on = by_size (nat_le 
 
 pub first_below : (given : ℕ) (bytes : List ℕ) (next : Next) (rest : List ℕ) → First given bytes next rest → next.last ≡ false → given + 1 < most_requests
 first_below given bytes next rest (inl (none, is)) goes_on = absurd (cc (ap (λ n. n.last) is))
-first_below given bytes next rest (inr (head, after, heads, serves)) goes_on = below_serves given head after (framing head) next rest serves goes_on
+first_below given bytes next rest (inr (head, after, heads, framed)) goes_on = below_framed given head after (framing head) next rest framed goes_on
 
 -- ---- what is asked opens no campaign
 
@@ -91,9 +91,9 @@ fixed_runs check = refl
 runs_as : (next other : Next) → next ≡ other → asks_running other.what ≡ true → asks_running next.what ≡ true
 runs_as next other is runs = ap (λ n. asks_running n.what) is ∙ runs
 
-serves_runs : (given : ℕ) (head : RequestHead) (after : List ℕ) (r : Result (Option ℕ) Check) (next : Next) (rest : List ℕ) → Serves given head after r next rest → asks_running next.what ≡ true
-serves_runs given head after (Err check) next rest p = runs_as next _ p (fixed_runs check)
-serves_runs given head after (Ok stated) next rest p = by_size (nat_le (size_of stated) (length after)) p
+framed_runs : (given : ℕ) (head : RequestHead) (after : List ℕ) (r : Result (Option ℕ) Check) (next : Next) (rest : List ℕ) → Framed given head after r next rest → asks_running next.what ≡ true
+framed_runs given head after (Err check) next rest p = runs_as next _ p (fixed_runs check)
+framed_runs given head after (Ok stated) next rest p = by_size (nat_le (size_of stated) (length after)) p
   where
     by_size : (b : Bool) → MatchBool b ((next ≡ asked given head stated (take (size_of stated) after)) × (rest ≡ drop (size_of stated) after)) (next ≡ refused head BadRequest) → asks_running next.what ≡ true
     by_size true x = runs_as next _ x.0 (with_body_runs (planned head stated) (take (size_of stated) after))
@@ -101,14 +101,14 @@ serves_runs given head after (Ok stated) next rest p = by_size (nat_le (size_of 
 
 pub first_runs : (given : ℕ) (bytes : List ℕ) (next : Next) (rest : List ℕ) → First given bytes next rest → asks_running next.what ≡ true
 first_runs given bytes next rest (inl (none, is)) = runs_as next _ is (fixed_runs BadRequest)
-first_runs given bytes next rest (inr (head, after, heads, serves)) = serves_runs given head after (framing head) next rest serves
+first_runs given bytes next rest (inr (head, after, heads, framed)) = framed_runs given head after (framing head) next rest framed
 
 -- ---- each stream has its requests once
 
-serves_once : (given : ℕ) (head : RequestHead) (after : List ℕ) (r : Result (Option ℕ) Check) (next other : Next) (rest left : List ℕ)
-    → Serves given head after r next rest → Serves given head after r other left → (next ≡ other) × (next.last ≡ false → rest ≡ left)
-serves_once given head after (Err check) next other rest left p q = (p ∙ sym q, λ goes_on. absurd (cc (ap (λ n. n.last) p)))
-serves_once given head after (Ok stated) next other rest left p q = by_size (nat_le (size_of stated) (length after)) p q
+framed_once : (given : ℕ) (head : RequestHead) (after : List ℕ) (r : Result (Option ℕ) Check) (next other : Next) (rest left : List ℕ)
+    → Framed given head after r next rest → Framed given head after r other left → (next ≡ other) × (next.last ≡ false → rest ≡ left)
+framed_once given head after (Err check) next other rest left p q = (p ∙ sym q, λ goes_on. absurd (cc (ap (λ n. n.last) p)))
+framed_once given head after (Ok stated) next other rest left p q = by_size (nat_le (size_of stated) (length after)) p q
   where
     by_size : (b : Bool) → MatchBool b ((next ≡ asked given head stated (take (size_of stated) after)) × (rest ≡ drop (size_of stated) after)) (next ≡ refused head BadRequest)
         → MatchBool b ((other ≡ asked given head stated (take (size_of stated) after)) × (left ≡ drop (size_of stated) after)) (other ≡ refused head BadRequest) → (next ≡ other) × (next.last ≡ false → rest ≡ left)
@@ -118,12 +118,12 @@ serves_once given head after (Ok stated) next other rest left p q = by_size (nat
 pub first_once : (given : ℕ) (bytes : List ℕ) (next other : Next) (rest left : List ℕ)
     → First given bytes next rest → First given bytes other left → (next ≡ other) × (next.last ≡ false → rest ≡ left)
 first_once given bytes next other rest left (inl (none, is)) (inl (_, same)) = (is ∙ sym same, λ goes_on. absurd (cc (ap (λ n. n.last) is)))
-first_once given bytes next other rest left (inl (none, is)) (inr (head, after, heads, serves)) = absurd (none head after heads)
-first_once given bytes next other rest left (inr (head, after, heads, serves)) (inl (none, is)) = absurd (none head after heads)
-first_once given bytes next other rest left (inr (head, after, heads, serves)) (inr (head', after', heads', serves')) =
+first_once given bytes next other rest left (inl (none, is)) (inr (head, after, heads, framed)) = absurd (none head after heads)
+first_once given bytes next other rest left (inr (head, after, heads, framed)) (inl (none, is)) = absurd (none head after heads)
+first_once given bytes next other rest left (inr (head, after, heads, framed)) (inr (head', after', heads', framed')) =
     let (same, behind) = heads_once bytes head head' after after' heads heads' in
-    serves_once given head after (framing head) next other rest left serves
-    (subst (λ h. Serves given h after (framing h) other left) (sym same) (subst (λ a. Serves given head' a (framing head') other left) (sym behind) serves'))
+    framed_once given head after (framing head) next other rest left framed
+    (subst (λ h. Framed given h after (framing h) other left) (sym same) (subst (λ a. Framed given head' a (framing head') other left) (sym behind) framed'))
 
 firsts_once : (before : ℕ) (bytes : List ℕ) (xs ys : List Next) (d e : Bool) (rest left : List ℕ)
     → Firsts before bytes xs d rest → Firsts before bytes ys e left → (d ≡ false → rest ≡ []) → (e ≡ false → left ≡ []) → xs ≡ ys
@@ -169,10 +169,10 @@ never_empty never = never (print_request example) example [] (record { reads = e
 
 -- ---- more bytes leave a request as it is, unless the stream ends with it
 
-more_serves : (given : ℕ) (head : RequestHead) (after more : List ℕ) (r : Result (Option ℕ) Check) (next : Next) (rest : List ℕ)
-    → Serves given head after r next rest → next.last ≡ false → Serves given head (after ++ more) r next (rest ++ more)
-more_serves given head after more (Err check) next rest p goes_on = absurd (cc (ap (λ n. n.last) p))
-more_serves given head after more (Ok stated) next rest p goes_on = by_size (nat_le (size_of stated) (length after)) refl p
+more_framed : (given : ℕ) (head : RequestHead) (after more : List ℕ) (r : Result (Option ℕ) Check) (next : Next) (rest : List ℕ)
+    → Framed given head after r next rest → next.last ≡ false → Framed given head (after ++ more) r next (rest ++ more)
+more_framed given head after more (Err check) next rest p goes_on = absurd (cc (ap (λ n. n.last) p))
+more_framed given head after more (Ok stated) next rest p goes_on = by_size (nat_le (size_of stated) (length after)) refl p
   where
     by_size : (b : Bool) → nat_le (size_of stated) (length after) ≡ b → MatchBool b ((next ≡ asked given head stated (take (size_of stated) after)) × (rest ≡ drop (size_of stated) after)) (next ≡ refused head BadRequest)
         → MatchBool (nat_le (size_of stated) (length (after ++ more))) ((next ≡ asked given head stated (take (size_of stated) (after ++ more))) × (rest ++ more ≡ drop (size_of stated) (after ++ more))) (next ≡ refused head BadRequest)
@@ -185,8 +185,8 @@ more_serves given head after more (Ok stated) next rest p goes_on = by_size (nat
 
 first_more : (given : ℕ) (bytes more : List ℕ) (next : Next) (rest : List ℕ) → First given bytes next rest → next.last ≡ false → First given (bytes ++ more) next (rest ++ more)
 first_more given bytes more next rest (inl (none, is)) goes_on = absurd (cc (ap (λ n. n.last) is))
-first_more given bytes more next rest (inr (head, after, heads, serves)) goes_on =
-    inr (head, after ++ more, heads_more bytes head after more heads, more_serves given head after more (framing head) next rest serves goes_on)
+first_more given bytes more next rest (inr (head, after, heads, framed)) goes_on =
+    inr (head, after ++ more, heads_more bytes head after more heads, more_framed given head after more (framing head) next rest framed goes_on)
 
 pub firsts_more : (before : ℕ) (bytes more : List ℕ) (done : List Next) (rest : List ℕ) → Firsts before bytes done false rest → Firsts before (bytes ++ more) done false (rest ++ more)
 firsts_more before bytes more [] rest (ended, is) = (ended, ap (λ l. l ++ more) is)

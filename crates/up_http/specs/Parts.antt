@@ -32,24 +32,24 @@ pub record Begins (bytes : List ℕ) (begun : Bool) : Type 0 where
 abbrev pub IsWhole : List ℕ → Facts → Type 0
 IsWhole bytes facts = (head : RequestHead) × Heads bytes head [] × IsFactsOf bytes head facts
 
--- how the bytes stand when one more was taken
-abbrev pub Reads : List ℕ → Bool → Front → Type 0
-Reads bytes begun (Whole facts) = IsWhole bytes facts
-Reads bytes begun Cut = HasNoRequest bytes × (begun ≡ false → list_all is_newline bytes ≡ true)
-Reads bytes begun Bad = NeverHasHead bytes
+-- how the bytes are read when one more was taken
+abbrev pub ReadsByte : List ℕ → Bool → Front → Type 0
+ReadsByte bytes begun (Whole facts) = IsWhole bytes facts
+ReadsByte bytes begun Cut = HasNoRequest bytes × (begun ≡ false → list_all is_newline bytes ≡ true)
+ReadsByte bytes begun Bad = NeverHasHead bytes
 
--- how the bytes stand when so many more were taken
-abbrev pub Stands : List ℕ → List ℕ → Taken → Front → Type 0
-Stands bytes piece taken (Whole facts) = IsWhole bytes facts
-Stands bytes piece taken Cut = (taken.bytes ≡ length piece) × Begins bytes taken.begun
-Stands bytes piece taken Bad = NeverHasHead bytes
+-- how the bytes are read when so many of a piece were taken
+abbrev pub ReadsPiece : List ℕ → List ℕ → Taken → Front → Type 0
+ReadsPiece bytes piece taken (Whole facts) = IsWhole bytes facts
+ReadsPiece bytes piece taken Cut = (taken.bytes ≡ length piece) × Begins bytes taken.begun
+ReadsPiece bytes piece taken Bad = NeverHasHead bytes
 
 -- bytes were taken to a head
-pub record Takes (old piece : List ℕ) (taken : Taken) (new : List ℕ) : Type 0 where
+pub record TakesHead (old piece : List ℕ) (taken : Taken) (new : List ℕ) : Type 0 where
   pub within : taken.bytes ≤ length piece
   pub added : new ≡ old ++ take taken.bytes piece
   pub bounded : length new ≤ most_head
-  pub stands : Stands new piece taken taken.front
+  pub stands : ReadsPiece new piece taken taken.front
 
 -- what is kept of a head that states this length of its body
 pub record IsPlanOf (head : RequestHead) (stated : Option ℕ) (plan : Plan) : Type 0 where

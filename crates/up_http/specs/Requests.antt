@@ -78,17 +78,17 @@ asked before head stated body = record {
   last = closes head || (ends_with (planned head stated) || nat_le most_requests (before + 1));
 }
 
--- a whole head, what comes after it, what is answered, and what is left behind the request
-abbrev pub Serves : ℕ → RequestHead → List ℕ → Result (Option ℕ) Check → Next → List ℕ → Type 0
-Serves before head after (Err check) next rest = next ≡ refused head check
-Serves before head after (Ok stated) next rest =
+-- a whole head, what comes after it, the request that its framing makes of them, and what is left behind the request
+abbrev pub Framed : ℕ → RequestHead → List ℕ → Result (Option ℕ) Check → Next → List ℕ → Type 0
+Framed before head after (Err check) next rest = next ≡ refused head check
+Framed before head after (Ok stated) next rest =
     MatchBool (nat_le (size_of stated) (length after)) ((next ≡ asked before head stated (take (size_of stated) after)) × (rest ≡ drop (size_of stated) after)) (next ≡ refused head BadRequest)
 
 -- the first request of bytes, of which so many stood before, and what is left behind it; what follows the last request isn't answered
 abbrev pub First : ℕ → List ℕ → Next → List ℕ → Type 0
 First before bytes next rest =
     (HasNoHead bytes × (next ≡ bad_request))
-    ⊎ ((head : RequestHead) × (after : List ℕ) × Heads bytes head after × Serves before head after (framing head) next rest)
+    ⊎ ((head : RequestHead) × (after : List ℕ) × Heads bytes head after × Framed before head after (framing head) next rest)
 
 -- the first requests of bytes, one after another, whether the stream ends with them, and what is left behind them
 abbrev pub Firsts : ℕ → List ℕ → List Next → Bool → List ℕ → Type 0

@@ -1,7 +1,7 @@
 -- What a run over a stream leaves: answers, states, and what was written.
 use Rattle.std.specs.Prelude.{◌≡◌, ◌⊎◌, ℕ, ◌+◌, ◌*◌, ◌<◌, ◌≤◌, Bool, true, false, Option, List, [], ◌∷◌, ◌++◌, length, filter, flat_map, Result, Ok, Err}
-use Rattle.std.specs.Io.KnownBytes.{Appends, Consumes, IsAtEnd}
-use Rattle.up_lines.specs.Runs.{IsProperPrefix, Run}
+use Rattle.std.specs.Io.KnownBytes.{Appends}
+use Rattle.up_lines.specs.Runs.{HasRead, IsProperPrefix, Run}
 use Rattle.up_http.specs.Requests.{First, Firsts, Requests, most_requests, most_request}
 use Rattle.up_http.specs.Feeding.{Waits}
 use Rattle.up_http.specs.declared.asked.What.{What}
@@ -51,29 +51,33 @@ pub record IsBegun (given : ℕ) (bytes : List ℕ) (ended : Bool) (next : Next)
   pub after : List ℕ
   pub first : (more : List ℕ) → (ended ≡ true → more ≡ []) → First given (bytes ++ more) next (after ++ more)
 
--- what became of the request behind those that were answered whole, and how many commands more were called
-abbrev pub Breaks : {S : Type 0} → (S → Next → List ℕ → S → Type 0) → Fault → ℕ → List ℕ → Bool → S → S → List ℕ → ℕ → Type 0
-Breaks gives Read given bytes ended old new prefix more = (prefix ≡ []) × (new ≡ old) × (more ≡ 0) × Waits bytes
-Breaks gives Memory given bytes ended old new prefix more =
+-- what became of the request behind those that were answered whole, and how many commands more were called; a read fails before the input's end
+abbrev pub Breaks : {S : Type 0} → (S → Next → List ℕ → S → Type 0) → Fault → Bool → ℕ → List ℕ → S → S → List ℕ → ℕ → Type 0
+Breaks gives Read ended given bytes old new prefix more = (ended ≡ false) × (prefix ≡ []) × (new ≡ old) × (more ≡ 0) × Waits bytes
+Breaks gives Memory ended given bytes old new prefix more =
     (prefix ≡ []) × (((new ≡ old) × (more ≡ 0))
     ⊎ ((next : Next) × IsBegun given bytes ended next × (more ≡ calls (next ∷ [])) × (text : List ℕ) × gives old next text new))
-Breaks gives Write given bytes ended old new prefix more =
+Breaks gives Write ended given bytes old new prefix more =
     (next : Next) × IsBegun given bytes ended next × (more ≡ calls (next ∷ [])) × (text : List ℕ) × gives old next text new × IsProperPrefix prefix text
 
--- what a run that ended early leaves: so many requests are answered, and their answers written whole
-pub record Stopped {S : Type 0} (gives : S → Next → List ℕ → S → Type 0) (cause : Fault) (first : S) (held : Option (List ℕ)) (came : List ℕ) (ended : Bool) (called answered : ℕ) (now : S) (holds : Option (List ℕ)) : Type 0 where
+-- of the requests of bytes the first so many have their answers, written whole; what became of the one behind them is `After`
+pub record AnswersUpTo {S : Type 0} (gives : S → Next → List ℕ → S → Type 0) (After : ℕ → List ℕ → S → S → List ℕ → ℕ → Type 0) (first : S) (held : Option (List ℕ)) (bytes : List ℕ) (called answered : ℕ) (now : S) (holds : Option (List ℕ)) : Type 0 where
   pub done : List Next
   pub texts : List (List ℕ)
   pub rest : List ℕ
   pub last : S
   pub prefix : List ℕ
   pub more : ℕ
-  pub firsts : Firsts 0 came done false rest
+  pub firsts : Firsts 0 bytes done false rest
   pub run : Run gives first done texts last
-  pub breaks : Breaks gives cause (length done) rest ended last now prefix more
+  pub after : After (length done) rest last now prefix more
   pub answered_is : answered ≡ length done
   pub called_is : called ≡ calls done + more
   pub wrote : Appends held holds (joined texts ++ prefix)
+
+-- what a run that ended early leaves: so many requests are answered, and their answers written whole
+abbrev pub Stopped : {S : Type 0} → (S → Next → List ℕ → S → Type 0) → Fault → S → Option (List ℕ) → List ℕ → Bool → ℕ → ℕ → S → Option (List ℕ) → Type 0
+Stopped gives cause first held came ended called answered now holds = AnswersUpTo gives (Breaks gives cause ended) first held came called answered now holds
 
 -- what a run that ended leaves: each request has its answer, in order, and nothing else is written
 pub record Finished {S : Type 0} (gives : S → Next → List ℕ → S → Type 0) (first : S) (held : Option (List ℕ)) (came : List ℕ) (answered : ℕ) (now : S) (holds : Option (List ℕ)) : Type 0 where
@@ -90,13 +94,8 @@ Leaves gives first held came ended (Ok served) now holds = (more : List ℕ) →
 Leaves gives first held came ended (Err fault) now holds = Stopped gives fault.cause first held came ended fault.called fault.answered now holds
 
 -- a run over a reader and a writer
-pub record Ran {S : Type 0} (gives : S → Next → List ℕ → S → Type 0) (first now : S) (had has held holds : Option (List ℕ)) (result : Result Served ServeFault) : Type 0 where
-  pub came : List ℕ
-  pub ended : Bool
-  pub read : Consumes had has came
-  pub bounded : length came ≤ most_bytes
-  pub at_end : ended ≡ true → IsAtEnd has
-  pub leaves : Leaves gives first held came ended result now holds
+abbrev pub Ran : {S : Type 0} → (S → Next → List ℕ → S → Type 0) → S → S → Option (List ℕ) → Option (List ℕ) → Option (List ℕ) → Option (List ℕ) → Result Served ServeFault → Type 0
+Ran gives first now had has held holds result = HasRead most_bytes had has (λ came ended. Leaves gives first held came ended result now holds)
 
 -- the result of a run, told with what was called and answered
 abbrev pub told : Result (Unit {0}) Fault → Progress → Result Served ServeFault
@@ -146,16 +145,5 @@ IsNext gives given bytes old new prefix more =
     × (text : List ℕ) × gives old next text new × ((prefix ≡ []) ⊎ IsProperPrefix prefix text))
 
 -- of the requests of an input the first so many have their answers, written whole
-pub record AnswersFirst {S : Type 0} (gives : S → Next → List ℕ → S → Type 0) (first : S) (held : Option (List ℕ)) (input : List ℕ) (fault : ServeFault) (now : S) (holds : Option (List ℕ)) : Type 0 where
-  pub done : List Next
-  pub texts : List (List ℕ)
-  pub rest : List ℕ
-  pub last : S
-  pub prefix : List ℕ
-  pub more : ℕ
-  pub firsts : Firsts 0 input done false rest
-  pub run : Run gives first done texts last
-  pub next : IsNext gives (length done) rest last now prefix more
-  pub answered_is : fault.answered ≡ length done
-  pub called_is : fault.called ≡ calls done + more
-  pub wrote : Appends held holds (joined texts ++ prefix)
+abbrev pub AnswersFirst : {S : Type 0} → (S → Next → List ℕ → S → Type 0) → S → Option (List ℕ) → List ℕ → ServeFault → S → Option (List ℕ) → Type 0
+AnswersFirst gives first held input fault now holds = AnswersUpTo gives (IsNext gives) first held input fault.called fault.answered now holds

@@ -58,23 +58,22 @@ fn answer_counted<S, A: Respond<S>, W: Write>(
     responder: &A,
     state: &mut S,
     writer: &mut W,
-    called: &mut u32,
-    answered: &mut u32,
+    progress: &mut Progress,
     next: Next,
 ) -> Result<(), Fault>
     requires asks { IsTrue (asks_running next.what) }
-    requires calls_left { called.old < most_requests }
-    requires answers_left { answered.old < most_requests }
-    ensures called { called.new ≡ called.old + calls (next ∷ []) }
-    ensures one { called.new ≤ called.old + 1 }
-    ensures answered { answered.new ≡ (if is_ok result then answered.old + 1 else answered.old) }
+    requires calls_left { progress.old.called < progress.old.feeder.given }
+    requires answers_left { progress.old.answered < progress.old.feeder.given }
+    ensures feeder { progress.new.feeder ≡ progress.old.feeder }
+    ensures called { progress.new.called ≡ progress.old.called + calls (next ∷ []) }
+    ensures answered { progress.new.answered ≡ (if is_ok result then progress.old.answered + 1 else progress.old.answered) }
     ensures ok { OnOk result ((text : List ℕ) × A.gives responder.now state.old next text state.new
         × Appends (W.contents writer.old) (W.contents writer.new) text) }
     ensures err { IfErr result (λ cause. Unanswered (A.gives responder.now) cause state.old next state.new (W.contents writer.old) (W.contents writer.new)) }
 {
-    *called = count_call(*called, &next);
+    progress.called = count_call(progress.called, &next);
     answer_next(alloc, responder, state, writer, &next)?;
-    *answered += 1;
+    progress.answered += 1;
     Ok(())
 }
 
@@ -102,15 +101,7 @@ fn serve_piece<S, A: Respond<S>, W: Write>(
         None => Ok(taken),
         Some(next) => {
             progress.over = next.last;
-            match answer_counted(
-                alloc,
-                responder,
-                state,
-                writer,
-                &mut progress.called,
-                &mut progress.answered,
-                next,
-            ) {
+            match answer_counted(alloc, responder, state, writer, progress, next) {
                 Ok(()) => Ok(taken),
                 Err(cause) => Err(cause),
             }
@@ -139,15 +130,7 @@ fn finish<S, A: Respond<S>, W: Write>(
         }
         Some(next) => {
             progress.over = true;
-            match answer_counted(
-                alloc,
-                responder,
-                state,
-                writer,
-                &mut progress.called,
-                &mut progress.answered,
-                next,
-            ) {
+            match answer_counted(alloc, responder, state, writer, progress, next) {
                 Ok(()) => Ok(()),
                 Err(cause) => Err(cause),
             }
@@ -202,9 +185,9 @@ fn serve_reads<S, A: Respond<S>, R: Read, W: Write>(
 
 /// Reads a stream and answers its requests, each as soon as it is whole, until the stream ends.
 ///
-/// At most 27,852,800 bytes are read; nothing is tried twice. A fault tells how many requests were handed on as commands, whose
-/// effects stand, and how many answers were written whole. `Read` comes after all requests that were whole before it, and
-/// `Write` also where the writer takes no byte.
+/// Of a reader whose bytes are known at most 27,852,800 are read; nothing is tried twice. A fault tells how many requests were
+/// handed on as commands, whose effects stand, and how many answers were written whole. `Read` comes after all requests that
+/// were whole before it, and `Write` also where the writer takes no byte.
 pub fn serve<S, A: Respond<S>, R: Read, W: Write>(
     alloc: Global,
     responder: &A,

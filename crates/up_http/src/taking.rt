@@ -1,6 +1,6 @@
 //! The bytes of a head, taken from a piece.
 ghost use Rattle.std.specs.Prelude.{◌≡◌, ◌≤◌, ◌<◌, ◌+◌, ◌++◌, [], ◌∷◌, ◌||◌, not, IfOk, OnErr, vec_len, vec_capacity, false};
-ghost use Rattle.up_http.specs.Parts.{Begins, Takes, Reads, is_newline as newline};
+ghost use Rattle.up_http.specs.Parts.{Begins, TakesHead, ReadsByte, is_newline as newline};
 
 use std::alloc::AllocError;
 use up_heads::heads::{Front, front_of};
@@ -22,7 +22,7 @@ pub(crate) struct Taken {
 /// Takes bytes to a head, to its end or to the piece's.
 pub(crate) fn take_head(head: &mut Vec<u8>, begun: bool, piece: &[u8]) -> Result<Taken, AllocError>
     requires { Begins head.old.items begun }
-    ensures ok { IfOk result (λ taken. Takes head.old.items piece.now taken head.new.items) }
+    ensures ok { IfOk result (λ taken. TakesHead head.old.items piece.now taken head.new.items) }
     ensures err { OnErr result (head.new.items ≡ head.old.items) }
 {
     let room = MOST_HEAD - head.len();
@@ -59,7 +59,7 @@ fn take_byte(head: &mut Vec<u8>, begun: bool, byte: u8) -> (bool, Front)
     requires room { vec_len head.old < vec_capacity head.old }
     ensures items { head.new.items ≡ head.old.items ++ byte ∷ [] }
     ensures capacity { vec_capacity head.old ≤ vec_capacity head.new }
-    ensures stands { Reads head.new.items result.0 result.1 }
+    ensures stands { ReadsByte head.new.items result.0 result.1 }
 {
     head.push(byte).unwrap();
     let begun = has_begun(begun, byte);

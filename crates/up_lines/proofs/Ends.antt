@@ -2,21 +2,21 @@
 use Rattle.std.proofs.Common.{◌≡◌, ◌&&◌, Result, Ok, Err, OnOk, IfErr, IsErrAnd, ℕ, ◌-◌, ◌<◌, ◌≤◌, Bool, true, false, List, [], ◌∷◌, ◌++◌, length, take, drop, filter, refl, ap, sym, ◌∙◌, subst, arith, append-nil, length-append}
 use Rattle.std.specs.Prelude.{Option}
 use Rattle.std.specs.List.{list_all}
-use Rattle.std.specs.Io.KnownBytes.{Appends, Consumes, IsAtEnd}
+use Rattle.std.specs.Io.KnownBytes.{Consumes, IsAtEnd}
 use Rattle.std.proofs.KnownBytes.{Appends-nil}
 use Rattle.std.proofs.lemmas.Result.{err_from_is_err_and}
 use Rattle.std.proofs.Math.Seq.{take-append_seam}
 use Rattle.std.proofs.lemmas.List.Folds.{list_all-append}
 use Rattle.up_lines.specs.declared.progress.Progress.{Progress}
-use Rattle.up_lines.specs.declared.fault.Cause.{Cause}
-use Rattle.up_lines.specs.declared.fault.Cause.TheVariants.{Memory, Read, Write, TooLong}
+use Rattle.up_lines.specs.declared.fault.ScriptCause.{ScriptCause}
+use Rattle.up_lines.specs.declared.fault.ScriptCause.TheVariants.{Read}
 use Rattle.up_lines.specs.Lines.{newline, most_lines, most_line_bytes, most_bytes, lines_of, is_short, fits, has_bytes, asked}
-use Rattle.up_lines.specs.Runs.{Run, printed, Stopped, Finished, Tells, Ran}
+use Rattle.up_lines.specs.Runs.{Run, Stopped, Finished, Tells, Ran}
 use Rattle.up_lines.specs.Progress.{Sofar, Closes, Fails, Stops, Completes, IsFresh, told, is_inside}
 use Rattle.up_lines.proofs.Cuts.{lines-line, lines-last, lines-begun}
 use Rattle.up_lines.proofs.RunLaws.{is_short-le, asked-append, asked_among-none, fits-true}
 use Rattle.up_lines.proofs.Steps.{takes_end}
-use Rattle.up_lines.proofs.Stopping.{stops_end}
+use Rattle.up_lines.proofs.Stopping.{stopped, tells_broken, stops_end}
 
 not_full : (n : ℕ) → n ≤ most_lines → (n ≡ most_lines → ⊥) → n < most_lines
 not_full n few h = omega arith
@@ -101,22 +101,12 @@ module _ {S : Type 0} (gives : S → List ℕ → List ℕ → S → Type 0) (fi
 
   -- the reader failed
   pub stops_read : (came : List ℕ) (at : Progress) (now : S) (holds : Option (List ℕ)) → Sofar gives first empty came at now holds
-      → Tells Read came × Stopped gives Read first empty (asked (lines_of false came)) at.answered now holds
+      → Tells Read false came × Stopped gives Read first empty (asked (lines_of false came)) at.answered now holds
   stops_read came at now holds so =
       let all : lines_of false came ≡ so.whole = lines_now came at now holds so false ∙ ap (λ l. so.whole ++ l) (lines-begun at.line.items so.own_bytes) ∙ append-nil so.whole in (
-        within_limits came at now holds so,
-        record {
-          done = filter has_bytes so.whole;
-          others = [];
-          answers = so.answers;
-          last = now;
-          prefix = [];
-          split = ap asked all ∙ asked-all so.whole so.each_short (few_whole came at now holds so) ∙ sym (append-nil (filter has_bytes so.whole));
-          run = so.run;
-          next = (refl, refl, refl);
-          answered_is = so.answered_is;
-          wrote = subst (Appends empty holds) (sym (append-nil (printed so.answers))) so.wrote;
-        },
+        (refl, within_limits came at now holds so),
+        stopped gives Read first empty came at now holds so _ [] at.answered now holds []
+            (ap asked all ∙ asked-all so.whole so.each_short (few_whole came at now holds so) ∙ sym (append-nil (filter has_bytes so.whole))) (refl, refl, refl) refl (Appends-nil holds),
       )
 
 module _ {S : Type 0} (gives : S → List ℕ → List ℕ → S → Type 0) where
@@ -146,44 +136,37 @@ module _ {S : Type 0} (gives : S → List ℕ → List ℕ → S → Type 0) whe
   finishes_some old new before after held holds room some closes = λ first empty came so. completes_some gives first empty came old new before after held holds room some closes so
 
   -- the last line isn't answered whole
-  -- no line that isn't answered whole is one past a limit
-  tells_end : (cause : Cause) (old new : Progress) (before after : S) (held holds : Option (List ℕ)) (came : List ℕ) → Fails gives cause old before held new after holds → Tells cause came
-  tells_end Memory old new before after held holds came fails = tt
-  tells_end Write old new before after held holds came fails = tt
-  tells_end Read old new before after held holds came fails = absurd fails.unanswered
-  tells_end TooLong old new before after held holds came fails = absurd fails.unanswered
-
-  pub finish_stops : (cause : Cause) (old new : Progress) (before after : S) (held holds : Option (List ℕ)) → old.counted < most_lines → 0 < length old.line.items → Fails gives cause old before held new after holds
+  pub finish_stops : (cause : ScriptCause) (old new : Progress) (before after : S) (held holds : Option (List ℕ)) → old.counted < most_lines → 0 < length old.line.items → Fails gives cause old before held new after holds
       → Stops gives cause true [] old before held new after holds
   finish_stops cause old new before after held holds room some fails = λ first empty came so.
       let both = stops_end gives cause old new before after held holds [] room fails first empty came so in
       let same : lines_of false (came ++ newline ∷ []) ≡ lines_of true (came ++ []) = same_lines gives first empty came old before held so false some ∙ ap (lines_of true) (sym (append-nil came)) in (
-        tells_end cause old new before after held holds (came ++ []) fails,
+        tells_broken gives cause before after old.line.items held holds true (came ++ []) fails.unanswered,
         subst (λ l. Stopped gives cause first empty (asked l) new.answered after holds) same both.1,
       )
 
   -- a run that stopped before the input's end
-  pub ran_err : (cause : Cause) (first now : S) (had has held holds : Option (List ℕ)) (came : List ℕ) (answered : ℕ)
-      → Consumes had has came → length came ≤ most_bytes → Tells cause came × Stopped gives cause first held (asked (lines_of false came)) answered now holds
+  pub ran_err : (cause : ScriptCause) (first now : S) (had has held holds : Option (List ℕ)) (came : List ℕ) (answered : ℕ)
+      → Consumes had has came → length came ≤ most_bytes → Tells cause false came × Stopped gives cause first held (asked (lines_of false came)) answered now holds
       → Ran gives first now had has held holds (Err (record { cause = cause; lines = answered }))
   ran_err cause first now had has held holds came answered read bounded both =
       record { came = came; ended = false; read = read; bounded = bounded; at_end = λ h. absurd (cc); leaves = both }
 
-  pub ran_stop : (r : Result (Unit {0}) Cause) (cause : Cause) (first now : S) (had has held holds : Option (List ℕ)) (came : List ℕ) (answered : ℕ)
+  pub ran_stop : (r : Result (Unit {0}) ScriptCause) (cause : ScriptCause) (first now : S) (had has held holds : Option (List ℕ)) (came : List ℕ) (answered : ℕ)
       → IsErrAnd r (λ x. x ≡ cause) → Consumes had has came → length came ≤ most_bytes
-      → Tells cause came × Stopped gives cause first held (asked (lines_of false came)) answered now holds
+      → Tells cause false came × Stopped gives cause first held (asked (lines_of false came)) answered now holds
       → Ran gives first now had has held holds (told r answered)
   ran_stop r cause first now had has held holds came answered failed read bounded both =
       let (x, is, same) = err_from_is_err_and r failed in
       subst (λ s. Ran gives first now had has held holds (told s answered)) (sym (is ∙ ap Err same)) (ran_err cause first now had has held holds came answered read bounded both)
 
   -- a run to the input's end
-  pub ran_on : (r : Result (Unit {0}) Cause) (first now : S) (had has held holds : Option (List ℕ)) (came : List ℕ) (old : Progress) (before : S) (have : Option (List ℕ)) (new : Progress)
+  pub ran_on : (r : Result (Unit {0}) ScriptCause) (first now : S) (had has held holds : Option (List ℕ)) (came : List ℕ) (old : Progress) (before : S) (have : Option (List ℕ)) (new : Progress)
       → Consumes had has came → length came ≤ most_bytes → IsAtEnd has → Sofar gives first held came old before have
       → OnOk r (Completes gives old before have new now holds) → IfErr r (λ cause. Stops gives cause true [] old before have new now holds)
       → Ran gives first now had has held holds (told r new.answered)
   ran_on (Ok _) first now had has held holds came old before have new read bounded end so ok err =
       record { came = came; ended = true; read = read; bounded = bounded; at_end = λ _. end; leaves = (refl, ok first held came so) }
   ran_on (Err cause) first now had has held holds came old before have new read bounded end so ok err =
-      let P : List ℕ → Type 0 = λ l. Tells cause l × Stopped gives cause first held (asked (lines_of true l)) new.answered now holds in
+      let P : List ℕ → Type 0 = λ l. Tells cause true l × Stopped gives cause first held (asked (lines_of true l)) new.answered now holds in
       record { came = came; ended = true; read = read; bounded = bounded; at_end = λ _. end; leaves = subst P (append-nil came) (err first held came so) }

@@ -3,15 +3,15 @@ use Rattle.std.proofs.Common.{◌≡◌, ◌&&◌, inl, inr, ℕ, ◌+◌, ◌-�
 use Rattle.std.specs.Prelude.{Option}
 use Rattle.std.specs.List.{list_all}
 use Rattle.std.specs.Io.KnownBytes.{Appends}
-use Rattle.std.proofs.KnownBytes.{Appends-trans}
+use Rattle.std.proofs.KnownBytes.{Appends-nil, Appends-trans}
 use Rattle.std.proofs.lemmas.Grind.{common_steps}
 use Rattle.std.proofs.lemmas.List.Elements.{filter-append}
 use Rattle.std.proofs.lemmas.List.Folds.{list_all-append}
 use Rattle.up_lines.specs.declared.progress.Progress.{Progress}
 use Rattle.up_lines.specs.Lines.{newline, most_lines, most_line_bytes, lines_of, is_short, fits, has_bytes, asked}
-use Rattle.up_lines.specs.declared.fault.Cause.{Cause}
-use Rattle.up_lines.specs.declared.fault.Cause.TheVariants.{Memory, Read, Write, TooLong}
-use Rattle.up_lines.specs.Runs.{printed, Stopped, Tells}
+use Rattle.up_lines.specs.declared.fault.ScriptCause.{ScriptCause}
+use Rattle.up_lines.specs.declared.fault.ScriptCause.TheVariants.{Memory, Read, Write, TooLong}
+use Rattle.up_lines.specs.Runs.{Breaks, Stopped, Tells, Unanswered}
 use Rattle.up_lines.specs.Progress.{Sofar, Fails, Takes, Stops, is_inside}
 use Rattle.up_lines.proofs.Cuts.{lines-line, lines-begins, lines-prefix, lines-some}
 use Rattle.up_lines.proofs.RunLaws.{is_short-le, is_short-gt, filter-first, asked_among, asked-append, asked_none, fits-many, fits-long}
@@ -26,26 +26,33 @@ record Past (came : List ℕ) (byte : ℕ) (whole : List (List ℕ)) : Type 0 wh
   settled : (ended : Bool) (more : List ℕ) → asked (lines_of ended (came ++ byte ∷ more)) ≡ filter has_bytes whole
 
 module _ {S : Type 0} (gives : S → List ℕ → List ℕ → S → Type 0) where
+  -- the whole lines are answered, and this became of those behind them
+  pub stopped : (cause : ScriptCause) (first : S) (empty : Option (List ℕ)) (came : List ℕ) (at : Progress) (before : S) (held : Option (List ℕ)) (so : Sofar gives first empty came at before held)
+      → (lines others : List (List ℕ)) (answered : ℕ) (after : S) (holds : Option (List ℕ)) (prefix : List ℕ)
+      → lines ≡ filter has_bytes so.whole ++ others → Breaks gives cause before others after prefix → answered ≡ at.answered → Appends held holds prefix
+      → Stopped gives cause first empty lines answered after holds
+  stopped cause first empty came at before held so lines others answered after holds prefix split broke same wrote = record {
+    done = filter has_bytes so.whole;
+    others = others;
+    answers = so.answers;
+    last = before;
+    prefix = prefix;
+    split = split;
+    run = so.run;
+    after = broke;
+    answered_is = same ∙ so.answered_is;
+    wrote = Appends-trans _ _ _ _ _ so.wrote wrote;
+  }
+
   -- nothing is taken of a byte that passes a limit
   stops_past : (first : S) (empty : Option (List ℕ)) (came : List ℕ) (at : Progress) (byte : ℕ) (more : List ℕ) (now : S) (holds : Option (List ℕ)) (so : Sofar gives first empty came at now holds) → Past came byte so.whole
-      → Tells TooLong (came ++ byte ∷ more) × Stopped gives TooLong first empty (asked (lines_of false (came ++ byte ∷ more))) at.answered now holds
+      → Tells TooLong false (came ++ byte ∷ more) × Stopped gives TooLong first empty (asked (lines_of false (came ++ byte ∷ more))) at.answered now holds
   stops_past first empty came at byte more now holds so h = (
     λ others. let same : (came ++ byte ∷ more) ++ others ≡ came ++ byte ∷ (more ++ others) = append_assoc came (byte ∷ more) others in (
       ap (λ l. fits (lines_of true l)) same ∙ h.past (more ++ others),
       ap (λ l. asked (lines_of true l)) same ∙ h.settled true (more ++ others) ∙ sym (h.settled false more),
     ),
-    record {
-      done = filter has_bytes so.whole;
-      others = [];
-      answers = so.answers;
-      last = now;
-      prefix = [];
-      split = h.settled false more ∙ sym (append-nil (filter has_bytes so.whole));
-      run = so.run;
-      next = (refl, refl, refl);
-      answered_is = so.answered_is;
-      wrote = subst (Appends empty holds) (sym (append-nil (printed so.answers))) so.wrote;
-    },
+    stopped TooLong first empty came at now holds so _ [] at.answered now holds [] (h.settled false more ∙ sym (append-nil (filter has_bytes so.whole))) (refl, refl, refl) refl (Appends-nil holds),
   )
 
   -- nothing is taken past the last line
@@ -81,29 +88,20 @@ module _ {S : Type 0} (gives : S → List ℕ → List ℕ → S → Type 0) whe
             ∙ append-nil (filter has_bytes so.whole);
       })
 
+  -- what is answered of bytes behind the whole lines
+  abbrev behind : List (List ℕ) → List ℕ → List (List ℕ)
+  behind whole more = asked_among (most_lines - length whole) (lines_of false more)
+
   -- no memory for a byte
   pub stops_memory : (old new : Progress) (bytes : List ℕ) (now : S) (holds : Option (List ℕ)) → new.answered ≡ old.answered
       → Stops gives Memory false bytes old now holds new now holds
   stops_memory old new bytes now holds same = λ first empty came so. (
     tt,
-    record {
-      done = filter has_bytes so.whole;
-      others = asked_among (most_lines - length so.whole) (lines_of false (old.line.items ++ bytes));
-      answers = so.answers;
-      last = now;
-      prefix = [];
-      split = ap asked (so.cut false bytes) ∙ asked-append so.whole (lines_of false (old.line.items ++ bytes)) so.each_short (omega (arith, so.counted_is, so.few));
-      run = so.run;
-      next = (refl, inl refl);
-      answered_is = same ∙ so.answered_is;
-      wrote = subst (Appends empty holds) (sym (append-nil (printed so.answers))) so.wrote;
-    },
+    stopped Memory first empty came old now holds so _ (behind so.whole (old.line.items ++ bytes)) new.answered now holds []
+        (ap asked (so.cut false bytes) ∙ asked-append so.whole (lines_of false (old.line.items ++ bytes)) so.each_short (omega (arith, so.counted_is, so.few))) (refl, inl refl) same (Appends-nil holds),
   )
 
   -- the line that is begun is the next to be answered
-  abbrev behind : List (List ℕ) → List ℕ → List (List ℕ)
-  behind whole more = asked_among (most_lines - length whole) (lines_of false more)
-
   split_end : (whole : List (List ℕ)) (line more : List ℕ) → list_all is_short whole ≡ true → length whole < most_lines → length line ≤ most_line_bytes
       → list_all is_inside line ≡ true → has_bytes line ≡ true
       → asked (whole ++ lines_of false (line ++ newline ∷ more)) ≡ filter has_bytes whole ++ line ∷ behind (whole ++ line ∷ []) more
@@ -116,57 +114,48 @@ module _ {S : Type 0} (gives : S → List ℕ → List ℕ → S → Type 0) whe
       ∙ ap (λ l. l ++ behind (whole ++ line ∷ []) more) (filter-append has_bytes whole (line ∷ []) ∙ ap (λ l. filter has_bytes whole ++ l) (filter-first line [] some))
       ∙ append_assoc (filter has_bytes whole) (line ∷ []) (behind (whole ++ line ∷ []) more)
 
+  -- what becomes of a line that isn't answered whole, with others behind it
+  broken : (cause : ScriptCause) (old new : S) (line : List ℕ) (rest : List (List ℕ)) (held holds : Option (List ℕ)) → Unanswered gives cause old line new held holds
+      → (prefix : List ℕ) × Breaks gives cause old (line ∷ rest) new prefix × Appends held holds prefix
+  broken Memory old new line rest held holds (inl same, wrote) = ([], (refl, inl same), wrote)
+  broken Memory old new line rest held holds (inr (answer, gave), wrote) = ([], (refl, inr (line, answer, rest, refl, gave)), wrote)
+  broken Write old new line rest held holds (answer, gave, prefix, proper, wrote) = (prefix, (line, answer, rest, refl, gave, proper), wrote)
+  broken Read old new line rest held holds h = absurd h
+  broken TooLong old new line rest held holds h = absurd h
+
+  -- neither a failed read nor a limit leaves a line so
+  pub tells_broken : (cause : ScriptCause) (old new : S) (line : List ℕ) (held holds : Option (List ℕ)) (ended : Bool) (came : List ℕ) → Unanswered gives cause old line new held holds → Tells cause ended came
+  tells_broken Memory old new line held holds ended came h = tt
+  tells_broken Write old new line held holds ended came h = tt
+  tells_broken Read old new line held holds ended came h = absurd h
+  tells_broken TooLong old new line held holds ended came h = absurd h
+
   -- a line that isn't answered whole
-  pub stops_end : (cause : Cause) (old new : Progress) (before after : S) (held holds : Option (List ℕ)) (more : List ℕ) → old.counted < most_lines
+  pub stops_end : (cause : ScriptCause) (old new : Progress) (before after : S) (held holds : Option (List ℕ)) (more : List ℕ) → old.counted < most_lines
       → Fails gives cause old before held new after holds → Stops gives cause false (newline ∷ more) old before held new after holds
-  stops_end Memory old new before after held holds more room fails = λ first empty came so. (
-    tt,
-    record {
-      done = filter has_bytes so.whole;
-      others = old.line.items ∷ behind (so.whole ++ old.line.items ∷ []) more;
-      answers = so.answers;
-      last = before;
-      prefix = [];
-      split = ap asked (so.cut false (newline ∷ more)) ∙ split_end so.whole old.line.items more so.each_short (omega (arith, so.counted_is)) so.short so.own_bytes fails.some;
-      run = so.run;
-      next = (refl, elim fails.unanswered.0 [ inl same ↦ inl same | inr gave ↦ inr (old.line.items, gave.0, _, refl, gave.1) ]);
-      answered_is = fails.answered_is ∙ so.answered_is;
-      wrote = Appends-trans _ _ _ _ _ so.wrote fails.unanswered.1;
-    },
-  )
-  stops_end Write old new before after held holds more room fails = λ first empty came so. (
-    tt,
-    record {
-      done = filter has_bytes so.whole;
-      others = old.line.items ∷ behind (so.whole ++ old.line.items ∷ []) more;
-      answers = so.answers;
-      last = before;
-      prefix = fails.unanswered.2;
-      split = ap asked (so.cut false (newline ∷ more)) ∙ split_end so.whole old.line.items more so.each_short (omega (arith, so.counted_is)) so.short so.own_bytes fails.some;
-      run = so.run;
-      next = (old.line.items, fails.unanswered.0, _, refl, fails.unanswered.1, fails.unanswered.3);
-      answered_is = fails.answered_is ∙ so.answered_is;
-      wrote = Appends-trans _ _ _ _ _ so.wrote fails.unanswered.4;
-    },
-  )
-  stops_end Read old new before after held holds more room fails = absurd fails.unanswered
-  stops_end TooLong old new before after held holds more room fails = absurd fails.unanswered
+  stops_end cause old new before after held holds more room fails = λ first empty came so.
+      let line = old.line.items in
+      let (prefix, broke, wrote) = broken cause before after line (behind (so.whole ++ line ∷ []) more) held holds fails.unanswered in (
+        tells_broken cause before after line held holds false (came ++ newline ∷ more) fails.unanswered,
+        stopped cause first empty came old before held so _ (line ∷ behind (so.whole ++ line ∷ []) more) new.answered after holds prefix
+            (ap asked (so.cut false (newline ∷ more)) ∙ split_end so.whole line more so.each_short (omega (arith, so.counted_is)) so.short so.own_bytes fails.some) broke fails.answered_is wrote,
+      )
 
   -- the same, where the byte is known by an equation
-  pub stops_newline : (byte : ℕ) → byte ≡ newline → (cause : Cause) (old new : Progress) (before after : S) (held holds : Option (List ℕ)) (more : List ℕ) → old.counted < most_lines
+  pub stops_newline : (byte : ℕ) → byte ≡ newline → (cause : ScriptCause) (old new : Progress) (before after : S) (held holds : Option (List ℕ)) (more : List ℕ) → old.counted < most_lines
       → Fails gives cause old before held new after holds → Stops gives cause false (byte ∷ more) old before held new after holds
   stops_newline byte e cause old new before after held holds more room fails =
       subst (λ b. Stops gives cause false (b ∷ more) old before held new after holds) (sym e) (stops_end cause old new before after held holds more room fails)
 
   -- bytes taken, and then not all of the others
-  pub stops_after : (xs ys : List ℕ) (cause : Cause) (ended : Bool) (old mid new : Progress) (before between after : S) (held have holds : Option (List ℕ)) → Takes gives xs old before held mid between have → Stops gives cause ended ys mid between have new after holds
+  pub stops_after : (xs ys : List ℕ) (cause : ScriptCause) (ended : Bool) (old mid new : Progress) (before between after : S) (held have holds : Option (List ℕ)) → Takes gives xs old before held mid between have → Stops gives cause ended ys mid between have new after holds
       → Stops gives cause ended (xs ++ ys) old before held new after holds
   stops_after xs ys cause ended old mid new before between after held have holds p q = λ first empty came so.
-      let P : List ℕ → Type 0 = λ l. Tells cause l × Stopped gives cause first empty (asked (lines_of ended l)) new.answered after holds in
+      let P : List ℕ → Type 0 = λ l. Tells cause ended l × Stopped gives cause first empty (asked (lines_of ended l)) new.answered after holds in
       subst P (append_assoc came xs ys) (q first empty (came ++ xs) (p first empty came so))
 
   -- a piece that isn't all taken
-  pub stops_piece : (piece : List ℕ) (i : ℕ) (cause : Cause) (old mid new : Progress) (before between after : S) (held have holds : Option (List ℕ)) → i < length piece
+  pub stops_piece : (piece : List ℕ) (i : ℕ) (cause : ScriptCause) (old mid new : Progress) (before between after : S) (held have holds : Option (List ℕ)) → i < length piece
       → Takes gives (take i piece) old before held mid between have → ((more : List ℕ) → Stops gives cause false (get_or piece i 0 ∷ more) mid between have new after holds)
       → Stops gives cause false piece old before held new after holds
   stops_piece piece i cause old mid new before between after held have holds below p q =

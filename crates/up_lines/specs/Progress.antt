@@ -2,8 +2,8 @@
 use Rattle.std.specs.Prelude.{◌≡◌, ℕ, ◌+◌, ◌*◌, ◌≤◌, ◌==◌, Bool, true, not, Result, Ok, Err, Option, List, [], ◌∷◌, ◌++◌, length, filter}
 use Rattle.std.specs.List.{list_all}
 use Rattle.std.specs.Io.KnownBytes.{Appends}
-use Rattle.up_lines.specs.declared.fault.Cause.{Cause}
-use Rattle.up_lines.specs.declared.fault.Fault.{Fault}
+use Rattle.up_lines.specs.declared.fault.ScriptCause.{ScriptCause}
+use Rattle.up_lines.specs.declared.fault.ScriptFault.{ScriptFault}
 use Rattle.up_lines.specs.declared.progress.Progress.{Progress}
 use Rattle.up_lines.specs.Lines.{newline, most_lines, most_line_bytes, lines_of, is_short, has_bytes, asked}
 use Rattle.up_lines.specs.Runs.{Run, printed, Unanswered, Stopped, Finished, Tells}
@@ -33,9 +33,9 @@ abbrev pub Takes : {S : Type 0} → (S → List ℕ → List ℕ → S → Type 
 Takes {S} gives bytes old before held new after holds = (first : S) (empty : Option (List ℕ)) (came : List ℕ) → Sofar gives first empty came old before held → Sofar gives first empty (came ++ bytes) new after holds
 
 -- bytes are not all taken: the run stops among them
-abbrev pub Stops : {S : Type 0} → (S → List ℕ → List ℕ → S → Type 0) → Cause → Bool → List ℕ → Progress → S → Option (List ℕ) → Progress → S → Option (List ℕ) → Type 0
+abbrev pub Stops : {S : Type 0} → (S → List ℕ → List ℕ → S → Type 0) → ScriptCause → Bool → List ℕ → Progress → S → Option (List ℕ) → Progress → S → Option (List ℕ) → Type 0
 Stops {S} gives cause ended bytes old before held new after holds = (first : S) (empty : Option (List ℕ)) (came : List ℕ) → Sofar gives first empty came old before held
-    → Tells cause (came ++ bytes) × Stopped gives cause first empty (asked (lines_of ended (came ++ bytes))) new.answered after holds
+    → Tells cause ended (came ++ bytes) × Stopped gives cause first empty (asked (lines_of ended (came ++ bytes))) new.answered after holds
 
 -- a line is ended: it has its answer if it has any byte, and the next one is empty
 pub record Closes {S : Type 0} (gives : S → List ℕ → List ℕ → S → Type 0) (old : Progress) (before : S) (held : Option (List ℕ)) (new : Progress) (after : S) (holds : Option (List ℕ)) : Type 0 where
@@ -47,7 +47,7 @@ pub record Closes {S : Type 0} (gives : S → List ℕ → List ℕ → S → Ty
   pub wrote : Appends held holds (printed answers)
 
 -- a line that has some byte isn't answered whole
-pub record Fails {S : Type 0} (gives : S → List ℕ → List ℕ → S → Type 0) (cause : Cause) (old : Progress) (before : S) (held : Option (List ℕ)) (new : Progress) (after : S) (holds : Option (List ℕ)) : Type 0 where
+pub record Fails {S : Type 0} (gives : S → List ℕ → List ℕ → S → Type 0) (cause : ScriptCause) (old : Progress) (before : S) (held : Option (List ℕ)) (new : Progress) (after : S) (holds : Option (List ℕ)) : Type 0 where
   pub some : has_bytes old.line.items ≡ true
   pub answered_is : new.answered ≡ old.answered
   pub unanswered : Unanswered gives cause before old.line.items after held holds
@@ -64,6 +64,6 @@ pub record IsFresh (at : Progress) : Type 0 where
   pub none_answered : at.answered ≡ 0
 
 -- the result of a run, told with how many lines were answered
-abbrev pub told : Result (Unit {0}) Cause → ℕ → Result ℕ Fault
+abbrev pub told : Result (Unit {0}) ScriptCause → ℕ → Result ℕ ScriptFault
 told (Ok _) answered = Ok answered
 told (Err cause) answered = Err (record { cause = cause; lines = answered })

@@ -3,28 +3,28 @@ ghost use Rattle.std.specs.Prelude.{ℕ, List, [], ◌∷◌, ◌++◌, IfErr, O
 ghost use Rattle.std.specs.Io.KnownBytes.{Appends};
 ghost use Rattle.up_lines.specs.Runs.{print, Unanswered};
 
-use crate::answer::Answer;
-use crate::fault::Cause;
+use crate::fault::ScriptCause;
+use crate::interpret::Interpret;
 use crate::written::write_whole;
 use std::alloc::Global;
 use std::io::Write;
 
 /// Answers a line, and writes the answer and a newline.
-pub(crate) fn answer_line<S, A: Answer<S>, W: Write>(
+pub(crate) fn answer_line<S, I: Interpret<S>, W: Write>(
     alloc: Global,
-    answerer: &A,
+    interpreter: &I,
     state: &mut S,
     writer: &mut W,
     line: &[u8],
-) -> Result<(), Cause>
-    ensures ok { OnOk result ((text : List ℕ) × A.gives state.old line.now text state.new
+) -> Result<(), ScriptCause>
+    ensures ok { OnOk result ((text : List ℕ) × I.gives state.old line.now text state.new
         × Appends (W.contents writer.old) (W.contents writer.new) (print text)) }
-    ensures err { IfErr result (λ cause. Unanswered A.gives cause state.old line.now state.new (W.contents writer.old) (W.contents writer.new)) }
+    ensures err { IfErr result (λ cause. Unanswered I.gives cause state.old line.now state.new (W.contents writer.old) (W.contents writer.new)) }
 {
-    let mut text = answerer.answer(alloc, state, line)?;
+    let mut text = interpreter.interpret(alloc, state, line)?;
     text.push(b'\n')?;
     match write_whole(writer, text.as_slice()) {
         Ok(()) => Ok(()),
-        Err(_) => Err(Cause::Write),
+        Err(_) => Err(ScriptCause::Write),
     }
 }

@@ -3,32 +3,32 @@ ghost use Rattle.std.specs.Prelude.{◌≡◌, ◌<◌, ◌+◌, [], ℕ, List, 
 ghost use Rattle.up_lines.specs.Lines.{most_lines};
 ghost use Rattle.up_lines.specs.Progress.{Closes, Fails};
 
-use crate::answer::Answer;
 use crate::answered::answer_line;
-use crate::fault::Cause;
+use crate::fault::ScriptCause;
+use crate::interpret::Interpret;
 use crate::progress::Progress;
 use std::alloc::Global;
 use std::io::Write;
 
 /// Counts the line that is begun, and answers it if it has any byte.
-pub(crate) fn end_line<S, A: Answer<S>, W: Write>(
+pub(crate) fn end_line<S, I: Interpret<S>, W: Write>(
     alloc: Global,
-    answerer: &A,
+    interpreter: &I,
     state: &mut S,
     writer: &mut W,
     progress: &mut Progress,
-) -> Result<(), Cause>
+) -> Result<(), ScriptCause>
     requires { progress.old.counted < most_lines }
-    ensures ok { OnOk result (Closes A.gives progress.old state.old (W.contents writer.old)
+    ensures ok { OnOk result (Closes I.gives progress.old state.old (W.contents writer.old)
         progress.new state.new (W.contents writer.new)) }
-    ensures err { IfErr result (λ cause. Fails A.gives cause progress.old state.old (W.contents writer.old)
+    ensures err { IfErr result (λ cause. Fails I.gives cause progress.old state.old (W.contents writer.old)
         progress.new state.new (W.contents writer.new)) }
 {
     if progress.line.is_empty() {
         progress.counted += 1;
         return Ok(());
     }
-    answer_line(alloc, answerer, state, writer, progress.line.as_slice())?;
+    answer_line(alloc, interpreter, state, writer, progress.line.as_slice())?;
     progress.line.clear();
     progress.counted += 1;
     progress.answered += 1;

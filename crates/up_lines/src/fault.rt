@@ -3,7 +3,7 @@ use std::alloc::{AllocError, AllocFailed};
 
 /// What ended a run.
 #[derive(Clone, Copy, Debug, PartialEq, Eq, Drop)]
-pub enum Cause {
+pub enum ScriptCause {
     /// Memory was refused.
     Memory,
     /// The reader failed.
@@ -16,31 +16,31 @@ pub enum Cause {
 
 /// What ended a run, and how many answers were written whole before it.
 #[derive(Clone, Copy, Debug, PartialEq, Eq, Drop)]
-pub struct Fault {
+pub struct ScriptFault {
     /// What ended the run.
-    pub cause: Cause,
+    pub cause: ScriptCause,
     /// How many answers were written whole.
     pub lines: u32,
 }
 
-impl From<AllocError> for Cause {
+impl From<AllocError> for ScriptCause {
     ghost use Rattle.std.specs.Prelude.{◌≡◌};
-    ghost use Rattle.up_lines.specs.declared.fault.Cause.TheVariants.{Memory};
+    ghost use Rattle.up_lines.specs.declared.fault.ScriptCause.TheVariants.{Memory};
 
     ghost from_gives = { λ _ e. e ≡ Memory };
 
     fn from(_: AllocError) -> Self {
-        Cause::Memory
+        ScriptCause::Memory
     }
 }
 
-impl<T: Drop> From<AllocFailed<T>> for Cause {
+impl<T: Drop> From<AllocFailed<T>> for ScriptCause {
     ghost use Rattle.std.specs.Prelude.{◌≡◌};
-    ghost use Rattle.up_lines.specs.declared.fault.Cause.TheVariants.{Memory};
+    ghost use Rattle.up_lines.specs.declared.fault.ScriptCause.TheVariants.{Memory};
 
     ghost from_gives = { λ _ e. e ≡ Memory };
 
     fn from(_: AllocFailed<T>) -> Self {
-        Cause::Memory
+        ScriptCause::Memory
     }
 }

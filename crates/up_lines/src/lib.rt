@@ -1,10 +1,10 @@
 //! Lines of bytes: cut from a reader, answered one after another, and the answers written to a writer.
 #![tactic(auto)]
 
-pub mod answer;
 mod answered;
 mod ending;
 pub mod fault;
+pub mod interpret;
 pub mod limits;
 mod progress;
 mod reading;

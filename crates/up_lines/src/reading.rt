@@ -5,9 +5,9 @@ ghost use Rattle.up_lines.specs.Lines.{lines_of, fits, asked};
 ghost use Rattle.up_lines.specs.Runs.{Ran, Finished, AnswersFirst};
 ghost use Rattle.up_lines.specs.Progress.{Takes, Stops, Completes, IsFresh, told};
 
-use crate::answer::Answer;
 use crate::ending::end_line;
-use crate::fault::{Cause, Fault};
+use crate::fault::{ScriptCause, ScriptFault};
+use crate::interpret::Interpret;
 use crate::limits::{MOST_BYTES, PIECE_BYTES};
 use crate::progress::Progress;
 use crate::taking::take_byte;
@@ -16,26 +16,27 @@ use std::io;
 use std::io::{Read, Write};
 
 /// Takes the bytes of a piece.
-fn take_piece<S, A: Answer<S>, W: Write>(
+fn take_piece<S, I: Interpret<S>, W: Write>(
     alloc: Global,
-    answerer: &A,
+    interpreter: &I,
     state: &mut S,
     writer: &mut W,
     progress: &mut Progress,
     piece: &[u8],
-) -> Result<(), Cause>
-    ensures ok { OnOk result (Takes A.gives piece.now progress.old state.old (W.contents writer.old)
+) -> Result<(), ScriptCause>
+    ensures ok { OnOk result (Takes I.gives piece.now progress.old state.old (W.contents writer.old)
         progress.new state.new (W.contents writer.new)) }
-    ensures err { IfErr result (λ cause. Stops A.gives cause false piece.now
+    ensures err { IfErr result (λ cause. Stops I.gives cause false piece.now
         progress.old state.old (W.contents writer.old) progress.new state.new (W.contents writer.new)) }
 {
     for byte in piece {
-        take_byte(alloc, answerer, state, writer, progress, *byte)?;
+        take_byte(alloc, interpreter, state, writer, progress, *byte)?;
     }
     Ok(())
 }
 
-/// Reads a piece into the buffer, at most so many bytes.
+/// Reads a piece of at most so many bytes to the buffer's front, and tells how many they are: none only at the reader's end,
+/// or where there is room for none. A fault takes nothing from the reader.
 pub fn read_piece<R: Read>(reader: &mut R, buffer: &mut [u8], most: u64) -> io::Result<usize>
     ensures count { IfOk result (λ n. (n ≤ length buffer.new) × (n ≤ most)) }
     ensures bytes { IfOk result (λ n. Consumes (R.remaining reader.old) (R.remaining reader.new) (take n buffer.new)) }
@@ -51,76 +52,77 @@ pub fn read_piece<R: Read>(reader: &mut R, buffer: &mut [u8], most: u64) -> io::
 }
 
 /// Ends the line that the input's end ends, if one is begun.
-fn finish<S, A: Answer<S>, W: Write>(
+fn finish<S, I: Interpret<S>, W: Write>(
     alloc: Global,
-    answerer: &A,
+    interpreter: &I,
     state: &mut S,
     writer: &mut W,
     progress: &mut Progress,
-) -> Result<(), Cause>
-    ensures ok { OnOk result (Completes A.gives progress.old state.old (W.contents writer.old)
+) -> Result<(), ScriptCause>
+    ensures ok { OnOk result (Completes I.gives progress.old state.old (W.contents writer.old)
         progress.new state.new (W.contents writer.new)) }
-    ensures err { IfErr result (λ cause. Stops A.gives cause true [] progress.old state.old (W.contents writer.old)
+    ensures err { IfErr result (λ cause. Stops I.gives cause true [] progress.old state.old (W.contents writer.old)
         progress.new state.new (W.contents writer.new)) }
 {
     if progress.line.is_empty() {
         return Ok(());
     }
-    end_line(alloc, answerer, state, writer, progress)
+    end_line(alloc, interpreter, state, writer, progress)
 }
 
 /// Reads and takes the bytes, to the input's end.
-fn read_lines<S, A: Answer<S>, R: Read, W: Write>(
+fn read_lines<S, I: Interpret<S>, R: Read, W: Write>(
     alloc: Global,
-    answerer: &A,
+    interpreter: &I,
     state: &mut S,
     reader: &mut R,
     writer: &mut W,
     progress: &mut Progress,
-) -> Result<(), Cause>
+) -> Result<(), ScriptCause>
     requires { IsFresh progress.old }
-    ensures { Ran A.gives state.old state.new (R.remaining reader.old) (R.remaining reader.new)
+    ensures { Ran I.gives state.old state.new (R.remaining reader.old) (R.remaining reader.new)
         (W.contents writer.old) (W.contents writer.new) (told result progress.new.answered) }
 {
     let mut buffer = vec![in alloc; 0; PIECE_BYTES]?;
     let mut most = MOST_BYTES;
     while most > 0 {
         match read_piece(reader, &mut buffer, most) {
-            Ok(0) => return finish(alloc, answerer, state, writer, progress),
+            Ok(0) => return finish(alloc, interpreter, state, writer, progress),
             Ok(n) => {
-                take_piece(alloc, answerer, state, writer, progress, &buffer[..n])?;
+                take_piece(alloc, interpreter, state, writer, progress, &buffer[..n])?;
                 most -= n as u64;
             }
-            Err(_) => return Err(Cause::Read),
+            Err(_) => return Err(ScriptCause::Read),
         }
     }
-    Err(Cause::TooLong)
+    Err(ScriptCause::TooLong)
 }
 
 /// Answers each line of what the reader has, in order, as soon as it is whole, and writes each answer and a newline.
 ///
 /// A line ends with a newline (byte 10), or with the input where any byte stands behind the last newline.
-/// An empty line is counted and not answered. The number is that of the lines answered. At most 100,000 lines are
-/// read, of at most 2,097,152 bytes each without the newline, and one byte more; nothing is tried twice.
+/// An empty line is counted and not answered. The number is that of the lines answered. There are at most 100,000 lines, of at
+/// most 2,097,152 bytes each without the newline; past that comes `TooLong`. Of a reader whose bytes are known at most
+/// 209,715,300,001 are read: so many lines of so many bytes, their newlines, and one byte more. Nothing is tried twice.
 /// A fault tells how many answers were written whole; lines that were answered before it stay answered.
-pub fn run<S, A: Answer<S>, R: Read, W: Write>(
+pub fn run<S, I: Interpret<S>, R: Read, W: Write>(
     alloc: Global,
-    answerer: &A,
+    interpreter: &I,
     state: &mut S,
     reader: &mut R,
     writer: &mut W,
-) -> Result<u32, Fault>
+) -> Result<u32, ScriptFault>
     // For any reader and writer: the bytes that came, what was answered of them, and what was written.
-    ensures ran { Ran A.gives state.old state.new (R.remaining reader.old) (R.remaining reader.new)
+    ensures ran { Ran I.gives state.old state.new (R.remaining reader.old) (R.remaining reader.new)
         (W.contents writer.old) (W.contents writer.new) result }
 
     // Where it is known what the reader has, by its lines.
     ensures whole { IfOk result (λ answered. IfSome (R.remaining reader.old) (λ input.
-        Finished A.gives state.old (W.contents writer.old) input answered state.new (W.contents writer.new))) }
-    ensures too_long { IfErr result (λ fault. fault.cause ≡ Cause.TooLong → IfSome (R.remaining reader.old) (λ input.
+        Finished I.gives state.old (W.contents writer.old) input answered state.new (W.contents writer.new))) }
+    ensures too_long { IfErr result (λ fault. fault.cause ≡ ScriptCause.TooLong → IfSome (R.remaining reader.old) (λ input.
         fits (lines_of true input) ≡ false)) }
     ensures prefix { IfErr result (λ fault. IfSome (R.remaining reader.old) (λ input.
-        AnswersFirst A.gives state.old (W.contents writer.old) (asked (lines_of true input)) fault.lines
+        AnswersFirst I.gives state.old (W.contents writer.old) (asked (lines_of true input)) fault.lines
         state.new (W.contents writer.new))) }
 {
     let mut progress = Progress {
@@ -128,9 +130,9 @@ pub fn run<S, A: Answer<S>, R: Read, W: Write>(
         counted: 0,
         answered: 0,
     };
-    match read_lines(alloc, answerer, state, reader, writer, &mut progress) {
+    match read_lines(alloc, interpreter, state, reader, writer, &mut progress) {
         Ok(()) => Ok(progress.answered),
-        Err(cause) => Err(Fault {
+        Err(cause) => Err(ScriptFault {
             cause,
             lines: progress.answered,
         }),

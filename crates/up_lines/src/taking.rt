@@ -2,39 +2,39 @@
 ghost use Rattle.std.specs.Prelude.{◌∷◌, [], ℕ, List, IfErr, OnOk, false};
 ghost use Rattle.up_lines.specs.Progress.{Takes, Stops};
 
-use crate::answer::Answer;
 use crate::ending::end_line;
-use crate::fault::Cause;
+use crate::fault::ScriptCause;
+use crate::interpret::Interpret;
 use crate::limits::{MOST_LINE_BYTES, MOST_LINES};
 use crate::progress::Progress;
 use std::alloc::Global;
 use std::io::Write;
 
 /// Takes the next byte.
-pub(crate) fn take_byte<S, A: Answer<S>, W: Write>(
+pub(crate) fn take_byte<S, I: Interpret<S>, W: Write>(
     alloc: Global,
-    answerer: &A,
+    interpreter: &I,
     state: &mut S,
     writer: &mut W,
     progress: &mut Progress,
     byte: u8,
-) -> Result<(), Cause>
-    ensures ok { OnOk result (Takes A.gives (byte ∷ []) progress.old state.old (W.contents writer.old)
+) -> Result<(), ScriptCause>
+    ensures ok { OnOk result (Takes I.gives (byte ∷ []) progress.old state.old (W.contents writer.old)
         progress.new state.new (W.contents writer.new)) }
-    ensures err { IfErr result (λ cause. (more : List ℕ) → Stops A.gives cause false (byte ∷ more)
+    ensures err { IfErr result (λ cause. (more : List ℕ) → Stops I.gives cause false (byte ∷ more)
         progress.old state.old (W.contents writer.old) progress.new state.new (W.contents writer.new)) }
 {
     if progress.counted == MOST_LINES {
-        return Err(Cause::TooLong);
+        return Err(ScriptCause::TooLong);
     }
     if byte == b'\n' {
-        return end_line(alloc, answerer, state, writer, progress);
+        return end_line(alloc, interpreter, state, writer, progress);
     }
     if progress.line.len() == MOST_LINE_BYTES {
-        return Err(Cause::TooLong);
+        return Err(ScriptCause::TooLong);
     }
     match progress.line.push(byte) {
         Ok(()) => Ok(()),
-        Err(_) => Err(Cause::Memory),
+        Err(_) => Err(ScriptCause::Memory),
     }
 }

@@ -3,20 +3,25 @@ use std::alloc::{AllocError, Global};
 use std::io;
 use std::io::{Read, Write};
 use std::test::Fail;
-use up_lines::answer::Answer;
-use up_lines::fault::{Cause, Fault};
+use up_lines::fault::{ScriptCause as Cause, ScriptFault};
+use up_lines::interpret::Interpret;
 use up_lines::limits::MOST_LINE_BYTES;
 use up_lines::run;
 
 /// Answers each line by itself in brackets, and counts the lines.
 struct Bracket;
 
-impl Answer<u32> for Bracket {
+impl Interpret<u32> for Bracket {
     ghost use Rattle.std.specs.Prelude.{◌≡◌, ◌∷◌, ◌++◌, []};
 
     ghost gives = { λ _ line text _. text ≡ (91 ∷ []) ++ line ++ (93 ∷ []) };
 
-    fn answer(&self, alloc: Global, state: &mut u32, line: &[u8]) -> Result<Vec<u8>, AllocError> {
+    fn interpret(
+        &self,
+        alloc: Global,
+        state: &mut u32,
+        line: &[u8],
+    ) -> Result<Vec<u8>, AllocError> {
         let mut text = vec![in alloc; b'[']?;
         text.extend_from_slice(line)?;
         text.push(b']')?;
@@ -77,8 +82,8 @@ impl Write for Shaky {
     }
 }
 
-fn fault(cause: Cause, lines: u32) -> Result<u32, Fault> {
-    Err(Fault { cause, lines })
+fn fault(cause: Cause, lines: u32) -> Result<u32, ScriptFault> {
+    Err(ScriptFault { cause, lines })
 }
 
 #[test]
@@ -109,7 +114,7 @@ fn shaky_run(
     alloc: Global,
     reads: (usize, u32),
     writes: (usize, u32, u32),
-) -> (Result<u32, Fault>, Vec<u8>, u32) {
+) -> (Result<u32, ScriptFault>, Vec<u8>, u32) {
     let mut state = 0;
     let mut reader = Slow {
         bytes: b"a\n\nbc\nd",
@@ -133,7 +138,7 @@ fn ends_at_one_failure(rt: HostRuntime) {
     let table: [(
         (usize, u32),
         (usize, u32, u32),
-        Result<u32, Fault>,
+        Result<u32, ScriptFault>,
         &[u8],
         u32,
     ); 12] = [
@@ -158,6 +163,29 @@ fn ends_at_one_failure(rt: HostRuntime) {
         assert_eq!(rt; result, wanted);
         assert_eq!(rt; written.as_slice(), output);
         assert_eq!(rt; state, answered);
+    }
+}
+
+#[test]
+fn reads_no_more_behind_the_end(rt: HostRuntime) {
+    let table: [(&[u8], u32, u32); 4] = [
+        (b"", 1, 0),
+        (b"a\n", 3, 1),
+        (b"a\n\n", 4, 1),
+        (b"a\nb", 4, 2),
+    ];
+    for (input, reads, answered) in table {
+        let mut state = 0;
+        let mut reader = Slow {
+            bytes: input,
+            step: 1,
+            calls: 0,
+            fails_at: 0,
+        };
+        let mut written = Vec::new(rt.alloc());
+        let result = run(rt.alloc(), &Bracket, &mut state, &mut reader, &mut written);
+        assert_eq!(rt; result, Ok(answered));
+        assert_eq!(rt; reader.calls, reads);
     }
 }
 

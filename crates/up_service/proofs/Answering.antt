@@ -23,8 +23,8 @@ use Rattle.up_heads.specs.Responses.{check_response_of, refusal_response_of}
 use Rattle.up_heads.specs.declared.check.Check.{Check}
 use Rattle.up_http.specs.declared.asked.What.{What}
 use Rattle.up_http.specs.declared.asked.What.TheVariants.{Fixed}
-use Rattle.up_service.specs.Answers.{served_as, IsLost, IsAnswerOrLost, AnswersAs}
-use Rattle.up_service.specs.LineAnswers.{line_answer, answer_to, carried_out, served, viewed, shown_in, shown_text, Sees, AnswersLine}
+use Rattle.up_service.specs.Answers.{answered_as, IsLost, IsAnswerOrLost, AnswersAs}
+use Rattle.up_service.specs.LineAnswers.{line_answer, answer_to, carried_out, command_answer, viewed, shown_in, shown_text, Sees, AnswersLine}
 use Rattle.up_service.specs.Responses.{answer_response, AnswersCall, IsResponseTo}
 
 -- ---- what says that memory or the database refused
@@ -86,7 +86,7 @@ by_loss tell tell_answer same false a old new o t is h e = inl (e ∙ ap tell_an
 -- what is told of what the desk answered a command
 called : (tell : Refusal → List ℕ) (tell_answer : Answer → List ℕ) → ((r : Refusal) → tell_answer (Refused r) ≡ tell r) → (k : Rules) (at : ℕ) (c : Command) (a : Answer) (t : List ℕ) (old new : Connected)
     → (HasCleanDisk new → HasCleanDisk old) → ServesCall k at c a old new
-    → t ≡ tell_answer a → AnswersAs tell (λ s. served_as tell_answer k s at c) k t old new
+    → t ≡ tell_answer a → AnswersAs tell (λ s. answered_as tell_answer k s at c) k t old new
 called tell tell_answer same k at c a t old new clean answered is = record {
   clean = clean;
   answered = λ now s sound was. let it = answered now s sound was in (it.0, by_loss tell tell_answer same (is_lost a) a s it.0 (serve k s at c) t refl it.1 is, it.3, it.4);
@@ -94,7 +94,7 @@ called tell tell_answer same k at c a t old new clean answered is = record {
 
 -- as a line
 pub printed : (k : Rules) (at : ℕ) (c : Command) (a : Answer) (t : List ℕ) (old new : Connected) → (HasCleanDisk new → HasCleanDisk old) → ServesCall k at c a old new
-    → t ≡ answer_text a → AnswersLine (λ s. served k s at c) k t old new
+    → t ≡ answer_text a → AnswersLine (λ s. command_answer k s at c) k t old new
 unfolding answer_text
 printed k at c a t old new clean answered is = called refused_text answer_text (λ r. refl) k at c a t old new clean answered is
 

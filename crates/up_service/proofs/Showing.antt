@@ -1,13 +1,13 @@
 -- A view, step by step.
 use Rattle.std.proofs.Common.{◌≡◌, ℕ, List, ◌++◌, Option, Some, None, Result, Ok, Err, refl, sym, subst, ap, ◌∙◌, arith, take, length, get_or, ◌<◌, ◌+◌, [], ◌∷◌}
 use Rattle.std.specs.Prelude.{⊤, IfOk, flat_map, MatchBool}
-use Rattle.std.proofs.lemmas.List.{take_more}
+use Rattle.std.proofs.lemmas.List.{flat_map_more, take_more}
 use Rattle.std.proofs.lemmas.Result.{IfOk-weaker}
 use Rattle.sqlite.specs.State.{State as Connected, HasCleanDisk}
 use Rattle.up_canon.specs.Names.{Name}
 use Rattle.up_canon.specs.Steps.{and_then, ◌>>=◌, or_error}
 use Rattle.up_canon.specs.declared.refusal.Refusal.{Refusal}
-use Rattle.up_canon.specs.declared.refusal.Refusal.TheVariants.{Memory, UnknownVehicle}
+use Rattle.up_canon.specs.declared.refusal.Refusal.TheVariants.{UnknownVehicle}
 use Rattle.up_plan.specs.declared.assigned.Plan.{Plan}
 use Rattle.up_machine.specs.Reads.{ecus_of, version_of, installed, assigned_to}
 use Rattle.up_machine.specs.State.{State}
@@ -101,24 +101,11 @@ as_shown bytes out text is = sym (ap (λ t. Ok t) is)
 
 -- ---- the ECUs
 
-joined : {B : Type 0} (ys bs cs : List B) → (ys ++ bs) ++ cs ≡ ys ++ (bs ++ cs)
-joined [] bs cs = refl
-joined (a ∷ ys) bs cs = ap (λ zs. a ∷ zs) (joined ys bs cs)
-
-flat : {A B : Type 0} (f : A → List B) (xs : List A) (x : A) → flat_map f (xs ++ x ∷ []) ≡ flat_map f xs ++ f x
-flat f [] x = ends (f x)
-  where
-    ends : {B : Type 0} (ys : List B) → ys ++ [] ≡ ys
-    ends [] = refl
-    ends (y ∷ ys) = ap (λ zs. y ∷ zs) (ends ys)
-flat f (y ∷ xs) x = ap (λ ys. f y ++ ys) (flat f xs x) ∙ sym (joined (f y) (flat_map f xs) (f x))
-
 -- one more ECU's text behind those so far
 pub ecu_more : (s : State) (plan : Option Plan) (ecus : List Name) (i : ℕ) (ecu : Name) (start held more : List ℕ) → i < length ecus → ecu ≡ get_or ecus i ecu
     → held ≡ start ++ ecus_text s plan (take i ecus) → more ≡ held ++ ecu_text plan ecu (installed s ecu) → more ≡ start ++ ecus_text s plan (take (i + 1) ecus)
 ecu_more s plan ecus i ecu start held more within is so_far pushed =
-    pushed ∙ ap (λ t. t ++ text ecu) so_far ∙ joined start (flat_map text (take i ecus)) (text ecu)
-    ∙ ap (λ t. start ++ t) (sym (flat text (take i ecus) ecu) ∙ ap (flat_map text) (sym taken))
+    pushed ∙ ap (λ t. t ++ text ecu) so_far ∙ flat_map_more text start (take i ecus) ecu ∙ ap (λ l. start ++ flat_map text l) (sym taken)
   where
     text : Name → List ℕ
     text e = ecu_text plan e (installed s e)

@@ -18,8 +18,8 @@ pub record Answered : Type 0 where
   pub next : State
 
 -- what the desk answers a command, as it is told
-abbrev pub served_as : (Answer → List ℕ) → Rules → State → ℕ → Command → Answered
-served_as tell k s at command = let o = serve k s at command in record { text = tell o.answer; next = o.next }
+abbrev pub answered_as : (Answer → List ℕ) → Rules → State → ℕ → Command → Answered
+answered_as tell k s at command = let o = serve k s at command in record { text = tell o.answer; next = o.next }
 
 -- the text tells, as refusals are told, that memory or the database refused
 abbrev pub IsLost : (Refusal → List ℕ) → List ℕ → Type 0

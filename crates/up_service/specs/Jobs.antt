@@ -5,17 +5,17 @@ use Rattle.up_service.specs.declared.job.Job.{Job}
 use Rattle.up_service.specs.declared.job.Job.TheVariants.{Run, Serve, Digest}
 
 -- a job, with the bytes of its file's name
-pub data Asked : Type 0 where
-  running : List ℕ → Asked
-  serving : List ℕ → ℕ → ℕ → Asked
-  digesting : List ℕ → Asked
+pub data JobView : Type 0 where
+  running : List ℕ → JobView
+  serving : List ℕ → ℕ → ℕ → JobView
+  digesting : List ℕ → JobView
 
-abbrev pub job_shown : Job → Asked
+abbrev pub job_shown : Job → JobView
 job_shown (Run file) = running (string_bytes file)
 job_shown (Serve file port count) = serving (string_bytes file) port count
 job_shown (Digest file) = digesting (string_bytes file)
 
-abbrev pub job_named : List ℕ → List ℕ → Option Asked
+abbrev pub job_named : List ℕ → List ℕ → Option JobView
 job_named word file = if bytes_eq word (codes "run") then Some (running file) else if bytes_eq word (codes "digest") then Some (digesting file) else None
 
 -- the number of 1 to so many that is written so in decimal
@@ -25,17 +25,17 @@ number_to most text =
     if bytes_eq text (decimal n) && (nat_lt 0 n && nat_le n most) then Some n else None
 
 -- a port is 1 to 65535, a count of connections 1 to 1000000
-abbrev pub serve_numbered : List ℕ → Option ℕ → Option ℕ → Option Asked
+abbrev pub serve_numbered : List ℕ → Option ℕ → Option ℕ → Option JobView
 serve_numbered file (Some port) (Some count) = Some (serving file port count)
 serve_numbered file (Some port) None = None
 serve_numbered file None count = None
 
-abbrev pub serve_named : List ℕ → List ℕ → List ℕ → List ℕ → Option Asked
+abbrev pub serve_named : List ℕ → List ℕ → List ℕ → List ℕ → Option JobView
 serve_named word file port count =
     if bytes_eq word (codes "serve") then serve_numbered file (number_to 65535 port) (number_to 1000000 count) else None
 
 -- `run FILE`, `digest FILE` and `serve FILE PORT COUNT`
-abbrev pub job_of : List (List ℕ) → Option Asked
+abbrev pub job_of : List (List ℕ) → Option JobView
 job_of [] = None
 job_of (word ∷ []) = None
 job_of (word ∷ file ∷ []) = job_named word file

@@ -20,7 +20,7 @@ use Rattle.up_script.specs.PrintedLines.{answer_text, refused_text, vehicle_text
 use Rattle.up_script.specs.declared.asked.Asked.{Asked}
 use Rattle.up_script.specs.declared.asked.What.{What}
 use Rattle.up_script.specs.declared.asked.What.TheVariants.{Call, Show}
-use Rattle.up_service.specs.Answers.{Answered, served_as, AnswersAs}
+use Rattle.up_service.specs.Answers.{Answered, answered_as, AnswersAs}
 
 -- ---- views of a vehicle
 
@@ -62,16 +62,16 @@ pub record Sees (holds : State → Type 0) (old new : Connected) : Type 0 where
 -- ---- lines
 
 -- what the desk answers a command, as it is printed
-abbrev pub served : Rules → State → ℕ → Command → Answered
-served k s at command = served_as answer_text k s at command
+abbrev pub command_answer : Rules → State → ℕ → Command → Answered
+command_answer k s at command = answered_as answer_text k s at command
 
 -- a view of a vehicle changes nothing
 abbrev pub viewed : State → Name → Answered
 viewed s vehicle = record { text = shown_text (shown_in s vehicle); next = s }
 
--- a command is served, and a view is shown
+-- a command is called, and a view is shown
 abbrev pub carried_out : Rules → State → ℕ → What → Answered
-carried_out k s at (Call command) = served k s at command
+carried_out k s at (Call command) = command_answer k s at command
 carried_out k s at (Show vehicle) = viewed s vehicle
 
 -- the first fault of a line is its answer, and changes nothing

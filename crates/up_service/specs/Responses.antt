@@ -12,7 +12,7 @@ use Rattle.up_http.specs.declared.asked.Next.{Next}
 use Rattle.up_http.specs.declared.asked.What.{What}
 use Rattle.up_http.specs.declared.asked.What.TheVariants.{Call, Fixed}
 use Rattle.up_desk.specs.Serving.{DeskView}
-use Rattle.up_service.specs.Answers.{AnswersAs, served_as}
+use Rattle.up_service.specs.Answers.{AnswersAs, answered_as}
 
 -- a reply's or a file's text is the body
 abbrev pub found_response : List ℕ → Bool → Bool → List ℕ
@@ -29,7 +29,7 @@ answer_response (Refused r) last head = refusal_response_of r last head
 -- a command is served at the moment, or its response is that of a refusal for want of memory or by the database
 abbrev pub AnswersCall : Rules → ℕ → Command → Bool → Bool → List ℕ → Connected → Connected → Type 0
 AnswersCall k at command last head text old new =
-    AnswersAs (λ r. refusal_response_of r last head) (λ s. served_as (λ answer. answer_response answer last head) k s at command) k text old new
+    AnswersAs (λ r. refusal_response_of r last head) (λ s. answered_as (λ answer. answer_response answer last head) k s at command) k text old new
 
 -- whatever the database does, a fixed answer is that one and leaves the desk as it was
 abbrev pub IsResponseTo : {K D : Type 0} → (K → Rules) → Ghosts D → ℕ → DeskView K D → What → Bool → Bool → List ℕ → DeskView K D → Type 0

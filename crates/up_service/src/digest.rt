@@ -22,8 +22,8 @@ pub enum DigestFault {
     TooLong,
 }
 
-/// The number of bytes that the reader gives, and their SHA-256. `TooLong` past 1,073,741,824 bytes, of which one more is
-/// read at most. Takes no memory.
+/// The number of bytes that the reader gives, and their SHA-256. `TooLong` past 1,073,741,824 bytes. Of a reader whose bytes are
+/// known at most one more than these is read. Takes no memory.
 pub fn digest_stream<R: Read>(reader: &mut R) -> Result<(u64, [u8; 32]), DigestFault>
     // For any reader: the bytes that came, and what is said of them.
     ensures digested { Digested (R.remaining reader.old) (R.remaining reader.new) result }

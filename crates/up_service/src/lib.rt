@@ -16,3 +16,4 @@ pub use up_http::asked::{Next, Step, What};
 pub use up_http::fault::{Fault, ServeFault};
 pub use up_http::feeder::Feeder;
 pub use up_http::served::Served;
+pub use up_lines::fault::{ScriptCause, ScriptFault};

@@ -3,14 +3,14 @@ ghost use Rattle.std.specs.Prelude.{◌≡◌, List, ℕ, IsTrue, IfOk, OnErr, s
 ghost use Rattle.sqlite.specs.Held.{state};
 ghost use Rattle.up_machine.specs.Commands.{opens_running};
 ghost use Rattle.up_script.specs.AskedLines.{asks_running};
-ghost use Rattle.up_service.specs.LineAnswers.{AnswersLine, carried_out, served, line_answer, viewed};
+ghost use Rattle.up_service.specs.LineAnswers.{AnswersLine, carried_out, command_answer, line_answer, viewed};
 
 use crate::show::shown;
 use sqlite::Alter;
 use std::alloc::{AllocError, Global};
 use up_canon::ident::Ident;
 use up_desk::desk::Desk;
-use up_lines::answer::Answer;
+use up_lines::interpret::Interpret;
 use up_machine::command::Command;
 use up_script::asked::{Asked, What, asked_by};
 use up_script::printed::{answer_text, refused_text};
@@ -20,12 +20,12 @@ use up_sign::scheme::Scheme;
 #[derive(Clone, Copy, Debug)]
 pub struct Scripter;
 
-impl<K: Scheme, D: Alter> Answer<Desk<K, D>> for Scripter {
+impl<K: Scheme, D: Alter> Interpret<Desk<K, D>> for Scripter {
     ghost use Rattle.up_service.specs.LineAnswers.{Lines};
 
     ghost gives = { Lines (K.rules) D.Store };
 
-    fn answer(
+    fn interpret(
         &self,
         alloc: Global,
         desk: &mut Desk<K, D>,
@@ -80,8 +80,8 @@ fn called_text<K: Scheme, D: Alter>(
 ) -> Result<String, AllocError>
     requires { IsTrue (opens_running command.now) }
     ensures scheme { desk.new.scheme ≡ desk.old.scheme }
-    ensures ok { IfOk result (λ t. AnswersLine (λ s. served (K.rules desk.old.scheme) s at command.now) (K.rules desk.old.scheme) (string_bytes t) (state D.Store desk.old.store) (state D.Store desk.new.store)) }
-    ensures err { OnErr result ((text : List ℕ) × AnswersLine (λ s. served (K.rules desk.old.scheme) s at command.now) (K.rules desk.old.scheme) text (state D.Store desk.old.store) (state D.Store desk.new.store)) }
+    ensures ok { IfOk result (λ t. AnswersLine (λ s. command_answer (K.rules desk.old.scheme) s at command.now) (K.rules desk.old.scheme) (string_bytes t) (state D.Store desk.old.store) (state D.Store desk.new.store)) }
+    ensures err { OnErr result ((text : List ℕ) × AnswersLine (λ s. command_answer (K.rules desk.old.scheme) s at command.now) (K.rules desk.old.scheme) text (state D.Store desk.old.store) (state D.Store desk.new.store)) }
 {
     let answer = desk.call(alloc, at, command);
     answer_text(alloc, &answer)

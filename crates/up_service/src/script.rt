@@ -9,20 +9,21 @@ use sqlite::Alter;
 use std::alloc::Global;
 use std::io::{Read, Write};
 use up_desk::desk::Desk;
-use up_lines::fault::{Cause, Fault};
+use up_lines::fault::{ScriptCause, ScriptFault};
 use up_lines::run;
 use up_sign::scheme::Scheme;
 
 /// Reads a script to its end, carries out its lines at the desk one after another, and writes a line for each that isn't empty.
 ///
-/// The number is that of the lines answered. A line has at most 2,097,152 bytes, and there are at most 100,000. A fault tells
-/// how many answers were written whole; what was answered before it stays done.
+/// The number is that of the lines answered. A line has at most 2,097,152 bytes, its newline not counted, and there are at most
+/// 100,000; past that comes `TooLong`. Of a reader whose bytes are known at most 209,715,300,001 are read. A fault tells how many
+/// answers were written whole; what was answered before it stays done.
 pub fn run_script<K: Scheme, D: Alter, R: Read, W: Write>(
     alloc: Global,
     desk: &mut Desk<K, D>,
     reader: &mut R,
     writer: &mut W,
-) -> Result<u32, Fault>
+) -> Result<u32, ScriptFault>
     // For any reader and writer: the bytes that came, what was answered of them, and what was written.
     ensures ran { Ran (Lines (K.rules) D.Store) desk.old desk.new (R.remaining reader.old) (R.remaining reader.new)
         (W.contents writer.old) (W.contents writer.new) result }
@@ -30,7 +31,7 @@ pub fn run_script<K: Scheme, D: Alter, R: Read, W: Write>(
     // Where it is known what the reader has, by its lines.
     ensures whole { IfOk result (λ answered. IfSome (R.remaining reader.old) (λ input.
         Finished (Lines (K.rules) D.Store) desk.old (W.contents writer.old) input answered desk.new (W.contents writer.new))) }
-    ensures too_long { IfErr result (λ fault. fault.cause ≡ Cause.TooLong → IfSome (R.remaining reader.old) (λ input.
+    ensures too_long { IfErr result (λ fault. fault.cause ≡ ScriptCause.TooLong → IfSome (R.remaining reader.old) (λ input.
         fits (lines_of true input) ≡ false)) }
     ensures prefix { IfErr result (λ fault. IfSome (R.remaining reader.old) (λ input.
         AnswersFirst (Lines (K.rules) D.Store) desk.old (W.contents writer.old) (asked (lines_of true input)) fault.lines

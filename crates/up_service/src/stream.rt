@@ -16,10 +16,10 @@ use up_sign::scheme::Scheme;
 /// Reads a stream of HTTP requests until it ends, carries out their commands at the desk, all at one moment in seconds since
 /// 1970-01-01T00:00:00Z, and writes an answer to each as soon as it is whole.
 ///
-/// The stream ends with its input, with a request that closes the connection, or with the hundredth. At most 27,852,800 bytes
-/// are read; nothing is tried twice. A fault tells how many requests were handed to the desk, whose effects stand, and how
-/// many answers were written whole. `Read` comes after all requests that were whole before it, and `Write` also where the
-/// writer takes no byte.
+/// The stream ends with its input, with a request that closes the connection, or with the hundredth. Of a reader whose bytes are
+/// known at most 27,852,800 are read; nothing is tried twice. A fault tells how many requests were handed to the desk, whose
+/// effects stand, and how many answers were written whole. `Read` comes after all requests that were whole before it, and
+/// `Write` also where the writer takes no byte.
 pub fn serve_stream<K: Scheme, D: Alter, R: Read, W: Write>(
     alloc: Global,
     desk: &mut Desk<K, D>,

@@ -6,10 +6,9 @@ use crate::desks::AT;
 use sqlite::Alter;
 use std::alloc::{AllocError, Global};
 use up_desk::desk::Desk;
-use up_lines::fault::{Cause, Fault as LinesFault};
 use up_service::script::run_script;
 use up_service::stream::serve_stream;
-use up_service::{Fault, ServeFault};
+use up_service::{Fault, ScriptCause, ScriptFault, ServeFault};
 use up_sign::hmac_sha256::HmacSha256;
 use up_test_rows::devices::{Reads, Shaky, Slow, Writes, text_of};
 
@@ -61,25 +60,25 @@ pub(crate) fn scripted<D: Alter>(
     let mut writer = Shaky::new(alloc, writes);
     match run_script(alloc, desk, &mut reader, &mut writer) {
         Ok(lines) => number_told(alloc, lines, writer.written()),
-        Err(fault) => lines_fault_told(alloc, fault, writer.written()),
+        Err(fault) => script_fault_told(alloc, fault, writer.written()),
     }
 }
 
-fn lines_fault_told(
+fn script_fault_told(
     alloc: Global,
-    fault: LinesFault,
+    fault: ScriptFault,
     written: &[u8],
 ) -> Result<String, AllocError> {
     let bytes = text_of(alloc, written)?;
-    let cause = lines_cause_name(fault.cause);
+    let cause = script_cause_name(fault.cause);
     format!(in alloc; "{cause} {}: {bytes}", fault.lines)
 }
 
-fn lines_cause_name(cause: Cause) -> &'static str {
+fn script_cause_name(cause: ScriptCause) -> &'static str {
     match cause {
-        Cause::Memory => "Memory",
-        Cause::Read => "Read",
-        Cause::Write => "Write",
-        Cause::TooLong => "TooLong",
+        ScriptCause::Memory => "Memory",
+        ScriptCause::Read => "Read",
+        ScriptCause::Write => "Write",
+        ScriptCause::TooLong => "TooLong",
     }
 }

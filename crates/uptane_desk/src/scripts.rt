@@ -2,8 +2,8 @@
 use sqlite::Alter;
 use std::process::ExitCode;
 use up_desk::desk::Desk;
-use up_lines::fault::{Cause, Fault};
 use up_service::script::run_script;
+use up_service::{ScriptCause, ScriptFault};
 use up_sign::hmac_sha256::HmacSha256;
 
 /// Carries out the script, and prints its answers.
@@ -14,12 +14,12 @@ pub(crate) fn answer_lines<D: Alter>(rt: &HostRuntime, desk: &mut Desk<HmacSha25
     }
 }
 
-fn stopped(rt: &HostRuntime, fault: Fault) -> ExitCode {
+fn stopped(rt: &HostRuntime, fault: ScriptFault) -> ExitCode {
     let cause = match fault.cause {
-        Cause::Memory => "memory",
-        Cause::Read => "read",
-        Cause::Write => "write",
-        Cause::TooLong => "line limit",
+        ScriptCause::Memory => "memory",
+        ScriptCause::Read => "read",
+        ScriptCause::Write => "write",
+        ScriptCause::TooLong => "line limit",
     };
     eprintln!(rt; "uptane_desk: stopped after {} lines: {cause}", fault.lines).ok();
     ExitCode::from(4)

@@ -1,11 +1,9 @@
-use Rattle.std.proofs.Common.{◌≡◌, ◌≤◌, ◌<◌, ◌+◌, ◌-◌, ◌++◌, ◌∙◌, ℕ, List, [], true, false, length, take, drop, refl, sym, ap, subst, arith, length-append, length-drop, append_assoc, append-nil}
-use Rattle.std.proofs.lemmas.Grind.{common_steps}
+use Rattle.std.proofs.Common.{◌≡◌, ◌≤◌, ◌+◌, ◌-◌, ◌++◌, ◌∙◌, ℕ, List, [], false, length, take, drop, sym, ap, subst, arith, length-append, length-drop, append_assoc, append-nil}
 use Rattle.std.proofs.lemmas.List.{length-take-le}
 use Rattle.std.specs.Prelude.{Option}
 use Rattle.std.specs.Io.KnownBytes.{Consumes}
 use Rattle.std.proofs.KnownBytes.{Consumes-nil, Consumes-trans}
-use Rattle.up_http.specs.Serving.{Sofar}
-use Rattle.up_http.proofs.ServeLaws.{fresh, nearer, piece_left, room_left, ran_end}
+use Rattle.up_http.proofs.ServeLaws.{fresh, nearer, piece_left, room_left, ran_end, ran_stop}
 use Rattle.up_http.proofs.serving.serve_reads.Goals as goal
 
 pub loop-progress-init : goal.loop-progress-init
@@ -53,3 +51,9 @@ returns-in-Ok-eq0 g c = let (came, read, so, budget, inside, within, room) = c.l
     came c.loop-progress.progress c.loop-progress.state (g.W.Write.contents c.loop-progress.writer) c.finish.new.progress
     (consumed_none _ (g.R.Read.remaining c.loop-progress.reader) _ came (drop c.loop-progress.at c.loop-progress.buffer) c.read_piece.new.buffer (c.loop-progress.filled - c.loop-progress.at) c.in-Ok-eq0.field-0 none c.in-Ok-eq0.field-0-test read c.in-Ok-eq0.ensures.bytes)
     (omega (arith, below)) (c.in-Ok-eq0.ensures.end c.in-Ok-eq0.field-0-test (omega (arith, below, budget, none)) room) so c.finish.ensures.ok c.finish.ensures.err
+
+pub returns-in-Err : goal.returns-in-Err
+returns-in-Err g c = let (came, read, so, budget, inside, within, room) = c.loop-progress.invariant in
+    let piece = take (c.loop-progress.filled - c.loop-progress.at) (drop c.loop-progress.at c.loop-progress.buffer) in
+    ran_stop (g.A.Respond.gives c.args.responder.now) c.in-Err.cause c.args.state.now _ _ _ _ _ (came ++ piece) c.serve_piece.new.progress read
+    (omega (arith, budget, left c.loop-progress.buffer c.loop-progress.at c.loop-progress.filled inside within, length-append came piece)) (c.in-Err.ensures.err c.args.state.now _ came so)

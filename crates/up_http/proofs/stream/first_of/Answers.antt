@@ -1,4 +1,4 @@
-use Rattle.std.proofs.Common.{◌≡◌, ◌∙◌, Some, sym, subst}
+use Rattle.std.proofs.Common.{subst}
 use Rattle.up_http.specs.Feeding.{Gives}
 use Rattle.up_http.proofs.InputLaws.{first_given}
 use Rattle.up_http.proofs.stream.first_of.Goals as goal

@@ -5,6 +5,7 @@ use Rattle.std.specs.Prelude.{Option}
 use Rattle.std.specs.Io.KnownBytes.{Consumes}
 use Rattle.std.proofs.KnownBytes.{Consumes-nil, Consumes-trans, Consumes-kept}
 use Rattle.up_lines.specs.Lines.{lines_of, asked}
+use Rattle.up_lines.specs.declared.fault.ScriptCause.TheVariants.{Read}
 use Rattle.up_lines.specs.Runs.{Tells, Stopped}
 use Rattle.up_lines.specs.Progress.{Sofar}
 use Rattle.up_lines.proofs.Stopping.{stops_memory}
@@ -12,12 +13,12 @@ use Rattle.up_lines.proofs.Ends.{fresh, same_prefix, ran_stop, ran_err, ran_on, 
 use Rattle.up_lines.proofs.reading.read_lines.Goals as goal
 
 pub loop-most-init : goal.loop-most-init
-loop-most-init g c = ([], Consumes-nil _, fresh g.A.Answer.gives c.args.state.now _ c.args.progress.now c.requires, refl, grind (arith, common_steps, c.in_ok-buffer.ensures.len))
+loop-most-init g c = ([], Consumes-nil _, fresh g.I.Interpret.gives c.args.state.now _ c.args.progress.now c.requires, refl, grind (arith, common_steps, c.in_ok-buffer.ensures.len))
 
 pub returns-in_err-buffer : goal.returns-in_err-buffer
-returns-in_err-buffer g c = let h = fresh g.A.Answer.gives c.args.state.now (g.W.Write.contents c.args.writer.now) c.args.progress.now c.requires in
-    ran_stop g.A.Answer.gives c.from_residual.result _ c.args.state.now c.args.state.now _ _ _ _ [] c.args.progress.now.answered c.from_residual.ensures.1 (Consumes-nil _) (omega arith)
-    (stops_memory g.A.Answer.gives c.args.progress.now c.args.progress.now [] c.args.state.now _ refl c.args.state.now _ [] h)
+returns-in_err-buffer g c = let h = fresh g.I.Interpret.gives c.args.state.now (g.W.Write.contents c.args.writer.now) c.args.progress.now c.requires in
+    ran_stop g.I.Interpret.gives c.from_residual.result _ c.args.state.now c.args.state.now _ _ _ _ [] c.args.progress.now.answered c.from_residual.ensures.1 (Consumes-nil _) (omega arith)
+    (stops_memory g.I.Interpret.gives c.args.progress.now c.args.progress.now [] c.args.state.now _ refl c.args.state.now _ [] h)
 
 -- the buffer keeps its length
 kept : (new old : List ℕ) (len : ℕ) → length new ≡ length old → length old ≡ len → length new ≡ len
@@ -32,7 +33,7 @@ loop-most-preserved g c = let (came, read, so, budget, room) = c.loop-most.invar
     (kept _ c.deref_mut.result.now _ c.read_piece.auto.buffer c.deref_mut.ensures.len) within in (
       came ++ take c.in-Ok.n c.read_piece.new.buffer,
       Consumes-trans _ _ _ _ _ read c.in-Ok.ensures.bytes,
-      subst (λ l. Sofar g.A.Answer.gives c.args.state.now (g.W.Write.contents c.args.writer.now) (came ++ l) c.take_piece.new.progress c.take_piece.new.state (g.W.Write.contents c.take_piece.new.writer)) same
+      subst (λ l. Sofar g.I.Interpret.gives c.args.state.now (g.W.Write.contents c.args.writer.now) (came ++ l) c.take_piece.new.progress c.take_piece.new.state (g.W.Write.contents c.take_piece.new.writer)) same
           (c.in_ok-take_piece-in-Ok.ensures.ok c.args.state.now (g.W.Write.contents c.args.writer.now) came so),
       omega (arith, long, most, budget, length-append came (take c.in-Ok.n c.read_piece.new.buffer)),
       room,
@@ -46,15 +47,15 @@ returns-in_err-take_piece-in-Ok g c = let (came, read, so, budget, room) = c.loo
     let same : take c.in-Ok.n c.deref.result.now ≡ take c.in-Ok.n c.read_piece.new.buffer = same_prefix c.in-Ok.n c.loop-most.buffer.len c.deref.result.now c.read_piece.new.buffer c.loop-most.buffer.items c.deref.ensures.value
     (kept _ c.deref_mut.result.now _ c.read_piece.auto.buffer c.deref_mut.ensures.len) within in
     let cause = c.in_err-take_piece-in-Ok.field-0.0 in
-    ran_stop g.A.Answer.gives c.from_residual-in_err-take_piece-in-Ok.result cause c.args.state.now c.take_piece.new.state _ _ _ _ (came ++ take c.in-Ok.n c.read_piece.new.buffer) c.take_piece.new.progress.answered
+    ran_stop g.I.Interpret.gives c.from_residual-in_err-take_piece-in-Ok.result cause c.args.state.now c.take_piece.new.state _ _ _ _ (came ++ take c.in-Ok.n c.read_piece.new.buffer) c.take_piece.new.progress.answered
     c.from_residual-in_err-take_piece-in-Ok.ensures.1 (Consumes-trans _ _ _ _ _ read c.in-Ok.ensures.bytes) (omega (arith, long, most, budget, length-append came (take c.in-Ok.n c.read_piece.new.buffer)))
-    (subst (λ l. Tells cause (came ++ l) × Stopped g.A.Answer.gives cause c.args.state.now (g.W.Write.contents c.args.writer.now) (asked (lines_of false (came ++ l))) c.take_piece.new.progress.answered c.take_piece.new.state (g.W.Write.contents c.take_piece.new.writer)) same
+    (subst (λ l. Tells cause false (came ++ l) × Stopped g.I.Interpret.gives cause c.args.state.now (g.W.Write.contents c.args.writer.now) (asked (lines_of false (came ++ l))) c.take_piece.new.progress.answered c.take_piece.new.state (g.W.Write.contents c.take_piece.new.writer)) same
     (c.in_err-take_piece-in-Ok.ensures.err c.args.state.now (g.W.Write.contents c.args.writer.now) came so))
 
 pub returns-in-Err : goal.returns-in-Err
 returns-in-Err g c = let (came, read, so, budget, room) = c.loop-most.invariant in
-    ran_err g.A.Answer.gives _ c.args.state.now c.loop-most.state _ _ _ _ came c.loop-most.progress.answered (Consumes-kept _ _ _ _ read c.in-Err.ensures.err) (omega (arith, budget))
-    (stops_read g.A.Answer.gives c.args.state.now _ came c.loop-most.progress c.loop-most.state _ so)
+    ran_err g.I.Interpret.gives Read c.args.state.now c.loop-most.state _ _ _ _ came c.loop-most.progress.answered (Consumes-kept _ _ _ _ read c.in-Err.ensures.err) (omega (arith, budget))
+    (stops_read g.I.Interpret.gives c.args.state.now _ came c.loop-most.progress c.loop-most.state _ so)
 
 -- nothing was read at the end
 consumed_none : (had mid has : Option (List ℕ)) (came : List ℕ) (n : ℕ) (buffer : List ℕ) → n ≡ 0 → Consumes had mid came → Consumes mid has (take n buffer) → Consumes had has came
@@ -63,7 +64,7 @@ consumed_none had mid has came n buffer none p q =
 
 pub returns-in-Ok-eq0 : goal.returns-in-Ok-eq0
 returns-in-Ok-eq0 g c = let (came, read, so, budget, room) = c.loop-most.invariant in
-    ran_on g.A.Answer.gives c.finish.result c.args.state.now c.finish.new.state (g.R.Read.remaining c.args.reader.now) (g.R.Read.remaining c.read_piece.new.reader) (g.W.Write.contents c.args.writer.now) (g.W.Write.contents c.finish.new.writer)
+    ran_on g.I.Interpret.gives c.finish.result c.args.state.now c.finish.new.state (g.R.Read.remaining c.args.reader.now) (g.R.Read.remaining c.read_piece.new.reader) (g.W.Write.contents c.args.writer.now) (g.W.Write.contents c.finish.new.writer)
     came c.loop-most.progress c.loop-most.state (g.W.Write.contents c.loop-most.writer) c.finish.new.progress
     (consumed_none _ (g.R.Read.remaining c.loop-most.reader) _ came c.in-Ok-eq0.field-0 c.read_piece.new.buffer c.in-Ok-eq0.field-0-test read c.in-Ok-eq0.ensures.bytes)
     (omega (arith, budget)) (c.in-Ok-eq0.ensures.end c.in-Ok-eq0.field-0-test c.loop-most-test.true (omega (arith, room, c.deref_mut.ensures.len))) so c.finish.ensures.ok c.finish.ensures.err

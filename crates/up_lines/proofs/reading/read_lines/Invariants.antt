@@ -7,7 +7,7 @@ use Rattle.up_lines.proofs.reading.read_lines.Given as goal
 -- the bytes that came, what stands after them, and how many more may come
 abbrev pub invariant-loop-most : goal.invariant-loop-most
 invariant-loop-most g l = (came : List ℕ) × Consumes (g.R.Read.remaining l.fn.reader) (g.R.Read.remaining l.reader) came
-    × Sofar g.A.Answer.gives l.fn.state (g.W.Write.contents l.fn.writer) came l.progress l.state (g.W.Write.contents l.writer)
+    × Sofar g.I.Interpret.gives l.fn.state (g.W.Write.contents l.fn.writer) came l.progress l.state (g.W.Write.contents l.writer)
     × (length came + l.most ≡ most_bytes) × (0 < vec_len l.buffer)
 
 abbrev pub decreases-loop-most : goal.decreases-loop-most

@@ -4,4 +4,4 @@ use Rattle.up_lines.proofs.reading.take_piece.Given as goal
 
 -- the bytes before the index were taken
 abbrev pub invariant-loop-byte : goal.invariant-loop-byte
-invariant-loop-byte g l = Takes g.A.Answer.gives (take l.byte-index l.piece) l.fn.progress l.fn.state (g.W.Write.contents l.fn.writer) l.progress l.state (g.W.Write.contents l.writer)
+invariant-loop-byte g l = Takes g.I.Interpret.gives (take l.byte-index l.piece) l.fn.progress l.fn.state (g.W.Write.contents l.fn.writer) l.progress l.state (g.W.Write.contents l.writer)

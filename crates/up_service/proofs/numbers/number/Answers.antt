@@ -1,4 +1,4 @@
-use Rattle.std.proofs.Common.{◌≡◌, ◌<◌, ◌≤◌, ℕ, sym, subst, arith, get_or, Ok, Err, ◌∙◌}
+use Rattle.std.proofs.Common.{sym, arith, ◌∙◌}
 use Rattle.up_service.proofs.Decimals.{number_read, number_not_read, number_not_begun}
 use Rattle.up_service.proofs.numbers.number.Goals as goal
 

@@ -1,7 +1,7 @@
 use Rattle.std.proofs.Common.{inr, ap, sym, subst}
 use Rattle.sqlite.specs.Held.{state}
 use Rattle.up_service.specs.LineAnswers.{AnswersLine, line_answer}
-use Rattle.up_service.proofs.line_answer.ScripterAnswerDesk.answer.Goals as goal
+use Rattle.up_service.proofs.line_answer.ScripterInterpretDesk.interpret.Goals as goal
 
 pub returns-in-Ok-clause-ok : goal.returns-in-Ok-clause-ok
 returns-in-Ok-clause-ok g c = (
