@@ -1,5 +1,5 @@
 -- The statements on campaigns that put rows in and read them.
-use Rattle.std.proofs.Common.{◌≡◌, ◌==◌, ℕ, pos, List, [], ◌∷◌, map, filter, Bool, true, false, length, Result, OnOk, IfOk, Option, IsTrue, refl, ap, ◌∙◌, codes, string_bytes, append-nil, bytes_eq, drop}
+use Rattle.std.proofs.Common.{◌≡◌, ℕ, pos, List, [], ◌∷◌, map, filter, false, Result, OnOk, IfOk, Option, IsTrue, refl, ap, ◌∙◌, codes, string_bytes, append-nil, bytes_eq, drop}
 use Rattle.std.specs.Option.{option_to_list}
 use Rattle.std.specs.Result.{IsOkAnd}
 use Rattle.std.specs.Ordering.{is_eq}
@@ -15,8 +15,6 @@ use Rattle.sqlite.specs.Listing.{understood, reads_listing}
 use Rattle.sqlite.specs.State.{State, HasCleanDisk, Survives, ExecutesInside, Shown}
 use Rattle.sqlite.proofs.Callers.{IsPlain, command_of}
 use Rattle.sqlite_tied.specs.Compute.{everything}
-use Rattle.sqlite_rules.specs.Action.{works}
-use Rattle.sqlite_schema.specs.declared.schema.Keys.TheVariants.{Enforced}
 use Rattle.sqlite_sql.specs.declared.ops.BinaryOp.TheVariants.{Compare}
 use Rattle.sqlite_sql.specs.declared.ops.CompareOp.TheVariants.{Eq}
 use Rattle.sqlite_value.specs.declared.keys.Collation.TheVariants.{Binary}
@@ -47,13 +45,6 @@ insert_is : (command_of (understood up_schema insert_campaign_text) ≡ Insert 4
 unfolding understood everything
 insert_is = (refl, (refl, refl))
 
-idle : (olds news : List Row) → works up_schema Enforced 0 7 olds news ≡ []
-idle olds news = go (length news == 0) refl
-  where
-    go : (b : Bool) → (length news == 0) ≡ b → works up_schema Enforced 0 7 olds news ≡ []
-    go true e = rw e refl
-    go false e = rw e refl
-
 casts : (c : CampaignRow) → cast_row campaign_table (Null ∷ campaign_row c) ≡ Null ∷ campaign_row c
 casts c = rw (cast_null, cast_int (yes_or_no c.running)) refl
 
@@ -62,7 +53,7 @@ pub campaign_inserts : (r : Result ℕ Error) (old new : State) (c : CampaignRow
     → HasCleanDisk new → OnOk r ((rows_of : List ℕ → List Row) → HasTables old → Lists 1 rows_of (old.now.trees 7) → Alters campaign_table (Lists 1 (with_row (string_bytes c.name) (campaign_row c) rows_of)) old new)
 campaign_inserts r old new c survives inside ran clean =
     listed_in campaign_table 1 (string_bytes c.name) (campaign_row c) old new r (λ x n. text_is (string_bytes c.name) n)
-    (inserts_in insert_campaign_text 4 campaign_table terms 5 (campaign_row c) (campaign_row c) insert_is.0 insert_is.1 refl refl (append-nil _) refl (casts c) idle r old new survives inside ran clean)
+    (inserts_in insert_campaign_text 4 campaign_table terms 5 (campaign_row c) (campaign_row c) insert_is.0 insert_is.1 refl refl (append-nil _) refl (casts c) r old new survives inside ran clean)
 
 -- ---- read
 

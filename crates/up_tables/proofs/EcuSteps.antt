@@ -38,8 +38,9 @@ use Rattle.up_tables.proofs.CreateLemmas.{went}
 use Rattle.up_tables.proofs.InsertLemmas.{concluded}
 use Rattle.up_tables.proofs.KeyLemmas.{one_key}
 use Rattle.up_tables.proofs.PlaceLemmas.{only, unique}
+use Rattle.up_tables.proofs.RunLemmas.{idle}
 use Rattle.up_tables.proofs.UpsertLemmas.{upserted, tried_each, tried, resolved, updated}
-use Rattle.up_tables.proofs.EcuUpsert.{upsert_ecu_text, terms, update, clause, update_shown, equals, upsert_is, idle, conflicts_are, casts}
+use Rattle.up_tables.proofs.EcuUpsert.{upsert_ecu_text, terms, update, clause, update_shown, equals, upsert_is, conflicts_are, casts}
 use Rattle.up_tables.proofs.EcuRows.{differs, text_is, own_text}
 
 pub with_id : (it row : Row) → is_int (rowid it) ≡ true → drop 1 it ≡ row → (id : ℤ) × (it ≡ Int id ∷ row)
@@ -88,7 +89,7 @@ updates limit db n id old new one sound shaped kept alike there h =
     let up = updated task update _ db one (subst (λ r. Updates task update (row ++ rowid r ∷ shown ecu_table (Int n ∷ row)) db (Ok one)) is res.3) in
     let all : up.0 ≡ (Int id ∷ Int id ∷ row) ∷ [] = update_rows db id old new (Int n) Null _ up.0 shaped.0 alike refl there up.1 in
     let edit = edit_of db ecu_table (ids_of up.0) Given 1 up.0 in
-    let step = one_step up_schema Enforced db one.trees edit (idle (taken_by db edit) edit.news) up.2 in
+    let step = one_step up_schema Enforced db one.trees edit (idle 11 (taken_by db edit) edit.news) up.2 in
     let edit_is : edited db (edit_of db ecu_table (ids_of ((Int id ∷ Int id ∷ row) ∷ [])) Given 1 ((Int id ∷ Int id ∷ row) ∷ [])) ≡ put_row (Int id ∷ row) (without_rowid id (db 11)) =
     ap (λ r. put_row r (without_rowid id (db 11))) (casts (Int id) new kept (cast_int id)) in
     (step.rows ∙ ap (λ xs. edited db (edit_of db ecu_table (ids_of xs) Given 1 xs)) all ∙ edit_is, step.tables)

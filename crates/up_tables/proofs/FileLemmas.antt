@@ -24,7 +24,7 @@ use Rattle.up_tables.specs.Forms.{file_row, file_places, set_files}
 use Rattle.up_tables.specs.Stands.{ListsPairs, IsOpen}
 use Rattle.up_tables.specs.declared.repo_file.FileRow.{FileRow}
 use Rattle.up_tables.proofs.EcuInserts.{take_next, take_whole}
-use Rattle.up_tables.proofs.OthersLemmas.{others_same, others_then}
+use Rattle.up_tables.proofs.OthersLemmas.{alters_to, alters_none, has_after, alters_then}
 use Rattle.up_tables.proofs.ReadLemmas.{answers_some, bare_filter}
 use Rattle.up_tables.proofs.StateLemmas.{one_in, ok_then}
 
@@ -51,9 +51,7 @@ set_last [] f rows_of = refl
 set_last (x ∷ fs) f rows_of = set_last fs f (with_only_at (string_bytes x.repository) (string_bytes x.name) (file_row x) rows_of)
 
 pub none_set : (fs : List FileRow) (s : State) → IsInside s → IsOpen s → SetSoFar fs 0 s s
-none_set fs s inside is_open rows_of has lists few =
-    let here = has is_open in
-    record { was_open = is_open; is_open = is_open; mode = inside; schema_is = here.schema_is; sound = here.sound; rows = lists; others = others_same repo_file_table s.now.trees }
+none_set fs s inside is_open rows_of has lists few = alters_none repo_file_table _ s inside is_open has lists
 
 pub next_set : (fs : List FileRow) (i : ℕ) (f : FileRow) (old mid new : State) → slice_get fs i ≡ Some f → SetSoFar fs i old mid
     → ((rows_of : List ℕ → List ℕ → List Row) → HasTables mid → ListsPairs rows_of (mid.now.trees 3) → length (rows_of (string_bytes f.repository) (string_bytes f.name)) ≤ 1
@@ -61,20 +59,12 @@ pub next_set : (fs : List FileRow) (i : ℕ) (f : FileRow) (old mid new : State)
     → SetSoFar fs (i + 1) old new
 next_set fs i f old mid new there so_far sets rows_of has lists few =
     let before = so_far rows_of has lists few in
-    let after = sets (set_files (take i fs) rows_of) (λ _. record { schema_is = before.schema_is; sound = before.sound; rows = tt }) before.rows (all_few (take i fs) rows_of few _ _) in
+    let after = sets (set_files (take i fs) rows_of) (has_after repo_file_table _ old mid before) before.rows (all_few (take i fs) rows_of few _ _) in
     let next : suc i ≡ i + 1 = omega arith in
     let same : take (suc i) fs ≡ take (i + 1) fs = ap (λ k. take k fs) next in
     let all : with_only_at (string_bytes f.repository) (string_bytes f.name) (file_row f) (set_files (take i fs) rows_of) ≡ set_files (take (i + 1) fs) rows_of =
     sym (set_last (take i fs) f rows_of) ∙ ap (λ xs. set_files xs rows_of) (take_next i fs f there ∙ same) in
-    record {
-      was_open = before.was_open;
-      is_open = after.is_open;
-      mode = after.mode;
-      schema_is = after.schema_is;
-      sound = after.sound;
-      rows = subst (λ g. ListsPairs g (new.now.trees 3)) all after.rows;
-      others = others_then repo_file_table old.now.trees mid.now.trees new.now.trees before.others after.others;
-    }
+    alters_to repo_file_table _ _ old new (subst (λ g. ListsPairs g (new.now.trees 3)) all) (alters_then repo_file_table _ _ old mid new before after)
 
 pub all_set : (fs : List FileRow) (i : ℕ) (old new : State) → i ≡ length fs → SetSoFar fs i old new
     → (rows_of : List ℕ → List ℕ → List Row) → HasTables old → ListsPairs rows_of (old.now.trees 3) → ((repository name : List ℕ) → length (rows_of repository name) ≤ 1)

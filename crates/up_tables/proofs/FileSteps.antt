@@ -1,5 +1,5 @@
 -- What the upsert of a file's row does.
-use Rattle.std.proofs.Common.{◌≡◌, ◌≢◌, ◌≤◌, ◌==◌, inl, inr, arith, ℕ, ℤ, List, [], ◌∷◌, ◌++◌, map, filter, Bool, true, false, ◌&&◌, if◌then◌else◌, length, Some, None, Ok, Err, Result, OnOk, Option, IsTrue, refl, sym, ap, subst, ◌∙◌, codes, append-nil, bytes_eq, drop}
+use Rattle.std.proofs.Common.{◌≡◌, ◌≢◌, ◌≤◌, inl, inr, arith, ℕ, ℤ, List, [], ◌∷◌, ◌++◌, map, filter, Bool, true, false, ◌&&◌, if◌then◌else◌, length, Some, None, Ok, Result, OnOk, Option, IsTrue, refl, sym, ap, subst, ◌∙◌, codes, append-nil, bytes_eq, drop}
 use Rattle.std.specs.Ordering.{is_eq}
 use Rattle.std.proofs.Math.Bool.{and-true}
 use Rattle.sqlite.specs.declared.types.Value.TheVariants.{Null, Int, Text, Blob}
@@ -13,7 +13,6 @@ use Rattle.sqlite.specs.Listing.{understood}
 use Rattle.sqlite.specs.State.{State, mode_of, HasCleanDisk, Survives, Executes, ExecutesInside}
 use Rattle.sqlite.proofs.Callers.{IsPlain, command_of, statement_of, one_step, one_permutation, runs_as}
 use Rattle.sqlite_tied.specs.Compute.{everything}
-use Rattle.sqlite_rules.specs.Action.{works}
 use Rattle.sqlite_schema.specs.declared.schema.Keys.TheVariants.{Enforced}
 use Rattle.up_tables.specs.Rows.{bare, has_text}
 use Rattle.up_tables.specs.Stands.{IfClean, IsInside, Alters, HasTables}
@@ -55,7 +54,7 @@ use Rattle.up_tables.proofs.EcuRows.{same_text}
 use Rattle.up_tables.proofs.EcuSteps.{with_id}
 use Rattle.up_tables.proofs.InsertLemmas.{concluded}
 use Rattle.up_tables.proofs.OnlyLemmas.{rewritten_shaped, part_in, part_out}
-use Rattle.up_tables.proofs.OthersLemmas.{others_stay}
+use Rattle.up_tables.proofs.RunLemmas.{IsRun, run_in, then_ok, run_alters, idle}
 use Rattle.up_tables.proofs.PlaceLemmas.{only}
 use Rattle.up_tables.proofs.UpsertLemmas.{upserted, tried_each, tried, updated}
 
@@ -77,13 +76,6 @@ clause = record { target = Some (1 ∷ 2 ∷ []); update = Some update }
 upsert_is : (command_of (understood up_schema upsert_file_text) ≡ InsertOr 2 Abort (Values terms 4) (clause ∷ [])) × IsPlain (understood up_schema upsert_file_text)
 unfolding understood everything
 upsert_is = (refl, (refl, refl))
-
-idle : (olds news : List Row) → works up_schema Enforced 0 3 olds news ≡ []
-idle olds news = go (length news == 0) refl
-  where
-    go : (b : Bool) → (length news == 0) ≡ b → works up_schema Enforced 0 3 olds news ≡ []
-    go true e = rw e refl
-    go false e = rw e refl
 
 abbrev pub file_line : List ℕ → List ℕ → List ℕ → Row
 file_line repository name body = Text repository ∷ Text name ∷ Text body ∷ []
@@ -140,7 +132,7 @@ module _ (limit : Option ℕ) (db : Trees) (n : ℤ) (repository name body : Lis
   puts : Puts task (Int n ∷ row) db (Ok one) → (one.trees 3 ≡ put_row (Int n ∷ row) (db 3)) × AllByRecursion (λ t. t.tree ≢ 3 → one.trees t.tree ≡ db t.tree) up_schema.tables
   puts h =
       let edit = edit_of db repo_file_table [] Given 0 ((Int n ∷ row) ∷ []) in
-      let step = one_step up_schema Enforced db one.trees edit (idle (taken_by db edit) edit.news) (put task (Int n ∷ row) db one h) in
+      let step = one_step up_schema Enforced db one.trees edit (idle 3 (taken_by db edit) edit.news) (put task (Int n ∷ row) db one h) in
       (step.rows ∙ ap (λ r. put_row r (db 3)) (casts_given n repository name body), step.tables)
 
   -- ---- where there is one, it is updated
@@ -162,7 +154,7 @@ module _ (limit : Option ℕ) (db : Trees) (n : ℤ) (repository name body : Lis
       let up = updated task update _ db one h in
       let all : up.0 ≡ (Int id ∷ Int id ∷ row) ∷ [] = update_rows id was (Int n) _ [] up.0 table first second refl there up.1 in
       let edit = edit_of db repo_file_table (ids_of up.0) Given 1 up.0 in
-      let step = one_step up_schema Enforced db one.trees edit (idle (taken_by db edit) edit.news) up.2 in
+      let step = one_step up_schema Enforced db one.trees edit (idle 3 (taken_by db edit) edit.news) up.2 in
       let edit_is : edited db (edit_of db repo_file_table (ids_of ((Int id ∷ Int id ∷ row) ∷ [])) Given 1 ((Int id ∷ Int id ∷ row) ∷ [])) ≡ put_row (Int id ∷ row) (without_rowid id (db 3)) =
       ap (λ r. put_row r (without_rowid id (db 3))) (casts_given id repository name body) in
       (step.rows ∙ ap (λ xs. edited db (edit_of db repo_file_table (ids_of xs) Given 1 xs)) all ∙ edit_is, step.tables)
@@ -283,10 +275,10 @@ pub sets_file : (r : Result ℕ Error) (old new : State) (repository name body :
     → (HasCleanDisk new → IsTrue old.in_transaction → ExecutesInside 0 upsert_file_text (file_line repository name body) old new r)
     → HasCleanDisk new → OnOk r ((rows_of : List ℕ → List ℕ → List Row) → HasTables old → ListsPairs rows_of (old.now.trees 3) → length (rows_of repository name) ≤ 1
     → Alters repo_file_table (ListsPairs (with_only_at repository name (file_line repository name body) rows_of)) old new)
-sets_file (Err e') old new repository name body survives inside ran clean = tt
-sets_file (Ok count) old new repository name body survives inside ran clean = λ rows_of has lists few.
-    let before : HasCleanDisk old = omega (arith, survives.clean) in
-    let h = ran clean (inside before) in
-    let here = has h.1.was_open in
-    let done = upserts_file old new repository name body rows_of count here.schema_is lists few h.0 in
-    record { was_open = h.1.was_open; is_open = h.1.is_open; mode = h.1.mode; schema_is = done.0; sound = done.1; rows = done.2; others = others_stay repo_file_table old.now.trees new.now.trees done.3 }
+sets_file r old new repository name body survives inside ran clean = then_ok r sets_it (run_in upsert_file_text (file_line repository name body) old new r survives inside ran clean)
+  where
+    sets_it : IsRun upsert_file_text (file_line repository name body) old new → (rows_of : List ℕ → List ℕ → List Row) → HasTables old → ListsPairs rows_of (old.now.trees 3) → length (rows_of repository name) ≤ 1
+        → Alters repo_file_table (ListsPairs (with_only_at repository name (file_line repository name body) rows_of)) old new
+    sets_it run rows_of has lists few =
+        let done = upserts_file old new repository name body rows_of run.count (has run.was_open).schema_is lists few run.went in
+        run_alters upsert_file_text (file_line repository name body) repo_file_table _ old new run done.0 done.1 done.2 done.3

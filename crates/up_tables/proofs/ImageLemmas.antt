@@ -13,8 +13,6 @@ use Rattle.sqlite.specs.Listing.{understood, reads_listing}
 use Rattle.sqlite.specs.State.{State, HasCleanDisk, Survives, ExecutesInside, Shown}
 use Rattle.sqlite.proofs.Callers.{IsPlain, command_of}
 use Rattle.sqlite_tied.specs.Compute.{everything}
-use Rattle.sqlite_rules.specs.Action.{works}
-use Rattle.sqlite_schema.specs.declared.schema.Keys.TheVariants.{Enforced}
 use Rattle.up_tables.specs.Tables.{up_schema, image_table}
 use Rattle.up_tables.specs.Rows.{columns_at, with_row}
 use Rattle.up_tables.specs.Forms.{image_row, image_places}
@@ -42,13 +40,6 @@ insert_is : (command_of (understood up_schema insert_image_text) ≡ Insert 3 (V
 unfolding understood everything
 insert_is = (refl, (refl, refl))
 
-idle : (olds news : List Row) → works up_schema Enforced 0 5 olds news ≡ []
-idle olds news = go (length news == 0) refl
-  where
-    go : (b : Bool) → (length news == 0) ≡ b → works up_schema Enforced 0 5 olds news ≡ []
-    go true e = rw e refl
-    go false e = rw e refl
-
 casts : (i : ImageRow) → cast_row image_table (Null ∷ image_row i) ≡ Null ∷ image_row i
 casts i = rw (cast_null, cast_int (pos i.length), cast_int (pos i.release_count)) refl
 
@@ -57,7 +48,7 @@ pub image_inserts : (r : Result ℕ Error) (old new : State) (i : ImageRow) → 
     → HasCleanDisk new → OnOk r ((rows_of : List ℕ → List Row) → HasTables old → Lists 1 rows_of (old.now.trees 5) → Alters image_table (Lists 1 (with_row (string_bytes i.file) (image_row i) rows_of)) old new)
 image_inserts r old new i survives inside ran clean =
     listed_in image_table 1 (string_bytes i.file) (image_row i) old new r (λ x n. text_is (string_bytes i.file) n)
-    (inserts_in insert_image_text 3 image_table terms 8 (image_row i) (image_row i) insert_is.0 insert_is.1 refl refl (append-nil _) refl (casts i) idle r old new survives inside ran clean)
+    (inserts_in insert_image_text 3 image_table terms 8 (image_row i) (image_row i) insert_is.0 insert_is.1 refl refl (append-nil _) refl (casts i) r old new survives inside ran clean)
 
 -- ---- read
 

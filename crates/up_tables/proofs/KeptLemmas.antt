@@ -1,5 +1,5 @@
 -- The statements on kept manifests.
-use Rattle.std.proofs.Common.{◌≡◌, ◌==◌, ℕ, pos, List, [], ◌∷◌, map, filter, Bool, true, false, ◌&&◌, length, Result, OnOk, IfOk, Option, IsTrue, refl, sym, ap, ◌∙◌, codes, string_bytes, append-nil, drop}
+use Rattle.std.proofs.Common.{◌≡◌, ℕ, pos, List, [], ◌∷◌, map, filter, Bool, false, ◌&&◌, Result, OnOk, IfOk, Option, IsTrue, refl, sym, ap, ◌∙◌, codes, string_bytes, append-nil, drop}
 use Rattle.std.specs.Option.{option_to_list}
 use Rattle.std.specs.Result.{IsOkAnd}
 use Rattle.std.specs.Ordering.{is_eq}
@@ -15,8 +15,6 @@ use Rattle.sqlite.specs.Listing.{understood, reads_listing}
 use Rattle.sqlite.specs.State.{State, HasCleanDisk, Survives, ExecutesInside, Shown}
 use Rattle.sqlite.proofs.Callers.{IsPlain, command_of}
 use Rattle.sqlite_tied.specs.Compute.{everything}
-use Rattle.sqlite_rules.specs.Action.{works}
-use Rattle.sqlite_schema.specs.declared.schema.Keys.TheVariants.{Enforced}
 use Rattle.up_tables.specs.Rows.{bare, columns_at, has_text, has_number, with_row}
 use Rattle.up_tables.specs.Stands.{Lists, IfClean, IsInside, Alters, HasTables}
 use Rattle.up_tables.specs.declared.values.StoreFault.{StoreFault}
@@ -44,13 +42,6 @@ insert_is : (command_of (understood up_schema insert_kept_text) ≡ Insert 7 (Va
 unfolding understood everything
 insert_is = (refl, (refl, refl))
 
-idle : (olds news : List Row) → works up_schema Enforced 0 14 olds news ≡ []
-idle olds news = go (length news == 0) refl
-  where
-    go : (b : Bool) → (length news == 0) ≡ b → works up_schema Enforced 0 14 olds news ≡ []
-    go true e = rw e refl
-    go false e = rw e refl
-
 casts : (k : KeptRow) → cast_row kept_table (Null ∷ kept_row k) ≡ Null ∷ kept_row k
 casts k = rw (cast_null, cast_int (pos k.counter), cast_int (pos k.version), cast_int (pos k.moment), cast_int (pos k.root)) refl
 
@@ -59,7 +50,7 @@ pub kept_inserts : (r : Result ℕ Error) (old new : State) (k : KeptRow) → Su
     → HasCleanDisk new → OnOk r ((rows_of : List ℕ → List Row) → HasTables old → Lists 1 rows_of (old.now.trees 14) → Alters kept_table (Lists 1 (with_row (string_bytes k.vehicle) (kept_row k) rows_of)) old new)
 kept_inserts r old new k survives inside ran clean =
     listed_in kept_table 1 (string_bytes k.vehicle) (kept_row k) old new r (λ x n. text_is (string_bytes k.vehicle) n)
-    (inserts_in insert_kept_text 7 kept_table terms 9 (kept_row k) (kept_row k) insert_is.0 insert_is.1 refl refl (append-nil _) refl (casts k) idle r old new survives inside ran clean)
+    (inserts_in insert_kept_text 7 kept_table terms 9 (kept_row k) (kept_row k) insert_is.0 insert_is.1 refl refl (append-nil _) refl (casts k) r old new survives inside ran clean)
 
 -- ---- read
 

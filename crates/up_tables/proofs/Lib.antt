@@ -7,10 +7,12 @@ pub mod AppendLemmas
 pub mod PlaceLemmas
 pub mod UpsertLemmas
 pub mod OthersLemmas
+pub mod RunLemmas
 pub mod UpdateLemmas
 pub mod OnlyLemmas
 pub mod ReadLemmas
 pub mod StateLemmas
+pub mod CallLemmas
 pub mod ByNameLemmas
 pub mod ImageLemmas
 pub mod VehicleLemmas

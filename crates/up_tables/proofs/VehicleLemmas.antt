@@ -1,5 +1,5 @@
 -- The statements on vehicles.
-use Rattle.std.proofs.Common.{◌≡◌, ◌≢◌, ◌==◌, inl, inr, ℕ, ℤ, pos, List, [], ◌∷◌, ◌++◌, map, filter, Bool, true, false, length, Some, Ok, Err, Result, OnOk, IfOk, Option, IsTrue, refl, sym, ap, subst, ◌∙◌, arith, codes, string_bytes, append-nil, drop}
+use Rattle.std.proofs.Common.{◌≡◌, ◌≢◌, inl, inr, ℕ, ℤ, pos, List, [], ◌∷◌, ◌++◌, map, filter, true, false, Some, Ok, Err, Result, OnOk, IfOk, Option, IsTrue, refl, sym, ap, subst, ◌∙◌, arith, codes, string_bytes, append-nil, drop}
 use Rattle.std.specs.List.{AllByRecursion, list_all}
 use Rattle.std.specs.List.Sorted.{IsPermutation}
 use Rattle.std.specs.Option.{option_to_list}
@@ -25,7 +25,6 @@ use Rattle.sqlite.specs.Tree.{Trees, put_row, without_rowid, has_rowid, rowid, I
 use Rattle.sqlite.proofs.Callers.{IsPlain, command_of, statement_of, one_step, one_permutation}
 use Rattle.sqlite_tied.specs.Compute.{everything}
 use Rattle.sqlite_keyed.proofs.ListLemmas.{filter_same}
-use Rattle.sqlite_rules.specs.Action.{works}
 use Rattle.sqlite_rules.specs.Calls.{ids_of}
 use Rattle.sqlite_rules.specs.Keys.{conflicts}
 use Rattle.sqlite_rules.specs.Lists.{Has}
@@ -61,6 +60,7 @@ use Rattle.up_tables.proofs.InsertLemmas.{inserts_in}
 use Rattle.up_tables.proofs.OnlyLemmas.{rewritten_shaped, rewritten_parts}
 use Rattle.up_tables.proofs.OthersLemmas.{others_stay}
 use Rattle.up_tables.proofs.PlaceLemmas.{only}
+use Rattle.up_tables.proofs.RunLemmas.{idle}
 use Rattle.up_tables.proofs.ReturnLemmas.{IsShowing, writes_as}
 use Rattle.up_tables.proofs.StepLemmas.{shown_open, shown_after}
 use Rattle.up_tables.proofs.UpsertLemmas.{upserted, tried_each, tried, resolved, updated, showing}
@@ -77,13 +77,6 @@ insert_is : (command_of (understood up_schema insert_vehicle_text) ≡ Insert 5 
 unfolding understood everything
 insert_is = (refl, (refl, refl))
 
-idle : (olds news : List Row) → works up_schema Enforced 0 9 olds news ≡ []
-idle olds news = go (length news == 0) refl
-  where
-    go : (b : Bool) → (length news == 0) ≡ b → works up_schema Enforced 0 9 olds news ≡ []
-    go true e = rw e refl
-    go false e = rw e refl
-
 casts : (name primary : List ℕ) (version last : ℕ) → cast_row vehicle_table (Null ∷ vehicle_line name primary version last) ≡ Null ∷ vehicle_line name primary version last
 casts name primary version last = rw (cast_null, cast_int (pos version), cast_int (pos last)) refl
 
@@ -95,7 +88,7 @@ pub vehicle_inserts : (r : Result ℕ Error) (old new : State) (v : VehicleRow) 
     → HasCleanDisk new → OnOk r ((rows_of : List ℕ → List Row) → HasTables old → Lists 1 rows_of (old.now.trees 9) → Alters vehicle_table (Lists 1 (with_row (string_bytes v.vehicle) (vehicle_row v) rows_of)) old new)
 vehicle_inserts r old new v survives inside ran clean =
     listed_in vehicle_table 1 (string_bytes v.vehicle) (vehicle_row v) old new r (λ x n. text_is (string_bytes v.vehicle) n)
-    (inserts_in insert_vehicle_text 5 vehicle_table terms 5 (vehicle_row v) (vehicle_row v) insert_is.0 insert_is.1 refl refl (append-nil _) refl (casts _ _ v.version v.last_counter) idle r old new survives inside ran clean)
+    (inserts_in insert_vehicle_text 5 vehicle_table terms 5 (vehicle_row v) (vehicle_row v) insert_is.0 insert_is.1 refl refl (append-nil _) refl (casts _ _ v.version v.last_counter) r old new survives inside ran clean)
 
 -- ---- read
 
@@ -193,7 +186,7 @@ updates limit db n name primary was_primary version last was_version was_last on
     let up = updated task update _ db one (subst (λ r. Updates task update (given ++ rowid r ∷ shown_row vehicle_table (Int n ∷ given)) db (Ok one)) it.1 res.3) in
     let all : up.0 ≡ (Int id ∷ Int id ∷ row) ∷ [] = update_rows db id name primary was_primary (Int n) Null (Int (pos was_version)) (Int (pos was_last)) (Int (pos version)) (Int (pos last)) _ up.0 shaped.0 refl there up.1 in
     let edit = edit_of db vehicle_table (ids_of up.0) Given 1 up.0 in
-    let step = one_step up_schema Enforced db one.trees edit (idle (taken_by db edit) edit.news) up.2 in
+    let step = one_step up_schema Enforced db one.trees edit (idle 9 (taken_by db edit) edit.news) up.2 in
     let news : (edit_of db vehicle_table (ids_of ((Int id ∷ Int id ∷ row) ∷ [])) Given 1 ((Int id ∷ Int id ∷ row) ∷ [])).news ≡ (Int id ∷ row) ∷ [] = ap (λ r. r ∷ []) (casts_given id name was_primary version last) in
     let edit_is : edited db (edit_of db vehicle_table (ids_of ((Int id ∷ Int id ∷ row) ∷ [])) Given 1 ((Int id ∷ Int id ∷ row) ∷ [])) ≡ put_row (Int id ∷ row) (without_rowid id (db 9)) =
     ap (λ r. put_row r (without_rowid id (db 9))) (casts_given id name was_primary version last) in

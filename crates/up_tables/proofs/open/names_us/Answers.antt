@@ -1,4 +1,4 @@
-use Rattle.std.proofs.Common.{◌≡◌, Result, Ok, Err, Bool, false, IsTrue, IfOk, subst, arith, rules}
+use Rattle.std.proofs.Common.{◌≡◌, subst, arith, rules}
 use Rattle.sqlite.specs.Held.{state}
 use Rattle.sqlite.specs.State.{HasCleanDisk}
 use Rattle.up_tables.specs.Ours.{NamesOthers, ListsUs}
