@@ -1,5 +1,5 @@
 -- What a call of one statement leaves in a transaction, whatever it answers.
-use Rattle.std.proofs.Common.{◌⊎◌, ℕ, List, IfOk, IfErr, OnOk, Result, IsTrue}
+use Rattle.std.proofs.Common.{◌⊎◌, ℕ, List, IfOk, IfErr, OnOk, Result, IsTrue, arith}
 use Rattle.std.specs.Result.{IsOk, IsOkAnd}
 use Rattle.sqlite.specs.declared.error.Error.{Error}
 use Rattle.sqlite.specs.Order.{Row}
@@ -10,7 +10,7 @@ use Rattle.up_tables.specs.Tables.{up_schema}
 use Rattle.up_tables.specs.Stands.{IfClean, IsInside, IsOpen, HasTables, Reads, Steps}
 use Rattle.up_tables.specs.declared.values.StoreFault.{StoreFault}
 use Rattle.up_tables.proofs.StateLemmas.{on_done, on_read, reads_in, inside_after, open_after, shown_inside, shown_is_open}
-use Rattle.up_tables.proofs.StepLemmas.{queries, executes}
+use Rattle.up_tables.proofs.StepLemmas.{queries, executes, steps_then}
 
 -- ---- a query that writes nothing
 
@@ -46,3 +46,18 @@ is_written sql params old new written r P h inside survives ran does = record {
   opened = on_done _ written r h (open_after sql params old new written survives inside ran);
   steps = executes sql params old new written inside survives ran;
 }
+
+-- ---- one call after another
+
+-- after some calls the transaction goes on, and a crash leaves what it could leave before
+pub record GoOn (old now : State) : Type 0 where
+  pub inside : IfClean IsInside now
+  pub opened : IfClean IsOpen now
+  pub steps : Steps old now
+
+pub go_on : (old mid new : State) → GoOn old mid → IfClean IsInside new → IfClean IsOpen new → Steps mid new → GoOn old new
+go_on old mid new on inside opened steps = record { inside = inside; opened = opened; steps = steps_then old mid new on.steps steps }
+
+-- the disk was clean before a step, too
+pub clean_before : (old new : State) → Steps old new → HasCleanDisk new → HasCleanDisk old
+clean_before old new steps clean = omega (arith, steps.survives.clean)
