@@ -7,6 +7,5 @@ use Rattle.up_tables.proofs.ecu.insert_ecu.Goals as goal
 pub returns : goal.returns
 returns g c =
     let written = is_written _ _ _ _ c.execute.result c.done.result _ c.done.ensures.ok c.requires.mode c.execute.ensures.survives c.execute.ensures.runs
-    (ecu_inserts c.execute.result _ _ (line c.args.vehicle.now c.args.place c.args.row.now) (line_kept c.args.vehicle.now c.args.place c.args.row.now) c.execute.ensures.survives c.requires.mode
-    (rw (c.words.ensures, c.as_str.ensures.value, c.words-2.ensures, c.number.ensures, c.words-3.ensures, c.as_str-2.ensures.value, c.bytes.ensures, c.as_slice.ensures.value, c.file_of.ensures, c.length_of.ensures, c.hash_of.ensures, c.number-2.ensures, c.report_of.ensures) at c.execute.ensures.runs)) in
+    (ecu_inserts c.execute.result _ _ (line c.args.vehicle.now c.args.place c.args.row.now) (line_kept c.args.vehicle.now c.args.place c.args.row.now) c.execute.ensures.survives c.requires.mode (rw c.values_of.ensures at c.execute.ensures.runs)) in
     record { same_reference = c.execute.ensures.same_reference; inserted = written.told; inside = written.inside; «open» = written.opened; steps = written.steps }
