@@ -56,7 +56,7 @@ use Rattle.up_tables.proofs.InsertLemmas.{concluded}
 use Rattle.up_tables.proofs.OnlyLemmas.{rewritten_shaped, part_in, part_out}
 use Rattle.up_tables.proofs.RunLemmas.{IsRun, run_in, then_ok, run_alters, idle}
 use Rattle.up_tables.proofs.PlaceLemmas.{only}
-use Rattle.up_tables.proofs.UpsertLemmas.{upserted, tried_each, tried, updated}
+use Rattle.up_tables.proofs.UpsertLemmas.{tried, updated, rewritten_by, tries_row}
 
 abbrev pub upsert_file_text : List ℕ
 upsert_file_text = codes "INSERT INTO repo_file (repository, name, body) VALUES (?1, ?2, ?3) ON CONFLICT (repository, name) DO UPDATE SET body = excluded.body"
@@ -153,11 +153,7 @@ module _ (limit : Option ℕ) (db : Trees) (n : ℤ) (repository name body : Lis
   updates id was table first second there h =
       let up = updated task update _ db one h in
       let all : up.0 ≡ (Int id ∷ Int id ∷ row) ∷ [] = update_rows id was (Int n) _ [] up.0 table first second refl there up.1 in
-      let edit = edit_of db repo_file_table (ids_of up.0) Given 1 up.0 in
-      let step = one_step up_schema Enforced db one.trees edit (idle 3 (taken_by db edit) edit.news) up.2 in
-      let edit_is : edited db (edit_of db repo_file_table (ids_of ((Int id ∷ Int id ∷ row) ∷ [])) Given 1 ((Int id ∷ Int id ∷ row) ∷ [])) ≡ put_row (Int id ∷ row) (without_rowid id (db 3)) =
-      ap (λ r. put_row r (without_rowid id (db 3))) (casts_given id repository name body) in
-      (step.rows ∙ ap (λ xs. edited db (edit_of db repo_file_table (ids_of xs) Given 1 xs)) all ∙ edit_is, step.tables)
+      rewritten_by up_schema repo_file_table (idle 3) db one.trees id row up.0 all (casts_given id repository name body) up.2
 
 -- ---- either way, the file has its text alone
 
@@ -248,26 +244,12 @@ upserts_file : (old new : State) (repository name body : List ℕ) (rows_of : Li
 upserts_file old new repository name body rows_of count has lists few h =
     let db = old.now.trees in
     let row = file_line repository name body in
-    let command = InsertOr 2 Abort (Values terms 4) (clause ∷ []) in
-    let task : Task = record { limit = old.step_limit; keys = Enforced; schema = up_schema; table = repo_file_table; params = row } in
-    let w = runs_as upsert_file_text row old new up_schema has command upsert_is.0 upsert_is.1 count h in
-    let on : OnRows task (mode_of old) None command db (Ok (w.tally, new.now)) =
-    subst (λ s. Does old.step_limit (mode_of old) row (record old.now { schema = s }) (statement_of upsert_file_text (understood up_schema upsert_file_text)) None command (Ok (w.tally, new.now))) has w.changed in
-    let done = went on in
-    let now = concluded task (mode_of old) done.0 w.tally new.now done.2 in
-    let up = upserted task (clause ∷ []) (Values terms 4) db done.0 refl done.1 in
-    let source : up.0 ≡ (Null ∷ row) ∷ [] = up.1.1 in
-    let each : TriesEach task Abort (clause ∷ []) ((Null ∷ row) ∷ []) up.2.0 (nothing db) (Ok up.2.1) = subst (λ all. TriesEach task Abort (clause ∷ []) all up.2.0 (nothing db) (Ok up.2.1)) source up.2.2 in
-    let one = tried_each task (clause ∷ []) (Null ∷ row) up.2.0 db up.2.1 refl each in
-    let new_is : with_rowid Chosen (db 3) (cast_row repo_file_table (Null ∷ row)) ≡ Int (next_rowid (db 3)) ∷ row = ap (with_rowid Chosen (db 3)) (casts repository name body) in
-    let tries = subst (λ r. Tries task Abort (clause ∷ []) r db (Ok one.0)) new_is one.1 in
-    let set = sets old.step_limit db repository name body one.0 rows_of lists few (tried task clause (Int (next_rowid (db 3)) ∷ row) db one.0 tries) in
-    let trees : done.0.trees ≡ one.0.trees = up.2.3 ∙ ap (λ (x : Written). x.trees) one.2 in
-    let now_is : new.now ≡ record { schema = up_schema; trees = one.0.trees } = now ∙ ap (λ t. record { schema = up_schema; trees = t }) trees in (
-      ap (λ (d : Database). d.schema) now_is,
-      w.sound,
-      subst (λ (d : Database). ListsPairs (with_only_at repository name row rows_of) (d.trees 3)) (sym now_is) set.0,
-      subst (λ (d : Database). AllByRecursion (λ t. t.tree ≢ 3 → d.trees t.tree ≡ db t.tree) up_schema.tables) (sym now_is) set.1,
+    let tries = tries_row up_schema upsert_file_text 2 repo_file_table terms 4 row row (clause ∷ []) upsert_is.0 upsert_is.1 refl refl (append-nil _) refl (casts repository name body) old new count has h in
+    let set = sets old.step_limit db repository name body tries.0 rows_of lists few (tried (it_task old.step_limit db repository name body tries.0 rows_of lists few) clause (Int (next_rowid (db 3)) ∷ row) db tries.0 tries.1) in (
+      ap (λ (d : Database). d.schema) tries.3,
+      tries.2,
+      subst (λ (d : Database). ListsPairs (with_only_at repository name row rows_of) (d.trees 3)) (sym tries.3) set.0,
+      subst (λ (d : Database). AllByRecursion (λ t. t.tree ≢ 3 → d.trees t.tree ≡ db t.tree) up_schema.tables) (sym tries.3) set.1,
     )
 
 -- in a transaction

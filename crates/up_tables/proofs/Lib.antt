@@ -1,5 +1,5 @@
-pub mod SchemaLemmas
 pub mod CreateLemmas
+pub mod SchemaLemmas
 pub mod AnswerLemmas
 pub mod StepLemmas
 pub mod InsertLemmas

@@ -63,7 +63,7 @@ use Rattle.up_tables.proofs.PlaceLemmas.{only}
 use Rattle.up_tables.proofs.RunLemmas.{idle}
 use Rattle.up_tables.proofs.ReturnLemmas.{IsShowing, writes_as}
 use Rattle.up_tables.proofs.StepLemmas.{shown_open, shown_after}
-use Rattle.up_tables.proofs.UpsertLemmas.{upserted, tried_each, tried, resolved, updated, showing}
+use Rattle.up_tables.proofs.UpsertLemmas.{upserted, tried_each, tried, resolved, updated, rewritten_by, showing}
 
 -- ---- put in
 
@@ -185,12 +185,9 @@ updates limit db n name primary was_primary version last was_version was_last on
     let there : Has (db 9) (Int id ∷ was) = subst (Has (db 9)) it.1 res.1 in
     let up = updated task update _ db one (subst (λ r. Updates task update (given ++ rowid r ∷ shown_row vehicle_table (Int n ∷ given)) db (Ok one)) it.1 res.3) in
     let all : up.0 ≡ (Int id ∷ Int id ∷ row) ∷ [] = update_rows db id name primary was_primary (Int n) Null (Int (pos was_version)) (Int (pos was_last)) (Int (pos version)) (Int (pos last)) _ up.0 shaped.0 refl there up.1 in
-    let edit = edit_of db vehicle_table (ids_of up.0) Given 1 up.0 in
-    let step = one_step up_schema Enforced db one.trees edit (idle 9 (taken_by db edit) edit.news) up.2 in
+    let written = rewritten_by up_schema vehicle_table (idle 9) db one.trees id row up.0 all (casts_given id name was_primary version last) up.2 in
     let news : (edit_of db vehicle_table (ids_of ((Int id ∷ Int id ∷ row) ∷ [])) Given 1 ((Int id ∷ Int id ∷ row) ∷ [])).news ≡ (Int id ∷ row) ∷ [] = ap (λ r. r ∷ []) (casts_given id name was_primary version last) in
-    let edit_is : edited db (edit_of db vehicle_table (ids_of ((Int id ∷ Int id ∷ row) ∷ [])) Given 1 ((Int id ∷ Int id ∷ row) ∷ [])) ≡ put_row (Int id ∷ row) (without_rowid id (db 9)) =
-    ap (λ r. put_row r (without_rowid id (db 9))) (casts_given id name was_primary version last) in
-    (id, there, step.rows ∙ ap (λ xs. edited db (edit_of db vehicle_table (ids_of xs) Given 1 xs)) all ∙ edit_is, step.tables, up.3 ∙ ap (λ xs. (edit_of db vehicle_table (ids_of xs) Given 1 xs).news) all ∙ news)
+    (id, there, written.0, written.1, up.3 ∙ ap (λ xs. (edit_of db vehicle_table (ids_of xs) Given 1 xs).news) all ∙ news)
 
 upserts_vehicle : (old new : State) (name primary was_primary : List ℕ) (version last was_version was_last : ℕ) (rows : List Row) → old.now.schema ≡ up_schema → IsShaped Table (old.now.trees 9)
     → rows_with 1 name (old.now.trees 9) ≡ vehicle_line name was_primary was_version was_last ∷ [] → Shown upsert_vehicle_text (vehicle_line name primary version last) old new rows
