@@ -31,7 +31,7 @@ use Rattle.up_tables.specs.Forms.{campaign_row, campaign_places}
 use Rattle.up_tables.specs.Lines.{yes_or_no}
 use Rattle.up_tables.specs.declared.campaign.CampaignRow.{CampaignRow}
 use Rattle.up_tables.proofs.ByNameLemmas.{listed_in, named_in, all_in}
-use Rattle.up_tables.proofs.ReadLemmas.{answers_all, by_rowid}
+use Rattle.up_tables.proofs.ReadLemmas.{Asks, answers_all, by_rowid}
 
 -- ---- put in
 
@@ -72,19 +72,15 @@ shows params r = rw (column_after r 0, column_after r 1, column_after r 2, colum
 abbrev pub find_campaign_text : List ℕ
 find_campaign_text = codes "SELECT name, reach, items, running FROM campaign WHERE name = ?1"
 
-find_is : (command_of (understood up_schema find_campaign_text) ≡ Select (record { lets = []; body = over 7 (equals 1 0 ∷ []) shown [] }) names) × (reads_listing up_schema find_campaign_text ≡ false)
+pub find_is : Asks up_schema find_campaign_text (over 7 (equals 1 0 ∷ []) shown []) names
 unfolding understood everything
-find_is = (refl, refl)
-
-pub find_plain : IsPlain (understood up_schema find_campaign_text)
-unfolding understood everything
-find_plain = (refl, refl)
+find_is = (refl, refl, (refl, refl))
 
 pub finds_campaign : {X : Type 0} (items : X → List Row) (answer : Result X Error) (r : Result (Option CampaignRow) StoreFault) (old new : State) (name : List ℕ)
     → IfOk r (λ found. IsOkAnd answer (λ v. map part (items v) ≡ map campaign_row (option_to_list found))) → IfOk answer (λ v. Shown find_campaign_text (Text name ∷ []) old new (items v))
     → IfOk r (λ found. (rows_of : List ℕ → List Row) → HasTables old → Lists 1 rows_of (old.now.trees 7) → map part (rows_of name) ≡ map campaign_row (option_to_list found))
 finds_campaign items answer r old new name h ran =
-    named_in items campaign_table 0 find_campaign_text shown names part campaign_row name find_is.0 find_is.1 find_plain (λ db. refl) (shows (Text name ∷ [])) (λ x. refl) answer r old new h ran
+    named_in items campaign_table 0 find_campaign_text shown names part campaign_row name find_is (λ db. refl) (shows (Text name ∷ [])) (λ x. refl) answer r old new h ran
 
 abbrev pub running_text : List ℕ
 running_text = codes "SELECT name, reach, items, running FROM campaign WHERE running = 1 ORDER BY rowid"
@@ -92,13 +88,9 @@ running_text = codes "SELECT name, reach, items, running FROM campaign WHERE run
 abbrev runs : Term
 runs = op2 (Compare Eq Binary) (col 1 4) (lit (Int (pos 1)))
 
-running_is : (command_of (understood up_schema running_text) ≡ Select (record { lets = []; body = over 7 (runs ∷ []) shown by_rowid }) names) × (reads_listing up_schema running_text ≡ false)
+pub running_is : Asks up_schema running_text (over 7 (runs ∷ []) shown by_rowid) names
 unfolding understood everything
-running_is = (refl, refl)
-
-pub running_plain : IsPlain (understood up_schema running_text)
-unfolding understood everything
-running_plain = (refl, refl)
+running_is = (refl, refl, (refl, refl))
 
 pub finds_running : {X R : Type 0} (items : X → List Row) (list : R → List CampaignRow) (answer : Result X Error) (r : Result R StoreFault) (old new : State)
     → IfOk r (λ found. IsOkAnd answer (λ v. map part (items v) ≡ map campaign_row (list found))) → IfOk answer (λ v. Shown running_text [] old new (items v))
@@ -107,4 +99,4 @@ pub finds_running : {X R : Type 0} (items : X → List Row) (list : R → List C
 finds_running items list answer r old new h ran =
     all_in items list campaign_table running_text part campaign_row (λ c. string_bytes c.name) (has_number 3 (pos 1)) (λ x. refl) (λ x n. refl) (λ x n. text_is (string_bytes x.name) n) answer r old new
     (λ rows has table. answers_all up_schema running_text 7 (runs ∷ []) shown names [] (has_number 3 (pos 1)) part
-    (λ x. and-true _ ∙ equals_int (column x 4) (pos 1) ∙ ap (λ v. is_eq (value_cmp v (Int (pos 1)))) (column_after x 3)) (shows []) (λ db. refl) running_is.1 running_plain running_is.0 old new rows has table) h ran
+    (λ x. and-true _ ∙ equals_int (column x 4) (pos 1) ∙ ap (λ v. is_eq (value_cmp v (Int (pos 1)))) (column_after x 3)) (shows []) (λ db. refl) running_is old new rows has table) h ran

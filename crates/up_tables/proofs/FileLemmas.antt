@@ -25,7 +25,7 @@ use Rattle.up_tables.specs.Stands.{ListsPairs, IsOpen}
 use Rattle.up_tables.specs.declared.repo_file.FileRow.{FileRow}
 use Rattle.up_tables.proofs.EcuInserts.{take_next, take_whole}
 use Rattle.up_tables.proofs.OthersLemmas.{alters_to, alters_none, has_after, alters_then}
-use Rattle.up_tables.proofs.ReadLemmas.{answers_some, bare_filter}
+use Rattle.up_tables.proofs.ReadLemmas.{Asks, answers_some, bare_filter}
 use Rattle.up_tables.proofs.StateLemmas.{one_in, ok_then}
 
 -- ---- one after another
@@ -86,13 +86,9 @@ names = codes "repository" ∷ codes "name" ∷ codes "body" ∷ []
 abbrev pub find_file_text : List ℕ
 find_file_text = codes "SELECT repository, name, body FROM repo_file WHERE repository = ?1 AND name = ?2"
 
-find_is : (command_of (understood up_schema find_file_text) ≡ Select (record { lets = []; body = over 3 (equals 1 0 ∷ equals 2 1 ∷ []) shown [] }) names) × (reads_listing up_schema find_file_text ≡ false)
+pub find_is : Asks up_schema find_file_text (over 3 (equals 1 0 ∷ equals 2 1 ∷ []) shown []) names
 unfolding understood everything
-find_is = (refl, refl)
-
-pub find_plain : IsPlain (understood up_schema find_file_text)
-unfolding understood everything
-find_plain = (refl, refl)
+find_is = (refl, refl, (refl, refl))
 
 pub finds_file : {X : Type 0} (items : X → List Row) (answer : Result X Error) (r : Result (Option FileRow) StoreFault) (old new : State) (repository name : List ℕ)
     → IfOk r (λ found. IsOkAnd answer (λ v. map part (items v) ≡ map file_row (option_to_list found))) → IfOk answer (λ v. Shown find_file_text (Text repository ∷ Text name ∷ []) old new (items v))
@@ -103,6 +99,6 @@ finds_file items answer r old new repository name h ran =
     let test : (x : Row) → has_texts 1 repository 2 name x ≡ q (drop 1 x) = λ x. rw (column_after x 0, column_after x 1) refl in
     let answers = answers_some up_schema find_file_text 3 (equals 1 0 ∷ equals 2 1 ∷ []) shown names params q part
     (λ x. rw (equals_text (column x 1) repository, equals_text (column x 2) name, column_after x 0, column_after x 1) (ap (λ b. has_text 0 repository (drop 1 x) && b) (and-true _)))
-    (λ x. rw (column_after x 0, column_after x 1, column_after x 2) refl) (λ db. refl) find_is.1 find_plain find_is.0 old new in
+    (λ x. rw (column_after x 0, column_after x 1, column_after x 2) refl) (λ db. refl) find_is old new in
     ok_then _ _ r (λ found is rows_of has lists. ap (map part) (sym (lists.parts repository name) ∙ bare_filter (has_texts 1 repository 2 name) q test (old.now.trees 3)) ∙ is has)
     (one_in items part part (λ x. refl) file_row find_file_text params old new (filter q (bare (old.now.trees 3))) answer r answers h ran)

@@ -244,8 +244,9 @@ upserts_file : (old new : State) (repository name body : List ℕ) (rows_of : Li
 upserts_file old new repository name body rows_of count has lists few h =
     let db = old.now.trees in
     let row = file_line repository name body in
+    let task : Task = record { limit = old.step_limit; keys = Enforced; schema = up_schema; table = repo_file_table; params = row } in
     let tries = tries_row up_schema upsert_file_text 2 repo_file_table terms 4 row row (clause ∷ []) upsert_is.0 upsert_is.1 refl refl (append-nil _) refl (casts repository name body) old new count has h in
-    let set = sets old.step_limit db repository name body tries.0 rows_of lists few (tried (it_task old.step_limit db repository name body tries.0 rows_of lists few) clause (Int (next_rowid (db 3)) ∷ row) db tries.0 tries.1) in (
+    let set = sets old.step_limit db repository name body tries.0 rows_of lists few (tried task clause (Int (next_rowid (db 3)) ∷ row) db tries.0 tries.1) in (
       ap (λ (d : Database). d.schema) tries.3,
       tries.2,
       subst (λ (d : Database). ListsPairs (with_only_at repository name row rows_of) (d.trees 3)) (sym tries.3) set.0,

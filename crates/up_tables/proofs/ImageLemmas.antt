@@ -25,7 +25,7 @@ use Rattle.up_tables.proofs.Casts.{cast_int, cast_null}
 use Rattle.up_tables.proofs.EcuRows.{text_is, column_after}
 use Rattle.up_tables.proofs.EcuUpsert.{equals}
 use Rattle.up_tables.proofs.InsertLemmas.{inserts_in}
-use Rattle.up_tables.proofs.ReadLemmas.{answers_all, by_rowid}
+use Rattle.up_tables.proofs.ReadLemmas.{Asks, answers_all, by_rowid}
 use Rattle.up_tables.proofs.StateLemmas.{ok_then}
 
 -- ---- put in
@@ -67,29 +67,21 @@ shows params r = rw (column_after r 0, column_after r 1, column_after r 2, colum
 abbrev pub find_image_text : List ℕ
 find_image_text = codes "SELECT file, length, sha256, hardware, release_count, needs, conflicts FROM image WHERE file = ?1"
 
-find_is : (command_of (understood up_schema find_image_text) ≡ Select (record { lets = []; body = over 5 (equals 1 0 ∷ []) shown [] }) names) × (reads_listing up_schema find_image_text ≡ false)
+pub find_is : Asks up_schema find_image_text (over 5 (equals 1 0 ∷ []) shown []) names
 unfolding understood everything
-find_is = (refl, refl)
-
-pub find_plain : IsPlain (understood up_schema find_image_text)
-unfolding understood everything
-find_plain = (refl, refl)
+find_is = (refl, refl, (refl, refl))
 
 pub finds_image : {X : Type 0} (items : X → List Row) (answer : Result X Error) (r : Result (Option ImageRow) StoreFault) (old new : State) (file : List ℕ)
     → IfOk r (λ found. IsOkAnd answer (λ v. map part (items v) ≡ map image_row (option_to_list found))) → IfOk answer (λ v. Shown find_image_text (Text file ∷ []) old new (items v))
     → IfOk r (λ found. (rows_of : List ℕ → List Row) → HasTables old → Lists 1 rows_of (old.now.trees 5) → map part (rows_of file) ≡ map image_row (option_to_list found))
-finds_image items answer r old new file = named_in items image_table 0 find_image_text shown names part image_row file find_is.0 find_is.1 find_plain (λ db. refl) (shows (Text file ∷ [])) (λ x. refl) answer r old new
+finds_image items answer r old new file = named_in items image_table 0 find_image_text shown names part image_row file find_is (λ db. refl) (shows (Text file ∷ [])) (λ x. refl) answer r old new
 
 abbrev pub all_images_text : List ℕ
 all_images_text = codes "SELECT file, length, sha256, hardware, release_count, needs, conflicts FROM image ORDER BY rowid"
 
-all_is : (command_of (understood up_schema all_images_text) ≡ Select (record { lets = []; body = over 5 [] shown by_rowid }) names) × (reads_listing up_schema all_images_text ≡ false)
+pub all_is : Asks up_schema all_images_text (over 5 [] shown by_rowid) names
 unfolding understood everything
-all_is = (refl, refl)
-
-pub all_plain : IsPlain (understood up_schema all_images_text)
-unfolding understood everything
-all_plain = (refl, refl)
+all_is = (refl, refl, (refl, refl))
 
 pub finds_images : {X R : Type 0} (items : X → List Row) (list : R → List ImageRow) (answer : Result X Error) (r : Result R StoreFault) (old new : State)
     → IfOk r (λ found. IsOkAnd answer (λ v. map part (items v) ≡ map image_row (list found))) → IfOk answer (λ v. Shown all_images_text [] old new (items v))
@@ -98,4 +90,4 @@ pub finds_images : {X R : Type 0} (items : X → List Row) (list : R → List Im
 finds_images items list answer r old new h ran =
     ok_then _ _ r (λ found is rows_of has lists name. ap (map part) (sym (filter_true (rows_of name))) ∙ is rows_of has lists name)
     (all_in items list image_table all_images_text part image_row (λ i. string_bytes i.file) (λ _. true) (λ x. refl) (λ x n. refl) (λ x n. text_is (string_bytes x.file) n) answer r old new
-    (λ shown' has table. answers_all up_schema all_images_text 5 [] shown names [] (λ _. true) part (λ x. refl) (shows []) (λ db. refl) all_is.1 all_plain all_is.0 old new shown' has table) h ran)
+    (λ shown' has table. answers_all up_schema all_images_text 5 [] shown names [] (λ _. true) part (λ x. refl) (shows []) (λ db. refl) all_is old new shown' has table) h ran)

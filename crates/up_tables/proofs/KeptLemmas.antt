@@ -27,7 +27,7 @@ use Rattle.up_tables.specs.Tables.{up_schema, kept_table}
 use Rattle.up_tables.specs.Forms.{kept_row, kept_places}
 use Rattle.up_tables.specs.declared.kept.KeptRow.{KeptRow}
 use Rattle.up_tables.proofs.ByNameLemmas.{listed_in}
-use Rattle.up_tables.proofs.ReadLemmas.{answers_some, bare_filter, filter_both}
+use Rattle.up_tables.proofs.ReadLemmas.{Asks, answers_some, bare_filter, filter_both}
 use Rattle.up_tables.proofs.StateLemmas.{one_in, ok_then}
 
 -- ---- put in
@@ -66,13 +66,9 @@ names = codes "vehicle" ∷ codes "counter" ∷ codes "version" ∷ codes "momen
 abbrev pub find_kept_text : List ℕ
 find_kept_text = codes "SELECT vehicle, counter, version, moment, root, signed, plan_text, reply FROM kept WHERE vehicle = ?1 AND counter = ?2"
 
-find_is : (command_of (understood up_schema find_kept_text) ≡ Select (record { lets = []; body = over 14 (equals 1 0 ∷ equals 2 1 ∷ []) shown [] }) names) × (reads_listing up_schema find_kept_text ≡ false)
+pub find_is : Asks up_schema find_kept_text (over 14 (equals 1 0 ∷ equals 2 1 ∷ []) shown []) names
 unfolding understood everything
-find_is = (refl, refl)
-
-pub find_plain : IsPlain (understood up_schema find_kept_text)
-unfolding understood everything
-find_plain = (refl, refl)
+find_is = (refl, refl, (refl, refl))
 
 pub finds_kept : {X : Type 0} (items : X → List Row) (answer : Result X Error) (r : Result (Option KeptRow) StoreFault) (old new : State) (vehicle : List ℕ) (counter : ℕ)
     → IfOk r (λ found. IsOkAnd answer (λ v. map part (items v) ≡ map kept_row (option_to_list found))) → IfOk answer (λ v. Shown find_kept_text (Text vehicle ∷ Int (pos counter) ∷ []) old new (items v))
@@ -83,7 +79,7 @@ finds_kept items answer r old new vehicle counter h ran =
     let test : (x : Row) → has_text 1 vehicle x ≡ has_text 0 vehicle (drop 1 x) = λ x. ap (λ v. is_eq (value_cmp v (Text vehicle))) (column_after x 0) in
     let answers = answers_some up_schema find_kept_text 14 (equals 1 0 ∷ equals 2 1 ∷ []) shown names params q part
     (λ x. rw (equals_text (column x 1) vehicle, equals_int (column x 2) (pos counter), column_after x 0, column_after x 1) (ap (λ b. has_text 0 vehicle (drop 1 x) && b) (and-true _)))
-    (λ x. rw (column_after x 0, column_after x 1, column_after x 2, column_after x 3, column_after x 4, column_after x 5, column_after x 6, column_after x 7) refl) (λ db. refl) find_is.1 find_plain find_is.0 old new in
+    (λ x. rw (column_after x 0, column_after x 1, column_after x 2, column_after x 3, column_after x 4, column_after x 5, column_after x 6, column_after x 7) refl) (λ db. refl) find_is old new in
     ok_then _ _ r (λ found is rows_of has lists.
     ap (λ xs. map part (filter (has_number 1 (pos counter)) xs)) (sym (lists.parts vehicle) ∙ bare_filter (has_text 1 vehicle) (has_text 0 vehicle) test (old.now.trees 14))
     ∙ ap (map part) (sym (filter_both (has_text 0 vehicle) (has_number 1 (pos counter)) (bare (old.now.trees 14)))) ∙ is has)

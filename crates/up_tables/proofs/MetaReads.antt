@@ -19,6 +19,7 @@ use Rattle.sqlite_value.specs.declared.keys.Collation.TheVariants.{Binary}
 use Rattle.up_tables.specs.Rows.{columns_at}
 use Rattle.up_tables.specs.Stands.{IfClean, IsInside, Alters, HasTables}
 use Rattle.up_tables.specs.declared.values.StoreFault.{StoreFault}
+use Rattle.up_tables.proofs.ReadLemmas.{Asks, asked}
 use Rattle.up_tables.proofs.AnswerLemmas.{over, equals_int}
 use Rattle.up_tables.proofs.Casts.{cast_int, cast_null}
 use Rattle.std.specs.List.{list_all}
@@ -56,19 +57,14 @@ shown = col 1 4 ∷ col 1 5 ∷ col 1 6 ∷ []
 abbrev names : List (List ℕ)
 names = codes "root" ∷ codes "image_version" ∷ codes "stamp" ∷ []
 
-find_is : (command_of (understood up_schema find_founding_text) ≡ Select (record { lets = []; body = over 0 (is_one ∷ []) shown [] }) names) × (reads_listing up_schema find_founding_text ≡ false)
+pub find_is : Asks up_schema find_founding_text (over 0 (is_one ∷ []) shown []) names
 unfolding understood everything
-find_is = (refl, refl)
-
-pub find_plain : IsPlain (understood up_schema find_founding_text)
-unfolding understood everything
-find_plain = (refl, refl)
+find_is = (refl, refl, (refl, refl))
 
 shown_row : (old new : State) (root image_version stamp : ℕ) (rows : List Row) → old.now.schema ≡ up_schema → old.now.trees 0 ≡ meta_row root image_version stamp ∷ [] → Shown find_founding_text [] old new rows
     → rows ≡ (Int (pos root) ∷ Int (pos image_version) ∷ Int (pos stamp) ∷ []) ∷ []
 shown_row old new root image_version stamp rows has is h =
-    let read = reads_as find_founding_text [] old new up_schema has (Select (record { lets = []; body = over 0 (is_one ∷ []) shown [] }) names) find_is.0 find_plain find_is.1 rows h in
-    let same = shows_passing (is_one ∷ []) shown [] (old.now.trees 0) rows (answer_is (Rattle.sqlite.specs.Program.overlay old.now.trees []) 0 (is_one ∷ []) shown [] [] rows (read.answer Null)) in
+    let same = shows_passing (is_one ∷ []) shown [] (old.now.trees 0) rows (asked up_schema find_founding_text 0 (is_one ∷ []) shown [] names [] find_is old new rows has h) in
     one_permutation _ rows (subst (λ xs. IsPermutation xs rows) (ap (map (λ r. eval_all shown ([] ∷ r ∷ []))) (one_row [] root image_version stamp (old.now.trees 0) is)) same)
 
 the_one : (found : Option MetaRow) (root image_version stamp : ℕ) → (Int (pos root) ∷ Int (pos image_version) ∷ Int (pos stamp) ∷ []) ∷ [] ≡ map meta_values (option_to_list found)

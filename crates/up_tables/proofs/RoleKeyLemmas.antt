@@ -33,7 +33,7 @@ use Rattle.up_tables.specs.declared.role_key.RoleKeyRow.{RoleKeyRow}
 use Rattle.up_tables.proofs.ByNameLemmas.{added_in, filter_true}
 use Rattle.up_tables.proofs.EcuInserts.{take_next, take_whole}
 use Rattle.up_tables.proofs.OthersLemmas.{alters_to, alters_none, has_after, alters_then}
-use Rattle.up_tables.proofs.ReadLemmas.{answers_all, by_rowid}
+use Rattle.up_tables.proofs.ReadLemmas.{Asks, answers_all, by_rowid}
 use Rattle.up_tables.proofs.StateLemmas.{each_in, ok_then}
 
 -- ---- put in
@@ -97,13 +97,9 @@ shows params r = rw (column_after r 0, column_after r 1, column_after r 2, colum
 abbrev pub keys_of_text : List ℕ
 keys_of_text = codes "SELECT root, repository, role, place, secret, threshold FROM role_key WHERE root = ?1 ORDER BY rowid"
 
-keys_of_is : (command_of (understood up_schema keys_of_text) ≡ Select (record { lets = []; body = over 1 (equals 1 0 ∷ []) shown by_rowid }) names) × (reads_listing up_schema keys_of_text ≡ false)
+pub keys_of_is : Asks up_schema keys_of_text (over 1 (equals 1 0 ∷ []) shown by_rowid) names
 unfolding understood everything
-keys_of_is = (refl, refl)
-
-pub keys_of_plain : IsPlain (understood up_schema keys_of_text)
-unfolding understood everything
-keys_of_plain = (refl, refl)
+keys_of_is = (refl, refl, (refl, refl))
 
 pub finds_keys_of : {X R : Type 0} (items : X → List Row) (list : R → List RoleKeyRow) (answer : Result X Error) (r : Result R StoreFault) (old new : State) (root : ℕ)
     → IfOk r (λ found. IsOkAnd answer (λ v. map part (items v) ≡ map role_key_row (list found))) → IfOk answer (λ v. Shown keys_of_text (Int (pos root) ∷ []) old new (items v))
@@ -113,18 +109,14 @@ finds_keys_of items list answer r old new root h ran =
     ok_then _ _ r (λ found is all has lists. ap (λ xs. map part (filter (has_number 0 (pos root)) xs)) (sym lists.every) ∙ is lists.shaped has)
     (each_in items part part (λ x. refl) role_key_row keys_of_text (Int (pos root) ∷ []) old new (IsShaped Table (old.now.trees 1)) list rows answer r
     (λ shown' shaped has. answers_all up_schema keys_of_text 1 (equals 1 0 ∷ []) shown names (Int (pos root) ∷ []) (has_number 0 (pos root)) part
-    (λ x. and-true _ ∙ equals_int (column x 1) (pos root) ∙ ap (λ v. is_eq (value_cmp v (Int (pos root)))) (column_after x 0)) (shows (Int (pos root) ∷ [])) (λ db. refl) keys_of_is.1 keys_of_plain keys_of_is.0 old new shown' has shaped.0) h ran)
+    (λ x. and-true _ ∙ equals_int (column x 1) (pos root) ∙ ap (λ v. is_eq (value_cmp v (Int (pos root)))) (column_after x 0)) (shows (Int (pos root) ∷ [])) (λ db. refl) keys_of_is old new shown' has shaped.0) h ran)
 
 abbrev pub all_keys_text : List ℕ
 all_keys_text = codes "SELECT root, repository, role, place, secret, threshold FROM role_key ORDER BY rowid"
 
-all_keys_is : (command_of (understood up_schema all_keys_text) ≡ Select (record { lets = []; body = over 1 [] shown by_rowid }) names) × (reads_listing up_schema all_keys_text ≡ false)
+pub all_keys_is : Asks up_schema all_keys_text (over 1 [] shown by_rowid) names
 unfolding understood everything
-all_keys_is = (refl, refl)
-
-pub all_keys_plain : IsPlain (understood up_schema all_keys_text)
-unfolding understood everything
-all_keys_plain = (refl, refl)
+all_keys_is = (refl, refl, (refl, refl))
 
 pub finds_all_keys : {X R : Type 0} (items : X → List Row) (list : R → List RoleKeyRow) (answer : Result X Error) (r : Result R StoreFault) (old new : State)
     → IfOk r (λ found. IsOkAnd answer (λ v. map part (items v) ≡ map role_key_row (list found))) → IfOk answer (λ v. Shown all_keys_text [] old new (items v))
@@ -133,4 +125,4 @@ finds_all_keys items list answer r old new h ran =
     let rows = filter (λ _. true) (bare (old.now.trees 1)) in
     ok_then _ _ r (λ found is all has lists. ap (map part) (sym lists.every ∙ sym (filter_true (bare (old.now.trees 1)))) ∙ is lists.shaped has)
     (each_in items part part (λ x. refl) role_key_row all_keys_text [] old new (IsShaped Table (old.now.trees 1)) list rows answer r
-    (λ shown' shaped has. answers_all up_schema all_keys_text 1 [] shown names [] (λ _. true) part (λ x. refl) (shows []) (λ db. refl) all_keys_is.1 all_keys_plain all_keys_is.0 old new shown' has shaped.0) h ran)
+    (λ shown' shaped has. answers_all up_schema all_keys_text 1 [] shown names [] (λ _. true) part (λ x. refl) (shows []) (λ db. refl) all_keys_is old new shown' has shaped.0) h ran)

@@ -49,6 +49,7 @@ use Rattle.up_tables.specs.Stands.{Lists, IfClean, IsInside, Alters, HasTables}
 use Rattle.up_tables.specs.Upserts.{Rewrites}
 use Rattle.up_tables.specs.declared.vehicle.VehicleRow.{VehicleRow}
 use Rattle.up_tables.specs.declared.values.StoreFault.{StoreFault}
+use Rattle.up_tables.proofs.ReadLemmas.{Asks, asked}
 use Rattle.up_tables.proofs.AnswerLemmas.{over, equals_text, equals_int, answer_is, shows_passing}
 use Rattle.up_tables.proofs.ByNameLemmas.{listed_in, named_in}
 use Rattle.up_tables.proofs.Casts.{cast_int, cast_null}
@@ -104,18 +105,14 @@ names = codes "vehicle" ∷ codes "primary_ecu" ∷ codes "version" ∷ codes "l
 abbrev pub find_vehicle_text : List ℕ
 find_vehicle_text = codes "SELECT vehicle, primary_ecu, version, last_counter FROM vehicle WHERE vehicle = ?1"
 
-find_is : (command_of (understood up_schema find_vehicle_text) ≡ Select (record { lets = []; body = over 9 (equals 1 0 ∷ []) shown [] }) names) × (reads_listing up_schema find_vehicle_text ≡ false)
+pub find_is : Asks up_schema find_vehicle_text (over 9 (equals 1 0 ∷ []) shown []) names
 unfolding understood everything
-find_is = (refl, refl)
-
-pub find_plain : IsPlain (understood up_schema find_vehicle_text)
-unfolding understood everything
-find_plain = (refl, refl)
+find_is = (refl, refl, (refl, refl))
 
 pub finds_vehicle : {X : Type 0} (items : X → List Row) (answer : Result X Error) (r : Result (Option VehicleRow) StoreFault) (old new : State) (name : List ℕ)
     → IfOk r (λ found. IsOkAnd answer (λ v. map part (items v) ≡ map vehicle_row (option_to_list found))) → IfOk answer (λ v. Shown find_vehicle_text (Text name ∷ []) old new (items v))
     → IfOk r (λ found. (rows_of : List ℕ → List Row) → HasTables old → Lists 1 rows_of (old.now.trees 9) → map part (rows_of name) ≡ map vehicle_row (option_to_list found))
-finds_vehicle items answer r old new name = named_in items vehicle_table 0 find_vehicle_text shown names part vehicle_row name find_is.0 find_is.1 find_plain (λ db. refl) (λ x. rw (column_after x 0, column_after x 1, column_after x 2, column_after x 3) refl) (λ x. refl) answer r old new
+finds_vehicle items answer r old new name = named_in items vehicle_table 0 find_vehicle_text shown names part vehicle_row name find_is (λ db. refl) (λ x. rw (column_after x 0, column_after x 1, column_after x 2, column_after x 3) refl) (λ x. refl) answer r old new
 
 -- ---- its numbers are set
 
