@@ -7,9 +7,6 @@ use Rattle.sqlite.specs.declared.error.Error.{Error}
 use Rattle.sqlite.specs.Order.{Row, column, value_cmp}
 use Rattle.sqlite.specs.Term.{Term, eval_all}
 use Rattle.sqlite.specs.Program.{overlay}
-use Rattle.sqlite.specs.Command.TheVariants.{Select}
-use Rattle.sqlite.specs.Listing.{understood, reads_listing}
-use Rattle.sqlite.proofs.Callers.{IsPlain, command_of}
 use Rattle.std.proofs.Math.Bool.{and-true}
 use Rattle.std.specs.Option.{option_to_list}
 use Rattle.sqlite.specs.Edit.{next_rowid}

@@ -1,5 +1,5 @@
 -- The statements on campaigns that put rows in and read them.
-use Rattle.std.proofs.Common.{◌≡◌, ℕ, pos, List, [], ◌∷◌, map, filter, false, Result, OnOk, IfOk, Option, IsTrue, refl, ap, ◌∙◌, codes, string_bytes, append-nil, bytes_eq, drop}
+use Rattle.std.proofs.Common.{◌≡◌, ℕ, pos, List, [], ◌∷◌, map, filter, Result, OnOk, IfOk, Option, IsTrue, refl, ap, ◌∙◌, codes, string_bytes, append-nil, bytes_eq, drop}
 use Rattle.std.specs.Option.{option_to_list}
 use Rattle.std.specs.Result.{IsOkAnd}
 use Rattle.std.specs.Ordering.{is_eq}
@@ -10,8 +10,8 @@ use Rattle.sqlite.specs.Order.{Row, column, value_cmp}
 use Rattle.sqlite.specs.Term.{Term, lit, col, op2}
 use Rattle.sqlite.specs.Cast.{cast_row}
 use Rattle.sqlite.specs.Source.TheVariants.{Values}
-use Rattle.sqlite.specs.Command.TheVariants.{Insert, Select}
-use Rattle.sqlite.specs.Listing.{understood, reads_listing}
+use Rattle.sqlite.specs.Command.TheVariants.{Insert}
+use Rattle.sqlite.specs.Listing.{understood}
 use Rattle.sqlite.specs.State.{State, HasCleanDisk, Survives, ExecutesInside, Shown}
 use Rattle.sqlite.proofs.Callers.{IsPlain, command_of}
 use Rattle.sqlite_tied.specs.Compute.{everything}

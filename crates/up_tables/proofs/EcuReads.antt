@@ -9,15 +9,13 @@ use Rattle.std.specs.declared.cmp.Ordering.TheVariants.{Less}
 use Rattle.std.proofs.Math.Bool.{and-true, or-false}
 use Rattle.sqlite.specs.declared.error.Error.{Error}
 use Rattle.sqlite.specs.declared.types.Value.{Value}
-use Rattle.sqlite.specs.declared.types.Value.TheVariants.{Null, Int, Text}
+use Rattle.sqlite.specs.declared.types.Value.TheVariants.{Int, Text}
 use Rattle.sqlite.specs.Order.{Row, column, value_cmp}
 use Rattle.sqlite.specs.Term.{Term, col, eval_all, holds}
 use Rattle.sqlite.specs.Query.{Output, output_cmp}
 use Rattle.sqlite.specs.Tree.{IsAscending}
-use Rattle.sqlite.specs.Command.TheVariants.{Select}
 use Rattle.sqlite.specs.State.{State, Shown}
-use Rattle.sqlite.specs.Listing.{understood, reads_listing}
-use Rattle.sqlite.proofs.Callers.{IsPlain, command_of, reads_as}
+use Rattle.sqlite.specs.Listing.{understood}
 use Rattle.sqlite_keyed.proofs.ListLemmas.{map-map, map_same, filter_same}
 use Rattle.sqlite_keyed.proofs.SortLemmas.{sorted_unique}
 use Rattle.sqlite_sql.proofs.QueryLemmas.{output_cmp_total}
@@ -33,7 +31,7 @@ use Rattle.up_tables.specs.Ecus.{ecu_places, ecu_values, line, lines, owns}
 use Rattle.up_tables.specs.Stands.{HasTables, Lists}
 use Rattle.up_tables.specs.declared.ecu.EcuRow.{EcuRow}
 use Rattle.up_tables.specs.declared.values.StoreFault.{StoreFault}
-use Rattle.up_tables.proofs.AnswerLemmas.{over, outputs, answer_is, equals_text}
+use Rattle.up_tables.proofs.AnswerLemmas.{over, outputs, equals_text}
 use Rattle.up_tables.proofs.EcuRows.{column_after, text_is}
 use Rattle.up_tables.proofs.EcuUpsert.{equals}
 use Rattle.up_tables.proofs.ReadLemmas.{Asks, asked, answers_some, bare_filter}

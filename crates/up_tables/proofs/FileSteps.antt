@@ -1,5 +1,5 @@
 -- What the upsert of a file's row does.
-use Rattle.std.proofs.Common.{◌≡◌, ◌≢◌, ◌≤◌, inl, inr, arith, ℕ, ℤ, List, [], ◌∷◌, ◌++◌, map, filter, Bool, true, false, ◌&&◌, if◌then◌else◌, length, Some, None, Ok, Result, OnOk, Option, IsTrue, refl, sym, ap, subst, ◌∙◌, codes, append-nil, bytes_eq, drop}
+use Rattle.std.proofs.Common.{◌≡◌, ◌≢◌, ◌≤◌, inl, inr, arith, ℕ, ℤ, List, [], ◌∷◌, ◌++◌, map, filter, Bool, true, false, ◌&&◌, if◌then◌else◌, length, Some, Ok, Result, OnOk, Option, IsTrue, refl, sym, ap, subst, ◌∙◌, codes, append-nil, bytes_eq, drop}
 use Rattle.std.specs.Ordering.{is_eq}
 use Rattle.std.proofs.Math.Bool.{and-true}
 use Rattle.sqlite.specs.declared.types.Value.TheVariants.{Null, Int, Text, Blob}
@@ -10,8 +10,8 @@ use Rattle.sqlite.specs.Cast.{cast_row}
 use Rattle.sqlite.specs.Source.TheVariants.{Values}
 use Rattle.sqlite.specs.Command.TheVariants.{InsertOr}
 use Rattle.sqlite.specs.Listing.{understood}
-use Rattle.sqlite.specs.State.{State, mode_of, HasCleanDisk, Survives, Executes, ExecutesInside}
-use Rattle.sqlite.proofs.Callers.{IsPlain, command_of, statement_of, one_step, one_permutation, runs_as}
+use Rattle.sqlite.specs.State.{State, HasCleanDisk, Survives, Executes, ExecutesInside}
+use Rattle.sqlite.proofs.Callers.{IsPlain, command_of, one_step, one_permutation}
 use Rattle.sqlite_tied.specs.Compute.{everything}
 use Rattle.sqlite_schema.specs.declared.schema.Keys.TheVariants.{Enforced}
 use Rattle.up_tables.specs.Rows.{bare, has_text}
@@ -25,14 +25,12 @@ use Rattle.std.specs.List.Sorted.{IsPermutation}
 use Rattle.std.proofs.Math.Bool.{or-false}
 use Rattle.sqlite.specs.declared.types.Value.{Value}
 use Rattle.sqlite.specs.declared.types.Value.TheVariants.{Real}
-use Rattle.sqlite.specs.Does.{Does, OnRows}
 use Rattle.sqlite.specs.Edit.{edit_of, edited, with_rowid, next_rowid, taken_by}
 use Rattle.sqlite.specs.Effect.{Answers, Database, IsDatabase}
-use Rattle.sqlite.specs.Rowids.TheVariants.{Chosen, Given}
-use Rattle.sqlite.specs.Rows.{Written, Task, TriesEach, Tries, Upserts, Puts, Edited, Clears, Updates, nothing, shown as shown_row}
+use Rattle.sqlite.specs.Rowids.TheVariants.{Given}
+use Rattle.sqlite.specs.Rows.{Written, Task, Upserts, Puts, Edited, Clears, Updates, shown as shown_row}
 use Rattle.sqlite.specs.Tree.{Trees, put_row, without_rowid, has_rowid, rowid, IsTable}
 use Rattle.sqlite_keyed.proofs.ListLemmas.{filter_same, filter_none}
-use Rattle.sqlite_rules.specs.Calls.{ids_of}
 use Rattle.sqlite_rules.specs.Keys.{conflicts}
 use Rattle.sqlite_rules.specs.Lists.{Has}
 use Rattle.sqlite_rules.proofs.ListLemmas.{all_has, all_from, has_kept}
@@ -52,7 +50,6 @@ use Rattle.up_tables.proofs.AppendLemmas.{appended_by, shaped_next}
 use Rattle.up_tables.proofs.CreateLemmas.{went, same_value}
 use Rattle.up_tables.proofs.EcuRows.{same_text}
 use Rattle.up_tables.proofs.EcuSteps.{with_id}
-use Rattle.up_tables.proofs.InsertLemmas.{concluded}
 use Rattle.up_tables.proofs.OnlyLemmas.{rewritten_shaped, part_in, part_out}
 use Rattle.up_tables.proofs.RunLemmas.{IsRun, run_in, then_ok, run_alters, idle}
 use Rattle.up_tables.proofs.PlaceLemmas.{only}

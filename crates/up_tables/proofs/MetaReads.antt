@@ -1,5 +1,5 @@
 -- The row of `meta` is read and set.
-use Rattle.std.proofs.Common.{◌≡◌, ℕ, pos, List, [], ◌∷◌, map, filter, true, false, Some, None, Ok, Err, Result, OnOk, IfOk, Option, IsTrue, refl, sym, ap, subst, ◌∙◌, codes, drop}
+use Rattle.std.proofs.Common.{◌≡◌, ℕ, pos, List, [], ◌∷◌, map, filter, true, Some, None, Ok, Err, Result, OnOk, IfOk, Option, IsTrue, refl, sym, ap, subst, ◌∙◌, codes, drop}
 use Rattle.std.specs.Option.{option_to_list}
 use Rattle.std.specs.Result.{IsOkAnd}
 use Rattle.std.proofs.Math.Bool.{and-true}
@@ -8,8 +8,8 @@ use Rattle.sqlite.specs.declared.error.Error.{Error}
 use Rattle.sqlite.specs.Order.{Row, column, value_cmp}
 use Rattle.sqlite.specs.Term.{Term, lit, col, op2, eval_all, holds}
 use Rattle.sqlite.specs.Cast.{cast_row}
-use Rattle.sqlite.specs.Command.TheVariants.{Select, Update}
-use Rattle.sqlite.specs.Listing.{understood, reads_listing}
+use Rattle.sqlite.specs.Command.TheVariants.{Update}
+use Rattle.sqlite.specs.Listing.{understood}
 use Rattle.sqlite.specs.State.{State, HasCleanDisk, Survives, ExecutesInside, Shown}
 use Rattle.sqlite.proofs.Callers.{IsPlain, command_of, one_permutation}
 use Rattle.sqlite_tied.specs.Compute.{everything}
@@ -35,7 +35,6 @@ use Rattle.up_tables.proofs.AnswerLemmas.{answer_is, shows_passing}
 use Rattle.up_tables.proofs.RunLemmas.{IsRun, run_in, then_ok, run_alters, idle}
 use Rattle.up_tables.proofs.PlaceLemmas.{itself}
 use Rattle.up_tables.proofs.UpdateLemmas.{updates_row}
-use Rattle.sqlite.proofs.Callers.{reads_as}
 
 abbrev pub is_one : Term
 is_one = op2 (Compare Eq Binary) (col 1 0) (lit (Int (pos 1)))

@@ -1,5 +1,5 @@
 -- The statements on keys of roles.
-use Rattle.std.proofs.Common.{◌≡◌, ◌+◌, suc, take, slice_get, arith, ℕ, pos, List, [], ◌∷◌, ◌++◌, map, filter, true, false, length, Some, Result, OnOk, IfOk, IsTrue, refl, sym, ap, subst, ◌∙◌, codes, append-nil, drop}
+use Rattle.std.proofs.Common.{◌≡◌, ◌+◌, suc, take, slice_get, arith, ℕ, pos, List, [], ◌∷◌, ◌++◌, map, filter, true, length, Some, Result, OnOk, IfOk, IsTrue, refl, sym, ap, subst, ◌∙◌, codes, append-nil, drop}
 use Rattle.std.specs.Result.{IsOkAnd}
 use Rattle.std.specs.Ordering.{is_eq}
 use Rattle.std.proofs.Math.Bool.{and-true}
@@ -9,8 +9,8 @@ use Rattle.sqlite.specs.Order.{Row, column, value_cmp}
 use Rattle.sqlite.specs.Term.{Term, lit, col, op2}
 use Rattle.sqlite.specs.Cast.{cast_row}
 use Rattle.sqlite.specs.Source.TheVariants.{Values}
-use Rattle.sqlite.specs.Command.TheVariants.{Insert, Select}
-use Rattle.sqlite.specs.Listing.{understood, reads_listing}
+use Rattle.sqlite.specs.Command.TheVariants.{Insert}
+use Rattle.sqlite.specs.Listing.{understood}
 use Rattle.sqlite.specs.State.{State, HasCleanDisk, Survives, ExecutesInside, Shown}
 use Rattle.sqlite.proofs.Callers.{IsPlain, command_of}
 use Rattle.sqlite_tied.specs.Compute.{everything}

@@ -1,5 +1,5 @@
 -- The statements on vehicles.
-use Rattle.std.proofs.Common.{◌≡◌, ◌≢◌, inl, inr, ℕ, ℤ, pos, List, [], ◌∷◌, ◌++◌, map, filter, true, false, Some, Ok, Err, Result, OnOk, IfOk, Option, IsTrue, refl, sym, ap, subst, ◌∙◌, arith, codes, string_bytes, append-nil, drop}
+use Rattle.std.proofs.Common.{◌≡◌, ◌≢◌, inl, inr, ℕ, ℤ, pos, List, [], ◌∷◌, ◌++◌, map, filter, true, Some, Ok, Err, Result, OnOk, IfOk, Option, IsTrue, refl, sym, ap, subst, ◌∙◌, arith, codes, string_bytes, append-nil, drop}
 use Rattle.std.specs.List.{AllByRecursion, list_all}
 use Rattle.std.specs.List.Sorted.{IsPermutation}
 use Rattle.std.specs.Option.{option_to_list}
@@ -18,11 +18,11 @@ use Rattle.sqlite.specs.Effect.{Answers, Database}
 use Rattle.sqlite.specs.Rowids.TheVariants.{Chosen, Given}
 use Rattle.sqlite.specs.Rows.{Written, Task, TriesEach, Tries, Updates, nothing, shown as shown_row}
 use Rattle.sqlite.specs.Source.TheVariants.{Values}
-use Rattle.sqlite.specs.Command.TheVariants.{Insert, InsertOr, Select}
-use Rattle.sqlite.specs.Listing.{understood, reads_listing}
+use Rattle.sqlite.specs.Command.TheVariants.{Insert, InsertOr}
+use Rattle.sqlite.specs.Listing.{understood}
 use Rattle.sqlite.specs.State.{State, HasCleanDisk, Survives, ExecutesInside, Shown, mode_of}
 use Rattle.sqlite.specs.Tree.{Trees, put_row, without_rowid, has_rowid, rowid, IsTable}
-use Rattle.sqlite.proofs.Callers.{IsPlain, command_of, statement_of, one_step, one_permutation}
+use Rattle.sqlite.proofs.Callers.{IsPlain, command_of, statement_of, one_permutation}
 use Rattle.sqlite_tied.specs.Compute.{everything}
 use Rattle.sqlite_keyed.proofs.ListLemmas.{filter_same}
 use Rattle.sqlite_rules.specs.Calls.{ids_of}
@@ -49,7 +49,7 @@ use Rattle.up_tables.specs.Stands.{Lists, IfClean, IsInside, Alters, HasTables}
 use Rattle.up_tables.specs.Upserts.{Rewrites}
 use Rattle.up_tables.specs.declared.vehicle.VehicleRow.{VehicleRow}
 use Rattle.up_tables.specs.declared.values.StoreFault.{StoreFault}
-use Rattle.up_tables.proofs.ReadLemmas.{Asks, asked}
+use Rattle.up_tables.proofs.ReadLemmas.{Asks}
 use Rattle.up_tables.proofs.AnswerLemmas.{over, equals_text, equals_int, answer_is, shows_passing}
 use Rattle.up_tables.proofs.ByNameLemmas.{listed_in, named_in}
 use Rattle.up_tables.proofs.Casts.{cast_int, cast_null}
