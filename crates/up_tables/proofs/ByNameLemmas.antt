@@ -7,9 +7,6 @@ use Rattle.sqlite.specs.declared.error.Error.{Error}
 use Rattle.sqlite.specs.Order.{Row, column, value_cmp}
 use Rattle.sqlite.specs.Term.{Term, eval_all}
 use Rattle.sqlite.specs.Program.{overlay}
-use Rattle.sqlite.specs.Command.TheVariants.{Select}
-use Rattle.sqlite.specs.Listing.{understood, reads_listing}
-use Rattle.sqlite.proofs.Callers.{IsPlain, command_of}
 use Rattle.std.proofs.Math.Bool.{and-true}
 use Rattle.std.specs.Option.{option_to_list}
 use Rattle.sqlite.specs.Edit.{next_rowid}
@@ -25,7 +22,7 @@ use Rattle.up_tables.proofs.EcuRows.{column_after}
 use Rattle.up_tables.proofs.OthersLemmas.{alters_to}
 use Rattle.up_tables.proofs.AnswerLemmas.{over, equals_text}
 use Rattle.up_tables.proofs.EcuUpsert.{equals}
-use Rattle.up_tables.proofs.ReadLemmas.{bare_filter, answers_some}
+use Rattle.up_tables.proofs.ReadLemmas.{Asks, bare_filter, answers_some}
 use Rattle.up_tables.proofs.StateLemmas.{one_in, each_in, ok_then}
 use Rattle.up_tables.specs.Tables.{up_schema}
 use Rattle.up_tables.specs.declared.values.StoreFault.{StoreFault}
@@ -67,14 +64,13 @@ added_in table row old new (Ok count) h = λ all has lists. alters_to table _ _ 
 
 -- a query by the text in a column, that shows all columns
 module _ {X T : Type 0} (items : X → List Row) (table : Table) (at : ℕ) (sql : List ℕ) (shown : List Term) (names : List (List ℕ)) (part : Row → Row) (values : T → Row) (name : List ℕ)
-    (is : command_of (understood up_schema sql) ≡ Select (record { lets = []; body = over table.tree (equals (suc at) 0 ∷ []) shown [] }) names) (unlisted : reads_listing up_schema sql ≡ false) (plain : IsPlain (understood up_schema sql))
-    (base : (db : Trees) → overlay db [] table.tree ≡ db table.tree) (shows : (r : Row) → eval_all shown ((Text name ∷ []) ∷ r ∷ []) ≡ part (drop 1 r)) (whole : (r : Row) → part (part r) ≡ part r) where
+    (is : Asks up_schema sql (over table.tree (equals (suc at) 0 ∷ []) shown []) names) (base : (db : Trees) → overlay db [] table.tree ≡ db table.tree) (shows : (r : Row) → eval_all shown ((Text name ∷ []) ∷ r ∷ []) ≡ part (drop 1 r)) (whole : (r : Row) → part (part r) ≡ part r) where
   pub named_in : (answer : Result X Error) (r : Result (Option T) StoreFault) (old new : State) → IfOk r (λ found. IsOkAnd answer (λ v. map part (items v) ≡ map values (option_to_list found)))
       → IfOk answer (λ v. Shown sql (Text name ∷ []) old new (items v))
       → IfOk r (λ found. (rows_of : List ℕ → List Row) → HasTables old → Lists (suc at) rows_of (old.now.trees table.tree) → map part (rows_of name) ≡ map values (option_to_list found))
   named_in answer r old new h ran =
       let test : (x : Row) → has_text (suc at) name x ≡ has_text at name (drop 1 x) = λ x. ap (λ v. is_eq (value_cmp v (Text name))) (column_after x at) in
-      let answers = answers_some up_schema sql table.tree (equals (suc at) 0 ∷ []) shown names (Text name ∷ []) (has_text at name) part (λ x. and-true _ ∙ equals_text (column x (suc at)) name ∙ test x) shows base unlisted plain is old new in
+      let answers = answers_some up_schema sql table.tree (equals (suc at) 0 ∷ []) shown names (Text name ∷ []) (has_text at name) part (λ x. and-true _ ∙ equals_text (column x (suc at)) name ∙ test x) shows base is old new in
       ok_then _ _ r (λ found it rows_of has lists. ap (map part) (sym (lists.parts name) ∙ bare_filter (has_text (suc at) name) (has_text at name) test (old.now.trees table.tree)) ∙ it has)
       (one_in items part part whole values sql (Text name ∷ []) old new (filter (has_text at name) (bare (old.now.trees table.tree))) answer r answers h ran)
 

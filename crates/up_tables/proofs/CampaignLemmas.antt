@@ -1,5 +1,5 @@
 -- The statements on campaigns that put rows in and read them.
-use Rattle.std.proofs.Common.{◌≡◌, ◌==◌, ℕ, pos, List, [], ◌∷◌, map, filter, Bool, true, false, length, Result, OnOk, IfOk, Option, IsTrue, refl, ap, ◌∙◌, codes, string_bytes, append-nil, bytes_eq, drop}
+use Rattle.std.proofs.Common.{◌≡◌, ℕ, pos, List, [], ◌∷◌, map, filter, Result, OnOk, IfOk, Option, IsTrue, refl, ap, ◌∙◌, codes, string_bytes, append-nil, bytes_eq, drop}
 use Rattle.std.specs.Option.{option_to_list}
 use Rattle.std.specs.Result.{IsOkAnd}
 use Rattle.std.specs.Ordering.{is_eq}
@@ -10,13 +10,11 @@ use Rattle.sqlite.specs.Order.{Row, column, value_cmp}
 use Rattle.sqlite.specs.Term.{Term, lit, col, op2}
 use Rattle.sqlite.specs.Cast.{cast_row}
 use Rattle.sqlite.specs.Source.TheVariants.{Values}
-use Rattle.sqlite.specs.Command.TheVariants.{Insert, Select}
-use Rattle.sqlite.specs.Listing.{understood, reads_listing}
+use Rattle.sqlite.specs.Command.TheVariants.{Insert}
+use Rattle.sqlite.specs.Listing.{understood}
 use Rattle.sqlite.specs.State.{State, HasCleanDisk, Survives, ExecutesInside, Shown}
 use Rattle.sqlite.proofs.Callers.{IsPlain, command_of}
 use Rattle.sqlite_tied.specs.Compute.{everything}
-use Rattle.sqlite_rules.specs.Action.{works}
-use Rattle.sqlite_schema.specs.declared.schema.Keys.TheVariants.{Enforced}
 use Rattle.sqlite_sql.specs.declared.ops.BinaryOp.TheVariants.{Compare}
 use Rattle.sqlite_sql.specs.declared.ops.CompareOp.TheVariants.{Eq}
 use Rattle.sqlite_value.specs.declared.keys.Collation.TheVariants.{Binary}
@@ -33,7 +31,7 @@ use Rattle.up_tables.specs.Forms.{campaign_row, campaign_places}
 use Rattle.up_tables.specs.Lines.{yes_or_no}
 use Rattle.up_tables.specs.declared.campaign.CampaignRow.{CampaignRow}
 use Rattle.up_tables.proofs.ByNameLemmas.{listed_in, named_in, all_in}
-use Rattle.up_tables.proofs.ReadLemmas.{answers_all, by_rowid}
+use Rattle.up_tables.proofs.ReadLemmas.{Asks, answers_all, by_rowid}
 
 -- ---- put in
 
@@ -47,13 +45,6 @@ insert_is : (command_of (understood up_schema insert_campaign_text) ≡ Insert 4
 unfolding understood everything
 insert_is = (refl, (refl, refl))
 
-idle : (olds news : List Row) → works up_schema Enforced 0 7 olds news ≡ []
-idle olds news = go (length news == 0) refl
-  where
-    go : (b : Bool) → (length news == 0) ≡ b → works up_schema Enforced 0 7 olds news ≡ []
-    go true e = rw e refl
-    go false e = rw e refl
-
 casts : (c : CampaignRow) → cast_row campaign_table (Null ∷ campaign_row c) ≡ Null ∷ campaign_row c
 casts c = rw (cast_null, cast_int (yes_or_no c.running)) refl
 
@@ -62,7 +53,7 @@ pub campaign_inserts : (r : Result ℕ Error) (old new : State) (c : CampaignRow
     → HasCleanDisk new → OnOk r ((rows_of : List ℕ → List Row) → HasTables old → Lists 1 rows_of (old.now.trees 7) → Alters campaign_table (Lists 1 (with_row (string_bytes c.name) (campaign_row c) rows_of)) old new)
 campaign_inserts r old new c survives inside ran clean =
     listed_in campaign_table 1 (string_bytes c.name) (campaign_row c) old new r (λ x n. text_is (string_bytes c.name) n)
-    (inserts_in insert_campaign_text 4 campaign_table terms 5 (campaign_row c) (campaign_row c) insert_is.0 insert_is.1 refl refl (append-nil _) refl (casts c) idle r old new survives inside ran clean)
+    (inserts_in insert_campaign_text 4 campaign_table terms 5 (campaign_row c) (campaign_row c) insert_is.0 insert_is.1 refl refl (append-nil _) refl (casts c) r old new survives inside ran clean)
 
 -- ---- read
 
@@ -81,19 +72,15 @@ shows params r = rw (column_after r 0, column_after r 1, column_after r 2, colum
 abbrev pub find_campaign_text : List ℕ
 find_campaign_text = codes "SELECT name, reach, items, running FROM campaign WHERE name = ?1"
 
-find_is : (command_of (understood up_schema find_campaign_text) ≡ Select (record { lets = []; body = over 7 (equals 1 0 ∷ []) shown [] }) names) × (reads_listing up_schema find_campaign_text ≡ false)
+pub find_is : Asks up_schema find_campaign_text (over 7 (equals 1 0 ∷ []) shown []) names
 unfolding understood everything
-find_is = (refl, refl)
-
-pub find_plain : IsPlain (understood up_schema find_campaign_text)
-unfolding understood everything
-find_plain = (refl, refl)
+find_is = (refl, refl, (refl, refl))
 
 pub finds_campaign : {X : Type 0} (items : X → List Row) (answer : Result X Error) (r : Result (Option CampaignRow) StoreFault) (old new : State) (name : List ℕ)
     → IfOk r (λ found. IsOkAnd answer (λ v. map part (items v) ≡ map campaign_row (option_to_list found))) → IfOk answer (λ v. Shown find_campaign_text (Text name ∷ []) old new (items v))
     → IfOk r (λ found. (rows_of : List ℕ → List Row) → HasTables old → Lists 1 rows_of (old.now.trees 7) → map part (rows_of name) ≡ map campaign_row (option_to_list found))
 finds_campaign items answer r old new name h ran =
-    named_in items campaign_table 0 find_campaign_text shown names part campaign_row name find_is.0 find_is.1 find_plain (λ db. refl) (shows (Text name ∷ [])) (λ x. refl) answer r old new h ran
+    named_in items campaign_table 0 find_campaign_text shown names part campaign_row name find_is (λ db. refl) (shows (Text name ∷ [])) (λ x. refl) answer r old new h ran
 
 abbrev pub running_text : List ℕ
 running_text = codes "SELECT name, reach, items, running FROM campaign WHERE running = 1 ORDER BY rowid"
@@ -101,13 +88,9 @@ running_text = codes "SELECT name, reach, items, running FROM campaign WHERE run
 abbrev runs : Term
 runs = op2 (Compare Eq Binary) (col 1 4) (lit (Int (pos 1)))
 
-running_is : (command_of (understood up_schema running_text) ≡ Select (record { lets = []; body = over 7 (runs ∷ []) shown by_rowid }) names) × (reads_listing up_schema running_text ≡ false)
+pub running_is : Asks up_schema running_text (over 7 (runs ∷ []) shown by_rowid) names
 unfolding understood everything
-running_is = (refl, refl)
-
-pub running_plain : IsPlain (understood up_schema running_text)
-unfolding understood everything
-running_plain = (refl, refl)
+running_is = (refl, refl, (refl, refl))
 
 pub finds_running : {X R : Type 0} (items : X → List Row) (list : R → List CampaignRow) (answer : Result X Error) (r : Result R StoreFault) (old new : State)
     → IfOk r (λ found. IsOkAnd answer (λ v. map part (items v) ≡ map campaign_row (list found))) → IfOk answer (λ v. Shown running_text [] old new (items v))
@@ -116,4 +99,4 @@ pub finds_running : {X R : Type 0} (items : X → List Row) (list : R → List C
 finds_running items list answer r old new h ran =
     all_in items list campaign_table running_text part campaign_row (λ c. string_bytes c.name) (has_number 3 (pos 1)) (λ x. refl) (λ x n. refl) (λ x n. text_is (string_bytes x.name) n) answer r old new
     (λ rows has table. answers_all up_schema running_text 7 (runs ∷ []) shown names [] (has_number 3 (pos 1)) part
-    (λ x. and-true _ ∙ equals_int (column x 4) (pos 1) ∙ ap (λ v. is_eq (value_cmp v (Int (pos 1)))) (column_after x 3)) (shows []) (λ db. refl) running_is.1 running_plain running_is.0 old new rows has table) h ran
+    (λ x. and-true _ ∙ equals_int (column x 4) (pos 1) ∙ ap (λ v. is_eq (value_cmp v (Int (pos 1)))) (column_after x 3)) (shows []) (λ db. refl) running_is old new rows has table) h ran

@@ -1,5 +1,5 @@
 -- What the update that closes a campaign does.
-use Rattle.std.proofs.Common.{◌≡◌, ◌==◌, inl, ℕ, ℤ, pos, List, [], ◌∷◌, map, filter, length, Ok, Err, Result, OnOk, IsTrue, Bool, true, false, refl, sym, ap, subst, ◌∙◌, arith, codes}
+use Rattle.std.proofs.Common.{◌≡◌, inl, ℕ, ℤ, pos, List, [], ◌∷◌, map, filter, Result, OnOk, IsTrue, refl, sym, ap, subst, ◌∙◌, codes}
 use Rattle.std.specs.List.{list_all}
 use Rattle.std.specs.List.Sorted.{IsPermutation}
 use Rattle.sqlite.specs.declared.types.Value.TheVariants.{Null, Int, Text}
@@ -14,12 +14,10 @@ use Rattle.sqlite.specs.State.{State, HasCleanDisk, Survives, ExecutesInside}
 use Rattle.sqlite.specs.Tree.{Trees}
 use Rattle.sqlite.proofs.Callers.{IsPlain, command_of, one_permutation}
 use Rattle.sqlite_tied.specs.Compute.{everything}
-use Rattle.sqlite_rules.specs.Action.{works}
 use Rattle.sqlite_rules.specs.Lists.{Has}
 use Rattle.sqlite_rules.proofs.ListLemmas.{has_kept}
 use Rattle.sqlite_keyed.proofs.ListLemmas.{filter_same}
 use Rattle.std.proofs.Math.Bool.{and-true}
-use Rattle.sqlite_schema.specs.declared.schema.Keys.TheVariants.{Enforced}
 use Rattle.sqlite_schema.specs.declared.program.Program.{Program}
 use Rattle.sqlite_trees.specs.View.{IsShaped}
 use Rattle.sqlite_trees.specs.declared.store.Shape.TheVariants.{Table}
@@ -33,7 +31,7 @@ use Rattle.up_tables.proofs.EcuUpsert.{equals}
 use Rattle.up_tables.proofs.EcuSteps.{row_in}
 use Rattle.up_tables.proofs.EcuRows.{text_is, own_text}
 use Rattle.up_tables.proofs.OnlyLemmas.{alone, rewritten_shaped, rewritten_parts}
-use Rattle.up_tables.proofs.OthersLemmas.{others_stay}
+use Rattle.up_tables.proofs.RunLemmas.{IsRun, run_in, then_ok, run_alters, idle}
 use Rattle.up_tables.proofs.UpdateLemmas.{updates_row}
 
 abbrev pub close_text : List ℕ
@@ -48,13 +46,6 @@ program = record { lets = []; body = over 7 (equals 1 0 ∷ []) shown [] }
 close_is : (command_of (understood up_schema close_text) ≡ Update 4 program) × IsPlain (understood up_schema close_text)
 unfolding understood everything
 close_is = (refl, (refl, refl))
-
-idle : (olds news : List Row) → works up_schema Enforced 0 7 olds news ≡ []
-idle olds news = go (length news == 0) refl
-  where
-    go : (b : Bool) → (length news == 0) ≡ b → works up_schema Enforced 0 7 olds news ≡ []
-    go true e = rw e refl
-    go false e = rw e refl
 
 casts : (id : ℤ) (name reach items : List ℕ) (running : ℤ) → cast_row campaign_table (Int id ∷ campaign_line name reach items running) ≡ Int id ∷ campaign_line name reach items running
 casts id name reach items running = rw (cast_int id, cast_int running) refl
@@ -76,27 +67,20 @@ pub closes_in : (r : Result ℕ Error) (old new : State) (name : List ℕ) → S
     → (HasCleanDisk new → IsTrue old.in_transaction → ExecutesInside 0 close_text (Text name ∷ []) old new r)
     → HasCleanDisk new → OnOk r ((rows_of : List ℕ → List Row) (reach items : List ℕ) (running : ℤ) → HasTables old → Lists 1 rows_of (old.now.trees 7) → rows_of name ≡ campaign_line name reach items running ∷ []
     → Alters campaign_table (Lists 1 (with_only name (campaign_line name reach items (pos 0)) rows_of)) old new)
-closes_in (Err e') old new name survives inside ran clean = tt
-closes_in (Ok count) old new name survives inside ran clean = λ rows_of reach items running has lists is.
-    let before : HasCleanDisk old = omega (arith, survives.clean) in
-    let h = ran clean (inside before) in
-    let here = has h.1.was_open in
-    let rows = old.now.trees 7 in
-    let was = campaign_line name reach items running in
-    let row = campaign_line name reach items (pos 0) in
-    let listed = lists.parts name ∙ is in
-    let it = row_in 1 name rows was lists.shaped (subst (λ xs. Has xs was) (sym listed) (inl refl)) in
-    let done = updates_row up_schema close_text 4 campaign_table program (Text name ∷ []) close_is.0 close_is.1 refl idle old new count it.0 row here.schema_is (casts it.0 name reach items (pos 0))
-    (λ rows. update_rows old.now.trees name reach items running it.0 rows listed it.1) h.0 in
-    record {
-      was_open = h.1.was_open;
-      is_open = h.1.is_open;
-      mode = h.1.mode;
-      schema_is = done.schema_is;
-      sound = done.sound;
-      rows = record {
-        shaped = subst (IsShaped Table) (sym done.rows) (rewritten_shaped it.0 was row rows lists.shaped it.1);
-        parts = λ n. ap (rows_with 1 n) done.rows ∙ rewritten_parts it.0 was row rows lists.shaped it.1 1 name rows_of (λ n. text_is name n) (λ n. text_is name n) lists.parts is n;
-      };
-      others = others_stay campaign_table old.now.trees new.now.trees done.others;
-    }
+closes_in r old new name survives inside ran clean = then_ok r closes (run_in close_text (Text name ∷ []) old new r survives inside ran clean)
+  where
+    closes : IsRun close_text (Text name ∷ []) old new → (rows_of : List ℕ → List Row) (reach items : List ℕ) (running : ℤ) → HasTables old → Lists 1 rows_of (old.now.trees 7) → rows_of name ≡ campaign_line name reach items running ∷ []
+        → Alters campaign_table (Lists 1 (with_only name (campaign_line name reach items (pos 0)) rows_of)) old new
+    closes run rows_of reach items running has lists is =
+        let rows = old.now.trees 7 in
+        let was = campaign_line name reach items running in
+        let row = campaign_line name reach items (pos 0) in
+        let listed = lists.parts name ∙ is in
+        let it = row_in 1 name rows was lists.shaped (subst (λ xs. Has xs was) (sym listed) (inl refl)) in
+        let done = updates_row up_schema close_text 4 campaign_table program (Text name ∷ []) close_is.0 close_is.1 refl (idle 7) old new run.count it.0 row (has run.was_open).schema_is (casts it.0 name reach items (pos 0))
+        (λ rows. update_rows old.now.trees name reach items running it.0 rows listed it.1) run.went in
+        let now : Lists 1 (with_only name row rows_of) (new.now.trees 7) = record {
+          shaped = subst (IsShaped Table) (sym done.rows) (rewritten_shaped it.0 was row rows lists.shaped it.1);
+          parts = λ n. ap (rows_with 1 n) done.rows ∙ rewritten_parts it.0 was row rows lists.shaped it.1 1 name rows_of (λ n. text_is name n) (λ n. text_is name n) lists.parts is n;
+        } in
+        run_alters close_text (Text name ∷ []) campaign_table _ old new run done.schema_is done.sound now done.others

@@ -18,9 +18,9 @@ use Rattle.up_tables.proofs.ByNameLemmas.{listed_in}
 use Rattle.up_tables.proofs.Casts.{cast_null}
 use Rattle.up_tables.proofs.EcuRows.{text_is}
 use Rattle.up_tables.proofs.EcuSets.{lists_same}
-use Rattle.up_tables.proofs.EcuUpsert.{terms, casts, idle}
+use Rattle.up_tables.proofs.EcuUpsert.{terms, casts}
 use Rattle.up_tables.proofs.InsertLemmas.{inserts_in}
-use Rattle.up_tables.proofs.OthersLemmas.{others_same, others_then}
+use Rattle.up_tables.proofs.OthersLemmas.{alters_to, alters_none, has_after, alters_then}
 
 abbrev pub insert_ecu_text : List ℕ
 insert_ecu_text = codes "INSERT INTO ecu (ecu, vehicle, place, hardware, public_key, file, length, sha256, counter, report) VALUES (?1, ?2, ?3, ?4, ?5, ?6, ?7, ?8, ?9, ?10)"
@@ -34,7 +34,7 @@ pub ecu_inserts : (r : Result ℕ Error) (old new : State) (e : EcuLine) → IsK
     → HasCleanDisk new → OnOk r ((rows_of : List ℕ → List Row) → HasTables old → Lists 2 rows_of (old.now.trees 11) → Alters ecu_table (Lists 2 (with_row e.vehicle (ecu_row e) rows_of)) old new)
 ecu_inserts r old new e kept survives inside ran clean =
     listed_in ecu_table 2 e.vehicle (ecu_row e) old new r (λ x n. text_is e.vehicle n)
-    (inserts_in insert_ecu_text 6 ecu_table terms 11 (ecu_row e) (ecu_row e) insert_is.0 insert_is.1 refl refl (append-nil _) refl (casts Null e kept cast_null) idle r old new survives inside ran clean)
+    (inserts_in insert_ecu_text 6 ecu_table terms 11 (ecu_row e) (ecu_row e) insert_is.0 insert_is.1 refl refl (append-nil _) refl (casts Null e kept cast_null) r old new survives inside ran clean)
 
 -- ---- one after another
 
@@ -68,34 +68,18 @@ one_more vehicle es i e rows_of there n = go (bytes_eq vehicle n)
     go false = refl
 
 pub none_put : (vehicle : List ℕ) (es : List EcuLine) (s : State) → IsInside s → IsOpen s → PutSoFar vehicle es 0 s s
-none_put vehicle es s inside is_open rows_of has lists =
-    let here = has is_open in
-    record {
-      was_open = is_open;
-      is_open = is_open;
-      mode = inside;
-      schema_is = here.schema_is;
-      sound = here.sound;
-      rows = lists_same 2 rows_of _ (s.now.trees 11) (none_more vehicle es rows_of) lists;
-      others = others_same ecu_table s.now.trees;
-    }
+none_put vehicle es s inside is_open rows_of has lists = alters_none ecu_table _ s inside is_open has (lists_same 2 rows_of _ (s.now.trees 11) (none_more vehicle es rows_of) lists)
 
 pub next_put : (vehicle : List ℕ) (es : List EcuLine) (i : ℕ) (e : EcuLine) (old mid new : State) → slice_get es i ≡ Some e → PutSoFar vehicle es i old mid
     → ((rows_of : List ℕ → List Row) → HasTables mid → Lists 2 rows_of (mid.now.trees 11) → Alters ecu_table (Lists 2 (with_row vehicle (ecu_row e) rows_of)) mid new)
     → PutSoFar vehicle es (i + 1) old new
 next_put vehicle es i e old mid new there so_far puts rows_of has lists =
     let before = so_far rows_of has lists in
-    let after = puts _ (λ _. record { schema_is = before.schema_is; sound = before.sound; rows = tt }) before.rows in
+    let after = puts _ (has_after ecu_table _ old mid before) before.rows in
     let same : suc i ≡ i + 1 = omega arith in
-    record {
-      was_open = before.was_open;
-      is_open = after.is_open;
-      mode = after.mode;
-      schema_is = after.schema_is;
-      sound = after.sound;
-      rows = subst (λ k. Lists 2 (changed_at vehicle (λ were. were ++ map ecu_row (take k es)) rows_of) (new.now.trees 11)) same (lists_same 2 _ _ (new.now.trees 11) (one_more vehicle es i e rows_of there) after.rows);
-      others = others_then ecu_table old.now.trees mid.now.trees new.now.trees before.others after.others;
-    }
+    alters_to ecu_table _ _ old new
+    (λ rows. subst (λ k. Lists 2 (changed_at vehicle (λ were. were ++ map ecu_row (take k es)) rows_of) (new.now.trees 11)) same (lists_same 2 _ _ (new.now.trees 11) (one_more vehicle es i e rows_of there) rows))
+    (alters_then ecu_table _ _ old mid new before after)
 
 pub take_whole : {X : Type 0} (xs : List X) → take (length xs) xs ≡ xs
 take_whole [] = refl

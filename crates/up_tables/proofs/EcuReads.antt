@@ -9,15 +9,13 @@ use Rattle.std.specs.declared.cmp.Ordering.TheVariants.{Less}
 use Rattle.std.proofs.Math.Bool.{and-true, or-false}
 use Rattle.sqlite.specs.declared.error.Error.{Error}
 use Rattle.sqlite.specs.declared.types.Value.{Value}
-use Rattle.sqlite.specs.declared.types.Value.TheVariants.{Null, Int, Text}
+use Rattle.sqlite.specs.declared.types.Value.TheVariants.{Int, Text}
 use Rattle.sqlite.specs.Order.{Row, column, value_cmp}
 use Rattle.sqlite.specs.Term.{Term, col, eval_all, holds}
 use Rattle.sqlite.specs.Query.{Output, output_cmp}
 use Rattle.sqlite.specs.Tree.{IsAscending}
-use Rattle.sqlite.specs.Command.TheVariants.{Select}
 use Rattle.sqlite.specs.State.{State, Shown}
-use Rattle.sqlite.specs.Listing.{understood, reads_listing}
-use Rattle.sqlite.proofs.Callers.{IsPlain, command_of, reads_as}
+use Rattle.sqlite.specs.Listing.{understood}
 use Rattle.sqlite_keyed.proofs.ListLemmas.{map-map, map_same, filter_same}
 use Rattle.sqlite_keyed.proofs.SortLemmas.{sorted_unique}
 use Rattle.sqlite_sql.proofs.QueryLemmas.{output_cmp_total}
@@ -33,10 +31,10 @@ use Rattle.up_tables.specs.Ecus.{ecu_places, ecu_values, line, lines, owns}
 use Rattle.up_tables.specs.Stands.{HasTables, Lists}
 use Rattle.up_tables.specs.declared.ecu.EcuRow.{EcuRow}
 use Rattle.up_tables.specs.declared.values.StoreFault.{StoreFault}
-use Rattle.up_tables.proofs.AnswerLemmas.{over, outputs, answer_is, equals_text}
+use Rattle.up_tables.proofs.AnswerLemmas.{over, outputs, equals_text}
 use Rattle.up_tables.proofs.EcuRows.{column_after, text_is}
 use Rattle.up_tables.proofs.EcuUpsert.{equals}
-use Rattle.up_tables.proofs.ReadLemmas.{answers_some, bare_filter}
+use Rattle.up_tables.proofs.ReadLemmas.{Asks, asked, answers_some, bare_filter}
 use Rattle.up_tables.proofs.StateLemmas.{one_in, each_in, ok_then}
 
 -- ---- in order of place
@@ -53,13 +51,9 @@ by_place = (col 1 3, ascending Binary) ∷ []
 abbrev names : List (List ℕ)
 names = codes "ecu" ∷ codes "hardware" ∷ codes "public_key" ∷ codes "file" ∷ codes "length" ∷ codes "sha256" ∷ codes "counter" ∷ codes "report" ∷ []
 
-list_is : (command_of (understood up_schema list_ecus_text) ≡ Select (record { lets = []; body = over 11 (equals 2 0 ∷ []) ecu_shown by_place }) names) × (reads_listing up_schema list_ecus_text ≡ false)
+pub list_is : Asks up_schema list_ecus_text (over 11 (equals 2 0 ∷ []) ecu_shown by_place) names
 unfolding understood everything
-list_is = (refl, refl)
-
-pub list_plain : IsPlain (understood up_schema list_ecus_text)
-unfolding understood everything
-list_plain = (refl, refl)
+list_is = (refl, refl, (refl, refl))
 
 -- what the query shows of a row, and what it sorts it by
 abbrev ecu_part : Row → Row
@@ -96,8 +90,7 @@ lists_ecus : (old new : State) (name : List ℕ) (es : List EcuLine) (rows : Lis
     → Shown list_ecus_text (Text name ∷ []) old new rows → rows ≡ map ecu_part (rows_with 2 name (old.now.trees 11))
 lists_ecus old new name es rows has listed placed h =
     let q = over 0 [] [] by_place in
-    let read = reads_as list_ecus_text (Text name ∷ []) old new up_schema has (Select (record { lets = []; body = over 11 (equals 2 0 ∷ []) ecu_shown by_place }) names) list_is.0 list_plain list_is.1 rows h in
-    let answer = answer_is (Rattle.sqlite.specs.Program.overlay old.now.trees []) 11 (equals 2 0 ∷ []) ecu_shown by_place (Text name ∷ []) rows (read.answer Null) in
+    let answer = asked up_schema list_ecus_text 11 (equals 2 0 ∷ []) ecu_shown by_place names (Text name ∷ []) list_is old new rows has h in
     let all = map ecu_output (rows_with 2 name (old.now.trees 11)) in
     let ascends : IsAscending Lower all = subst (λ xs. IsAscending Lower (map ecu_output xs)) (sym listed) (rises name 0 es placed) in
     let ordered : answer.ordered ≡ all = sorted_unique (output_cmp q) (output_cmp_total q) all answer.ordered ascends (subst (λ xs. IsPermutation xs answer.ordered) (outputs_are name (old.now.trees 11)) answer.same) answer.sorted in
@@ -142,13 +135,9 @@ finds_ecus items list answer r old new vehicle h ran =
 abbrev pub find_owner_text : List ℕ
 find_owner_text = codes "SELECT vehicle FROM ecu WHERE ecu = ?1"
 
-owner_is : (command_of (understood up_schema find_owner_text) ≡ Select (record { lets = []; body = over 11 (equals 1 0 ∷ []) (col 1 2 ∷ []) [] }) (codes "vehicle" ∷ [])) × (reads_listing up_schema find_owner_text ≡ false)
+pub owner_is : Asks up_schema find_owner_text (over 11 (equals 1 0 ∷ []) (col 1 2 ∷ []) []) (codes "vehicle" ∷ [])
 unfolding understood everything
-owner_is = (refl, refl)
-
-pub owner_plain : IsPlain (understood up_schema find_owner_text)
-unfolding understood everything
-owner_plain = (refl, refl)
+owner_is = (refl, refl, (refl, refl))
 
 abbrev vehicle_part : Row → Row
 vehicle_part = columns_at (1 ∷ [])
@@ -183,7 +172,7 @@ pub finds_owner : {X T : Type 0} (bytes_of : T → List ℕ) (items : X → List
 finds_owner bytes_of items answer r old new ecu h ran =
     let all = bare (old.now.trees 11) in
     let answers = answers_some up_schema find_owner_text 11 (equals 1 0 ∷ []) (col 1 2 ∷ []) (codes "vehicle" ∷ []) (Text ecu ∷ []) (has_text 0 ecu) vehicle_part
-    (λ x. and-true _ ∙ equals_text (column x 1) ecu ∙ ap (λ v. is_eq (value_cmp v (Text ecu))) (column_after x 0)) (λ x. rw (column_after x 1) refl) (λ db. refl) owner_is.1 owner_plain owner_is.0 old new in
+    (λ x. and-true _ ∙ equals_text (column x 1) ecu ∙ ap (λ v. is_eq (value_cmp v (Text ecu))) (column_after x 0)) (λ x. rw (column_after x 1) refl) (λ db. refl) owner_is old new in
     ok_then _ _ r (λ found is rows_of has lists vehicle.
     ap (list_any (has_text 0 ecu)) (sym (lists.parts vehicle) ∙ bare_filter (has_text 2 vehicle) (has_text 1 vehicle) (λ x. ap (λ v. is_eq (value_cmp v (Text vehicle))) (column_after x 1)) (old.now.trees 11))
     ∙ any_swap (has_text 0 ecu) (has_text 1 vehicle) all ∙ whose bytes_of (filter (has_text 0 ecu) all) found vehicle (is has))

@@ -1,5 +1,5 @@
 -- The rows of a vehicle's ECUs are set, one after another.
-use Rattle.std.proofs.Common.{◌≡◌, ◌≢◌, inl, inr, ℕ, zero, suc, List, [], ◌∷◌, ◌++◌, map, take, drop, length, slice_get, Some, Ok, Err, Result, OnOk, IsTrue, Bool, true, false, if◌then◌else◌, refl, sym, ap, subst, ◌∙◌, bytes_eq, arith, ◌+◌}
+use Rattle.std.proofs.Common.{◌≡◌, ◌≢◌, inl, inr, ℕ, zero, suc, List, [], ◌∷◌, ◌++◌, map, take, drop, length, slice_get, Some, Ok, Result, OnOk, IsTrue, Bool, true, false, if◌then◌else◌, refl, sym, ap, subst, ◌∙◌, bytes_eq, arith, ◌+◌}
 use Rattle.std.specs.List.{AllByRecursion}
 use Rattle.sqlite.specs.declared.types.Value.TheVariants.{Int, Text}
 use Rattle.sqlite.specs.declared.error.Error.{Error}
@@ -17,7 +17,8 @@ use Rattle.up_tables.specs.Stands.{Lists, IfClean, IsInside, IsOpen, Alters, Has
 use Rattle.up_tables.specs.Lines.{EcuLine, ecu_row, IsKept, IsSameEcu, swapped, set_ecu, AreSameEcus, AreDistinct, IsRecorded, AreRecorded, set_first, set_ecus}
 use Rattle.up_tables.proofs.EcuUpsert.{upsert_ecu_text}
 use Rattle.up_tables.proofs.EcuRows.{text_is, own_text, same_text, swapped_parts, swapped_shaped}
-use Rattle.up_tables.proofs.OthersLemmas.{others_stay, others_same, others_then}
+use Rattle.up_tables.proofs.OthersLemmas.{alters_to, alters_none, has_after, alters_then}
+use Rattle.up_tables.proofs.RunLemmas.{IsRun, run_in, then_ok, run_alters}
 use Rattle.up_tables.proofs.EcuSteps.{row_in, keyed_id, upserts_ecu}
 
 -- ---- one row
@@ -50,13 +51,13 @@ sets_ecu old new e was rows_of count has sound kept recorded h =
 pub sets_in : (r : Result ℕ Error) (old new : State) (e : EcuLine) → IsKept e → Survives old new (λ _. ⊥) → IfClean IsInside old
     → (HasCleanDisk new → IsTrue old.in_transaction → ExecutesInside 0 upsert_ecu_text (ecu_row e) old new r)
     → HasCleanDisk new → OnOk r ((rows_of : List ℕ → List Row) (was : EcuLine) → HasTables old → IsRecorded e was rows_of (old.now.trees 11) → Alters ecu_table (Lists 2 (set_ecu e rows_of)) old new)
-sets_in (Err e') old new e kept survives inside ran clean = tt
-sets_in (Ok count) old new e kept survives inside ran clean = λ rows_of was has recorded.
-    let before : HasCleanDisk old = omega (arith, survives.clean) in
-    let h = ran clean (inside before) in
-    let here = has h.1.was_open in
-    let done = sets_ecu old new e was rows_of count here.schema_is here.sound kept recorded h.0 in
-    record { was_open = h.1.was_open; is_open = h.1.is_open; mode = h.1.mode; schema_is = done.0; sound = done.1; rows = done.2; others = others_stay ecu_table old.now.trees new.now.trees done.3 }
+sets_in r old new e kept survives inside ran clean = then_ok r sets (run_in upsert_ecu_text (ecu_row e) old new r survives inside ran clean)
+  where
+    sets : IsRun upsert_ecu_text (ecu_row e) old new → (rows_of : List ℕ → List Row) (was : EcuLine) → HasTables old → IsRecorded e was rows_of (old.now.trees 11) → Alters ecu_table (Lists 2 (set_ecu e rows_of)) old new
+    sets run rows_of was has recorded =
+        let here = has run.was_open in
+        let done = sets_ecu old new e was rows_of run.count here.schema_is here.sound kept recorded run.went in
+        run_alters upsert_ecu_text (ecu_row e) ecu_table _ old new run done.0 done.1 done.2 done.3
 
 -- ---- one after another
 
@@ -141,16 +142,7 @@ SetSoFar vehicle es i old new = (rows_of : List ℕ → List Row) (olds : List E
 
 pub none_set : (vehicle : List ℕ) (es : List EcuLine) (s : State) → IsInside s → IsOpen s → SetSoFar vehicle es 0 s s
 none_set vehicle es s inside is_open rows_of olds has recorded =
-    let here = has is_open in
-    record {
-      was_open = is_open;
-      is_open = is_open;
-      mode = inside;
-      schema_is = here.schema_is;
-      sound = here.sound;
-      rows = lists_same 2 rows_of (set_first vehicle es olds 0 rows_of) (s.now.trees 11) (first_same vehicle es olds rows_of recorded.there) recorded.lists;
-      others = others_same ecu_table s.now.trees;
-    }
+    alters_none ecu_table _ s inside is_open has (lists_same 2 rows_of (set_first vehicle es olds 0 rows_of) (s.now.trees 11) (first_same vehicle es olds rows_of recorded.there) recorded.lists)
 
 pub next_set : (vehicle : List ℕ) (es : List EcuLine) (i : ℕ) (e : EcuLine) (old mid new : State) → e.vehicle ≡ vehicle → slice_get es i ≡ Some e → SetSoFar vehicle es i old mid
     → ((rows_of : List ℕ → List Row) (was : EcuLine) → HasTables mid → IsRecorded e was rows_of (mid.now.trees 11) → Alters ecu_table (Lists 2 (set_ecu e rows_of)) mid new)
@@ -160,16 +152,9 @@ next_set vehicle es i e old mid new own there so_far sets rows_of olds has recor
     let was = old_at i olds es e recorded.same there in
     let here : Has (set_first vehicle es olds i rows_of e.vehicle) (ecu_row was.0) =
     subst (λ v. Has (set_first vehicle es olds i rows_of v) (ecu_row was.0)) (sym own) (subst (λ xs. Has xs (ecu_row was.0)) (sym (own_rows vehicle (λ _. map ecu_row (take i es ++ drop i olds)) rows_of)) was.1) in
-    let after = sets (set_first vehicle es olds i rows_of) was.0 (λ _. record { schema_is = before.schema_is; sound = before.sound; rows = tt }) (record { lists = before.rows; there = here; same = was.2 }) in
-    record {
-      was_open = before.was_open;
-      is_open = after.is_open;
-      mode = after.mode;
-      schema_is = after.schema_is;
-      sound = after.sound;
-      rows = lists_same 2 (set_ecu e (set_first vehicle es olds i rows_of)) (set_first vehicle es olds (suc i) rows_of) (new.now.trees 11) (next_same vehicle es olds e i rows_of own recorded.same recorded.distinct there) after.rows;
-      others = others_then ecu_table old.now.trees mid.now.trees new.now.trees before.others after.others;
-    }
+    let after = sets (set_first vehicle es olds i rows_of) was.0 (has_after ecu_table _ old mid before) (record { lists = before.rows; there = here; same = was.2 }) in
+    alters_to ecu_table _ _ old new (lists_same 2 (set_ecu e (set_first vehicle es olds i rows_of)) (set_first vehicle es olds (suc i) rows_of) (new.now.trees 11) (next_same vehicle es olds e i rows_of own recorded.same recorded.distinct there))
+    (alters_then ecu_table _ _ old mid new before after)
 
 all_set : (os es : List EcuLine) → AreSameEcus os es → take (length es) es ++ drop (length es) os ≡ es
 all_set [] [] same = refl
@@ -180,17 +165,9 @@ all_set (o ∷ os) (e ∷ es) same = ap (λ xs. e ∷ xs) (all_set os es same.1)
 pub set_all : (vehicle : List ℕ) (es : List EcuLine) (i : ℕ) (old new : State) → i ≡ length es → SetSoFar vehicle es i old new
     → (rows_of : List ℕ → List Row) (olds : List EcuLine) → HasTables old → AreRecorded vehicle es olds rows_of (old.now.trees 11) → Alters ecu_table (Lists 2 (set_ecus vehicle es rows_of)) old new
 set_all vehicle es i old new end so_far rows_of olds has recorded =
-    let last = so_far rows_of olds has recorded in
     let whole : take i es ++ drop i olds ≡ es = ap (λ k. take k es ++ drop k olds) end ∙ all_set olds es recorded.same in
-    record {
-      was_open = last.was_open;
-      is_open = last.is_open;
-      mode = last.mode;
-      schema_is = last.schema_is;
-      sound = last.sound;
-      rows = lists_same 2 (set_first vehicle es olds i rows_of) (set_ecus vehicle es rows_of) (new.now.trees 11) (λ n. ap (λ xs. if bytes_eq vehicle n then map ecu_row xs else rows_of n) whole) last.rows;
-      others = last.others;
-    }
+    alters_to ecu_table _ _ old new (lists_same 2 (set_first vehicle es olds i rows_of) (set_ecus vehicle es rows_of) (new.now.trees 11) (λ n. ap (λ xs. if bytes_eq vehicle n then map ecu_row xs else rows_of n) whole))
+    (so_far rows_of olds has recorded)
 
 pub counted : (vehicle : List ℕ) (es : List EcuLine) (i : ℕ) (old new : State) → SetSoFar vehicle es (suc i) old new → SetSoFar vehicle es (i + 1) old new
 counted vehicle es i old new h = subst (λ n. SetSoFar vehicle es n old new) same h

@@ -1,5 +1,5 @@
 -- What the upsert of an ECU's row does.
-use Rattle.std.proofs.Common.{◌≡◌, ◌≢◌, ℕ, ℤ, List, [], ◌∷◌, ◌++◌, map, filter, drop, Some, None, Option, Ok, true, refl, sym, ap, subst, ◌∙◌}
+use Rattle.std.proofs.Common.{◌≡◌, ◌≢◌, ℕ, ℤ, List, [], ◌∷◌, ◌++◌, map, filter, drop, Some, Option, Ok, true, refl, sym, ap, subst, ◌∙◌, append-nil}
 use Rattle.std.specs.List.{AllByRecursion, list_all}
 use Rattle.std.specs.List.Sorted.{IsPermutation}
 use Rattle.sqlite.specs.declared.types.Value.{Value}
@@ -8,18 +8,12 @@ use Rattle.sqlite.specs.Order.{Row, column, value_cmp}
 use Rattle.sqlite.specs.Term.{eval_all, holds}
 use Rattle.sqlite.specs.Cast.{cast_row}
 use Rattle.sqlite.specs.Edit.{edit_of, edited, with_rowid, next_rowid, taken_by}
-use Rattle.sqlite.specs.Rowids.TheVariants.{Chosen, Given}
-use Rattle.sqlite.specs.Source.TheVariants.{Values}
-use Rattle.sqlite.specs.Command.TheVariants.{InsertOr}
 use Rattle.sqlite.specs.Effect.{Database, Answers, IsDatabase}
-use Rattle.sqlite.specs.Does.{Does, OnRows}
-use Rattle.sqlite.specs.Rows.{Written, Task, TriesEach, Tries, Updates, nothing, shown}
-use Rattle.sqlite.specs.Listing.{understood}
-use Rattle.sqlite.specs.State.{State, mode_of, Executes}
+use Rattle.sqlite.specs.Rows.{Written, Task, Tries, Updates, shown}
+use Rattle.sqlite.specs.State.{State, Executes}
 use Rattle.sqlite.specs.Tree.{Trees, put_row, without_rowid, has_rowid, rowid, IsTable}
-use Rattle.sqlite.proofs.Callers.{statement_of, one_step, runs_as, one_permutation}
+use Rattle.sqlite.proofs.Callers.{one_permutation}
 use Rattle.sqlite_catalog.specs.Listing.{IsSound}
-use Rattle.sqlite_rules.specs.Calls.{ids_of}
 use Rattle.sqlite_rules.specs.Lists.{Has}
 use Rattle.sqlite_rules.proofs.ListLemmas.{all_has, has_filtered}
 use Rattle.sqlite_rules.proofs.ProbeLemmas.{has_mapped}
@@ -34,12 +28,11 @@ use Rattle.up_tables.specs.Rows.{rows_with, has_text}
 use Rattle.up_tables.specs.Lines.{EcuLine, ecu_row, IsKept, IsSameEcu}
 use Rattle.up_tables.proofs.AnswerLemmas.{answer_is, shows_passing, equals_int}
 use Rattle.up_tables.proofs.Casts.{cast_int, cast_null}
-use Rattle.up_tables.proofs.CreateLemmas.{went}
-use Rattle.up_tables.proofs.InsertLemmas.{concluded}
 use Rattle.up_tables.proofs.KeyLemmas.{one_key}
 use Rattle.up_tables.proofs.PlaceLemmas.{only, unique}
-use Rattle.up_tables.proofs.UpsertLemmas.{upserted, tried_each, tried, resolved, updated}
-use Rattle.up_tables.proofs.EcuUpsert.{upsert_ecu_text, terms, update, clause, update_shown, equals, upsert_is, idle, conflicts_are, casts}
+use Rattle.up_tables.proofs.RunLemmas.{idle}
+use Rattle.up_tables.proofs.UpsertLemmas.{tried, resolved, updated, rewritten_by, tries_row}
+use Rattle.up_tables.proofs.EcuUpsert.{upsert_ecu_text, terms, update, clause, update_shown, equals, upsert_is, conflicts_are, casts}
 use Rattle.up_tables.proofs.EcuRows.{differs, text_is, own_text}
 
 pub with_id : (it row : Row) → is_int (rowid it) ≡ true → drop 1 it ≡ row → (id : ℤ) × (it ≡ Int id ∷ row)
@@ -87,11 +80,7 @@ updates limit db n id old new one sound shaped kept alike there h =
     let is : res.0 ≡ Int id ∷ ecu_row old = all_has (λ x. has_rowid id x ≡ true → x ≡ Int id ∷ ecu_row old) (db 11) res.0 (unique id (Int id ∷ ecu_row old) (db 11) refl shaped.0 there) res.1 (keyed_id db old id res.0 sound shaped there res.1 met) in
     let up = updated task update _ db one (subst (λ r. Updates task update (row ++ rowid r ∷ shown ecu_table (Int n ∷ row)) db (Ok one)) is res.3) in
     let all : up.0 ≡ (Int id ∷ Int id ∷ row) ∷ [] = update_rows db id old new (Int n) Null _ up.0 shaped.0 alike refl there up.1 in
-    let edit = edit_of db ecu_table (ids_of up.0) Given 1 up.0 in
-    let step = one_step up_schema Enforced db one.trees edit (idle (taken_by db edit) edit.news) up.2 in
-    let edit_is : edited db (edit_of db ecu_table (ids_of ((Int id ∷ Int id ∷ row) ∷ [])) Given 1 ((Int id ∷ Int id ∷ row) ∷ [])) ≡ put_row (Int id ∷ row) (without_rowid id (db 11)) =
-    ap (λ r. put_row r (without_rowid id (db 11))) (casts (Int id) new kept (cast_int id)) in
-    (step.rows ∙ ap (λ xs. edited db (edit_of db ecu_table (ids_of xs) Given 1 xs)) all ∙ edit_is, step.tables)
+    rewritten_by up_schema ecu_table (idle 11) db one.trees id row up.0 all (casts (Int id) new kept (cast_int id)) up.2
 
 pub upserts_ecu : (old new : State) (was e : EcuLine) (id : ℤ) (count : ℕ) → old.now.schema ≡ up_schema → IsDatabase old.now → IsShaped Table (old.now.trees 11) → IsKept e → IsSameEcu was e
     → Has (old.now.trees 11) (Int id ∷ ecu_row was) → Executes upsert_ecu_text (ecu_row e) old new (Ok count)
@@ -100,23 +89,10 @@ pub upserts_ecu : (old new : State) (was e : EcuLine) (id : ℤ) (count : ℕ) �
 upserts_ecu old new was e id count has sound shaped kept alike there h =
     let db = old.now.trees in
     let row = ecu_row e in
-    let command = InsertOr 6 Abort (Values terms 11) (clause ∷ []) in
-    let task : Task = record { limit = old.step_limit; keys = Enforced; schema = up_schema; table = ecu_table; params = row } in
-    let w = runs_as upsert_ecu_text row old new up_schema has command upsert_is.0 upsert_is.1 count h in
-    let on : OnRows task (mode_of old) None command db (Ok (w.tally, new.now)) =
-    subst (λ s. Does old.step_limit (mode_of old) row (record old.now { schema = s }) (statement_of upsert_ecu_text (understood up_schema upsert_ecu_text)) None command (Ok (w.tally, new.now))) has w.changed in
-    let done = went on in
-    let now = concluded task (mode_of old) done.0 w.tally new.now done.2 in
-    let up = upserted task (clause ∷ []) (Values terms 11) db done.0 refl done.1 in
-    let source : up.0 ≡ (Null ∷ row) ∷ [] = up.1.1 in
-    let each : TriesEach task Abort (clause ∷ []) ((Null ∷ row) ∷ []) up.2.0 (nothing db) (Ok up.2.1) = subst (λ all. TriesEach task Abort (clause ∷ []) all up.2.0 (nothing db) (Ok up.2.1)) source up.2.2 in
-    let one = tried_each task (clause ∷ []) (Null ∷ row) up.2.0 db up.2.1 refl each in
-    let new_is : with_rowid Chosen (db 11) (cast_row ecu_table (Null ∷ row)) ≡ Int (next_rowid (db 11)) ∷ row = ap (with_rowid Chosen (db 11)) (casts Null e kept cast_null) in
-    let upd = updates old.step_limit db (next_rowid (db 11)) id was e one.0 (subst (λ s. IsSound s db) has sound) shaped kept alike there (subst (λ r. Tries task Abort (clause ∷ []) r db (Ok one.0)) new_is one.1) in
-    let trees : done.0.trees ≡ one.0.trees = up.2.3 ∙ ap (λ (x : Written). x.trees) one.2 in
-    let now_is : new.now ≡ record { schema = up_schema; trees = one.0.trees } = now ∙ ap (λ t. record { schema = up_schema; trees = t }) trees in (
-      ap (λ (d : Database). d.schema) now_is,
-      w.sound,
-      ap (λ (d : Database). d.trees 11) now_is ∙ upd.0,
-      subst (λ (d : Database). AllByRecursion (λ t. t.tree ≢ 11 → d.trees t.tree ≡ db t.tree) up_schema.tables) (sym now_is) upd.1,
+    let tries = tries_row up_schema upsert_ecu_text 6 ecu_table terms 11 row row (clause ∷ []) upsert_is.0 upsert_is.1 refl refl (append-nil _) refl (casts Null e kept cast_null) old new count has h in
+    let upd = updates old.step_limit db (next_rowid (db 11)) id was e tries.0 (subst (λ s. IsSound s db) has sound) shaped kept alike there tries.1 in (
+      ap (λ (d : Database). d.schema) tries.3,
+      tries.2,
+      ap (λ (d : Database). d.trees 11) tries.3 ∙ upd.0,
+      subst (λ (d : Database). AllByRecursion (λ t. t.tree ≢ 11 → d.trees t.tree ≡ db t.tree) up_schema.tables) (sym tries.3) upd.1,
     )

@@ -7,10 +7,8 @@ use Rattle.sqlite.specs.declared.types.Value.TheVariants.{Text}
 use Rattle.sqlite.specs.declared.error.Error.{Error}
 use Rattle.sqlite.specs.Order.{Row, column}
 use Rattle.sqlite.specs.Term.{Term, col}
-use Rattle.sqlite.specs.Command.TheVariants.{Select}
-use Rattle.sqlite.specs.Listing.{understood, reads_listing}
+use Rattle.sqlite.specs.Listing.{understood}
 use Rattle.sqlite.specs.State.{State, Shown}
-use Rattle.sqlite.proofs.Callers.{IsPlain, command_of}
 use Rattle.sqlite_tied.specs.Compute.{everything}
 use Rattle.up_tables.specs.Rows.{bare, columns_at, has_text}
 use Rattle.up_tables.specs.Stands.{IsInside, Alters, HasTables}
@@ -24,8 +22,8 @@ use Rattle.up_tables.specs.Forms.{file_row, file_places, set_files}
 use Rattle.up_tables.specs.Stands.{ListsPairs, IsOpen}
 use Rattle.up_tables.specs.declared.repo_file.FileRow.{FileRow}
 use Rattle.up_tables.proofs.EcuInserts.{take_next, take_whole}
-use Rattle.up_tables.proofs.OthersLemmas.{others_same, others_then}
-use Rattle.up_tables.proofs.ReadLemmas.{answers_some, bare_filter}
+use Rattle.up_tables.proofs.OthersLemmas.{alters_to, alters_none, has_after, alters_then}
+use Rattle.up_tables.proofs.ReadLemmas.{Asks, answers_some, bare_filter}
 use Rattle.up_tables.proofs.StateLemmas.{one_in, ok_then}
 
 -- ---- one after another
@@ -51,9 +49,7 @@ set_last [] f rows_of = refl
 set_last (x ∷ fs) f rows_of = set_last fs f (with_only_at (string_bytes x.repository) (string_bytes x.name) (file_row x) rows_of)
 
 pub none_set : (fs : List FileRow) (s : State) → IsInside s → IsOpen s → SetSoFar fs 0 s s
-none_set fs s inside is_open rows_of has lists few =
-    let here = has is_open in
-    record { was_open = is_open; is_open = is_open; mode = inside; schema_is = here.schema_is; sound = here.sound; rows = lists; others = others_same repo_file_table s.now.trees }
+none_set fs s inside is_open rows_of has lists few = alters_none repo_file_table _ s inside is_open has lists
 
 pub next_set : (fs : List FileRow) (i : ℕ) (f : FileRow) (old mid new : State) → slice_get fs i ≡ Some f → SetSoFar fs i old mid
     → ((rows_of : List ℕ → List ℕ → List Row) → HasTables mid → ListsPairs rows_of (mid.now.trees 3) → length (rows_of (string_bytes f.repository) (string_bytes f.name)) ≤ 1
@@ -61,20 +57,12 @@ pub next_set : (fs : List FileRow) (i : ℕ) (f : FileRow) (old mid new : State)
     → SetSoFar fs (i + 1) old new
 next_set fs i f old mid new there so_far sets rows_of has lists few =
     let before = so_far rows_of has lists few in
-    let after = sets (set_files (take i fs) rows_of) (λ _. record { schema_is = before.schema_is; sound = before.sound; rows = tt }) before.rows (all_few (take i fs) rows_of few _ _) in
+    let after = sets (set_files (take i fs) rows_of) (has_after repo_file_table _ old mid before) before.rows (all_few (take i fs) rows_of few _ _) in
     let next : suc i ≡ i + 1 = omega arith in
     let same : take (suc i) fs ≡ take (i + 1) fs = ap (λ k. take k fs) next in
     let all : with_only_at (string_bytes f.repository) (string_bytes f.name) (file_row f) (set_files (take i fs) rows_of) ≡ set_files (take (i + 1) fs) rows_of =
     sym (set_last (take i fs) f rows_of) ∙ ap (λ xs. set_files xs rows_of) (take_next i fs f there ∙ same) in
-    record {
-      was_open = before.was_open;
-      is_open = after.is_open;
-      mode = after.mode;
-      schema_is = after.schema_is;
-      sound = after.sound;
-      rows = subst (λ g. ListsPairs g (new.now.trees 3)) all after.rows;
-      others = others_then repo_file_table old.now.trees mid.now.trees new.now.trees before.others after.others;
-    }
+    alters_to repo_file_table _ _ old new (subst (λ g. ListsPairs g (new.now.trees 3)) all) (alters_then repo_file_table _ _ old mid new before after)
 
 pub all_set : (fs : List FileRow) (i : ℕ) (old new : State) → i ≡ length fs → SetSoFar fs i old new
     → (rows_of : List ℕ → List ℕ → List Row) → HasTables old → ListsPairs rows_of (old.now.trees 3) → ((repository name : List ℕ) → length (rows_of repository name) ≤ 1)
@@ -96,13 +84,9 @@ names = codes "repository" ∷ codes "name" ∷ codes "body" ∷ []
 abbrev pub find_file_text : List ℕ
 find_file_text = codes "SELECT repository, name, body FROM repo_file WHERE repository = ?1 AND name = ?2"
 
-find_is : (command_of (understood up_schema find_file_text) ≡ Select (record { lets = []; body = over 3 (equals 1 0 ∷ equals 2 1 ∷ []) shown [] }) names) × (reads_listing up_schema find_file_text ≡ false)
+pub find_is : Asks up_schema find_file_text (over 3 (equals 1 0 ∷ equals 2 1 ∷ []) shown []) names
 unfolding understood everything
-find_is = (refl, refl)
-
-pub find_plain : IsPlain (understood up_schema find_file_text)
-unfolding understood everything
-find_plain = (refl, refl)
+find_is = (refl, refl, (refl, refl))
 
 pub finds_file : {X : Type 0} (items : X → List Row) (answer : Result X Error) (r : Result (Option FileRow) StoreFault) (old new : State) (repository name : List ℕ)
     → IfOk r (λ found. IsOkAnd answer (λ v. map part (items v) ≡ map file_row (option_to_list found))) → IfOk answer (λ v. Shown find_file_text (Text repository ∷ Text name ∷ []) old new (items v))
@@ -113,6 +97,6 @@ finds_file items answer r old new repository name h ran =
     let test : (x : Row) → has_texts 1 repository 2 name x ≡ q (drop 1 x) = λ x. rw (column_after x 0, column_after x 1) refl in
     let answers = answers_some up_schema find_file_text 3 (equals 1 0 ∷ equals 2 1 ∷ []) shown names params q part
     (λ x. rw (equals_text (column x 1) repository, equals_text (column x 2) name, column_after x 0, column_after x 1) (ap (λ b. has_text 0 repository (drop 1 x) && b) (and-true _)))
-    (λ x. rw (column_after x 0, column_after x 1, column_after x 2) refl) (λ db. refl) find_is.1 find_plain find_is.0 old new in
+    (λ x. rw (column_after x 0, column_after x 1, column_after x 2) refl) (λ db. refl) find_is old new in
     ok_then _ _ r (λ found is rows_of has lists. ap (map part) (sym (lists.parts repository name) ∙ bare_filter (has_texts 1 repository 2 name) q test (old.now.trees 3)) ∙ is has)
     (one_in items part part (λ x. refl) file_row find_file_text params old new (filter q (bare (old.now.trees 3))) answer r answers h ran)

@@ -1,5 +1,5 @@
 -- What the upsert of a file's row does.
-use Rattle.std.proofs.Common.{◌≡◌, ◌≢◌, ◌≤◌, ◌==◌, inl, inr, arith, ℕ, ℤ, List, [], ◌∷◌, ◌++◌, map, filter, Bool, true, false, ◌&&◌, if◌then◌else◌, length, Some, None, Ok, Err, Result, OnOk, Option, IsTrue, refl, sym, ap, subst, ◌∙◌, codes, append-nil, bytes_eq, drop}
+use Rattle.std.proofs.Common.{◌≡◌, ◌≢◌, ◌≤◌, inl, inr, arith, ℕ, ℤ, List, [], ◌∷◌, ◌++◌, map, filter, Bool, true, false, ◌&&◌, if◌then◌else◌, length, Some, Ok, Result, OnOk, Option, IsTrue, refl, sym, ap, subst, ◌∙◌, codes, append-nil, bytes_eq, drop}
 use Rattle.std.specs.Ordering.{is_eq}
 use Rattle.std.proofs.Math.Bool.{and-true}
 use Rattle.sqlite.specs.declared.types.Value.TheVariants.{Null, Int, Text, Blob}
@@ -10,10 +10,9 @@ use Rattle.sqlite.specs.Cast.{cast_row}
 use Rattle.sqlite.specs.Source.TheVariants.{Values}
 use Rattle.sqlite.specs.Command.TheVariants.{InsertOr}
 use Rattle.sqlite.specs.Listing.{understood}
-use Rattle.sqlite.specs.State.{State, mode_of, HasCleanDisk, Survives, Executes, ExecutesInside}
-use Rattle.sqlite.proofs.Callers.{IsPlain, command_of, statement_of, one_step, one_permutation, runs_as}
+use Rattle.sqlite.specs.State.{State, HasCleanDisk, Survives, Executes, ExecutesInside}
+use Rattle.sqlite.proofs.Callers.{IsPlain, command_of, one_step, one_permutation}
 use Rattle.sqlite_tied.specs.Compute.{everything}
-use Rattle.sqlite_rules.specs.Action.{works}
 use Rattle.sqlite_schema.specs.declared.schema.Keys.TheVariants.{Enforced}
 use Rattle.up_tables.specs.Rows.{bare, has_text}
 use Rattle.up_tables.specs.Stands.{IfClean, IsInside, Alters, HasTables}
@@ -26,14 +25,12 @@ use Rattle.std.specs.List.Sorted.{IsPermutation}
 use Rattle.std.proofs.Math.Bool.{or-false}
 use Rattle.sqlite.specs.declared.types.Value.{Value}
 use Rattle.sqlite.specs.declared.types.Value.TheVariants.{Real}
-use Rattle.sqlite.specs.Does.{Does, OnRows}
 use Rattle.sqlite.specs.Edit.{edit_of, edited, with_rowid, next_rowid, taken_by}
 use Rattle.sqlite.specs.Effect.{Answers, Database, IsDatabase}
-use Rattle.sqlite.specs.Rowids.TheVariants.{Chosen, Given}
-use Rattle.sqlite.specs.Rows.{Written, Task, TriesEach, Tries, Upserts, Puts, Edited, Clears, Updates, nothing, shown as shown_row}
+use Rattle.sqlite.specs.Rowids.TheVariants.{Given}
+use Rattle.sqlite.specs.Rows.{Written, Task, Upserts, Puts, Edited, Clears, Updates, shown as shown_row}
 use Rattle.sqlite.specs.Tree.{Trees, put_row, without_rowid, has_rowid, rowid, IsTable}
 use Rattle.sqlite_keyed.proofs.ListLemmas.{filter_same, filter_none}
-use Rattle.sqlite_rules.specs.Calls.{ids_of}
 use Rattle.sqlite_rules.specs.Keys.{conflicts}
 use Rattle.sqlite_rules.specs.Lists.{Has}
 use Rattle.sqlite_rules.proofs.ListLemmas.{all_has, all_from, has_kept}
@@ -53,11 +50,10 @@ use Rattle.up_tables.proofs.AppendLemmas.{appended_by, shaped_next}
 use Rattle.up_tables.proofs.CreateLemmas.{went, same_value}
 use Rattle.up_tables.proofs.EcuRows.{same_text}
 use Rattle.up_tables.proofs.EcuSteps.{with_id}
-use Rattle.up_tables.proofs.InsertLemmas.{concluded}
 use Rattle.up_tables.proofs.OnlyLemmas.{rewritten_shaped, part_in, part_out}
-use Rattle.up_tables.proofs.OthersLemmas.{others_stay}
+use Rattle.up_tables.proofs.RunLemmas.{IsRun, run_in, then_ok, run_alters, idle}
 use Rattle.up_tables.proofs.PlaceLemmas.{only}
-use Rattle.up_tables.proofs.UpsertLemmas.{upserted, tried_each, tried, updated}
+use Rattle.up_tables.proofs.UpsertLemmas.{tried, updated, rewritten_by, tries_row}
 
 abbrev pub upsert_file_text : List ℕ
 upsert_file_text = codes "INSERT INTO repo_file (repository, name, body) VALUES (?1, ?2, ?3) ON CONFLICT (repository, name) DO UPDATE SET body = excluded.body"
@@ -77,13 +73,6 @@ clause = record { target = Some (1 ∷ 2 ∷ []); update = Some update }
 upsert_is : (command_of (understood up_schema upsert_file_text) ≡ InsertOr 2 Abort (Values terms 4) (clause ∷ [])) × IsPlain (understood up_schema upsert_file_text)
 unfolding understood everything
 upsert_is = (refl, (refl, refl))
-
-idle : (olds news : List Row) → works up_schema Enforced 0 3 olds news ≡ []
-idle olds news = go (length news == 0) refl
-  where
-    go : (b : Bool) → (length news == 0) ≡ b → works up_schema Enforced 0 3 olds news ≡ []
-    go true e = rw e refl
-    go false e = rw e refl
 
 abbrev pub file_line : List ℕ → List ℕ → List ℕ → Row
 file_line repository name body = Text repository ∷ Text name ∷ Text body ∷ []
@@ -140,7 +129,7 @@ module _ (limit : Option ℕ) (db : Trees) (n : ℤ) (repository name body : Lis
   puts : Puts task (Int n ∷ row) db (Ok one) → (one.trees 3 ≡ put_row (Int n ∷ row) (db 3)) × AllByRecursion (λ t. t.tree ≢ 3 → one.trees t.tree ≡ db t.tree) up_schema.tables
   puts h =
       let edit = edit_of db repo_file_table [] Given 0 ((Int n ∷ row) ∷ []) in
-      let step = one_step up_schema Enforced db one.trees edit (idle (taken_by db edit) edit.news) (put task (Int n ∷ row) db one h) in
+      let step = one_step up_schema Enforced db one.trees edit (idle 3 (taken_by db edit) edit.news) (put task (Int n ∷ row) db one h) in
       (step.rows ∙ ap (λ r. put_row r (db 3)) (casts_given n repository name body), step.tables)
 
   -- ---- where there is one, it is updated
@@ -161,11 +150,7 @@ module _ (limit : Option ℕ) (db : Trees) (n : ℤ) (repository name body : Lis
   updates id was table first second there h =
       let up = updated task update _ db one h in
       let all : up.0 ≡ (Int id ∷ Int id ∷ row) ∷ [] = update_rows id was (Int n) _ [] up.0 table first second refl there up.1 in
-      let edit = edit_of db repo_file_table (ids_of up.0) Given 1 up.0 in
-      let step = one_step up_schema Enforced db one.trees edit (idle (taken_by db edit) edit.news) up.2 in
-      let edit_is : edited db (edit_of db repo_file_table (ids_of ((Int id ∷ Int id ∷ row) ∷ [])) Given 1 ((Int id ∷ Int id ∷ row) ∷ [])) ≡ put_row (Int id ∷ row) (without_rowid id (db 3)) =
-      ap (λ r. put_row r (without_rowid id (db 3))) (casts_given id repository name body) in
-      (step.rows ∙ ap (λ xs. edited db (edit_of db repo_file_table (ids_of xs) Given 1 xs)) all ∙ edit_is, step.tables)
+      rewritten_by up_schema repo_file_table (idle 3) db one.trees id row up.0 all (casts_given id repository name body) up.2
 
 -- ---- either way, the file has its text alone
 
@@ -256,26 +241,13 @@ upserts_file : (old new : State) (repository name body : List ℕ) (rows_of : Li
 upserts_file old new repository name body rows_of count has lists few h =
     let db = old.now.trees in
     let row = file_line repository name body in
-    let command = InsertOr 2 Abort (Values terms 4) (clause ∷ []) in
     let task : Task = record { limit = old.step_limit; keys = Enforced; schema = up_schema; table = repo_file_table; params = row } in
-    let w = runs_as upsert_file_text row old new up_schema has command upsert_is.0 upsert_is.1 count h in
-    let on : OnRows task (mode_of old) None command db (Ok (w.tally, new.now)) =
-    subst (λ s. Does old.step_limit (mode_of old) row (record old.now { schema = s }) (statement_of upsert_file_text (understood up_schema upsert_file_text)) None command (Ok (w.tally, new.now))) has w.changed in
-    let done = went on in
-    let now = concluded task (mode_of old) done.0 w.tally new.now done.2 in
-    let up = upserted task (clause ∷ []) (Values terms 4) db done.0 refl done.1 in
-    let source : up.0 ≡ (Null ∷ row) ∷ [] = up.1.1 in
-    let each : TriesEach task Abort (clause ∷ []) ((Null ∷ row) ∷ []) up.2.0 (nothing db) (Ok up.2.1) = subst (λ all. TriesEach task Abort (clause ∷ []) all up.2.0 (nothing db) (Ok up.2.1)) source up.2.2 in
-    let one = tried_each task (clause ∷ []) (Null ∷ row) up.2.0 db up.2.1 refl each in
-    let new_is : with_rowid Chosen (db 3) (cast_row repo_file_table (Null ∷ row)) ≡ Int (next_rowid (db 3)) ∷ row = ap (with_rowid Chosen (db 3)) (casts repository name body) in
-    let tries = subst (λ r. Tries task Abort (clause ∷ []) r db (Ok one.0)) new_is one.1 in
-    let set = sets old.step_limit db repository name body one.0 rows_of lists few (tried task clause (Int (next_rowid (db 3)) ∷ row) db one.0 tries) in
-    let trees : done.0.trees ≡ one.0.trees = up.2.3 ∙ ap (λ (x : Written). x.trees) one.2 in
-    let now_is : new.now ≡ record { schema = up_schema; trees = one.0.trees } = now ∙ ap (λ t. record { schema = up_schema; trees = t }) trees in (
-      ap (λ (d : Database). d.schema) now_is,
-      w.sound,
-      subst (λ (d : Database). ListsPairs (with_only_at repository name row rows_of) (d.trees 3)) (sym now_is) set.0,
-      subst (λ (d : Database). AllByRecursion (λ t. t.tree ≢ 3 → d.trees t.tree ≡ db t.tree) up_schema.tables) (sym now_is) set.1,
+    let tries = tries_row up_schema upsert_file_text 2 repo_file_table terms 4 row row (clause ∷ []) upsert_is.0 upsert_is.1 refl refl (append-nil _) refl (casts repository name body) old new count has h in
+    let set = sets old.step_limit db repository name body tries.0 rows_of lists few (tried task clause (Int (next_rowid (db 3)) ∷ row) db tries.0 tries.1) in (
+      ap (λ (d : Database). d.schema) tries.3,
+      tries.2,
+      subst (λ (d : Database). ListsPairs (with_only_at repository name row rows_of) (d.trees 3)) (sym tries.3) set.0,
+      subst (λ (d : Database). AllByRecursion (λ t. t.tree ≢ 3 → d.trees t.tree ≡ db t.tree) up_schema.tables) (sym tries.3) set.1,
     )
 
 -- in a transaction
@@ -283,10 +255,10 @@ pub sets_file : (r : Result ℕ Error) (old new : State) (repository name body :
     → (HasCleanDisk new → IsTrue old.in_transaction → ExecutesInside 0 upsert_file_text (file_line repository name body) old new r)
     → HasCleanDisk new → OnOk r ((rows_of : List ℕ → List ℕ → List Row) → HasTables old → ListsPairs rows_of (old.now.trees 3) → length (rows_of repository name) ≤ 1
     → Alters repo_file_table (ListsPairs (with_only_at repository name (file_line repository name body) rows_of)) old new)
-sets_file (Err e') old new repository name body survives inside ran clean = tt
-sets_file (Ok count) old new repository name body survives inside ran clean = λ rows_of has lists few.
-    let before : HasCleanDisk old = omega (arith, survives.clean) in
-    let h = ran clean (inside before) in
-    let here = has h.1.was_open in
-    let done = upserts_file old new repository name body rows_of count here.schema_is lists few h.0 in
-    record { was_open = h.1.was_open; is_open = h.1.is_open; mode = h.1.mode; schema_is = done.0; sound = done.1; rows = done.2; others = others_stay repo_file_table old.now.trees new.now.trees done.3 }
+sets_file r old new repository name body survives inside ran clean = then_ok r sets_it (run_in upsert_file_text (file_line repository name body) old new r survives inside ran clean)
+  where
+    sets_it : IsRun upsert_file_text (file_line repository name body) old new → (rows_of : List ℕ → List ℕ → List Row) → HasTables old → ListsPairs rows_of (old.now.trees 3) → length (rows_of repository name) ≤ 1
+        → Alters repo_file_table (ListsPairs (with_only_at repository name (file_line repository name body) rows_of)) old new
+    sets_it run rows_of has lists few =
+        let done = upserts_file old new repository name body rows_of run.count (has run.was_open).schema_is lists few run.went in
+        run_alters upsert_file_text (file_line repository name body) repo_file_table _ old new run done.0 done.1 done.2 done.3

@@ -8,13 +8,11 @@ use Rattle.sqlite.specs.Order.{Row, column, value_cmp}
 use Rattle.sqlite.specs.Term.{Term, lit, col}
 use Rattle.sqlite.specs.Cast.{cast_row}
 use Rattle.sqlite.specs.Source.TheVariants.{Values}
-use Rattle.sqlite.specs.Command.TheVariants.{Insert, Select}
-use Rattle.sqlite.specs.Listing.{understood, reads_listing}
+use Rattle.sqlite.specs.Command.TheVariants.{Insert}
+use Rattle.sqlite.specs.Listing.{understood}
 use Rattle.sqlite.specs.State.{State, HasCleanDisk, Survives, ExecutesInside, Shown}
 use Rattle.sqlite.proofs.Callers.{IsPlain, command_of}
 use Rattle.sqlite_tied.specs.Compute.{everything}
-use Rattle.sqlite_rules.specs.Action.{works}
-use Rattle.sqlite_schema.specs.declared.schema.Keys.TheVariants.{Enforced}
 use Rattle.up_tables.specs.Tables.{up_schema, image_table}
 use Rattle.up_tables.specs.Rows.{columns_at, with_row}
 use Rattle.up_tables.specs.Forms.{image_row, image_places}
@@ -27,7 +25,7 @@ use Rattle.up_tables.proofs.Casts.{cast_int, cast_null}
 use Rattle.up_tables.proofs.EcuRows.{text_is, column_after}
 use Rattle.up_tables.proofs.EcuUpsert.{equals}
 use Rattle.up_tables.proofs.InsertLemmas.{inserts_in}
-use Rattle.up_tables.proofs.ReadLemmas.{answers_all, by_rowid}
+use Rattle.up_tables.proofs.ReadLemmas.{Asks, answers_all, by_rowid}
 use Rattle.up_tables.proofs.StateLemmas.{ok_then}
 
 -- ---- put in
@@ -42,13 +40,6 @@ insert_is : (command_of (understood up_schema insert_image_text) ≡ Insert 3 (V
 unfolding understood everything
 insert_is = (refl, (refl, refl))
 
-idle : (olds news : List Row) → works up_schema Enforced 0 5 olds news ≡ []
-idle olds news = go (length news == 0) refl
-  where
-    go : (b : Bool) → (length news == 0) ≡ b → works up_schema Enforced 0 5 olds news ≡ []
-    go true e = rw e refl
-    go false e = rw e refl
-
 casts : (i : ImageRow) → cast_row image_table (Null ∷ image_row i) ≡ Null ∷ image_row i
 casts i = rw (cast_null, cast_int (pos i.length), cast_int (pos i.release_count)) refl
 
@@ -57,7 +48,7 @@ pub image_inserts : (r : Result ℕ Error) (old new : State) (i : ImageRow) → 
     → HasCleanDisk new → OnOk r ((rows_of : List ℕ → List Row) → HasTables old → Lists 1 rows_of (old.now.trees 5) → Alters image_table (Lists 1 (with_row (string_bytes i.file) (image_row i) rows_of)) old new)
 image_inserts r old new i survives inside ran clean =
     listed_in image_table 1 (string_bytes i.file) (image_row i) old new r (λ x n. text_is (string_bytes i.file) n)
-    (inserts_in insert_image_text 3 image_table terms 8 (image_row i) (image_row i) insert_is.0 insert_is.1 refl refl (append-nil _) refl (casts i) idle r old new survives inside ran clean)
+    (inserts_in insert_image_text 3 image_table terms 8 (image_row i) (image_row i) insert_is.0 insert_is.1 refl refl (append-nil _) refl (casts i) r old new survives inside ran clean)
 
 -- ---- read
 
@@ -76,29 +67,21 @@ shows params r = rw (column_after r 0, column_after r 1, column_after r 2, colum
 abbrev pub find_image_text : List ℕ
 find_image_text = codes "SELECT file, length, sha256, hardware, release_count, needs, conflicts FROM image WHERE file = ?1"
 
-find_is : (command_of (understood up_schema find_image_text) ≡ Select (record { lets = []; body = over 5 (equals 1 0 ∷ []) shown [] }) names) × (reads_listing up_schema find_image_text ≡ false)
+pub find_is : Asks up_schema find_image_text (over 5 (equals 1 0 ∷ []) shown []) names
 unfolding understood everything
-find_is = (refl, refl)
-
-pub find_plain : IsPlain (understood up_schema find_image_text)
-unfolding understood everything
-find_plain = (refl, refl)
+find_is = (refl, refl, (refl, refl))
 
 pub finds_image : {X : Type 0} (items : X → List Row) (answer : Result X Error) (r : Result (Option ImageRow) StoreFault) (old new : State) (file : List ℕ)
     → IfOk r (λ found. IsOkAnd answer (λ v. map part (items v) ≡ map image_row (option_to_list found))) → IfOk answer (λ v. Shown find_image_text (Text file ∷ []) old new (items v))
     → IfOk r (λ found. (rows_of : List ℕ → List Row) → HasTables old → Lists 1 rows_of (old.now.trees 5) → map part (rows_of file) ≡ map image_row (option_to_list found))
-finds_image items answer r old new file = named_in items image_table 0 find_image_text shown names part image_row file find_is.0 find_is.1 find_plain (λ db. refl) (shows (Text file ∷ [])) (λ x. refl) answer r old new
+finds_image items answer r old new file = named_in items image_table 0 find_image_text shown names part image_row file find_is (λ db. refl) (shows (Text file ∷ [])) (λ x. refl) answer r old new
 
 abbrev pub all_images_text : List ℕ
 all_images_text = codes "SELECT file, length, sha256, hardware, release_count, needs, conflicts FROM image ORDER BY rowid"
 
-all_is : (command_of (understood up_schema all_images_text) ≡ Select (record { lets = []; body = over 5 [] shown by_rowid }) names) × (reads_listing up_schema all_images_text ≡ false)
+pub all_is : Asks up_schema all_images_text (over 5 [] shown by_rowid) names
 unfolding understood everything
-all_is = (refl, refl)
-
-pub all_plain : IsPlain (understood up_schema all_images_text)
-unfolding understood everything
-all_plain = (refl, refl)
+all_is = (refl, refl, (refl, refl))
 
 pub finds_images : {X R : Type 0} (items : X → List Row) (list : R → List ImageRow) (answer : Result X Error) (r : Result R StoreFault) (old new : State)
     → IfOk r (λ found. IsOkAnd answer (λ v. map part (items v) ≡ map image_row (list found))) → IfOk answer (λ v. Shown all_images_text [] old new (items v))
@@ -107,4 +90,4 @@ pub finds_images : {X R : Type 0} (items : X → List Row) (list : R → List Im
 finds_images items list answer r old new h ran =
     ok_then _ _ r (λ found is rows_of has lists name. ap (map part) (sym (filter_true (rows_of name))) ∙ is rows_of has lists name)
     (all_in items list image_table all_images_text part image_row (λ i. string_bytes i.file) (λ _. true) (λ x. refl) (λ x n. refl) (λ x n. text_is (string_bytes x.file) n) answer r old new
-    (λ shown' has table. answers_all up_schema all_images_text 5 [] shown names [] (λ _. true) part (λ x. refl) (shows []) (λ db. refl) all_is.1 all_plain all_is.0 old new shown' has table) h ran)
+    (λ shown' has table. answers_all up_schema all_images_text 5 [] shown names [] (λ _. true) part (λ x. refl) (shows []) (λ db. refl) all_is old new shown' has table) h ran)

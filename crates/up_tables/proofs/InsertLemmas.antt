@@ -1,5 +1,5 @@
 -- What an INSERT of one row does.
-use Rattle.std.proofs.Common.{◌≡◌, ◌≢◌, ℕ, ℤ, List, [], ◌∷◌, false, if◌then◌else◌, Some, None, Option, slice_get, length, ◌/◌, Ok, Err, Result, OnOk, IsTrue, arith, sym, ap, subst, ◌∙◌}
+use Rattle.std.proofs.Common.{◌≡◌, ◌≢◌, ℕ, ℤ, List, [], ◌∷◌, false, if◌then◌else◌, Some, None, Option, slice_get, length, ◌/◌, Ok, Result, OnOk, IsTrue, sym, ap, subst, ◌∙◌}
 use Rattle.std.specs.List.{AllByRecursion}
 use Rattle.sqlite.specs.declared.types.Value.TheVariants.{Null, Int}
 use Rattle.sqlite.specs.Order.{Row}
@@ -26,7 +26,7 @@ use Rattle.sqlite.specs.Schema.{Schema}
 use Rattle.up_tables.specs.Inserts.{Inserts}
 use Rattle.up_tables.specs.Tables.{up_schema}
 use Rattle.up_tables.specs.Stands.{IfClean, IsInside, HasTables, Alters}
-use Rattle.up_tables.proofs.OthersLemmas.{others_stay}
+use Rattle.up_tables.proofs.RunLemmas.{IsRun, run_in, then_ok, run_alters, idle}
 use Rattle.up_tables.proofs.CreateLemmas.{went, same_value}
 
 -- ---- the parts of a statement, each over plain variables
@@ -83,22 +83,12 @@ module _ (schema : Schema) (text : List ℕ) (at : ℕ) (table : Table) (terms :
 -- in a transaction: the row is put in under the next rowid
 module _ (text : List ℕ) (at : ℕ) (table : Table) (terms : List Term) (width : ℕ) (params row : Row) (is : command_of (understood up_schema text) ≡ Insert at (Values terms width)) (plain : IsPlain (understood up_schema text))
     (place : slice_get up_schema.tables at ≡ Some table) (uncounted : table.is_counted ≡ false) (bare : stamped table params ≡ params)
-    (given : value_rows params width (length terms / width) terms ≡ (Null ∷ row) ∷ []) (casts : cast_row table (Null ∷ row) ≡ Null ∷ row)
-    (idle : (olds news : List Row) → works up_schema Enforced 0 table.tree olds news ≡ []) where
+    (given : value_rows params width (length terms / width) terms ≡ (Null ∷ row) ∷ []) (casts : cast_row table (Null ∷ row) ≡ Null ∷ row) where
   pub inserts_in : (r : Result ℕ Error) (old new : State) → Survives old new (λ _. ⊥) → IfClean IsInside old → (HasCleanDisk new → IsTrue old.in_transaction → ExecutesInside 0 text params old new r)
       → HasCleanDisk new → OnOk r (HasTables old → Alters table (λ rows. rows ≡ put_row (Int (next_rowid (old.now.trees table.tree)) ∷ row) (old.now.trees table.tree)) old new)
-  inserts_in (Err e) old new survives inside ran clean = tt
-  inserts_in (Ok count) old new survives inside ran clean = λ has.
-      let before : HasCleanDisk old = omega (arith, survives.clean) in
-      let h = ran clean (inside before) in
-      let here = has h.1.was_open in
-      let ins = inserts_row up_schema text at table terms width params (Null ∷ row) is plain place uncounted bare given casts idle old new count here.schema_is h.0 in
-      record {
-        was_open = h.1.was_open;
-        is_open = h.1.is_open;
-        mode = h.1.mode;
-        schema_is = ins.schema_is;
-        sound = ins.sound;
-        rows = ins.rows;
-        others = others_stay table old.now.trees new.now.trees ins.others;
-      }
+  inserts_in r old new survives inside ran clean = then_ok r inserts (run_in text params old new r survives inside ran clean)
+    where
+      inserts : IsRun text params old new → HasTables old → Alters table (λ rows. rows ≡ put_row (Int (next_rowid (old.now.trees table.tree)) ∷ row) (old.now.trees table.tree)) old new
+      inserts run has =
+          let ins = inserts_row up_schema text at table terms width params (Null ∷ row) is plain place uncounted bare given casts (idle table.tree) old new run.count (has run.was_open).schema_is run.went in
+          run_alters text params table _ old new run ins.schema_is ins.sound ins.rows ins.others

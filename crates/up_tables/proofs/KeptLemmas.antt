@@ -1,5 +1,5 @@
 -- The statements on kept manifests.
-use Rattle.std.proofs.Common.{◌≡◌, ◌==◌, ℕ, pos, List, [], ◌∷◌, map, filter, Bool, true, false, ◌&&◌, length, Result, OnOk, IfOk, Option, IsTrue, refl, sym, ap, ◌∙◌, codes, string_bytes, append-nil, drop}
+use Rattle.std.proofs.Common.{◌≡◌, ℕ, pos, List, [], ◌∷◌, map, filter, Bool, ◌&&◌, Result, OnOk, IfOk, Option, IsTrue, refl, sym, ap, ◌∙◌, codes, string_bytes, append-nil, drop}
 use Rattle.std.specs.Option.{option_to_list}
 use Rattle.std.specs.Result.{IsOkAnd}
 use Rattle.std.specs.Ordering.{is_eq}
@@ -10,13 +10,11 @@ use Rattle.sqlite.specs.Order.{Row, column, value_cmp}
 use Rattle.sqlite.specs.Term.{Term, lit, col}
 use Rattle.sqlite.specs.Cast.{cast_row}
 use Rattle.sqlite.specs.Source.TheVariants.{Values}
-use Rattle.sqlite.specs.Command.TheVariants.{Insert, Select}
-use Rattle.sqlite.specs.Listing.{understood, reads_listing}
+use Rattle.sqlite.specs.Command.TheVariants.{Insert}
+use Rattle.sqlite.specs.Listing.{understood}
 use Rattle.sqlite.specs.State.{State, HasCleanDisk, Survives, ExecutesInside, Shown}
 use Rattle.sqlite.proofs.Callers.{IsPlain, command_of}
 use Rattle.sqlite_tied.specs.Compute.{everything}
-use Rattle.sqlite_rules.specs.Action.{works}
-use Rattle.sqlite_schema.specs.declared.schema.Keys.TheVariants.{Enforced}
 use Rattle.up_tables.specs.Rows.{bare, columns_at, has_text, has_number, with_row}
 use Rattle.up_tables.specs.Stands.{Lists, IfClean, IsInside, Alters, HasTables}
 use Rattle.up_tables.specs.declared.values.StoreFault.{StoreFault}
@@ -29,7 +27,7 @@ use Rattle.up_tables.specs.Tables.{up_schema, kept_table}
 use Rattle.up_tables.specs.Forms.{kept_row, kept_places}
 use Rattle.up_tables.specs.declared.kept.KeptRow.{KeptRow}
 use Rattle.up_tables.proofs.ByNameLemmas.{listed_in}
-use Rattle.up_tables.proofs.ReadLemmas.{answers_some, bare_filter, filter_both}
+use Rattle.up_tables.proofs.ReadLemmas.{Asks, answers_some, bare_filter, filter_both}
 use Rattle.up_tables.proofs.StateLemmas.{one_in, ok_then}
 
 -- ---- put in
@@ -44,13 +42,6 @@ insert_is : (command_of (understood up_schema insert_kept_text) ≡ Insert 7 (Va
 unfolding understood everything
 insert_is = (refl, (refl, refl))
 
-idle : (olds news : List Row) → works up_schema Enforced 0 14 olds news ≡ []
-idle olds news = go (length news == 0) refl
-  where
-    go : (b : Bool) → (length news == 0) ≡ b → works up_schema Enforced 0 14 olds news ≡ []
-    go true e = rw e refl
-    go false e = rw e refl
-
 casts : (k : KeptRow) → cast_row kept_table (Null ∷ kept_row k) ≡ Null ∷ kept_row k
 casts k = rw (cast_null, cast_int (pos k.counter), cast_int (pos k.version), cast_int (pos k.moment), cast_int (pos k.root)) refl
 
@@ -59,7 +50,7 @@ pub kept_inserts : (r : Result ℕ Error) (old new : State) (k : KeptRow) → Su
     → HasCleanDisk new → OnOk r ((rows_of : List ℕ → List Row) → HasTables old → Lists 1 rows_of (old.now.trees 14) → Alters kept_table (Lists 1 (with_row (string_bytes k.vehicle) (kept_row k) rows_of)) old new)
 kept_inserts r old new k survives inside ran clean =
     listed_in kept_table 1 (string_bytes k.vehicle) (kept_row k) old new r (λ x n. text_is (string_bytes k.vehicle) n)
-    (inserts_in insert_kept_text 7 kept_table terms 9 (kept_row k) (kept_row k) insert_is.0 insert_is.1 refl refl (append-nil _) refl (casts k) idle r old new survives inside ran clean)
+    (inserts_in insert_kept_text 7 kept_table terms 9 (kept_row k) (kept_row k) insert_is.0 insert_is.1 refl refl (append-nil _) refl (casts k) r old new survives inside ran clean)
 
 -- ---- read
 
@@ -75,13 +66,9 @@ names = codes "vehicle" ∷ codes "counter" ∷ codes "version" ∷ codes "momen
 abbrev pub find_kept_text : List ℕ
 find_kept_text = codes "SELECT vehicle, counter, version, moment, root, signed, plan_text, reply FROM kept WHERE vehicle = ?1 AND counter = ?2"
 
-find_is : (command_of (understood up_schema find_kept_text) ≡ Select (record { lets = []; body = over 14 (equals 1 0 ∷ equals 2 1 ∷ []) shown [] }) names) × (reads_listing up_schema find_kept_text ≡ false)
+pub find_is : Asks up_schema find_kept_text (over 14 (equals 1 0 ∷ equals 2 1 ∷ []) shown []) names
 unfolding understood everything
-find_is = (refl, refl)
-
-pub find_plain : IsPlain (understood up_schema find_kept_text)
-unfolding understood everything
-find_plain = (refl, refl)
+find_is = (refl, refl, (refl, refl))
 
 pub finds_kept : {X : Type 0} (items : X → List Row) (answer : Result X Error) (r : Result (Option KeptRow) StoreFault) (old new : State) (vehicle : List ℕ) (counter : ℕ)
     → IfOk r (λ found. IsOkAnd answer (λ v. map part (items v) ≡ map kept_row (option_to_list found))) → IfOk answer (λ v. Shown find_kept_text (Text vehicle ∷ Int (pos counter) ∷ []) old new (items v))
@@ -92,7 +79,7 @@ finds_kept items answer r old new vehicle counter h ran =
     let test : (x : Row) → has_text 1 vehicle x ≡ has_text 0 vehicle (drop 1 x) = λ x. ap (λ v. is_eq (value_cmp v (Text vehicle))) (column_after x 0) in
     let answers = answers_some up_schema find_kept_text 14 (equals 1 0 ∷ equals 2 1 ∷ []) shown names params q part
     (λ x. rw (equals_text (column x 1) vehicle, equals_int (column x 2) (pos counter), column_after x 0, column_after x 1) (ap (λ b. has_text 0 vehicle (drop 1 x) && b) (and-true _)))
-    (λ x. rw (column_after x 0, column_after x 1, column_after x 2, column_after x 3, column_after x 4, column_after x 5, column_after x 6, column_after x 7) refl) (λ db. refl) find_is.1 find_plain find_is.0 old new in
+    (λ x. rw (column_after x 0, column_after x 1, column_after x 2, column_after x 3, column_after x 4, column_after x 5, column_after x 6, column_after x 7) refl) (λ db. refl) find_is old new in
     ok_then _ _ r (λ found is rows_of has lists.
     ap (λ xs. map part (filter (has_number 1 (pos counter)) xs)) (sym (lists.parts vehicle) ∙ bare_filter (has_text 1 vehicle) (has_text 0 vehicle) test (old.now.trees 14))
     ∙ ap (map part) (sym (filter_both (has_text 0 vehicle) (has_number 1 (pos counter)) (bare (old.now.trees 14)))) ∙ is has)

@@ -1,5 +1,5 @@
-pub mod SchemaLemmas
 pub mod CreateLemmas
+pub mod SchemaLemmas
 pub mod AnswerLemmas
 pub mod StepLemmas
 pub mod InsertLemmas
@@ -7,10 +7,12 @@ pub mod AppendLemmas
 pub mod PlaceLemmas
 pub mod UpsertLemmas
 pub mod OthersLemmas
+pub mod RunLemmas
 pub mod UpdateLemmas
 pub mod OnlyLemmas
 pub mod ReadLemmas
 pub mod StateLemmas
+pub mod CallLemmas
 pub mod ByNameLemmas
 pub mod ImageLemmas
 pub mod VehicleLemmas

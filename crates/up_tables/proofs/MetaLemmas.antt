@@ -1,8 +1,7 @@
 -- The row of `meta`.
-use Rattle.std.proofs.Common.{◌≡◌, ◌==◌, ℕ, pos, List, [], ◌∷◌, Bool, true, false, length, Ok, Err, Result, OnOk, IsTrue, refl, ap, ◌∙◌, arith, codes}
+use Rattle.std.proofs.Common.{◌≡◌, ℕ, pos, List, [], ◌∷◌, Ok, Err, Result, OnOk, IsTrue, refl, ap, ◌∙◌, arith, codes}
 use Rattle.sqlite.specs.declared.types.Value.TheVariants.{Null, Int, Text}
 use Rattle.sqlite.specs.declared.error.Error.{Error}
-use Rattle.sqlite.specs.Order.{Row}
 use Rattle.sqlite.specs.Term.{Term, lit}
 use Rattle.sqlite.specs.Cast.{cast_row}
 use Rattle.sqlite.specs.Source.TheVariants.{Values}
@@ -13,14 +12,13 @@ use Rattle.sqlite.specs.State.{State, HasCleanDisk, Survives, Executes, Executes
 use Rattle.sqlite.specs.Tree.{put_row}
 use Rattle.sqlite.proofs.Callers.{IsPlain, command_of}
 use Rattle.sqlite_tied.specs.Compute.{everything}
-use Rattle.sqlite_rules.specs.Action.{works}
-use Rattle.sqlite_schema.specs.declared.schema.Keys.TheVariants.{Enforced}
 use Rattle.up_tables.specs.Tables.{up_schema, meta_table}
 use Rattle.up_tables.specs.Lines.{meta_row, AreNew}
 use Rattle.up_tables.specs.Inserts.{Inserts}
 use Rattle.up_tables.specs.Stands.{AreEmpty, IfClean, IsWithin, GoesOn}
 use Rattle.up_tables.proofs.Casts.{cast_int, cast_null}
 use Rattle.up_tables.proofs.InsertLemmas.{inserts_row}
+use Rattle.up_tables.proofs.RunLemmas.{idle}
 
 abbrev pub insert_meta_text : List ℕ
 insert_meta_text = codes "INSERT INTO meta (id, app, schema, root, image_version, stamp) VALUES (1, 'uptane_desk', 1, 0, 0, 0)"
@@ -32,18 +30,11 @@ insert_is : (command_of (understood up_schema insert_meta_text) ≡ Insert 0 (Va
 unfolding understood everything
 insert_is = (refl, (refl, refl))
 
-idle : (olds news : List Row) → works up_schema Enforced 0 0 olds news ≡ []
-idle olds news = go (length news == 0) refl
-  where
-    go : (b : Bool) → (length news == 0) ≡ b → works up_schema Enforced 0 0 olds news ≡ []
-    go true e = rw e refl
-    go false e = rw e refl
-
 casts : cast_row meta_table (meta_row 0 0 0) ≡ meta_row 0 0 0
 casts = rw (cast_null, cast_int (pos 1), cast_int (pos 0)) refl
 
 meta_inserts : (old new : State) (count : ℕ) → old.now.schema ≡ up_schema → Executes insert_meta_text [] old new (Ok count) → Inserts up_schema meta_table (meta_row 0 0 0) old.now new.now
-meta_inserts old new count has h = inserts_row up_schema insert_meta_text 0 meta_table terms 7 [] (meta_row 0 0 0) insert_is.0 insert_is.1 refl refl refl refl casts idle old new count has h
+meta_inserts old new count has h = inserts_row up_schema insert_meta_text 0 meta_table terms 7 [] (meta_row 0 0 0) insert_is.0 insert_is.1 refl refl refl refl casts (idle 0) old new count has h
 
 names : (old new : Database) → AreEmpty up_schema old.trees → Inserts up_schema meta_table (meta_row 0 0 0) old new → AreNew new.trees
 names old new none ins = record {

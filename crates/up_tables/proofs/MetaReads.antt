@@ -1,5 +1,5 @@
 -- The row of `meta` is read and set.
-use Rattle.std.proofs.Common.{◌≡◌, ◌==◌, arith, ℕ, pos, List, [], ◌∷◌, map, filter, Bool, true, false, length, Some, None, Ok, Err, Result, OnOk, IfOk, Option, IsTrue, refl, sym, ap, subst, ◌∙◌, codes, drop}
+use Rattle.std.proofs.Common.{◌≡◌, ℕ, pos, List, [], ◌∷◌, map, filter, true, Some, None, Ok, Err, Result, OnOk, IfOk, Option, IsTrue, refl, sym, ap, subst, ◌∙◌, codes, drop}
 use Rattle.std.specs.Option.{option_to_list}
 use Rattle.std.specs.Result.{IsOkAnd}
 use Rattle.std.proofs.Math.Bool.{and-true}
@@ -8,19 +8,18 @@ use Rattle.sqlite.specs.declared.error.Error.{Error}
 use Rattle.sqlite.specs.Order.{Row, column, value_cmp}
 use Rattle.sqlite.specs.Term.{Term, lit, col, op2, eval_all, holds}
 use Rattle.sqlite.specs.Cast.{cast_row}
-use Rattle.sqlite.specs.Command.TheVariants.{Select, Update}
-use Rattle.sqlite.specs.Listing.{understood, reads_listing}
+use Rattle.sqlite.specs.Command.TheVariants.{Update}
+use Rattle.sqlite.specs.Listing.{understood}
 use Rattle.sqlite.specs.State.{State, HasCleanDisk, Survives, ExecutesInside, Shown}
 use Rattle.sqlite.proofs.Callers.{IsPlain, command_of, one_permutation}
 use Rattle.sqlite_tied.specs.Compute.{everything}
-use Rattle.sqlite_rules.specs.Action.{works}
-use Rattle.sqlite_schema.specs.declared.schema.Keys.TheVariants.{Enforced}
 use Rattle.sqlite_sql.specs.declared.ops.BinaryOp.TheVariants.{Compare}
 use Rattle.sqlite_sql.specs.declared.ops.CompareOp.TheVariants.{Eq}
 use Rattle.sqlite_value.specs.declared.keys.Collation.TheVariants.{Binary}
 use Rattle.up_tables.specs.Rows.{columns_at}
 use Rattle.up_tables.specs.Stands.{IfClean, IsInside, Alters, HasTables}
 use Rattle.up_tables.specs.declared.values.StoreFault.{StoreFault}
+use Rattle.up_tables.proofs.ReadLemmas.{Asks, asked}
 use Rattle.up_tables.proofs.AnswerLemmas.{over, equals_int}
 use Rattle.up_tables.proofs.Casts.{cast_int, cast_null}
 use Rattle.std.specs.List.{list_all}
@@ -33,10 +32,9 @@ use Rattle.up_tables.specs.Lines.{meta_row}
 use Rattle.up_tables.specs.Forms.{meta_of, meta_values, meta_places}
 use Rattle.up_tables.specs.declared.meta.MetaRow.{MetaRow}
 use Rattle.up_tables.proofs.AnswerLemmas.{answer_is, shows_passing}
-use Rattle.up_tables.proofs.OthersLemmas.{others_stay}
+use Rattle.up_tables.proofs.RunLemmas.{IsRun, run_in, then_ok, run_alters, idle}
 use Rattle.up_tables.proofs.PlaceLemmas.{itself}
 use Rattle.up_tables.proofs.UpdateLemmas.{updates_row}
-use Rattle.sqlite.proofs.Callers.{reads_as}
 
 abbrev pub is_one : Term
 is_one = op2 (Compare Eq Binary) (col 1 0) (lit (Int (pos 1)))
@@ -58,19 +56,14 @@ shown = col 1 4 ∷ col 1 5 ∷ col 1 6 ∷ []
 abbrev names : List (List ℕ)
 names = codes "root" ∷ codes "image_version" ∷ codes "stamp" ∷ []
 
-find_is : (command_of (understood up_schema find_founding_text) ≡ Select (record { lets = []; body = over 0 (is_one ∷ []) shown [] }) names) × (reads_listing up_schema find_founding_text ≡ false)
+pub find_is : Asks up_schema find_founding_text (over 0 (is_one ∷ []) shown []) names
 unfolding understood everything
-find_is = (refl, refl)
-
-pub find_plain : IsPlain (understood up_schema find_founding_text)
-unfolding understood everything
-find_plain = (refl, refl)
+find_is = (refl, refl, (refl, refl))
 
 shown_row : (old new : State) (root image_version stamp : ℕ) (rows : List Row) → old.now.schema ≡ up_schema → old.now.trees 0 ≡ meta_row root image_version stamp ∷ [] → Shown find_founding_text [] old new rows
     → rows ≡ (Int (pos root) ∷ Int (pos image_version) ∷ Int (pos stamp) ∷ []) ∷ []
 shown_row old new root image_version stamp rows has is h =
-    let read = reads_as find_founding_text [] old new up_schema has (Select (record { lets = []; body = over 0 (is_one ∷ []) shown [] }) names) find_is.0 find_plain find_is.1 rows h in
-    let same = shows_passing (is_one ∷ []) shown [] (old.now.trees 0) rows (answer_is (Rattle.sqlite.specs.Program.overlay old.now.trees []) 0 (is_one ∷ []) shown [] [] rows (read.answer Null)) in
+    let same = shows_passing (is_one ∷ []) shown [] (old.now.trees 0) rows (asked up_schema find_founding_text 0 (is_one ∷ []) shown [] names [] find_is old new rows has h) in
     one_permutation _ rows (subst (λ xs. IsPermutation xs rows) (ap (map (λ r. eval_all shown ([] ∷ r ∷ []))) (one_row [] root image_version stamp (old.now.trees 0) is)) same)
 
 the_one : (found : Option MetaRow) (root image_version stamp : ℕ) → (Int (pos root) ∷ Int (pos image_version) ∷ Int (pos stamp) ∷ []) ∷ [] ≡ map meta_values (option_to_list found)
@@ -123,13 +116,6 @@ set_is : (command_of (understood up_schema set_founding_text) ≡ Update 0 progr
 unfolding understood everything
 set_is = (refl, (refl, refl))
 
-idle : (olds news : List Row) → works up_schema Enforced 0 0 olds news ≡ []
-idle olds news = go (length news == 0) refl
-  where
-    go : (b : Bool) → (length news == 0) ≡ b → works up_schema Enforced 0 0 olds news ≡ []
-    go true e = rw e refl
-    go false e = rw e refl
-
 casts : (m : MetaRow) → cast_row meta_table (meta_of m) ≡ meta_of m
 casts m = rw (cast_null, cast_int (pos 1), cast_int (pos m.root), cast_int (pos m.image_version), cast_int (pos m.stamp)) refl
 
@@ -145,19 +131,11 @@ no_other root image_version stamp = let it = itself (pos 1) in rw it refl
 pub sets_meta : (r : Result ℕ Error) (old new : State) (m : MetaRow) → Survives old new (λ _. ⊥) → IfClean IsInside old
     → (HasCleanDisk new → IsTrue old.in_transaction → ExecutesInside 0 set_founding_text (meta_values m) old new r)
     → HasCleanDisk new → OnOk r ((root image_version stamp : ℕ) → HasTables old → old.now.trees 0 ≡ meta_row root image_version stamp ∷ [] → Alters meta_table (λ rows. rows ≡ meta_of m ∷ []) old new)
-sets_meta (Err e') old new m survives inside ran clean = tt
-sets_meta (Ok count) old new m survives inside ran clean = λ root image_version stamp has is.
-    let before : HasCleanDisk old = omega (arith, survives.clean) in
-    let h = ran clean (inside before) in
-    let here = has h.1.was_open in
-    let done = updates_row up_schema set_founding_text 0 meta_table program (meta_values m) set_is.0 set_is.1 refl idle old new count (pos 1) (drop 1 (meta_of m)) here.schema_is (casts m)
-    (λ rows. update_rows old.now.trees m root image_version stamp rows is) h.0 in
-    record {
-      was_open = h.1.was_open;
-      is_open = h.1.is_open;
-      mode = h.1.mode;
-      schema_is = done.schema_is;
-      sound = done.sound;
-      rows = done.rows ∙ ap (λ xs. put_row (meta_of m) (without_rowid (pos 1) xs)) is ∙ ap (put_row (meta_of m)) (no_other root image_version stamp);
-      others = others_stay meta_table old.now.trees new.now.trees done.others;
-    }
+sets_meta r old new m survives inside ran clean = then_ok r sets (run_in set_founding_text (meta_values m) old new r survives inside ran clean)
+  where
+    sets : IsRun set_founding_text (meta_values m) old new → (root image_version stamp : ℕ) → HasTables old → old.now.trees 0 ≡ meta_row root image_version stamp ∷ [] → Alters meta_table (λ rows. rows ≡ meta_of m ∷ []) old new
+    sets run root image_version stamp has is =
+        let done = updates_row up_schema set_founding_text 0 meta_table program (meta_values m) set_is.0 set_is.1 refl (idle 0) old new run.count (pos 1) (drop 1 (meta_of m)) (has run.was_open).schema_is (casts m)
+        (λ rows. update_rows old.now.trees m root image_version stamp rows is) run.went in
+        run_alters set_founding_text (meta_values m) meta_table _ old new run done.schema_is done.sound
+        (done.rows ∙ ap (λ xs. put_row (meta_of m) (without_rowid (pos 1) xs)) is ∙ ap (put_row (meta_of m)) (no_other root image_version stamp)) done.others

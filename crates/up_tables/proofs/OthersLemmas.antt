@@ -8,7 +8,7 @@ use Rattle.sqlite.specs.State.{State}
 use Rattle.sqlite.specs.Table.{Table}
 use Rattle.sqlite.specs.Tree.{Trees}
 use Rattle.up_tables.specs.Tables.{up_schema, meta_table, role_key_table, repo_file_table, image_table, campaign_table, vehicle_table, ecu_table, kept_table}
-use Rattle.up_tables.specs.Stands.{StaysUnless, OthersStay, Alters}
+use Rattle.up_tables.specs.Stands.{StaysUnless, OthersStay, Alters, IsInside, IsOpen, HasTables}
 
 stays : (written table : Table) (old new : Trees) → (table.tree ≢ written.tree → new table.tree ≡ old table.tree) → StaysUnless written table old new
 stays written table old new h = elim (eqb_tells table.tree written.tree) [
@@ -70,4 +70,26 @@ alters_to table P Q old new f h = record {
   sound = h.sound;
   rows = f h.rows;
   others = h.others;
+}
+
+-- where nothing is written
+pub alters_none : (table : Table) (P : List Row → Type 0) (s : State) → IsInside s → IsOpen s → HasTables s → P (s.now.trees table.tree) → Alters table P s s
+alters_none table P s inside is_open has rows =
+    let here = has is_open in
+    record { was_open = is_open; is_open = is_open; mode = inside; schema_is = here.schema_is; sound = here.sound; rows = rows; others = others_same table s.now.trees }
+
+-- the whole schema is there after a write
+pub has_after : (table : Table) (P : List Row → Type 0) (old new : State) → Alters table P old new → HasTables new
+has_after table P old new h is_open = record { schema_is = h.schema_is; sound = h.sound; rows = tt }
+
+-- one write after another
+pub alters_then : (table : Table) (P Q : List Row → Type 0) (old mid new : State) → Alters table P old mid → Alters table Q mid new → Alters table Q old new
+alters_then table P Q old mid new h k = record {
+  was_open = h.was_open;
+  is_open = k.is_open;
+  mode = k.mode;
+  schema_is = k.schema_is;
+  sound = k.sound;
+  rows = k.rows;
+  others = others_then table old.now.trees mid.now.trees new.now.trees h.others k.others;
 }

@@ -1,5 +1,5 @@
 -- Tables of this product name it.
-use Rattle.std.proofs.Common.{◌≡◌, ◌≤◌, ◌⊎◌, inl, inr, ℕ, pos, List, [], ◌∷◌, map, length, Bool, true, false, None, Some, Ok, Err, Result, IsTrue, refl, sym, ap, subst, ◌∙◌, codes, arith, append-nil}
+use Rattle.std.proofs.Common.{◌≡◌, ◌⊎◌, inl, inr, ℕ, pos, List, [], ◌∷◌, map, length, Bool, true, false, None, Ok, Err, Result, IsTrue, refl, sym, ap, subst, ◌∙◌, codes, append-nil}
 use Rattle.std.proofs.Math.Dec.{leb}
 use Rattle.std.proofs.lemmas.Bool.{leb-true}
 use Rattle.std.specs.List.Sorted.{IsPermutation}

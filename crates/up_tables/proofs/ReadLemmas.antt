@@ -7,7 +7,7 @@ use Rattle.std.proofs.lemmas.List.Sorted.{length_permutation}
 use Rattle.sqlite.specs.declared.types.Value.TheVariants.{Null}
 use Rattle.sqlite.specs.Order.{Row, column, value_cmp}
 use Rattle.sqlite.specs.Term.{Term, col, eval_all, holds}
-use Rattle.sqlite.specs.Query.{output_cmp}
+use Rattle.sqlite.specs.Query.{Query, output_cmp}
 use Rattle.sqlite.specs.Tree.{Trees, IsAscending, IsTable, rowid}
 use Rattle.sqlite.specs.Program.{overlay}
 use Rattle.std.specs.List.{AllByRecursion}
@@ -23,7 +23,7 @@ use Rattle.sqlite_sql.proofs.QueryLemmas.{output_cmp_total}
 use Rattle.sqlite_keyed.proofs.SortLemmas.{sorted_unique}
 use Rattle.sqlite_keyed.proofs.ListLemmas.{map-map, ascending-map, ascending-filter}
 use Rattle.up_tables.specs.Rows.{bare}
-use Rattle.up_tables.proofs.AnswerLemmas.{over, outputs, answer_is, shows_passing}
+use Rattle.up_tables.proofs.AnswerLemmas.{over, outputs, IsOrder, answer_is, shows_passing}
 
 -- tests and columns of the rows without their rowids
 pub picked_bare : {A : Type 0} (p' p : Row → Bool) (f' f : Row → A) → ((r : Row) → p' r ≡ p (drop 1 r)) → ((r : Row) → f' r ≡ f (drop 1 r)) → (rows : List Row) → map f' (filter p' rows) ≡ map f (filter p (bare rows))
@@ -65,24 +65,33 @@ few_permutation (x ∷ y ∷ more) ys h few = absurd (omega (arith, length_permu
 abbrev pub by_rowid : List (Term × Key)
 by_rowid = (col 1 0, ascending Binary) ∷ []
 
+-- the text is this query, on tables alone and not on their listing
+abbrev pub Asks : Schema → List ℕ → Query → List (List ℕ) → Type 0
+Asks schema text query names = (command_of (understood schema text) ≡ Select (record { lets = []; body = query }) names) × (reads_listing schema text ≡ false) × IsPlain (understood schema text)
+
+-- so what it shows is an answer of the query
+pub asked : (schema : Schema) (text : List ℕ) (tree : ℕ) (tests shown : List Term) (order : List (Term × Key)) (names : List (List ℕ)) (params : Row) → Asks schema text (over tree tests shown order) names → (old new : State) (rows : List Row)
+    → old.now.schema ≡ schema → Shown text params old new rows → IsOrder (outputs tests shown order params (overlay old.now.trees [] tree)) order rows
+asked schema text tree tests shown order names params is old new rows has h =
+    let read = reads_as text params old new schema has (Select (record { lets = []; body = over tree tests shown order }) names) is.0 is.2 is.1 rows h in
+    answer_is (overlay old.now.trees []) tree tests shown order params rows (read.answer Null)
+
 module _ (schema : Schema) (text : List ℕ) (tree : ℕ) (tests shown : List Term) (names : List (List ℕ)) (params : Row) (q : Row → Bool) (part : Row → Row)
     (meets : (r : Row) → list_all (holds (params ∷ r ∷ [])) tests ≡ q (drop 1 r)) (shows : (r : Row) → eval_all shown (params ∷ r ∷ []) ≡ part (drop 1 r))
-    (base : (db : Trees) → overlay db [] tree ≡ db tree) (unlisted : reads_listing schema text ≡ false) (plain : IsPlain (understood schema text)) where
+    (base : (db : Trees) → overlay db [] tree ≡ db tree) where
   -- where no order is asked for, the answer is the rows that pass, in some order
-  pub answers_some : command_of (understood schema text) ≡ Select (record { lets = []; body = over tree tests shown [] }) names → (old new : State) (rows : List Row) → old.now.schema ≡ schema
+  pub answers_some : Asks schema text (over tree tests shown []) names → (old new : State) (rows : List Row) → old.now.schema ≡ schema
       → Shown text params old new rows → IsPermutation (map part (filter q (bare (old.now.trees tree)))) rows
   answers_some is old new rows has h =
-      let read = reads_as text params old new schema has (Select (record { lets = []; body = over tree tests shown [] }) names) is plain unlisted rows h in
-      let all = shows_passing tests shown params _ rows (answer_is (overlay old.now.trees []) tree tests shown [] params rows (read.answer Null)) in
+      let all = shows_passing tests shown params _ rows (asked schema text tree tests shown [] names params is old new rows has h) in
       subst (λ xs. IsPermutation xs rows) (picked_bare _ q _ part meets shows (overlay old.now.trees [] tree) ∙ ap (λ xs. map part (filter q (bare xs))) (base old.now.trees)) all
 
   -- by rowid, they come in the order of the table
-  pub answers_all : command_of (understood schema text) ≡ Select (record { lets = []; body = over tree tests shown by_rowid }) names → (old new : State) (rows : List Row) → old.now.schema ≡ schema
+  pub answers_all : Asks schema text (over tree tests shown by_rowid) names → (old new : State) (rows : List Row) → old.now.schema ≡ schema
       → IsTable (old.now.trees tree) → Shown text params old new rows → rows ≡ map part (filter q (bare (old.now.trees tree)))
   answers_all is old new rows has table h =
-      let read = reads_as text params old new schema has (Select (record { lets = []; body = over tree tests shown by_rowid }) names) is plain unlisted rows h in
       let all = overlay old.now.trees [] tree in
-      let answer = answer_is (overlay old.now.trees []) tree tests shown by_rowid params rows (read.answer Null) in
+      let answer = asked schema text tree tests shown by_rowid names params is old new rows has h in
       let passing = filter (λ r. list_all (holds (params ∷ r ∷ [])) tests) all in
       let order = over 0 [] [] by_rowid in
       let rise : IsAscending (λ a b. output_cmp order a b ≡ Less) (outputs tests shown by_rowid params all) =

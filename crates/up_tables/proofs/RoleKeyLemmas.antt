@@ -1,5 +1,5 @@
 -- The statements on keys of roles.
-use Rattle.std.proofs.Common.{◌≡◌, ◌+◌, suc, take, slice_get, arith, ◌==◌, ℕ, pos, List, [], ◌∷◌, ◌++◌, map, filter, Bool, true, false, length, Some, Result, OnOk, IfOk, IsTrue, refl, sym, ap, subst, ◌∙◌, codes, append-nil, drop}
+use Rattle.std.proofs.Common.{◌≡◌, ◌+◌, suc, take, slice_get, arith, ℕ, pos, List, [], ◌∷◌, ◌++◌, map, filter, true, length, Some, Result, OnOk, IfOk, IsTrue, refl, sym, ap, subst, ◌∙◌, codes, append-nil, drop}
 use Rattle.std.specs.Result.{IsOkAnd}
 use Rattle.std.specs.Ordering.{is_eq}
 use Rattle.std.proofs.Math.Bool.{and-true}
@@ -9,13 +9,11 @@ use Rattle.sqlite.specs.Order.{Row, column, value_cmp}
 use Rattle.sqlite.specs.Term.{Term, lit, col, op2}
 use Rattle.sqlite.specs.Cast.{cast_row}
 use Rattle.sqlite.specs.Source.TheVariants.{Values}
-use Rattle.sqlite.specs.Command.TheVariants.{Insert, Select}
-use Rattle.sqlite.specs.Listing.{understood, reads_listing}
+use Rattle.sqlite.specs.Command.TheVariants.{Insert}
+use Rattle.sqlite.specs.Listing.{understood}
 use Rattle.sqlite.specs.State.{State, HasCleanDisk, Survives, ExecutesInside, Shown}
 use Rattle.sqlite.proofs.Callers.{IsPlain, command_of}
 use Rattle.sqlite_tied.specs.Compute.{everything}
-use Rattle.sqlite_rules.specs.Action.{works}
-use Rattle.sqlite_schema.specs.declared.schema.Keys.TheVariants.{Enforced}
 use Rattle.up_tables.specs.Rows.{bare, columns_at, has_number}
 use Rattle.up_tables.specs.Stands.{ListsAll, IfClean, IsInside, Alters, HasTables}
 use Rattle.up_tables.specs.declared.values.StoreFault.{StoreFault}
@@ -34,8 +32,8 @@ use Rattle.up_tables.specs.Stands.{IsOpen}
 use Rattle.up_tables.specs.declared.role_key.RoleKeyRow.{RoleKeyRow}
 use Rattle.up_tables.proofs.ByNameLemmas.{added_in, filter_true}
 use Rattle.up_tables.proofs.EcuInserts.{take_next, take_whole}
-use Rattle.up_tables.proofs.OthersLemmas.{others_same, others_then}
-use Rattle.up_tables.proofs.ReadLemmas.{answers_all, by_rowid}
+use Rattle.up_tables.proofs.OthersLemmas.{alters_to, alters_none, has_after, alters_then}
+use Rattle.up_tables.proofs.ReadLemmas.{Asks, answers_all, by_rowid}
 use Rattle.up_tables.proofs.StateLemmas.{each_in, ok_then}
 
 -- ---- put in
@@ -50,13 +48,6 @@ insert_is : (command_of (understood up_schema insert_role_key_text) ≡ Insert 1
 unfolding understood everything
 insert_is = (refl, (refl, refl))
 
-idle : (olds news : List Row) → works up_schema Enforced 0 1 olds news ≡ []
-idle olds news = go (length news == 0) refl
-  where
-    go : (b : Bool) → (length news == 0) ≡ b → works up_schema Enforced 0 1 olds news ≡ []
-    go true e = rw e refl
-    go false e = rw e refl
-
 casts : (k : RoleKeyRow) → cast_row role_key_table (Null ∷ role_key_row k) ≡ Null ∷ role_key_row k
 casts k = rw (cast_null, cast_int (pos k.root), cast_int (pos k.place), cast_int (pos k.threshold)) refl
 
@@ -65,42 +56,24 @@ pub role_key_inserts : (r : Result ℕ Error) (old new : State) (k : RoleKeyRow)
     → HasCleanDisk new → OnOk r ((all : List Row) → HasTables old → ListsAll all (old.now.trees 1) → Alters role_key_table (ListsAll (all ++ role_key_row k ∷ [])) old new)
 role_key_inserts r old new k survives inside ran clean =
     added_in role_key_table (role_key_row k) old new r
-    (inserts_in insert_role_key_text 1 role_key_table terms 7 (role_key_row k) (role_key_row k) insert_is.0 insert_is.1 refl refl (append-nil _) refl (casts k) idle r old new survives inside ran clean)
+    (inserts_in insert_role_key_text 1 role_key_table terms 7 (role_key_row k) (role_key_row k) insert_is.0 insert_is.1 refl refl (append-nil _) refl (casts k) r old new survives inside ran clean)
 
 -- what a loop over the keys has put in when it comes to one of them
 abbrev pub PutSoFar : List RoleKeyRow → ℕ → State → State → Type 0
 PutSoFar ks i old new = (all : List Row) → HasTables old → ListsAll all (old.now.trees 1) → Alters role_key_table (ListsAll (all ++ map role_key_row (take i ks))) old new
 
 pub none_put : (ks : List RoleKeyRow) (s : State) → IsInside s → IsOpen s → PutSoFar ks 0 s s
-none_put ks s inside is_open all has lists =
-    let here = has is_open in
-    record {
-      was_open = is_open;
-      is_open = is_open;
-      mode = inside;
-      schema_is = here.schema_is;
-      sound = here.sound;
-      rows = record { shaped = lists.shaped; every = lists.every ∙ sym (append-nil all) };
-      others = others_same role_key_table s.now.trees;
-    }
+none_put ks s inside is_open all has lists = alters_none role_key_table _ s inside is_open has (record { shaped = lists.shaped; every = lists.every ∙ sym (append-nil all) })
 
 pub next_put : (ks : List RoleKeyRow) (i : ℕ) (k : RoleKeyRow) (old mid new : State) → slice_get ks i ≡ Some k → PutSoFar ks i old mid
     → ((all : List Row) → HasTables mid → ListsAll all (mid.now.trees 1) → Alters role_key_table (ListsAll (all ++ role_key_row k ∷ [])) mid new) → PutSoFar ks (i + 1) old new
 next_put ks i k old mid new there so_far puts all has lists =
     let before = so_far all has lists in
-    let after = puts _ (λ _. record { schema_is = before.schema_is; sound = before.sound; rows = tt }) before.rows in
+    let after = puts _ (has_after role_key_table _ old mid before) before.rows in
     let next : suc i ≡ i + 1 = omega arith in
     let more : map role_key_row (take i ks) ++ role_key_row k ∷ [] ≡ map role_key_row (take (i + 1) ks) = sym (map-append role_key_row (take i ks) (k ∷ [])) ∙ ap (map role_key_row) (take_next i ks k there ∙ ap (λ n. take n ks) next) in
     let same : (all ++ map role_key_row (take i ks)) ++ role_key_row k ∷ [] ≡ all ++ map role_key_row (take (i + 1) ks) = append_assoc all (map role_key_row (take i ks)) (role_key_row k ∷ []) ∙ ap (λ xs. all ++ xs) more in
-    record {
-      was_open = before.was_open;
-      is_open = after.is_open;
-      mode = after.mode;
-      schema_is = after.schema_is;
-      sound = after.sound;
-      rows = subst (λ xs. ListsAll xs (new.now.trees 1)) same after.rows;
-      others = others_then role_key_table old.now.trees mid.now.trees new.now.trees before.others after.others;
-    }
+    alters_to role_key_table _ _ old new (subst (λ xs. ListsAll xs (new.now.trees 1)) same) (alters_then role_key_table _ _ old mid new before after)
 
 pub all_put : (ks : List RoleKeyRow) (i : ℕ) (old new : State) → i ≡ length ks → PutSoFar ks i old new
     → (all : List Row) → HasTables old → ListsAll all (old.now.trees 1) → Alters role_key_table (ListsAll (all ++ map role_key_row ks)) old new
@@ -124,13 +97,9 @@ shows params r = rw (column_after r 0, column_after r 1, column_after r 2, colum
 abbrev pub keys_of_text : List ℕ
 keys_of_text = codes "SELECT root, repository, role, place, secret, threshold FROM role_key WHERE root = ?1 ORDER BY rowid"
 
-keys_of_is : (command_of (understood up_schema keys_of_text) ≡ Select (record { lets = []; body = over 1 (equals 1 0 ∷ []) shown by_rowid }) names) × (reads_listing up_schema keys_of_text ≡ false)
+pub keys_of_is : Asks up_schema keys_of_text (over 1 (equals 1 0 ∷ []) shown by_rowid) names
 unfolding understood everything
-keys_of_is = (refl, refl)
-
-pub keys_of_plain : IsPlain (understood up_schema keys_of_text)
-unfolding understood everything
-keys_of_plain = (refl, refl)
+keys_of_is = (refl, refl, (refl, refl))
 
 pub finds_keys_of : {X R : Type 0} (items : X → List Row) (list : R → List RoleKeyRow) (answer : Result X Error) (r : Result R StoreFault) (old new : State) (root : ℕ)
     → IfOk r (λ found. IsOkAnd answer (λ v. map part (items v) ≡ map role_key_row (list found))) → IfOk answer (λ v. Shown keys_of_text (Int (pos root) ∷ []) old new (items v))
@@ -140,18 +109,14 @@ finds_keys_of items list answer r old new root h ran =
     ok_then _ _ r (λ found is all has lists. ap (λ xs. map part (filter (has_number 0 (pos root)) xs)) (sym lists.every) ∙ is lists.shaped has)
     (each_in items part part (λ x. refl) role_key_row keys_of_text (Int (pos root) ∷ []) old new (IsShaped Table (old.now.trees 1)) list rows answer r
     (λ shown' shaped has. answers_all up_schema keys_of_text 1 (equals 1 0 ∷ []) shown names (Int (pos root) ∷ []) (has_number 0 (pos root)) part
-    (λ x. and-true _ ∙ equals_int (column x 1) (pos root) ∙ ap (λ v. is_eq (value_cmp v (Int (pos root)))) (column_after x 0)) (shows (Int (pos root) ∷ [])) (λ db. refl) keys_of_is.1 keys_of_plain keys_of_is.0 old new shown' has shaped.0) h ran)
+    (λ x. and-true _ ∙ equals_int (column x 1) (pos root) ∙ ap (λ v. is_eq (value_cmp v (Int (pos root)))) (column_after x 0)) (shows (Int (pos root) ∷ [])) (λ db. refl) keys_of_is old new shown' has shaped.0) h ran)
 
 abbrev pub all_keys_text : List ℕ
 all_keys_text = codes "SELECT root, repository, role, place, secret, threshold FROM role_key ORDER BY rowid"
 
-all_keys_is : (command_of (understood up_schema all_keys_text) ≡ Select (record { lets = []; body = over 1 [] shown by_rowid }) names) × (reads_listing up_schema all_keys_text ≡ false)
+pub all_keys_is : Asks up_schema all_keys_text (over 1 [] shown by_rowid) names
 unfolding understood everything
-all_keys_is = (refl, refl)
-
-pub all_keys_plain : IsPlain (understood up_schema all_keys_text)
-unfolding understood everything
-all_keys_plain = (refl, refl)
+all_keys_is = (refl, refl, (refl, refl))
 
 pub finds_all_keys : {X R : Type 0} (items : X → List Row) (list : R → List RoleKeyRow) (answer : Result X Error) (r : Result R StoreFault) (old new : State)
     → IfOk r (λ found. IsOkAnd answer (λ v. map part (items v) ≡ map role_key_row (list found))) → IfOk answer (λ v. Shown all_keys_text [] old new (items v))
@@ -160,4 +125,4 @@ finds_all_keys items list answer r old new h ran =
     let rows = filter (λ _. true) (bare (old.now.trees 1)) in
     ok_then _ _ r (λ found is all has lists. ap (map part) (sym lists.every ∙ sym (filter_true (bare (old.now.trees 1)))) ∙ is lists.shaped has)
     (each_in items part part (λ x. refl) role_key_row all_keys_text [] old new (IsShaped Table (old.now.trees 1)) list rows answer r
-    (λ shown' shaped has. answers_all up_schema all_keys_text 1 [] shown names [] (λ _. true) part (λ x. refl) (shows []) (λ db. refl) all_keys_is.1 all_keys_plain all_keys_is.0 old new shown' has shaped.0) h ran)
+    (λ shown' shaped has. answers_all up_schema all_keys_text 1 [] shown names [] (λ _. true) part (λ x. refl) (shows []) (λ db. refl) all_keys_is old new shown' has shaped.0) h ran)

@@ -14,6 +14,7 @@ use Rattle.sqlite_keyed.proofs.ListLemmas.{map-map, map_same}
 use Rattle.up_tables.specs.Tables.{up_schema}
 use Rattle.up_tables.specs.Stands.{IfClean, IsInside, IsOpen, HasTables, Reads}
 use Rattle.up_tables.proofs.ReadLemmas.{few_permutation}
+use Rattle.up_tables.proofs.RunLemmas.{run_in}
 use Rattle.up_tables.proofs.StepLemmas.{shown_open, shown_after}
 use Rattle.up_tables.specs.declared.values.StoreFault.{StoreFault}
 
@@ -36,12 +37,12 @@ on_read P Q (Err e) (Ok found) h k = absurd h
 pub inside_after : (sql : List ℕ) (params : Row) (old new : State) (r : Result ℕ Error) → Survives old new (λ _. ⊥) → IfClean IsInside old
     → (HasCleanDisk new → IsTrue old.in_transaction → ExecutesInside 0 sql params old new r) → OnOk r (IfClean IsInside new)
 inside_after sql params old new (Err e) survives inside ran = tt
-inside_after sql params old new (Ok n) survives inside ran = λ clean. let before : HasCleanDisk old = omega (arith, survives.clean) in (ran clean (inside before)).1.mode
+inside_after sql params old new (Ok n) survives inside ran = λ clean. (run_in sql params old new (Ok n) survives inside ran clean).mode
 
 pub open_after : (sql : List ℕ) (params : Row) (old new : State) (r : Result ℕ Error) → Survives old new (λ _. ⊥) → IfClean IsInside old
     → (HasCleanDisk new → IsTrue old.in_transaction → ExecutesInside 0 sql params old new r) → OnOk r (IfClean IsOpen new)
 open_after sql params old new (Err e) survives inside ran = tt
-open_after sql params old new (Ok n) survives inside ran = λ clean. let before : HasCleanDisk old = omega (arith, survives.clean) in (ran clean (inside before)).1.is_open
+open_after sql params old new (Ok n) survives inside ran = λ clean. (run_in sql params old new (Ok n) survives inside ran clean).is_open
 
 -- ---- reads
 

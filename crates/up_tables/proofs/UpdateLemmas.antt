@@ -4,8 +4,6 @@ use Rattle.std.specs.List.{AllByRecursion}
 use Rattle.sqlite.specs.declared.types.Value.TheVariants.{Int}
 use Rattle.sqlite.specs.Order.{Row}
 use Rattle.sqlite.specs.Cast.{cast_row}
-use Rattle.sqlite.specs.Edit.{edit_of, edited, taken_by}
-use Rattle.sqlite.specs.Rowids.TheVariants.{Given}
 use Rattle.sqlite.specs.Command.TheVariants.{Update}
 use Rattle.sqlite.specs.Schema.{Schema}
 use Rattle.sqlite.specs.Table.{Table}
@@ -14,16 +12,14 @@ use Rattle.sqlite.specs.Does.{Does, OnRows}
 use Rattle.sqlite.specs.Rows.{Task}
 use Rattle.sqlite.specs.Listing.{understood}
 use Rattle.sqlite.specs.State.{State, mode_of, Executes}
-use Rattle.sqlite.specs.Tree.{put_row, without_rowid}
-use Rattle.sqlite.proofs.Callers.{IsPlain, command_of, statement_of, one_step, runs_as}
+use Rattle.sqlite.proofs.Callers.{IsPlain, command_of, statement_of, runs_as}
 use Rattle.sqlite_rules.specs.Action.{works}
-use Rattle.sqlite_rules.specs.Calls.{ids_of}
 use Rattle.sqlite_schema.specs.declared.schema.Keys.TheVariants.{Enforced}
 use Rattle.sqlite_schema.specs.declared.program.Program.{Program}
 use Rattle.up_tables.specs.Upserts.{Rewrites}
 use Rattle.up_tables.proofs.CreateLemmas.{went}
 use Rattle.up_tables.proofs.InsertLemmas.{concluded}
-use Rattle.up_tables.proofs.UpsertLemmas.{updated}
+use Rattle.up_tables.proofs.UpsertLemmas.{updated, rewritten_by}
 
 module _ (schema : Schema) (text : List ℕ) (at : ℕ) (table : Table) (program : Program) (params : Row) (is : command_of (understood schema text) ≡ Update at program) (plain : IsPlain (understood schema text))
     (place : slice_get schema.tables at ≡ Some table) (idle : (olds news : List Row) → works schema Enforced 0 table.tree olds news ≡ []) where
@@ -42,13 +38,10 @@ module _ (schema : Schema) (text : List ℕ) (at : ℕ) (table : Table) (program
       let now = concluded task (mode_of old) done.0 w.tally new.now done.2 in
       let up = updated task program params db done.0 done.1 in
       let all : up.0 ≡ (Int id ∷ Int id ∷ row) ∷ [] = answers up.0 up.1 in
-      let edit = edit_of db table (ids_of up.0) Given 1 up.0 in
-      let step = one_step schema Enforced db done.0.trees edit (idle (taken_by db edit) edit.news) up.2 in
-      let edit_is : edited db (edit_of db table (ids_of ((Int id ∷ Int id ∷ row) ∷ [])) Given 1 ((Int id ∷ Int id ∷ row) ∷ [])) ≡ put_row (Int id ∷ row) (without_rowid id (db table.tree)) =
-      ap (λ r. put_row r (without_rowid id (db table.tree))) casts in
+      let written = rewritten_by schema table idle db done.0.trees id row up.0 all casts up.2 in
       record {
         schema_is = ap (λ (d : Database). d.schema) now;
         sound = w.sound;
-        rows = ap (λ (d : Database). d.trees table.tree) now ∙ step.rows ∙ ap (λ xs. edited db (edit_of db table (ids_of xs) Given 1 xs)) all ∙ edit_is;
-        others = subst (λ (d : Database). AllByRecursion (λ t. t.tree ≢ table.tree → d.trees t.tree ≡ db t.tree) schema.tables) (sym now) step.tables;
+        rows = ap (λ (d : Database). d.trees table.tree) now ∙ written.0;
+        others = subst (λ (d : Database). AllByRecursion (λ t. t.tree ≢ table.tree → d.trees t.tree ≡ db t.tree) schema.tables) (sym now) written.1;
       }

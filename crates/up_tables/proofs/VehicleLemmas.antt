@@ -1,5 +1,5 @@
 -- The statements on vehicles.
-use Rattle.std.proofs.Common.{◌≡◌, ◌≢◌, ◌==◌, inl, inr, ℕ, ℤ, pos, List, [], ◌∷◌, ◌++◌, map, filter, Bool, true, false, length, Some, Ok, Err, Result, OnOk, IfOk, Option, IsTrue, refl, sym, ap, subst, ◌∙◌, arith, codes, string_bytes, append-nil, drop}
+use Rattle.std.proofs.Common.{◌≡◌, ◌≢◌, inl, inr, ℕ, ℤ, pos, List, [], ◌∷◌, ◌++◌, map, filter, true, Some, Ok, Err, Result, OnOk, IfOk, Option, IsTrue, refl, sym, ap, subst, ◌∙◌, arith, codes, string_bytes, append-nil, drop}
 use Rattle.std.specs.List.{AllByRecursion, list_all}
 use Rattle.std.specs.List.Sorted.{IsPermutation}
 use Rattle.std.specs.Option.{option_to_list}
@@ -18,14 +18,13 @@ use Rattle.sqlite.specs.Effect.{Answers, Database}
 use Rattle.sqlite.specs.Rowids.TheVariants.{Chosen, Given}
 use Rattle.sqlite.specs.Rows.{Written, Task, TriesEach, Tries, Updates, nothing, shown as shown_row}
 use Rattle.sqlite.specs.Source.TheVariants.{Values}
-use Rattle.sqlite.specs.Command.TheVariants.{Insert, InsertOr, Select}
-use Rattle.sqlite.specs.Listing.{understood, reads_listing}
+use Rattle.sqlite.specs.Command.TheVariants.{Insert, InsertOr}
+use Rattle.sqlite.specs.Listing.{understood}
 use Rattle.sqlite.specs.State.{State, HasCleanDisk, Survives, ExecutesInside, Shown, mode_of}
 use Rattle.sqlite.specs.Tree.{Trees, put_row, without_rowid, has_rowid, rowid, IsTable}
-use Rattle.sqlite.proofs.Callers.{IsPlain, command_of, statement_of, one_step, one_permutation}
+use Rattle.sqlite.proofs.Callers.{IsPlain, command_of, statement_of, one_permutation}
 use Rattle.sqlite_tied.specs.Compute.{everything}
 use Rattle.sqlite_keyed.proofs.ListLemmas.{filter_same}
-use Rattle.sqlite_rules.specs.Action.{works}
 use Rattle.sqlite_rules.specs.Calls.{ids_of}
 use Rattle.sqlite_rules.specs.Keys.{conflicts}
 use Rattle.sqlite_rules.specs.Lists.{Has}
@@ -50,6 +49,7 @@ use Rattle.up_tables.specs.Stands.{Lists, IfClean, IsInside, Alters, HasTables}
 use Rattle.up_tables.specs.Upserts.{Rewrites}
 use Rattle.up_tables.specs.declared.vehicle.VehicleRow.{VehicleRow}
 use Rattle.up_tables.specs.declared.values.StoreFault.{StoreFault}
+use Rattle.up_tables.proofs.ReadLemmas.{Asks}
 use Rattle.up_tables.proofs.AnswerLemmas.{over, equals_text, equals_int, answer_is, shows_passing}
 use Rattle.up_tables.proofs.ByNameLemmas.{listed_in, named_in}
 use Rattle.up_tables.proofs.Casts.{cast_int, cast_null}
@@ -61,9 +61,10 @@ use Rattle.up_tables.proofs.InsertLemmas.{inserts_in}
 use Rattle.up_tables.proofs.OnlyLemmas.{rewritten_shaped, rewritten_parts}
 use Rattle.up_tables.proofs.OthersLemmas.{others_stay}
 use Rattle.up_tables.proofs.PlaceLemmas.{only}
+use Rattle.up_tables.proofs.RunLemmas.{idle}
 use Rattle.up_tables.proofs.ReturnLemmas.{IsShowing, writes_as}
 use Rattle.up_tables.proofs.StepLemmas.{shown_open, shown_after}
-use Rattle.up_tables.proofs.UpsertLemmas.{upserted, tried_each, tried, resolved, updated, showing}
+use Rattle.up_tables.proofs.UpsertLemmas.{upserted, tried_each, tried, resolved, updated, rewritten_by, showing}
 
 -- ---- put in
 
@@ -77,13 +78,6 @@ insert_is : (command_of (understood up_schema insert_vehicle_text) ≡ Insert 5 
 unfolding understood everything
 insert_is = (refl, (refl, refl))
 
-idle : (olds news : List Row) → works up_schema Enforced 0 9 olds news ≡ []
-idle olds news = go (length news == 0) refl
-  where
-    go : (b : Bool) → (length news == 0) ≡ b → works up_schema Enforced 0 9 olds news ≡ []
-    go true e = rw e refl
-    go false e = rw e refl
-
 casts : (name primary : List ℕ) (version last : ℕ) → cast_row vehicle_table (Null ∷ vehicle_line name primary version last) ≡ Null ∷ vehicle_line name primary version last
 casts name primary version last = rw (cast_null, cast_int (pos version), cast_int (pos last)) refl
 
@@ -95,7 +89,7 @@ pub vehicle_inserts : (r : Result ℕ Error) (old new : State) (v : VehicleRow) 
     → HasCleanDisk new → OnOk r ((rows_of : List ℕ → List Row) → HasTables old → Lists 1 rows_of (old.now.trees 9) → Alters vehicle_table (Lists 1 (with_row (string_bytes v.vehicle) (vehicle_row v) rows_of)) old new)
 vehicle_inserts r old new v survives inside ran clean =
     listed_in vehicle_table 1 (string_bytes v.vehicle) (vehicle_row v) old new r (λ x n. text_is (string_bytes v.vehicle) n)
-    (inserts_in insert_vehicle_text 5 vehicle_table terms 5 (vehicle_row v) (vehicle_row v) insert_is.0 insert_is.1 refl refl (append-nil _) refl (casts _ _ v.version v.last_counter) idle r old new survives inside ran clean)
+    (inserts_in insert_vehicle_text 5 vehicle_table terms 5 (vehicle_row v) (vehicle_row v) insert_is.0 insert_is.1 refl refl (append-nil _) refl (casts _ _ v.version v.last_counter) r old new survives inside ran clean)
 
 -- ---- read
 
@@ -111,18 +105,14 @@ names = codes "vehicle" ∷ codes "primary_ecu" ∷ codes "version" ∷ codes "l
 abbrev pub find_vehicle_text : List ℕ
 find_vehicle_text = codes "SELECT vehicle, primary_ecu, version, last_counter FROM vehicle WHERE vehicle = ?1"
 
-find_is : (command_of (understood up_schema find_vehicle_text) ≡ Select (record { lets = []; body = over 9 (equals 1 0 ∷ []) shown [] }) names) × (reads_listing up_schema find_vehicle_text ≡ false)
+pub find_is : Asks up_schema find_vehicle_text (over 9 (equals 1 0 ∷ []) shown []) names
 unfolding understood everything
-find_is = (refl, refl)
-
-pub find_plain : IsPlain (understood up_schema find_vehicle_text)
-unfolding understood everything
-find_plain = (refl, refl)
+find_is = (refl, refl, (refl, refl))
 
 pub finds_vehicle : {X : Type 0} (items : X → List Row) (answer : Result X Error) (r : Result (Option VehicleRow) StoreFault) (old new : State) (name : List ℕ)
     → IfOk r (λ found. IsOkAnd answer (λ v. map part (items v) ≡ map vehicle_row (option_to_list found))) → IfOk answer (λ v. Shown find_vehicle_text (Text name ∷ []) old new (items v))
     → IfOk r (λ found. (rows_of : List ℕ → List Row) → HasTables old → Lists 1 rows_of (old.now.trees 9) → map part (rows_of name) ≡ map vehicle_row (option_to_list found))
-finds_vehicle items answer r old new name = named_in items vehicle_table 0 find_vehicle_text shown names part vehicle_row name find_is.0 find_is.1 find_plain (λ db. refl) (λ x. rw (column_after x 0, column_after x 1, column_after x 2, column_after x 3) refl) (λ x. refl) answer r old new
+finds_vehicle items answer r old new name = named_in items vehicle_table 0 find_vehicle_text shown names part vehicle_row name find_is (λ db. refl) (λ x. rw (column_after x 0, column_after x 1, column_after x 2, column_after x 3) refl) (λ x. refl) answer r old new
 
 -- ---- its numbers are set
 
@@ -192,12 +182,9 @@ updates limit db n name primary was_primary version last was_version was_last on
     let there : Has (db 9) (Int id ∷ was) = subst (Has (db 9)) it.1 res.1 in
     let up = updated task update _ db one (subst (λ r. Updates task update (given ++ rowid r ∷ shown_row vehicle_table (Int n ∷ given)) db (Ok one)) it.1 res.3) in
     let all : up.0 ≡ (Int id ∷ Int id ∷ row) ∷ [] = update_rows db id name primary was_primary (Int n) Null (Int (pos was_version)) (Int (pos was_last)) (Int (pos version)) (Int (pos last)) _ up.0 shaped.0 refl there up.1 in
-    let edit = edit_of db vehicle_table (ids_of up.0) Given 1 up.0 in
-    let step = one_step up_schema Enforced db one.trees edit (idle (taken_by db edit) edit.news) up.2 in
+    let written = rewritten_by up_schema vehicle_table (idle 9) db one.trees id row up.0 all (casts_given id name was_primary version last) up.2 in
     let news : (edit_of db vehicle_table (ids_of ((Int id ∷ Int id ∷ row) ∷ [])) Given 1 ((Int id ∷ Int id ∷ row) ∷ [])).news ≡ (Int id ∷ row) ∷ [] = ap (λ r. r ∷ []) (casts_given id name was_primary version last) in
-    let edit_is : edited db (edit_of db vehicle_table (ids_of ((Int id ∷ Int id ∷ row) ∷ [])) Given 1 ((Int id ∷ Int id ∷ row) ∷ [])) ≡ put_row (Int id ∷ row) (without_rowid id (db 9)) =
-    ap (λ r. put_row r (without_rowid id (db 9))) (casts_given id name was_primary version last) in
-    (id, there, step.rows ∙ ap (λ xs. edited db (edit_of db vehicle_table (ids_of xs) Given 1 xs)) all ∙ edit_is, step.tables, up.3 ∙ ap (λ xs. (edit_of db vehicle_table (ids_of xs) Given 1 xs).news) all ∙ news)
+    (id, there, written.0, written.1, up.3 ∙ ap (λ xs. (edit_of db vehicle_table (ids_of xs) Given 1 xs).news) all ∙ news)
 
 upserts_vehicle : (old new : State) (name primary was_primary : List ℕ) (version last was_version was_last : ℕ) (rows : List Row) → old.now.schema ≡ up_schema → IsShaped Table (old.now.trees 9)
     → rows_with 1 name (old.now.trees 9) ≡ vehicle_line name was_primary was_version was_last ∷ [] → Shown upsert_vehicle_text (vehicle_line name primary version last) old new rows

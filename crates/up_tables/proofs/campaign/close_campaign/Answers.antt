@@ -1,18 +1,10 @@
-use Rattle.sqlite.specs.Held.{state}
+use Rattle.up_tables.proofs.CallLemmas.{is_written}
 use Rattle.up_tables.proofs.CampaignSteps.{closes_in}
-use Rattle.up_tables.proofs.StateLemmas.{on_done, inside_after, open_after}
 use Rattle.up_tables.proofs.campaign.close_campaign.Goals as goal
 
-pub returns-clause-closed : goal.returns-clause-closed
-returns-clause-closed g c clean =
-    on_done _ c.execute.result c.done.result c.done.ensures.ok
-    (closes_in c.execute.result (state g.S.Store c.args.tx.now.conn.now) (state g.S.Store c.execute.new.self.conn.now) c.args.name.now c.execute.ensures.survives c.requires.mode
-    (rw (c.words.ensures) at c.execute.ensures.runs) clean)
-
-pub returns-clause-inside : goal.returns-clause-inside
-returns-clause-inside g c =
-    on_done _ c.execute.result c.done.result c.done.ensures.ok (inside_after _ _ (state g.S.Store c.args.tx.now.conn.now) (state g.S.Store c.execute.new.self.conn.now) c.execute.result c.execute.ensures.survives c.requires.mode c.execute.ensures.runs)
-
-pub returns-clause-open : goal.returns-clause-open
-returns-clause-open g c =
-    on_done _ c.execute.result c.done.result c.done.ensures.ok (open_after _ _ (state g.S.Store c.args.tx.now.conn.now) (state g.S.Store c.execute.new.self.conn.now) c.execute.result c.execute.ensures.survives c.requires.mode c.execute.ensures.runs)
+pub returns : goal.returns
+returns g c =
+    let written = is_written _ _ _ _ c.execute.result c.done.result _ c.done.ensures.ok c.requires.mode c.execute.ensures.survives c.execute.ensures.runs
+    (closes_in c.execute.result _ _ c.args.name.now c.execute.ensures.survives c.requires.mode
+    (rw (c.words.ensures) at c.execute.ensures.runs)) in
+    record { same_reference = c.execute.ensures.same_reference; closed = written.told; inside = written.inside; «open» = written.opened; steps = written.steps }

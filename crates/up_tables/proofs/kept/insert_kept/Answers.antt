@@ -1,18 +1,10 @@
-use Rattle.sqlite.specs.Held.{state}
+use Rattle.up_tables.proofs.CallLemmas.{is_written}
 use Rattle.up_tables.proofs.KeptLemmas.{kept_inserts}
-use Rattle.up_tables.proofs.StateLemmas.{on_done, inside_after, open_after}
 use Rattle.up_tables.proofs.kept.insert_kept.Goals as goal
 
-pub returns-clause-inserted : goal.returns-clause-inserted
-returns-clause-inserted g c clean =
-    on_done _ c.execute.result c.done.result c.done.ensures.ok
-    (kept_inserts c.execute.result (state g.S.Store c.args.tx.now.conn.now) (state g.S.Store c.execute.new.self.conn.now) c.args.kept.now c.execute.ensures.survives c.requires.mode
-    (rw (c.words.ensures, c.as_str.ensures.value, c.number.ensures, c.number-2.ensures, c.number-3.ensures, c.number-4.ensures, c.words-2.ensures, c.as_str-2.ensures.value, c.words-3.ensures, c.as_str-3.ensures.value, c.words-4.ensures, c.as_str-4.ensures.value) at c.execute.ensures.runs) clean)
-
-pub returns-clause-inside : goal.returns-clause-inside
-returns-clause-inside g c =
-    on_done _ c.execute.result c.done.result c.done.ensures.ok (inside_after _ _ (state g.S.Store c.args.tx.now.conn.now) (state g.S.Store c.execute.new.self.conn.now) c.execute.result c.execute.ensures.survives c.requires.mode c.execute.ensures.runs)
-
-pub returns-clause-open : goal.returns-clause-open
-returns-clause-open g c =
-    on_done _ c.execute.result c.done.result c.done.ensures.ok (open_after _ _ (state g.S.Store c.args.tx.now.conn.now) (state g.S.Store c.execute.new.self.conn.now) c.execute.result c.execute.ensures.survives c.requires.mode c.execute.ensures.runs)
+pub returns : goal.returns
+returns g c =
+    let written = is_written _ _ _ _ c.execute.result c.done.result _ c.done.ensures.ok c.requires.mode c.execute.ensures.survives c.execute.ensures.runs
+    (kept_inserts c.execute.result _ _ c.args.kept.now c.execute.ensures.survives c.requires.mode
+    (rw (c.words.ensures, c.as_str.ensures.value, c.number.ensures, c.number-2.ensures, c.number-3.ensures, c.number-4.ensures, c.words-2.ensures, c.as_str-2.ensures.value, c.words-3.ensures, c.as_str-3.ensures.value, c.words-4.ensures, c.as_str-4.ensures.value) at c.execute.ensures.runs)) in
+    record { same_reference = c.execute.ensures.same_reference; inserted = written.told; inside = written.inside; «open» = written.opened; steps = written.steps }

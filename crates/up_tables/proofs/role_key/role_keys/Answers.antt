@@ -1,25 +1,9 @@
-use Rattle.sqlite.specs.Held.{state}
-use Rattle.up_tables.proofs.RoleKeyLemmas.{all_keys_text, all_keys_plain, finds_all_keys}
-use Rattle.up_tables.proofs.StateLemmas.{on_read, reads_in, shown_inside, shown_is_open}
-use Rattle.up_tables.proofs.StepLemmas.{queries}
+use Rattle.up_tables.proofs.CallLemmas.{is_read}
+use Rattle.up_tables.proofs.RoleKeyLemmas.{all_keys_text, all_keys_is, finds_all_keys}
 use Rattle.up_tables.proofs.role_key.role_keys.Goals as goal
 
-pub returns-clause-found : goal.returns-clause-found
-returns-clause-found g c clean =
-    finds_all_keys (λ v. v.items) (λ v. v.items) c.query_all.result c.each_row.result (state g.S.Store c.args.tx.now.conn.now) (state g.S.Store c.query_all.new.self.conn.now) c.each_row.ensures.ok (c.query_all.ensures.ok clean)
-
-pub returns-clause-reads : goal.returns-clause-reads
-returns-clause-reads g c clean =
-    reads_in (λ v. v.items) all_keys_text _ (state g.S.Store c.args.tx.now.conn.now) (state g.S.Store c.query_all.new.self.conn.now) c.query_all.result c.each_row.result _ all_keys_plain c.each_row.ensures.ok (c.query_all.ensures.ok clean)
-
-pub returns-clause-steps : goal.returns-clause-steps
-returns-clause-steps g c =
-    queries (λ v. v.items) _ _ (state g.S.Store c.args.tx.now.conn.now) (state g.S.Store c.query_all.new.self.conn.now) c.query_all.result c.requires.mode c.query_all.ensures.survives c.query_all.ensures.ok c.query_all.ensures.err
-
-pub returns-clause-inside : goal.returns-clause-inside
-returns-clause-inside g c =
-    on_read _ _ c.query_all.result c.each_row.result c.each_row.ensures.ok (shown_inside (λ v. v.items) _ _ (state g.S.Store c.args.tx.now.conn.now) (state g.S.Store c.query_all.new.self.conn.now) c.query_all.result c.query_all.ensures.survives c.requires.mode c.query_all.ensures.ok)
-
-pub returns-clause-open : goal.returns-clause-open
-returns-clause-open g c =
-    on_read _ _ c.query_all.result c.each_row.result c.each_row.ensures.ok (shown_is_open (λ v. v.items) _ _ (state g.S.Store c.args.tx.now.conn.now) (state g.S.Store c.query_all.new.self.conn.now) c.query_all.result c.query_all.ensures.ok)
+pub returns : goal.returns
+returns g c =
+    let found = λ (clean : _). finds_all_keys (λ v. v.items) (λ v. v.items) c.query_all.result c.each_row.result _ _ c.each_row.ensures.ok (c.query_all.ensures.ok clean) in
+    let read = is_read (λ v. v.items) all_keys_text _ _ _ c.query_all.result c.each_row.result _ all_keys_is.2 c.each_row.ensures.ok c.requires.mode c.query_all.ensures.survives c.query_all.ensures.ok c.query_all.ensures.err in
+    record { same_reference = c.query_all.ensures.same_reference; found = found; reads = read.reads; inside = read.inside; «open» = read.opened; steps = read.steps }

@@ -1,25 +1,9 @@
-use Rattle.sqlite.specs.Held.{state}
-use Rattle.up_tables.proofs.VehicleLemmas.{find_vehicle_text, find_plain, finds_vehicle}
-use Rattle.up_tables.proofs.StateLemmas.{on_read, reads_in, shown_inside, shown_is_open}
-use Rattle.up_tables.proofs.StepLemmas.{queries}
+use Rattle.up_tables.proofs.CallLemmas.{is_read}
+use Rattle.up_tables.proofs.VehicleLemmas.{find_vehicle_text, find_is, finds_vehicle}
 use Rattle.up_tables.proofs.vehicle.vehicle.Goals as goal
 
-pub returns-clause-found : goal.returns-clause-found
-returns-clause-found g c clean =
-    finds_vehicle (λ v. v.items) c.query_all.result c.at_most_one.result (state g.S.Store c.args.tx.now.conn.now) (state g.S.Store c.query_all.new.self.conn.now) c.args.name.now c.at_most_one.ensures.ok (rw c.words.ensures at (c.query_all.ensures.ok clean))
-
-pub returns-clause-reads : goal.returns-clause-reads
-returns-clause-reads g c clean =
-    reads_in (λ v. v.items) find_vehicle_text _ (state g.S.Store c.args.tx.now.conn.now) (state g.S.Store c.query_all.new.self.conn.now) c.query_all.result c.at_most_one.result _ find_plain c.at_most_one.ensures.ok (c.query_all.ensures.ok clean)
-
-pub returns-clause-steps : goal.returns-clause-steps
-returns-clause-steps g c =
-    queries (λ v. v.items) _ _ (state g.S.Store c.args.tx.now.conn.now) (state g.S.Store c.query_all.new.self.conn.now) c.query_all.result c.requires.mode c.query_all.ensures.survives c.query_all.ensures.ok c.query_all.ensures.err
-
-pub returns-clause-inside : goal.returns-clause-inside
-returns-clause-inside g c =
-    on_read _ _ c.query_all.result c.at_most_one.result c.at_most_one.ensures.ok (shown_inside (λ v. v.items) _ _ (state g.S.Store c.args.tx.now.conn.now) (state g.S.Store c.query_all.new.self.conn.now) c.query_all.result c.query_all.ensures.survives c.requires.mode c.query_all.ensures.ok)
-
-pub returns-clause-open : goal.returns-clause-open
-returns-clause-open g c =
-    on_read _ _ c.query_all.result c.at_most_one.result c.at_most_one.ensures.ok (shown_is_open (λ v. v.items) _ _ (state g.S.Store c.args.tx.now.conn.now) (state g.S.Store c.query_all.new.self.conn.now) c.query_all.result c.query_all.ensures.ok)
+pub returns : goal.returns
+returns g c =
+    let found = λ (clean : _). finds_vehicle (λ v. v.items) c.query_all.result c.at_most_one.result _ _ c.args.name.now c.at_most_one.ensures.ok (rw c.words.ensures at (c.query_all.ensures.ok clean)) in
+    let read = is_read (λ v. v.items) find_vehicle_text _ _ _ c.query_all.result c.at_most_one.result _ find_is.2 c.at_most_one.ensures.ok c.requires.mode c.query_all.ensures.survives c.query_all.ensures.ok c.query_all.ensures.err in
+    record { same_reference = c.query_all.ensures.same_reference; found = found; reads = read.reads; inside = read.inside; «open» = read.opened; steps = read.steps }
