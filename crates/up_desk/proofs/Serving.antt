@@ -31,6 +31,7 @@ use Rattle.up_machine.specs.Machine.{decide, outcome_of, step}
 use Rattle.up_machine.specs.Repeats.{Repeat, repeat_in, repeat_of, served_as, serve}
 use Rattle.up_machine.specs.Sound.{IsSound}
 use Rattle.up_machine.specs.RepeatLaws.{ServedStaysSound}
+use Rattle.up_machine.proofs.Fetched.{in_time}
 use Rattle.sqlite.specs.State.{State as Connected, HasCleanDisk, Survives}
 use Rattle.up_tables.specs.Stands.{IfClean, LeavesOnly}
 use Rattle.up_store.specs.Connections.{KeepsState}
@@ -46,9 +47,6 @@ in_time_test at h = grind (arith, nat_tests)
 
 too_late : (at : ℕ) → last_command_moment < at → check_moment at ≡ Err MomentOutOfRange
 too_late at h = ap (λ t. refuse_if t MomentOutOfRange) (late_test at h)
-
-pub in_time : (at : ℕ) → at ≤ last_command_moment → check_moment at ≡ Ok tt
-in_time at h = ap (λ t. refuse_if t MomentOutOfRange) (in_time_test at h)
 
 stopped : {A : Type 0} (m : Result ⊤ Refusal) (f : ⊤ → Result A Refusal) (r : Refusal) → m ≡ Err r → and_then m f ≡ Err r
 unfolding and_then

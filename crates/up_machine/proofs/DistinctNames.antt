@@ -65,10 +65,6 @@ once_of xs h = unseen_once [] xs (all_unseen xs) h
 
 -- ---- some of the named
 
-pub map_same : (xs : List Name) → map (λ x. x) xs ≡ xs
-map_same [] = refl
-map_same (x ∷ xs) = ap (λ rest. x ∷ rest) (map_same xs)
-
 none_of_some : {X Y : Type 0} (g : X → Option Y) (f : X → Name) (n : Y → Name) → ((x : X) (y : Y) → g x ≡ Some y → n y ≡ f x) → (p : Name → Bool) (xs : List X)
     → list_any p (map f xs) ≡ false → list_any p (map n (filter_map g xs)) ≡ false
 none_of_some g f n same p [] h = refl

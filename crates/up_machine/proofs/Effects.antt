@@ -98,7 +98,7 @@ serve_refused k s at body e h =
     ap (λ (r : Result Received Refusal). served_as k s at (Deliver body) (option_and_then repeat_in (value_of r))) h
     ∙ ap (outcome_of s) (bind-err (receive k s at body) (decide_received k s at) e h)
 
-serve_repeat : (k : Rules) (s : State) (at : ℕ) (body : List ℕ) (r : Received) (x : Repeat) → receive k s at body ≡ Ok r → repeat_in r ≡ Some x
+pub serve_repeat : (k : Rules) (s : State) (at : ℕ) (body : List ℕ) (r : Received) (x : Repeat) → receive k s at body ≡ Ok r → repeat_in r ≡ Some x
     → serve k s at (Deliver body) ≡ record { answer = Replied (reply_to k s x.vehicle x.number x.entry); next = s }
 unfolding serve
 serve_repeat k s at body r x h is =

@@ -6,20 +6,19 @@ use Rattle.std.specs.Cmp.Lexicographic.{bytes_decides}
 use Rattle.std.specs.FinMap as table
 use Rattle.std.proofs.lemmas.Bool.Decides.{nat_tests}
 use Rattle.up_canon.specs.Moments.{last_command_moment}
-use Rattle.up_canon.specs.Steps.{value_of, refuse_if}
+use Rattle.up_canon.specs.Steps.{refuse_if}
 use Rattle.up_canon.specs.declared.refusal.Refusal.{Refusal}
 use Rattle.up_canon.specs.declared.refusal.Refusal.TheVariants.{MomentOutOfRange}
 use Rattle.up_sign.specs.Schemes.{Rules}
 use Rattle.up_manifest.specs.declared.manifest.Incoming.{Incoming}
 use Rattle.up_manifest.specs.Manifests.{incoming_in}
 use Rattle.up_manifest.specs.Laws.{BodiesAreRead, SignedTextsMean}
-use Rattle.up_machine.specs.declared.command.Command.TheVariants.{Deliver}
 use Rattle.up_machine.specs.declared.answer.Answer.TheVariants.{Reply as Replied}
 use Rattle.up_machine.specs.declared.rows.Kept.{Kept}
 use Rattle.up_machine.specs.State.{Entry, Vehicle, State, nth}
 use Rattle.up_machine.specs.Deciding.{Outcome, check_moment}
 use Rattle.up_machine.specs.Deliveries.{Received, receive_manifest, receive, decide_received}
-use Rattle.up_machine.specs.Repeats.{Repeat, repeat_in, repeat_of}
+use Rattle.up_machine.specs.Repeats.{Repeat, repeat_in}
 use Rattle.up_machine.specs.Rows.{kept_row, kept_at, reply_kept}
 use Rattle.up_machine.specs.Sound.{CountersRise, IsSound}
 use Rattle.up_machine.specs.Decisions.{resolve}
@@ -27,7 +26,8 @@ use Rattle.up_machine.specs.ManifestRows.{repeated}
 use Rattle.up_canon.proofs.Steps.{bind-ok, one_value}
 use Rattle.up_machine.proofs.Lists.{none_passes}
 use Rattle.up_machine.proofs.Counters.{told_apart}
-use Rattle.up_machine.proofs.Repeating.{nth_at_place, place_of, found_by_counter}
+use Rattle.up_machine.proofs.Places.{nth_at_place}
+use Rattle.up_machine.proofs.Repeating.{place_of, found_by_counter, repeat_received}
 
 -- ---- an entry by a test
 
@@ -69,9 +69,6 @@ in_body k s at incoming d body moment reads received =
     let early : nat_lt last_command_moment at ≡ false = grind (arith, nat_tests) in
     let in_time : check_moment at ≡ Ok tt = ap (λ b. refuse_if b MomentOutOfRange) early in
     bind-ok _ _ tt in_time ∙ bind-ok _ _ incoming reads ∙ received
-
-repeat_received : (k : Rules) (s : State) (at : ℕ) (body : List ℕ) (d : Received) → receive k s at body ≡ Ok d → repeat_of k s at (Deliver body) ≡ repeat_in d
-repeat_received k s at body d h = ap (λ (o : Result Received Refusal). option_and_then repeat_in (value_of o)) h
 
 -- a manifest that was kept is answered its row; another is decided on
 abbrev pub resolve_kept : Rules → State → ℕ → Received → Option Kept → Result Outcome Refusal

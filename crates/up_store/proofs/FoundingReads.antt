@@ -1,5 +1,5 @@
 -- What is read of the founding: its numbers, and the keys of the last root version.
-use Rattle.std.proofs.Common.{◌≡◌, ◌≤◌, ◌<◌, ◌+◌, ◌-◌, ℕ, suc, pos, List, [], ◌∷◌, ◌++◌, Bool, true, false, cond, ◌&&◌, Option, Some, None, map, filter, length, slice_get, refl, sym, ap, ap₂, subst, ◌∙◌, arith, append-nil, string_bytes, bytes_eq, codes, IsTrue}
+use Rattle.std.proofs.Common.{◌≡◌, ◌≤◌, ◌<◌, ◌+◌, ◌-◌, ℕ, suc, pos, List, [], ◌∷◌, ◌++◌, Bool, true, false, cond, ◌&&◌, Option, Some, None, map, filter, length, slice_get, refl, sym, ap, ap₂, subst, ◌∙◌, arith, append-nil, string_bytes, bytes_eq, codes, IsTrue, append_assoc}
 use Rattle.std.specs.Prelude.{option_map, find, flat_map, ◌==◌}
 use Rattle.std.specs.List.{AllByRecursion, enumerate_from}
 use Rattle.std.specs.Option.{option_or}
@@ -18,6 +18,7 @@ use Rattle.up_machine.specs.declared.keys.RoleSecrets.{RoleSecrets}
 use Rattle.up_machine.specs.declared.rows.Founding.{Founding}
 use Rattle.up_rows.specs.declared.root_row.RootRow.{RootRow}
 use Rattle.up_rows.specs.StateRows.{StateRows}
+use Rattle.up_rows.proofs.Files.{or_mapped}
 use Rattle.up_tables.specs.declared.meta.MetaRow.{MetaRow}
 use Rattle.up_tables.specs.declared.role_key.RoleKeyRow.{RoleKeyRow}
 use Rattle.up_tables.specs.Lines.{meta_row}
@@ -94,10 +95,6 @@ none_before i n (root ∷ roots) h =
     filter_both (has_number 0 (pos n)) (root_lines i root) (flat_map (λ (r : ℕ × RootRow). root_lines r.0 r.1) (enumerate_from (i + 1) roots))
     ∙ ap₂ (λ (a b : List Row). a ++ b) (none_kept i n (root_lines i root) (omega (arith, h)) (lines_of_root i root)) (none_before (i + 1) n roots (omega (arith, h)))
 
-pub assoc : {A : Type 0} (a b c : List A) → (a ++ b) ++ c ≡ a ++ (b ++ c)
-assoc [] b c = refl
-assoc {A} (y ∷ a) b c = ap (λ (zs : List A). y ∷ zs) (assoc a b c)
-
 abbrev numbered_lines : ℕ × RootRow → List Row
 numbered_lines r = root_lines r.0 r.1
 
@@ -106,7 +103,7 @@ lines_push i [] root = append-nil (root_lines i root) ∙ ap (λ (m : ℕ). root
 lines_push i (x ∷ roots) root =
     let later : i + 1 + length roots ≡ i + suc (length roots) = omega arith in
     ap (λ (zs : List Row). root_lines i x ++ zs) (lines_push (i + 1) roots root ∙ ap (λ (m : ℕ). flat_map numbered_lines (enumerate_from (i + 1) roots) ++ root_lines m root) later)
-    ∙ sym (assoc (root_lines i x) (flat_map numbered_lines (enumerate_from (i + 1) roots)) (root_lines (i + suc (length roots)) root))
+    ∙ sym (append_assoc (root_lines i x) (flat_map numbered_lines (enumerate_from (i + 1) roots)) (root_lines (i + suc (length roots)) root))
 
 -- one more root version has its rows behind the others
 pub roots_push : (roots : List RootRow) (root : RootRow) → roots_lines (roots ++ root ∷ []) ≡ roots_lines roots ++ root_lines (length roots + 1) root
@@ -151,10 +148,6 @@ find_both test (x ∷ xs) ys = by_test (test x) (find_both test xs ys)
     by_test : (b : Bool) → find test (xs ++ ys) ≡ option_or (find test xs) (find test ys) → cond b (Some x) (find test (xs ++ ys)) ≡ option_or (cond b (Some x) (find test xs)) (find test ys)
     by_test true h = refl
     by_test false h = h
-
-or_mapped : {A B : Type 0} (f : A → B) (o p : Option A) → option_map f (option_or o p) ≡ option_or (option_map f o) (option_map f p)
-or_mapped f None p = refl
-or_mapped f (Some x) p = refl
 
 has_both : (w o : List ℕ) (xs ys : List RoleKeyRow) (s t : List (List ℕ)) (p q : Option ℕ) → Has w o xs s p → Has w o ys t q → Has w o (xs ++ ys) (s ++ t) (option_or p q)
 has_both w o xs ys s t p q a b = record {

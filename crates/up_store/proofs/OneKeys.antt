@@ -1,5 +1,5 @@
 -- The rows of keys tell the keys.
-use Rattle.std.proofs.Common.{◌≡◌, ◌≤◌, ◌<◌, ◌+◌, ℕ, pos, List, [], ◌∷◌, ◌++◌, Bool, true, false, map, filter, length, refl, sym, ap, ap₂, ◌∙◌, arith, append-nil, codes}
+use Rattle.std.proofs.Common.{◌≡◌, ◌≤◌, ◌<◌, ◌+◌, ℕ, pos, List, [], ◌∷◌, ◌++◌, Bool, true, false, map, filter, length, refl, sym, ap, ap₂, ◌∙◌, arith, append-nil, codes, append_assoc}
 use Rattle.std.specs.Prelude.{flat_map}
 use Rattle.std.specs.List.{AllByRecursion, enumerate_from}
 use Rattle.std.specs.Cmp.Lexicographic.{slice_cmp}
@@ -15,7 +15,7 @@ use Rattle.up_rows.specs.declared.root_row.RootRow.{RootRow}
 use Rattle.up_tables.specs.Rows.{has_number, has_text}
 use Rattle.up_store.specs.Lines.{repository_word, role_lines, repository_lines, root_lines, roots_lines}
 use Rattle.up_store.specs.Typed.{HasKeys, HaveKeys, EachHasKeys}
-use Rattle.up_store.proofs.FoundingReads.{AreOfRoot, lines_of_root, all_kept, filter_both, assoc, key_line}
+use Rattle.up_store.proofs.FoundingReads.{AreOfRoot, lines_of_root, all_kept, filter_both, key_line}
 use Rattle.sqlite_value.proofs.OrderLemmas.{value_cmp-Int, value_cmp-Text}
 
 -- ---- parts that a test tells apart
@@ -92,8 +92,8 @@ behind_root m r keys = role_lines m r (codes "targets") keys.targets ++ (role_li
 
 in_turn : (m : ℕ) (r : Repository) (keys : RepoKeys) → repository_lines m r keys ≡ role_lines m r (codes "root") keys.root ++ behind_root m r keys
 in_turn m r keys =
-    assoc (role_lines m r (codes "root") keys.root ++ role_lines m r (codes "targets") keys.targets) (role_lines m r (codes "snapshot") keys.snapshot) (role_lines m r (codes "timestamp") keys.timestamp)
-    ∙ assoc (role_lines m r (codes "root") keys.root) (role_lines m r (codes "targets") keys.targets) (role_lines m r (codes "snapshot") keys.snapshot ++ role_lines m r (codes "timestamp") keys.timestamp)
+    append_assoc (role_lines m r (codes "root") keys.root ++ role_lines m r (codes "targets") keys.targets) (role_lines m r (codes "snapshot") keys.snapshot) (role_lines m r (codes "timestamp") keys.timestamp)
+    ∙ append_assoc (role_lines m r (codes "root") keys.root) (role_lines m r (codes "targets") keys.targets) (role_lines m r (codes "snapshot") keys.snapshot ++ role_lines m r (codes "timestamp") keys.timestamp)
 
 root_apart : (m : ℕ) (r : Repository) (keys : RepoKeys) → Apart (has_role (codes "root")) (role_lines m r (codes "root") keys.root) (behind_root m r keys)
 root_apart m r keys = record {

@@ -12,10 +12,12 @@ use Rattle.up_roles.specs.declared.repository.Repository.{Repository}
 use Rattle.up_roles.specs.declared.repository.Repository.TheVariants.{Director, Image}
 use Rattle.up_machine.specs.declared.decision.RootRows.{RootRows}
 use Rattle.up_machine.specs.Files.{numbered_root_name}
+use Rattle.up_machine.proofs.Places.{slice_get-last}
 use Rattle.up_rows.specs.declared.root_row.RootRow.{RootRow}
 use Rattle.up_rows.specs.Changes.{new_root, with_root_rows}
 use Rattle.up_rows.specs.Lookups.{text_in, row_named, other_text, text_held}
 use Rattle.up_rows.specs.StateRows.{StateRows}
+use Rattle.up_rows.proofs.Files.{or_none}
 use Rattle.up_tables.specs.declared.values.StoreFault.{StoreFault}
 use Rattle.up_tables.specs.Listed.{TableRows, ListsTables}
 use Rattle.up_tables.specs.Stands.{IsWithin, GoesOn, ListsAll}
@@ -33,14 +35,10 @@ abbrev body_of : Repository → RootRows → List ℕ
 body_of Director new = new.director
 body_of Image new = new.image
 
-slice_end : {A : Type 0} (xs : List A) (x : A) → slice_get (xs ++ x ∷ []) (length xs) ≡ Some x
-slice_end [] x = refl
-slice_end (y ∷ ys) x = slice_end ys x
-
 pub slice_last : {A : Type 0} (xs : List A) (x : A) → slice_get (xs ++ x ∷ []) (length (xs ++ x ∷ []) - 1) ≡ Some x
 slice_last xs x =
     let before : length (xs ++ x ∷ []) - 1 ≡ length xs = (let e = size_last xs x in omega (arith, e)) in
-    ap (slice_get (xs ++ x ∷ [])) before ∙ slice_end xs x
+    ap (slice_get (xs ++ x ∷ [])) before ∙ slice_get-last xs x
 
 find_push : {A : Type 0} (test : A → Bool) (xs : List A) (x : A) → find test (xs ++ x ∷ []) ≡ option_or (find test xs) (cond (test x) (Some x) None)
 find_push test [] x = refl
@@ -50,10 +48,6 @@ find_push test (y ∷ ys) x = by_test (test y) (find_push test ys x)
         → cond b (Some y) (find test (ys ++ x ∷ [])) ≡ option_or (cond b (Some y) (find test ys)) (cond (test x) (Some x) None)
     by_test true h = refl
     by_test false h = h
-
-or_none : {A : Type 0} (o : Option A) → option_or o None ≡ o
-or_none None = refl
-or_none (Some x) = refl
 
 -- the rows with one more root version, but with the other files that were there
 abbrev mid_rows : StateRows → RootRows → StateRows
