@@ -3,6 +3,7 @@ use Rattle.std.proofs.Common.{◌≡◌, List, [], ◌∷◌, Bool, true, false,
 use Rattle.std.specs.Prelude.{not, if◌then◌else◌, bytes_eq, map, filter, filter_map, option_map, is_none}
 use Rattle.std.specs.List.{list_any, cons_option}
 use Rattle.std.specs.FinMap as table
+use Rattle.std.proofs.lemmas.Bool.{or_parts}
 use Rattle.up_canon.specs.Names.{Name, Table, first_repeated, are_distinct, hardware_fits}
 use Rattle.up_canon.specs.Steps.{first_or_none}
 use Rattle.up_canon.proofs.Repeated.{names_themselves}
@@ -21,7 +22,7 @@ use Rattle.up_machine.specs.declared.rows.VehicleRows.{VehicleRows}
 use Rattle.up_machine.specs.Files.{target_of}
 use Rattle.up_machine.specs.State.{report_of}
 use Rattle.up_machine.specs.ManifestRows.{fitted_of, fitted_in, target_for, plan_by_rows}
-use Rattle.up_machine.proofs.DistinctNames.{Distinct, or_parts, distinct, once_of, distinct_some}
+use Rattle.up_machine.proofs.DistinctNames.{Distinct, distinct, once_of, distinct_some}
 
 -- ---- a target of an image that fits
 

@@ -1,18 +1,15 @@
 -- Names none of which stands twice.
 use Rattle.std.proofs.Common.{◌≡◌, List, [], ◌∷◌, Bool, true, false, cond, Option, Some, None, refl, sym, ap, ◌∙◌}
-use Rattle.std.specs.Prelude.{⊤, ◌||◌, bytes_eq, map, filter_map}
+use Rattle.std.specs.Prelude.{⊤, bytes_eq, map, filter_map}
 use Rattle.std.specs.List.{AllByRecursion, list_any, cons_option}
 use Rattle.std.specs.Cmp.Lexicographic.{bytes_decides}
+use Rattle.std.proofs.lemmas.Bool.{or_parts}
 use Rattle.up_canon.specs.Names.{Name, first_repeated, first_repeated_after}
 use Rattle.up_machine.proofs.Lists.{both_ways}
 
 abbrev pub Distinct : List Name → Type 0
 Distinct [] = ⊤
 Distinct (x ∷ xs) = (list_any (bytes_eq x) xs ≡ false) × Distinct xs
-
-pub or_parts : (a b : Bool) → (a || b) ≡ false → (a ≡ false) × (b ≡ false)
-or_parts true b h = cc
-or_parts false b h = (refl, h)
 
 swapped : (x y : Name) → bytes_eq x y ≡ bytes_eq y x
 swapped x y = both_ways _ _ (λ h. (bytes_decides y x).1 (sym ((bytes_decides x y).0 h))) (λ h. (bytes_decides x y).1 (sym ((bytes_decides y x).0 h)))

@@ -1,9 +1,10 @@
 -- The text of an envelope is read as the same envelope.
-use Rattle.std.proofs.Common.{◌≡◌, ℕ, ◌+◌, ◌≤◌, List, [], ◌∷◌, ◌++◌, Bool, true, false, cond, Some, None, length, map, refl, sym, ap, ap₂, ◌∙◌, arith, append_assoc}
+use Rattle.std.proofs.Common.{◌≡◌, ℕ, ◌+◌, ◌≤◌, List, [], ◌∷◌, ◌++◌, true, length, map, refl, sym, ap, ap₂, ◌∙◌, arith, append_assoc}
 use Rattle.std.specs.Prelude.{◌&&◌, codes}
 use Rattle.std.specs.List.{list_all}
 use Rattle.std.proofs.lemmas.Bool.{and_parts}
 use Rattle.std.proofs.lemmas.Bool.Decides.{nat_tests}
+use Rattle.std.proofs.lemmas.Option.{cond_some}
 use Rattle.hex.specs.Hex.{encode_lower, lower_digits}
 use Rattle.hex.proofs.HexLemmas.{length-encode_with, decode_of-encode_lower}
 use Rattle.serde_json.specs.Data.{Data, depth, items_depth}
@@ -110,13 +111,9 @@ envelope_plain e payload fits bytes plain =
 pub envelope_depth : (e : Envelope) (payload : Data) (n : ℕ) → depth payload ≤ n → 2 ≤ n → depth (envelope_value e payload) ≤ n + 1
 envelope_depth e payload n h two = omega (arith, signatures_depth e.signatures)
 
-chosen : {A : Type 0} (b : Bool) (x : A) (t : A) → cond b (Some x) None ≡ Some t → (b ≡ true) × (x ≡ t)
-chosen true x t h = (refl, cc)
-chosen false x t h = cc
-
 pub texts_are_read : PlainIsRead → TextsAreRead
 texts_are_read plain_is_read place e payload fits bytes signed =
-    let c = chosen (has_canon payload) (text payload) e.signed signed.0 in
+    let c = cond_some (has_canon payload) (text payload) e.signed signed.0 in
     let p = and_parts (is_plain payload) _ c.0 in
     let nested = p.1 in
     let shallow : depth payload ≤ 16 = grind (arith, nat_tests) in
