@@ -1,6 +1,6 @@
 -- What is written as a list has a canonical text, and that is read as the list.
 use Rattle.std.proofs.Common.{◌≡◌, ℕ, suc, ◌≤◌, List, [], ◌∷◌, Bool, true, Ok, Result, length, map, refl, ap, ◌∙◌, arith}
-use Rattle.std.specs.Prelude.{nat_le, Err, IfOk}
+use Rattle.std.specs.Prelude.{nat_le}
 use Rattle.std.specs.List.{list_all}
 use Rattle.std.proofs.lemmas.Bool.{and_parts}
 use Rattle.std.proofs.lemmas.Bool.Decides.{nat_tests}
@@ -23,11 +23,6 @@ use Rattle.up_canon.proofs.Steps.{bind-ok, unless_there, each_there, same_ok}
 use Rattle.serde_json.specs.Written.{has_float, compact_text}
 use Rattle.std.proofs.Common.{false, sym}
 use Rattle.up_columns.specs.Columns.{items_in}
-
--- more holds of an answer that is there
-pub if_ok : {A E : Type 0} (r : Result A E) (P Q : A → Type 0) → ((x : A) → P x → Q x) → IfOk r P → IfOk r Q
-if_ok (Ok x) P Q more h = more x h
-if_ok (Err e) P Q more h = h
 
 -- what is printed of a value with a canonical text is that text
 pub is-text : (d : Data) (t : List ℕ) → has_canon d ≡ true → (has_float d ≡ false → t ≡ compact_text d) → t ≡ text d

@@ -39,12 +39,13 @@ use Rattle.up_machine.proofs.Growing.{by_decision}
 use Rattle.up_machine.proofs.Lists.{none_passes}
 use Rattle.up_machine.proofs.Receiving.{received, manifest_received}
 use Rattle.up_machine.proofs.Tables.{get_same, get_other, kept_by_insert}
+use Rattle.up_machine.proofs.Effects.{serve_repeat}
+use Rattle.up_machine.proofs.Places.{nth_last}
+use Rattle.up_machine.proofs.Fetched.{in_time}
 use Rattle.up_rows.specs.StateRows.{rows_of_state}
-use Rattle.up_rows.proofs.Roots.{nth_last}
 use Rattle.up_store.specs.Connections.{KeepsState}
 use Rattle.up_desk.specs.Laws.{ActsOnce, DeliverNone, ActsOnceFrom, DeliveriesActOnce, FindsState, IsCalled, CrashesActOnce, ReopenedActsOnce}
 use Rattle.up_desk.specs.Serving.{HoldsState}
-use Rattle.up_desk.proofs.Serving.{in_time}
 
 -- ---- a vehicle of which nothing is delivered
 
@@ -219,12 +220,6 @@ served_new k s at body r receives none checked =
     ∙ ap (served_as k s at (Deliver body)) none
     ∙ ap (outcome_of s) (bind-ok (receive k s at body) (decide_received k s at) r receives ∙ bind-ok (check_new k r) _ tt checked)
 
-served_kept : (k : Rules) (s : State) (at : ℕ) (body : List ℕ) (r : Received) (x : Repeat) → receive k s at body ≡ Ok r → repeat_in r ≡ Some x
-    → serve k s at (Deliver body) ≡ record { answer = Replied (reply_to k s x.vehicle x.number x.entry); next = s }
-unfolding serve
-served_kept k s at body r x receives is =
-    ap (λ (d : Result Received Refusal). served_as k s at (Deliver body) (option_and_then repeat_in (value_of d))) receives ∙ ap (served_as k s at (Deliver body)) is
-
 abbrev more : Vehicle → Entry → Vehicle
 more v e = record v { entries = v.entries ++ e ∷ [] }
 
@@ -258,7 +253,7 @@ acts_kept k s at body incoming v e there receives new text =
     let number : length (v.entries ++ e ∷ []) ≡ 1 + length v.entries = omega arith in
     let found : repeat_in r ≡ Some (record { vehicle = name; number = 1 + length v.entries; entry = e }) =
     ap (option_map (λ (x : ℕ × Entry). record { vehicle = name; number = x.0; entry = x.1 })) (last_found incoming.envelope.signed 1 v.entries e new text) in
-    subst (ActsOnce k incoming) (sym (served_kept k s at body r _ receives found)) (record {
+    subst (ActsOnce k incoming) (sym (serve_repeat k s at body r _ receives found)) (record {
       vehicle = more v e;
       entry = e;
       number = 1 + length v.entries;

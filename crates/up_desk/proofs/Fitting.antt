@@ -21,9 +21,8 @@ use Rattle.up_machine.specs.declared.decision.RootRows.{RootRows}
 use Rattle.up_machine.specs.declared.rows.EcuRow.{EcuRow}
 use Rattle.up_machine.specs.declared.rows.Founding.{Founding}
 use Rattle.up_machine.specs.declared.rows.VehicleRows.{VehicleRows}
-use Rattle.up_machine.specs.declared.vehicle.NewEcu.{NewEcu}
 use Rattle.up_machine.specs.Keys.{role_fits, keys_fit, threshold_fits, secret_fits, identifier, repository_fits, key_set_fits}
-use Rattle.up_machine.specs.Vehicles.{NewVehicleData, ecu_names}
+use Rattle.up_machine.specs.Vehicles.{NewVehicleData}
 use Rattle.up_machine.specs.State.{Entry, Root, Vehicle, State, nth, root_at}
 use Rattle.up_machine.specs.Sound.{IsSound}
 use Rattle.up_machine.specs.Deciding.{Outcome, done}
@@ -31,14 +30,16 @@ use Rattle.up_machine.specs.Decisions.{IsDone, HasRootRows, HasRegisterRows, Has
 use Rattle.up_machine.specs.Deliveries.{with_entry}
 use Rattle.up_machine.specs.Inventory.{with_campaign, decide_open, with_vehicle, decide_vehicle}
 use Rattle.up_machine.specs.Repositories.{stamped, with_root, with_image, decide_found, decide_rotate, decide_image, decide_refresh}
-use Rattle.up_machine.specs.Rows.{ecu_row, rows_of, reply_kept}
+use Rattle.up_machine.specs.Rows.{rows_of, reply_kept}
 use Rattle.up_machine.proofs.Decided.{found_ok, rotate_ok}
 use Rattle.up_machine.proofs.Lists.{and_left, and_right}
+use Rattle.up_machine.proofs.SoundRows.{row_names}
+use Rattle.up_machine.proofs.Places.{nth_last}
 use Rattle.up_rows.specs.StateRows.{rows_of_state, root_row, ecu_of}
 use Rattle.up_rows.specs.Changes.{with_root_rows, with_register_rows, with_image_rows, with_vehicle_rows, with_campaign_row, with_accepted_rows}
 use Rattle.up_rows.specs.Laws.{VehiclesAreFound, RootsAreAdded, FilesAreReplaced, ImagesAreAdded, VehiclesAreAdded, CampaignsAreWritten, ManifestsAreAdded}
 use Rattle.up_rows.specs.Fitting.{NewImagesAreNew, NewVehiclesAreNew, NewCampaignsAreNew}
-use Rattle.up_rows.proofs.Roots.{nth_last}
+use Rattle.up_rows.proofs.Told.{ecus_back}
 use Rattle.up_store.specs.Fitting.{IsNextRoot, IsSameRoot, IsNewImage, IsNewVehicle, IsClosing, IsNewCampaign, IsRecorded}
 use Rattle.up_store.specs.Listing.{IsOfLastRoot}
 use Rattle.up_store.specs.Typed.{HasKeys, HaveKeys, EachHasKeys}
@@ -190,14 +191,6 @@ vehicle_fits k s at new row found added fresh it =
       rows = ap (with_vehicle_rows (rows_of_state k s)) it.1 ∙ added k s new none;
     }
 
-ecus_back : (v : Vehicle) (ecus : List NewEcu) → map ecu_of (map (ecu_row v) ecus) ≡ ecus
-ecus_back v [] = refl
-ecus_back v (e ∷ ecus) = ap (λ (es : List NewEcu). e ∷ es) (ecus_back v ecus)
-
-names_back : (v : Vehicle) (ecus : List NewEcu) → map (λ (row : EcuRow). row.ecu) (map (ecu_row v) ecus) ≡ ecu_names ecus
-names_back v [] = refl
-names_back v (e ∷ ecus) = ap (λ (names : List Name). e.ecu ∷ names) (names_back v ecus)
-
 recorded : (k : Rules) (s : State) (name : Name) (v : Vehicle) (e : Entry) (new : AcceptedRows) → IsSound k s → VehiclesAreFound → table.get s.vehicles name ≡ Some v → HasAcceptedRows k s name v e new
     → IsRecorded new (rows_of_state k s)
 recorded k s name v e new sound found there has =
@@ -206,7 +199,7 @@ recorded k s name v e new sound found there has =
       there = ap (λ (r : VehicleRows). table.get (rows_of_state k s).vehicles r.vehicle.vehicle) has.vehicle ∙ found k s name ∙ ap (option_map (rows_of name)) there;
       primary = ap (λ (r : VehicleRows). r.vehicle.primary) has.vehicle;
       ecus = ap (λ (r : VehicleRows). map ecu_of r.ecus) has.vehicle ∙ ecus_back next v.ecus ∙ sym (ecus_back v v.ecus);
-      once = ap (λ (r : VehicleRows). first_repeated (map (λ (row : EcuRow). row.ecu) r.ecus)) has.vehicle ∙ ap first_repeated (names_back next v.ecus) ∙ (sound.vehicles name v there).once;
+      once = ap (λ (r : VehicleRows). first_repeated (map (λ (row : EcuRow). row.ecu) r.ecus)) has.vehicle ∙ ap first_repeated (row_names next v.ecus) ∙ (sound.vehicles name v there).once;
     }
 
 pub accepting_fits : (k : Rules) (s : State) (name : Name) (new : AcceptedRows) (computed : Result Outcome Refusal) → IsSound k s → VehiclesAreFound → ManifestsAreAdded → IsAccepted k s name new computed

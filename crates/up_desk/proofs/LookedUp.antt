@@ -7,6 +7,7 @@ use Rattle.std.specs.FinMap.{get-empty}
 use Rattle.std.specs.Ordering.{nat_cmp, eq_by_cmp}
 use Rattle.std.specs.Cmp.Lexicographic.{slice_cmp}
 use Rattle.up_canon.specs.Names.{Name, Table}
+use Rattle.up_canon.proofs.Lists.{each_of_both}
 use Rattle.up_sign.specs.Schemes.{Rules}
 use Rattle.up_manifest.specs.declared.report.SignedReport.{SignedReport}
 use Rattle.up_plan.specs.declared.campaign.Item.{Item}
@@ -14,6 +15,7 @@ use Rattle.up_plan.specs.Campaigns.{CampaignData}
 use Rattle.up_plan.specs.Images.{ImageData}
 use Rattle.up_plan.specs.Planning.{items_for, reaches}
 use Rattle.up_machine.specs.Decisions.{AreImagesOf, files_named}
+use Rattle.up_machine.proofs.Lists.{each_weaker}
 use Rattle.up_machine.specs.State.{State}
 use Rattle.up_machine.specs.Sound.{IsSound}
 use Rattle.up_machine.proofs.Tables.{get_new, get_same, get_after-insert, one_name}
@@ -78,10 +80,6 @@ each_of_map : {A B : Type 0} (f : A → B) (P : B → Type 0) (xs : List A) → 
 each_of_map f P [] h = tt
 each_of_map f P (x ∷ xs) h = (h.0, each_of_map f P xs h.1)
 
-each_weaker : {A : Type 0} (P Q : A → Type 0) → ((x : A) → P x → Q x) → (xs : List A) → AllByRecursion P xs → AllByRecursion Q xs
-each_weaker P Q f [] h = tt
-each_weaker P Q f (x ∷ xs) h = (f x h.0, each_weaker P Q f xs h.1)
-
 each_front : {A : Type 0} (P : A → Type 0) (xs ys : List A) → AllByRecursion P (xs ++ ys) → AllByRecursion P xs
 each_front P [] ys h = tt
 each_front P (x ∷ xs) ys h = (h.0, each_front P xs ys h.1)
@@ -89,10 +87,6 @@ each_front P (x ∷ xs) ys h = (h.0, each_front P xs ys h.1)
 each_rest : {A : Type 0} (P : A → Type 0) (xs ys : List A) → AllByRecursion P (xs ++ ys) → AllByRecursion P ys
 each_rest P [] ys h = h
 each_rest P (x ∷ xs) ys h = each_rest P xs ys h.1
-
-each_both : {A : Type 0} (P : A → Type 0) (xs ys : List A) → AllByRecursion P xs → AllByRecursion P ys → AllByRecursion P (xs ++ ys)
-each_both P [] ys h more = more
-each_both P (x ∷ xs) ys h more = (h.0, each_both P xs ys h.1 more)
 
 map_both : (xs ys : List Item) → item_files (xs ++ ys) ≡ item_files xs ++ item_files ys
 map_both [] ys = refl
@@ -106,7 +100,7 @@ each_offered P test (c ∷ campaigns) h = by_test (test c) (each_offered P test 
     by_test : (b : Bool) → AllByRecursion P (item_files (flat_map (λ (c : CampaignData). c.items) (filter test campaigns)))
         → AllByRecursion P (item_files (flat_map (λ (c : CampaignData). c.items) (cond b (c ∷ filter test campaigns) (filter test campaigns))))
     by_test true more = subst (AllByRecursion P) (sym (map_both c.items (flat_map (λ (d : CampaignData). d.items) (filter test campaigns))))
-        (each_both P (item_files c.items) (item_files (flat_map (λ (d : CampaignData). d.items) (filter test campaigns))) (each_front P (item_files c.items) (campaign_files campaigns) h) more)
+        (each_of_both P (item_files c.items) (item_files (flat_map (λ (d : CampaignData). d.items) (filter test campaigns))) (each_front P (item_files c.items) (campaign_files campaigns) h) more)
     by_test false more = more
 
 -- ---- what decisions ask
@@ -127,7 +121,7 @@ images_planned k s campaigns vehicle reports images sound is =
     let part : IsPart s.images some = part_gathered s.images (campaign_files campaigns) table.empty (none_part s.images) in
     let whole : AreImagesOf (files_named campaigns vehicle reports) all s.images = record {
       named = λ file image found. (sound.repositories.each_image file image (part_gathered s.images (report_files reports) some part file image found)).named;
-      same = each_both (Has s.images all) (item_files (items_for campaigns vehicle)) (report_files reports)
+      same = each_of_both (Has s.images all) (item_files (items_for campaigns vehicle)) (report_files reports)
           (each_offered (Has s.images all) (λ (c : CampaignData). c.running && reaches vehicle c.reach) campaigns
           (each_weaker (Has s.images some) (Has s.images all) (λ file has. stays_gathered s.images (report_files reports) some file has) (campaign_files campaigns)
           (all_gathered s.images (campaign_files campaigns) table.empty (none_part s.images))))

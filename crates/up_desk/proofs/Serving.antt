@@ -8,6 +8,7 @@ use Rattle.up_canon.specs.Steps.{and_then, refuse_if, unless, value_of}
 use Rattle.up_canon.specs.Refusals.{is_memory}
 use Rattle.up_canon.specs.declared.refusal.Refusal.{Refusal}
 use Rattle.up_canon.specs.declared.refusal.Refusal.TheVariants.{MomentOutOfRange, TooLarge, BadShape}
+use Rattle.up_canon.proofs.Steps.{bind-ok, bind-err}
 use Rattle.up_sign.specs.Schemes.{Rules}
 use Rattle.up_manifest.specs.Manifests.{largest_body, incoming_in}
 use Rattle.up_machine.specs.declared.command.Command.{Command}
@@ -31,6 +32,7 @@ use Rattle.up_machine.specs.Machine.{decide, outcome_of, step}
 use Rattle.up_machine.specs.Repeats.{Repeat, repeat_in, repeat_of, served_as, serve}
 use Rattle.up_machine.specs.Sound.{IsSound}
 use Rattle.up_machine.specs.RepeatLaws.{ServedStaysSound}
+use Rattle.up_machine.proofs.Fetched.{in_time}
 use Rattle.sqlite.specs.State.{State as Connected, HasCleanDisk, Survives}
 use Rattle.up_tables.specs.Stands.{IfClean, LeavesOnly}
 use Rattle.up_store.specs.Connections.{KeepsState}
@@ -47,22 +49,6 @@ in_time_test at h = grind (arith, nat_tests)
 too_late : (at : ℕ) → last_command_moment < at → check_moment at ≡ Err MomentOutOfRange
 too_late at h = ap (λ t. refuse_if t MomentOutOfRange) (late_test at h)
 
-pub in_time : (at : ℕ) → at ≤ last_command_moment → check_moment at ≡ Ok tt
-in_time at h = ap (λ t. refuse_if t MomentOutOfRange) (in_time_test at h)
-
-stopped : {A : Type 0} (m : Result ⊤ Refusal) (f : ⊤ → Result A Refusal) (r : Refusal) → m ≡ Err r → and_then m f ≡ Err r
-unfolding and_then
-stopped m f r h = ap (λ (n : Result ⊤ Refusal). and_then n f) h
-
-pub stopped_at : {A B : Type 0} (m : Result A Refusal) (f : A → Result B Refusal) (r : Refusal) → m ≡ Err r → and_then m f ≡ Err r
-unfolding and_then
-stopped_at m f r h = ap (λ n. and_then n f) h
-
--- what goes on is what comes of it
-pub went_on : {A B : Type 0} (m : Result A Refusal) (f : A → Result B Refusal) (x : A) → m ≡ Ok x → and_then m f ≡ f x
-unfolding and_then
-went_on m f x h = ap (λ n. and_then n f) h
-
 -- what is refused stays so, unless it is lost
 pub stopped_or_lost : {A B : Type 0} (m : Result A Refusal) (f : A → Result B Refusal) (r : Refusal) → MatchBool (is_memory r) ⊤ (m ≡ Err r) → MatchBool (is_lost_by r) ⊤ (and_then m f ≡ Err r)
 stopped_or_lost m f r h = by_loss (is_memory r) (is_store r) h
@@ -70,23 +56,19 @@ stopped_or_lost m f r h = by_loss (is_memory r) (is_store r) h
     by_loss : (a b : Bool) → MatchBool a ⊤ (m ≡ Err r) → MatchBool (a || b) ⊤ (and_then m f ≡ Err r)
     by_loss true b h = tt
     by_loss false true h = tt
-    by_loss false false h = stopped_at m f r h
-
-pub passed : {A : Type 0} (m : Result ⊤ Refusal) (f : ⊤ → Result A Refusal) → m ≡ Ok tt → and_then m f ≡ f tt
-unfolding and_then
-passed m f h = ap (λ (n : Result ⊤ Refusal). and_then n f) h
+    by_loss false false h = bind-err m f r h
 
 pub late_served : (k : Rules) (s : State) (at : ℕ) (c : Command) → last_command_moment < at → served k s at c ≡ Err MomentOutOfRange
 unfolding decide_found decide_rotate decide_image decide_refresh decide_fetch decide_vehicle decide_open decide_close
-late_served k s at (Found keys) h = stopped _ _ _ (too_late at h)
-late_served k s at (Rotate keys) h = stopped _ _ _ (too_late at h)
-late_served k s at (AddImage image) h = stopped _ _ _ (too_late at h)
-late_served k s at (Refresh version) h = stopped _ _ _ (too_late at h)
-late_served k s at (AddVehicle new) h = stopped _ _ _ (too_late at h)
-late_served k s at (OpenCampaign campaign) h = stopped _ _ _ (too_late at h)
-late_served k s at (CloseCampaign name) h = stopped _ _ _ (too_late at h)
-late_served k s at (Deliver body) h = stopped _ _ _ (too_late at h)
-late_served k s at (Fetch repository name) h = stopped _ _ _ (too_late at h)
+late_served k s at (Found keys) h = bind-err _ _ _ (too_late at h)
+late_served k s at (Rotate keys) h = bind-err _ _ _ (too_late at h)
+late_served k s at (AddImage image) h = bind-err _ _ _ (too_late at h)
+late_served k s at (Refresh version) h = bind-err _ _ _ (too_late at h)
+late_served k s at (AddVehicle new) h = bind-err _ _ _ (too_late at h)
+late_served k s at (OpenCampaign campaign) h = bind-err _ _ _ (too_late at h)
+late_served k s at (CloseCampaign name) h = bind-err _ _ _ (too_late at h)
+late_served k s at (Deliver body) h = bind-err _ _ _ (too_late at h)
+late_served k s at (Fetch repository name) h = bind-err _ _ _ (too_late at h)
 
 pub delivery_served : (k : Rules) (s : State) (at : ℕ) (body : List ℕ) → at ≤ last_command_moment
     → and_then (incoming_in body) (decide_incoming k s at) ≡ served k s at (Deliver body)
@@ -104,7 +86,7 @@ of_delivery k s old new r at c body is moment h = of_command k s old new r at c 
 pub unfit_vehicle : (k : Rules) (s : State) (at : ℕ) (new : NewVehicleData) → at ≤ last_command_moment → list_all (λ e. public_fits k e.public) new.ecus ≡ false
     → decide_vehicle k s at new ≡ Err (BadShape (codes "key"))
 unfolding decide_vehicle
-unfit_vehicle k s at new h none = passed _ _ (in_time at h) ∙ stopped _ _ _ (ap (λ b. unless b (BadShape (codes "key"))) none)
+unfit_vehicle k s at new h none = bind-ok _ _ tt (in_time at h) ∙ bind-err _ _ _ (ap (λ b. unless b (BadShape (codes "key"))) none)
 
 pub by_key : (r : Refusal) (computed : Result Outcome Refusal) → computed ≡ Err (BadShape (codes "key")) → r ≡ BadShape (codes "key") → MatchBool (is_lost_by r) ⊤ (computed ≡ Err r)
 by_key r computed is same = subst (λ q. MatchBool (is_lost_by q) ⊤ (computed ≡ Err q)) (sym same) is

@@ -28,6 +28,7 @@ use Rattle.up_rows.specs.StateRows.{StateRows, rows_of_state}
 use Rattle.up_rows.specs.Lookups.{stands_among, owner_among, installed_among}
 use Rattle.up_rows.specs.Laws.{VehiclesAreFound, OwnersAreFound, VersionsAreTold, EcusAreTold, InstalledIsTold}
 use Rattle.up_store.specs.Found.{vehicle_found, ecus_found, owner_found, campaigns_found}
+use Rattle.up_store.proofs.ValuesWhere.{from_T}
 
 -- ---- vehicles
 
@@ -87,10 +88,6 @@ ecus_read k s name found told = sym (ap (option_map (λ (v : VehicleRows). map (
 
 -- ---- the vehicle of an ECU
 
-true_of : (b : Bool) → T b → b ≡ true
-true_of true h = refl
-true_of false h = absurd h
-
 less_not_equal : (o : Ordering) → is_lt o ≡ true → is_eq o ≡ false
 less_not_equal Less h = refl
 less_not_equal Equal h = cc
@@ -139,7 +136,7 @@ owner_there : (k : Rules) (s : State) (ecu : Name) (v : VehicleRows) → owner_a
 owner_there k s ecu v h =
     let all = (rows_of_state k s).vehicles in
     table.get-entries all v.vehicle.vehicle
-    ∙ owner_at (λ (r : VehicleRows). stands_among ecu r.ecus) (table.entries all) v (true_of _ (table.entries_sorted all))
+    ∙ owner_at (λ (r : VehicleRows). stands_among ecu r.ecus) (table.entries all) v (from_T _ (table.entries_sorted all))
     (subst (AllByRecursion IsNamed) (sym (entries_changed rows_of s.vehicles)) (all_named (table.entries s.vehicles))) h
 
 installed_from : (k : Rules) (s : State) (ecu owner : Name) (ecus : List EcuRow) (o : Option VehicleRows) → owner_among ecu (table.values (rows_of_state k s).vehicles) ≡ o
@@ -194,6 +191,6 @@ pub items_found : (rows : StateRows) (vehicle : Name) → items_for (table.value
 items_found rows vehicle =
     let test = λ (c : CampaignData). c.running && reaches vehicle c.reach in
     let es = table.entries rows.campaigns in
-    let sorted : T (is_sorted by_name (filter (λ e. test e.1) es)) = subst T (sym (sorted_filtered (λ e. test e.1) es (true_of _ (table.entries_sorted rows.campaigns)))) tt in
+    let sorted : T (is_sorted by_name (filter (λ e. test e.1) es)) = subst T (sym (sorted_filtered (λ e. test e.1) es (from_T _ (table.entries_sorted rows.campaigns)))) tt in
     ap (λ (found : List (Name × CampaignData)). flat_map (λ (c : CampaignData). c.items) (filter test (map (λ e. e.1) found))) (table.entries-from_sorted by_name (filter (λ e. test e.1) es) sorted)
     ∙ ap (flat_map (λ (c : CampaignData). c.items)) (filtered_again test es)

@@ -4,6 +4,7 @@ use Rattle.std.specs.Prelude.{⊤, find, nat_le}
 use Rattle.std.specs.List.{AllByRecursion, list_all}
 use Rattle.std.specs.FinMap as table
 use Rattle.std.proofs.lemmas.Bool.Decides.{nat_tests}
+use Rattle.std.proofs.lemmas.Bool.{not-false}
 use Rattle.up_canon.specs.Names.{first_repeated}
 use Rattle.up_sign.specs.Schemes.{Rules}
 use Rattle.up_manifest.specs.declared.report.SignedReport.{SignedReport}
@@ -15,7 +16,7 @@ use Rattle.up_machine.specs.State.{Vehicle, State, last_counter}
 use Rattle.up_machine.specs.Deliveries.{Received, report_name, report_names, check_reports, check_new, plan_in, entry_of, with_entry}
 use Rattle.up_machine.specs.Sound.{IsEntryOf, IsGrounded, IsSound}
 use Rattle.up_canon.proofs.Steps.{first_ok, refuse_if_ok, refuse_first_ok}
-use Rattle.up_machine.proofs.Lists.{all_pass, none_passes, not_true}
+use Rattle.up_machine.proofs.Lists.{all_pass, none_passes}
 use Rattle.up_machine.proofs.Values.{each_value}
 use Rattle.up_machine.proofs.Receiving.{IsReceived}
 use Rattle.up_machine.proofs.Planned.{plan_passes}
@@ -32,7 +33,7 @@ all_known v reports h = all_pass _ reports (over reports (none_passes _ (report_
   where
     over : (rs : List SignedReport) → AllByRecursion (λ name. not (has_ecu name v.ecus) ≡ false) (report_names rs) → AllByRecursion (λ (r : SignedReport). has_ecu (report_name r) v.ecus ≡ true) rs
     over [] h = tt
-    over (r ∷ rs) h = (not_true _ h.0, over rs h.1)
+    over (r ∷ rs) h = (not-false _ h.0, over rs h.1)
 
 pub checked : (k : Rules) (r : Received) (x : ⊤) → check_new k r ≡ Ok x → IsChecked r
 unfolding check_new check_reports

@@ -1,5 +1,6 @@
 -- What is served to one vehicle doesn't depend on what other vehicles deliver.
 use Rattle.std.proofs.Common.{◌≡◌, ℕ, List, [], Bool, true, false, cond, not, Option, Some, None, Result, Ok, Err, refl, sym, ap, ◌∙◌, subst}
+use Rattle.std.proofs.lemmas.Bool.{not-true, not-false}
 use Rattle.std.specs.Prelude.{⊤, ◌≢◌, option_map, unwrap_or, is_some, find, bytes_eq, length, ◌==◌, nat_le}
 use Rattle.std.specs.List.{list_any, list_all}
 use Rattle.std.specs.Ordering.{nat_cmp, eq_by_cmp}
@@ -34,7 +35,7 @@ use Rattle.up_machine.specs.Machine.{decide, outcome_of, step}
 use Rattle.up_machine.specs.Repeats.{serve, vehicle_of}
 use Rattle.up_machine.proofs.Tables.{one_name, get_new, get_other}
 use Rattle.up_machine.proofs.Values.{found_any, any_found}
-use Rattle.up_machine.proofs.Lists.{not_true, find_alike, all_alike, both_ways}
+use Rattle.up_machine.proofs.Lists.{find_alike, all_alike, both_ways}
 use Rattle.up_machine.proofs.Effects.{with_vehicles, bare, changed, made, Effect, effect, serve_refused}
 
 -- ---- states that are equal but for other vehicles' entries
@@ -285,22 +286,18 @@ own_vehicle : (name : Name) (o : Result Incoming Refusal) (incoming : Incoming) 
 own_vehicle name (Err e) incoming h is = cc
 own_vehicle name (Ok i) incoming h is =
     let same : i ≡ incoming = cc in
-    ap (λ (i : Incoming). i.manifest.vehicle) (sym same) ∙ (bytes_decides i.manifest.vehicle name).0 (not_true _ h)
+    ap (λ (i : Incoming). i.manifest.vehicle) (sym same) ∙ (bytes_decides i.manifest.vehicle name).0 (not-false _ h)
 
 delivered_alike : (k : Rules) (s : State) (vehicles : Table Vehicle) (at : ℕ) (body : List ℕ) (name : Name) → AlikeTables name s.vehicles vehicles
     → others_vehicle name (incoming_in body) ≡ false → ServedAlike name (serve k s at (Deliver body)) (serve k (with_vehicles s vehicles) at (Deliver body))
 delivered_alike k s vehicles at body name h own = delivery_alike k s vehicles at body name h (incoming_in body) refl (λ incoming is. own_vehicle name (incoming_in body) incoming own is)
-
-not_false : (b : Bool) → not b ≡ true → b ≡ false
-not_false true h = cc
-not_false false h = refl
 
 others_delivery : (k : Rules) (s : State) (vehicles : Table Vehicle) (at : ℕ) (body : List ℕ) (name : Name) → AlikeTables name s.vehicles vehicles
     → (o : Result Incoming Refusal) → incoming_in body ≡ o → others_vehicle name o ≡ true → IsAlike name (serve k s at (Deliver body)).next (with_vehicles s vehicles)
 others_delivery k s vehicles at body name h (Err e) is other = cc
 others_delivery k s vehicles at body name h (Ok incoming) is other =
     let one = effect k s at body incoming is in
-    let apart : incoming.manifest.vehicle ≢ name = λ same. let no = not_false _ other in let yes = (bytes_decides incoming.manifest.vehicle name).1 same in cc in
+    let apart : incoming.manifest.vehicle ≢ name = λ same. let no = not-true _ other in let yes = (bytes_decides incoming.manifest.vehicle name).1 same in cc in
     subst (λ (o : Outcome). IsAlike name o.next (with_vehicles s vehicles)) (sym (one.acts s.vehicles refl))
     (record { vehicles = vehicles; rest = refl; alike = other_changed name s.vehicles vehicles incoming.manifest.vehicle one.change apart one.keeps h })
 

@@ -1,5 +1,6 @@
 -- The checks of a manifest over the rows of its vehicle are those over the vehicle.
 use Rattle.std.proofs.Common.{◌≡◌, List, [], ◌∷◌, Bool, true, false, cond, not, Option, Some, None, Result, Ok, Err, refl, sym, ap, ◌∙◌}
+use Rattle.std.proofs.lemmas.Bool.{not-false}
 use Rattle.std.specs.Prelude.{⊤, ◌||◌, ◌&&◌, bytes_eq, map, find, option_map, unwrap_or, nat_le, nat_lt, ◌==◌}
 use Rattle.std.specs.List.{AllByRecursion, list_any}
 use Rattle.std.specs.Cmp.Lexicographic.{bytes_decides}
@@ -21,7 +22,7 @@ use Rattle.up_machine.specs.Deciding.{check_founded}
 use Rattle.up_machine.specs.Deliveries.{Received, receive_manifest, is_signed_by, report_name, report_names, is_in_order, check_reports, check_new}
 use Rattle.up_machine.specs.Rows.{ecu_row, rows_of}
 use Rattle.up_machine.specs.ManifestRows.{row_of, is_signed_by_row, check_primary, has_row, is_reported_in, follows, follows_its_row, check_reports_of, check_new_of}
-use Rattle.up_machine.proofs.Lists.{none_passes, not_true, find_alike}
+use Rattle.up_machine.proofs.Lists.{none_passes, find_alike}
 use Rattle.up_canon.proofs.Steps.{bind-ok, refuse_first_ok}
 
 -- ---- lists of what is made of elements
@@ -113,7 +114,7 @@ each_known v reports h = over reports (none_passes _ (report_names reports) h)
     over : (rs : List SignedReport) → AllByRecursion (λ name. not (has_ecu name v.ecus) ≡ false) (report_names rs)
         → AllByRecursion (λ r. not (follows_its_row (map (ecu_row v) v.ecus) r) ≡ not (is_in_order (last_report v (report_name r)) r)) rs
     over [] h = tt
-    over (r ∷ rs) h = (ap not (order_same v r (not_true _ h.0)), over rs h.1)
+    over (r ∷ rs) h = (ap not (order_same v r (not-false _ h.0)), over rs h.1)
 
 missing_same : (v : Vehicle) (reports : List SignedReport)
     → refuse_first (λ (row : EcuRow). MissingEcu row.ecu) (find (λ row. not (is_reported_in reports row)) (map (ecu_row v) v.ecus))

@@ -3,8 +3,10 @@ use Rattle.std.proofs.Common.{◌≡◌, List, [], ◌∷◌, Bool, true, false,
 use Rattle.std.specs.Prelude.{not, if◌then◌else◌, bytes_eq, map, filter, filter_map, option_map, is_none}
 use Rattle.std.specs.List.{list_any, cons_option}
 use Rattle.std.specs.FinMap as table
+use Rattle.std.proofs.lemmas.Bool.{or_parts}
 use Rattle.up_canon.specs.Names.{Name, Table, first_repeated, are_distinct, hardware_fits}
 use Rattle.up_canon.specs.Steps.{first_or_none}
+use Rattle.up_canon.proofs.Repeated.{names_themselves}
 use Rattle.up_manifest.specs.declared.report.SignedReport.{SignedReport}
 use Rattle.up_roles.specs.declared.repository.Repository.TheVariants.{Director}
 use Rattle.up_roles.specs.Targets.{target_fits, ecus_of}
@@ -20,7 +22,7 @@ use Rattle.up_machine.specs.declared.rows.VehicleRows.{VehicleRows}
 use Rattle.up_machine.specs.Files.{target_of}
 use Rattle.up_machine.specs.State.{report_of}
 use Rattle.up_machine.specs.ManifestRows.{fitted_of, fitted_in, target_for, plan_by_rows}
-use Rattle.up_machine.proofs.DistinctNames.{Distinct, or_parts, distinct, once_of, distinct_some, map_same}
+use Rattle.up_machine.proofs.DistinctNames.{Distinct, distinct, once_of, distinct_some}
 
 -- ---- a target of an image that fits
 
@@ -61,7 +63,7 @@ pub targets_apart : (images : Table ImageData) (assigned : List Assigned) → fi
 targets_apart images assigned once =
     let apart : Distinct (map (λ (n : Name). n) (filter_map (ecu_for images) assigned)) =
     distinct_some (ecu_for images) (λ (a : Assigned). a.ecu) (λ n. n) (same_ecu images) assigned (distinct (named assigned) once) in
-    ap are_distinct (ecus_for images assigned) ∙ ap is_none (once_of (filter_map (ecu_for images) assigned) (subst Distinct (map_same (filter_map (ecu_for images) assigned)) apart))
+    ap are_distinct (ecus_for images assigned) ∙ ap is_none (once_of (filter_map (ecu_for images) assigned) (subst Distinct (names_themselves (filter_map (ecu_for images) assigned)) apart))
 
 -- ---- the plan of distinct ECUs
 

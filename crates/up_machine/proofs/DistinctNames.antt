@@ -1,18 +1,15 @@
 -- Names none of which stands twice.
 use Rattle.std.proofs.Common.{◌≡◌, List, [], ◌∷◌, Bool, true, false, cond, Option, Some, None, refl, sym, ap, ◌∙◌}
-use Rattle.std.specs.Prelude.{⊤, ◌||◌, bytes_eq, map, filter_map}
+use Rattle.std.specs.Prelude.{⊤, bytes_eq, map, filter_map}
 use Rattle.std.specs.List.{AllByRecursion, list_any, cons_option}
 use Rattle.std.specs.Cmp.Lexicographic.{bytes_decides}
+use Rattle.std.proofs.lemmas.Bool.{or_parts}
 use Rattle.up_canon.specs.Names.{Name, first_repeated, first_repeated_after}
 use Rattle.up_machine.proofs.Lists.{both_ways}
 
 abbrev pub Distinct : List Name → Type 0
 Distinct [] = ⊤
 Distinct (x ∷ xs) = (list_any (bytes_eq x) xs ≡ false) × Distinct xs
-
-pub or_parts : (a b : Bool) → (a || b) ≡ false → (a ≡ false) × (b ≡ false)
-or_parts true b h = cc
-or_parts false b h = (refl, h)
 
 swapped : (x y : Name) → bytes_eq x y ≡ bytes_eq y x
 swapped x y = both_ways _ _ (λ h. (bytes_decides y x).1 (sym ((bytes_decides x y).0 h))) (λ h. (bytes_decides x y).1 (sym ((bytes_decides y x).0 h)))
@@ -64,10 +61,6 @@ pub once_of : (xs : List Name) → Distinct xs → first_repeated xs ≡ None
 once_of xs h = unseen_once [] xs (all_unseen xs) h
 
 -- ---- some of the named
-
-pub map_same : (xs : List Name) → map (λ x. x) xs ≡ xs
-map_same [] = refl
-map_same (x ∷ xs) = ap (λ rest. x ∷ rest) (map_same xs)
 
 none_of_some : {X Y : Type 0} (g : X → Option Y) (f : X → Name) (n : Y → Name) → ((x : X) (y : Y) → g x ≡ Some y → n y ≡ f x) → (p : Name → Bool) (xs : List X)
     → list_any p (map f xs) ≡ false → list_any p (map n (filter_map g xs)) ≡ false

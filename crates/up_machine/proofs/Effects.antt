@@ -5,6 +5,7 @@ use Rattle.std.specs.FinMap as table
 use Rattle.up_canon.specs.Names.{Name, Table}
 use Rattle.up_canon.specs.Steps.{and_then, ◌>>=◌, unless, or_error, value_of}
 use Rattle.std.specs.Prelude.{bytes_eq}
+use Rattle.std.proofs.lemmas.Option.{same_Some}
 use Rattle.up_canon.specs.declared.refusal.Refusal.{Refusal}
 use Rattle.up_canon.specs.declared.refusal.Refusal.TheVariants.{UnknownVehicle, WrongPrimary, BadManifestSignature}
 use Rattle.up_sign.specs.Schemes.{Rules}
@@ -98,7 +99,7 @@ serve_refused k s at body e h =
     ap (λ (r : Result Received Refusal). served_as k s at (Deliver body) (option_and_then repeat_in (value_of r))) h
     ∙ ap (outcome_of s) (bind-err (receive k s at body) (decide_received k s at) e h)
 
-serve_repeat : (k : Rules) (s : State) (at : ℕ) (body : List ℕ) (r : Received) (x : Repeat) → receive k s at body ≡ Ok r → repeat_in r ≡ Some x
+pub serve_repeat : (k : Rules) (s : State) (at : ℕ) (body : List ℕ) (r : Received) (x : Repeat) → receive k s at body ≡ Ok r → repeat_in r ≡ Some x
     → serve k s at (Deliver body) ≡ record { answer = Replied (reply_to k s x.vehicle x.number x.entry); next = s }
 unfolding serve
 serve_repeat k s at body r x h is =
@@ -131,9 +132,6 @@ idle k s at body name answer h = record { answer = answer; change = None; keeps 
 one_more : State → ℕ → Received → Vehicle
 one_more s at r = record { primary = r.vehicle.primary; ecus = r.vehicle.ecus; entries = r.vehicle.entries ++ entry_of s at r ∷ [] }
 
-same_some : {A : Type 0} (x y : A) → Some x ≡ Some y → x ≡ y
-same_some x y h = cc
-
 effect_new : (k : Rules) (s : State) (at : ℕ) (body : List ℕ) (name : Name) (r : Received) → r.incoming.manifest.vehicle ≡ name → table.get s.vehicles name ≡ Some r.vehicle
     → ((vehicles : Table Vehicle) → table.get vehicles name ≡ table.get s.vehicles name
     → serve k (with_vehicles s vehicles) at (Deliver body) ≡ outcome_of (with_vehicles s vehicles) (decide_received k (with_vehicles s vehicles) at r))
@@ -144,7 +142,7 @@ effect_new k s at body name r is there served (Err e) h =
 effect_new k s at body name r is there served (Ok x) h = record {
   answer = Replied (reply_to k s r.incoming.manifest.vehicle (version r.vehicle.entries + 1) (entry_of s at r));
   change = Some (one_more s at r);
-  keeps = λ v same. ap (option_map bare) there ∙ ap (λ (w : Vehicle). Some (bare w)) (same_some (one_more s at r) v same);
+  keeps = λ v same. ap (option_map bare) there ∙ ap (λ (w : Vehicle). Some (bare w)) (same_Some (one_more s at r) v same);
   acts = λ vehicles same. served vehicles same ∙ ap (outcome_of (with_vehicles s vehicles)) (decide_accepted k (with_vehicles s vehicles) at r x h)
       ∙ ap (λ (e : Entry). made (Replied (reply_to k (with_vehicles s vehicles) r.incoming.manifest.vehicle (version r.vehicle.entries + 1) e))
       (with_entry (with_vehicles s vehicles) r.incoming.manifest.vehicle r.vehicle e)) (entry_alike s vehicles at r)

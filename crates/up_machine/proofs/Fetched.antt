@@ -17,7 +17,7 @@ use Rattle.up_machine.specs.Repositories.{decide_fetch}
 use Rattle.up_canon.proofs.Steps.{bind-ok, bind-err}
 use Rattle.up_machine.proofs.FoundedRow.{check_by, founded_by_mark}
 
-in_time : (at : ℕ) → at ≤ last_command_moment → check_moment at ≡ Ok tt
+pub in_time : (at : ℕ) → at ≤ last_command_moment → check_moment at ≡ Ok tt
 in_time at h = let test : nat_lt last_command_moment at ≡ false = grind (arith, nat_tests) in ap (λ b. refuse_if b MomentOutOfRange) test
 
 pub fetch_unfounded : (k : Rules) (s : State) (at : ℕ) (repository : Repository) (name : Name) → at ≤ last_command_moment → false ≡ is_some (founding_row s)

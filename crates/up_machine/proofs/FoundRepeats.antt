@@ -1,25 +1,22 @@
 -- The kept row with a manifest's counter tells whether it is a repeat.
 use Rattle.std.proofs.Common.{◌≡◌, ℕ, zero, suc, ◌+◌, ◌≤◌, List, [], ◌∷◌, Bool, true, false, cond, Option, Some, None, Result, Ok, refl, sym, ap, ◌∙◌, subst, arith}
-use Rattle.std.specs.Prelude.{◌≢◌, ◌==◌, bytes_eq, option_and_then, option_map, find, slice_get, nat_lt}
+use Rattle.std.specs.Prelude.{◌≢◌, ◌==◌, bytes_eq, option_and_then, option_map, find, slice_get}
 use Rattle.std.specs.List.{AllByRecursion, enumerate_from}
 use Rattle.std.specs.Cmp.Lexicographic.{bytes_decides}
 use Rattle.std.specs.FinMap as table
 use Rattle.std.proofs.lemmas.Bool.Decides.{nat_tests}
 use Rattle.up_canon.specs.Moments.{last_command_moment}
-use Rattle.up_canon.specs.Steps.{value_of, refuse_if}
 use Rattle.up_canon.specs.declared.refusal.Refusal.{Refusal}
-use Rattle.up_canon.specs.declared.refusal.Refusal.TheVariants.{MomentOutOfRange}
 use Rattle.up_sign.specs.Schemes.{Rules}
 use Rattle.up_manifest.specs.declared.manifest.Incoming.{Incoming}
 use Rattle.up_manifest.specs.Manifests.{incoming_in}
 use Rattle.up_manifest.specs.Laws.{BodiesAreRead, SignedTextsMean}
-use Rattle.up_machine.specs.declared.command.Command.TheVariants.{Deliver}
 use Rattle.up_machine.specs.declared.answer.Answer.TheVariants.{Reply as Replied}
 use Rattle.up_machine.specs.declared.rows.Kept.{Kept}
 use Rattle.up_machine.specs.State.{Entry, Vehicle, State, nth}
-use Rattle.up_machine.specs.Deciding.{Outcome, check_moment}
+use Rattle.up_machine.specs.Deciding.{Outcome}
 use Rattle.up_machine.specs.Deliveries.{Received, receive_manifest, receive, decide_received}
-use Rattle.up_machine.specs.Repeats.{Repeat, repeat_in, repeat_of}
+use Rattle.up_machine.specs.Repeats.{Repeat, repeat_in}
 use Rattle.up_machine.specs.Rows.{kept_row, kept_at, reply_kept}
 use Rattle.up_machine.specs.Sound.{CountersRise, IsSound}
 use Rattle.up_machine.specs.Decisions.{resolve}
@@ -27,7 +24,9 @@ use Rattle.up_machine.specs.ManifestRows.{repeated}
 use Rattle.up_canon.proofs.Steps.{bind-ok, one_value}
 use Rattle.up_machine.proofs.Lists.{none_passes}
 use Rattle.up_machine.proofs.Counters.{told_apart}
-use Rattle.up_machine.proofs.Repeating.{nth_at_place, place_of, found_by_counter}
+use Rattle.up_machine.proofs.Places.{nth_at_place}
+use Rattle.up_machine.proofs.Repeating.{place_of, found_by_counter, repeat_received}
+use Rattle.up_machine.proofs.Fetched.{in_time}
 
 -- ---- an entry by a test
 
@@ -65,13 +64,7 @@ none_at p n entries i e none there = over n entries i (none_passes _ (enumerate_
 in_body : (k : Rules) (s : State) (at : ℕ) (incoming : Incoming) (d : Received) (body : List ℕ) → at ≤ last_command_moment → incoming_in body ≡ Ok incoming
     → receive_manifest k s incoming ≡ Ok d → receive k s at body ≡ Ok d
 unfolding receive
-in_body k s at incoming d body moment reads received =
-    let early : nat_lt last_command_moment at ≡ false = grind (arith, nat_tests) in
-    let in_time : check_moment at ≡ Ok tt = ap (λ b. refuse_if b MomentOutOfRange) early in
-    bind-ok _ _ tt in_time ∙ bind-ok _ _ incoming reads ∙ received
-
-repeat_received : (k : Rules) (s : State) (at : ℕ) (body : List ℕ) (d : Received) → receive k s at body ≡ Ok d → repeat_of k s at (Deliver body) ≡ repeat_in d
-repeat_received k s at body d h = ap (λ (o : Result Received Refusal). option_and_then repeat_in (value_of o)) h
+in_body k s at incoming d body moment reads received = bind-ok _ _ tt (in_time at moment) ∙ bind-ok _ _ incoming reads ∙ received
 
 -- a manifest that was kept is answered its row; another is decided on
 abbrev pub resolve_kept : Rules → State → ℕ → Received → Option Kept → Result Outcome Refusal

@@ -1,6 +1,6 @@
 -- The founding's row of a state, what is due of the state that a new root version or a change of the register leaves, and its rows.
 use Rattle.std.proofs.Common.{◌≡◌, ℕ, ◌+◌, ◌-◌, ◌<◌, List, [], ◌∷◌, ◌++◌, false, Option, Some, None, Result, Ok, Err, length, refl, sym, ap, ◌∙◌, subst, arith}
-use Rattle.std.specs.Prelude.{slice_get, option_map, map, is_some, IfOk}
+use Rattle.std.specs.Prelude.{option_map, map, is_some, IfOk}
 use Rattle.std.specs.FinMap as table
 use Rattle.std.proofs.lemmas.List.{length-append}
 use Rattle.up_canon.specs.Names.{Table}
@@ -21,9 +21,8 @@ use Rattle.up_machine.specs.Repositories.{stamped, with_root}
 use Rattle.up_machine.specs.Decisions.{HasRootRows, HasRegisterRows}
 use Rattle.up_machine.specs.Due.{row_with_root, HasRoot, HasFounding}
 use Rattle.up_canon.proofs.Steps.{map_some}
-use Rattle.up_machine.proofs.Keeping.{nth_stays}
-use Rattle.up_machine.proofs.Repeating.{nth_at_place}
 use Rattle.up_machine.proofs.Signing.{nth_there}
+use Rattle.up_machine.proofs.Places.{nth_stays, nth_last}
 
 -- the row where this is the last root
 abbrev row_of : State → Root → Founding
@@ -66,18 +65,11 @@ has_roots s f h = let of = founding_of s f h in some_root s.roots of.root of.the
 
 -- ---- one root more
 
-at_end : {A : Type 0} (xs : List A) (x : A) → slice_get (xs ++ x ∷ []) (length xs) ≡ Some x
-at_end [] x = refl
-at_end (y ∷ xs) x = at_end xs x
-
 one_more : {A : Type 0} (xs : List A) (x : A) → length (xs ++ x ∷ []) ≡ 1 + length xs
 one_more xs x = length-append xs (x ∷ []) ∙ swapped (length xs)
   where
     swapped : (n : ℕ) → n + 1 ≡ 1 + n
     swapped n = omega arith
-
-new_last : {A : Type 0} (xs : List A) (x : A) → nth (xs ++ x ∷ []) (length (xs ++ x ∷ [])) ≡ Some x
-new_last xs x = nth_at_place (xs ++ x ∷ []) (length (xs ++ x ∷ [])) (length xs) x (one_more xs x) (at_end xs x)
 
 one_less : {A : Type 0} (xs : List A) (x : A) → length (xs ++ x ∷ []) - 1 ≡ length xs
 one_less xs x = let more = one_more xs x in omega (arith, more)
@@ -109,7 +101,7 @@ pub root_is_due : (s : State) (at : ℕ) (keys : KeySet) (version number : ℕ) 
 root_is_due s at keys version number before is old =
     let next = stamped (with_root s at keys) at version in
     let root : Root = record { keys = keys; at = at } in
-    let last : root_at next (length next.roots) ≡ Some root = new_last s.roots root in record {
+    let last : root_at next (length next.roots) ≡ Some root = nth_last s.roots root in record {
       root = last;
       founding = ap (option_map (row_of next)) last ∙ ap (λ n. Some (row_with_root at keys (record { number = n; version = version; before = before }))) (new_number s at keys ∙ sym is);
       before = old;

@@ -1,9 +1,8 @@
 -- A kept reply is the same in each later state.
-use Rattle.std.proofs.Common.{◌≡◌, ℕ, zero, suc, ◌-◌, ◌<◌, ◌≤◌, List, [], ◌∷◌, ◌++◌, Bool, true, false, cond, Option, Some, None, refl, sym, ap, ◌∙◌, arith}
+use Rattle.std.proofs.Common.{◌≡◌, ℕ, ◌-◌, ◌≤◌, List, [], ◌∷◌, Bool, true, false, cond, Option, Some, None, refl, sym, ap, ◌∙◌}
 use Rattle.std.specs.Prelude.{length, slice_get, filter_map, option_map, option_and_then, unwrap_or, is_some, IsTrue, codes, ◌==◌}
 use Rattle.std.specs.List.{AllByRecursion}
 use Rattle.std.specs.FinMap as table
-use Rattle.std.proofs.lemmas.Bool.{ne_eqb}
 use Rattle.up_canon.specs.Names.{Name}
 use Rattle.up_sign.specs.Schemes.{Rules}
 use Rattle.up_plan.specs.declared.assigned.Assigned.{Assigned}
@@ -15,30 +14,7 @@ use Rattle.up_machine.specs.Laws.{IsLater, KeptRepliesStay, KeptRepliesOutlastRu
 use Rattle.up_canon.proofs.Steps.{and_then_some, map_some}
 use Rattle.up_machine.proofs.Lists.{each_at}
 use Rattle.up_machine.proofs.Growing.{grow_on}
-
-pub slice_get-append : {A : Type 0} (xs ys : List A) (i : ℕ) → i < length xs → slice_get (xs ++ ys) i ≡ slice_get xs i
-slice_get-append [] ys i h = absurd (omega arith)
-slice_get-append (x ∷ xs) ys zero h = refl
-slice_get-append (x ∷ xs) ys (suc i) h = slice_get-append xs ys i (omega arith)
-
-nth-append : {A : Type 0} (xs ys : List A) (i : ℕ) → 1 ≤ i → i ≤ length xs → nth (xs ++ ys) i ≡ nth xs i
-nth-append xs ys i low high =
-    let some = ne_eqb i 0 (λ e. omega arith) in
-    let same = slice_get-append xs ys (i - 1) (omega arith) in
-    rw some same
-
-in_range : {A : Type 0} (xs : List A) (i : ℕ) (x : A) → slice_get xs i ≡ Some x → i < length xs
-in_range [] i x h = cc
-in_range (y ∷ xs) zero x h = omega arith
-in_range (y ∷ xs) (suc i) x h = let below = in_range xs i x h in omega arith
-
--- the i-th of a list stays where more follow
-pub nth_stays : {A : Type 0} (xs ys : List A) (i : ℕ) (x : A) → nth xs i ≡ Some x → nth (xs ++ ys) i ≡ Some x
-nth_stays xs ys i x h = by_test (i == 0) refl h
-  where
-    by_test : (b : Bool) → (i == 0) ≡ b → cond b None (slice_get xs (i - 1)) ≡ Some x → cond b None (slice_get (xs ++ ys) (i - 1)) ≡ Some x
-    by_test true e h = cc
-    by_test false e h = slice_get-append xs ys (i - 1) (in_range xs (i - 1) x h) ∙ h
+use Rattle.up_machine.proofs.Places.{nth-append, nth_stays}
 
 pub nth_at : {A : Type 0} (P : A → Type 0) (xs : List A) (i : ℕ) (x : A) → AllByRecursion P xs → nth xs i ≡ Some x → P x
 nth_at P xs i x all h = by_test (i == 0) h
@@ -47,8 +23,8 @@ nth_at P xs i x all h = by_test (i == 0) h
     by_test true h = cc
     by_test false h = each_at P xs (i - 1) x all h
 
-root_stays : (s later : State) (i : ℕ) → IsLater s later → 1 ≤ i → i ≤ length s.roots → root_at later i ≡ root_at s i
-root_stays s later i is low high = ap (λ rs. nth rs i) is.roots ∙ nth-append s.roots is.more_roots i low high
+root_stays : (s later : State) (i : ℕ) → IsLater s later → i ≤ length s.roots → root_at later i ≡ root_at s i
+root_stays s later i is high = ap (λ rs. nth rs i) is.roots ∙ nth-append s.roots is.more_roots i high
 
 pub there : {A : Type 0} (o : Option A) → is_some o ≡ true → (x : A) × (o ≡ Some x)
 there None h = cc
@@ -67,7 +43,7 @@ targets_stay s later (a ∷ assigned) is known = rw (target_stays s later a is k
 text_stays : (k : Rules) (s later : State) (name : Name) (number : ℕ) (e : Entry) → IsLater s later → IsGrounded s e → reply_text k later name number e ≡ reply_text k s name number e
 unfolding reply_text
 text_stays k s later name number e is h =
-    ap (λ o. unwrap_or (option_map (λ root. reply_json name number e.root (role_texts k (reply_making later name number e root))) o) (codes "")) (root_stays s later e.root is h.from h.to)
+    ap (λ o. unwrap_or (option_map (λ root. reply_json name number e.root (role_texts k (reply_making later name number e root))) o) (codes "")) (root_stays s later e.root is h.to)
     ∙ by_root (root_at s e.root)
   where
     by_root : (o : Option Root) → unwrap_or (option_map (λ root. reply_json name number e.root (role_texts k (reply_making later name number e root))) o) (codes "")

@@ -7,6 +7,7 @@ pub mod AddedVehicles
 pub mod Receiving
 pub mod Growing
 pub mod Lists
+pub mod Places
 pub mod Values
 pub mod Counters
 pub mod Keeping

@@ -1,6 +1,6 @@
 -- Images that neither the items for a vehicle nor its reports name change nothing of what an accepted manifest makes.
 use Rattle.std.proofs.Common.{◌≡◌, ℕ, ◌+◌, List, [], ◌∷◌, ◌++◌, Bool, true, false, cond, Option, Some, None, map, refl, sym, ap, ap₂, ◌∙◌, subst}
-use Rattle.std.specs.Prelude.{◌&&◌, ◌||◌, T, filter, filter_map, find, option_map, bytes_eq}
+use Rattle.std.specs.Prelude.{◌||◌, T, filter, filter_map, find, option_map, bytes_eq}
 use Rattle.std.specs.List.{AllByRecursion, list_all, list_any, cons_option}
 use Rattle.std.specs.Ordering.{nat_cmp}
 use Rattle.std.specs.Cmp.Lexicographic.{slice_cmp, bytes_decides}
@@ -8,8 +8,11 @@ use Rattle.std.specs.FinMap as table
 use Rattle.std.specs.FinMap.{same_map, nat_cmp-IsAntisymmetric, slice_cmp-IsAntisymmetric}
 use Rattle.std.specs.FinMap.Entries.{is_sorted, is_sorted-where_key, find-where_key}
 use Rattle.std.proofs.lemmas.Cmp.{nat_list_cmp_total}
+use Rattle.std.proofs.lemmas.Bool.{or_right}
 use Rattle.up_canon.specs.Names.{Name, Table}
+use Rattle.up_canon.proofs.Printable.{both}
 use Rattle.up_sign.specs.Schemes.{Rules}
+use Rattle.up_sign.proofs.Accepted.{bytes_eq-refl}
 use Rattle.up_manifest.specs.declared.manifest.Incoming.{Incoming}
 use Rattle.up_manifest.specs.declared.report.SignedReport.{SignedReport}
 use Rattle.up_plan.specs.declared.assigned.Assigned.{Assigned}
@@ -33,17 +36,10 @@ use Rattle.up_machine.proofs.Lists.{and_left, and_right, each_weaker, all_weaker
 use Rattle.up_machine.proofs.Planned.{plan_passes}
 use Rattle.up_machine.proofs.Values.{each_found}
 
-both : (a b : Bool) → a ≡ true → b ≡ true → (a && b) ≡ true
-both a b h h' = ap₂ (λ x y. x && y) h h'
-
 -- ---- a name among names
 
 abbrev is_among : List Name → Name → Bool
 is_among files file = list_any (bytes_eq file) files
-
-or_right : (a b : Bool) → b ≡ true → (a || b) ≡ true
-or_right true b h = refl
-or_right false b h = h
 
 among_more : (files more : List Name) (file : Name) → is_among files file ≡ true → is_among (files ++ more) file ≡ true
 among_more [] more file h = cc
@@ -60,7 +56,7 @@ among_after (f ∷ before) files file h = or_right (bytes_eq file f) _ (among_af
 each_among : {A : Type 0} (f : A → Name) (xs : List A) → list_all (λ x. is_among (map f xs) (f x)) xs ≡ true
 each_among f [] = refl
 each_among f (x ∷ xs) =
-    both _ _ (ap (λ b. b || is_among (map f xs) (f x)) ((bytes_decides (f x) (f x)).1 refl))
+    both _ _ (ap (λ b. b || is_among (map f xs) (f x)) (bytes_eq-refl (f x)))
     (all_weaker (λ y. is_among (map f xs) (f y)) (λ y. is_among (f x ∷ map f xs) (f y)) (λ y h. or_right (bytes_eq (f y) (f x)) _ h) xs (each_among f xs))
 
 -- ---- tables that answer alike at names that pass

@@ -1,6 +1,6 @@
 -- What new files of both repositories are made of.
-use Rattle.std.proofs.Common.{◌≡◌, ℕ, ◌≤◌, Bool, true, List, [], ◌∷◌, Option, Some, None, refl, sym, ap, ap₂, subst, arith}
-use Rattle.std.specs.Prelude.{⊤, ◌&&◌, nat_le, map, IfSome, IsTrue, MatchOption, option_copied}
+use Rattle.std.proofs.Common.{◌≡◌, ℕ, ◌≤◌, true, List, [], ◌∷◌, Option, Some, None, refl, sym, ap, subst, arith}
+use Rattle.std.specs.Prelude.{⊤, nat_le, map, IfSome, IsTrue, MatchOption, option_copied}
 use Rattle.std.proofs.lemmas.Bool.Decides.{nat_tests}
 use Rattle.up_canon.specs.Canon.{max_count}
 use Rattle.up_canon.specs.Moments.{last_command_moment}
@@ -8,6 +8,7 @@ use Rattle.up_sign.specs.Schemes.{Rules}
 use Rattle.up_roles.specs.declared.repository.Repository.{Repository}
 use Rattle.up_roles.specs.declared.repository.Repository.TheVariants.{Director, Image}
 use Rattle.up_canon.specs.Names.{are_distinct}
+use Rattle.up_canon.proofs.Printable.{both}
 use Rattle.up_roles.specs.Targets.{ecus_of}
 use Rattle.up_plan.specs.Images.{ImageData}
 use Rattle.up_roles.specs.Payload.{version_fits}
@@ -50,9 +51,6 @@ pub no_ecus : (images : List ImageData) → IsTrue (are_distinct (ecus_of (map (
 no_ecus images = ap are_distinct (none_named images)
 
 -- ---- what can be made
-
-both : (a b : Bool) → a ≡ true → b ≡ true → (a && b) ≡ true
-both a b h h' = ap₂ (λ x y. x && y) h h'
 
 pub version_in_limits : (n : ℕ) → 1 ≤ n → n ≤ max_count → IsTrue (version_fits n)
 version_in_limits n low high =

@@ -28,7 +28,7 @@ greatest_passes p (x ∷ xs) image all h =
     let same : best_of is_above x xs ≡ image = cc in
     ap p (sym same) ∙ best_passes is_above p x xs (and_left _ _ all) (and_right _ _ all)
 
-if_passes_some : {A : Type 0} (p : A → Bool) (o : Option A) (x : A) → if_passes p o ≡ Some x → o ≡ Some x
+pub if_passes_some : {A : Type 0} (p : A → Bool) (o : Option A) (x : A) → if_passes p o ≡ Some x → o ≡ Some x
 if_passes_some p None x h = cc
 if_passes_some p (Some y) x h = by_test (p y) h
   where

@@ -1,6 +1,6 @@
 -- The values of a register of images with one more.
-use Rattle.std.proofs.Common.{◌≡◌, ℕ, suc, zero, List, [], ◌∷◌, Bool, true, cond, Some, None, map, refl, sym, ap, ap₂, ◌∙◌}
-use Rattle.std.specs.Prelude.{insert, ◌&&◌}
+use Rattle.std.proofs.Common.{◌≡◌, ℕ, suc, zero, List, [], ◌∷◌, Bool, true, cond, Some, None, map, refl, sym, ap, ◌∙◌}
+use Rattle.std.specs.Prelude.{insert}
 use Rattle.std.specs.List.{AllByRecursion, list_all}
 use Rattle.std.specs.Ordering.{nat_cmp, is_eq}
 use Rattle.std.specs.Cmp.Lexicographic.{slice_cmp}
@@ -10,6 +10,7 @@ use Rattle.std.specs.declared.cmp.Ordering.{Ordering}
 use Rattle.std.specs.declared.cmp.Ordering.TheVariants.{Less, Equal, Greater}
 use Rattle.std.proofs.lemmas.Cmp.{nat_list_cmp_total}
 use Rattle.up_canon.specs.Names.{Name, Table}
+use Rattle.up_canon.proofs.Printable.{both}
 use Rattle.up_plan.specs.Images.{ImageData}
 use Rattle.up_machine.specs.Registers.{place_among}
 use Rattle.up_machine.proofs.Lists.{and_left, and_right, each_weaker}
@@ -43,9 +44,6 @@ values_insert t v named none =
     ∙ values_put (table.entries t) v (each_weaker _ _ (λ e there. named e.0 e.1 there) (table.entries t) (each_found t)) (sym (table.get-entries t v.file) ∙ none)
 
 -- ---- one more element at a place
-
-both : (a b : Bool) → a ≡ true → b ≡ true → (a && b) ≡ true
-both a b h h' = ap₂ (λ x y. x && y) h h'
 
 pub map_insert : {A B : Type 0} (f : A → B) (xs : List A) (i : ℕ) (y : A) → map f (insert xs i y) ≡ insert (map f xs) i (f y)
 map_insert f xs zero y = refl

@@ -30,6 +30,7 @@ use Rattle.up_machine.proofs.Lists.{each_at, none_passes}
 use Rattle.up_machine.proofs.Receiving.{received}
 use Rattle.up_machine.proofs.Counters.{told_apart, up_to_last}
 use Rattle.up_machine.proofs.Soundness.{stay}
+use Rattle.up_machine.proofs.Places.{nth_at_place}
 
 -- ---- entries by their text
 
@@ -59,12 +60,6 @@ none_there : (signed : List ℕ) (n : ℕ) (entries : List Entry) (i : ℕ) (e :
 none_there signed n [] i e all h = cc
 none_there signed n (x ∷ entries) zero e all h = let same : x ≡ e = cc in ap (λ (y : Entry). bytes_eq y.signed signed) (sym same) ∙ all.0
 none_there signed n (x ∷ entries) (suc i) e all h = none_there signed (n + 1) entries i e all.1 h
-
-pub nth_at_place : {A : Type 0} (xs : List A) (i place : ℕ) (x : A) → i ≡ 1 + place → slice_get xs place ≡ Some x → nth xs i ≡ Some x
-nth_at_place xs i place x is there =
-    let some = ne_eqb i 0 (λ e. omega arith) in
-    let before : i - 1 ≡ place = omega arith in
-    rw some (ap (slice_get xs) before ∙ there)
 
 pub place_of : {A : Type 0} (xs : List A) (i : ℕ) (x : A) → nth xs i ≡ Some x → (place : ℕ) × (i ≡ 1 + place) × (slice_get xs place ≡ Some x)
 place_of xs zero x h = cc
@@ -167,7 +162,7 @@ kept_for_repeats k s at (Deliver body) r h =
     ∙ ap (option_map (reply_to k s r.vehicle r.number)) (nth_at_place is.delivery.vehicle.entries r.number is.place r.entry is.number is.there)
 
 -- the repeat of what was received
-repeat_received : (k : Rules) (s : State) (at : ℕ) (body : List ℕ) (d : Received) → receive k s at body ≡ Ok d → repeat_of k s at (Deliver body) ≡ repeat_in d
+pub repeat_received : (k : Rules) (s : State) (at : ℕ) (body : List ℕ) (d : Received) → receive k s at body ≡ Ok d → repeat_of k s at (Deliver body) ≡ repeat_in d
 repeat_received k s at body d h = ap (λ (o : Result Received Refusal). option_and_then repeat_in (value_of o)) h
 
 pub found_by_counter : BodiesAreRead → SignedTextsMean → CountersFindRepeats

@@ -1,6 +1,6 @@
 -- What the decisions on both repositories come to, by what each check found.
 use Rattle.std.proofs.Common.{◌≡◌, ℕ, ◌+◌, ◌<◌, ◌≤◌, Bool, true, false, cond, Some, None, Result, Ok, Err, length, sym, ap, ◌∙◌, subst, arith}
-use Rattle.std.specs.Prelude.{⊤, MatchBool, IsErrAnd, nat_le, nat_lt, ◌==◌, not}
+use Rattle.std.specs.Prelude.{⊤, MatchBool, IsErrAnd, nat_le, ◌==◌, not}
 use Rattle.std.specs.FinMap as table
 use Rattle.std.proofs.lemmas.Bool.Decides.{nat_tests}
 use Rattle.up_canon.specs.Canon.{max_count}
@@ -8,21 +8,19 @@ use Rattle.up_canon.specs.Moments.{last_command_moment}
 use Rattle.up_canon.specs.Refusals.{is_memory}
 use Rattle.up_canon.specs.Steps.{refuse_if}
 use Rattle.up_canon.specs.declared.refusal.Refusal.{Refusal}
-use Rattle.up_canon.specs.declared.refusal.Refusal.TheVariants.{MomentOutOfRange, NotFounded, AlreadyFounded, ImageTaken, RegisterFull, VersionLimit, VersionNotGreater, RootFull}
+use Rattle.up_canon.specs.declared.refusal.Refusal.TheVariants.{NotFounded, AlreadyFounded, ImageTaken, RegisterFull, VersionLimit, VersionNotGreater, RootFull}
 use Rattle.up_sign.specs.Schemes.{Rules}
 use Rattle.up_plan.specs.Images.{ImageData}
 use Rattle.up_machine.specs.declared.keys.KeySet.{KeySet}
 use Rattle.up_machine.specs.Keys.{check_keys}
 use Rattle.up_machine.specs.State.{State}
-use Rattle.up_machine.specs.Deciding.{Outcome, done, already, where_new, check_moment, check_founded, check_version}
+use Rattle.up_machine.specs.Deciding.{Outcome, done, already, where_new, check_founded, check_version}
 use Rattle.up_machine.specs.Repositories.{stamped, with_root, with_image, same_image, decide_found, decide_rotate, decide_new_image, decide_image, decide_refresh}
 use Rattle.up_machine.specs.Decisions.{GivesRows}
+use Rattle.up_machine.proofs.Fetched.{in_time}
 use Rattle.up_canon.proofs.Steps.{bind-ok, bind-err}
 
 -- ---- checks
-
-in_time : (at : ℕ) → at ≤ last_command_moment → check_moment at ≡ Ok tt
-in_time at h = let test : nat_lt last_command_moment at ≡ false = grind (arith, nat_tests) in ap (λ b. refuse_if b MomentOutOfRange) test
 
 founded : (s : State) → 0 < length s.roots → check_founded s ≡ Ok tt
 founded s h = let test : (length s.roots == 0) ≡ false = grind (arith, nat_tests) in ap (λ b. refuse_if b NotFounded) test

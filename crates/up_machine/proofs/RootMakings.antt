@@ -1,10 +1,11 @@
 -- Root files of keys that fit are within their limits, and so are their signers.
-use Rattle.std.proofs.Common.{◌≡◌, ℕ, suc, ◌≤◌, List, [], ◌∷◌, ◌++◌, Bool, true, false, cond, not, Option, Some, None, refl, sym, ap, ap₂, ◌∙◌, arith}
+use Rattle.std.proofs.Common.{◌≡◌, ℕ, suc, ◌≤◌, List, [], ◌∷◌, ◌++◌, Bool, true, false, cond, not, Option, Some, None, refl, sym, ap, ◌∙◌, arith}
 use Rattle.std.specs.Prelude.{◌&&◌, ⊤, length, map, filter, bytes_eq, is_none, option_map, option_copied, unwrap_or, IsTrue, MatchOption}
 use Rattle.std.specs.List.{list_all, list_any}
 use Rattle.std.proofs.lemmas.List.{length-map, length-append}
 use Rattle.std.proofs.lemmas.List.Folds.{list_all-append, list_all-map}
 use Rattle.up_canon.specs.Names.{is_from_to, is_short_text, first_repeated, are_distinct}
+use Rattle.up_canon.proofs.Printable.{both}
 use Rattle.up_sign.specs.Schemes.{Rules, IsScheme}
 use Rattle.up_sign.specs.Formats.{signature_fits}
 use Rattle.up_sign.specs.Envelopes.{signature_of}
@@ -22,9 +23,6 @@ use Rattle.up_machine.specs.Files.{keys_of, root_key, role_keys, root_file, root
 use Rattle.up_machine.proofs.Lists.{and_left, and_right, all_weaker, all_of_filter}
 use Rattle.up_machine.proofs.Makings.{role_signs, secrets_fit, keys_are_few, roles_fit}
 use denote.Ref.{Bor}
-
-both : (a b : Bool) → a ≡ true → b ≡ true → (a && b) ≡ true
-both a b h h' = ap₂ (λ x y. x && y) h h'
 
 -- ---- the keys that a Root file shows
 

@@ -11,7 +11,7 @@ use Rattle.up_machine.specs.SignedLaws.{IsRootText, IsImageText, IsServedText, S
 use Rattle.up_canon.proofs.Lists.{each_of_both}
 use Rattle.up_canon.proofs.Steps.{map_some}
 use Rattle.up_machine.proofs.Installing.{found_is}
-use Rattle.up_machine.proofs.Repeating.{nth_at_place}
+use Rattle.up_machine.proofs.Places.{nth_at_place}
 
 abbrev IsRootFile : Rules → State → Repository → File → Type 0
 IsRootFile k s repository f = IsRootText k s repository f.1

@@ -3,7 +3,7 @@ use Rattle.std.proofs.Common.{◌≡◌, ℕ, zero, suc, ◌+◌, ◌-◌, ◌�
 use Rattle.std.specs.Prelude.{◌&&◌, ◌||◌, length, map, filter, nat_le, bytes_eq, fold, option_map, option_to_list, unwrap_or, is_none, codes, slice_get}
 use Rattle.std.specs.List.{AllByRecursion, list_all, list_any}
 use Rattle.std.specs.Cmp.Lexicographic.{bytes_decides}
-use Rattle.std.proofs.lemmas.Bool.{ne_eqb}
+use Rattle.std.proofs.lemmas.Bool.{ne_eqb, or_left, or_right}
 use Rattle.std.proofs.lemmas.List.{length-map}
 use Rattle.serde_json.specs.Data.{Data}
 use Rattle.up_canon.specs.Canon.{text}
@@ -12,6 +12,7 @@ use Rattle.up_sign.specs.Schemes.{Rules, IsScheme}
 use Rattle.up_sign.specs.Envelopes.{is_by, is_satisfied, signature_of, sealed}
 use Rattle.up_sign.specs.Formats.{envelope_text}
 use Rattle.up_sign.specs.Hmac.{key_id}
+use Rattle.up_sign.proofs.Accepted.{bytes_eq-refl}
 use Rattle.up_roles.specs.declared.repository.Repository.{Repository}
 use Rattle.up_roles.specs.declared.repository.Repository.TheVariants.{Director, Image}
 use Rattle.up_roles.specs.Payload.{sealed_text}
@@ -33,17 +34,6 @@ use Rattle.up_machine.proofs.Keeping.{nth_at}
 
 -- ---- tests of bytes
 
-itself : (x : List ℕ) → bytes_eq x x ≡ true
-itself x = (bytes_decides x x).1 refl
-
-or_left : (a b : Bool) → a ≡ true → (a || b) ≡ true
-or_left true b h = refl
-or_left false b h = cc
-
-or_right : (a b : Bool) → b ≡ true → (a || b) ≡ true
-or_right true b h = refl
-or_right false b h = h
-
 abbrev is_in : List ℕ → List (List ℕ) → Bool
 is_in x xs = list_any (bytes_eq x) xs
 
@@ -61,7 +51,7 @@ in_back x (z ∷ xs) ys h = or_right (bytes_eq x z) _ (in_back x xs ys h)
 
 each_in : (xs : List (List ℕ)) → AllByRecursion (λ x. is_in x xs ≡ true) xs
 each_in [] = tt
-each_in (x ∷ xs) = (or_left _ _ (itself x), each_weaker (λ y. list_any (bytes_eq y) xs ≡ true) (λ y. list_any (bytes_eq y) (x ∷ xs) ≡ true) (λ y h. or_right (bytes_eq y x) _ h) xs (each_in xs))
+each_in (x ∷ xs) = (or_left _ _ (bytes_eq-refl x), each_weaker (λ y. list_any (bytes_eq y) xs ≡ true) (λ y. list_any (bytes_eq y) (x ∷ xs) ≡ true) (λ y h. or_right (bytes_eq y x) _ h) xs (each_in xs))
 
 -- what passes the test stays in the filtered list
 in_filter : (p : List ℕ → Bool) (x : List ℕ) (xs : List (List ℕ)) → p x ≡ true → is_in x xs ≡ true → is_in x (filter p xs) ≡ true
@@ -95,7 +85,7 @@ satisfied k law signed secret [] fits h = cc
 satisfied k law signed secret (x ∷ signers) fits h = by_test (bytes_eq secret x) refl h (satisfied k law signed secret signers fits)
   where
     own : is_by k signed (k.public_of secret) (signature_of k signed secret) ≡ true
-    own = rw (itself (key_id (k.public_of secret)), itself k.method, law.tag_is_valid secret signed fits)
+    own = rw (bytes_eq-refl (key_id (k.public_of secret)), bytes_eq-refl k.method, law.tag_is_valid secret signed fits)
 
     by_test : (b : Bool) → bytes_eq secret x ≡ b → (b || list_any (bytes_eq secret) signers) ≡ true
         → (list_any (bytes_eq secret) signers ≡ true → list_any (is_by k signed (k.public_of secret)) (map (signature_of k signed) signers) ≡ true)

@@ -29,9 +29,9 @@ use Rattle.up_canon.proofs.Steps.{map_some}
 leb_of : {a b : ℕ} → a ≤ b → nat_le a b ≡ true
 leb_of h = grind (arith, nat_tests)
 
-names_same : (v : Vehicle) (ecus : List NewEcu) → map (λ (row : EcuRow). row.ecu) (map (ecu_row v) ecus) ≡ ecu_names ecus
-names_same v [] = refl
-names_same v (e ∷ ecus) = ap (λ names. e.ecu ∷ names) (names_same v ecus)
+pub row_names : (v : Vehicle) (ecus : List NewEcu) → map (λ (row : EcuRow). row.ecu) (map (ecu_row v) ecus) ≡ ecu_names ecus
+row_names v [] = refl
+row_names v (e ∷ ecus) = ap (λ names. e.ecu ∷ names) (row_names v ecus)
 
 -- ---- the founding's row
 
@@ -51,7 +51,7 @@ pub vehicle_fits : VehicleRowsFit
 vehicle_fits k s name rows sound h =
     let found = map_some (rows_of name) (table.get s.vehicles name) rows h in
     let v = found.0 in
-    let once : first_repeated (map (λ (row : EcuRow). row.ecu) (map (ecu_row v) v.ecus)) ≡ None = ap first_repeated (names_same v v.ecus) ∙ (sound.vehicles name v found.1).once in
+    let once : first_repeated (map (λ (row : EcuRow). row.ecu) (map (ecu_row v) v.ecus)) ≡ None = ap first_repeated (row_names v v.ecus) ∙ (sound.vehicles name v found.1).once in
     let version = leb_of (versions_are_counts k s name v sound found.1).0 in
     subst (λ (r : VehicleRows). IsTrue (rows_fit r)) found.2 (ap₂ (λ x y. x && y) version (ap is_none once))
 

@@ -2,26 +2,23 @@
 use Rattle.std.proofs.Common.{◌≡◌, List, [], ◌∷◌, Bool, true, false, cond, Option, Some, refl, sym, ap, ◌∙◌, subst}
 use Rattle.std.specs.Prelude.{◌&&◌, ◌||◌, map, T}
 use Rattle.std.specs.List.{AllByRecursion, list_any}
-use Rattle.std.specs.Ordering.{nat_cmp, eq_by_cmp, is_eq, is_lt, ordering_reverse}
+use Rattle.std.specs.Ordering.{nat_cmp, eq_by_cmp, is_eq, ordering_reverse}
 use Rattle.std.specs.Cmp.{tied_itself}
 use Rattle.std.specs.Cmp.Lexicographic.{slice_cmp}
 use Rattle.std.specs.FinMap as table
 use Rattle.std.specs.FinMap.Entries.{below_all, is_sorted}
 use Rattle.std.specs.FinMap.Entries as entries
-use Rattle.std.specs.declared.cmp.Ordering.{Ordering}
-use Rattle.std.specs.declared.cmp.Ordering.TheVariants.{Less, Equal, Greater}
+use Rattle.std.specs.declared.cmp.Ordering.TheVariants.{Greater}
 use Rattle.std.proofs.lemmas.Cmp.{nat_list_cmp_total}
+use Rattle.std.proofs.lemmas.Bool.{or_right}
 use Rattle.up_canon.specs.Names.{Name, Table}
+use Rattle.up_canon.proofs.TableLemmas.{less}
 use Rattle.up_machine.proofs.Lists.{each_weaker}
 
 abbrev at_name : {X : Type 0} → Name → List (Name × X) → Option X
 at_name q es = entries.find (slice_cmp nat_cmp) q es
 
 -- ---- a value that is found is among the values
-
-or_right : (a b : Bool) → b ≡ true → (a || b) ≡ true
-or_right true b h = refl
-or_right false b h = h
 
 any_among : {X : Type 0} (p : X → Bool) (q : Name) (x : X) → p x ≡ true → (es : List (Name × X)) → at_name q es ≡ Some x → list_any p (map (λ e. e.1) es) ≡ true
 any_among p q x is [] h = cc
@@ -46,11 +43,6 @@ pub found_each : {X : Type 0} (P : X → Type 0) (t : Table X) (q : Name) (x : X
 found_each P t q x all h = each_among P q x (table.entries t) all (sym (table.get-entries t q) ∙ h)
 
 -- ---- each entry is found at its name
-
-less : (o : Ordering) → T (is_lt o) → o ≡ Less
-less Less h = refl
-less Equal h = absurd h
-less Greater h = absurd h
 
 left : (a b : Bool) → T (a && b) → T a
 left true b h = tt

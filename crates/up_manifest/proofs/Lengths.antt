@@ -1,9 +1,8 @@
 -- How long the texts of envelopes, reports and manifests are at most.
 use Rattle.std.proofs.Common.{◌≡◌, ℕ, lit<, lit≤, ◌+◌, ◌*◌, ◌≤◌, List, [], ◌∷◌, ◌++◌, Bool, true, false, cond, length, map, refl, sym, ap, ◌∙◌, arith, append_assoc, length-append}
-use Rattle.std.specs.Prelude.{◌||◌, ◌==◌, nat_le, codes, decimal, flat_map}
+use Rattle.std.specs.Prelude.{◌||◌, ◌==◌, codes, decimal, flat_map}
 use Rattle.std.specs.List.{list_all, join_with_byte}
 use Rattle.std.proofs.lemmas.Bool.{and_parts}
-use Rattle.std.proofs.lemmas.Bool.Decides.{nat_tests}
 use Rattle.std.proofs.lemmas.Fmt.{length-decimal-le}
 use Rattle.hex.specs.Hex.{encode_lower, lower_digits}
 use Rattle.hex.proofs.HexLemmas.{length-encode_with}
@@ -11,6 +10,7 @@ use Rattle.up_canon.specs.Build.{list_with}
 use Rattle.up_canon.specs.Canon.{max_count, text, quoted, escaped}
 use Rattle.up_canon.specs.Moments.{moment_text, MomentTextIsPlain}
 use Rattle.up_canon.specs.Names.{is_from_to, is_short_text, is_ident}
+use Rattle.up_canon.proofs.Members.{within}
 use Rattle.up_sign.specs.Formats.{signature_fits, envelope_fits, signature_value, envelope_text}
 use Rattle.up_sign.specs.declared.envelope.Signature.{Signature}
 use Rattle.up_sign.specs.declared.envelope.Envelope.{Envelope}
@@ -41,12 +41,7 @@ count-length n h = length-decimal-le 16 n (lit< tt) (omega arith) (omega arith)
 short-length : (least most : ℕ) (t : List ℕ) → is_short_text least most t ≡ true → length t ≤ most
 short-length least most t h =
     let p = and_parts (is_from_to least most (length t)) _ h in
-    let q = and_parts (nat_le least (length t)) _ p.0 in
-    let high = q.1 in
-    grind (arith, nat_tests)
-
-from-length : (least most n : ℕ) → is_from_to least most n ≡ true → n ≤ most
-from-length least most n h = let q = and_parts (nat_le least n) _ h in let high = q.1 in grind (arith, nat_tests)
+    (within least most (length t) p.0).1
 
 -- ---- signatures
 
@@ -63,7 +58,7 @@ signature-length s h =
     let q = and_parts (is_short_text 1 64 s.method) _ p.1 in
     let k = quoted-length s.keyid 128 (short-length 1 128 s.keyid p.0) in
     let m = quoted-length s.method 64 (short-length 1 64 s.method q.0) in
-    let g = hex-length s.sig 512 (from-length 1 512 (length s.sig) q.1) in
+    let g = hex-length s.sig 512 (within 1 512 (length s.sig) q.1).1 in
     let sum = ap length (signature-spelled s) ∙ sum-seven (codes "{\"keyid\":") (quoted s.keyid) (codes ",\"method\":") (quoted s.method) (codes ",\"sig\":") (quoted (encode_lower s.sig)) (codes "}") in
     omega (arith, sum, k, m, g)
 
@@ -101,7 +96,7 @@ installed-spelled r = refl
 installed-length : (r : Report) → ReportFits r → length (text (installed_value r.image)) ≤ 470
 installed-length r h =
     let size = h.sha256 in
-    let file = quoted-length r.image.file 128 (from-length 1 128 (length r.image.file) (and_parts (is_from_to 1 128 (length r.image.file)) _ h.file).0) in
+    let file = quoted-length r.image.file 128 (within 1 128 (length r.image.file) (and_parts (is_from_to 1 128 (length r.image.file)) _ h.file).0).1 in
     let hash = hashes-length r.image.sha256 size in
     let number = count-length r.image.length h.size in
     let sum = ap length (installed-spelled r) ∙ sum-seven (codes "{\"file\":") (quoted r.image.file) (codes ",\"hashes\":") (text (hashes_value r.image.sha256)) (codes ",\"length\":") (decimal r.image.length) (codes "}") in
@@ -118,9 +113,9 @@ sum-eleven a b c d e f g h i j k = simp length-append
 
 pub report-length : MomentTextIsPlain → (r : Report) → ReportFits r → length (report_text r) ≤ 1280
 report-length law r h =
-    let attack = quoted-length r.attack 256 (from-length 0 256 (length r.attack) (and_parts (is_from_to 0 256 (length r.attack)) _ h.attack).0) in
+    let attack = quoted-length r.attack 256 (within 0 256 (length r.attack) (and_parts (is_from_to 0 256 (length r.attack)) _ h.attack).0).1 in
     let number = count-length r.counter h.counter in
-    let ecu = quoted-length r.ecu 64 (from-length 1 64 (length r.ecu) (and_parts (is_from_to 1 64 (length r.ecu)) _ h.ecu).0) in
+    let ecu = quoted-length r.ecu 64 (within 1 64 (length r.ecu) (and_parts (is_from_to 1 64 (length r.ecu)) _ h.ecu).0).1 in
     let image = installed-length r h in
     let time = quoted-length (moment_text r.time) 20 (short-length 20 20 (moment_text r.time) (law r.time h.time).0) in
     let sum = ap length (report-spelled r) ∙ sum-eleven (codes "{\"attack\":") (quoted r.attack) (codes ",\"counter\":") (decimal r.counter) (codes ",\"ecu\":") (quoted r.ecu) (codes ",\"image\":") (text (installed_value r.image)) (codes ",\"time\":") (quoted (moment_text r.time)) (codes ",\"type\":\"report\"}") in
@@ -149,8 +144,8 @@ pub manifest-length : MomentTextIsPlain → (vehicle primary : List ℕ) (counte
     → is_ident vehicle ≡ true → is_ident primary ≡ true → counter ≤ max_count → length es ≤ most_reports → length (manifest_text vehicle primary counter es) ≤ 250_000
 unfolding manifest_text
 manifest-length law vehicle primary counter es rs h v p n few =
-    let name = quoted-length vehicle 64 (from-length 1 64 (length vehicle) (and_parts (is_from_to 1 64 (length vehicle)) _ v).0) in
-    let other = quoted-length primary 64 (from-length 1 64 (length primary) (and_parts (is_from_to 1 64 (length primary)) _ p).0) in
+    let name = quoted-length vehicle 64 (within 1 64 (length vehicle) (and_parts (is_from_to 1 64 (length vehicle)) _ v).0).1 in
+    let other = quoted-length primary 64 (within 1 64 (length primary) (and_parts (is_from_to 1 64 (length primary)) _ p).0).1 in
     let number = count-length counter n in
     let reports = listed-length (map envelope_text es) (3816 * length es) (joined-length law es rs h) in
     let sum = sum-nine (codes "{\"counter\":") (decimal counter) (codes ",\"primary\":") (quoted primary) (codes ",\"reports\":") (listed (map envelope_text es)) (codes ",\"type\":\"manifest\",\"vehicle\":") (quoted vehicle) (codes "}") in

@@ -2,22 +2,19 @@
 use Rattle.std.proofs.Common.{◌≡◌, ℕ, suc, lit≤, ◌+◌, ◌≤◌, List, [], ◌∷◌, ◌++◌, Bool, true, Some, length, map, append_assoc, refl, sym, ap, ap₂, ◌∙◌, subst, arith}
 use Rattle.std.specs.Prelude.{◌&&◌, IsTrue, nat_le, codes, decimal}
 use Rattle.std.specs.List.{list_all, join_with_byte}
-use Rattle.std.proofs.lemmas.Bool.{and_parts}
 use Rattle.std.proofs.lemmas.Bool.Decides.{nat_tests}
 use Rattle.hex.specs.Hex.{encode_lower, lower_digits}
 use Rattle.hex.proofs.HexLemmas.{length-encode_with, decode_of-encode_lower}
 use Rattle.serde_json.specs.Data.{Data, string, depth, items_depth}
 use Rattle.serde_json.specs.View.{items_of}
 use Rattle.up_canon.specs.Build.{object_with, list_with, count_value}
-use Rattle.up_canon.specs.Canon.{max_count, max_nesting, is_printable, is_printable_text, is_plain, items_are_plain, canon, text, quoted}
+use Rattle.up_canon.specs.Canon.{max_count, max_nesting, is_printable, is_plain, items_are_plain, canon, text, quoted}
 use Rattle.up_canon.specs.Moments.{moment_text, MomentTextIsPlain, MomentsAreRead}
-use Rattle.up_canon.specs.Names.{is_from_to, is_short_text, is_ident}
-use Rattle.up_sign.specs.Formats.{signature_fits, envelope_fits, has_bytes, IsSigned, signature_value, envelope_text}
+use Rattle.up_canon.specs.Names.{is_ident}
+use Rattle.up_sign.specs.Formats.{envelope_fits, has_bytes, IsSigned, envelope_text}
 use Rattle.up_sign.specs.Laws.{envelope_value, TextsAreRead}
 use Rattle.up_canon.specs.Meaning.{EachMeans}
 use Rattle.up_sign.specs.Meaning.{MeansEnvelope}
-use Rattle.up_sign.specs.Schemes.{is_byte}
-use Rattle.up_sign.specs.declared.envelope.Signature.{Signature}
 use Rattle.up_sign.specs.declared.envelope.Envelope.{Envelope}
 use Rattle.up_manifest.specs.Building.{hashes_value, installed_value, report_value, report_text, ReportFits, IsReportEnvelope, AreReportEnvelopes, listed, manifest_text, signed_reports}
 use Rattle.up_manifest.specs.Manifests.{most_reports}
@@ -25,6 +22,7 @@ use Rattle.up_manifest.specs.Meaning.{MeansInstalled, MeansReport, MeansSignedRe
 use Rattle.up_manifest.specs.declared.report.Report.{Report}
 use Rattle.up_manifest.specs.declared.manifest.Manifest.{Manifest}
 use Rattle.up_sign.proofs.Meaning.{opened_read}
+use Rattle.up_sign.proofs.Texts.{envelope_value-text, envelope_plain, envelope_depth}
 use Rattle.up_canon.proofs.ByteTests.{bytes_placed}
 use Rattle.up_canon.proofs.Joined.{listed_text}
 use Rattle.up_canon.proofs.Printable.{ident_prints, file_name_prints, note_prints, printable-hex}
@@ -35,9 +33,6 @@ pub canon_of : (d : Data) → is_plain d ≡ true → depth d ≤ 16 → canon d
 canon_of d plain shallow =
     let flat : nat_le (depth d) max_nesting ≡ true = grind (arith, nat_tests) in
     rw (plain, flat) refl
-
-and_two : (a b : Bool) → a ≡ true → b ≡ true → (a && (b && true)) ≡ true
-and_two a b p q = rw (p, q) refl
 
 and_three : (a b c : Bool) → a ≡ true → b ≡ true → c ≡ true → (a && (b && (c && true))) ≡ true
 and_three a b c p q r = rw (p, q, r) refl
@@ -51,63 +46,7 @@ and_five a b c d e p q r s t = rw (p, q, r, s, t) refl
 count_test : (n : ℕ) → n ≤ max_count → nat_le n max_count ≡ true
 count_test n h = grind (arith, nat_tests)
 
-hex_plain : (xs : List ℕ) → list_all is_byte xs ≡ true → is_printable_text (encode_lower xs) ≡ true
-hex_plain xs h = printable-hex xs h
-
 -- ---- envelopes
-
-right-five : (a b c d e : List ℕ) → a ++ b ++ c ++ d ++ e ≡ a ++ (b ++ (c ++ (d ++ e)))
-right-five a b c d e = simp append_assoc
-
-right-nine : (a b c d e f g h i : List ℕ) → a ++ b ++ c ++ d ++ e ++ f ++ g ++ h ++ i ≡ a ++ (b ++ (c ++ (d ++ (e ++ (f ++ (g ++ (h ++ i)))))))
-right-nine a b c d e f g h i = simp append_assoc
-
-pub envelope_value-text : (e : Envelope) (payload : Data) → text payload ≡ e.signed → text (envelope_value e payload) ≡ envelope_text e
-unfolding envelope_text
-envelope_value-text e payload h =
-    ap (λ (t : List ℕ). codes "{\"signatures\":" ++ (text (list_with (map signature_value e.signatures)) ++ (codes ",\"signed\":" ++ (t ++ codes "}")))) h
-    ∙ sym (right-five (codes "{\"signatures\":") (text (list_with (map signature_value e.signatures))) (codes ",\"signed\":") e.signed (codes "}"))
-
-signature_parts : (s : Signature) → signature_fits s ≡ true → (is_short_text 1 128 s.keyid ≡ true) × (is_short_text 1 64 s.method ≡ true) × (1 ≤ length s.sig) × (length s.sig ≤ 512)
-signature_parts s h =
-    let p = and_parts (is_short_text 1 128 s.keyid) _ h in
-    let q = and_parts (is_short_text 1 64 s.method) _ p.1 in
-    let r = and_parts (nat_le 1 (length s.sig)) _ q.1 in
-    let low = r.0 in
-    let high = r.1 in
-    (p.0, q.0, grind (arith, nat_tests), grind (arith, nat_tests))
-
-short_plain : (least most : ℕ) (t : List ℕ) → is_short_text least most t ≡ true → is_printable_text t ≡ true
-short_plain least most t h = let p = and_parts (is_from_to least most (length t)) _ h in p.1
-
-signature_plain : (s : Signature) → signature_fits s ≡ true → list_all is_byte s.sig ≡ true → is_plain (signature_value s) ≡ true
-unfolding signature_value
-signature_plain s h b =
-    let p = signature_parts s h in
-    and_three _ _ _ (short_plain 1 128 s.keyid p.0) (short_plain 1 64 s.method p.1) (hex_plain s.sig b)
-
-signature_depth : (s : Signature) → depth (signature_value s) ≡ 1
-unfolding signature_value
-signature_depth s = refl
-
-signatures_plain : (ss : List Signature) → list_all signature_fits ss ≡ true → list_all (λ s. list_all is_byte s.sig) ss ≡ true → items_are_plain (items_of (map signature_value ss)) ≡ true
-signatures_plain [] h b = refl
-signatures_plain (s ∷ ss) h b =
-    let p = and_parts (signature_fits s) _ h in
-    let q = and_parts (list_all is_byte s.sig) _ b in
-    ap₂ (λ x y. x && y) (signature_plain s p.0 q.0) (signatures_plain ss p.1 q.1)
-
-signatures_depth : (ss : List Signature) → items_depth (items_of (map signature_value ss)) ≤ 1
-signatures_depth [] = omega arith
-signatures_depth (s ∷ ss) = omega (arith, signature_depth s, signatures_depth ss)
-
-pub envelope_plain : (e : Envelope) (payload : Data) → envelope_fits e ≡ true → has_bytes e ≡ true → is_plain payload ≡ true → is_plain (envelope_value e payload) ≡ true
-envelope_plain e payload h b plain =
-    let p = and_parts (is_from_to 1 8 (length e.signatures)) _ h in
-    and_two _ _ (signatures_plain e.signatures p.1 b) plain
-
-pub envelope_depth : (e : Envelope) (payload : Data) (n : ℕ) → depth payload ≤ n → 2 ≤ n → depth (envelope_value e payload) ≤ n + 1
-envelope_depth e payload n h two = omega (arith, signatures_depth e.signatures)
 
 pub envelope_means : TextsAreRead → (e : Envelope) (payload : Data) → envelope_fits e ≡ true → has_bytes e ≡ true → IsSigned e.signed payload
     → MeansEnvelope (envelope_value e payload) payload e
@@ -117,7 +56,7 @@ envelope_means texts e payload h b signed = opened_read [] (envelope_value e pay
 
 installed_plain : (r : Report) → ReportFits r → is_plain (installed_value r.image) ≡ true
 installed_plain r h =
-    and_three _ _ _ (file_name_prints r.image.file h.file) (ap (λ b. b && true) (hex_plain r.image.sha256 h.bytes)) (count_test r.image.length h.size)
+    and_three _ _ _ (file_name_prints r.image.file h.file) (ap (λ b. b && true) (printable-hex r.image.sha256 h.bytes)) (count_test r.image.length h.size)
 
 report_plain : MomentTextIsPlain → (r : Report) → ReportFits r → is_plain (report_value r) ≡ true
 report_plain law r h =
@@ -228,6 +167,9 @@ abbrev pub manifest_value : List ℕ → List ℕ → ℕ → List (Envelope × 
 manifest_value vehicle primary counter ps = object_with (
     (codes "counter", count_value counter) ∷ (codes "primary", string primary) ∷ (codes "reports", list_with (map pair_value ps)) ∷
     (codes "type", string (codes "manifest")) ∷ (codes "vehicle", string vehicle) ∷ [])
+
+right-nine : (a b c d e f g h i : List ℕ) → a ++ b ++ c ++ d ++ e ++ f ++ g ++ h ++ i ≡ a ++ (b ++ (c ++ (d ++ (e ++ (f ++ (g ++ (h ++ i)))))))
+right-nine a b c d e f g h i = simp append_assoc
 
 pub manifest_value-text : (vehicle primary : List ℕ) (counter : ℕ) (es : List Envelope) (rs : List Report) → AreReportEnvelopes es rs
     → text (manifest_value vehicle primary counter (zipped es rs)) ≡ manifest_text vehicle primary counter es

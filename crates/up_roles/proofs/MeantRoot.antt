@@ -22,6 +22,7 @@ use Rattle.up_canon.proofs.Members.{is_text, object_read, object_there, self_rea
 use Rattle.up_canon.proofs.Printable.{both}
 use Rattle.up_canon.proofs.Steps.{first_ok, bind-ok, same_ok, or_error_ok, one_value, each_read, each_there, each_size}
 use Rattle.up_sign.specs.Laws.{IsTextFault}
+use Rattle.up_sign.proofs.Accepted.{bytes_eq-refl}
 use Rattle.up_roles.specs.Meaning.{ShowsKey, IsKeyId, MeansRole, MeansRoot}
 use Rattle.up_roles.specs.Root.{all_keys, key_fits, role_is_met, members_list, object_members, shown_in, key_of, keys_in, chosen_key, role_in, is_used, root_of}
 use Rattle.up_roles.specs.declared.payload.Head.{Head}
@@ -34,11 +35,8 @@ use Rattle.up_roles.proofs.Repeats.{bytes_eq-sym}
 
 -- ---- the member of a name
 
-itself : (k : List ℕ) → bytes_eq k k ≡ true
-itself k = (bytes_decides k k).1 refl
-
 get-own : (k : List ℕ) (v : Data) (ms : Members) → json.get_member k (member k v ms) ≡ Some v
-get-own k v ms = by_order (slice_cmp nat_cmp k k) (is_eq-slice_cmp k k ∙ itself k)
+get-own k v ms = by_order (slice_cmp nat_cmp k k) (is_eq-slice_cmp k k ∙ bytes_eq-refl k)
   where
     by_order : (o : Ordering) → is_eq o ≡ true → match_ordering o (json.get_member k ms) (Some v) (json.get_member k ms) ≡ Some v
     by_order Less h = cc

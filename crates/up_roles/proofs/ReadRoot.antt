@@ -2,8 +2,7 @@
 use Rattle.std.proofs.Common.{◌≡◌, ℕ, List, [], ◌∷◌, ◌++◌, Bool, true, false, Some, None, Ok, length, map, refl, ap, subst, ◌∙◌, arith}
 use Rattle.std.specs.Prelude.{codes, nat_le, bytes_eq, ◌||◌}
 use Rattle.std.specs.List.{AllByRecursion, list_all, list_any}
-use Rattle.std.specs.Cmp.Lexicographic.{bytes_decides}
-use Rattle.std.proofs.lemmas.Bool.{and_parts}
+use Rattle.std.proofs.lemmas.Bool.{and_parts, or_right}
 use Rattle.std.proofs.lemmas.Bool.Decides.{nat_tests}
 use Rattle.std.proofs.lemmas.List.Folds.{list_all-append}
 use Rattle.serde_json.specs.Data.{Data, string, object, Members, no_members}
@@ -24,6 +23,7 @@ use Rattle.up_roles.proofs.Heads.{HasHead, head_means, count_means, each_means, 
 use Rattle.up_roles.proofs.Keys.{members_with-keys}
 use Rattle.up_roles.proofs.MeantRoot.{with_id, AreListed, IsKeyOf, key_there, keys_shown, found_shown, named_passes, any_used}
 use Rattle.up_roles.proofs.PlainFiles.{roles-fit, all_keys-fit}
+use Rattle.up_sign.proofs.Accepted.{bytes_eq-refl}
 
 -- ---- keys
 
@@ -64,14 +64,10 @@ role_means ms all listed name role roles has h found =
 abbrev has : List RootKey → RootKey → Bool
 has keys key = list_any (λ own. bytes_eq own.keyid key.keyid) keys
 
-or_right : (a b : Bool) → b ≡ true → (a || b) ≡ true
-or_right true b h = refl
-or_right false b h = h
-
 has-own : (keys : List RootKey) → list_all (has keys) keys ≡ true
 has-own [] = refl
 has-own (k ∷ keys) =
-    let own : bytes_eq k.keyid k.keyid ≡ true = (bytes_decides k.keyid k.keyid).1 refl in
+    let own = bytes_eq-refl k.keyid in
     both _ _ (rw own refl) (all-more (has keys) (has (k ∷ keys)) keys (λ x h. or_right (bytes_eq k.keyid x.keyid) (has keys x) h) (has-own keys))
 
 used_1 : (a b c d : Bool) → a ≡ true → (a || b || c || d) ≡ true

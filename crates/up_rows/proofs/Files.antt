@@ -32,9 +32,13 @@ either_found name (f ∷ fs) gs = by_test (named name f) (either_found name fs g
     by_test true more = refl
     by_test false more = more
 
-or_mapped : {A B : Type 0} (f : A → B) (o p : Option A) → option_map f (option_or o p) ≡ option_or (option_map f o) (option_map f p)
+pub or_mapped : {A B : Type 0} (f : A → B) (o p : Option A) → option_map f (option_or o p) ≡ option_or (option_map f o) (option_map f p)
 or_mapped f None p = refl
 or_mapped f (Some x) p = refl
+
+pub or_none : {A : Type 0} (o : Option A) → option_or o None ≡ o
+or_none None = refl
+or_none (Some x) = refl
 
 -- ---- Root files
 
@@ -109,13 +113,9 @@ roots_found k s repository name =
     (numbered_found k s repository name 1 s.roots)
     ∙ sym (or_mapped (text_in repository) _ _)
 
-nothing_more : {A : Type 0} (o : Option A) → option_or o None ≡ o
-nothing_more None = refl
-nothing_more (Some x) = refl
-
 pub files_found : FilesAreFound
 unfolding files
-files_found k s Director name = nothing_more _ ∙ sym (roots_found k s Director name)
+files_found k s Director name = or_none _ ∙ sym (roots_found k s Director name)
 files_found k s Image name =
     ap (λ (o : Option (List ℕ)). option_or o (found_in name (texts_in (image_texts k s)))) (sym (roots_found k s Image name))
     ∙ sym (either_found name (latest_root k s Image ++ numbered_roots k s Image) (texts_in (image_texts k s)))

@@ -14,6 +14,7 @@ use Rattle.up_machine.specs.declared.vehicle.NewEcu.{NewEcu}
 use Rattle.up_machine.specs.Vehicles.{has_ecu, ecu_names}
 use Rattle.up_machine.specs.State.{Entry, Vehicle, State, last_counter, plan_for, installed_on}
 use Rattle.up_machine.specs.Rows.{ecu_row, rows_of, kept_row}
+use Rattle.up_machine.proofs.SoundRows.{row_names}
 use Rattle.up_rows.specs.StateRows.{rows_of_state}
 use Rattle.up_rows.specs.Lookups.{stands_among, has_ecu_row, owner_among, installed_among, kept_with}
 use Rattle.up_rows.specs.Laws.{VehiclesAreFound, KeptAreFound, OwnersAreFound, VersionsAreTold, EcusAreTold, InstalledIsTold, AssignedIsTold}
@@ -32,16 +33,12 @@ versions_told k s name = ap (option_map (λ (rows : VehicleRows). rows.vehicle.v
     by_case None = refl
     by_case (Some v) = refl
 
-ecu_names_back : (v : Vehicle) (ecus : List NewEcu) → map (λ (row : EcuRow). row.ecu) (map (ecu_row v) ecus) ≡ ecu_names ecus
-ecu_names_back v [] = refl
-ecu_names_back v (e ∷ ecus) = ap (λ (names : List Name). e.ecu ∷ names) (ecu_names_back v ecus)
-
 pub ecus_told : EcusAreTold
 ecus_told k s name = ap (option_map (λ (rows : VehicleRows). map (λ (row : EcuRow). row.ecu) rows.ecus)) (vehicles_found k s name) ∙ by_case (table.get s.vehicles name)
   where
     by_case : (o : Option Vehicle) → option_map (λ (rows : VehicleRows). map (λ (row : EcuRow). row.ecu) rows.ecus) (option_map (rows_of name) o) ≡ option_map (λ (v : Vehicle). ecu_names v.ecus) o
     by_case None = refl
-    by_case (Some v) = ap Some (ecu_names_back v v.ecus)
+    by_case (Some v) = ap Some (row_names v v.ecus)
 
 -- ---- whether an ECU stands in a vehicle
 

@@ -1,10 +1,10 @@
 pub mod Tables
 mod Numbered
 mod Staying
-mod Told
+pub mod Told
 mod Found
-mod Files
+pub mod Files
 pub mod Roots
 mod Registers
-mod Vehicles
+pub mod Vehicles
 mod Fitting

@@ -1,7 +1,6 @@
 -- One more root version takes the rows of a state to those of the next.
 use Rattle.std.proofs.Common.{◌≡◌, ℕ, ◌+◌, ◌-◌, List, [], ◌∷◌, ◌++◌, Some, refl, sym, ap, ap₂, ◌∙◌, arith}
-use Rattle.std.specs.Prelude.{option_map, length, slice_get}
-use Rattle.std.proofs.lemmas.Bool.{ne_eqb}
+use Rattle.std.specs.Prelude.{option_map, length}
 use Rattle.std.proofs.lemmas.List.{length-append}
 use Rattle.up_canon.specs.Names.{Name}
 use Rattle.up_sign.specs.Schemes.{Rules}
@@ -9,7 +8,7 @@ use Rattle.up_roles.specs.declared.repository.Repository.TheVariants.{Director, 
 use Rattle.up_machine.specs.declared.decision.RootRows.{RootRows}
 use Rattle.up_machine.specs.declared.keys.KeySet.{KeySet}
 use Rattle.up_machine.specs.declared.rows.Founding.{Founding}
-use Rattle.up_machine.specs.State.{Root, State, nth, root_at}
+use Rattle.up_machine.specs.State.{Root, State, root_at}
 use Rattle.up_machine.specs.Files.{numbered_root_name, root_text_at, image_texts}
 use Rattle.up_machine.specs.Repositories.{stamped, with_root}
 use Rattle.up_machine.specs.Rows.{founding_row, rows_of}
@@ -17,6 +16,7 @@ use Rattle.up_machine.specs.Decisions.{HasRootRows}
 use Rattle.up_machine.specs.Laws.{IsLater}
 use Rattle.up_canon.proofs.Steps.{one_value}
 use Rattle.up_machine.proofs.Growing.{later_with}
+use Rattle.up_machine.proofs.Places.{nth_last}
 use Rattle.up_rows.specs.declared.root_row.RootRow.{RootRow}
 use Rattle.up_rows.specs.Tables.{each_value}
 use Rattle.up_rows.specs.StateRows.{root_row, root_rows, kept_rows}
@@ -24,19 +24,6 @@ use Rattle.up_rows.specs.Changes.{new_root}
 use Rattle.up_rows.specs.Laws.{RootsAreAdded}
 use Rattle.up_rows.proofs.Numbered.{numbered_push}
 use Rattle.up_rows.proofs.Staying.{kept_stay, roots_stay}
-
--- ---- one more item at the end
-
-slice_last : {A : Type 0} (xs : List A) (x : A) → slice_get (xs ++ x ∷ []) (length xs) ≡ Some x
-slice_last [] x = refl
-slice_last (y ∷ xs) x = slice_last xs x
-
-pub nth_last : {A : Type 0} (xs : List A) (x : A) → nth (xs ++ x ∷ []) (length (xs ++ x ∷ [])) ≡ Some x
-nth_last xs x =
-    let size = length-append xs (x ∷ []) in
-    let some = ne_eqb (length (xs ++ x ∷ [])) 0 (λ e. omega arith) in
-    let before : length (xs ++ x ∷ []) - 1 ≡ length xs = omega arith in
-    rw some (ap (slice_get (xs ++ x ∷ [])) before ∙ slice_last xs x)
 
 -- ---- the rows
 

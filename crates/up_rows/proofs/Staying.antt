@@ -1,6 +1,6 @@
 -- Rows of root versions and kept rows stay where the state grows.
-use Rattle.std.proofs.Common.{◌≡◌, ℕ, zero, suc, ◌+◌, ◌-◌, ◌<◌, ◌≤◌, List, [], ◌∷◌, ◌++◌, cond, Option, Some, None, map, refl, ap, ap₂, ◌∙◌, arith}
-use Rattle.std.specs.Prelude.{option_map, unwrap_or, length, slice_get, ◌==◌}
+use Rattle.std.proofs.Common.{◌≡◌, ℕ, ◌+◌, ◌-◌, ◌≤◌, List, [], ◌∷◌, Option, Some, None, map, refl, ap, ap₂, ◌∙◌, arith}
+use Rattle.std.specs.Prelude.{option_map, unwrap_or, length}
 use Rattle.std.specs.List.{AllByRecursion, enumerate_from}
 use Rattle.std.specs.FinMap as table
 use Rattle.up_canon.specs.Names.{Name}
@@ -13,6 +13,7 @@ use Rattle.up_machine.specs.Rows.{kept_row}
 use Rattle.up_machine.specs.Sound.{IsSound, IsGrounded}
 use Rattle.up_machine.specs.Laws.{IsLater}
 use Rattle.up_machine.proofs.Keeping.{reply_stays}
+use Rattle.up_machine.proofs.Places.{nth-append}
 use Rattle.up_rows.specs.declared.root_row.RootRow.{RootRow}
 use Rattle.up_rows.specs.StateRows.{root_row, kept_rows}
 
@@ -39,19 +40,10 @@ kept_stay k s next name sound later same =
 
 -- ---- root versions
 
-slice_get-append : {A : Type 0} (xs ys : List A) (i : ℕ) → i < length xs → slice_get (xs ++ ys) i ≡ slice_get xs i
-slice_get-append [] ys i h = absurd (omega arith)
-slice_get-append (x ∷ xs) ys zero h = refl
-slice_get-append (x ∷ xs) ys (suc i) h = slice_get-append xs ys i (omega arith)
-
-nth_within : {A : Type 0} (xs ys : List A) (i : ℕ) → i ≤ length xs → nth (xs ++ ys) i ≡ nth xs i
-nth_within xs ys zero h = refl
-nth_within xs ys (suc i) h = ap (cond (suc i == 0) None) (slice_get-append xs ys (suc i - 1) (omega arith))
-
 row_stays : (k : Rules) (s next : State) (n : ℕ) (root : Root) → IsLater s next → n - 1 ≤ length s.roots → root_row k next n root ≡ root_row k s n root
 row_stays k s next n root later h =
     ap (λ (before : Option Root). record { name = numbered_root_name n; keys = root.keys; at = root.at; director = root_text k Director n root before; image = root_text k Image n root before })
-    (ap (λ (rs : List Root). nth rs (n - 1)) later.roots ∙ nth_within s.roots later.more_roots (n - 1) h)
+    (ap (λ (rs : List Root). nth rs (n - 1)) later.roots ∙ nth-append s.roots later.more_roots (n - 1) h)
 
 pub roots_stay : (k : Rules) (s next : State) (n : ℕ) (roots : List Root) → IsLater s next → n + length roots ≤ length s.roots + 1
     → map (λ (r : ℕ × Root). root_row k next r.0 r.1) (enumerate_from n roots) ≡ map (λ (r : ℕ × Root). root_row k s r.0 r.1) (enumerate_from n roots)

@@ -24,7 +24,7 @@ roots_back : (k : Rules) (s : State) (n : ℕ) (roots : List Root) → map root_
 roots_back k s n [] = refl
 roots_back k s n (root ∷ roots) = ap (λ (rs : List Root). root ∷ rs) (roots_back k s (n + 1) roots)
 
-ecus_back : (v : Vehicle) (ecus : List NewEcu) → map ecu_of (map (ecu_row v) ecus) ≡ ecus
+pub ecus_back : (v : Vehicle) (ecus : List NewEcu) → map ecu_of (map (ecu_row v) ecus) ≡ ecus
 ecus_back v [] = refl
 ecus_back v (e ∷ ecus) = ap (λ (es : List NewEcu). e ∷ es) (ecus_back v ecus)
 

@@ -26,7 +26,7 @@ use Rattle.up_rows.proofs.Tables.{get_changed}
 use Rattle.up_rows.proofs.Numbered.{numbered_push}
 use Rattle.up_rows.proofs.Staying.{rows_for}
 
-abbrev by_name : Name → Name → Bool
+abbrev pub by_name : Name → Name → Bool
 by_name = eq_by_cmp (slice_cmp nat_cmp)
 
 -- the two tests of names agree

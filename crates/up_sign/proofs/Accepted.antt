@@ -3,7 +3,7 @@ use Rattle.std.proofs.Common.{◌≡◌, ℕ, ◌+◌, List, [], ◌∷◌, Bool
 use Rattle.std.specs.Prelude.{◌&&◌, ◌||◌, IsTrue, bytes_eq, nat_le, count_by}
 use Rattle.std.specs.List.{list_all, list_any}
 use Rattle.std.specs.Cmp.Lexicographic.{bytes_decides}
-use Rattle.std.proofs.lemmas.Bool.{and_parts}
+use Rattle.std.proofs.lemmas.Bool.{and_parts, or_right}
 use Rattle.std.proofs.lemmas.Bool.Decides.{nat_tests}
 use Rattle.std.proofs.lemmas.List.Sums.{sum_by-cons}
 use Rattle.up_sign.specs.Envelopes.{is_by, is_satisfied, signature_of, sealed}
@@ -12,16 +12,12 @@ use Rattle.up_sign.specs.Laws.{SealedFits, SealedIsAccepted}
 use Rattle.up_sign.specs.Schemes.{Rules, IsScheme}
 use Rattle.up_sign.proofs.Sealed.{sealed_fits, sealed_bytes}
 
-same : (xs : List ℕ) → bytes_eq xs xs ≡ true
-same xs = (bytes_decides xs xs).1 refl
+pub bytes_eq-refl : (xs : List ℕ) → bytes_eq xs xs ≡ true
+bytes_eq-refl xs = (bytes_decides xs xs).1 refl
 
 -- the signature of a secret is its key's
 is_by-own : (k : Rules) → IsScheme k → (t s : List ℕ) → IsTrue (k.secret_fits s) → is_by k t (k.public_of s) (signature_of k t s) ≡ true
-is_by-own k law t s fits = ap₂ (λ a b. a && b) (same (key_id (k.public_of s))) (ap₂ (λ a b. a && b) (same k.method) (law.tag_is_valid s t fits))
-
-either_right : (a b : Bool) → b ≡ true → (a || b) ≡ true
-either_right true b h = refl
-either_right false b h = h
+is_by-own k law t s fits = ap₂ (λ a b. a && b) (bytes_eq-refl (key_id (k.public_of s))) (ap₂ (λ a b. a && b) (bytes_eq-refl k.method) (law.tag_is_valid s t fits))
 
 some_is_by : (k : Rules) → IsScheme k → (t s : List ℕ) → IsTrue (k.secret_fits s) → (signers : List (List ℕ)) → list_any (bytes_eq s) signers ≡ true
     → list_any (is_by k t (k.public_of s)) (map (signature_of k t) signers) ≡ true
@@ -35,7 +31,7 @@ some_is_by k law t s fits (x ∷ signers) h = by_test (bytes_eq s x) refl h (som
         let is : s ≡ x = (bytes_decides s x).0 e in
         let own : is_by k t (k.public_of s) (signature_of k t x) ≡ true = subst (λ (y : List ℕ). is_by k t (k.public_of s) (signature_of k t y) ≡ true) is (is_by-own k law t s fits) in
         ap (λ a. a || list_any (is_by k t (k.public_of s)) (map (signature_of k t) signers)) own
-    by_test false e g go = either_right (is_by k t (k.public_of s) (signature_of k t x)) _ (go g)
+    by_test false e g go = or_right (is_by k t (k.public_of s) (signature_of k t x)) _ (go g)
 
 all_satisfied : (k : Rules) → IsScheme k → (t : List ℕ) (signers secrets : List (List ℕ)) → list_all k.secret_fits secrets ≡ true → list_all (λ s. list_any (bytes_eq s) signers) secrets ≡ true
     → count_by (is_satisfied k (sealed k signers t)) (map k.public_of secrets) ≡ length secrets

@@ -4,9 +4,9 @@ use Rattle.std.specs.Prelude.{◌&&◌, IsTrue, codes}
 use Rattle.std.specs.List.{list_all}
 use Rattle.std.proofs.lemmas.Bool.{and_parts}
 use Rattle.std.proofs.lemmas.List.{length-map}
-use Rattle.std.proofs.lemmas.Bool.Decides.{nat_tests}
 use Rattle.hex.specs.Hex.{lower_digits}
 use Rattle.hex.proofs.HexLemmas.{length-encode_with}
+use Rattle.up_canon.proofs.Members.{within_there}
 use Rattle.up_canon.proofs.Printable.{both, printable-hex}
 use Rattle.up_canon.specs.Names.{is_from_to, is_short_text}
 use Rattle.up_sign.specs.Envelopes.{signature_of, sealed}
@@ -21,13 +21,10 @@ key_id-fits p =
     let size : length (key_id p) ≡ 64 = omega (arith, length-encode_with lower_digits bytes, length-hmac p (codes "uptane-key-id")) in
     both (is_from_to 1 128 (length (key_id p))) _ (ap (is_from_to 1 128) size) (printable-hex bytes (are_bytes-hmac p (codes "uptane-key-id")))
 
-from_to : (n : ℕ) → 1 ≤ n → n ≤ 512 → is_from_to 1 512 n ≡ true
-from_to n low high = grind (arith, nat_tests)
-
 signature_of-fits : (k : Rules) → IsScheme k → (t s : List ℕ) → IsTrue (k.secret_fits s) → signature_fits (signature_of k t s) ≡ true
 signature_of-fits k law t s fits =
     let size = law.tag_length s t fits in
-    both _ _ (key_id-fits (k.public_of s)) (both _ _ law.method (from_to (length (k.tag s t)) size.0 size.1))
+    both _ _ (key_id-fits (k.public_of s)) (both _ _ law.method (within_there 1 512 (length (k.tag s t)) size.0 size.1))
 
 all-fit : (k : Rules) → IsScheme k → (t : List ℕ) (secrets : List (List ℕ)) → IsTrue (list_all k.secret_fits secrets) → list_all signature_fits (map (signature_of k t) secrets) ≡ true
 all-fit k law t [] fits = refl
@@ -41,14 +38,11 @@ all-bytes k law t (s ∷ secrets) fits =
     let parts = and_parts (k.secret_fits s) (list_all k.secret_fits secrets) fits in
     ap₂ (λ x y. x && y) (law.tag_bytes s t parts.0) (all-bytes k law t secrets parts.1)
 
-number-fits : (n : ℕ) → 1 ≤ n → n ≤ 8 → is_from_to 1 8 n ≡ true
-number-fits n low high = grind (arith, nat_tests)
-
 pub sealed_fits : (k : Rules) → IsScheme k → (secrets : List (List ℕ)) (t : List ℕ) → IsTrue (list_all k.secret_fits secrets) → 1 ≤ length secrets → length secrets ≤ 8
     → envelope_fits (sealed k secrets t) ≡ true
 sealed_fits k law secrets t fits low high =
     let size : length (map (signature_of k t) secrets) ≡ length secrets = length-map secrets (signature_of k t) in
-    ap₂ (λ x y. x && y) (ap (is_from_to 1 8) size ∙ number-fits (length secrets) low high) (all-fit k law t secrets fits)
+    ap₂ (λ x y. x && y) (ap (is_from_to 1 8) size ∙ within_there 1 8 (length secrets) low high) (all-fit k law t secrets fits)
 
 pub sealed_bytes : (k : Rules) → IsScheme k → (secrets : List (List ℕ)) (t : List ℕ) → IsTrue (list_all k.secret_fits secrets) → has_bytes (sealed k secrets t) ≡ true
 sealed_bytes k law secrets t fits = all-bytes k law t secrets fits

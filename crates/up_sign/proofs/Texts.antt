@@ -1,9 +1,10 @@
 -- The text of an envelope is read as the same envelope.
-use Rattle.std.proofs.Common.{◌≡◌, ℕ, ◌≤◌, List, [], ◌∷◌, ◌++◌, Bool, true, false, cond, Some, None, length, map, refl, sym, ap, ap₂, ◌∙◌, arith, append_assoc}
+use Rattle.std.proofs.Common.{◌≡◌, ℕ, ◌+◌, ◌≤◌, List, [], ◌∷◌, ◌++◌, true, length, map, refl, sym, ap, ap₂, ◌∙◌, arith, append_assoc}
 use Rattle.std.specs.Prelude.{◌&&◌, codes}
 use Rattle.std.specs.List.{list_all}
 use Rattle.std.proofs.lemmas.Bool.{and_parts}
 use Rattle.std.proofs.lemmas.Bool.Decides.{nat_tests}
+use Rattle.std.proofs.lemmas.Option.{cond_some}
 use Rattle.hex.specs.Hex.{encode_lower, lower_digits}
 use Rattle.hex.proofs.HexLemmas.{length-encode_with, decode_of-encode_lower}
 use Rattle.serde_json.specs.Data.{Data, depth, items_depth}
@@ -91,32 +92,33 @@ signatures_depth : (ss : List Signature) → items_depth (items_of (map signatur
 signatures_depth [] = omega arith
 signatures_depth (s ∷ ss) = omega (arith, signature_depth s, signatures_depth ss)
 
-chosen : {A : Type 0} (b : Bool) (x : A) (t : A) → cond b (Some x) None ≡ Some t → (b ≡ true) × (x ≡ t)
-chosen true x t h = (refl, cc)
-chosen false x t h = cc
-
-value_is_plain : (e : Envelope) (payload : Data) → items_are_plain (items_of (map signature_value e.signatures)) ≡ true → is_plain payload ≡ true → is_plain (envelope_value e payload) ≡ true
-value_is_plain e payload listed plain = rw (listed, plain) refl
-
 regroup : (p l c t b : List ℕ) → (((p ++ l) ++ c) ++ t) ++ b ≡ p ++ (l ++ (c ++ (t ++ b)))
 regroup p l c t b = append_assoc ((p ++ l) ++ c) t b ∙ append_assoc (p ++ l) c (t ++ b) ∙ append_assoc p l (c ++ (t ++ b))
 
-text_is : (e : Envelope) (payload : Data) → text payload ≡ e.signed → envelope_text e ≡ text (envelope_value e payload)
+pub envelope_value-text : (e : Envelope) (payload : Data) → text payload ≡ e.signed → text (envelope_value e payload) ≡ envelope_text e
 unfolding envelope_text
-text_is e payload same =
+envelope_value-text e payload same =
     let listed = text (list_with (map signature_value e.signatures)) in
-    ap (λ (s : List ℕ). (((codes "{\"signatures\":" ++ listed) ++ codes ",\"signed\":") ++ s) ++ codes "}") (sym same)
-    ∙ regroup (codes "{\"signatures\":") listed (codes ",\"signed\":") (text payload) (codes "}")
+    sym (regroup (codes "{\"signatures\":") listed (codes ",\"signed\":") (text payload) (codes "}"))
+    ∙ ap (λ (s : List ℕ). (((codes "{\"signatures\":" ++ listed) ++ codes ",\"signed\":") ++ s) ++ codes "}") same
+
+pub envelope_plain : (e : Envelope) (payload : Data) → envelope_fits e ≡ true → has_bytes e ≡ true → is_plain payload ≡ true → is_plain (envelope_value e payload) ≡ true
+envelope_plain e payload fits bytes plain =
+    let p = and_parts (is_from_to 1 8 (length e.signatures)) _ fits in
+    let listed = signatures_are_plain e.signatures p.1 bytes in
+    rw (listed, plain) refl
+
+pub envelope_depth : (e : Envelope) (payload : Data) (n : ℕ) → depth payload ≤ n → 2 ≤ n → depth (envelope_value e payload) ≤ n + 1
+envelope_depth e payload n h two = omega (arith, signatures_depth e.signatures)
 
 pub texts_are_read : PlainIsRead → TextsAreRead
 texts_are_read plain_is_read place e payload fits bytes signed =
-    let c = chosen (has_canon payload) (text payload) e.signed signed.0 in
+    let c = cond_some (has_canon payload) (text payload) e.signed signed.0 in
     let p = and_parts (is_plain payload) _ c.0 in
     let nested = p.1 in
-    let q = and_parts (is_from_to 1 8 (length e.signatures)) _ fits in
     let shallow : depth payload ≤ 16 = grind (arith, nat_tests) in
-    let few = signatures_depth e.signatures in
+    let few = envelope_depth e payload 16 shallow (omega arith) in
     let whole : depth (envelope_value e payload) ≤ max_depth = omega arith in (
-      ap read (text_is e payload c.1) ∙ plain_is_read (envelope_value e payload) (value_is_plain e payload (signatures_are_plain e.signatures q.1 bytes) p.0) whole,
+      ap read (sym (envelope_value-text e payload c.1)) ∙ plain_is_read (envelope_value e payload) (envelope_plain e payload fits bytes p.0) whole,
       opened_there place (envelope_value e payload) payload e (value_means e payload fits bytes signed),
     )

@@ -4,6 +4,7 @@ use Rattle.std.specs.Prelude.{if◌then◌else◌, ⊤}
 use Rattle.std.specs.List.{AllByRecursion, list_any}
 use Rattle.std.specs.FinMap as table
 use Rattle.std.proofs.lemmas.List.{map-append}
+use Rattle.std.proofs.lemmas.Bool.{or_parts}
 use Rattle.sqlite.specs.Order.{Row}
 use Rattle.sqlite.specs.State.{State as Connected}
 use Rattle.up_canon.specs.Names.{Name}
@@ -11,7 +12,7 @@ use Rattle.up_machine.specs.declared.decision.AcceptedRows.{AcceptedRows}
 use Rattle.up_machine.specs.declared.rows.EcuRow.{EcuRow}
 use Rattle.up_machine.specs.declared.rows.VehicleRows.{VehicleRows}
 use Rattle.up_machine.specs.declared.vehicle.NewEcu.{NewEcu}
-use Rattle.up_machine.proofs.DistinctNames.{Distinct, distinct, or_parts}
+use Rattle.up_machine.proofs.DistinctNames.{Distinct, distinct}
 use Rattle.up_rows.specs.Changes.{with_accepted_rows}
 use Rattle.up_rows.specs.StateRows.{StateRows, ecu_of as inventory_ecu}
 use Rattle.up_tables.specs.declared.ecu.EcuRow.{EcuRow as EcuShown}

@@ -1,18 +1,15 @@
 -- The tables list a campaign that was closed.
 use Rattle.std.proofs.Common.{◌≡◌, ℕ, ℤ, pos, List, [], ◌∷◌, Bool, true, false, cond, if◌then◌else◌, Some, Option, Ok, Err, Result, OnOk, IsTrue, refl, sym, ap, subst, ◌∙◌, bytes_eq}
 use Rattle.std.specs.FinMap as table
-use Rattle.std.specs.Ordering.{nat_cmp, eq_by_cmp, is_eq}
-use Rattle.std.specs.Cmp.{both_ways, tied_itself}
-use Rattle.std.specs.Cmp.Lexicographic.{slice_cmp, bytes_decides}
-use Rattle.std.proofs.lemmas.Cmp.{nat_list_cmp_total}
 use Rattle.sqlite.specs.Order.{Row}
 use Rattle.sqlite.specs.State.{State as Connected}
 use Rattle.up_canon.specs.Names.{Name, Table}
 use Rattle.up_plan.specs.Campaigns.{CampaignData}
-use Rattle.up_machine.proofs.Tables.{one_name, get_new}
+use Rattle.up_machine.proofs.Tables.{get_new}
 use Rattle.up_columns.specs.CampaignColumns.{reach_column, items_column}
 use Rattle.up_rows.specs.StateRows.{StateRows}
 use Rattle.up_rows.specs.Changes.{with_campaign_row}
+use Rattle.up_rows.proofs.Vehicles.{same_test}
 use Rattle.up_tables.specs.declared.values.StoreFault.{StoreFault}
 use Rattle.up_tables.specs.Lines.{campaign_line, yes_or_no}
 use Rattle.up_tables.specs.Rows.{with_only}
@@ -25,13 +22,6 @@ use Rattle.up_store.specs.Typed.{AreTyped, IsTypedCampaign}
 use Rattle.up_tables.proofs.ListedLemmas.{goes_on, lists_campaigns}
 use Rattle.up_store.proofs.Alike.{lists_as, alters_as}
 use Rattle.up_store.proofs.TypedRows.{typed_campaign}
-
-abbrev by_name : Name → Name → Bool
-by_name = eq_by_cmp (slice_cmp nat_cmp)
-
--- the two tests of names agree
-pub same_test : (a b : Name) → by_name b a ≡ bytes_eq a b
-same_test a b = both_ways _ _ (λ h. (bytes_decides a b).1 (sym (one_name b a h))) (λ h. subst (λ x. by_name x a ≡ true) ((bytes_decides a b).0 h) (ap is_eq (tied_itself nat_list_cmp_total a)))
 
 -- what is found after an insertion
 pub got : {X : Type 0} (t : Table X) (name : Name) (x : X) (n : Name) → table.get (table.insert t name x) n ≡ (if bytes_eq name n then Some x else table.get t n)

@@ -22,6 +22,7 @@ use Rattle.up_store.specs.Typed.{IsTypedImage, IsTypedCampaign}
 use Rattle.up_store.proofs.ColumnFound.{image_shown, campaign_shown}
 use Rattle.up_store.proofs.ValuesWhere.{get_where}
 use Rattle.up_store.proofs.WholeTables as whole
+use Rattle.up_machine.proofs.Planned.{if_passes_some}
 
 -- ---- images
 
@@ -82,15 +83,6 @@ AreReaching vehicle rows campaigns t = whole.IsSofar campaign_key campaign_row c
 pub reaching_begun : (vehicle : Name) (campaigns : Table CampaignData) → AreReaching vehicle [] campaigns table.empty
 reaching_begun vehicle campaigns = whole.begun campaign_key campaign_row campaign_lines line_of_campaign refl (λ x. refl) (is_reached vehicle) (running campaigns)
 
--- what passes a test was there
-was_there : {X : Type 0} (test : X → Bool) (o : Option X) (x : X) → if_passes test o ≡ Some x → o ≡ Some x
-was_there test None x h = h
-was_there test (Some y) x h = by_test (test y) h
-  where
-    by_test : (b : Bool) → (if b then Some y else None) ≡ Some x → Some y ≡ Some x
-    by_test true h = h
-    by_test false h = cc
-
 pub reaching_more : (vehicle : Name) (campaigns : Table CampaignData) (rows : List CampaignRow) (i : ℕ) (r : CampaignRow) (t next : Table CampaignData) → i < length rows → r ≡ get_or rows i r → AreRunning rows campaigns
     → ((name : Name) (campaign : CampaignData) → IsTypedCampaign name campaign → IsCampaign r campaign → next ≡ (if reaches vehicle campaign.reach then table.insert t campaign.name campaign else t))
     → AreReaching vehicle (take i rows) campaigns t → AreReaching vehicle (take (i + 1) rows) campaigns next
@@ -98,7 +90,7 @@ reaching_more vehicle campaigns rows i r t next h at are put so =
     let is = whole.row_is campaign_key campaign_row campaign_lines line_of_campaign refl (λ x. refl) (is_reached vehicle) (running campaigns) rows i r h at are.each in
     let same = campaign_shown is.value r is.same in
     whole.more campaign_key campaign_row campaign_lines line_of_campaign refl (λ x. refl) (is_reached vehicle) (running campaigns) rows i r is.value t next h at is.there
-    (put (campaign_key r) is.value (are.typed (campaign_key r) is.value (was_there is_running (table.get campaigns (campaign_key r)) is.value is.there)) same
+    (put (campaign_key r) is.value (are.typed (campaign_key r) is.value (if_passes_some is_running (table.get campaigns (campaign_key r)) is.value is.there)) same
     ∙ ap (λ name. if reaches vehicle is.value.reach then table.insert t name is.value else t) (sym same.name)) so
 
 both_pass : (vehicle : Name) (o : Option CampaignData) → if_passes (is_reached vehicle) (if_passes is_running o) ≡ if_passes (λ c. c.running && reaches vehicle c.reach) o

@@ -19,6 +19,7 @@ use Rattle.up_machine.proofs.Lists.{each_weaker}
 use Rattle.up_machine.proofs.Values.{each_found}
 use Rattle.up_rows.specs.Lookups.{stands_among}
 use Rattle.up_rows.specs.StateRows.{StateRows}
+use Rattle.up_rows.proofs.Vehicles.{same_test}
 use Rattle.up_tables.specs.declared.ecu.EcuRow.{EcuRow as EcuShown}
 use Rattle.up_tables.specs.declared.ecu.Installed.{Installed as InstalledShown}
 use Rattle.up_tables.specs.Ecus.{line, lines, owns}
@@ -32,7 +33,6 @@ use Rattle.up_store.specs.Lines.{ecu_line, ecu_lines, ecus_lines}
 use Rattle.up_store.specs.Listing.{ListsRows}
 use Rattle.up_store.specs.Shown.{ecu_of, installed_of}
 use Rattle.up_store.specs.Typed.{AreTyped}
-use Rattle.up_store.proofs.Closed.{same_test}
 
 -- ---- the ECUs of a vehicle
 

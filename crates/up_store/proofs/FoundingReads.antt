@@ -1,11 +1,13 @@
 -- What is read of the founding: its numbers, and the keys of the last root version.
-use Rattle.std.proofs.Common.{◌≡◌, ◌≤◌, ◌<◌, ◌+◌, ◌-◌, ℕ, suc, pos, List, [], ◌∷◌, ◌++◌, Bool, true, false, cond, ◌&&◌, Option, Some, None, map, filter, length, slice_get, refl, sym, ap, ap₂, subst, ◌∙◌, arith, append-nil, string_bytes, bytes_eq, codes, IsTrue}
+use Rattle.std.proofs.Common.{◌≡◌, ◌≤◌, ◌<◌, ◌+◌, ◌-◌, ℕ, suc, pos, List, [], ◌∷◌, ◌++◌, Bool, true, false, ◌&&◌, Option, Some, None, map, filter, length, slice_get, refl, sym, ap, ap₂, subst, ◌∙◌, arith, append-nil, string_bytes, bytes_eq, codes, IsTrue, append_assoc}
 use Rattle.std.specs.Prelude.{option_map, find, flat_map, ◌==◌}
 use Rattle.std.specs.List.{AllByRecursion, enumerate_from}
 use Rattle.std.specs.Option.{option_or}
 use Rattle.std.specs.Ordering.{is_eq}
 use Rattle.std.proofs.lemmas.Bool.Decides.{nat_tests}
-use Rattle.std.proofs.lemmas.List.{map-append}
+use Rattle.std.proofs.lemmas.List.{map-append, length_push}
+use Rattle.std.proofs.lemmas.List.Elements.{filter-append}
+use Rattle.std.proofs.lemmas.List.Folds.{find-append}
 use Rattle.sqlite.specs.declared.types.Value.TheVariants.{Int, Text, Blob}
 use Rattle.sqlite.specs.Order.{Row, column, value_cmp}
 use Rattle.sqlite.specs.State.{State as Connected}
@@ -18,6 +20,7 @@ use Rattle.up_machine.specs.declared.keys.RoleSecrets.{RoleSecrets}
 use Rattle.up_machine.specs.declared.rows.Founding.{Founding}
 use Rattle.up_rows.specs.declared.root_row.RootRow.{RootRow}
 use Rattle.up_rows.specs.StateRows.{StateRows}
+use Rattle.up_rows.proofs.Files.{or_mapped}
 use Rattle.up_tables.specs.declared.meta.MetaRow.{MetaRow}
 use Rattle.up_tables.specs.declared.role_key.RoleKeyRow.{RoleKeyRow}
 use Rattle.up_tables.specs.Lines.{meta_row}
@@ -79,24 +82,11 @@ none_kept m n (row ∷ rows) low h =
     let test : has_number 0 (pos n) row ≡ false = ap (λ v. is_eq (value_cmp v (Int (pos n)))) h.0.0 ∙ lower_number m n low in
     rw (test, none_kept m n rows low h.1) refl
 
-pub filter_both : {A : Type 0} (test : A → Bool) (xs ys : List A) → filter test (xs ++ ys) ≡ filter test xs ++ filter test ys
-filter_both test [] ys = refl
-filter_both {A} test (x ∷ xs) ys = by_test (test x) (filter_both test xs ys)
-  where
-    by_test : (b : Bool) → filter test (xs ++ ys) ≡ filter test xs ++ filter test ys
-        → cond b (x ∷ filter test (xs ++ ys)) (filter test (xs ++ ys)) ≡ cond b (x ∷ filter test xs) (filter test xs) ++ filter test ys
-    by_test true h = ap (λ (zs : List A). x ∷ zs) h
-    by_test false h = h
-
 none_before : (i n : ℕ) (roots : List RootRow) → i + length roots ≤ n → filter (has_number 0 (pos n)) (flat_map (λ (r : ℕ × RootRow). root_lines r.0 r.1) (enumerate_from i roots)) ≡ []
 none_before i n [] h = refl
 none_before i n (root ∷ roots) h =
-    filter_both (has_number 0 (pos n)) (root_lines i root) (flat_map (λ (r : ℕ × RootRow). root_lines r.0 r.1) (enumerate_from (i + 1) roots))
+    filter-append (has_number 0 (pos n)) (root_lines i root) (flat_map (λ (r : ℕ × RootRow). root_lines r.0 r.1) (enumerate_from (i + 1) roots))
     ∙ ap₂ (λ (a b : List Row). a ++ b) (none_kept i n (root_lines i root) (omega (arith, h)) (lines_of_root i root)) (none_before (i + 1) n roots (omega (arith, h)))
-
-pub assoc : {A : Type 0} (a b c : List A) → (a ++ b) ++ c ≡ a ++ (b ++ c)
-assoc [] b c = refl
-assoc {A} (y ∷ a) b c = ap (λ (zs : List A). y ∷ zs) (assoc a b c)
 
 abbrev numbered_lines : ℕ × RootRow → List Row
 numbered_lines r = root_lines r.0 r.1
@@ -106,7 +96,7 @@ lines_push i [] root = append-nil (root_lines i root) ∙ ap (λ (m : ℕ). root
 lines_push i (x ∷ roots) root =
     let later : i + 1 + length roots ≡ i + suc (length roots) = omega arith in
     ap (λ (zs : List Row). root_lines i x ++ zs) (lines_push (i + 1) roots root ∙ ap (λ (m : ℕ). flat_map numbered_lines (enumerate_from (i + 1) roots) ++ root_lines m root) later)
-    ∙ sym (assoc (root_lines i x) (flat_map numbered_lines (enumerate_from (i + 1) roots)) (root_lines (i + suc (length roots)) root))
+    ∙ sym (append_assoc (root_lines i x) (flat_map numbered_lines (enumerate_from (i + 1) roots)) (root_lines (i + suc (length roots)) root))
 
 -- one more root version has its rows behind the others
 pub roots_push : (roots : List RootRow) (root : RootRow) → roots_lines (roots ++ root ∷ []) ≡ roots_lines roots ++ root_lines (length roots + 1) root
@@ -118,7 +108,7 @@ pub last_lines : (roots : List RootRow) (root : RootRow) → filter (has_number 
 last_lines roots root =
     let n = length roots + 1 in
     ap (filter (has_number 0 (pos n))) (roots_push roots root)
-    ∙ filter_both (has_number 0 (pos n)) (roots_lines roots) (root_lines n root)
+    ∙ filter-append (has_number 0 (pos n)) (roots_lines roots) (root_lines n root)
     ∙ ap₂ (λ (a b : List Row). a ++ b) (none_before 1 n roots (omega arith)) (all_kept n (root_lines n root) (lines_of_root n root))
 
 whole : (m : ℕ) (rows : List Row) → AreOfRoot m rows → map (columns_at role_key_places) rows ≡ rows
@@ -144,24 +134,12 @@ pub record Has (w o : List ℕ) (rows : List RoleKeyRow) (secrets : List (List �
   pub secrets_are : secrets_of w o rows ≡ secrets
   pub threshold_is : threshold_of w o rows ≡ threshold
 
-find_both : {A : Type 0} (test : A → Bool) (xs ys : List A) → find test (xs ++ ys) ≡ option_or (find test xs) (find test ys)
-find_both test [] ys = refl
-find_both test (x ∷ xs) ys = by_test (test x) (find_both test xs ys)
-  where
-    by_test : (b : Bool) → find test (xs ++ ys) ≡ option_or (find test xs) (find test ys) → cond b (Some x) (find test (xs ++ ys)) ≡ option_or (cond b (Some x) (find test xs)) (find test ys)
-    by_test true h = refl
-    by_test false h = h
-
-or_mapped : {A B : Type 0} (f : A → B) (o p : Option A) → option_map f (option_or o p) ≡ option_or (option_map f o) (option_map f p)
-or_mapped f None p = refl
-or_mapped f (Some x) p = refl
-
 has_both : (w o : List ℕ) (xs ys : List RoleKeyRow) (s t : List (List ℕ)) (p q : Option ℕ) → Has w o xs s p → Has w o ys t q → Has w o (xs ++ ys) (s ++ t) (option_or p q)
 has_both w o xs ys s t p q a b = record {
-  secrets_are = ap (map (λ (row : RoleKeyRow). row.secret.items)) (filter_both (is_key_of w o) xs ys)
+  secrets_are = ap (map (λ (row : RoleKeyRow). row.secret.items)) (filter-append (is_key_of w o) xs ys)
       ∙ map-append (λ (row : RoleKeyRow). row.secret.items) (filter (is_key_of w o) xs) (filter (is_key_of w o) ys)
       ∙ ap₂ (λ (c d : List (List ℕ)). c ++ d) a.secrets_are b.secrets_are;
-  threshold_is = ap (option_map (λ (row : RoleKeyRow). row.threshold)) (find_both (is_key_of w o) xs ys)
+  threshold_is = ap (option_map (λ (row : RoleKeyRow). row.threshold)) (find-append (is_key_of w o) xs ys)
       ∙ or_mapped (λ (row : RoleKeyRow). row.threshold) (find (is_key_of w o) xs) (find (is_key_of w o) ys)
       ∙ ap₂ (λ (c d : Option ℕ). option_or c d) a.threshold_is b.threshold_is;
 }
@@ -367,10 +345,6 @@ last_of_all : {A : Type 0} (P : A → Type 0) (xs : List A) (x : A) → AllByRec
 last_of_all P [] x all = all.0
 last_of_all P (y ∷ ys) x all = last_of_all P ys x all.1
 
-pub size_last : {A : Type 0} (xs : List A) (x : A) → length (xs ++ x ∷ []) ≡ length xs + 1
-size_last [] x = refl
-size_last (y ∷ ys) x = let more = size_last ys x in omega (arith, more)
-
 -- of the last root version that is kept: the founding that was read has its keys
 founding_is : (rows : StateRows) (f read : Founding) (found : List RoleKeyRow) (root : RootRow) → root.keys ≡ f.keys → slice_get rows.roots (length rows.roots - 1) ≡ Some root → f.root ≡ length rows.roots
     → AllByRecursion (λ (r : RootRow). EachHasKeys r.keys) rows.roots → map (columns_at role_key_places) (filter (has_number 0 (pos f.root)) (roots_lines rows.roots)) ≡ map role_key_row found
@@ -378,7 +352,7 @@ founding_is : (rows : StateRows) (f read : Founding) (found : List RoleKeyRow) (
 founding_is rows f read found root keys at number typed shows numbers director image =
     let two = split_last rows.roots root at in
     let n = length two.0 + 1 in
-    let size : f.root ≡ n = number ∙ ap length two.1 ∙ size_last two.0 root in
+    let size : f.root ≡ n = number ∙ ap length two.1 ∙ length_push two.0 root in
     let lines : root_lines n root ≡ map role_key_row found =
     sym (whole_root n root) ∙ ap (map (columns_at role_key_places)) (sym (last_lines two.0 root)) ∙ ap (λ (l : List RootRow). map (columns_at role_key_places) (filter (has_number 0 (pos n)) (roots_lines l))) (sym two.1)
     ∙ ap (λ (m : ℕ). map (columns_at role_key_places) (filter (has_number 0 (pos m)) (roots_lines rows.roots))) (sym size) ∙ shows in
@@ -428,7 +402,7 @@ none_founded rows row before none was_open within numbers =
         let number : row.root ≡ f.root = ap (λ (m : MetaRow). m.root) (numbers ∙ ap meta_told same) in
         let root = keyed (slice_get rows.roots (length rows.roots - 1)) f.keys last.1 in
         let two = split_last rows.roots root.0 root.1 in
-        let size : f.root ≡ length two.0 + 1 = last.0 ∙ ap length two.1 ∙ size_last two.0 root.0 in
+        let size : f.root ≡ length two.0 + 1 = last.0 ∙ ap length two.1 ∙ length_push two.0 root.0 in
         let zero : row.root ≡ 0 = grind (arith, none, nat_tests) in
         absurd (omega (arith, zero, number, size))
 

@@ -1,5 +1,5 @@
 -- A loop that makes rows one after another.
-use Rattle.std.proofs.Common.{◌≡◌, ◌+◌, ℕ, zero, suc, List, [], ◌∷◌, ◌++◌, All, Some, map, drop, slice_get, refl, sym, ap, subst, ◌∙◌, arith}
+use Rattle.std.proofs.Common.{◌≡◌, ◌+◌, ℕ, zero, suc, List, [], ◌∷◌, ◌++◌, All, Some, map, drop, slice_get, sym, ap, subst, ◌∙◌, arith, append_assoc}
 use Rattle.std.proofs.lemmas.List.{map-append}
 use Rattle.std.proofs.lemmas.List.Elements.{All-append, All-cons}
 
@@ -10,16 +10,12 @@ dropped {X} (y ∷ ys) (suc i) x h =
     let next : suc i + 1 ≡ suc (i + 1) = omega arith in
     dropped ys i x h ∙ ap (λ (n : ℕ). x ∷ drop n (y ∷ ys)) (sym next)
 
-assoc : {A : Type 0} (a b c : List A) → (a ++ b) ++ c ≡ a ++ (b ++ c)
-assoc [] b c = refl
-assoc {A} (y ∷ a) b c = ap (λ (zs : List A). y ∷ zs) (assoc a b c)
-
 -- one more is made of the next row
 pub next_made : {X Y : Type 0} (f : Y → X) (rows : List X) (made more : List Y) (i : ℕ) (row : X) (y : Y) → rows ≡ map f made ++ drop i rows → slice_get rows i ≡ Some row → f y ≡ row → more ≡ made ++ y ∷ []
     → rows ≡ map f more ++ drop (i + 1) rows
 next_made {X} f rows made more i row y so_far there same is =
     so_far ∙ ap (λ (l : List X). map f made ++ l) (dropped rows i row there ∙ ap (λ (x : X). x ∷ drop (i + 1) rows) (sym same))
-    ∙ sym (assoc (map f made) (f y ∷ []) (drop (i + 1) rows)) ∙ ap (λ (l : List X). l ++ drop (i + 1) rows) (sym (map-append f made (y ∷ []))) ∙ ap (λ l. map f l ++ drop (i + 1) rows) (sym is)
+    ∙ sym (append_assoc (map f made) (f y ∷ []) (drop (i + 1) rows)) ∙ ap (λ (l : List X). l ++ drop (i + 1) rows) (sym (map-append f made (y ∷ []))) ∙ ap (λ l. map f l ++ drop (i + 1) rows) (sym is)
 
 pub all_made : {Y : Type 0} (P : Y → Type 0) (made more : List Y) (y : Y) → All P made → P y → more ≡ made ++ y ∷ [] → All P more
 all_made P made more y so_far new is = subst (All P) (sym is) (All-append P made (y ∷ []) so_far (All-cons P y [] new (λ k d h. absurd (omega (arith, h)))))

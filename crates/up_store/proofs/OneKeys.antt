@@ -1,9 +1,10 @@
 -- The rows of keys tell the keys.
-use Rattle.std.proofs.Common.{◌≡◌, ◌≤◌, ◌<◌, ◌+◌, ℕ, pos, List, [], ◌∷◌, ◌++◌, Bool, true, false, map, filter, length, refl, sym, ap, ap₂, ◌∙◌, arith, append-nil, codes}
+use Rattle.std.proofs.Common.{◌≡◌, ◌≤◌, ◌<◌, ◌+◌, ℕ, pos, List, [], ◌∷◌, ◌++◌, Bool, true, false, map, filter, length, refl, sym, ap, ap₂, ◌∙◌, arith, append-nil, codes, append_assoc}
 use Rattle.std.specs.Prelude.{flat_map}
 use Rattle.std.specs.List.{AllByRecursion, enumerate_from}
 use Rattle.std.specs.Cmp.Lexicographic.{slice_cmp}
 use Rattle.std.specs.Ordering.{is_eq, nat_cmp}
+use Rattle.std.proofs.lemmas.List.Elements.{filter-append}
 use Rattle.sqlite.specs.declared.types.Value.TheVariants.{Int, Text}
 use Rattle.sqlite.specs.Order.{Row, column, value_cmp}
 use Rattle.up_roles.specs.declared.repository.Repository.{Repository}
@@ -15,7 +16,7 @@ use Rattle.up_rows.specs.declared.root_row.RootRow.{RootRow}
 use Rattle.up_tables.specs.Rows.{has_number, has_text}
 use Rattle.up_store.specs.Lines.{repository_word, role_lines, repository_lines, root_lines, roots_lines}
 use Rattle.up_store.specs.Typed.{HasKeys, HaveKeys, EachHasKeys}
-use Rattle.up_store.proofs.FoundingReads.{AreOfRoot, lines_of_root, all_kept, filter_both, assoc, key_line}
+use Rattle.up_store.proofs.FoundingReads.{AreOfRoot, lines_of_root, all_kept, key_line}
 use Rattle.sqlite_value.proofs.OrderLemmas.{value_cmp-Int, value_cmp-Text}
 
 -- ---- parts that a test tells apart
@@ -29,7 +30,7 @@ record Apart (test : Row → Bool) (xs ys : List Row) : Type 0 where
   behind : filter test ys ≡ []
 
 front_of : (test : Row → Bool) (xs ys : List Row) → Apart test xs ys → filter test (xs ++ ys) ≡ xs
-front_of test xs ys h = filter_both test xs ys ∙ ap₂ (λ (a b : List Row). a ++ b) h.front h.behind ∙ append-nil xs
+front_of test xs ys h = filter-append test xs ys ∙ ap₂ (λ (a b : List Row). a ++ b) h.front h.behind ∙ append-nil xs
 
 fronts : (test : Row → Bool) (xs ys us vs : List Row) → Apart test xs ys → Apart test us vs → xs ++ ys ≡ us ++ vs → xs ≡ us
 fronts test xs ys us vs a b h = sym (front_of test xs ys a) ∙ ap (filter test) h ∙ front_of test us vs b
@@ -38,7 +39,7 @@ behinds : (test : Row → Bool) (xs ys us vs : List Row) → Apart test xs ys �
 behinds test xs ys us vs a b h = same_front us ys vs (ap (λ (zs : List Row). zs ++ ys) (sym (fronts test xs ys us vs a b h)) ∙ h)
 
 none_both : (test : Row → Bool) (xs ys : List Row) → filter test xs ≡ [] → filter test ys ≡ [] → filter test (xs ++ ys) ≡ []
-none_both test xs ys h k = filter_both test xs ys ∙ ap₂ (λ (a b : List Row). a ++ b) h k
+none_both test xs ys h k = filter-append test xs ys ∙ ap₂ (λ (a b : List Row). a ++ b) h k
 
 -- ---- a role
 
@@ -92,8 +93,8 @@ behind_root m r keys = role_lines m r (codes "targets") keys.targets ++ (role_li
 
 in_turn : (m : ℕ) (r : Repository) (keys : RepoKeys) → repository_lines m r keys ≡ role_lines m r (codes "root") keys.root ++ behind_root m r keys
 in_turn m r keys =
-    assoc (role_lines m r (codes "root") keys.root ++ role_lines m r (codes "targets") keys.targets) (role_lines m r (codes "snapshot") keys.snapshot) (role_lines m r (codes "timestamp") keys.timestamp)
-    ∙ assoc (role_lines m r (codes "root") keys.root) (role_lines m r (codes "targets") keys.targets) (role_lines m r (codes "snapshot") keys.snapshot ++ role_lines m r (codes "timestamp") keys.timestamp)
+    append_assoc (role_lines m r (codes "root") keys.root ++ role_lines m r (codes "targets") keys.targets) (role_lines m r (codes "snapshot") keys.snapshot) (role_lines m r (codes "timestamp") keys.timestamp)
+    ∙ append_assoc (role_lines m r (codes "root") keys.root) (role_lines m r (codes "targets") keys.targets) (role_lines m r (codes "snapshot") keys.snapshot ++ role_lines m r (codes "timestamp") keys.timestamp)
 
 root_apart : (m : ℕ) (r : Repository) (keys : RepoKeys) → Apart (has_role (codes "root")) (role_lines m r (codes "root") keys.root) (behind_root m r keys)
 root_apart m r keys = record {
@@ -144,9 +145,9 @@ director_passes : (m : ℕ) (keys : RepoKeys) → filter (is_of Director) (repos
 director_passes m keys =
     let t = is_of Director in
     let w = repository_word Director in
-    filter_both t (role_lines m Director (codes "root") keys.root ++ role_lines m Director (codes "targets") keys.targets ++ role_lines m Director (codes "snapshot") keys.snapshot) (role_lines m Director (codes "timestamp") keys.timestamp) ∙ ap₂ (λ (a b : List Row). a ++ b)
-    (filter_both t (role_lines m Director (codes "root") keys.root ++ role_lines m Director (codes "targets") keys.targets) (role_lines m Director (codes "snapshot") keys.snapshot) ∙ ap₂ (λ (a b : List Row). a ++ b)
-    (filter_both t (role_lines m Director (codes "root") keys.root) (role_lines m Director (codes "targets") keys.targets) ∙ ap₂ (λ (a b : List Row). a ++ b) (lines_pass t m keys.root.threshold w (codes "root") (λ _. by_text (codes "director") (codes "director")) 0 keys.root.keys) (lines_pass t m keys.targets.threshold w (codes "targets") (λ _. by_text (codes "director") (codes "director")) 0 keys.targets.keys))
+    filter-append t (role_lines m Director (codes "root") keys.root ++ role_lines m Director (codes "targets") keys.targets ++ role_lines m Director (codes "snapshot") keys.snapshot) (role_lines m Director (codes "timestamp") keys.timestamp) ∙ ap₂ (λ (a b : List Row). a ++ b)
+    (filter-append t (role_lines m Director (codes "root") keys.root ++ role_lines m Director (codes "targets") keys.targets) (role_lines m Director (codes "snapshot") keys.snapshot) ∙ ap₂ (λ (a b : List Row). a ++ b)
+    (filter-append t (role_lines m Director (codes "root") keys.root) (role_lines m Director (codes "targets") keys.targets) ∙ ap₂ (λ (a b : List Row). a ++ b) (lines_pass t m keys.root.threshold w (codes "root") (λ _. by_text (codes "director") (codes "director")) 0 keys.root.keys) (lines_pass t m keys.targets.threshold w (codes "targets") (λ _. by_text (codes "director") (codes "director")) 0 keys.targets.keys))
     (lines_pass t m keys.snapshot.threshold w (codes "snapshot") (λ _. by_text (codes "director") (codes "director")) 0 keys.snapshot.keys))
     (lines_pass t m keys.timestamp.threshold w (codes "timestamp") (λ _. by_text (codes "director") (codes "director")) 0 keys.timestamp.keys)
 

@@ -39,6 +39,7 @@ use Rattle.up_store.specs.Typed.{IsTypedImage, IsTypedCampaign, IsTypedKept}
 use Rattle.up_store.proofs.OneKeys.{one_keys}
 use Rattle.up_store.proofs.RootTexts.{rows_size, same_found, one_texts, one_roots}
 use Rattle.up_store.proofs.WholeTables.{same_table}
+use Rattle.up_store.proofs.ColumnReads.{image_made, campaign_made}
 
 -- ---- columns
 
@@ -59,9 +60,6 @@ one_reach law x y h k same = let e = sym (reach-there law x h) ∙ ap reach_in s
 
 -- ---- an image
 
-abbrev the_image : Name → ℕ → List ℕ → List Name → ℕ → List Need → List Name → ImageData
-the_image file size hash hardware release needs conflicts = record { file = file; length = size; sha256 = hash; hardware = hardware; release = release; needs = needs; conflicts = conflicts }
-
 one_image : CanonIsRead → (n : Name) (i j : ImageData) → IsTypedImage n i → IsTypedImage n j → image_lines (Some i) ≡ image_lines (Some j) → i ≡ j
 one_image law n i j ti tj h =
     let file : i.file ≡ j.file = cc in
@@ -74,7 +72,7 @@ one_image law n i j ti tj h =
     let hardware : i.hardware ≡ j.hardware = one_names law i.hardware j.hardware ti.hardware tj.hardware hardware_text in
     let needs : i.needs ≡ j.needs = one_needs law i.needs j.needs ti.needs tj.needs needs_text in
     let conflicts : i.conflicts ≡ j.conflicts = one_files law i.conflicts j.conflicts ti.conflicts tj.conflicts conflicts_text in
-    let same : the_image i.file i.length i.sha256 i.hardware i.release i.needs i.conflicts ≡ the_image j.file j.length j.sha256 j.hardware j.release j.needs j.conflicts =
+    let same : image_made i.file i.length i.sha256 i.hardware i.release i.needs i.conflicts ≡ image_made j.file j.length j.sha256 j.hardware j.release j.needs j.conflicts =
     rw (file, size, hash, hardware, release, needs, conflicts) refl in
     same
 
@@ -92,9 +90,6 @@ one_flag true false h = absurd (cc)
 one_flag false true h = absurd (cc)
 one_flag false false h = refl
 
-abbrev the_campaign : Name → Reach → List Item → Bool → CampaignData
-the_campaign name reach items running = record { name = name; reach = reach; items = items; running = running }
-
 one_campaign : CanonIsRead → (n : Name) (c d : CampaignData) → IsTypedCampaign n c → IsTypedCampaign n d → campaign_lines (Some c) ≡ campaign_lines (Some d) → c ≡ d
 one_campaign law n c d tc td h =
     let name : c.name ≡ d.name = cc in
@@ -104,7 +99,7 @@ one_campaign law n c d tc td h =
     let reach : c.reach ≡ d.reach = one_reach law c.reach d.reach tc.reach td.reach reach_text in
     let items : c.items ≡ d.items = one_items law c.items d.items tc.items td.items items_text in
     let running : c.running ≡ d.running = one_flag c.running d.running flag in
-    let same : the_campaign c.name c.reach c.items c.running ≡ the_campaign d.name d.reach d.items d.running = rw (name, reach, items, running) refl in
+    let same : campaign_made c.name c.reach c.items c.running ≡ campaign_made d.name d.reach d.items d.running = rw (name, reach, items, running) refl in
     same
 
 one_campaign_or_none : CanonIsRead → (n : Name) (a b : Option CampaignData) → ((c : CampaignData) → a ≡ Some c → IsTypedCampaign n c) → ((c : CampaignData) → b ≡ Some c → IsTypedCampaign n c) → campaign_lines a ≡ campaign_lines b → a ≡ b

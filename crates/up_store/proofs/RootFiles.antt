@@ -4,7 +4,7 @@ use Rattle.std.specs.Prelude.{if◌then◌else◌, option_map, find}
 use Rattle.std.specs.List.{enumerate_from}
 use Rattle.std.specs.Option.{option_or}
 use Rattle.std.specs.Cmp.Lexicographic.{bytes_decides}
-use Rattle.std.proofs.lemmas.List.{map-append}
+use Rattle.std.proofs.lemmas.List.{map-append, length_push}
 use Rattle.sqlite.specs.Order.{Row}
 use Rattle.sqlite.specs.State.{State as Connected}
 use Rattle.up_canon.specs.Names.{Name}
@@ -12,10 +12,12 @@ use Rattle.up_roles.specs.declared.repository.Repository.{Repository}
 use Rattle.up_roles.specs.declared.repository.Repository.TheVariants.{Director, Image}
 use Rattle.up_machine.specs.declared.decision.RootRows.{RootRows}
 use Rattle.up_machine.specs.Files.{numbered_root_name}
+use Rattle.up_machine.proofs.Places.{slice_get-last}
 use Rattle.up_rows.specs.declared.root_row.RootRow.{RootRow}
 use Rattle.up_rows.specs.Changes.{new_root, with_root_rows}
 use Rattle.up_rows.specs.Lookups.{text_in, row_named, other_text, text_held}
 use Rattle.up_rows.specs.StateRows.{StateRows}
+use Rattle.up_rows.proofs.Files.{or_none}
 use Rattle.up_tables.specs.declared.values.StoreFault.{StoreFault}
 use Rattle.up_tables.specs.Listed.{TableRows, ListsTables}
 use Rattle.up_tables.specs.Stands.{IsWithin, GoesOn, ListsAll}
@@ -25,7 +27,7 @@ use Rattle.up_store.specs.Lines.{file_row, file_line, file_lines, set_lines, roo
 use Rattle.up_store.specs.Listing.{ListsRows, AreNumbered, files_lines, table_rows}
 use Rattle.up_store.specs.Puts.{with_founding, with_keys, HasFilesOnce, with_files}
 use Rattle.up_store.proofs.Alike.{pairs_as}
-use Rattle.up_store.proofs.FoundingReads.{roots_push, size_last}
+use Rattle.up_store.proofs.FoundingReads.{roots_push}
 use Rattle.up_store.proofs.RootPuts.{none_named, numbers_apart, role_files_set, files_once, set_once, within_goes, tables_within}
 use Rattle.up_store.proofs.TypedRows.{typed_root}
 
@@ -33,14 +35,10 @@ abbrev body_of : Repository → RootRows → List ℕ
 body_of Director new = new.director
 body_of Image new = new.image
 
-slice_end : {A : Type 0} (xs : List A) (x : A) → slice_get (xs ++ x ∷ []) (length xs) ≡ Some x
-slice_end [] x = refl
-slice_end (y ∷ ys) x = slice_end ys x
-
 pub slice_last : {A : Type 0} (xs : List A) (x : A) → slice_get (xs ++ x ∷ []) (length (xs ++ x ∷ []) - 1) ≡ Some x
 slice_last xs x =
-    let before : length (xs ++ x ∷ []) - 1 ≡ length xs = (let e = size_last xs x in omega (arith, e)) in
-    ap (slice_get (xs ++ x ∷ [])) before ∙ slice_end xs x
+    let before : length (xs ++ x ∷ []) - 1 ≡ length xs = (let e = length_push xs x in omega (arith, e)) in
+    ap (slice_get (xs ++ x ∷ [])) before ∙ slice_get-last xs x
 
 find_push : {A : Type 0} (test : A → Bool) (xs : List A) (x : A) → find test (xs ++ x ∷ []) ≡ option_or (find test xs) (cond (test x) (Some x) None)
 find_push test [] x = refl
@@ -50,10 +48,6 @@ find_push test (y ∷ ys) x = by_test (test y) (find_push test ys x)
         → cond b (Some y) (find test (ys ++ x ∷ [])) ≡ option_or (cond b (Some y) (find test ys)) (cond (test x) (Some x) None)
     by_test true h = refl
     by_test false h = h
-
-or_none : {A : Type 0} (o : Option A) → option_or o None ≡ o
-or_none None = refl
-or_none (Some x) = refl
 
 -- the rows with one more root version, but with the other files that were there
 abbrev mid_rows : StateRows → RootRows → StateRows
@@ -179,7 +173,7 @@ puts_root (Ok x) new s0 s1 s2 s3 s4 small p1 p2 p3 p4 was_open = λ rows within 
         schema_is = g4.here.schema_is;
         sound = g4.here.sound;
         rows = record {
-          last = (number ∙ sym (size_last rows.roots (new_root new)), ap (option_map (λ (r : RootRow). r.keys)) (slice_last rows.roots (new_root new)));
+          last = (number ∙ sym (length_push rows.roots (new_root new)), ap (option_map (λ (r : RootRow). r.keys)) (slice_last rows.roots (new_root new)));
           numbered = next_numbered rows new number small here.rows.numbered;
           typed = typed_root rows new here.rows.typed fits.keys;
           tables = record {

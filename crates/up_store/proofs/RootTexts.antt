@@ -15,6 +15,7 @@ use Rattle.up_machine.specs.State.{Root, State, root_at}
 use Rattle.up_rows.specs.declared.root_row.RootRow.{RootRow}
 use Rattle.up_rows.specs.Lookups.{text_in, row_named, text_held}
 use Rattle.up_rows.specs.StateRows.{StateRows, root_row}
+use Rattle.up_rows.proofs.Files.{or_none}
 use Rattle.up_store.specs.Lines.{file_lines}
 use Rattle.up_store.proofs.RootMoments.{text_tells}
 use Rattle.up_store.proofs.RootPuts.{Numbered, numbers_apart}
@@ -33,13 +34,9 @@ not_latest number = go (bytes_eq (codes "root.json") (numbered_root_name number)
         let size : 9 ≡ length (numbered_root_name number) = ap length ((bytes_decides (codes "root.json") (numbered_root_name number)).0 is) in
         absurd (omega (arith, size, length-append (decimal number) (codes ".root.json")))
 
-nothing_more : {A : Type 0} (o : Option A) → option_or o None ≡ o
-nothing_more None = refl
-nothing_more (Some x) = refl
-
 held_is : (rows : StateRows) (number : ℕ) → text_held rows Director (numbered_root_name number) ≡ found number rows.roots
 held_is rows number =
-    nothing_more (option_map (text_in Director) (row_named (numbered_root_name number) rows.roots))
+    or_none (option_map (text_in Director) (row_named (numbered_root_name number) rows.roots))
     ∙ ap (λ b. option_map (text_in Director) (option_or (if b then slice_get rows.roots (length rows.roots - 1) else None) (find (λ (r : RootRow). bytes_eq r.name (numbered_root_name number)) rows.roots))) (not_latest number)
 
 one_text : (name : Name) (a b : Option (List ℕ)) → file_lines Director name a ≡ file_lines Director name b → a ≡ b

@@ -1,5 +1,5 @@
 -- Rows stay typed where typed ones are written.
-use Rattle.std.proofs.Common.{◌≡◌, List, [], ◌∷◌, ◌++◌, Bool, true, false, subst, refl}
+use Rattle.std.proofs.Common.{◌≡◌, [], ◌∷◌, ◌++◌, Bool, true, false, subst, refl}
 use Rattle.std.specs.Prelude.{if◌then◌else◌, bytes_eq}
 use Rattle.std.specs.List.{AllByRecursion}
 use Rattle.std.specs.Cmp.Lexicographic.{bytes_decides}
@@ -11,22 +11,17 @@ use Rattle.up_machine.specs.declared.decision.RegisterRows.{RegisterRows}
 use Rattle.up_machine.specs.declared.decision.RootRows.{RootRows}
 use Rattle.up_machine.specs.declared.rows.VehicleRows.{VehicleRows}
 use Rattle.up_machine.proofs.Tables.{get_after-insert}
+use Rattle.up_machine.proofs.Lists.{each_one_more}
 use Rattle.up_rows.specs.declared.root_row.RootRow.{RootRow}
 use Rattle.up_rows.specs.Changes.{new_root, with_root_rows, with_register_rows, with_image_rows, with_vehicle_rows, with_campaign_row, with_accepted_rows}
 use Rattle.up_rows.specs.StateRows.{StateRows}
 use Rattle.up_store.specs.Typed.{AreTyped, EachHasKeys, IsTypedCampaign, IsTypedImage, IsTypedVehicle, IsTypedKept}
 
--- ---- one more item at the end
-
-pub all_push : {A : Type 0} (P : A → Type 0) (xs : List A) (x : A) → AllByRecursion P xs → P x → AllByRecursion P (xs ++ x ∷ [])
-all_push P [] x all new = (new, tt)
-all_push P (y ∷ ys) x all new = (all.0, all_push P ys x all.1 new)
-
 -- ---- writes
 
 pub typed_root : (rows : StateRows) (new : RootRows) → AreTyped rows → EachHasKeys new.founding.keys → AreTyped (with_root_rows rows new)
 typed_root rows new typed keys = record {
-  roots = all_push (λ (root : RootRow). EachHasKeys root.keys) rows.roots (new_root new) typed.roots keys;
+  roots = each_one_more (λ (root : RootRow). EachHasKeys root.keys) rows.roots (new_root new) typed.roots keys;
   images = typed.images;
   campaigns = typed.campaigns;
   vehicles = typed.vehicles;
@@ -73,5 +68,5 @@ typed_accepted rows new typed is = record {
 }
   where
     by_test : (name : Name) (b : Bool) → bytes_eq new.kept.vehicle name ≡ b → AllByRecursion (IsTypedKept name) (if b then rows.kept name ++ new.kept ∷ [] else rows.kept name)
-    by_test name true same = all_push (IsTypedKept name) (rows.kept name) new.kept (typed.kept name) (subst (λ n. IsTypedKept n new.kept) ((bytes_decides new.kept.vehicle name).0 same) is)
+    by_test name true same = each_one_more (IsTypedKept name) (rows.kept name) new.kept (typed.kept name) (subst (λ n. IsTypedKept n new.kept) ((bytes_decides new.kept.vehicle name).0 same) is)
     by_test name false same = typed.kept name

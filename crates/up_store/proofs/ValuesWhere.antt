@@ -16,7 +16,7 @@ use Rattle.up_store.specs.Found.{values_where}
 abbrev names : Name → Name → Ordering
 names = slice_cmp nat_cmp
 
-from_T : (b : Bool) → T b → b ≡ true
+pub from_T : (b : Bool) → T b → b ≡ true
 from_T true h = refl
 from_T false h = absurd h
 

@@ -3,10 +3,11 @@ use Rattle.std.specs.Prelude.{⊤, MatchBool}
 use Rattle.up_canon.specs.Refusals.{is_memory}
 use Rattle.sqlite.specs.Held.{state}
 use Rattle.up_canon.specs.Steps.{and_then}
+use Rattle.up_canon.proofs.Steps.{bind-ok}
 use Rattle.up_manifest.specs.Manifests.{incoming_in}
 use Rattle.up_machine.specs.Decisions.{decide_incoming}
 use Rattle.up_desk.specs.Serving.{Serves}
-use Rattle.up_desk.proofs.Serving.{went_on, stopped_or_lost}
+use Rattle.up_desk.proofs.Serving.{stopped_or_lost}
 use Rattle.up_desk.proofs.Steps.{refused, reads_none}
 use Rattle.up_desk.proofs.deliveries.deliver.Goals as goal
 
@@ -14,7 +15,7 @@ pub returns-in-Ok-clause-serves : goal.returns-in-Ok-clause-serves
 returns-in-Ok-clause-serves g c = λ s sound was.
     let k = g.K.Scheme.rules c.args.scheme.now in
     subst (λ o. Serves k s (state g.D.Store c.args.store.now) (state g.D.Store c.receive.new.store) c.receive.result o)
-    (sym (went_on (incoming_in c.args.body.now) (decide_incoming k s c.args.at) c.in-Ok.incoming (sym (ap incoming_in c.as_slice.ensures) ∙ c.in-Ok.ensures.value))) (c.receive.ensures s sound was)
+    (sym (bind-ok (incoming_in c.args.body.now) (decide_incoming k s c.args.at) c.in-Ok.incoming (sym (ap incoming_in c.as_slice.ensures) ∙ c.in-Ok.ensures.value))) (c.receive.ensures s sound was)
 
 pub returns-in-Err-clause-serves : goal.returns-in-Err-clause-serves
 returns-in-Err-clause-serves g c = λ s sound was.
