@@ -11,9 +11,10 @@ returns c =
     let hardware = c.in-Some-name_before.hardware.now in
     let behind = c.in-Some-name_before.behind.now in
     let is = c.in_ok-pair_value.ensures in
-    let plain = pair-plain file hardware c.in-Some.ensures.1 c.in-Some-name_before.ensures.1 in
-    (ap is_plain is ∙ plain.plain,
-    subst (λ d. depth d ≤ 1) (sym is) plain.shallow,
-    ap (λ t. codes "{\"file\":\"" ++ t) (c.in-Some.ensures.0 ∙ ap (λ m. file ++ (codes "\",\"hardware\":\"" ++ m)) c.in-Some-name_before.ensures.0)
-    ∙ pair-text file hardware behind c.in-Some.ensures.1 c.in-Some-name_before.ensures.1
-    ∙ sym (ap (λ d. text d ++ behind) is))
+    let plain = pair-plain file hardware c.in-Some.ensures.1 c.in-Some-name_before.ensures.1 in (
+      ap is_plain is ∙ plain.plain,
+      subst (λ d. depth d ≤ 1) (sym is) plain.shallow,
+      ap (λ t. codes "{\"file\":\"" ++ t) (c.in-Some.ensures.0 ∙ ap (λ m. file ++ (codes "\",\"hardware\":\"" ++ m)) c.in-Some-name_before.ensures.0)
+          ∙ pair-text file hardware behind c.in-Some.ensures.1 c.in-Some-name_before.ensures.1
+          ∙ sym (ap (λ d. text d ++ behind) is),
+    )
