@@ -9,11 +9,11 @@ ghost use Rattle.up_plan.specs.declared.campaign.Item.{Item as ItemData};
 ghost use Rattle.up_plan.specs.declared.campaign.Reach.{Reach as ReachData};
 
 use crate::lists::{ToValue, column_text, list_value, read_items};
+use crate::values::column_value;
 use serde_json::{Value, json};
 use std::alloc::{AllocError, Global};
 use up_canon::canonical_laws;
 use up_canon::each::{Reading, each_of};
-use up_canon::json_text::value_within;
 use up_canon::kinds::{list_of, object_of};
 use up_canon::listed::Listed;
 use up_canon::name_readings::IdentReading;
@@ -105,8 +105,7 @@ pub fn read_reach(alloc: Global, column: &str) -> Result<Reach, Refusal>
 fn reach_in_column(alloc: Global, column: &str) -> Result<Reach, Refusal>
     ensures { Gives result (reach_in column.now) }
 {
-    let bytes = column.as_bytes();
-    let value = value_within(alloc, bytes, bytes.len())?;
+    let value = column_value(alloc, column)?;
     reach_of(alloc, &value, "vehicles")
 }
 

@@ -7,10 +7,10 @@ ghost use Rattle.up_canon.specs.Canon.{has_canon, text};
 ghost use Rattle.up_canon.specs.Refusals.{Gives};
 ghost use Rattle.up_columns.specs.Columns.{items_in};
 
+use crate::values::column_value;
 use serde_json::Value;
 use std::alloc::{AllocError, Global};
 use up_canon::each::{Reading, each_of};
-use up_canon::json_text::value_within;
 use up_canon::kinds::list_of;
 use up_canon::listed::Listed;
 use up_canon::refusal::Refusal;
@@ -61,7 +61,6 @@ pub(crate) fn read_items<R: Reading>(
 ) -> Result<Listed<R::Item>, Refusal>
     ensures { Gives result (items_in R.meaning name.now column.now) }
 {
-    let bytes = column.as_bytes();
-    let value = value_within(alloc, bytes, bytes.len())?;
+    let value = column_value(alloc, column)?;
     each_of::<R>(alloc, list_of(&value, name)?.as_slice(), name)
 }

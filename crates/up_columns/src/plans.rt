@@ -9,13 +9,13 @@ ghost use Rattle.up_columns.specs.Typed.{is_typed_cause, is_typed_plan};
 ghost use Rattle.up_plan.specs.declared.assigned.Plan.{Plan as PlanData};
 
 use crate::lists::{ToValue, column_text, list_value};
+use crate::values::column_value;
 use serde_json::{Map, Value, json};
 use std::alloc::{AllocError, Global};
 use up_canon::canonical_laws;
 use up_canon::each::{Reading, each_of};
 use up_canon::fields::{find, list_at, member_at};
 use up_canon::ident::Ident;
-use up_canon::json_text::value_within;
 use up_canon::kinds::object_of;
 use up_canon::listed::Listed;
 use up_canon::readers::{file_name_at, ident_at, ident_of};
@@ -100,8 +100,7 @@ pub fn read_plan(alloc: Global, column: &str) -> Result<Plan, Refusal>
 fn plan_in_column(alloc: Global, column: &str) -> Result<Plan, Refusal>
     ensures { Gives result (plan_in column.now) }
 {
-    let bytes = column.as_bytes();
-    let value = value_within(alloc, bytes, bytes.len())?;
+    let value = column_value(alloc, column)?;
     plan_at(alloc, &value)
 }
 

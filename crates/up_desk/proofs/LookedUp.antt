@@ -1,9 +1,10 @@
 -- Images that are looked up one after another.
 use Rattle.std.proofs.Common.{◌≡◌, List, [], ◌∷◌, ◌++◌, Bool, true, false, cond, Option, Some, None, map, refl, sym, ap, ◌∙◌, subst}
-use Rattle.std.specs.Prelude.{◌&&◌, filter, flat_map}
+use Rattle.std.specs.Prelude.{◌&&◌, filter, flat_map, is_some}
 use Rattle.std.specs.List.{AllByRecursion}
 use Rattle.std.specs.FinMap as table
-use Rattle.std.specs.FinMap.{get-empty}
+use Rattle.std.specs.FinMap.{get-empty, same_map, nat_cmp-IsAntisymmetric, slice_cmp-IsAntisymmetric}
+use Rattle.std.proofs.lemmas.Cmp.{nat_list_cmp_total}
 use Rattle.std.specs.Ordering.{nat_cmp, eq_by_cmp}
 use Rattle.std.specs.Cmp.Lexicographic.{slice_cmp}
 use Rattle.up_canon.specs.Names.{Name, Table}
@@ -19,17 +20,21 @@ use Rattle.up_machine.proofs.Lists.{each_weaker}
 use Rattle.up_machine.specs.State.{State}
 use Rattle.up_machine.specs.Sound.{IsSound}
 use Rattle.up_machine.proofs.Tables.{get_new, get_same, get_after-insert, one_name}
-use Rattle.up_desk.specs.Gathered.{with_image_found, with_found, gathered, item_files, campaign_files, report_files}
-
--- each of these images is registered
-abbrev IsPart : Table ImageData → Table ImageData → Type 0
-IsPart registered images = (file : Name) (image : ImageData) → table.get images file ≡ Some image → table.get registered file ≡ Some image
+use Rattle.up_desk.specs.Gathered.{IsPart, with_image_found, with_found, gathered, item_files, campaign_files, report_files}
 
 -- at this filename there is what is registered
 abbrev Has : Table ImageData → Table ImageData → Name → Type 0
 Has registered images file = table.get images file ≡ table.get registered file
 
 -- ---- one more
+
+-- what is there is put in again
+put_again : (images : Table ImageData) (file : Name) (image : ImageData) → table.get images file ≡ Some image → table.insert images file image ≡ images
+put_again images file image is = same_map nat_list_cmp_total (slice_cmp-IsAntisymmetric nat_cmp-IsAntisymmetric) _ _ (λ q. get_new images file q image ∙ by_test q (eq_by_cmp (slice_cmp nat_cmp) q file) refl)
+  where
+    by_test : (q : Name) (b : Bool) → eq_by_cmp (slice_cmp nat_cmp) q file ≡ b → cond b (Some image) (table.get images q) ≡ table.get images q
+    by_test q true same = sym is ∙ ap (table.get images) (sym (one_name q file same))
+    by_test q false same = refl
 
 part_found : (registered images : Table ImageData) (file : Name) (o : Option ImageData) → table.get registered file ≡ o → IsPart registered images → IsPart registered (with_image_found images file o)
 part_found registered images file None is part = part
@@ -52,9 +57,17 @@ has_stays registered images file other (Some new) is has = get_new images file o
     by_test true same = sym is ∙ ap (table.get registered) (sym (one_name other file same))
     by_test false same = has
 
+-- nothing changes where one is there
+pub found_before : (registered images : Table ImageData) (file : Name) → IsPart registered images → table.contains_key images file ≡ true → images ≡ with_found registered images file
+found_before registered images file part there = by_option (table.get images file) refl
+  where
+    by_option : (o : Option ImageData) → table.get images file ≡ o → images ≡ with_found registered images file
+    by_option None is = absurd (let e : is_some (table.get images file) ≡ true = there in cc)
+    by_option (Some image) is = sym (put_again images file image is) ∙ ap (with_image_found images file) (sym (part file image is))
+
 -- ---- all
 
-part_gathered : (registered : Table ImageData) (files : List Name) (images : Table ImageData) → IsPart registered images → IsPart registered (gathered registered files images)
+pub part_gathered : (registered : Table ImageData) (files : List Name) (images : Table ImageData) → IsPart registered images → IsPart registered (gathered registered files images)
 part_gathered registered [] images part = part
 part_gathered registered (file ∷ files) images part = part_gathered registered files (with_found registered images file) (part_found registered images file (table.get registered file) refl part)
 
@@ -71,7 +84,7 @@ all_gathered registered (file ∷ files) images part =
       all_gathered registered files more (part_found registered images file (table.get registered file) refl part),
     )
 
-none_part : (registered : Table ImageData) → IsPart registered table.empty
+pub none_part : (registered : Table ImageData) → IsPart registered table.empty
 none_part registered file image found = absurd (let e = sym (get-empty (slice_cmp nat_cmp) file) ∙ found in cc)
 
 -- ---- the lists of files

@@ -1,5 +1,5 @@
 -- Images that are looked up one after another, by the files that name them.
-use Rattle.std.specs.Prelude.{List, [], ◌∷◌, Option, None, Some, map, flat_map}
+use Rattle.std.specs.Prelude.{◌≡◌, List, [], ◌∷◌, Option, None, Some, map, flat_map}
 use Rattle.std.specs.FinMap as table
 use Rattle.up_canon.specs.Names.{Name, Table}
 use Rattle.up_manifest.specs.declared.report.SignedReport.{SignedReport}
@@ -15,6 +15,10 @@ with_image_found images file (Some image) = table.insert images file image
 -- what is registered under this filename, among the others
 abbrev pub with_found : Table ImageData → Table ImageData → Name → Table ImageData
 with_found registered images file = with_image_found images file (table.get registered file)
+
+-- each of these images is registered
+abbrev pub IsPart : Table ImageData → Table ImageData → Type 0
+IsPart registered images = (file : Name) (image : ImageData) → table.get images file ≡ Some image → table.get registered file ≡ Some image
 
 -- what is registered under each of these filenames, among the others
 abbrev pub gathered : Table ImageData → List Name → Table ImageData → Table ImageData

@@ -8,7 +8,7 @@ ghost use Rattle.up_machine.specs.State.{State};
 ghost use Rattle.up_store.specs.Connections.{KeepsState};
 ghost use Rattle.up_tables.specs.Stands.{IfClean};
 ghost use Rattle.up_desk.specs.Serving.{Reads};
-ghost use Rattle.up_desk.specs.Gathered.{with_found, gathered, item_files, campaign_files, report_files};
+ghost use Rattle.up_desk.specs.Gathered.{IsPart, with_found, gathered, item_files, campaign_files, report_files};
 
 use sqlite::Alter;
 use std::alloc::{AllocError, Global};
@@ -66,7 +66,7 @@ fn add_campaigns<D: Alter>(
     campaigns: &[Campaign],
 ) -> Result<(), StoreFault>
     ensures told { HasCleanDisk (state D.Store store.new) → OnOk result ((k : Rules) (s : State) → IfClean (KeepsState k s) (state D.Store store.old)
-        → images.new ≡ gathered s.images (campaign_files campaigns.now) images.old) }
+        → IsPart s.images images.old → images.new ≡ gathered s.images (campaign_files campaigns.now) images.old) }
     ensures reads { Reads (state D.Store store.old) (state D.Store store.new) }
 {
     for campaign in campaigns {
@@ -85,7 +85,7 @@ fn add_items<D: Alter>(
     items: &[Item],
 ) -> Result<(), StoreFault>
     ensures told { HasCleanDisk (state D.Store store.new) → OnOk result ((k : Rules) (s : State) → IfClean (KeepsState k s) (state D.Store store.old)
-        → images.new ≡ gathered s.images (item_files items.now) images.old) }
+        → IsPart s.images images.old → images.new ≡ gathered s.images (item_files items.now) images.old) }
     ensures reads { Reads (state D.Store store.old) (state D.Store store.new) }
 {
     for item in items {
@@ -104,7 +104,7 @@ fn add_reports<D: Alter>(
     reports: &[SignedReport],
 ) -> Result<(), StoreFault>
     ensures told { HasCleanDisk (state D.Store store.new) → OnOk result ((k : Rules) (s : State) → IfClean (KeepsState k s) (state D.Store store.old)
-        → images.new ≡ gathered s.images (report_files reports.now) images.old) }
+        → IsPart s.images images.old → images.new ≡ gathered s.images (report_files reports.now) images.old) }
     ensures reads { Reads (state D.Store store.old) (state D.Store store.new) }
 {
     for report in reports {
@@ -116,7 +116,7 @@ fn add_reports<D: Alter>(
     Ok(())
 }
 
-/// Puts the image of this filename among the others, where one is registered.
+/// Puts the image of this filename among the others, where one is registered. One that is there is not read again.
 fn add_file<D: Alter>(
     store: &mut Store<D>,
     alloc: Global,
@@ -124,9 +124,12 @@ fn add_file<D: Alter>(
     file: &FileName,
 ) -> Result<(), StoreFault>
     ensures told { HasCleanDisk (state D.Store store.new) → OnOk result ((k : Rules) (s : State) → IfClean (KeepsState k s) (state D.Store store.old)
-        → images.new ≡ with_found s.images images.old file.now) }
+        → IsPart s.images images.old → images.new ≡ with_found s.images images.old file.now) }
     ensures reads { Reads (state D.Store store.old) (state D.Store store.new) }
 {
+    if images.contains(file.text()) {
+        return Ok(());
+    }
     match store.image(alloc, file) {
         Ok(Some(image)) => put_image(alloc, images, file, image),
         Ok(None) => Ok(()),

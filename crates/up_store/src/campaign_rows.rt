@@ -23,9 +23,16 @@ use up_tables::campaign::CampaignRow;
 pub fn read_campaign(alloc: Global, shown: &CampaignRow) -> Result<Campaign, StoreFault>
     ensures { IfOk result (λ read. (name : Name) (campaign : CampaignData) → IsTypedCampaign name campaign → IsCampaign shown.now campaign → read ≡ campaign) }
 {
+    let reach = read_its_reach(alloc, shown)?;
+    read_reached(alloc, shown, reach)
+}
+
+/// The same, once the reach was read.
+fn read_reached(alloc: Global, shown: &CampaignRow, reach: Reach) -> Result<Campaign, StoreFault>
+    ensures { IfOk result (λ read. (name : Name) (campaign : CampaignData) → IsTypedCampaign name campaign → IsCampaign shown.now campaign → reach ≡ campaign.reach → read ≡ campaign) }
+{
     let text = shown.name.as_str().to_string(alloc)?;
     let name = ident_in(text)?;
-    let reach = read_column(read_reach(alloc, shown.reach.as_str()))?;
     let items = read_column(read_campaign_items(alloc, shown.items.as_str()))?;
     match Campaign::new(name, reach, items.into_vec()) {
         Ok(mut campaign) => {
@@ -65,19 +72,20 @@ fn add_reaching(
     if !reaches(&reach, vehicle) {
         return Ok(());
     }
-    put_campaign_in(reaching, alloc, shown)
+    put_reached(reaching, alloc, shown, reach)
 }
 
-/// Reads a row as it stands in the table, and puts the campaign under its name.
-fn put_campaign_in(
+/// Reads the rest of a row as it stands in the table, and puts the campaign under its name.
+fn put_reached(
     reaching: &mut Table<Campaign>,
     alloc: Global,
     shown: &CampaignRow,
+    reach: Reach,
 ) -> Result<(), StoreFault>
-    ensures { OnOk result ((name : Name) (campaign : CampaignData) → IsTypedCampaign name campaign → IsCampaign shown.now campaign
+    ensures { OnOk result ((name : Name) (campaign : CampaignData) → IsTypedCampaign name campaign → IsCampaign shown.now campaign → reach ≡ campaign.reach
         → reaching.new ≡ table.insert reaching.old campaign.name campaign) }
 {
-    let campaign = read_campaign(alloc, shown)?;
+    let campaign = read_reached(alloc, shown, reach)?;
     let name = name_of(alloc, campaign.name.text())?;
     reaching.insert(name, campaign)?;
     Ok(())

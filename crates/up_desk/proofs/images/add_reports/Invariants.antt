@@ -5,13 +5,13 @@ use Rattle.up_sign.specs.Schemes.{Rules}
 use Rattle.up_machine.specs.State.{State}
 use Rattle.up_store.specs.Connections.{KeepsState}
 use Rattle.up_tables.specs.Stands.{IfClean}
-use Rattle.up_desk.specs.Gathered.{gathered, report_files}
+use Rattle.up_desk.specs.Gathered.{IsPart, gathered, report_files}
 use Rattle.up_desk.specs.Serving.{Reads}
 use Rattle.up_desk.proofs.images.add_reports.Given as goal
 
 -- the images of the files so far
 abbrev pub invariant-loop-report : goal.invariant-loop-report
 invariant-loop-report g l = record {
-  found : HasCleanDisk (state g.D.Store l.store) → (k : Rules) (s : State) → IfClean (KeepsState k s) (state g.D.Store l.fn.store) → l.images ≡ gathered s.images (report_files (take l.report-index l.reports)) l.fn.images;
+  found : HasCleanDisk (state g.D.Store l.store) → (k : Rules) (s : State) → IfClean (KeepsState k s) (state g.D.Store l.fn.store) → IsPart s.images l.fn.images → l.images ≡ gathered s.images (report_files (take l.report-index l.reports)) l.fn.images;
   reads : Reads (state g.D.Store l.fn.store) (state g.D.Store l.store);
 }
