@@ -29,7 +29,7 @@ use Rattle.up_machine.specs.Inventory.{decide_vehicle, decide_open, decide_close
 use Rattle.up_machine.specs.Deliveries.{Received, receive_manifest, receive, decide_received, decide_delivery}
 use Rattle.up_machine.specs.Decisions.{resolve, decide_incoming}
 use Rattle.up_machine.specs.Machine.{decide, outcome_of, step}
-use Rattle.up_machine.specs.Repeats.{Repeat, repeat_in, repeat_of, served_as, serve}
+use Rattle.up_machine.specs.Repeats.{KeptEntry, repeat_in, repeat_of, served_as, serve}
 use Rattle.up_machine.specs.Sound.{IsSound}
 use Rattle.up_machine.specs.RepeatLaws.{ServedStaysSound}
 use Rattle.up_machine.proofs.Fetched.{in_time}
@@ -93,16 +93,16 @@ by_key r computed is same = subst (λ q. MatchBool (is_lost_by q) ⊤ (computed 
 
 -- ---- repeats
 
-abbrev chosen : Rules → State → Option Repeat → Result Outcome Refusal → Outcome
+abbrev chosen : Rules → State → Option KeptEntry → Result Outcome Refusal → Outcome
 chosen k s None decided = outcome_of s decided
 chosen k s (Some r) decided = record { answer = Replied (reply_to k s r.vehicle r.number r.entry); next = s }
 
-chosen_is : (k : Rules) (s : State) (at : ℕ) (c : Command) (o : Option Repeat) → served_as k s at c o ≡ chosen k s o (decide k s at c)
+chosen_is : (k : Rules) (s : State) (at : ℕ) (c : Command) (o : Option KeptEntry) → served_as k s at c o ≡ chosen k s o (decide k s at c)
 unfolding step
 chosen_is k s at c None = refl
 chosen_is k s at c (Some r) = refl
 
-resolved : (k : Rules) (s : State) (at : ℕ) (d : Received) (o : Option Repeat) → chosen k s o (decide_received k s at d) ≡ outcome_of s (resolve k s at d o)
+resolved : (k : Rules) (s : State) (at : ℕ) (d : Received) (o : Option KeptEntry) → chosen k s o (decide_received k s at d) ≡ outcome_of s (resolve k s at d o)
 resolved k s at d None = refl
 resolved k s at d (Some r) = refl
 
