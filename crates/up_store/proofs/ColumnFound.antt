@@ -116,9 +116,18 @@ one_image image h = cc
 
 abbrev pub images : NamedRows ImageData ImageRow
 images = record {
-  listed = image_table; places = image_places; row_of = image_row; lines = image_lines; values = λ rows. rows.images; IsRow = IsImage; IsTyped = IsTypedImage;
-  lists = λ rows trees lists. lists.tables.images; typed = λ rows trees lists. lists.typed.images;
-  blank = no_image; filled = one_image; row_is = image_shown;
+  listed = image_table;
+  places = image_places;
+  row_of = image_row;
+  lines = image_lines;
+  values = λ rows. rows.images;
+  IsRow = IsImage;
+  IsTyped = IsTypedImage;
+  lists = λ rows trees lists. lists.tables.images;
+  typed = λ rows trees lists. lists.typed.images;
+  blank = no_image;
+  filled = one_image;
+  row_is = image_shown;
 }
 
 same_yes : (a b : Bool) → yes_or_no a ≡ yes_or_no b → a ≡ b
@@ -138,9 +147,18 @@ one_campaign campaign h = cc
 
 abbrev pub campaigns : NamedRows CampaignData CampaignRow
 campaigns = record {
-  listed = campaign_table; places = campaign_places; row_of = campaign_row; lines = campaign_lines; values = λ rows. rows.campaigns; IsRow = IsCampaign; IsTyped = IsTypedCampaign;
-  lists = λ rows trees lists. lists.tables.campaigns; typed = λ rows trees lists. lists.typed.campaigns;
-  blank = no_campaign; filled = one_campaign; row_is = campaign_shown;
+  listed = campaign_table;
+  places = campaign_places;
+  row_of = campaign_row;
+  lines = campaign_lines;
+  values = λ rows. rows.campaigns;
+  IsRow = IsCampaign;
+  IsTyped = IsTypedCampaign;
+  lists = λ rows trees lists. lists.tables.campaigns;
+  typed = λ rows trees lists. lists.typed.campaigns;
+  blank = no_campaign;
+  filled = one_campaign;
+  row_is = campaign_shown;
 }
 
 -- ---- tables read whole

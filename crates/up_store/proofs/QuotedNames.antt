@@ -1,6 +1,6 @@
 -- In the column of a reach, the quoted name of each vehicle stands as it is.
-use Rattle.std.proofs.Common.{◌≡◌, ℕ, ◌≤◌, List, [], ◌∷◌, ◌++◌, Bool, true, false, length, drop, map, inl, inr, refl, sym, ap, ◌∙◌, arith, append_assoc, length-append, get_or}
-use Rattle.std.specs.Prelude.{◌≢◌, bytes_eq}
+use Rattle.std.proofs.Common.{◌≡◌, ℕ, ◌≤◌, List, [], ◌∷◌, ◌++◌, true, false, length, drop, map, inl, inr, refl, sym, ap, ◌∙◌, arith, append_assoc, length-append, get_or}
+use Rattle.std.specs.Prelude.{bytes_eq}
 use Rattle.std.specs.Cmp.Lexicographic.{bytes_decides}
 use Rattle.std.specs.List.{list_any}
 use Rattle.std.specs.Str.Pattern.{LacksTextAt}
