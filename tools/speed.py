@@ -11,6 +11,7 @@
     speed.py PROGRAM sums           instructions of a start and of a manifest over files with and without sums of pages
     speed.py PROGRAM http           requests a second over a file, beside the same by script, and instructions
     speed.py PROGRAM head           instructions for a head of 16,384 bytes in one piece and a byte at a time
+    speed.py PROGRAM bodies         instructions a byte to refuse bodies of 64 KiB and of 256 KiB, by their shape
 
 Instructions are those that valgrind's callgrind counts, and compressions the calls of SHA-256's function in its file. Other parts
 need no valgrind. A number behind `growth_counts`, `start` or `sums` is the greatest number of kept replies, for a quick trial.
@@ -374,7 +375,44 @@ def head(program, own):
         print("| %s | %d |" % (name, collected(err)), flush=True)
 
 
-PARTS = (fleets, functions, commands, lines, growth, growth_counts, start, sums, http, head)
+def repeated(size, front, item, between, end):
+    """A text of nearly that size: the front, an item for each number with something between, the end."""
+    count = (size - len(front + end)) // len(item(0) + between)
+    return front + between.join(item(at) for at in range(count)) + end
+
+
+def shapes(size):
+    """Bodies of nearly that size that are read to their end: envelopes whose signed member is long, and longer ones."""
+    begins, ends = '{"signatures":[{"keyid":"k","method":"m","sig":"aa"}],"signed":{', "}}"
+    members = (size - len(begins + ends)) // 13
+    yield "members in order", repeated(size, begins, lambda at: '"m%06d":0' % at, ",", ends)
+    yield "members in reverse", repeated(size, begins, lambda at: '"m%06d":0' % (members - at), ",", ends)
+    yield "one member repeated", repeated(size, begins, lambda at: '"m":0', ",", ends)
+    yield "`signed` repeated", repeated(size, begins[:-10], lambda at: '"signed":{"m":0}', ",", "}")
+    yield "a list of numbers", repeated(size, begins + '"m":[', lambda at: "%06d" % (100_000 + at % 800_000), ",", "]" + ends)
+    yield "a list of objects", repeated(size, begins + '"m":[', lambda at: '{"m":0}', ",", "]" + ends)
+    yield "lists of lists", repeated(size, begins + '"m":[', lambda at: 8 * "[" + 8 * "]", ",", "]" + ends)
+    yield "escapes", repeated(size, begins + '"m":"', lambda at: "\\u0041", "", '"' + ends)
+    yield "a long text", repeated(size, begins + '"m":"', lambda at: "a", "", '"' + ends)
+    yield "a long name", repeated(size, begins + '"', lambda at: "a", "", '":0' + ends)
+    yield "open brackets", size * "["
+    yield "a number of many digits", size * "1"
+
+
+def bodies(program, own):
+    path = own / "bodies"
+    trials.printed(program, path, prepared(1, 1, 1))
+    none = instructions(program, trials.copied(path, own / "none"), [])
+    sizes = [dict(shapes(size)) for size in (65_536, 262_144)]
+    for name in sizes[0]:
+        taken = []
+        for texts in sizes:
+            body = texts[name].encode("ascii")
+            taken.append((instructions(program, trials.copied(path, own / "some"), posts([body])) - none) // len(body))
+        print("| %s | %d | %d |" % (name, *taken), flush=True)
+
+
+PARTS = (fleets, functions, commands, lines, growth, growth_counts, start, sums, http, head, bodies)
 
 
 def main(program, part, *most):
