@@ -5,8 +5,9 @@
 
 The file is its owner's alone; a second program is refused and the first goes on; the log is copied at the end.
 Three hundred bits of a file at rest are flipped, one at a time: each is answered by status 3 or by unchanged answers.
-The program is killed (SIGKILL) at KILLS moments (100) of a fleet's day, and the day is repeated over what is
-left: what was printed is kept.
+The program is killed (SIGKILL) once so many lines of a fleet's day are printed, at KILLS moments (100), each over
+a new file, and the day is repeated over what is left: it is answered as by the rules after the lines that were
+carried out. A minute is given for it, in which at least a quarter of the moments must come.
 """
 import json
 import os
@@ -24,12 +25,15 @@ from contextlib import closing
 sys.dont_write_bytecode = True
 
 import fleet
+import reference
 import trials
 
 DAY = list(fleet.script(vehicles=5, ecus=3, rounds=3, images=6, campaigns=2, seed=4))
 SHOWS = [fleet.line("show", vehicle="v%06d" % number) for number in range(5)]
 FILES = [line for line in DAY if '"do":"fetch"' in line]
 BITS = 300
+MINUTE = 60
+MEMORY = "/dev/shm"
 
 
 def mode(path):
@@ -152,64 +156,104 @@ def operated(program, own):
 # ---- kills
 
 
-def killed(program, path, script, after, pause):
-    """The lines printed until the program is killed, so many answers and seconds after its start."""
+def killed_day():
+    """A fleet's day with two refreshes, two rotations and two campaigns that are closed, between its manifests."""
+    day = list(fleet.script(vehicles=8, ecus=3, rounds=3, images=6, campaigns=2, seed=4))
+    sent = [at for at, line in enumerate(day) if '"do":"bench"' in line]
+    for number in (2, 1):
+        more = [fleet.line("refresh", version=100 * number), fleet.line("rotate", **fleet.key_set(32 * number))]
+        more.append(fleet.line("close_campaign", campaign="c%04d" % (number - 1)))
+        place = sent[number * len(sent) // 3]
+        day[place:place] = more
+    return day
+
+
+class Days:
+    """The day by the rules: its answers, the tables after each number of lines, and what its repeat answers and leaves then."""
+
+    def __init__(self, day):
+        self.day, self.again = day, {}
+        with closing(sqlite3.connect(":memory:")) as db:
+            desk = reference.Desk(db)
+            self.tables, self.dumps, self.answers = [trials.rows_in(db)], [list(db.iterdump())], []
+            for line in day:
+                self.answers.append(desk.answer(line))
+                self.tables.append(trials.rows_in(db))
+                self.dumps.append(list(db.iterdump()))
+
+    def repeated(self, done):
+        """The answers to the whole day after so many of its lines, and the tables that it leaves."""
+        if done not in self.again:
+            with closing(sqlite3.connect(":memory:")) as db:
+                db.executescript("\n".join(self.dumps[done]))
+                desk = reference.Desk(db)
+                self.again[done] = [desk.answer(line) for line in self.day], trials.rows_in(db)
+        return self.again[done]
+
+
+def killed(program, path, script, after):
+    """The lines printed by a program that is killed as soon as so many of them came."""
     with tempfile.TemporaryFile() as given:
         given.write("".join(line + "\n" for line in script).encode())
         given.seek(0)
         with subprocess.Popen([str(program), "run", str(path)], stdin=given, stdout=subprocess.PIPE) as it:
             told = b"".join(it.stdout.readline() for _ in range(after))
-            time.sleep(pause)
             os.kill(it.pid, signal.SIGKILL)
             told += it.stdout.read()
     return told.decode("ascii").split("\n")[:-1]
 
 
-def is_repeat(line, first, again):
-    """Whether a line that was answered before the kill is answered so when it comes again."""
-    if '"do":"found"' in line:
-        return again == "refused 9 AlreadyFounded"
-    if first == "done":
-        return again == "already"
-    return again == first
+def left(path):
+    """The rows that a kill left; none where it came before there were tables."""
+    try:
+        return trials.rows(path)
+    except (OSError, sqlite3.Error):
+        return None
 
 
-def is_due(line, first, again):
-    """The same for a line without an answer: it was carried out, or it is now."""
-    return again == first or is_repeat(line, first, again)
+def is_kept(line, first, again):
+    """Whether a line that was answered before the kill is answered by what was kept; of other lines the rules alone tell."""
+    do = json.loads(line)["do"]
+    if do in ("bench", "found"):
+        return again == ("refused 9 AlreadyFounded" if do == "found" else first)
+    return do not in ("add_vehicle", "add_image") or again == "already"
 
 
-def repeated(program, path, told, answers):
-    """Whether the day, repeated over what a kill left, is answered as it has to be, and ends as it had to."""
-    again = trials.printed(program, path, DAY)
-    if again is None or told != answers[: len(told)]:
+def survives(program, path, told, days):
+    """Whether what a kill left is the lines printed and at most the next one, and the whole day is then answered by the rules."""
+    rows, number = left(path), len(told)
+    if rows is None:
+        done = [0] if number == 0 else []
+    else:
+        done = [at for at in (number, number + 1) if at < len(days.tables) and days.tables[at] == rows]
+    if told != days.answers[:number] or not done or (rows is not None and trials.faults(path)):
         return False
-    kept = all(map(is_repeat, DAY[: len(told)], told, again))
-    rest = all(map(is_due, DAY[len(told) :], answers[len(told) :], again[len(told) :]))
-    return kept and rest and len(again) == len(DAY)
+    again = trials.printed(program, path, days.day)
+    if again is None or not all(map(is_kept, days.day, told, again)):
+        return False
+    return (again, trials.rows(path)) in [days.repeated(at) for at in done] and trials.faults(path) == []
 
 
-def kills(program, own, number):
-    answers = trials.expected(own / "whole", DAY)
-    wanted, rng, stopped = trials.rows(own / "whole"), random.Random(2), 0
-    for at in range(number):
-        path = own / ("killed%d" % at)
-        told = killed(program, path, DAY, at * len(DAY) // number, rng.random() * 0.002)
-        stopped += len(told) < len(DAY)
-        # a kill before the first answer can leave a file of which only the program makes a database
-        whole = not told or trials.faults(path) == []
-        well = whole and repeated(program, path, told, answers) and trials.rows(path) == wanted
-        if not well or trials.faults(path):
-            yield "killed after %d answers" % len(told), False
-    yield "%d kills, %d of them before the end" % (number, stopped), stopped > number // 2
+def kills(program, number):
+    days, moments, begun, stopped, tried = Days(killed_day()), list(range(number)), time.monotonic(), 0, 0
+    random.Random(2).shuffle(moments)
+    for at in moments:
+        if time.monotonic() - begun > MINUTE:
+            break
+        after = at * len(days.day) // number
+        with trials.folder(MEMORY if os.access(MEMORY, os.W_OK) else None) as own:
+            told = killed(program, own / "killed", days.day, after)
+            stopped, tried = stopped + (len(told) < len(days.day)), tried + 1
+            if not survives(program, own / "killed", told, days):
+                yield "killed after %d answers" % len(told), False
+    yield "%d kills, %d of them before the end" % (tried, stopped), stopped > tried // 2 and tried >= number // 4
 
 
 def cases(program, number=100):
     for part in (modes, seconds, rests, operated, flipped):
         with trials.folder() as own:
             yield from part(program, own)
-    with trials.folder() as own:
-        yield from kills(program, own, number)
+    yield from kills(program, number)
 
 
 if __name__ == "__main__":

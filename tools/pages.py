@@ -1,7 +1,8 @@
 #!/usr/bin/env python3
 """What the pages name is there: links, headings, files, contracts, calls, tests, refused edits, rows, and the texts of the
 Primary's page. Tests are functions, or sections of the rows that a crate or a tool carries out, named by their words. And each
-public call of the program's libraries is named by the page of proofs.
+public call of the program's libraries is named by the page of proofs, each refusal and each message of the program by the page
+for operators.
 
     pages.py        tells what isn't there
 """
@@ -113,9 +114,34 @@ def primary():
         yield "docs/PRIMARY.md shows " + name, text.strip() in page
 
 
+def part(page, heading):
+    """What stands under a heading of a page of `docs/`, up to the next."""
+    return (TOP / "docs" / page).read_text(encoding="utf-8").split("\n## %s\n" % heading)[1].split("\n## ")[0]
+
+
+def refusals():
+    """Whether the pages on formats and on operating list the refusals, by number and name, as the code has them, and no other."""
+    code = (TOP / "crates" / "up_canon" / "src" / "refusal.rt").read_text(encoding="utf-8")
+    named = re.findall(r"^    (\w+)[(,]", code.split("pub enum Refusal {\n")[1].split("\n}")[0], re.MULTILINE)
+    wanted = ["%d `%s`" % it for it in enumerate(named, 1)]
+    for page, heading in (("FORMATS.md", "Refusals"), ("OPERATING.md", "What refusals ask of you")):
+        listed = re.findall(r"^\| (\d.*?) \|", part(page, heading), re.MULTILINE)
+        for name in [it for it in wanted if it not in listed] + [it for it in listed if it not in wanted]:
+            yield "docs/%s: the refusal %s" % (page, name), False
+        yield "docs/%s: the refusals" % page, listed == wanted
+
+
+def messages():
+    """Whether the page for operators says what to do at each message of the program, as its own page lists them."""
+    told = re.findall(r"`([^`]+)`", part("OPERATING.md", "What the exit statuses ask of you"))
+    listed = part("PROGRAM.md", "Exit statuses and messages")
+    for name in re.findall(r"`uptane_desk: (cannot .*?)`", listed) + re.findall(r"^\| `(.*?)` \|", listed, re.MULTILINE):
+        yield "docs/OPERATING.md: the message %s" % name, name in told
+
+
 def cases():
     """Each of the names that lead nowhere, and what the pages show."""
-    found = [*links(), *files(), *promises(), *calls()]
+    found = [*links(), *files(), *promises(), *calls(), *refusals(), *messages()]
     yield "%d links and names of the pages" % len(found), all(well for _, well in found)
     yield from ((name, well) for name, well in found if not well)
     yield from primary()

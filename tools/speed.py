@@ -1,26 +1,36 @@
 #!/usr/bin/env python3
 """Measures the program: instructions a line, lines a second, and what a start takes. `docs/SPEED.md` has the figures.
 
-    speed.py PROGRAM fleets       instructions a line, by callgrind, of scripts of three fleets; needs valgrind
-    speed.py PROGRAM functions    the five functions that take most of them, in the fleet of `fleets` that is first
-    speed.py PROGRAM commands     instructions of a line of each kind, by callgrind; needs valgrind
-    speed.py PROGRAM lines        lines a second over a file, as a ratio to the same script over memory
-    speed.py PROGRAM growth       how a manifest's time grows with kept replies, images, campaigns and vehicles
-    speed.py PROGRAM start        processor seconds and memory of a start over files of so many kept replies
-    speed.py PROGRAM http         requests a second over a file, beside the same by script, and instructions; needs valgrind
-    speed.py PROGRAM head         instructions for a head of 16,384 bytes in one piece and a byte at a time; needs valgrind
+    speed.py PROGRAM fleets         instructions and compressions of SHA-256 a line, of scripts of four fleets
+    speed.py PROGRAM functions      the five functions that take most of them, in the fleet of `fleets` that is first
+    speed.py PROGRAM commands       instructions and compressions of SHA-256 of a line of each kind
+    speed.py PROGRAM lines          lines a second over a file, as a ratio to the same script over memory
+    speed.py PROGRAM growth         how a manifest's time grows with kept replies, images, campaigns and vehicles
+    speed.py PROGRAM growth_counts  the same in instructions, over files
+    speed.py PROGRAM start          processor seconds and memory of a start over files of so many kept replies
+    speed.py PROGRAM sums           instructions of a start and of a manifest over files with and without sums of pages
+    speed.py PROGRAM http           requests a second over a file, beside the same by script, and instructions
+    speed.py PROGRAM head           instructions for a head of 16,384 bytes in one piece and a byte at a time
+    speed.py PROGRAM bodies         instructions a byte to refuse bodies of 64 KiB and of 256 KiB, by their shape
+
+Instructions are those that valgrind's callgrind counts, and compressions the calls of SHA-256's function in its file. Other parts
+need no valgrind. A number behind `growth_counts`, `start` or `sums` is the greatest number of kept replies, for a quick trial.
+Files are made where `TMPDIR` says.
 """
 import os
 import re
+import sqlite3
 import subprocess
 import sys
 import threading
 import time
+from contextlib import closing
 
 sys.dont_write_bytecode = True
 
 import fleet
 import http_cases
+import page_sums
 import trials
 
 FLEETS = {
@@ -29,22 +39,54 @@ FLEETS = {
     "1,000 of 1 ECU": {"vehicles": 1000, "ecus": 1, "rounds": 2},
     "10 of 32 ECUs": {"vehicles": 10, "ecus": 32},
 }
+COMPRESS = "block256::compress"
+MOST = 100_000
 
 
-def counted(program, script, own, told):
-    """The instructions that a script takes over memory; `told` is the file that callgrind writes."""
+def callgrind(told, *more):
+    """The words before a program's that have callgrind count it and write the file `told`."""
+    return ["valgrind", "--tool=callgrind", "--callgrind-out-file=%s" % told, *more]
+
+
+def collected(err):
+    """The instructions that callgrind's message tells."""
+    return int(re.search(rb"Collected : (\d+)", err)[1])
+
+
+def counted(program, script, own, told, path=":memory:"):
+    """The instructions that a script takes over a database; `told` is the file that callgrind writes."""
     given = own / "script"
     given.write_text("".join(line + "\n" for line in script), encoding="ascii")
-    words = ["valgrind", "--tool=callgrind", "--callgrind-out-file=%s" % told, str(program), "run", ":memory:"]
     with open(given, "rb") as lines:
+        words = [*callgrind(told), str(program), "run", str(path)]
         ran = subprocess.run(words, stdin=lines, capture_output=True, check=True)
-    return int(re.search(rb"Collected : (\d+)", ran.stderr)[1])
+    return collected(ran.stderr)
+
+
+def compressions(told):
+    """How often the function that hashes a block of 64 bytes was called, by callgrind's file."""
+    names, number, called = {}, 0, None
+    with open(told, encoding="utf-8", errors="replace") as lines:
+        for line in lines:
+            named = re.match(r"(c?)fn=\((\d+)\)(?: (.*))?$", line)
+            if named:
+                names.setdefault(named[2], named[3])
+                called = names[named[2]] if named[1] else called
+            elif line.startswith("calls=") and called and called.endswith(COMPRESS):
+                number += int(line[6:].split(" ")[0])
+    return number
+
+
+def hashed(program, script, own):
+    """The instructions that a script takes over memory, and the compressions among them."""
+    return counted(program, script, own, own / "told"), compressions(own / "told")
 
 
 def fleets(program, own):
     for name, words in FLEETS.items():
         script = list(fleet.script(**words))
-        print("| %s | %d | %d |" % (name, len(script), counted(program, script, own, own / "told") // len(script)))
+        taken, blocks = hashed(program, script, own)
+        print("| %s | %d | %d | %d |" % (name, len(script), taken // len(script), blocks // len(script)), flush=True)
 
 
 def functions(program, own):
@@ -86,8 +128,9 @@ def commands(program, own):
     for name, before, lines in kinds_of_lines():
         answers = trials.printed(program, ":memory:", before + lines)
         assert answers is not None and not any(answer.startswith(("refused", "already")) for answer in answers)
-        more = counted(program, before + lines, own, own / "told") - counted(program, before, own, own / "told")
-        print("| %s | %d |" % (name, more // len(lines)), flush=True)
+        whole, begun = hashed(program, before + lines, own), hashed(program, before, own)
+        taken, blocks = ((after - first) // len(lines) for after, first in zip(whole, begun))
+        print("| %s | %d | %d |" % (name, taken, blocks), flush=True)
 
 
 def seconds(program, path, script):
@@ -175,6 +218,47 @@ def growth(program, _):
         print("| %s | %.0f |" % (name, cost(program, list(prepared(*words)), told)), flush=True)
 
 
+def alone(program, path, script):
+    """The instructions that a line takes behind a start over a file, which callgrind leaves out."""
+    told = path.parent / "told"
+    words = [*callgrind(told, "--instr-atstart=no"), str(program), "run", str(path)]
+    with subprocess.Popen(words, stdin=subprocess.PIPE, stdout=subprocess.PIPE, stderr=subprocess.PIPE) as it:
+        asked(it, [fleet.line("show", vehicle="v000000")])
+        subprocess.run(["callgrind_control", "-i", "on", str(it.pid)], capture_output=True, check=True)
+        answers = asked(it, script)
+        subprocess.run(["callgrind_control", "-i", "off", str(it.pid)], capture_output=True, check=True)
+        it.stdin.close()
+        taken = collected(it.stderr.read())
+    assert all(answer.startswith(b"reply ") for answer in answers)
+    return taken // len(script)
+
+
+def kept_replies(program, path, there, kept, ecus=1):
+    """Adds manifests of 100 vehicles to a file that has so many of them, until it has so many."""
+    while there < kept:
+        more = min(kept - there, 90_000)
+        assert trials.printed(program, path, manifests(100, more, 1 + there // 100, ecus), 3600) is not None
+        there += more
+    return there
+
+
+def growth_counts(program, own, most=MOST):
+    path, there, lines = own / "kept", 0, 100
+    trials.printed(program, path, prepared(100, 10, 10))
+    for kept in [it for it in (1000, 10_000, 100_000) if it <= most]:
+        there = kept_replies(program, path, there, kept)
+        fresh, again = (list(manifests(100, lines, 1 + at // 100)) for at in (kept, kept - lines))
+        print("| %d kept replies | %d |" % (kept, alone(program, trials.copied(path, own / "next"), fresh)), flush=True)
+        print("| %d kept replies, a repeat | %d |" % (kept, alone(program, trials.copied(path, own / "same"), again)), flush=True)
+    others = {"10 images, 10 campaigns, 100 vehicles": (100, 10, 10), "1,000 images": (100, 1000, 10),
+              "1,000 campaigns": (100, 10, 1000), "10,000 vehicles": (10_000, 10, 10)}
+    for name, words in others.items():
+        path = own / name
+        trials.printed(program, path, prepared(*words))
+        kept_replies(program, path, 0, lines)
+        print("| %s | %d |" % (name, alone(program, path, list(manifests(100, lines, 2)))), flush=True)
+
+
 def used(words, given=subprocess.DEVNULL):
     """The processor seconds that a program takes, and its peak memory in MB."""
     it = subprocess.Popen(words, stdin=given, stdout=subprocess.DEVNULL)
@@ -183,18 +267,38 @@ def used(words, given=subprocess.DEVNULL):
     return usage.ru_utime + usage.ru_stime, usage.ru_maxrss >> 10
 
 
-def start(program, own):
+def start(program, own, most=MOST):
     for ecus in (1, 4):
         path, there = own / ("kept of %d" % ecus), 0
         trials.printed(program, path, prepared(100, 10, 10, ecus))
-        for kept in (1000, 10_000, 100_000):
-            while there < kept:
-                more = min(kept - there, 90_000)
-                assert trials.printed(program, path, manifests(100, more, 1 + there // 100, ecus), 3600) is not None
-                there += more
+        for kept in [it for it in (1000, 10_000, 100_000) if it <= most]:
+            there = kept_replies(program, path, there, kept, ecus)
             took, memory = used([program, "run", str(path)])
             words = kept, ecus, os.stat(path).st_size >> 20, took, memory
             print("| %d of %d | %d MB | %.2f | %d MB |" % words, flush=True)
+
+
+def with_and_without(path, own):
+    """The same rows, in files that SQLite packs alike: one with sums of pages and one without."""
+    with_sums, without = own / "with", own / "without"
+    with closing(sqlite3.connect(path)) as db:
+        db.execute("VACUUM INTO ?", (str(with_sums),))
+    with trials.read(path) as db, closing(sqlite3.connect(without)) as made:
+        made.executescript("\n".join(db.iterdump()))
+    assert page_sums.main(with_sums) == 0
+    assert [page_sums.has_sums(it.read_bytes()) for it in (with_sums, without)] == [True, False]
+    return with_sums, without
+
+
+def sums(program, own, most=10_000):
+    path, lines = own / "kept", 100
+    trials.printed(program, path, prepared(100, 10, 10))
+    kept = kept_replies(program, path, 0, most)
+    files = with_and_without(path, own)
+    script = list(manifests(100, lines, 1 + kept // 100))
+    begun = [counted(program, [], own, own / "told", trials.copied(it, own / "empty")) for it in files]
+    print("| a start over %d kept replies | %d | %d |" % (kept, *begun), flush=True)
+    print("| a manifest of one ECU | %d | %d |" % tuple(alone(program, it, script) for it in files))
 
 
 # ---- HTTP
@@ -236,12 +340,11 @@ def rates(program, own, number=2000):
 
 def instructions(program, path, requests):
     """The instructions that the program takes to serve a connection with these requests."""
-    told = path.parent / "requests"
-    program = ["valgrind", "--tool=callgrind", "--callgrind-out-file=%s" % told, program]
+    program = [*callgrind(path.parent / "requests"), program]
     with http_cases.served(program, path, 1) as running:
         assert http_cases.told(running, b"".join(requests)).count(b"HTTP/1.1 ") == len(requests)
         _, err = running.communicate(timeout=600)
-    return int(re.search(rb"Collected : (\d+)", err)[1])
+    return collected(err)
 
 
 def http(program, own):
@@ -262,21 +365,62 @@ def head(program, own):
     begins, ends = b"GET /image/none HTTP/1.1\r\nHost: d\r\na: ", b"\r\n\r\n"
     whole = begins + (16_384 - len(begins) - len(ends)) * b"b" + ends
     for name, pause in (("in one piece", None), ("a byte at a time", 0.001)):
-        told = own / name
-        words = ["valgrind", "--tool=callgrind", "--callgrind-out-file=%s" % told, program]
-        with http_cases.served(words, path, 1) as running, http_cases.connected(running) as client:
+        with http_cases.served([*callgrind(own / name), program], path, 1) as running, http_cases.connected(running) as client:
             for piece in [whole] if pause is None else (whole[at : at + 1] for at in range(len(whole))):
                 client.sendall(piece)
                 time.sleep(pause or 0)
             client.shutdown(http_cases.socket.SHUT_WR)
             assert b"404 Not Found" in http_cases.to_the_end(client)
             _, err = running.communicate(timeout=600)
-        print("| %s | %s |" % (name, re.search(rb"Collected : (\d+)", err)[1].decode()), flush=True)
+        print("| %s | %d |" % (name, collected(err)), flush=True)
+
+
+def repeated(size, front, item, between, end):
+    """A text of nearly that size: the front, an item for each number with something between, the end."""
+    count = (size - len(front + end)) // len(item(0) + between)
+    return front + between.join(item(at) for at in range(count)) + end
+
+
+def shapes(size):
+    """Bodies of nearly that size that are read to their end: envelopes whose signed member is long, and longer ones."""
+    begins, ends = '{"signatures":[{"keyid":"k","method":"m","sig":"aa"}],"signed":{', "}}"
+    members = (size - len(begins + ends)) // 13
+    yield "members in order", repeated(size, begins, lambda at: '"m%06d":0' % at, ",", ends)
+    yield "members in reverse", repeated(size, begins, lambda at: '"m%06d":0' % (members - at), ",", ends)
+    yield "one member repeated", repeated(size, begins, lambda at: '"m":0', ",", ends)
+    yield "`signed` repeated", repeated(size, begins[:-10], lambda at: '"signed":{"m":0}', ",", "}")
+    yield "a list of numbers", repeated(size, begins + '"m":[', lambda at: "%06d" % (100_000 + at % 800_000), ",", "]" + ends)
+    yield "a list of objects", repeated(size, begins + '"m":[', lambda at: '{"m":0}', ",", "]" + ends)
+    yield "lists of lists", repeated(size, begins + '"m":[', lambda at: 8 * "[" + 8 * "]", ",", "]" + ends)
+    yield "escapes", repeated(size, begins + '"m":"', lambda at: "\\u0041", "", '"' + ends)
+    yield "a long text", repeated(size, begins + '"m":"', lambda at: "a", "", '"' + ends)
+    yield "a long name", repeated(size, begins + '"', lambda at: "a", "", '":0' + ends)
+    yield "open brackets", size * "["
+    yield "a number of many digits", size * "1"
+
+
+def bodies(program, own):
+    path = own / "bodies"
+    trials.printed(program, path, prepared(1, 1, 1))
+    none = instructions(program, trials.copied(path, own / "none"), [])
+    sizes = [dict(shapes(size)) for size in (65_536, 262_144)]
+    for name in sizes[0]:
+        taken = []
+        for texts in sizes:
+            body = texts[name].encode("ascii")
+            taken.append((instructions(program, trials.copied(path, own / "some"), posts([body])) - none) // len(body))
+        print("| %s | %d | %d |" % (name, *taken), flush=True)
+
+
+PARTS = (fleets, functions, commands, lines, growth, growth_counts, start, sums, http, head, bodies)
+
+
+def main(program, part, *most):
+    with trials.folder() as own:
+        {it.__name__: it for it in PARTS}[part](program, own, *map(int, most))
 
 
 if __name__ == "__main__":
-    parts = {part.__name__: part for part in (fleets, functions, commands, lines, growth, start, http, head)}
-    if len(sys.argv) != 3 or sys.argv[2] not in parts:
+    if len(sys.argv) not in (3, 4) or sys.argv[2] not in [part.__name__ for part in PARTS]:
         sys.exit(__doc__)
-    with trials.folder() as here:
-        parts[sys.argv[2]](sys.argv[1], here)
+    main(*sys.argv[1:])

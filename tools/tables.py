@@ -5,7 +5,8 @@
 
 A fleet's day is carried out over a file. SQLite has to find the file whole, with the tables of `docs/TABLES.md`
 and the rows that `tools/reference.py` makes of the same day. A file that SQLite wrote, with the same rows, is
-adopted and answers alike, and so are copies. The page's queries have to tell what the day's answers told.
+adopted and answers alike, and so are copies. The page's queries have to tell what the day's answers told. And
+refusals that come before images or campaigns are read are answered where SQLite has damaged those rows.
 """
 import json
 import re
@@ -131,6 +132,148 @@ def is_refused(program, path):
     return trials.run(program, path, DAY[:1]) == (3, b"", trials.NO_DATABASE) and path.read_bytes() == before
 
 
+# ---- what refusals read
+
+
+DAMAGED_IMAGES, DAMAGED_CAMPAIGNS = "UPDATE image SET needs = 'x'", "UPDATE campaign SET items = 'x'"
+OTHER_IMAGES, OTHER_CAMPAIGNS = DAMAGED_IMAGES + " WHERE file <> 'a'", DAMAGED_CAMPAIGNS + " WHERE name <> 'mine'"
+NOT_CANONICAL = '{"signatures":[{"keyid":"k","method":"m","sig":"aa"}],"signed":{"x":1.5}}'
+LATE = 4102444801
+LOST = "refused 2 Store"
+
+
+def image(file, kind="HP", release=1):
+    members = {"file": file, "length": 1, "sha256": fleet.digest(file), "hardware": [kind], "release": release}
+    return fleet.line("add_image", **members)
+
+
+def campaign(name, vehicles, kind, file):
+    return fleet.line("open_campaign", campaign=name, vehicles=vehicles, items=[{"hardware": kind, "file": file}])
+
+
+def close(name):
+    return fleet.line("close_campaign", campaign=name)
+
+
+def vehicle(name, *ecus):
+    told = [{"ecu": ecu, "hardware": "HP", "key": fleet.key(7)} for ecu in ecus]
+    return fleet.line("add_vehicle", vehicle=name, primary=ecus[0], ecus=told)
+
+
+def delivered(name, counter, *ecus, primary="P1", key=7, report_key=7, of=0, file=None):
+    """A manifest with a report of each ECU, at the counter of the manifest or at another; of the factory's image or of a file."""
+    had = {"file": file, "length": 1, "sha256": fleet.digest(file)} if file else fleet.FACTORY
+    report = {"counter": of or counter, "key": fleet.key(report_key), "time": fleet.START, **had}
+    told = {"vehicle": name, "primary": primary, "key": fleet.key(key), "counter": counter}
+    return fleet.line("deliver", body=fleet.body(told | {"reports": [report | {"ecu": ecu} for ecu in ecus]}))
+
+
+def founded():
+    """Two vehicles, images `a` and `b`, and campaigns: for the first one, for the other one, and one that is closed."""
+    yield fleet.line("found", **fleet.key_set(1))
+    yield from (vehicle("V1", "P1", "S1"), vehicle("V2", "P2"), image("a"), image("b", "HS"))
+    yield from (campaign("mine", ["V1"], "HP", "a"), campaign("theirs", ["V2"], "HS", "b"))
+    yield from (campaign("over", ["V2"], "HS", "b"), close("over"))
+    yield from (delivered("V1", 1, "P1", "S1"), delivered("V1", 3, "P1", "S1"))
+
+
+def repeated_keys():
+    keys = fleet.key_set(1)
+    keys["image"]["root"]["keys"] *= 2
+    return keys
+
+
+def all_damaged():
+    """Refusals for which no image and no campaign is read, where all are damaged, and between them lines that read one."""
+    yield fleet.line("found", LATE, **fleet.key_set(1)), "refused 3 MomentOutOfRange"
+    yield fleet.line("found", **repeated_keys()), "refused 7 BadShape keys"
+    yield fleet.line("found", **fleet.key_set(1)), "refused 9 AlreadyFounded"
+    yield fleet.line("rotate", LATE, **fleet.key_set(9)), "refused 3 MomentOutOfRange"
+    yield fleet.line("rotate", **repeated_keys()), "refused 7 BadShape keys"
+    yield fleet.line("rotate", **fleet.key_set(9)), LOST
+    yield image("a"), LOST
+    yield image("c"), LOST
+    yield fleet.line("refresh", LATE, version=99), "refused 3 MomentOutOfRange"
+    yield fleet.line("refresh", version=3), "refused 28 VersionNotGreater"
+    yield fleet.line("refresh", version=99), LOST
+    yield campaign("new", "all", "HP", "a"), LOST
+    yield fleet.line("close_campaign", LATE, campaign="mine"), "refused 3 MomentOutOfRange"
+    yield close("none"), "refused 25 UnknownCampaign"
+    yield close("mine"), LOST
+    yield fleet.line("deliver", LATE, body=""), "refused 3 MomentOutOfRange"
+    yield fleet.line("deliver", body=262_145 * " "), "refused 4 TooLarge"
+    yield fleet.line("deliver", body=""), "refused 5 NotJson"
+    yield fleet.line("deliver", body=NOT_CANONICAL), "refused 6 NotCanonical"
+    yield fleet.line("deliver", body="{}"), "refused 7 BadShape signatures"
+    yield delivered("V1", 4, "P1", "S1"), LOST
+    yield vehicle("V1", "P1", "S2"), "refused 22 VehicleTaken"
+    yield vehicle("V3", "P3", "P3"), "refused 15 DuplicateEcu P3"
+    yield vehicle("V3", "P3", "S1"), "refused 23 EcuTaken S1"
+    yield fleet.line("fetch", repository="image", file="none"), "refused 29 UnknownFile"
+
+
+def others_damaged():
+    """Those for which only the image and the campaigns that they name are read, where all others are damaged."""
+    yield image("a"), "already"
+    yield image("a", release=2), "refused 19 ImageTaken"
+    yield fleet.line("add_image", LATE, **fleet.FACTORY, hardware=["HP"], release=1), "refused 3 MomentOutOfRange"
+    yield campaign("mine", ["V1"], "HP", "a"), "already"
+    yield campaign("mine", "all", "HP", "a"), "refused 24 CampaignTaken"
+    yield campaign("new", ["V9"], "HP", "a"), "refused 10 UnknownVehicle"
+    yield campaign("new", "all", "HP", "none"), "refused 26 UnknownImage"
+    yield campaign("new", "all", "HS", "a"), "refused 27 WrongHardware"
+    yield campaign("new", "all", "HS", "b"), LOST
+    yield delivered("V9", 4, "P1", "S1"), "refused 10 UnknownVehicle"
+    yield delivered("V1", 4, "P1", "S1", primary="S1"), "refused 11 WrongPrimary"
+    yield delivered("V1", 4, "P1", "S1", key=8), "refused 12 BadManifestSignature"
+    yield delivered("V1", 1, "P1", "S1"), "reply V1 version 1 targets 2"
+    yield delivered("V1", 2, "P1", "S1"), "refused 13 Stale 3"
+    yield delivered("V1", 4, "P1", "P2"), "refused 14 UnknownEcu P2"
+    yield delivered("V1", 4, "P1", "P1"), "refused 15 DuplicateEcu P1"
+    yield delivered("V1", 4, "P1"), "refused 16 MissingEcu S1"
+    yield delivered("V1", 4, "P1", "S1", file="b"), LOST
+    yield delivered("V2", 1, "P2", primary="P2"), LOST
+    yield delivered("V1", 4, "P1", "S1", report_key=8), "refused 17 BadReportSignature P1"
+    yield delivered("V1", 4, "P1", "S1", of=2), "refused 18 ReportReplayed P1"
+
+
+def unfounded():
+    """Before the founding, over an image that no call of the product leaves."""
+    yield fleet.line("rotate", **fleet.key_set(9)), "refused 8 NotFounded"
+    yield fleet.line("refresh", version=99), "refused 8 NotFounded"
+    yield image("c"), "refused 8 NotFounded"
+    yield close("mine"), "refused 8 NotFounded"
+    yield delivered("V1", 4, "P1", "S1"), "refused 8 NotFounded"
+    yield fleet.line("found", **fleet.key_set(1)), LOST
+
+
+def read(program, own):
+    """Refusals that come before images or campaigns are read, whatever their rows hold. None of these lines changes a row."""
+    rotated = [fleet.line("rotate", **fleet.key_set(9))] * 63
+    greatest = fleet.line("refresh", version=2**53 - 1)
+    strange = "INSERT INTO image VALUES ('a', 1, x'00', 'x', 1, 'x', 'x')"
+    rotate = fleet.line("rotate", **fleet.key_set(9))
+    made = {
+        "all": (founded(), [DAMAGED_IMAGES, DAMAGED_CAMPAIGNS], all_damaged()),
+        "others": (founded(), [OTHER_IMAGES, OTHER_CAMPAIGNS], others_damaged()),
+        "unfounded": ([], [strange], unfounded()),
+        "64 roots": ([*founded(), *rotated], [DAMAGED_IMAGES], [(rotate, "refused 30 RootFull")]),
+        "the greatest version": ([*founded(), greatest], [DAMAGED_IMAGES], [(rotate, "refused 21 VersionLimit")]),
+    }
+    for name, (before, statements, asked_of_it) in made.items():
+        begun = trials.printed(program, own / name, before)
+        yield "before %s" % name, begun is not None and not any(answer.startswith("refused") for answer in begun)
+        path, lines = dumped(own / name, own / (name + " damaged")), list(asked_of_it)
+        with closing(sqlite3.connect(path)) as db, db:
+            for statement in statements:
+                db.execute(statement)
+        rows = trials.rows(path)
+        told = trials.printed(program, path, [line for line, _ in lines]) or len(lines) * [None]
+        for (line, wanted), answer in zip(lines, told):
+            yield "%s damaged: %s, %s" % (name, json.loads(line)["do"], wanted), answer == wanted
+        yield "%s damaged: the rows stay" % name, trials.rows(path) == rows
+
+
 # ---- the queries of the page
 
 
@@ -206,6 +349,7 @@ def cases(program):
         yield from asked(program, own)
         yield from copies(program, own)
         yield from foreign(program, own)
+        yield from read(program, own)
 
 
 if __name__ == "__main__":

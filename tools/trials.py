@@ -35,8 +35,9 @@ def expected(path, script):
 
 
 @contextmanager
-def folder():
-    with tempfile.TemporaryDirectory() as name:
+def folder(within=None):
+    """A new folder, in the usual place or in that one."""
+    with tempfile.TemporaryDirectory(dir=within) as name:
         yield Path(name)
 
 
@@ -55,7 +56,7 @@ def copied(path, to):
 @contextmanager
 def read(path):
     """A connection of SQLite's own to a copy of the database, so that the file and its log stay as they are."""
-    with folder() as own, closing(sqlite3.connect(copied(path, own / "copy"))) as db:
+    with folder(Path(path).parent) as own, closing(sqlite3.connect(copied(path, own / "copy"))) as db:
         yield db
 
 

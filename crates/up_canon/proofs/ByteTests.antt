@@ -1,10 +1,11 @@
--- Bytes: as a test of each, and by their places.
-use Rattle.std.proofs.Common.{◌≡◌, ℕ, zero, suc, ◌<◌, List, [], ◌∷◌, true, refl, arith}
+-- Bytes: as a test of each, and by their places; those of a hash.
+use Rattle.std.proofs.Common.{◌≡◌, ℕ, zero, suc, ◌<◌, ◌&&◌, ◌==◌, List, [], ◌∷◌, Bool, true, length, refl, ap₂, arith}
 use Rattle.std.specs.Prelude.{nat_lt}
 use Rattle.std.specs.List.{list_all}
 use Rattle.std.proofs.lemmas.Bool.{and_parts}
 use Rattle.std.proofs.lemmas.Bool.Decides.{nat_tests}
 use Rattle.hex.specs.Hex.{IsBytes}
+use Rattle.up_canon.specs.HexText.{is_hash}
 use Rattle.up_canon.proofs.Printable.{both}
 
 pub bytes_placed : (xs : List ℕ) → list_all (λ x. nat_lt x 256) xs ≡ true → IsBytes xs
@@ -18,3 +19,8 @@ bytes_tested (x ∷ xs) h =
     let small : x < 256 = h 0 in
     let test : nat_lt x 256 ≡ true = grind (arith, nat_tests) in
     both _ _ test (bytes_tested xs (λ i. h (suc i)))
+
+pub hash_typed : (hash : List ℕ) → length hash ≡ 32 → IsBytes hash → is_hash hash ≡ true
+hash_typed hash size h =
+    let whole : (length hash == 32) ≡ true = grind (arith, nat_tests) in
+    ap₂ (λ (a b : Bool). a && b) whole (bytes_tested hash h)

@@ -1,9 +1,9 @@
 -- A value that passes the test is printed as its canonical text.
-use Rattle.std.proofs.Common.{◌≡◌, ℕ, List, Bool, true, false, ◌||◌, Ok, Err, refl}
+use Rattle.std.proofs.Common.{◌≡◌, ℕ, List, Bool, true, false, ◌||◌, Ok, Err, refl, ◌∙◌}
 use Rattle.std.proofs.lemmas.Bool.{and_parts}
 use Rattle.serde_json.specs.Data.{unsigned, negative, float, Data, null, boolean, number, string, array, object, Items, no_items, item, Members, no_members, member}
 use Rattle.serde_json.specs.Written.{has_float, items_have_float, members_have_float, compact_text}
-use Rattle.up_canon.specs.Canon.{has_canon, is_plain, items_are_plain, members_are_plain, is_printable_text, comes_first}
+use Rattle.up_canon.specs.Canon.{has_canon, is_plain, items_are_plain, members_are_plain, is_printable_text, comes_first, text}
 use Rattle.up_canon.specs.Refusals.{canonical_text}
 use Rattle.up_canon.specs.declared.refusal.Refusal.TheVariants.{NotCanonical}
 use Rattle.up_canon.proofs.CanonLaws.{compact_text-plain}
@@ -35,11 +35,14 @@ mutual
       neither (has_float d) (members_have_float ms) (no_float d r.0) (no_member_floats ms r.1)
 
 -- what is printed of a value with a canonical text
-pub printed : (d : Data) (t : List ℕ) → has_canon d ≡ true → (has_float d ≡ false → t ≡ compact_text d) → canonical_text d ≡ Ok t
-unfolding canonical_text
+pub printed : (d : Data) (t : List ℕ) → has_canon d ≡ true → (has_float d ≡ false → t ≡ compact_text d) → t ≡ text d
 printed d t h is =
     let p = and_parts (is_plain d) _ h in
-    rw (h, is (no_float d p.0), compact_text-plain d p.0)
+    is (no_float d p.0) ∙ compact_text-plain d p.0
+
+pub has_one : (d : Data) (t : List ℕ) → has_canon d ≡ true → t ≡ text d → canonical_text d ≡ Ok t
+unfolding canonical_text
+has_one d t h is = rw (h, is) refl
 
 pub has_none : (d : Data) → has_canon d ≡ false → canonical_text d ≡ Err NotCanonical
 unfolding canonical_text

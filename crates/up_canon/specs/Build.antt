@@ -1,5 +1,5 @@
 -- JSON values made of their parts.
-use Rattle.std.specs.Prelude.{ℕ, List, [], ◌∷◌}
+use Rattle.std.specs.Prelude.{ℕ, List, [], ◌∷◌, codes}
 use Rattle.hex.specs.Hex.{encode_lower}
 use Rattle.serde_json.specs.Data.{unsigned, Data, number, string, array, object, Members, no_members, put}
 use Rattle.serde_json.specs.View.{items_of}
@@ -24,3 +24,7 @@ count_value n = number (unsigned n)
 -- bytes as lower case hexadecimal digits
 abbrev pub hex_value : List ℕ → Data
 hex_value bytes = string (encode_lower bytes)
+
+-- a SHA-256 under the name of the hash function
+abbrev pub hashes_value : List ℕ → Data
+hashes_value hash = object_with ((codes "sha256", hex_value hash) ∷ [])

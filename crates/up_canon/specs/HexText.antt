@@ -1,5 +1,6 @@
 -- Bytes that JSON holds as hexadecimal text (base 16 of RFC 4648).
-use Rattle.std.specs.Prelude.{ℕ, List, length, Result}
+use Rattle.std.specs.Prelude.{ℕ, ◌&&◌, ◌==◌, List, Bool, nat_lt, length, Result}
+use Rattle.std.specs.List.{list_all}
 use Rattle.hex.specs.Hex.{decode_of}
 use Rattle.serde_json.specs.Data.{Data}
 use Rattle.up_canon.specs.Members.{member_in, text_of}
@@ -8,6 +9,10 @@ use Rattle.up_canon.specs.Readers.{fitting}
 use Rattle.up_canon.specs.Steps.{◌>>=◌, or_error, value_of}
 use Rattle.up_canon.specs.declared.refusal.Refusal.{Refusal}
 use Rattle.up_canon.specs.declared.refusal.Refusal.TheVariants.{BadShape}
+
+-- a SHA-256 (FIPS 180-4): 32 bytes
+abbrev pub is_hash : List ℕ → Bool
+is_hash hash = (length hash == 32) && list_all (λ x. nat_lt x 256) hash
 
 -- the bytes of so many digits, of either case
 unfoldable pub hex_of : ℕ → ℕ → List ℕ → Data → Result (List ℕ) Refusal

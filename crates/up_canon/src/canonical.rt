@@ -1,15 +1,15 @@
 //! The canonical text of a JSON value.
-ghost use Rattle.std.specs.Prelude.{◌≡◌, ◌&&◌, nat_le, string_bytes};
+ghost use Rattle.std.specs.Prelude.{◌≡◌, ◌&&◌, IfOk, nat_le, string_bytes, true};
 ghost use Rattle.serde_json.specs.Data.{depth, items_depth, members_depth};
 ghost use Rattle.serde_json.specs.View.{view, number_view, items_view, members_view};
-ghost use Rattle.up_canon.specs.Canon.{has_canon, is_plain, items_are_plain, members_are_plain, is_count as is_count_of};
-ghost use Rattle.up_canon.specs.Refusals.{GivesAs, canonical_text};
+ghost use Rattle.up_canon.specs.Canon.{has_canon, is_plain, items_are_plain, members_are_plain, is_count as is_count_of, text};
+ghost use Rattle.up_canon.specs.Refusals.{GivesAs, canonical_text as canonical_text_of};
 
 use crate::count::Count;
 use crate::note::has_printable_bytes;
 use crate::refusal::Refusal;
 use serde_json::{Map, Number, Value};
-use std::alloc::Global;
+use std::alloc::{AllocError, Global};
 
 /// How deep lists and objects may nest.
 const MAX_NESTING: usize = 16;
@@ -18,12 +18,20 @@ const MAX_NESTING: usize = 16;
 /// to 2^53-1, nested at most 16 deep. `NotCanonical` where the value has none, `Memory` where it is refused.
 #[tactic(auto, using(crate::proofs::CanonicalText::has_none))]
 pub fn canonical(alloc: Global, value: &Value) -> Result<String, Refusal>
-    ensures { GivesAs string_bytes result (canonical_text (view value.now)) }
+    ensures { GivesAs string_bytes result (canonical_text_of (view value.now)) }
 {
     if !is_within(value, MAX_NESTING) {
         return Err(Refusal::NotCanonical);
     }
-    Ok(value.to_string(alloc)?)
+    Ok(canonical_text(alloc, value)?)
+}
+
+/// The canonical text of a value that has one.
+pub fn canonical_text(alloc: Global, value: &Value) -> Result<String, AllocError>
+    requires { has_canon (view value.now) ≡ true }
+    ensures { IfOk result (λ t. string_bytes t ≡ text (view value.now)) }
+{
+    value.to_string(alloc)
 }
 
 #[cycle(within)]

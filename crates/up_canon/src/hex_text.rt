@@ -1,7 +1,9 @@
 //! Bytes that JSON holds as hexadecimal text.
-ghost use Rattle.std.specs.Prelude.{◌≡◌, Ok, MatchResult, OnErr, length};
+ghost use Rattle.std.specs.Prelude.{◌≡◌, Ok, IfOk, MatchResult, string_bytes, true};
+ghost use Rattle.hex.specs.Hex.{encode_lower};
 ghost use Rattle.serde_json.specs.View.{view};
-ghost use Rattle.up_canon.specs.HexText.{hex_of as hex_of_value, hex_in, sha256_in};
+ghost use Rattle.up_canon.specs.Build.{hashes_value as hashes_value_of};
+ghost use Rattle.up_canon.specs.HexText.{hex_of as hex_of_value, hex_in, is_hash, sha256_in};
 ghost use Rattle.up_canon.specs.Members.{IsFault, object_of_map};
 ghost use Rattle.up_canon.specs.Refusals.{Gives};
 
@@ -10,8 +12,8 @@ use crate::fields::member_at;
 use crate::kinds::text_of;
 use crate::refusal::Refusal;
 use hex::FromHexError;
-use serde_json::{Map, Value};
-use std::alloc::Global;
+use serde_json::{Map, Value, json};
+use std::alloc::{AllocError, Global};
 
 /// The bytes of a text of so many hexadecimal digits, of either case; the name is that of the fault.
 #[tactic(auto, unfolding(crate::specs::HexText::hex_of, crate::specs::Steps::and_then))]
@@ -72,4 +74,20 @@ pub fn sha256_of(value: &Value, name: &'static str) -> Result<[u8; 32], &'static
         Ok(()) => Ok(hash),
         Err(_) => Err(name),
     }
+}
+
+/// A SHA-256 under the name of the hash function, in lower case digits.
+pub fn hashes_value(alloc: Global, hash: &[u8; 32]) -> Result<Value, AllocError>
+    ensures value { IfOk result (λ v. view v ≡ hashes_value_of hash.now) }
+    ensures typed { is_hash hash.now ≡ true }
+{
+    let digits = digits_of(alloc, hash)?;
+    json!(in alloc; {"sha256": digits})
+}
+
+fn digits_of(alloc: Global, hash: &[u8; 32]) -> Result<String, AllocError>
+    ensures value { IfOk result (λ t. string_bytes t ≡ encode_lower hash.now) }
+    ensures typed { is_hash hash.now ≡ true }
+{
+    hex::encode(alloc, *hash)
 }

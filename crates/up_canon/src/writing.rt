@@ -4,10 +4,7 @@ ghost use Rattle.std.specs.List.{list_all};
 ghost use Rattle.hex.specs.Hex.{encode_lower};
 ghost use Rattle.up_canon.specs.Canon.{is_printable, escaped, quoted};
 
-use crate::count::Count;
-use crate::file_name::FileName;
 use crate::ident::Ident;
-use crate::note::Note;
 use std::alloc::{AllocError, Global};
 
 /// Appends printable ASCII in quotes, with a backslash before each quote and backslash of it. On an error `out` may hold some
@@ -45,13 +42,6 @@ pub fn push_hex(alloc: Global, out: &mut String, bytes: &[u8]) -> Result<(), All
     Ok(())
 }
 
-/// Appends the digits of a count. On an error `out` may hold some of it.
-pub fn push_count(alloc: Global, out: &mut String, count: Count) -> Result<(), AllocError>
-    ensures { IfOk result (λ _. string_bytes out.new ≡ string_bytes out.old ++ decimal count) }
-{
-    push_number(alloc, out, count.get())
-}
-
 /// Appends the digits of a number. On an error `out` may hold some of it.
 pub fn push_number(alloc: Global, out: &mut String, number: u64) -> Result<(), AllocError>
     ensures { IfOk result (λ _. string_bytes out.new ≡ string_bytes out.old ++ decimal number) }
@@ -65,20 +55,4 @@ pub fn push_ident(out: &mut String, ident: &Ident) -> Result<(), AllocError>
     ensures { IfOk result (λ _. string_bytes out.new ≡ string_bytes out.old ++ quoted ident.now) }
 {
     push_quoted(out, ident.text())
-}
-
-/// Appends a filename in quotes. On an error `out` may hold some of it.
-#[tactic(auto, using(crate::proofs::Printable::file_name_prints))]
-pub fn push_file_name(out: &mut String, file: &FileName) -> Result<(), AllocError>
-    ensures { IfOk result (λ _. string_bytes out.new ≡ string_bytes out.old ++ quoted file.now) }
-{
-    push_quoted(out, file.text())
-}
-
-/// Appends a note in quotes. On an error `out` may hold some of it.
-#[tactic(auto, using(crate::proofs::Printable::note_prints))]
-pub fn push_note(out: &mut String, note: &Note) -> Result<(), AllocError>
-    ensures { IfOk result (λ _. string_bytes out.new ≡ string_bytes out.old ++ quoted note.now) }
-{
-    push_quoted(out, note.text())
 }

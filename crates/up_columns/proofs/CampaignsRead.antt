@@ -1,5 +1,5 @@
 -- The reach and the items of a campaign have canonical texts, and are read again.
-use Rattle.std.proofs.Common.{◌≡◌, ℕ, List, [], ◌∷◌, true, Ok, length, map, refl, ap, ◌∙◌, arith}
+use Rattle.std.proofs.Common.{◌≡◌, ℕ, List, [], ◌∷◌, true, Ok, map, refl, ◌∙◌, arith}
 use Rattle.std.specs.Prelude.{codes}
 use Rattle.std.specs.List.{list_all}
 use Rattle.std.proofs.lemmas.Bool.{and_parts}
@@ -7,10 +7,10 @@ use Rattle.serde_json.specs.Data.{string}
 use Rattle.serde_json.specs.View.{items_of}
 use Rattle.up_canon.specs.Canon.{CanonIsRead, has_canon}
 use Rattle.up_canon.specs.Members.{items_list, object_of, list_of}
-use Rattle.up_canon.specs.Names.{Name, is_ident, is_file_name}
+use Rattle.up_canon.specs.Names.{is_ident}
 use Rattle.up_canon.specs.Readers.{ident_of}
 use Rattle.up_canon.proofs.Members.{ident_there, file_name_there}
-use Rattle.up_canon.proofs.PlainValues.{IsPlain, plain-object, plain-canon, deeper}
+use Rattle.up_canon.proofs.PlainValues.{IsPlain, plain-object}
 use Rattle.up_canon.proofs.Steps.{bind-ok}
 use Rattle.up_plan.specs.declared.campaign.Item.{Item}
 use Rattle.up_plan.specs.declared.campaign.Reach.{Reach}

@@ -1,5 +1,5 @@
 -- Names are written as plain texts, and read as the names.
-use Rattle.std.proofs.Common.{◌≡◌, ℕ, List, true, Ok, map, refl, ◌∙◌, arith}
+use Rattle.std.proofs.Common.{◌≡◌, ℕ, List, true, Ok, refl, ◌∙◌, arith}
 use Rattle.std.specs.Prelude.{codes}
 use Rattle.std.specs.List.{list_all}
 use Rattle.serde_json.specs.Data.{string}

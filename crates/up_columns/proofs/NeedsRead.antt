@@ -8,7 +8,7 @@ use Rattle.serde_json.specs.Data.{string}
 use Rattle.up_canon.specs.Build.{count_value}
 use Rattle.up_canon.specs.Canon.{CanonIsRead, has_canon, max_count}
 use Rattle.up_canon.specs.Members.{object_of}
-use Rattle.up_canon.specs.Names.{Name, is_ident}
+use Rattle.up_canon.specs.Names.{is_ident}
 use Rattle.up_canon.proofs.Members.{ident_there, count_there}
 use Rattle.up_canon.proofs.PlainValues.{IsPlain, plain-object, plain-count}
 use Rattle.up_canon.proofs.Printable.{both}

@@ -1,14 +1,14 @@
 -- A plan has a canonical text, and is read again.
-use Rattle.std.proofs.Common.{◌≡◌, ℕ, List, [], ◌∷◌, true, Option, Some, None, Ok, map, refl, ap, ◌∙◌, arith}
+use Rattle.std.proofs.Common.{◌≡◌, ℕ, List, [], ◌∷◌, true, Option, Some, None, Ok, map, refl, ◌∙◌, arith}
 use Rattle.std.specs.Prelude.{codes}
 use Rattle.std.specs.List.{list_all}
 use Rattle.std.proofs.lemmas.Bool.{and_parts}
-use Rattle.serde_json.specs.Data.{Data, null, string}
+use Rattle.serde_json.specs.Data.{string}
 use Rattle.serde_json.specs.View.{items_of}
 use Rattle.up_canon.specs.Build.{list_with}
 use Rattle.up_canon.specs.Canon.{CanonIsRead, has_canon}
 use Rattle.up_canon.specs.Members.{items_list, object_of, member_in}
-use Rattle.up_canon.specs.Names.{Name, is_ident, is_file_name}
+use Rattle.up_canon.specs.Names.{is_ident}
 use Rattle.up_canon.proofs.Members.{ident_there, file_name_there, list_there}
 use Rattle.up_canon.proofs.PlainValues.{IsPlain, plain-object, plain-list, all-plain, plain-canon, deeper}
 use Rattle.up_canon.proofs.Steps.{bind-ok}

@@ -12,24 +12,15 @@ use Rattle.up_canon.specs.Canon.{CanonIsRead, has_canon, is_plain, text}
 use Rattle.up_canon.specs.JsonText.{value_in, value_within}
 use Rattle.up_canon.specs.Meaning.{EachMeans}
 use Rattle.up_canon.specs.Members.{items_list, list_of}
-use Rattle.up_canon.specs.Refusals.{canonical_text}
 use Rattle.up_canon.specs.Steps.{each, or_error}
 use Rattle.up_canon.specs.declared.refusal.Refusal.{Refusal}
-use Rattle.up_canon.specs.declared.refusal.Refusal.TheVariants.{NotJson, NotCanonical}
+use Rattle.up_canon.specs.declared.refusal.Refusal.TheVariants.{NotJson}
 use Rattle.up_canon.proofs.Ascii.{text-ascii}
-use Rattle.up_canon.proofs.CanonicalText.{printed}
 use Rattle.up_canon.proofs.PlainValues.{IsPlain, plain-list, all-plain, plain-canon}
-use Rattle.up_canon.proofs.Steps.{bind-ok, unless_there, each_there, same_ok}
-use Rattle.serde_json.specs.Written.{has_float, compact_text}
-use Rattle.std.proofs.Common.{false, sym}
+use Rattle.up_canon.proofs.Steps.{bind-ok, unless_there, each_there}
 use Rattle.up_columns.specs.Columns.{items_in}
 
--- what is printed of a value with a canonical text is that text
-pub is-text : (d : Data) (t : List ℕ) → has_canon d ≡ true → (has_float d ≡ false → t ≡ compact_text d) → t ≡ text d
-unfolding canonical_text
-is-text d t h is = let canon : canonical_text d ≡ Ok (text d) = rw h refl in same_ok {E = Refusal} t (text d) (sym (printed d t h is) ∙ canon)
-
--- and it is read as the value
+-- a canonical text is read as its value
 pub text-there : CanonIsRead → (d : Data) → has_canon d ≡ true → value_within (length (text d)) (text d) ≡ Ok d
 unfolding value_within value_in
 text-there law d h =

@@ -1,5 +1,5 @@
 -- What the types of a column's values say of them: only what they say is read again.
-use Rattle.std.specs.Prelude.{ℕ, ◌&&◌, List, Bool, true, nat_le, Option, Some, None}
+use Rattle.std.specs.Prelude.{◌&&◌, Bool, true, nat_le, Option, Some, None}
 use Rattle.std.specs.List.{list_all}
 use Rattle.up_canon.specs.Canon.{max_count}
 use Rattle.up_canon.specs.Names.{is_ident, is_file_name}

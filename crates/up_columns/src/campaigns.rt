@@ -8,10 +8,11 @@ ghost use Rattle.up_columns.specs.Typed.{is_typed_item, is_typed_reach};
 ghost use Rattle.up_plan.specs.declared.campaign.Item.{Item as ItemData};
 ghost use Rattle.up_plan.specs.declared.campaign.Reach.{Reach as ReachData};
 
-use crate::lists::{ToValue, column_text, list_value, read_items};
+use crate::lists::{ToValue, list_value, read_items};
 use crate::values::column_value;
 use serde_json::{Value, json};
 use std::alloc::{AllocError, Global};
+use up_canon::canonical::canonical_text;
 use up_canon::canonical_laws;
 use up_canon::each::{Reading, each_of};
 use up_canon::kinds::{list_of, object_of};
@@ -60,7 +61,7 @@ pub fn items_text(alloc: Global, items: &[Item]) -> Result<String, AllocError>
     ensures typed { OnOk result (list_all is_typed_item items.now ≡ true) }
 {
     let value = list_value(alloc, items)?;
-    column_text(alloc, &value)
+    canonical_text(alloc, &value)
 }
 
 /// The items of a column: `Memory`, or the first fault of a text that can't be read as a list of items.
@@ -79,7 +80,7 @@ pub fn reach_text(alloc: Global, reach: &Reach) -> Result<String, AllocError>
     ensures typed { OnOk result (is_typed_reach reach.now ≡ true) }
 {
     let value = reach_value(alloc, reach)?;
-    column_text(alloc, &value)
+    canonical_text(alloc, &value)
 }
 
 fn reach_value(alloc: Global, reach: &Reach) -> Result<Value, AllocError>

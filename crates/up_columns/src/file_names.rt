@@ -5,9 +5,10 @@ ghost use Rattle.up_canon.specs.Names.{Name, is_file_name};
 ghost use Rattle.up_canon.specs.Refusals.{Gives};
 ghost use Rattle.up_columns.specs.Columns.{names_column, file_names_in};
 
-use crate::lists::{ToValue, column_text, list_value, read_items};
+use crate::lists::{ToValue, list_value, read_items};
 use serde_json::Value;
 use std::alloc::{AllocError, Global};
+use up_canon::canonical::canonical_text;
 use up_canon::canonical_laws;
 use up_canon::file_name::FileName;
 use up_canon::listed::Listed;
@@ -34,7 +35,7 @@ pub fn file_names_text(alloc: Global, names: &[FileName]) -> Result<String, Allo
     ensures typed { OnOk result (list_all is_file_name names.now ≡ true) }
 {
     let value = list_value(alloc, names)?;
-    column_text(alloc, &value)
+    canonical_text(alloc, &value)
 }
 
 /// The filenames of a column: `Memory`, or the first fault of a text that can't be read as a list of filenames.

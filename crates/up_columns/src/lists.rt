@@ -1,9 +1,8 @@
 //! Columns that are lists of values of one kind.
-ghost use Rattle.std.specs.Prelude.{◌≡◌, IfOk, OnOk, map, string_bytes, true};
+ghost use Rattle.std.specs.Prelude.{◌≡◌, IfOk, OnOk, map, true};
 ghost use Rattle.std.specs.List.{list_all};
 ghost use Rattle.serde_json.specs.View.{view};
 ghost use Rattle.up_canon.specs.Build.{list_with};
-ghost use Rattle.up_canon.specs.Canon.{has_canon, text};
 ghost use Rattle.up_canon.specs.Refusals.{Gives};
 ghost use Rattle.up_columns.specs.Columns.{items_in};
 
@@ -42,14 +41,6 @@ pub(crate) fn list_value<T: ToValue>(alloc: Global, items: &[T]) -> Result<Value
         values.push(item.value(alloc)?)?;
     }
     Ok(Value::Array(values))
-}
-
-/// The canonical text of a value that has one.
-pub(crate) fn column_text(alloc: Global, value: &Value) -> Result<String, AllocError>
-    requires { has_canon (view value.now) ≡ true }
-    ensures { IfOk result (λ t. string_bytes t ≡ text (view value.now)) }
-{
-    value.to_string(alloc)
 }
 
 /// The items of a column that is a list, or its first fault.

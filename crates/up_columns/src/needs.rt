@@ -6,9 +6,10 @@ ghost use Rattle.up_columns.specs.Columns.{needs_column, needs_in};
 ghost use Rattle.up_columns.specs.Typed.{is_typed_need};
 ghost use Rattle.up_plan.specs.declared.image.Need.{Need as NeedData};
 
-use crate::lists::{ToValue, column_text, list_value, read_items};
+use crate::lists::{ToValue, list_value, read_items};
 use serde_json::{Value, json};
 use std::alloc::{AllocError, Global};
+use up_canon::canonical::canonical_text;
 use up_canon::canonical_laws;
 use up_canon::each::Reading;
 use up_canon::fields::count_at;
@@ -57,7 +58,7 @@ pub fn needs_text(alloc: Global, needs: &[Need]) -> Result<String, AllocError>
     ensures typed { OnOk result (list_all is_typed_need needs.now ≡ true) }
 {
     let value = list_value(alloc, needs)?;
-    column_text(alloc, &value)
+    canonical_text(alloc, &value)
 }
 
 /// The needs of a column: `Memory`, or the first fault of a text that can't be read as a list of needs.

@@ -8,10 +8,11 @@ ghost use Rattle.up_columns.specs.PlanColumns.{plan_data, plan_column, cause_dat
 ghost use Rattle.up_columns.specs.Typed.{is_typed_cause, is_typed_plan};
 ghost use Rattle.up_plan.specs.declared.assigned.Plan.{Plan as PlanData};
 
-use crate::lists::{ToValue, column_text, list_value};
+use crate::lists::{ToValue, list_value};
 use crate::values::column_value;
 use serde_json::{Map, Value, json};
 use std::alloc::{AllocError, Global};
+use up_canon::canonical::canonical_text;
 use up_canon::canonical_laws;
 use up_canon::each::{Reading, each_of};
 use up_canon::fields::{find, list_at, member_at};
@@ -60,7 +61,7 @@ pub fn plan_text(alloc: Global, plan: &Plan) -> Result<String, AllocError>
     ensures typed { OnOk result (is_typed_plan plan.now ≡ true) }
 {
     let value = plan_value(alloc, plan)?;
-    column_text(alloc, &value)
+    canonical_text(alloc, &value)
 }
 
 fn plan_value(alloc: Global, plan: &Plan) -> Result<Value, AllocError>

@@ -32,7 +32,7 @@ use Rattle.up_machine.specs.Laws.{RunsGrow}
 use Rattle.up_machine.specs.Machine.{decide, outcome_of, step}
 use Rattle.up_machine.specs.Replies.{reply_text, reply_to}
 use Rattle.up_machine.specs.RepeatLaws.{RepeatsAreStale, CountersFindRepeats, ServedIsThinned, ServedStaysSound}
-use Rattle.up_machine.specs.Repeats.{Repeat, Sent, entry_signed, repeat_in, repeat_of, served_as, serve, meet, after, thinned, vehicle_of, delivers_own}
+use Rattle.up_machine.specs.Repeats.{KeptEntry, Sent, entry_signed, repeat_in, repeat_of, served_as, serve, meet, after, thinned, vehicle_of, delivers_own}
 use Rattle.up_machine.specs.Sound.{IsSound}
 use Rattle.up_machine.proofs.Decided.{IsDelivered, found_ok, rotate_ok, image_ok, refresh_ok, vehicle_ok, open_ok, close_ok, delivery_ok, fetch_ok}
 use Rattle.up_machine.proofs.Growing.{by_decision}
@@ -95,7 +95,7 @@ stays_served : (k : Rules) (s : State) (at : ℕ) (c : Command) (name : Name) (v
 unfolding serve step
 stays_served k s at c name v other there = by_repeat (repeat_of k s at c)
   where
-    by_repeat : (o : Option Repeat) → Has name v (served_as k s at c o).next
+    by_repeat : (o : Option KeptEntry) → Has name v (served_as k s at c o).next
     by_repeat None = by_decision s (decide k s at c) (Has name v) there (λ o. stays_outcome k s at c o name v other there)
     by_repeat (Some r) = there
 
@@ -168,7 +168,7 @@ record IsAccepted (k : Rules) (s : State) (at : ℕ) (body : List ℕ) (incoming
   is : accepted k s at (record { vehicle = vehicle; incoming = incoming }) ≡ o
 
 no_repeat : RepeatsAreStale → CountersFindRepeats → (k : Rules) (s : State) (at : ℕ) (body : List ℕ) (r : Received) (o : Outcome) → IsSound k s → receive k s at body ≡ Ok r
-    → Has r.incoming.manifest.vehicle r.vehicle s → accepted k s at r ≡ o → decide k s at (Deliver body) ≡ Ok o → (found : Option Repeat) → repeat_of k s at (Deliver body) ≡ found → found ≡ None
+    → Has r.incoming.manifest.vehicle r.vehicle s → accepted k s at r ≡ o → decide k s at (Deliver body) ≡ Ok o → (found : Option KeptEntry) → repeat_of k s at (Deliver body) ≡ found → found ≡ None
 unfolding step
 no_repeat stale counters k s at body r o sound receives there is decides None found = refl
 no_repeat stale counters k s at body r o sound receives there is decides (Some x) found =

@@ -15,7 +15,7 @@ use Rattle.up_machine.specs.Sound.{IsSound}
 use Rattle.up_machine.specs.State.{State}
 use Rattle.up_tables.specs.Stands.{IfClean}
 use Rattle.up_store.specs.Connections.{KeepsState}
-use Rattle.up_desk.specs.Serving.{HoldsState, told, served, outright, Serves}
+use Rattle.up_desk.specs.Serving.{HoldsState, told, outcome_due, outright, Serves}
 use Rattle.up_desk.specs.Calls.{ServesCall, SparesCall, CommitsCall}
 use Rattle.up_desk.proofs.Serving.{answered, crashed, committed, clean_once, told_outright}
 use Rattle.up_desk.proofs.Outlasting.{answered_stays}
@@ -29,7 +29,7 @@ pub record CallLaws : Type 0 where
 
 -- what a command over the store comes to, from each sound state that the tables showed
 abbrev pub Obeys : Rules → ℕ → Command → Result Answer Refusal → Connected → Connected → Type 0
-Obeys k at c r old new = (s : State) → IsSound k s → IfClean (KeepsState k s) old → Serves k s old new r (served k s at c)
+Obeys k at c r old new = (s : State) → IsSound k s → IfClean (KeepsState k s) old → Serves k s old new r (outcome_due k s at c)
 
 pub record IsCall (k : Rules) (at : ℕ) (c : Command) (a : Answer) (old new : Connected) : Type 0 where
   pub served : ServesCall k at c a old new

@@ -1,4 +1,4 @@
--- What is served is what a command over the rows comes to.
+-- What is due is what a command over the rows comes to.
 use Rattle.std.proofs.Common.{◌≡◌, ℕ, ◌<◌, ◌≤◌, List, Bool, true, false, Option, Some, None, Result, Ok, Err, refl, sym, ap, ◌∙◌, subst, arith}
 use Rattle.std.specs.Prelude.{◌||◌, ⊤, nat_lt, if◌then◌else◌, codes, length, IfSome, option_and_then, MatchBool, IsTrue}
 use Rattle.std.specs.List.{list_all}
@@ -29,14 +29,14 @@ use Rattle.up_machine.specs.Inventory.{decide_vehicle, decide_open, decide_close
 use Rattle.up_machine.specs.Deliveries.{Received, receive_manifest, receive, decide_received, decide_delivery}
 use Rattle.up_machine.specs.Decisions.{resolve, decide_incoming}
 use Rattle.up_machine.specs.Machine.{decide, outcome_of, step}
-use Rattle.up_machine.specs.Repeats.{Repeat, repeat_in, repeat_of, served_as, serve}
+use Rattle.up_machine.specs.Repeats.{KeptEntry, repeat_in, repeat_of, served_as, serve}
 use Rattle.up_machine.specs.Sound.{IsSound}
 use Rattle.up_machine.specs.RepeatLaws.{ServedStaysSound}
 use Rattle.up_machine.proofs.Fetched.{in_time}
 use Rattle.sqlite.specs.State.{State as Connected, HasCleanDisk, Survives}
 use Rattle.up_tables.specs.Stands.{IfClean, LeavesOnly}
 use Rattle.up_store.specs.Connections.{KeepsState}
-use Rattle.up_desk.specs.Serving.{is_store, is_lost_by, is_lost, IsAnswered, told, served, outright_in_time, outright, HoldsState, Leaves, IsCommit, Serves}
+use Rattle.up_desk.specs.Serving.{is_store, is_lost_by, is_lost, IsAnswered, told, outcome_due, outright_in_time, outright, HoldsState, Leaves, IsCommit, Serves}
 
 -- ---- the moment
 
@@ -58,29 +58,29 @@ stopped_or_lost m f r h = by_loss (is_memory r) (is_store r) h
     by_loss false true h = tt
     by_loss false false h = bind-err m f r h
 
-pub late_served : (k : Rules) (s : State) (at : ℕ) (c : Command) → last_command_moment < at → served k s at c ≡ Err MomentOutOfRange
+pub late_due : (k : Rules) (s : State) (at : ℕ) (c : Command) → last_command_moment < at → outcome_due k s at c ≡ Err MomentOutOfRange
 unfolding decide_found decide_rotate decide_image decide_refresh decide_fetch decide_vehicle decide_open decide_close
-late_served k s at (Found keys) h = bind-err _ _ _ (too_late at h)
-late_served k s at (Rotate keys) h = bind-err _ _ _ (too_late at h)
-late_served k s at (AddImage image) h = bind-err _ _ _ (too_late at h)
-late_served k s at (Refresh version) h = bind-err _ _ _ (too_late at h)
-late_served k s at (AddVehicle new) h = bind-err _ _ _ (too_late at h)
-late_served k s at (OpenCampaign campaign) h = bind-err _ _ _ (too_late at h)
-late_served k s at (CloseCampaign name) h = bind-err _ _ _ (too_late at h)
-late_served k s at (Deliver body) h = bind-err _ _ _ (too_late at h)
-late_served k s at (Fetch repository name) h = bind-err _ _ _ (too_late at h)
+late_due k s at (Found keys) h = bind-err _ _ _ (too_late at h)
+late_due k s at (Rotate keys) h = bind-err _ _ _ (too_late at h)
+late_due k s at (AddImage image) h = bind-err _ _ _ (too_late at h)
+late_due k s at (Refresh version) h = bind-err _ _ _ (too_late at h)
+late_due k s at (AddVehicle new) h = bind-err _ _ _ (too_late at h)
+late_due k s at (OpenCampaign campaign) h = bind-err _ _ _ (too_late at h)
+late_due k s at (CloseCampaign name) h = bind-err _ _ _ (too_late at h)
+late_due k s at (Deliver body) h = bind-err _ _ _ (too_late at h)
+late_due k s at (Fetch repository name) h = bind-err _ _ _ (too_late at h)
 
 pub delivery_served : (k : Rules) (s : State) (at : ℕ) (body : List ℕ) → at ≤ last_command_moment
-    → and_then (incoming_in body) (decide_incoming k s at) ≡ served k s at (Deliver body)
+    → and_then (incoming_in body) (decide_incoming k s at) ≡ outcome_due k s at (Deliver body)
 unfolding and_then
 delivery_served k s at body h = sym (ap (λ (m : Result ⊤ Refusal). and_then m (λ _. and_then (incoming_in body) (decide_incoming k s at))) (in_time at h))
 
-pub of_command : (k : Rules) (s : State) (old new : Connected) (r : Result Answer Refusal) (at : ℕ) (c d : Command) → c ≡ d → Serves k s old new r (served k s at d) → Serves k s old new r (served k s at c)
-of_command k s old new r at c d is h = subst (λ (e : Command). Serves k s old new r (served k s at e)) (sym is) h
+pub of_command : {k : Rules} {s : State} {old new : Connected} {r : Result Answer Refusal} (at : ℕ) (c d : Command) → c ≡ d → Serves k s old new r (outcome_due k s at d) → Serves k s old new r (outcome_due k s at c)
+of_command {k} {s} {old} {new} {r} at c d is h = subst (λ (e : Command). Serves k s old new r (outcome_due k s at e)) (sym is) h
 
-pub of_delivery : (k : Rules) (s : State) (old new : Connected) (r : Result Answer Refusal) (at : ℕ) (c : Command) (body : List ℕ) → c ≡ Deliver body → at ≤ last_command_moment
-    → Serves k s old new r (and_then (incoming_in body) (decide_incoming k s at)) → Serves k s old new r (served k s at c)
-of_delivery k s old new r at c body is moment h = of_command k s old new r at c (Deliver body) is (subst (λ (o : Result Outcome Refusal). Serves k s old new r o) (delivery_served k s at body moment) h)
+pub of_delivery : {k : Rules} {s : State} {old new : Connected} {r : Result Answer Refusal} (at : ℕ) (c : Command) (body : List ℕ) → c ≡ Deliver body → at ≤ last_command_moment
+    → Serves k s old new r (and_then (incoming_in body) (decide_incoming k s at)) → Serves k s old new r (outcome_due k s at c)
+of_delivery {k} {s} {old} {new} {r} at c body is moment h = of_command at c (Deliver body) is (subst (λ (o : Result Outcome Refusal). Serves k s old new r o) (delivery_served k s at body moment) h)
 
 -- a vehicle with a public part that doesn't fit is refused
 pub unfit_vehicle : (k : Rules) (s : State) (at : ℕ) (new : NewVehicleData) → at ≤ last_command_moment → list_all (λ e. public_fits k e.public) new.ecus ≡ false
@@ -93,16 +93,16 @@ by_key r computed is same = subst (λ q. MatchBool (is_lost_by q) ⊤ (computed 
 
 -- ---- repeats
 
-abbrev chosen : Rules → State → Option Repeat → Result Outcome Refusal → Outcome
+abbrev chosen : Rules → State → Option KeptEntry → Result Outcome Refusal → Outcome
 chosen k s None decided = outcome_of s decided
 chosen k s (Some r) decided = record { answer = Replied (reply_to k s r.vehicle r.number r.entry); next = s }
 
-chosen_is : (k : Rules) (s : State) (at : ℕ) (c : Command) (o : Option Repeat) → served_as k s at c o ≡ chosen k s o (decide k s at c)
+chosen_is : (k : Rules) (s : State) (at : ℕ) (c : Command) (o : Option KeptEntry) → served_as k s at c o ≡ chosen k s o (decide k s at c)
 unfolding step
 chosen_is k s at c None = refl
 chosen_is k s at c (Some r) = refl
 
-resolved : (k : Rules) (s : State) (at : ℕ) (d : Received) (o : Option Repeat) → chosen k s o (decide_received k s at d) ≡ outcome_of s (resolve k s at d o)
+resolved : (k : Rules) (s : State) (at : ℕ) (d : Received) (o : Option KeptEntry) → chosen k s o (decide_received k s at d) ≡ outcome_of s (resolve k s at d o)
 resolved k s at d None = refl
 resolved k s at d (Some r) = refl
 
@@ -119,24 +119,24 @@ chained (Ok x) (Ok y) f g = refl
 chained (Ok x) (Err e) f g = refl
 chained (Err e) i f g = refl
 
-delivered : (k : Rules) (s : State) (at : ℕ) (body : List ℕ) → serve k s at (Deliver body) ≡ outcome_of s (served k s at (Deliver body))
+delivered : (k : Rules) (s : State) (at : ℕ) (body : List ℕ) → serve k s at (Deliver body) ≡ outcome_of s (outcome_due k s at (Deliver body))
 unfolding serve receive decide_delivery decide_incoming
 delivered k s at body =
     chosen_is k s at (Deliver body) (repeat_of k s at (Deliver body))
     ∙ received_served k s at (receive k s at body)
     ∙ ap (outcome_of s) (chained (check_moment at) (incoming_in body) (receive_manifest k s) (λ d. resolve k s at d (repeat_in d)))
 
-pub served_is : (k : Rules) (s : State) (at : ℕ) (c : Command) → serve k s at c ≡ outcome_of s (served k s at c)
+pub due_is : (k : Rules) (s : State) (at : ℕ) (c : Command) → serve k s at c ≡ outcome_of s (outcome_due k s at c)
 unfolding serve step
-served_is k s at (Found keys) = refl
-served_is k s at (Rotate keys) = refl
-served_is k s at (AddImage image) = refl
-served_is k s at (Refresh version) = refl
-served_is k s at (AddVehicle new) = refl
-served_is k s at (OpenCampaign campaign) = refl
-served_is k s at (CloseCampaign name) = refl
-served_is k s at (Deliver body) = delivered k s at body
-served_is k s at (Fetch repository name) = refl
+due_is k s at (Found keys) = refl
+due_is k s at (Rotate keys) = refl
+due_is k s at (AddImage image) = refl
+due_is k s at (Refresh version) = refl
+due_is k s at (AddVehicle new) = refl
+due_is k s at (OpenCampaign campaign) = refl
+due_is k s at (CloseCampaign name) = refl
+due_is k s at (Deliver body) = delivered k s at body
+due_is k s at (Fetch repository name) = refl
 
 -- ---- one call
 
@@ -147,11 +147,11 @@ pub record IsServed (k : Rules) (s : State) (at : ℕ) (c : Command) (a : Answer
   pub sound : IsSound k next
   pub keeps : KeepsState k next new
 
-by_loss : (k : Rules) (s : State) (at : ℕ) (c : Command) (r : Refusal) (b : Bool) → MatchBool b ⊤ (served k s at c ≡ Err r)
+by_loss : (k : Rules) (s : State) (at : ℕ) (c : Command) (r : Refusal) (b : Bool) → MatchBool b ⊤ (outcome_due k s at c ≡ Err r)
     → MatchBool b (s ≡ s) ((Refused r ≡ (serve k s at c).answer) × (s ≡ (serve k s at c).next))
 by_loss k s at c r true h = refl
 by_loss k s at c r false h =
-    let is : serve k s at c ≡ record { answer = Refused r; next = s } = served_is k s at c ∙ ap (outcome_of s) h in
+    let is : serve k s at c ≡ record { answer = Refused r; next = s } = due_is k s at c ∙ ap (outcome_of s) h in
     (sym (ap (λ (o : Outcome). o.answer) is), sym (ap (λ (o : Outcome). o.next) is))
 
 done_as : (k : Rules) (s next : State) (at : ℕ) (c : Command) (a : Answer) → serve k s at c ≡ record { answer = a; next = next }
@@ -160,10 +160,10 @@ done_as k s next at c a is true h = cc
 done_as k s next at c a is false h = (sym (ap (λ (o : Outcome). o.answer) is), sym (ap (λ (o : Outcome). o.next) is))
 
 pub answered : (k : Rules) (s : State) (new : Connected) (at : ℕ) (c : Command) (r : Result Answer Refusal) → ServedStaysSound → IsTrue (is_command c) → IsSound k s
-    → Leaves k s new r (served k s at c) → IsServed k s at c (told r) new
+    → Leaves k s new r (outcome_due k s at c) → IsServed k s at c (told r) new
 answered k s new at c (Ok a) stays fits sound h =
     let next : State = h.1.0 in
-    let is : serve k s at c ≡ record { answer = a; next = next } = served_is k s at c ∙ ap (outcome_of s) h.1.1 in
+    let is : serve k s at c ≡ record { answer = a; next = next } = due_is k s at c ∙ ap (outcome_of s) h.1.1 in
     record {
       next = next;
       answered = done_as k s next at c a is (is_lost a) h.0;
@@ -172,13 +172,13 @@ answered k s new at c (Ok a) stays fits sound h =
     }
 answered k s new at c (Err r) stays fits sound h = record { next = s; answered = by_loss k s at c r (is_lost_by r) h.1; sound = sound; keeps = h.0 }
 
-next_is : (k : Rules) (s : State) (at : ℕ) (c : Command) → (outcome_of s (served k s at c)).next ≡ (serve k s at c).next
-next_is k s at c = sym (ap (λ (o : Outcome). o.next) (served_is k s at c))
+next_is : (k : Rules) (s : State) (at : ℕ) (c : Command) → (outcome_of s (outcome_due k s at c)).next ≡ (serve k s at c).next
+next_is k s at c = sym (ap (λ (o : Outcome). o.next) (due_is k s at c))
 
-pub crashed : (k : Rules) (s : State) (old new : Connected) (at : ℕ) (c : Command) (r : Result Answer Refusal) → Serves k s old new r (served k s at c) → Survives old new (HoldsState k (serve k s at c).next)
+pub crashed : (k : Rules) (s : State) (old new : Connected) (at : ℕ) (c : Command) (r : Result Answer Refusal) → Serves k s old new r (outcome_due k s at c) → Survives old new (HoldsState k (serve k s at c).next)
 crashed k s old new at c r h = subst (λ (n : State). Survives old new (HoldsState k n)) (next_is k s at c) h.crash
 
-pub committed : (k : Rules) (s : State) (old new : Connected) (at : ℕ) (c : Command) (r : Result Answer Refusal) → Serves k s old new r (served k s at c)
+pub committed : (k : Rules) (s : State) (old new : Connected) (at : ℕ) (c : Command) (r : Result Answer Refusal) → Serves k s old new r (outcome_due k s at c)
     → IsCommit s (told r) (serve k s at c).next → IfClean (LeavesOnly (HoldsState k (serve k s at c).next)) new
 committed k s old new at c r h = subst (λ (n : State). IsCommit s (told r) n → IfClean (LeavesOnly (HoldsState k n)) new) (next_is k s at c) h.durable
 

@@ -8,6 +8,7 @@ use Rattle.up_canon.specs.declared.refusal.Refusal.{Refusal}
 use Rattle.up_canon.specs.Refusals.{is_memory}
 use Rattle.up_sign.specs.Schemes.{Rules}
 use Rattle.up_machine.specs.declared.answer.Answer.{Answer}
+use Rattle.up_machine.specs.declared.answer.Answer.TheVariants.{Done}
 use Rattle.up_machine.specs.State.{State}
 use Rattle.up_machine.specs.Deciding.{Outcome}
 use Rattle.up_machine.specs.Decisions.{GivesFile}
@@ -24,8 +25,8 @@ use Rattle.up_desk.specs.Serving.{is_store, is_lost_by, is_lost, told, HoldsStat
 
 -- ---- reads
 
-pub clean_before : (old new : Connected) → Reads old new → HasCleanDisk new → HasCleanDisk old
-clean_before old new reads now = let before : HasCleanDisk old = omega (arith, reads.survives.clean) in before
+pub clean_before : {old new : Connected} → Reads old new → HasCleanDisk new → HasCleanDisk old
+clean_before {old} {new} reads now = let before : HasCleanDisk old = omega (arith, reads.survives.clean) in before
 
 survives_same : (P : Trees → Type 0) (s : Connected) → Survives s s P
 survives_same P s = record { clean = omega arith; shield = λ h. h; counts = omega arith; limit = refl; closes = λ clean is_open. inl is_open; crash = λ clean db may. inl may }
@@ -33,14 +34,23 @@ survives_same P s = record { clean = omega arith; shield = λ h. h; counts = ome
 pub reads_none : (s : Connected) → Reads s s
 reads_none s = record { kept = λ rows was. was; survives = survives_same (λ _. ⊥) s }
 
-pub reads_then : (a b c : Connected) → Reads a b → Reads b c → Reads a c
-reads_then a b c ab bc = record {
+pub reads_then : {a b c : Connected} → Reads a b → Reads b c → Reads a c
+reads_then {a} {b} {c} ab bc = record {
   kept = λ rows was. bc.kept rows (ab.kept rows was);
   survives = survives_then a b c (λ _. ⊥) (λ _. ⊥) (λ _. ⊥) (λ _ db none. none) (λ _ db none. none) ab.survives bc.survives;
 }
 
-pub keeps_after : (k : Rules) (s : State) (old new : Connected) → IfClean (KeepsState k s) old → Reads old new → IfClean (KeepsState k s) new
-keeps_after k s old new was reads = reads.kept (rows_of_state k s) was
+pub keeps_after : (k : Rules) (s : State) {old new : Connected} → IfClean (KeepsState k s) old → Reads old new → IfClean (KeepsState k s) new
+keeps_after k s was reads = reads.kept (rows_of_state k s) was
+
+-- two that follow on each other
+pub record Following (old mid new : Connected) : Type 0 where
+  pub clean : HasCleanDisk new → HasCleanDisk mid
+  pub keeps : (k : Rules) (s : State) → IfClean (KeepsState k s) old → IfClean (KeepsState k s) mid
+  pub reads : Reads old new
+
+pub following : {old mid new : Connected} → Reads old mid → Reads mid new → Following old mid new
+following first second = record { clean = clean_before second; keeps = λ k s was. keeps_after k s was first; reads = reads_then first second }
 
 spared : (P : Trees → Type 0) (old new : Connected) → Reads old new → Survives old new P
 spared P old new reads = survives_weaker old new (λ _. ⊥) P (λ clean db none. absurd none) reads.survives
@@ -48,27 +58,27 @@ spared P old new reads = survives_weaker old new (λ _. ⊥) P (λ clean db none
 -- ---- commands that write nothing
 
 -- it is refused, or lost
-pub refused : (k : Rules) (s : State) (old new : Connected) (r : Refusal) (computed : Result Outcome Refusal) → IfClean (KeepsState k s) old → Reads old new
+pub refused : {k : Rules} {s : State} {old new : Connected} {r : Refusal} {computed : Result Outcome Refusal} → IfClean (KeepsState k s) old → Reads old new
     → (HasCleanDisk new → MatchBool (is_lost_by r) ⊤ (computed ≡ Err r)) → Serves k s old new (Err r) computed
-refused k s old new r computed was reads due = record {
-  leaves = λ clean. (keeps_after k s old new was reads clean, due clean);
+refused {k} {s} {old} {new} {r} {computed} was reads due = record {
+  leaves = λ clean. (keeps_after k s was reads clean, due clean);
   crash = spared (HoldsState k (outcome_of s computed).next) old new reads;
   durable = λ commit. absurd commit;
 }
 
 -- its answer leaves the state as it is
-pub unchanged : (k : Rules) (s : State) (old new : Connected) (answer : Answer) (computed : Result Outcome Refusal) → is_lost answer ≡ false
+pub unchanged : {k : Rules} {s : State} {old new : Connected} {answer : Answer} {computed : Result Outcome Refusal} → is_lost answer ≡ false
     → ((next : State) → IsCommit s answer next → next ≡ s → ⊥) → IfClean (KeepsState k s) old → Reads old new
     → (HasCleanDisk new → computed ≡ Ok (record { answer = answer; next = s })) → Serves k s old new (Ok answer) computed
-unchanged k s old new answer computed given never was reads is = record {
-  leaves = λ clean. (given, (s, is clean, keeps_after k s old new was reads clean));
+unchanged {k} {s} {old} {new} {answer} {computed} given never was reads is = record {
+  leaves = λ clean. (given, (s, is clean, keeps_after k s was reads clean));
   crash = spared (HoldsState k (outcome_of s computed).next) old new reads;
   durable = λ commit clean. absurd (never (outcome_of s computed).next commit (ap (λ o. (outcome_of s o).next) (is clean)));
 }
 
 -- what is served after a read is served after what was before it
-pub after_reads : (k : Rules) (s : State) (old mid new : Connected) (r : Result Answer Refusal) (computed : Result Outcome Refusal) → Reads old mid → Serves k s mid new r computed → Serves k s old new r computed
-after_reads k s old mid new r computed reads serves = record {
+pub after_reads : {k : Rules} {s : State} {old mid new : Connected} {r : Result Answer Refusal} {computed : Result Outcome Refusal} → Reads old mid → Serves k s mid new r computed → Serves k s old new r computed
+after_reads {k} {s} {old} {mid} {new} {r} {computed} reads serves = record {
   leaves = serves.leaves;
   crash = survives_then old mid new (λ _. ⊥) (HoldsState k (outcome_of s computed).next) (HoldsState k (outcome_of s computed).next) (λ _ db none. absurd none) (λ _ db holds. holds) reads.survives serves.crash;
   durable = serves.durable;
@@ -111,7 +121,7 @@ written k s old mid new answer w fits change computed given was reads will takes
     rows = rows_of_state k s
 
     stands : IfClean (KeepsState k s) mid
-    stands = keeps_after k s old mid was reads
+    stands = keeps_after k s was reads
 
     may : MayWrite rows (fits rows) mid
     may = record { keeps = stands; fits = λ now. (will now).fit }
@@ -128,6 +138,14 @@ written k s old mid new answer w fits change computed given was reads will takes
     durable (Ok done) commits commit now = λ trees may_leave. subst (λ r. HoldsRows r trees) (next_is now) (commits rows may now trees may_leave)
     durable (Err f) commits commit now = absurd commit
 
+-- the same, told as done
+pub done_written : {k : Rules} {s : State} {old mid new : Connected} {r : Result Answer Refusal} {computed : Result Outcome Refusal} (w : Result ⊤ StoreFault) (fits : StateRows → Type 0) (change : StateRows → StateRows)
+    → r ≡ answer_written Done w → IfClean (KeepsState k s) old → Reads old mid → (HasCleanDisk mid → WillWrite k s fits change Done computed)
+    → TakesRows fits change mid new w → CommitsRows fits change mid new w → OnErr w (IfClean (IsAsCommitted mid) new) → SparesRows fits change mid new → (HasCleanDisk new → HasCleanDisk mid)
+    → Serves k s old new r computed
+done_written {k} {s} {old} {mid} {new} {r} {computed} w fits change is was reads will takes commits kept spares clean =
+    subst (λ a. Serves k s old new a computed) (sym is) (written k s old mid new Done w fits change computed refl was reads will takes commits kept spares clean)
+
 -- ---- decisions
 
 memory_is_lost : (a b : Bool) (X : Type 0) → MatchBool a ⊤ X → MatchBool (a || b) ⊤ X
@@ -142,8 +160,8 @@ gives_or_lost gives (Err r) computed due h = memory_is_lost (is_memory r) (is_st
 
 -- ---- calls of the store
 
-pub store_reads : (old new : Connected) → IfClean (IsAsCommitted old) new → Survives old new (λ _. ⊥) → Reads old new
-store_reads old new kept crash = record {
+pub store_reads : {old new : Connected} → IfClean (IsAsCommitted old) new → Survives old new (λ _. ⊥) → Reads old new
+store_reads {old} {new} kept crash = record {
   kept = λ rows was. stands_kept up_schema (ListsRows rows) old new was (λ now. let before : HasCleanDisk old = omega (arith, crash.clean) in before) kept;
   survives = crash;
 }

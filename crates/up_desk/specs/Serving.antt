@@ -83,12 +83,12 @@ told (Ok answer) = answer
 told (Err r) = Refused r
 
 -- the refusal that is due, or the outcome; a manifest that was accepted before is answered its kept reply
-abbrev pub served : Rules → State → ℕ → Command → Result Outcome Refusal
-served k s at (Deliver body) = do
+abbrev pub outcome_due : Rules → State → ℕ → Command → Result Outcome Refusal
+outcome_due k s at (Deliver body) = do
   moment_out_of_range ← check_moment at
   incoming ← incoming_in body
   decide_incoming k s at incoming
-served k s at c = decide k s at c
+outcome_due k s at c = decide k s at c
 
 -- what a crash may leave shows the state
 abbrev pub HoldsState : Rules → State → Trees → Type 0

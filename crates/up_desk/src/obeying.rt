@@ -7,7 +7,7 @@ ghost use Rattle.up_machine.specs.Sound.{IsSound};
 ghost use Rattle.up_machine.specs.State.{State};
 ghost use Rattle.up_store.specs.Connections.{KeepsState};
 ghost use Rattle.up_tables.specs.Stands.{IfClean};
-ghost use Rattle.up_desk.specs.Serving.{Serves, served, outright as outright_of, outright_in_time, told};
+ghost use Rattle.up_desk.specs.Serving.{Serves, outcome_due, outright as outright_of, outright_in_time, told};
 
 use crate::campaigns::{close, open};
 use crate::deliveries::deliver;
@@ -33,7 +33,7 @@ pub fn obey<K: Scheme, D: Alter>(
     command: &Command,
 ) -> Result<Answer, Refusal>
     ensures serves { (s : State) → IsSound (K.rules scheme.now) s → IfClean (KeepsState (K.rules scheme.now) s) (state D.Store store.old)
-        → Serves (K.rules scheme.now) s (state D.Store store.old) (state D.Store store.new) result (served (K.rules scheme.now) s at command.now) }
+        → Serves (K.rules scheme.now) s (state D.Store store.old) (state D.Store store.new) result (outcome_due (K.rules scheme.now) s at command.now) }
     ensures outright { IfSome (outright_of (K.rules scheme.now) at command.now) (λ r. result ≡ Err r) }
 {
     match command_moment(at) {
@@ -52,7 +52,7 @@ fn act<K: Scheme, D: Alter>(
 ) -> Result<Answer, Refusal>
     requires moment { at ≤ last_command_moment }
     ensures serves { (s : State) → IsSound (K.rules scheme.now) s → IfClean (KeepsState (K.rules scheme.now) s) (state D.Store store.old)
-        → Serves (K.rules scheme.now) s (state D.Store store.old) (state D.Store store.new) result (served (K.rules scheme.now) s at command.now) }
+        → Serves (K.rules scheme.now) s (state D.Store store.old) (state D.Store store.new) result (outcome_due (K.rules scheme.now) s at command.now) }
     ensures outright { IfSome (outright_in_time (K.rules scheme.now) command.now) (λ r. result ≡ Err r) }
 {
     match command {

@@ -20,7 +20,7 @@ use Rattle.up_machine.specs.Replies.{reply_text, reply_to}
 use Rattle.up_machine.specs.Deciding.{Outcome, check_moment, check_founded}
 use Rattle.up_machine.specs.Deliveries.{Received, is_signed_by, receive_manifest, receive, check_new, plan_in, entry_of, with_entry, accepted, decide_received, decide_delivery}
 use Rattle.up_machine.specs.Machine.{outcome_of, step}
-use Rattle.up_machine.specs.Repeats.{Repeat, repeat_in, served_as, serve}
+use Rattle.up_machine.specs.Repeats.{KeptEntry, repeat_in, served_as, serve}
 use Rattle.up_canon.proofs.Steps.{bind-ok, bind-err, same_ok}
 use Rattle.up_machine.proofs.Receiving.{received}
 
@@ -99,7 +99,7 @@ serve_refused k s at body e h =
     ap (λ (r : Result Received Refusal). served_as k s at (Deliver body) (option_and_then repeat_in (value_of r))) h
     ∙ ap (outcome_of s) (bind-err (receive k s at body) (decide_received k s at) e h)
 
-pub serve_repeat : (k : Rules) (s : State) (at : ℕ) (body : List ℕ) (r : Received) (x : Repeat) → receive k s at body ≡ Ok r → repeat_in r ≡ Some x
+pub serve_repeat : (k : Rules) (s : State) (at : ℕ) (body : List ℕ) (r : Received) (x : KeptEntry) → receive k s at body ≡ Ok r → repeat_in r ≡ Some x
     → serve k s at (Deliver body) ≡ record { answer = Replied (reply_to k s x.vehicle x.number x.entry); next = s }
 unfolding serve
 serve_repeat k s at body r x h is =
@@ -154,7 +154,7 @@ effect_new k s at body name r is there served (Ok x) h = record {
 
 effect_received : (k : Rules) (s : State) (at : ℕ) (body : List ℕ) (name : Name) (r : Received) → r.incoming.manifest.vehicle ≡ name → table.get s.vehicles name ≡ Some r.vehicle
     → ((vehicles : Table Vehicle) → table.get vehicles name ≡ table.get s.vehicles name → receive k (with_vehicles s vehicles) at body ≡ Ok r)
-    → (o : Option Repeat) → repeat_in r ≡ o → Effect k s at body name
+    → (o : Option KeptEntry) → repeat_in r ≡ o → Effect k s at body name
 effect_received k s at body name r is there receives None h =
     effect_new k s at body name r is there (λ vehicles same. serve_new k (with_vehicles s vehicles) at body r (receives vehicles same) h) (check_new k r) refl
 effect_received k s at body name r is there receives (Some x) h =

@@ -16,7 +16,7 @@ use Rattle.up_machine.specs.declared.rows.Kept.{Kept}
 use Rattle.up_machine.specs.State.{Entry, Vehicle, State, nth}
 use Rattle.up_machine.specs.Deciding.{Outcome}
 use Rattle.up_machine.specs.Deliveries.{Received, receive_manifest, receive, decide_received}
-use Rattle.up_machine.specs.Repeats.{Repeat, repeat_in}
+use Rattle.up_machine.specs.Repeats.{KeptEntry, repeat_in}
 use Rattle.up_machine.specs.Rows.{kept_row, kept_at, reply_kept}
 use Rattle.up_machine.specs.Sound.{CountersRise, IsSound}
 use Rattle.up_machine.specs.Decisions.{resolve}
@@ -89,7 +89,7 @@ other_number a b h same = let apart : a ≢ b = grind (arith, nat_tests) in apar
 -- what the law of repeats says of a delivery
 record Tells (k : Rules) (s : State) (d : Received) : Type 0 where
   rising : CountersRise d.vehicle.entries
-  there : (r : Repeat) → repeat_in d ≡ Some r → (nth d.vehicle.entries r.number ≡ Some r.entry) × (r.entry.counter ≡ d.incoming.manifest.counter) × (r.entry.signed ≡ d.incoming.envelope.signed)
+  there : (r : KeptEntry) → repeat_in d ≡ Some r → (nth d.vehicle.entries r.number ≡ Some r.entry) × (r.entry.counter ≡ d.incoming.manifest.counter) × (r.entry.signed ≡ d.incoming.envelope.signed)
   found : (number : ℕ) (e : Entry) → nth d.vehicle.entries number ≡ Some e → e.signed ≡ d.incoming.envelope.signed → repeat_in d ≡ Some (record { vehicle = d.incoming.manifest.vehicle; number = number; entry = e })
 
 tells : BodiesAreRead → SignedTextsMean → (k : Rules) (s : State) (at : ℕ) (d : Received) (body : List ℕ) → IsSound k s → receive k s at body ≡ Ok d
@@ -103,7 +103,7 @@ tells bodies texts k s at d body sound h there =
       found = λ number e at_number text. sym same ∙ law.1 number e at_number text;
     }
 
-no_repeat : (d : Received) (o : Option Repeat) → ((r : Repeat) → o ≡ Some r → ⊥) → o ≡ None
+no_repeat : (d : Received) (o : Option KeptEntry) → ((r : KeptEntry) → o ≡ Some r → ⊥) → o ≡ None
 no_repeat d None none = refl
 no_repeat d (Some r) none = absurd (none r refl)
 

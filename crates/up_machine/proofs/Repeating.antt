@@ -22,7 +22,7 @@ use Rattle.up_machine.specs.Replies.{reply_to}
 use Rattle.up_machine.specs.Deciding.{Outcome}
 use Rattle.up_machine.specs.Deliveries.{Received, receive, check_new, decide_received, decide_delivery}
 use Rattle.up_machine.specs.Machine.{Timed, outcome_of, step, run}
-use Rattle.up_machine.specs.Repeats.{Repeat, entry_signed, repeat_in, repeat_of, served_as, serve, Sent, after, thinned, not_lost}
+use Rattle.up_machine.specs.Repeats.{KeptEntry, entry_signed, repeat_in, repeat_of, served_as, serve, Sent, after, thinned, not_lost}
 use Rattle.up_machine.specs.Sound.{IsEntryOf, IsSound}
 use Rattle.up_machine.specs.RepeatLaws.{RepeatsAreStale, RepeatsGetKeptReplies, CountersFindRepeats, OlderCountersAreStale, RepeatsChangeNothing, ServedIsThinned, ServedStaysSound}
 use Rattle.up_canon.proofs.Steps.{bind-ok, bind-err, value_of_some, and_then_some, map_some, one_value}
@@ -72,7 +72,7 @@ place_of xs (suc i) x h =
 -- ---- a repeat
 
 -- a repeat was received, and its entry is one of its vehicle's
-record IsRepeat (k : Rules) (s : State) (at : ℕ) (body : List ℕ) (r : Repeat) : Type 0 where
+record IsRepeat (k : Rules) (s : State) (at : ℕ) (body : List ℕ) (r : KeptEntry) : Type 0 where
   delivery : Received
   is_received : receive k s at body ≡ Ok delivery
   vehicle : r.vehicle ≡ delivery.incoming.manifest.vehicle
@@ -81,7 +81,7 @@ record IsRepeat (k : Rules) (s : State) (at : ℕ) (body : List ℕ) (r : Repeat
   number : r.number ≡ 1 + place
   there : slice_get delivery.vehicle.entries place ≡ Some r.entry
 
-repeat_is : (k : Rules) (s : State) (at : ℕ) (body : List ℕ) (r : Repeat) → repeat_of k s at (Deliver body) ≡ Some r → IsRepeat k s at body r
+repeat_is : (k : Rules) (s : State) (at : ℕ) (body : List ℕ) (r : KeptEntry) → repeat_of k s at (Deliver body) ≡ Some r → IsRepeat k s at body r
 repeat_is k s at body r h =
     let a = and_then_some repeat_in (value_of (receive k s at body)) r h in
     let d = a.0 in
@@ -122,7 +122,7 @@ stale_step : (k : Rules) (s : State) (at : ℕ) (body : List ℕ) (d : Received)
 unfolding step decide_delivery decide_received
 stale_step k s at body d h old = ap (outcome_of s) (bind-ok _ _ d h ∙ bind-err _ _ _ (stale_check k d old))
 
-repeat_steps : BodiesAreRead → SignedTextsMean → (k : Rules) (s : State) (at : ℕ) (body : List ℕ) (r : Repeat) → IsSound k s → (is : IsRepeat k s at body r)
+repeat_steps : BodiesAreRead → SignedTextsMean → (k : Rules) (s : State) (at : ℕ) (body : List ℕ) (r : KeptEntry) → IsSound k s → (is : IsRepeat k s at body r)
     → step k s at (Deliver body) ≡ record { answer = Refused (Stale (last_counter is.delivery.vehicle.entries)); next = s }
 repeat_steps bodies texts k s at body r sound is =
     let same = level bodies texts k s at body is.delivery is.place r.entry sound is.is_received is.there is.text in
@@ -168,7 +168,7 @@ repeat_received k s at body d h = ap (λ (o : Result Received Refusal). option_a
 pub found_by_counter : BodiesAreRead → SignedTextsMean → CountersFindRepeats
 found_by_counter bodies texts k s at body d sound h = (there, found)
   where
-    there : (r : Repeat) → repeat_of k s at (Deliver body) ≡ Some r
+    there : (r : KeptEntry) → repeat_of k s at (Deliver body) ≡ Some r
         → (nth d.vehicle.entries r.number ≡ Some r.entry) × (r.entry.counter ≡ d.incoming.manifest.counter) × (r.entry.signed ≡ d.incoming.envelope.signed) × (r.vehicle ≡ d.incoming.manifest.vehicle)
     there r repeats =
         let is = repeat_is k s at body r repeats in
@@ -183,7 +183,7 @@ found_by_counter bodies texts k s at body d sound h = (there, found)
 
     by_entry : (number : ℕ) (e : Entry) → nth d.vehicle.entries number ≡ Some e → e.signed ≡ d.incoming.envelope.signed
         → (o : Option (ℕ × Entry)) → entry_signed d.incoming.envelope.signed d.vehicle.entries ≡ o
-        → option_map {U = Repeat} (λ e. record { vehicle = d.incoming.manifest.vehicle; number = e.0; entry = e.1 }) o ≡ Some (record { vehicle = d.incoming.manifest.vehicle; number = number; entry = e })
+        → option_map {U = KeptEntry} (λ e. record { vehicle = d.incoming.manifest.vehicle; number = e.0; entry = e.1 }) o ≡ Some (record { vehicle = d.incoming.manifest.vehicle; number = number; entry = e })
     by_entry number e at_number text None none =
         let place = place_of d.vehicle.entries number e at_number in
         let missing = none_there d.incoming.envelope.signed 1 d.vehicle.entries place.0 e (none_passes _ (enumerate_from 1 d.vehicle.entries) none) place.2 in
@@ -211,7 +211,7 @@ unfolding serve
 older_is_stale k s at body d h none old = ap (served_as k s at (Deliver body)) none ∙ stale_step k s at body d h old
 
 -- the state stays
-unchanged : BodiesAreRead → SignedTextsMean → (k : Rules) (s : State) (at : ℕ) (c : Command) (r : Repeat) → IsSound k s → repeat_of k s at c ≡ Some r → (step k s at c).next ≡ s
+unchanged : BodiesAreRead → SignedTextsMean → (k : Rules) (s : State) (at : ℕ) (c : Command) (r : KeptEntry) → IsSound k s → repeat_of k s at c ≡ Some r → (step k s at c).next ≡ s
 unchanged bodies texts k s at (Found keys) r sound h = cc
 unchanged bodies texts k s at (Rotate keys) r sound h = cc
 unchanged bodies texts k s at (AddImage image) r sound h = cc
@@ -228,7 +228,7 @@ abbrev Same : Rules → List Sent → State → Type 0
 Same k ms s = run k s (thinned k s ms) ≡ run k s (not_lost ms)
 
 by_repeat : BodiesAreRead → SignedTextsMean → (k : Rules) (s : State) (item : Timed) (ms : List Sent) → IsTrue (is_command item.command) → IsSound k s
-    → ((s' : State) → IsSound k s' → Same k ms s') → (o : Option Repeat) → repeat_of k s item.at item.command ≡ o
+    → ((s' : State) → IsSound k s' → Same k ms s') → (o : Option KeptEntry) → repeat_of k s item.at item.command ≡ o
     → run k s (cons_option (cond (is_some o) None (Some item)) (thinned k (served_as k s item.at item.command o).next ms)) ≡ run k s (item ∷ not_lost ms)
 by_repeat bodies texts k s item ms fits sound more None is = more (step k s item.at item.command).next (stay bodies texts k s item.at item.command fits sound)
 by_repeat bodies texts k s item ms fits sound more (Some r) is =
@@ -244,7 +244,7 @@ pub without_repeats : BodiesAreRead → SignedTextsMean → RepeatsChangeNothing
 without_repeats bodies texts k s [] fits sound = refl
 without_repeats bodies texts k s (m ∷ ms) fits sound = by_loss bodies texts k s m.item ms fits.0 sound (λ s' sound'. without_repeats bodies texts k s' ms fits.1 sound') m.lost
 
-served_repeat : (k : Rules) (s : State) (item : Timed) (ms : List Sent) → ((s' : State) → after k s' ms ≡ run k s' (thinned k s' ms)) → (o : Option Repeat)
+served_repeat : (k : Rules) (s : State) (item : Timed) (ms : List Sent) → ((s' : State) → after k s' ms ≡ run k s' (thinned k s' ms)) → (o : Option KeptEntry)
     → after k (served_as k s item.at item.command o).next ms ≡ run k s (cons_option (cond (is_some o) None (Some item)) (thinned k (served_as k s item.at item.command o).next ms))
 served_repeat k s item ms more None = more (step k s item.at item.command).next
 served_repeat k s item ms more (Some r) = more s
@@ -263,6 +263,6 @@ pub served_sound : BodiesAreRead → SignedTextsMean → ServedStaysSound
 unfolding serve
 served_sound bodies texts k s at c fits sound = by_kind (repeat_of k s at c)
   where
-    by_kind : (o : Option Repeat) → IsSound k (served_as k s at c o).next
+    by_kind : (o : Option KeptEntry) → IsSound k (served_as k s at c o).next
     by_kind None = stay bodies texts k s at c fits sound
     by_kind (Some r) = sound

@@ -35,7 +35,7 @@ use Rattle.up_machine.specs.Files.{root_text_at, image_texts}
 use Rattle.up_machine.specs.Deciding.{Outcome, done, already}
 use Rattle.up_machine.specs.Deliveries.{Received, receive_manifest, decide_received, with_entry}
 use Rattle.up_machine.specs.Inventory.{with_campaign, closed}
-use Rattle.up_machine.specs.Repeats.{Repeat as KeptEntry, repeat_in}
+use Rattle.up_machine.specs.Repeats.{KeptEntry, repeat_in}
 use Rattle.up_machine.specs.Replies.{reply_to}
 use Rattle.up_machine.specs.Rows.{founding_row, vehicle_rows, rows_of, kept_row, kept_at, reply_kept}
 

@@ -12,25 +12,25 @@ use Rattle.up_machine.specs.State.{Entry, Vehicle, State, nth, last_counter}
 use Rattle.up_machine.specs.Replies.{reply_to, kept_reply}
 use Rattle.up_machine.specs.Deliveries.{Received, receive}
 use Rattle.up_machine.specs.Machine.{step, run}
-use Rattle.up_machine.specs.Repeats.{Repeat, repeat_of, Sent, serve, after, thinned, not_lost}
+use Rattle.up_machine.specs.Repeats.{KeptEntry, repeat_of, Sent, serve, after, thinned, not_lost}
 use Rattle.up_machine.specs.Sound.{IsSound}
 
 -- the plain machine refuses a repeat as stale, and keeps its state
 abbrev pub RepeatsAreStale : Type 0
-RepeatsAreStale = (k : Rules) (s : State) (at : ℕ) (c : Command) (r : Repeat) (v : Vehicle) → IsSound k s
+RepeatsAreStale = (k : Rules) (s : State) (at : ℕ) (c : Command) (r : KeptEntry) (v : Vehicle) → IsSound k s
     → repeat_of k s at c ≡ Some r → table.get s.vehicles r.vehicle ≡ Some v
     → step k s at c ≡ record { answer = Refused (Stale (last_counter v.entries)); next = s }
 
 -- a repeat's reply is the one kept for its entry
 abbrev pub RepeatsGetKeptReplies : Type 0
-RepeatsGetKeptReplies = (k : Rules) (s : State) (at : ℕ) (c : Command) (r : Repeat)
+RepeatsGetKeptReplies = (k : Rules) (s : State) (at : ℕ) (c : Command) (r : KeptEntry)
     → repeat_of k s at c ≡ Some r → kept_reply k s r.vehicle r.number ≡ Some (reply_to k s r.vehicle r.number r.entry)
 
 -- a delivery that no check up to the Primary's signature refuses is a repeat exactly where the vehicle's entry of its counter,
 -- of which there is at most one, has its signed text
 abbrev pub CountersFindRepeats : Type 0
 CountersFindRepeats = (k : Rules) (s : State) (at : ℕ) (body : List ℕ) (d : Received) → IsSound k s → receive k s at body ≡ Ok d
-    → ((r : Repeat) → repeat_of k s at (Deliver body) ≡ Some r
+    → ((r : KeptEntry) → repeat_of k s at (Deliver body) ≡ Some r
     → (nth d.vehicle.entries r.number ≡ Some r.entry) × (r.entry.counter ≡ d.incoming.manifest.counter)
     × (r.entry.signed ≡ d.incoming.envelope.signed) × (r.vehicle ≡ d.incoming.manifest.vehicle))
     × ((number : ℕ) (e : Entry) → nth d.vehicle.entries number ≡ Some e → e.signed ≡ d.incoming.envelope.signed

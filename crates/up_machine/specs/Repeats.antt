@@ -18,7 +18,7 @@ use Rattle.up_machine.specs.Machine.{Timed, step}
 -- ---- repeats
 
 -- an entry of the vehicle with this name, and its number among the vehicle's entries, counted from 1
-pub record Repeat : Type 0 where
+pub record KeptEntry : Type 0 where
   pub vehicle : Name
   pub number : ℕ
   pub entry : Entry
@@ -27,17 +27,17 @@ pub record Repeat : Type 0 where
 abbrev pub entry_signed : List ℕ → List Entry → Option (ℕ × Entry)
 entry_signed signed entries = find (λ e. bytes_eq e.1.signed signed) (enumerate_from 1 entries)
 
-abbrev pub repeat_in : Received → Option Repeat
+abbrev pub repeat_in : Received → Option KeptEntry
 repeat_in r = option_map (λ e. record { vehicle = r.incoming.manifest.vehicle; number = e.0; entry = e.1 })
     (entry_signed r.incoming.envelope.signed r.vehicle.entries)
 
 -- what the item repeats: no check up to the Primary's signature applies, and the vehicle has accepted the same canonical signed text
-abbrev pub repeat_of : Rules → State → ℕ → Command → Option Repeat
+abbrev pub repeat_of : Rules → State → ℕ → Command → Option KeptEntry
 repeat_of k s at (Deliver body) = option_and_then repeat_in (value_of (receive k s at body))
 repeat_of k s at _ = None
 
 -- a repeat is answered the kept reply and changes nothing; another item is the plain machine's
-abbrev pub served_as : Rules → State → ℕ → Command → Option Repeat → Outcome
+abbrev pub served_as : Rules → State → ℕ → Command → Option KeptEntry → Outcome
 served_as k s at c None = step k s at c
 served_as k s at c (Some r) = record { answer = Replied (reply_to k s r.vehicle r.number r.entry); next = s }
 

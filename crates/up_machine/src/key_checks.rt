@@ -65,6 +65,7 @@ fn secret_fits<K: Scheme>(scheme: &K, secret: &[u8]) -> bool
     secret.len() >= 1 && secret.len() <= 256 && scheme.secret_fits(secret)
 }
 
+/// Whether no two of the keys have one identifier. None is computed for a key by itself.
 #[tactic(auto, using(up_canon::proofs::Repeated::names_themselves))]
 fn has_distinct_identifiers<K: Scheme>(
     alloc: Global,
@@ -73,6 +74,9 @@ fn has_distinct_identifiers<K: Scheme>(
 ) -> Result<bool, AllocError>
     ensures { IfOk result (λ distinct. distinct ≡ is_none (first_repeated (map (identifier (K.rules scheme.now)) keys.now))) }
 {
+    if let [_] = keys {
+        return Ok(true);
+    }
     let mut names = Vec::with_capacity(alloc, keys.len())?;
     for key in keys {
         names.push(identifier_of(alloc, scheme, key.as_slice())?)?;

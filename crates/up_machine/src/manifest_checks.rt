@@ -1,9 +1,10 @@
 //! The checks of a manifest over the rows of its vehicle.
-ghost use Rattle.std.specs.Prelude.{◌≡◌, ◌<◌, ◌≤◌, OnOk, find, not, option_copied};
+ghost use Rattle.std.specs.Prelude.{◌≡◌, ◌<◌, ◌≤◌, OnOk, find, not, option_copied, option_map};
+ghost use Rattle.hex.specs.Hex.{encode_lower};
 ghost use Rattle.up_canon.specs.Canon.{max_count};
 ghost use Rattle.up_canon.specs.Refusals.{Gives};
 ghost use Rattle.up_machine.specs.Deliveries.{report_name};
-ghost use Rattle.up_machine.specs.ManifestRows.{row_of as row_in, has_row as has_row_in, is_signed_by_row, is_reported_in, follows as follows_row, follows_its_row, check_primary as check_primary_in, check_reports_of, check_new_of};
+ghost use Rattle.up_machine.specs.ManifestRows.{row_of as row_in, has_row as has_row_in, is_signed_by_row, row_key_id, is_reported_in, follows as follows_row, follows_its_row, check_primary as check_primary_in, check_reports_of, check_new_of};
 
 use crate::rows::{EcuRow, VehicleRows};
 use std::alloc::Global;
@@ -15,23 +16,36 @@ use up_canon::refusal::Refusal;
 use up_manifest::manifest::{Incoming, Manifest};
 use up_manifest::report::SignedReport;
 use up_sign::envelope::Envelope;
+use up_sign::key_id::key_id;
 use up_sign::scheme::Scheme;
-use up_sign::threshold::accepts;
+use up_sign::threshold::{accepts, accepts_key};
+
+/// The bytes of the identifier of the Primary's key, none where no row is the Primary's. A manifest and the Primary's own
+/// report in it are tested by it, so that it is computed once.
+pub(crate) fn primary_key_id(rows: &VehicleRows) -> Option<[u8; 32]>
+    ensures { option_map encode_lower result ≡ row_key_id rows.now.ecus rows.now.vehicle.primary }
+{
+    let row = row_of(rows.ecus.as_slice(), &rows.vehicle.primary)?;
+    Some(key_id(row.public.as_slice()))
+}
 
 /// Tests that the manifest names the vehicle's Primary, and that its Primary signed it.
 #[tactic(auto, unfolding(crate::specs::ManifestRows::check_primary, up_canon::specs::Steps::and_then))]
 pub(crate) fn check_primary<K: Scheme>(
     scheme: &K,
     rows: &VehicleRows,
+    primary_id: &Option<[u8; 32]>,
     incoming: &Incoming,
 ) -> Result<(), Refusal>
+    requires { option_map encode_lower primary_id.now ≡ row_key_id rows.now.ecus rows.now.vehicle.primary }
     ensures { result ≡ check_primary_in (K.rules scheme.now) rows.now incoming.now }
 {
     let primary = &rows.vehicle.primary;
     if incoming.manifest.primary != *primary {
         return Err(Refusal::WrongPrimary);
     }
-    if !is_signed_by(scheme, rows.ecus.as_slice(), primary, &incoming.envelope) {
+    let ecus = rows.ecus.as_slice();
+    if !is_signed_by_primary(scheme, ecus, primary, primary_id, &incoming.envelope) {
         return Err(Refusal::BadManifestSignature);
     }
     Ok(())
@@ -43,8 +57,10 @@ pub(crate) fn check_new<K: Scheme>(
     alloc: Global,
     scheme: &K,
     rows: &VehicleRows,
+    primary_id: &Option<[u8; 32]>,
     manifest: &Manifest,
 ) -> Result<(), Refusal>
+    requires { option_map encode_lower primary_id.now ≡ row_key_id rows.now.ecus rows.now.vehicle.primary }
     ensures value { Gives result (check_new_of (K.rules scheme.now) rows.now manifest.now) }
     ensures later { OnOk result (rows.now.vehicle.last < manifest.now.counter) }
     ensures limit { OnOk result (manifest.now.counter ≤ max_count) }
@@ -54,7 +70,14 @@ pub(crate) fn check_new<K: Scheme>(
         return Err(Refusal::Stale(last));
     }
     let reports = manifest.reports.as_slice();
-    check_reports(alloc, scheme, rows.ecus.as_slice(), reports)
+    check_reports(
+        alloc,
+        scheme,
+        rows.ecus.as_slice(),
+        &rows.vehicle.primary,
+        primary_id,
+        reports,
+    )
 }
 
 /// Tests that the reports are of the vehicle's ECUs, none twice and all of them, each signed by its ECU, and none older
@@ -64,8 +87,11 @@ fn check_reports<K: Scheme>(
     alloc: Global,
     scheme: &K,
     rows: &[EcuRow],
+    primary: &Ident,
+    primary_id: &Option<[u8; 32]>,
     reports: &[SignedReport],
 ) -> Result<(), Refusal>
+    requires { option_map encode_lower primary_id.now ≡ row_key_id rows.now primary.now }
     ensures { Gives result (check_reports_of (K.rules scheme.now) rows.now reports.now) }
 {
     if let Some(unknown) = first_unknown(rows, reports) {
@@ -77,7 +103,7 @@ fn check_reports<K: Scheme>(
     if let Some(row) = first_missing(rows, reports) {
         return Err(Refusal::MissingEcu(row.ecu.copy(alloc)?));
     }
-    if let Some(unsigned) = first_unsigned(scheme, rows, reports) {
+    if let Some(unsigned) = first_unsigned(scheme, rows, primary, primary_id, reports) {
         let ecu = unsigned.report.ecu.copy(alloc)?;
         return Err(Refusal::BadReportSignature(ecu));
     }
@@ -102,11 +128,16 @@ fn first_missing<'a>(rows: &'a [EcuRow], reports: &[SignedReport]) -> Option<&'a
 fn first_unsigned<'a, K: Scheme>(
     scheme: &K,
     rows: &[EcuRow],
+    primary: &Ident,
+    primary_id: &Option<[u8; 32]>,
     reports: &'a [SignedReport],
 ) -> Option<&'a SignedReport>
+    requires { option_map encode_lower primary_id.now ≡ row_key_id rows.now primary.now }
     ensures { option_copied result ≡ find (λ r. not (is_signed_by_row (K.rules scheme.now) rows.now (report_name r) r.envelope)) reports.now }
 {
-    reports.iter().find(|r| !is_signed(scheme, rows, r))
+    reports
+        .iter()
+        .find(|r| !is_signed(scheme, rows, primary, primary_id, r))
 }
 
 fn first_replayed<'a>(rows: &[EcuRow], reports: &'a [SignedReport]) -> Option<&'a SignedReport>
@@ -127,10 +158,38 @@ fn is_reported(reports: &[SignedReport], row: &EcuRow) -> bool
     has_name(reports, row.ecu.text())
 }
 
-fn is_signed<K: Scheme>(scheme: &K, rows: &[EcuRow], report: &SignedReport) -> bool
+/// Whether the ECU that it names signed the report.
+fn is_signed<K: Scheme>(
+    scheme: &K,
+    rows: &[EcuRow],
+    primary: &Ident,
+    primary_id: &Option<[u8; 32]>,
+    report: &SignedReport,
+) -> bool
+    requires { option_map encode_lower primary_id.now ≡ row_key_id rows.now primary.now }
     ensures { result ≡ is_signed_by_row (K.rules scheme.now) rows.now (report_name report.now) report.now.envelope }
 {
+    if report.report.ecu == *primary {
+        return is_signed_by_primary(scheme, rows, primary, primary_id, &report.envelope);
+    }
     is_signed_by(scheme, rows, &report.report.ecu, &report.envelope)
+}
+
+/// Whether the Primary signed it, of whose key the identifier is known.
+fn is_signed_by_primary<K: Scheme>(
+    scheme: &K,
+    rows: &[EcuRow],
+    primary: &Ident,
+    primary_id: &Option<[u8; 32]>,
+    envelope: &Envelope,
+) -> bool
+    requires { option_map encode_lower primary_id.now ≡ row_key_id rows.now primary.now }
+    ensures { result ≡ is_signed_by_row (K.rules scheme.now) rows.now primary.now envelope.now }
+{
+    match (row_of(rows, primary), primary_id) {
+        (Some(row), Some(id)) => accepts_key(scheme, id, row.public.as_slice(), envelope),
+        _ => false,
+    }
 }
 
 /// Whether the ECU of the name signed it.

@@ -3,7 +3,6 @@ use Rattle.std.proofs.Common.{◌≡◌, ◌≤◌, ℕ, List, Some, Ok, length,
 use Rattle.std.specs.Prelude.{codes}
 use Rattle.serde_json.specs.Data.{Data, array, Items}
 use Rattle.serde_json.specs.Find as json
-use Rattle.serde_json.specs.Read.{read}
 use Rattle.up_canon.specs.Members.{items_list}
 use Rattle.up_canon.specs.Steps.{each}
 use Rattle.up_canon.specs.Meaning.{EachMeans}

@@ -1,12 +1,12 @@
 -- How long the texts of envelopes, reports and manifests are at most.
-use Rattle.std.proofs.Common.{◌≡◌, ℕ, lit<, lit≤, ◌+◌, ◌*◌, ◌≤◌, List, [], ◌∷◌, ◌++◌, Bool, true, false, cond, length, map, refl, sym, ap, ◌∙◌, arith, append_assoc, length-append}
+use Rattle.std.proofs.Common.{◌≡◌, ℕ, lit<, lit≤, ◌+◌, ◌*◌, ◌≤◌, List, [], ◌∷◌, ◌++◌, Bool, true, false, cond, length, map, refl, ap, ◌∙◌, arith, append_assoc, length-append}
 use Rattle.std.specs.Prelude.{◌||◌, ◌==◌, codes, decimal, flat_map}
 use Rattle.std.specs.List.{list_all, join_with_byte}
 use Rattle.std.proofs.lemmas.Bool.{and_parts}
 use Rattle.std.proofs.lemmas.Fmt.{length-decimal-le}
 use Rattle.hex.specs.Hex.{encode_lower, lower_digits}
 use Rattle.hex.proofs.HexLemmas.{length-encode_with}
-use Rattle.up_canon.specs.Build.{list_with}
+use Rattle.up_canon.specs.Build.{list_with, hashes_value}
 use Rattle.up_canon.specs.Canon.{max_count, text, quoted, escaped}
 use Rattle.up_canon.specs.Moments.{moment_text, MomentTextIsPlain}
 use Rattle.up_canon.specs.Names.{is_from_to, is_short_text, is_ident}
@@ -14,7 +14,7 @@ use Rattle.up_canon.proofs.Members.{within}
 use Rattle.up_sign.specs.Formats.{signature_fits, envelope_fits, signature_value, envelope_text}
 use Rattle.up_sign.specs.declared.envelope.Signature.{Signature}
 use Rattle.up_sign.specs.declared.envelope.Envelope.{Envelope}
-use Rattle.up_manifest.specs.Building.{hashes_value, installed_value, ecu_text, report_text, ReportFits, IsReportEnvelope, AreReportEnvelopes, listed, manifest_text}
+use Rattle.up_manifest.specs.Building.{installed_value, report_text, ReportFits, IsReportEnvelope, AreReportEnvelopes, listed, manifest_text}
 use Rattle.up_manifest.specs.Manifests.{most_reports}
 use Rattle.up_manifest.specs.declared.report.Report.{Report}
 
@@ -102,7 +102,7 @@ installed-length r h =
     let sum = ap length (installed-spelled r) ∙ sum-seven (codes "{\"file\":") (quoted r.image.file) (codes ",\"hashes\":") (text (hashes_value r.image.sha256)) (codes ",\"length\":") (decimal r.image.length) (codes "}") in
     omega (arith, sum, file, hash, number)
 
-pub report-spelled : (r : Report) → report_text r ≡ codes "{\"attack\":" ++ (quoted r.attack ++ (codes ",\"counter\":" ++ (decimal r.counter ++ (codes ",\"ecu\":" ++ (quoted r.ecu ++ (codes ",\"image\":" ++
+report-spelled : (r : Report) → report_text r ≡ codes "{\"attack\":" ++ (quoted r.attack ++ (codes ",\"counter\":" ++ (decimal r.counter ++ (codes ",\"ecu\":" ++ (quoted r.ecu ++ (codes ",\"image\":" ++
     (text (installed_value r.image) ++ (codes ",\"time\":" ++ (quoted (moment_text r.time) ++ codes ",\"type\":\"report\"}")))))))))
 unfolding report_text
 report-spelled r = refl
@@ -156,19 +156,6 @@ manifest-length law vehicle primary counter es rs h v p n few =
     sum-nine a b c d e f g h i = simp length-append
 
 -- ---- what is written piece by piece
-
-pub joined-six : (s0 s1 s2 s3 s4 s5 s6 a b c d e f : List ℕ) → s0 ≡ [] → s1 ≡ s0 ++ a → s2 ≡ s1 ++ b → s3 ≡ s2 ++ c → s4 ≡ s3 ++ d → s5 ≡ s4 ++ e → s6 ≡ s5 ++ f
-    → s6 ≡ a ++ b ++ c ++ d ++ e ++ f
-joined-six s0 s1 s2 s3 s4 s5 s6 a b c d e f h0 h1 h2 h3 h4 h5 h6 =
-    h6 ∙ ap (λ (s : List ℕ). s ++ f) (h5 ∙ ap (λ (s : List ℕ). s ++ e) (h4 ∙ ap (λ (s : List ℕ). s ++ d) (h3 ∙ ap (λ (s : List ℕ). s ++ c) (h2 ∙ ap (λ (s : List ℕ). s ++ b) (h1 ∙ ap (λ (s : List ℕ). s ++ a) h0)))))
-
-report-right : (a b c d e f g h i j k : List ℕ) → (a ++ b ++ c ++ d ++ e ++ f) ++ g ++ h ++ i ++ j ++ k ≡ a ++ (b ++ (c ++ (d ++ (e ++ (f ++ (g ++ (h ++ (i ++ (j ++ k)))))))))
-report-right a b c d e f g h i j k = simp append_assoc
-
-pub report-pieces : (r : Report) → ecu_text r ++ codes ",\"image\":" ++ text (installed_value r.image) ++ codes ",\"time\":" ++ quoted (moment_text r.time) ++ codes ",\"type\":\"report\"}" ≡ report_text r
-report-pieces r =
-    report-right (codes "{\"attack\":") (quoted r.attack) (codes ",\"counter\":") (decimal r.counter) (codes ",\"ecu\":") (quoted r.ecu) (codes ",\"image\":") (text (installed_value r.image)) (codes ",\"time\":") (quoted (moment_text r.time)) (codes ",\"type\":\"report\"}")
-    ∙ sym (report-spelled r)
 
 pub joined-four : (s0 s1 s2 s3 s4 a b c d : List ℕ) → s1 ≡ s0 ++ a → s2 ≡ s1 ++ b → s3 ≡ s2 ++ c → s4 ≡ s3 ++ d → s4 ≡ s0 ++ (a ++ b ++ c ++ d)
 joined-four s0 s1 s2 s3 s4 a b c d h1 h2 h3 h4 =

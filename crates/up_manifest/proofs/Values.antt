@@ -1,5 +1,5 @@
 -- The values that texts of envelopes, reports and manifests read as, and what they mean.
-use Rattle.std.proofs.Common.{◌≡◌, ℕ, suc, lit≤, ◌+◌, ◌≤◌, List, [], ◌∷◌, ◌++◌, Bool, true, Some, length, map, append_assoc, refl, sym, ap, ap₂, ◌∙◌, subst, arith}
+use Rattle.std.proofs.Common.{◌≡◌, ℕ, suc, lit≤, ◌≤◌, List, [], ◌∷◌, ◌++◌, Bool, true, Some, length, map, append_assoc, refl, sym, ap, ap₂, ◌∙◌, subst, arith}
 use Rattle.std.specs.Prelude.{◌&&◌, IsTrue, nat_le, codes, decimal}
 use Rattle.std.specs.List.{list_all, join_with_byte}
 use Rattle.std.proofs.lemmas.Bool.Decides.{nat_tests}
@@ -7,8 +7,8 @@ use Rattle.hex.specs.Hex.{encode_lower, lower_digits}
 use Rattle.hex.proofs.HexLemmas.{length-encode_with, decode_of-encode_lower}
 use Rattle.serde_json.specs.Data.{Data, string, depth, items_depth}
 use Rattle.serde_json.specs.View.{items_of}
-use Rattle.up_canon.specs.Build.{object_with, list_with, count_value}
-use Rattle.up_canon.specs.Canon.{max_count, max_nesting, is_printable, is_plain, items_are_plain, canon, text, quoted}
+use Rattle.up_canon.specs.Build.{object_with, list_with, count_value, hashes_value}
+use Rattle.up_canon.specs.Canon.{max_count, max_nesting, is_printable, is_plain, items_are_plain, has_canon, canon, text, quoted}
 use Rattle.up_canon.specs.Moments.{moment_text, MomentTextIsPlain, MomentsAreRead}
 use Rattle.up_canon.specs.Names.{is_ident}
 use Rattle.up_sign.specs.Formats.{envelope_fits, has_bytes, IsSigned, envelope_text}
@@ -16,7 +16,7 @@ use Rattle.up_sign.specs.Laws.{envelope_value, TextsAreRead}
 use Rattle.up_canon.specs.Meaning.{EachMeans}
 use Rattle.up_sign.specs.Meaning.{MeansEnvelope}
 use Rattle.up_sign.specs.declared.envelope.Envelope.{Envelope}
-use Rattle.up_manifest.specs.Building.{hashes_value, installed_value, report_value, report_text, ReportFits, IsReportEnvelope, AreReportEnvelopes, listed, manifest_text, signed_reports}
+use Rattle.up_manifest.specs.Building.{installed_value, report_value, report_text, ReportFits, IsReportEnvelope, AreReportEnvelopes, listed, manifest_text, signed_reports}
 use Rattle.up_manifest.specs.Manifests.{most_reports}
 use Rattle.up_manifest.specs.Meaning.{MeansInstalled, MeansReport, MeansSignedReport, MeansManifest}
 use Rattle.up_manifest.specs.declared.report.Report.{Report}
@@ -29,10 +29,13 @@ use Rattle.up_canon.proofs.Printable.{ident_prints, file_name_prints, note_print
 
 -- ---- canonical text
 
-pub canon_of : (d : Data) → is_plain d ≡ true → depth d ≤ 16 → canon d ≡ Some (text d)
-canon_of d plain shallow =
+has_canon_of : (d : Data) → is_plain d ≡ true → depth d ≤ 16 → has_canon d ≡ true
+has_canon_of d plain shallow =
     let flat : nat_le (depth d) max_nesting ≡ true = grind (arith, nat_tests) in
     rw (plain, flat) refl
+
+pub canon_of : (d : Data) → is_plain d ≡ true → depth d ≤ 16 → canon d ≡ Some (text d)
+canon_of d plain shallow = rw (has_canon_of d plain shallow) refl
 
 and_three : (a b c : Bool) → a ≡ true → b ≡ true → c ≡ true → (a && (b && (c && true))) ≡ true
 and_three a b c p q r = rw (p, q, r) refl
@@ -65,6 +68,9 @@ report_plain law r h =
 
 report_depth : (r : Report) → depth (report_value r) ≡ 3
 report_depth r = refl
+
+pub report_has_canon : MomentTextIsPlain → (r : Report) → ReportFits r → has_canon (report_value r) ≡ true
+report_has_canon law r h = has_canon_of (report_value r) (report_plain law r h) (omega (arith, report_depth r))
 
 pub report_canon : MomentTextIsPlain → (r : Report) → ReportFits r → canon (report_value r) ≡ Some (report_text r)
 unfolding report_text

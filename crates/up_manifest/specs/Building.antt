@@ -2,7 +2,7 @@
 use Rattle.std.specs.Prelude.{◌≡◌, ℕ, ◌≤◌, ◌++◌, List, [], ◌∷◌, IsTrue, length, map, codes, decimal, ⊤}
 use Rattle.std.specs.List.{list_all, join_with_byte}
 use Rattle.serde_json.specs.Data.{Data, string}
-use Rattle.up_canon.specs.Build.{object_with, count_value, hex_value}
+use Rattle.up_canon.specs.Build.{object_with, count_value, hashes_value}
 use Rattle.up_canon.specs.Canon.{max_count, text, quoted}
 use Rattle.up_canon.specs.Moments.{last_moment, moment_text}
 use Rattle.up_canon.specs.Names.{is_ident, is_file_name, is_note}
@@ -17,9 +17,6 @@ use Rattle.up_manifest.specs.declared.manifest.Incoming.{Incoming}
 
 -- ---- reports
 
-abbrev pub hashes_value : List ℕ → Data
-hashes_value sha256 = object_with ((codes "sha256", hex_value sha256) ∷ [])
-
 abbrev pub installed_value : Installed → Data
 installed_value i = object_with ((codes "file", string i.file) ∷ (codes "hashes", hashes_value i.sha256) ∷ (codes "length", count_value i.length) ∷ [])
 
@@ -31,10 +28,6 @@ report_value r = object_with (
 -- the canonical text of a report
 unfoldable pub report_text : Report → List ℕ
 report_text r = text (report_value r)
-
--- its first three members
-abbrev pub ecu_text : Report → List ℕ
-ecu_text r = codes "{\"attack\":" ++ quoted r.attack ++ codes ",\"counter\":" ++ decimal r.counter ++ codes ",\"ecu\":" ++ quoted r.ecu
 
 -- the limits that the types of a report's members keep
 pub record ReportFits (r : Report) : Type 0 where

@@ -1,70 +1,52 @@
 //! Writing reports and manifests.
-ghost use Rattle.std.specs.Prelude.{◌≡◌, ◌≤◌, ◌++◌, IsTrue, IfOk, length, string_bytes, map, decimal};
+ghost use Rattle.std.specs.Prelude.{◌≡◌, ◌++◌, IsTrue, IfOk, length, string_bytes, map};
 ghost use Rattle.std.specs.List.{list_all};
-ghost use Rattle.up_canon.specs.Canon.{max_count, quoted, text};
-ghost use Rattle.up_canon.specs.Moments.{last_moment, moment_text};
+ghost use Rattle.serde_json.specs.View.{view};
 ghost use Rattle.up_sign.specs.Formats.{envelope_fits, envelope_text};
 ghost use Rattle.up_sign.specs.Schemes.{is_byte};
-ghost use Rattle.up_manifest.specs.Building.{ReportFits, hashes_value, installed_value, ecu_text, primary_text, listed, report_text as report_text_of, manifest_text as manifest_text_of};
+ghost use Rattle.up_manifest.specs.Building.{ReportFits, installed_value as installed_value_of, report_value as report_value_of, primary_text, listed, report_text as report_text_of, manifest_text as manifest_text_of};
 
 use crate::report::{Installed, Report};
+use serde_json::{Value, json};
 use std::alloc::{AllocError, Global};
+use up_canon::canonical::canonical_text;
+use up_canon::hex_text::hashes_value;
 use up_canon::ident::Ident;
-use up_canon::moment::{Moment, moment_laws};
-use up_canon::writing::{
-    push_count, push_file_name, push_hex, push_ident, push_note, push_number, push_quoted,
-};
+use up_canon::moment::moment_laws;
+use up_canon::writing::{push_ident, push_number};
 use up_sign::envelope::Envelope;
 
 /// The canonical text of a report.
 #[tactic(auto, unfolding(crate::specs::Building::report_text))]
 pub(crate) fn report_text(alloc: Global, report: &Report) -> Result<String, AllocError>
-    requires { report.now.time ≤ last_moment }
+    requires { ReportFits report.now }
     ensures { IfOk result (λ t. string_bytes t ≡ report_text_of report.now) }
 {
-    let mut out = String::new(alloc);
-    push_ecu(alloc, &mut out, report)?;
-    out.push_str(",\"image\":")?;
-    push_installed(alloc, &mut out, &report.image)?;
-    out.push_str(",\"time\":")?;
-    push_moment(alloc, &mut out, report.time)?;
-    out.push_str(",\"type\":\"report\"}")?;
-    Ok(out)
+    moment_laws();
+    let value = report_value(alloc, report)?;
+    canonical_text(alloc, &value)
 }
 
-/// The first three members of a report.
-fn push_ecu(alloc: Global, out: &mut String, report: &Report) -> Result<(), AllocError>
-    ensures { IfOk result (λ _. string_bytes out.new ≡ string_bytes out.old ++ ecu_text report.now) }
+fn report_value(alloc: Global, report: &Report) -> Result<Value, AllocError>
+    ensures { IfOk result (λ v. view v ≡ report_value_of report.now) }
 {
-    out.push_str("{\"attack\":")?;
-    push_note(out, &report.attack)?;
-    out.push_str(",\"counter\":")?;
-    push_count(alloc, out, report.counter)?;
-    out.push_str(",\"ecu\":")?;
-    push_ident(out, &report.ecu)?;
-    Ok(())
+    let image = installed_value(alloc, &report.image)?;
+    let time = report.time.text(alloc)?;
+    json!(in alloc; {
+        "attack": report.attack.text(),
+        "counter": report.counter.get(),
+        "ecu": report.ecu.text(),
+        "image": image,
+        "time": time,
+        "type": "report"
+    })
 }
 
-fn push_installed(alloc: Global, out: &mut String, image: &Installed) -> Result<(), AllocError>
-    ensures { IfOk result (λ _. string_bytes out.new ≡ string_bytes out.old ++ text (installed_value image.now)) }
+fn installed_value(alloc: Global, image: &Installed) -> Result<Value, AllocError>
+    ensures { IfOk result (λ v. view v ≡ installed_value_of image.now) }
 {
-    out.push_str("{\"file\":")?;
-    push_file_name(out, &image.file)?;
-    out.push_str(",\"hashes\":")?;
-    push_hashes(alloc, out, &image.sha256)?;
-    out.push_str(",\"length\":")?;
-    push_count(alloc, out, image.length)?;
-    out.push('}')?;
-    Ok(())
-}
-
-fn push_hashes(alloc: Global, out: &mut String, sha256: &[u8; 32]) -> Result<(), AllocError>
-    ensures { IfOk result (λ _. string_bytes out.new ≡ string_bytes out.old ++ text (hashes_value sha256.now)) }
-{
-    out.push_str("{\"sha256\":")?;
-    push_hex(alloc, out, &sha256[..])?;
-    out.push('}')?;
-    Ok(())
+    let hashes = hashes_value(alloc, &image.sha256)?;
+    json!(in alloc; {"file": image.file.text(), "hashes": hashes, "length": image.length.get()})
 }
 
 /// The text that a Primary signs, in which the reports' envelopes stand as they are.
@@ -118,15 +100,6 @@ fn push_envelopes(alloc: Global, out: &mut String, envelopes: &[Envelope]) -> Re
     }
     out.push(']')?;
     Ok(())
-}
-
-fn push_moment(alloc: Global, out: &mut String, moment: Moment) -> Result<(), AllocError>
-    requires { moment ≤ last_moment }
-    ensures { IfOk result (λ _. string_bytes out.new ≡ string_bytes out.old ++ quoted (moment_text moment)) }
-{
-    moment_laws();
-    let text = moment.text(alloc)?;
-    push_quoted(out, text.as_str())
 }
 
 /// Notes for proofs the limits that the types of a report's members keep.

@@ -7,12 +7,28 @@ use std::marker::Model;
 use up_canon::file_name::FileName;
 use up_canon::ident::Ident;
 use up_canon::listed::{Duplicate, Listed};
+use up_canon::named::has_name;
 
 /// Which vehicles a campaign reaches: all, or some by name. The type doesn't bound their number; `Campaign::new` tells.
 #[derive(Debug, Drop)]
 pub enum Reach {
     All,
     Named(Listed<Ident>),
+}
+
+impl Reach {
+    ghost use Rattle.std.specs.Prelude.{◌≡◌};
+    ghost use Rattle.up_plan.specs.Planning.{reaches as is_reached};
+
+    /// Whether the vehicle is one of them.
+    pub fn reaches(&self, vehicle: &Ident) -> bool
+        ensures { result ≡ is_reached vehicle.now self.now }
+    {
+        match self {
+            Reach::All => true,
+            Reach::Named(vehicles) => has_name(vehicles.as_slice(), vehicle.text()),
+        }
+    }
 }
 
 impl Duplicate for Reach {

@@ -2,10 +2,10 @@
 ghost use Rattle.std.specs.Prelude.{◌≡◌, ◌++◌, map, nat_lt, option_copied, option_map, unwrap_or, IfOk};
 ghost use Rattle.up_canon.specs.Steps.{if_passes};
 ghost use Rattle.up_plan.specs.Offers.{greatest_offer};
-ghost use Rattle.up_plan.specs.Planning.{is_reported as is_reported_as, items_for as items_of, level as level_of, registered as registered_image, reaches as is_reached};
+ghost use Rattle.up_plan.specs.Planning.{is_reported as is_reported_as, items_for as items_of, level as level_of, registered as registered_image};
 
 use crate::assigned::Fitted;
-use crate::campaign::{Campaign, Item, Reach};
+use crate::campaign::{Campaign, Item};
 use crate::image::Image;
 use crate::offers::{Offer, greatest_for};
 use std::alloc::{AllocError, Global};
@@ -48,20 +48,11 @@ pub(crate) fn items_for<'a>(
 {
     let mut items = Vec::new(alloc);
     for campaign in campaigns {
-        if campaign.running && reaches(&campaign.reach, vehicle) {
+        if campaign.running && campaign.reach.reaches(vehicle) {
             push_items(&mut items, campaign.items.as_slice())?;
         }
     }
     Ok(items)
-}
-
-fn reaches(reach: &Reach, vehicle: &Ident) -> bool
-    ensures { result ≡ is_reached vehicle.now reach.now }
-{
-    match reach {
-        Reach::All => true,
-        Reach::Named(vehicles) => has_name(vehicles.as_slice(), vehicle.text()),
-    }
 }
 
 fn push_items<'a>(items: &mut Vec<&'a Item>, more: &'a [Item]) -> Result<(), AllocError>

@@ -9,7 +9,7 @@ use Rattle.hex.proofs.HexLemmas.{length-encode_with, decode_of-encode_lower}
 use Rattle.serde_json.specs.Data.{Data}
 use Rattle.serde_json.specs.Find as json
 use Rattle.serde_json.specs.View.{items_of}
-use Rattle.up_canon.specs.Build.{count_value}
+use Rattle.up_canon.specs.Build.{count_value, hashes_value}
 use Rattle.up_canon.specs.Canon.{max_count}
 use Rattle.up_canon.specs.Meaning.{HasText, HasCount, EachMeans}
 use Rattle.up_canon.specs.Moments.{moment_text}
@@ -21,7 +21,8 @@ use Rattle.up_canon.proofs.Printable.{both, all-hex}
 use Rattle.up_canon.proofs.Steps.{bind-ok}
 use Rattle.up_roles.specs.Meaning.{HasPositive, HasName, HasSha256, MeansHead}
 use Rattle.up_roles.specs.Parts.{is_lower_digit}
-use Rattle.up_roles.specs.Payload.{repository_text, hashes_value, version_fits, name_fits, is_named, is_hash, is_moment}
+use Rattle.up_canon.specs.HexText.{is_hash}
+use Rattle.up_roles.specs.Payload.{repository_text, version_fits, name_fits, is_named, is_moment}
 use Rattle.up_roles.specs.declared.repository.Repository.{Repository}
 use Rattle.up_roles.specs.declared.repository.Repository.TheVariants.{Director, Image}
 

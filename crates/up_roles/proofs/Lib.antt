@@ -1,5 +1,4 @@
 pub mod Entries
-pub mod Hashes
 pub mod Keys
 pub mod Oks
 pub mod PlainFiles

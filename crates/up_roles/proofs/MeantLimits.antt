@@ -18,7 +18,8 @@ use Rattle.up_canon.proofs.Printable.{both}
 use Rattle.up_canon.proofs.Steps.{one_value}
 use Rattle.up_roles.specs.Laws.{MeantRootsFit, MeantTargetsFit, MeantSnapshotsFit, MeantTimestampsFit}
 use Rattle.up_roles.specs.Meaning.{HasPositive, HasName, HasSha256, MeansIdent, MeansTarget, ShowsKey}
-use Rattle.up_roles.specs.Payload.{version_fits, name_fits, is_named, is_hash, is_moment}
+use Rattle.up_canon.specs.HexText.{is_hash}
+use Rattle.up_roles.specs.Payload.{version_fits, name_fits, is_named, is_moment}
 use Rattle.up_roles.specs.Root.{agree, keys_agree}
 use Rattle.up_roles.specs.Targets.{target_fits, target_is_typed}
 use Rattle.up_roles.specs.declared.repository.Repository.{Repository}

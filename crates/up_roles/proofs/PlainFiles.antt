@@ -6,12 +6,13 @@ use Rattle.std.proofs.lemmas.Bool.{and_parts}
 use Rattle.std.proofs.lemmas.Bool.Decides.{nat_tests}
 use Rattle.std.proofs.lemmas.List.Folds.{list_all-append}
 use Rattle.serde_json.specs.Data.{Data, string}
-use Rattle.up_canon.specs.Build.{object_with, list_with, count_value, hex_value}
+use Rattle.up_canon.specs.Build.{object_with, list_with, count_value, hex_value, hashes_value}
 use Rattle.up_canon.specs.Canon.{max_count, is_printable_text, has_canon}
 use Rattle.up_canon.specs.Moments.{last_moment, moment_text}
 use Rattle.up_canon.specs.Names.{Name, is_ident, is_file_name}
 use Rattle.up_canon.proofs.MomentTexts.{moments_are_plain}
-use Rattle.up_roles.specs.Payload.{IsCanonical, payload, payload_members, repository_text, hashes_value, version_fits, is_named, is_hash, is_moment}
+use Rattle.up_canon.specs.HexText.{is_hash}
+use Rattle.up_roles.specs.Payload.{IsCanonical, payload, payload_members, repository_text, version_fits, is_named, is_moment}
 use Rattle.up_roles.specs.Root.{all_keys, key_member, role_value, roles_value, roles_members, root_more, root_payload, key_fits, role_fits, root_fits, root_is_typed}
 use Rattle.up_roles.specs.Snapshot.{snapshot_meta, snapshot_payload, snapshot_fits, snapshot_is_typed}
 use Rattle.up_roles.specs.Targets.{target_value, target_members, targets_payload, targets_fits, target_is_typed, targets_is_typed}

@@ -5,7 +5,6 @@ use Rattle.std.specs.List.{list_all}
 use Rattle.std.proofs.lemmas.Bool.{and_parts}
 use Rattle.std.proofs.lemmas.Str.{IsAscii-append, IsUtf8-from_ascii}
 use Rattle.serde_json.specs.Data.{Data, string}
-use Rattle.serde_json.specs.Read.{read}
 use Rattle.up_canon.specs.Build.{list_with, hex_value}
 use Rattle.up_canon.specs.Canon.{has_canon, is_plain, text}
 use Rattle.up_canon.specs.Names.{is_from_to, is_short_text}

@@ -4,10 +4,10 @@ use Rattle.std.specs.Prelude.{codes}
 use Rattle.std.proofs.lemmas.Bool.{and_parts}
 use Rattle.serde_json.specs.Data.{Data}
 use Rattle.serde_json.specs.Find as json
-use Rattle.up_canon.specs.Build.{object_with, count_value}
+use Rattle.up_canon.specs.Build.{object_with, count_value, hashes_value}
 use Rattle.up_canon.specs.Names.{Name}
 use Rattle.up_roles.specs.Meaning.{MeansSnapshot, MeansTimestamp}
-use Rattle.up_roles.specs.Payload.{payload, hashes_value}
+use Rattle.up_roles.specs.Payload.{payload}
 use Rattle.up_roles.specs.Snapshot.{snapshot_meta, snapshot_payload, snapshot_fits, snapshot_is_typed}
 use Rattle.up_roles.specs.Timestamp.{timestamp_meta, timestamp_payload, timestamp_fits, timestamp_is_typed}
 use Rattle.up_roles.specs.declared.repository.Repository.{Repository}

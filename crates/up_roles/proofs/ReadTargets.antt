@@ -5,11 +5,11 @@ use Rattle.std.proofs.lemmas.Bool.{and_parts}
 use Rattle.serde_json.specs.Data.{Data, string}
 use Rattle.serde_json.specs.Find as json
 use Rattle.serde_json.specs.View.{items_of}
-use Rattle.up_canon.specs.Build.{list_with, count_value}
+use Rattle.up_canon.specs.Build.{list_with, count_value, hashes_value}
 use Rattle.up_canon.specs.Names.{Name, is_ident}
 use Rattle.up_canon.specs.Meaning.{HasText}
 use Rattle.up_roles.specs.Meaning.{MeansIdent, MeansTarget, MeansTargets}
-use Rattle.up_roles.specs.Payload.{payload, hashes_value, name_fits}
+use Rattle.up_roles.specs.Payload.{payload, name_fits}
 use Rattle.up_roles.specs.Targets.{target_value, target_fits, target_is_typed, targets_payload, targets_fits, targets_is_typed}
 use Rattle.up_roles.specs.declared.repository.Repository.{Repository}
 use Rattle.up_roles.specs.declared.targets.Target.{Target}

@@ -1,8 +1,7 @@
 -- What the files of the four roles have in common: type, repository, version, expiry and vehicle, and the sealing.
-use Rattle.std.specs.Prelude.{◌≡◌, ℕ, ◌++◌, ◌&&◌, ◌==◌, List, [], ◌∷◌, Bool, true, false, nat_le, nat_lt, length, bytes_eq, if◌then◌else◌, Option, Some, None, option_map, option_to_list, codes, Result, Ok, Err}
-use Rattle.std.specs.List.{list_all}
+use Rattle.std.specs.Prelude.{◌≡◌, ℕ, ◌++◌, List, ◌∷◌, Bool, true, false, nat_le, bytes_eq, if◌then◌else◌, Option, Some, None, option_map, option_to_list, codes, Result, Ok, Err}
 use Rattle.serde_json.specs.Data.{Data, string, Members, put}
-use Rattle.up_canon.specs.Build.{object_with, count_value, hex_value}
+use Rattle.up_canon.specs.Build.{object_with, count_value}
 use Rattle.up_canon.specs.Canon.{canon, text, max_count}
 use Rattle.up_canon.specs.JsonText.{value_within}
 use Rattle.up_canon.specs.Members.{text_in}
@@ -31,10 +30,6 @@ repository_text Image = codes "image"
 abbrev pub vehicle_members : Option Name → Members → Members
 vehicle_members None ms = ms
 vehicle_members (Some name) ms = put (codes "vehicle") (string name) ms
-
--- the SHA-256 under the name of the hash function
-abbrev pub hashes_value : List ℕ → Data
-hashes_value hash = object_with ((codes "sha256", hex_value hash) ∷ [])
 
 -- the members that each payload has, the vehicle where there is one, and those of the role
 abbrev pub payload_members : List ℕ → Repository → ℕ → ℕ → Option Name → List (List ℕ × Data) → List (List ℕ × Data)
@@ -71,10 +66,6 @@ name_fits Image None = true
 abbrev pub is_named : Option Name → Bool
 is_named None = true
 is_named (Some name) = is_ident name
-
--- 32 bytes
-abbrev pub is_hash : List ℕ → Bool
-is_hash hash = (length hash == 32) && list_all (λ x. nat_lt x 256) hash
 
 abbrev pub is_moment : ℕ → Bool
 is_moment moment = nat_le moment last_moment

@@ -7,8 +7,9 @@ use Rattle.up_canon.specs.declared.refusal.Refusal.{Refusal}
 use Rattle.up_sign.specs.Schemes.{Rules}
 use Rattle.up_sign.specs.declared.envelope.Envelope.{Envelope}
 use Rattle.up_roles.specs.Parts.{object_part, positive_part, sha256_part}
-use Rattle.up_canon.specs.Build.{object_with, count_value}
-use Rattle.up_roles.specs.Payload.{payload, hashes_value, sealed_text, version_fits, name_fits, is_moment, is_named, is_hash, head_in, vehicle_in, file_in}
+use Rattle.up_canon.specs.Build.{object_with, count_value, hashes_value}
+use Rattle.up_canon.specs.HexText.{is_hash}
+use Rattle.up_roles.specs.Payload.{payload, sealed_text, version_fits, name_fits, is_moment, is_named, head_in, vehicle_in, file_in}
 use Rattle.up_roles.specs.declared.timestamp.TimestampFile.{TimestampFile}
 
 -- ---- the payload

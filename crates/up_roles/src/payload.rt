@@ -41,17 +41,17 @@ pub(crate) fn vehicle_at(
     }
 }
 
+/// The repository that the member `repository` names, or that name as the fault.
 #[tactic(auto, unfolding(crate::specs::Payload::repository_in, up_canon::specs::Steps::and_then))]
-fn repository_at(map: &Map<String, Value>) -> Result<Repository, Refusal>
-    ensures { Gives result (repository_in (object_of_map map.now.entries)) }
+pub fn repository_at(map: &Map<String, Value>) -> Result<Repository, &'static str>
+    ensures { MatchResult result
+        (λ repository. repository_in (object_of_map map.now.entries) ≡ Ok repository)
+        (λ f. IsFault (repository_in (object_of_map map.now.entries)) (codes "repository") f.now) }
 {
-    let text = text_at(map, "repository")?;
-    if text == "director" {
-        Ok(Repository::Director)
-    } else if text == "image" {
-        Ok(Repository::Image)
-    } else {
-        Err(Refusal::from("repository"))
+    match text_at(map, "repository")? {
+        "director" => Ok(Repository::Director),
+        "image" => Ok(Repository::Image),
+        _ => Err("repository"),
     }
 }
 

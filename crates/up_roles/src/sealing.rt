@@ -2,14 +2,13 @@
 ghost use Rattle.std.specs.Prelude.{◌≡◌, ◌≤◌, IsTrue, IfOk, length, string_bytes, true};
 ghost use Rattle.std.specs.List.{list_all};
 ghost use Rattle.serde_json.specs.View.{view};
-ghost use Rattle.up_canon.specs.Canon.{has_canon, text};
+ghost use Rattle.up_canon.specs.Canon.{has_canon};
 ghost use Rattle.up_roles.specs.Payload.{sealed_text as sealed_text_of};
 
 use serde_json::Value;
 use std::alloc::{AllocError, Global};
 use up_canon::bytes::Bytes;
-use up_canon::canonical::canonical;
-use up_canon::refusal::Refusal;
+use up_canon::canonical::canonical_text;
 use up_sign::scheme::Scheme;
 use up_sign::seal::seal;
 
@@ -28,17 +27,4 @@ pub(crate) fn sealed_text<K: Scheme>(
 {
     let signed = canonical_text(alloc, payload)?;
     seal(alloc, scheme, secrets, signed)?.text(alloc)
-}
-
-/// The canonical text of a payload that has one.
-#[tactic(auto, unfolding(up_canon::specs::Refusals::canonical_text))]
-fn canonical_text(alloc: Global, payload: &Value) -> Result<String, AllocError>
-    requires { has_canon (view payload.now) ≡ true }
-    ensures { IfOk result (λ t. string_bytes t ≡ text (view payload.now)) }
-{
-    match canonical(alloc, payload) {
-        Ok(text) => Ok(text),
-        Err(Refusal::Memory) => Err(AllocError),
-        Err(_) => unreachable!(),
-    }
 }

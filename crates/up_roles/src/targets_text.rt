@@ -10,10 +10,11 @@ ghost use Rattle.up_roles.specs.Targets.{target_value as target_value_of, target
 use crate::payload::{Head, payload_value};
 use crate::sealing::sealed_text;
 use crate::targets::{Target, TargetsFile};
-use crate::values::{hashes_value, name_value, names_value, one_member};
+use crate::values::{name_value, names_value, one_member};
 use serde_json::{Map, Value, put};
 use std::alloc::{AllocError, Global};
 use up_canon::bytes::Bytes;
+use up_canon::hex_text::hashes_value;
 use up_canon::ident::Ident;
 use up_sign::scheme::Scheme;
 

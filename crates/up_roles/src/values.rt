@@ -1,15 +1,14 @@
 //! Parts of payloads as JSON values.
-ghost use Rattle.std.specs.Prelude.{◌≡◌, ◌∷◌, [], IfOk, OnOk, map, string_bytes, true};
+ghost use Rattle.std.specs.Prelude.{◌≡◌, ◌∷◌, [], IfOk, OnOk, map, true};
 ghost use Rattle.std.specs.List.{list_all};
-ghost use Rattle.hex.specs.Hex.{encode_lower};
 ghost use Rattle.serde_json.specs.Data.{string};
 ghost use Rattle.serde_json.specs.View.{view, members_view};
 ghost use Rattle.up_canon.specs.Build.{list_with, members_with};
 ghost use Rattle.up_canon.specs.Moments.{moment_text};
 ghost use Rattle.up_canon.specs.Names.{is_ident};
-ghost use Rattle.up_roles.specs.Payload.{is_hash, is_moment, is_named, hashes_value as hashes_value_of, vehicle_members};
+ghost use Rattle.up_roles.specs.Payload.{is_moment, is_named, vehicle_members};
 
-use serde_json::{Map, Value, json, put};
+use serde_json::{Map, Value, put};
 use std::alloc::{AllocError, Global};
 use up_canon::ident::Ident;
 use up_canon::moment::{LAST_MOMENT, Moment};
@@ -32,22 +31,6 @@ pub(crate) fn names_value(alloc: Global, names: &[Ident]) -> Result<Value, Alloc
         values.push(name_value(alloc, name)?)?;
     }
     Ok(Value::Array(values))
-}
-
-/// A SHA-256 under the name of the hash function.
-pub(crate) fn hashes_value(alloc: Global, hash: &[u8; 32]) -> Result<Value, AllocError>
-    ensures value { IfOk result (λ v. view v ≡ hashes_value_of hash.now) }
-    ensures typed { is_hash hash.now ≡ true }
-{
-    let digits = digits_of(alloc, hash)?;
-    json!(in alloc; {"sha256": digits})
-}
-
-fn digits_of(alloc: Global, hash: &[u8; 32]) -> Result<String, AllocError>
-    ensures value { IfOk result (λ t. string_bytes t ≡ encode_lower hash.now) }
-    ensures typed { is_hash hash.now ≡ true }
-{
-    hex::encode(alloc, *hash)
 }
 
 /// A moment as its text.

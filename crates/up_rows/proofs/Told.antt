@@ -16,7 +16,7 @@ use Rattle.up_machine.specs.declared.vehicle.NewEcu.{NewEcu}
 use Rattle.up_machine.specs.State.{Entry, Vehicle, Root, State, empty_state, nth, root_at}
 use Rattle.up_machine.specs.Rows.{founding_row, ecu_row, rows_of, kept_row}
 use Rattle.up_rows.specs.Tables.{each_value}
-use Rattle.up_rows.specs.StateRows.{root_row, root_rows, kept_rows, root_of, ecu_of, entry_of, vehicle_of}
+use Rattle.up_rows.specs.StateRows.{root_row, root_rows, kept_rows, root_of, ecu_of, entry_of, vehicle_of_rows}
 use Rattle.up_rows.specs.Laws.{RowsTellTheState, NoRowsOfTheEmptyState, FoundedIsFound}
 use Rattle.up_rows.proofs.Tables.{get_changed}
 
@@ -34,15 +34,15 @@ entries_back k s name n (e ∷ entries) = ap (λ (es : List Entry). e ∷ es) (e
 
 vehicle_back : (k : Rules) (s : State) (kept : Name → List Kept) (name : Name) (o : Option Vehicle)
     → kept name ≡ unwrap_or (option_map (λ (v : Vehicle). map (λ (e : ℕ × Entry). kept_row k s name e.0 e.1) (enumerate_from 1 v.entries)) o) []
-    → option_map (vehicle_of kept name) (option_map (rows_of name) o) ≡ o
+    → option_map (vehicle_of_rows kept name) (option_map (rows_of name) o) ≡ o
 vehicle_back k s kept name None h = refl
 vehicle_back k s kept name (Some v) h =
     ap₂ (λ (ecus : List NewEcu) (entries : List Entry). Some (record { primary = v.primary; ecus = ecus; entries = entries }))
     (ecus_back v v.ecus) (ap (map entry_of) h ∙ entries_back k s name 1 v.entries)
 
-vehicles_back : (k : Rules) (s : State) → each_value (vehicle_of (kept_rows k s)) (each_value rows_of s.vehicles) ≡ s.vehicles
+vehicles_back : (k : Rules) (s : State) → each_value (vehicle_of_rows (kept_rows k s)) (each_value rows_of s.vehicles) ≡ s.vehicles
 vehicles_back k s = same_map nat_list_cmp_total (slice_cmp-IsAntisymmetric nat_cmp-IsAntisymmetric) _ _ (λ name.
-    get_changed (vehicle_of (kept_rows k s)) (each_value rows_of s.vehicles) name ∙ ap (option_map (vehicle_of (kept_rows k s) name)) (get_changed rows_of s.vehicles name)
+    get_changed (vehicle_of_rows (kept_rows k s)) (each_value rows_of s.vehicles) name ∙ ap (option_map (vehicle_of_rows (kept_rows k s) name)) (get_changed rows_of s.vehicles name)
     ∙ vehicle_back k s (kept_rows k s) name (table.get s.vehicles name) refl)
 
 -- ---- the last root

@@ -76,8 +76,8 @@ ecu_of row = record { ecu = row.ecu; hardware = row.hardware; public = row.publi
 abbrev pub entry_of : Kept → Entry
 entry_of row = record { counter = row.counter; signed = row.signed; at = row.at; root = row.root; plan = row.plan }
 
-abbrev pub vehicle_of : (Name → List Kept) → Name → VehicleRows → Vehicle
-vehicle_of kept name rows = record { primary = rows.vehicle.primary; ecus = map ecu_of rows.ecus; entries = map entry_of (kept name) }
+abbrev pub vehicle_of_rows : (Name → List Kept) → Name → VehicleRows → Vehicle
+vehicle_of_rows kept name rows = record { primary = rows.vehicle.primary; ecus = map ecu_of rows.ecus; entries = map entry_of (kept name) }
 
 abbrev pub state_of_rows : StateRows → State
 state_of_rows rows = record {
@@ -86,5 +86,5 @@ state_of_rows rows = record {
   image_version = unwrap_or (option_map (λ row. row.image_version) rows.founding) 0;
   stamp = unwrap_or (option_map (λ row. row.stamp) rows.founding) 0;
   campaigns = rows.campaigns;
-  vehicles = each_value (vehicle_of rows.kept) rows.vehicles;
+  vehicles = each_value (vehicle_of_rows rows.kept) rows.vehicles;
 }

@@ -1,10 +1,11 @@
 //! What is printed for an answer, and for a view of a vehicle.
-ghost use Rattle.std.specs.Prelude.{◌≡◌, ◌++◌, IfOk, string_bytes, option_map, find, bytes_eq, codes, decimal};
+ghost use Rattle.std.specs.Prelude.{◌≡◌, ◌++◌, IfOk, string_bytes, option_map, find, bytes_eq, codes};
 ghost use Rattle.up_script.specs.PrintedLines.{answer_text as answer_text_of, reply_text as reply_text_of, refused_text as refused_text_of, withheld_text, vehicle_text as vehicle_text_of, installed_text, file_for as file_for_of, assigned_file as assigned_file_of, assigned_text, ecu_text};
 
 use std::alloc::{AllocError, Global};
 use up_canon::ident::Ident;
 use up_canon::refusal::Refusal;
+use up_canon::writing::push_number;
 use up_machine::answer::{Answer, Reply};
 use up_manifest::report::Installed;
 use up_plan::assigned::{Assigned, Cause, Plan};
@@ -34,12 +35,6 @@ fn reply_text(alloc: Global, reply: &Reply) -> Result<String, AllocError>
     push_number(alloc, &mut out, u64::from(reply.targets))?;
     push_withheld(&mut out, &reply.withheld)?;
     Ok(out)
-}
-
-fn push_number(alloc: Global, out: &mut String, number: u64) -> Result<(), AllocError>
-    ensures { IfOk result (λ _. string_bytes out.new ≡ string_bytes out.old ++ decimal number) }
-{
-    out.push_str(number.to_string(alloc)?.as_str())
 }
 
 fn push_withheld(out: &mut String, withheld: &Option<Cause>) -> Result<(), AllocError>

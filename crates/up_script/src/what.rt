@@ -2,7 +2,6 @@
 ghost use Rattle.std.specs.Prelude.{IfOk, IsTrue};
 ghost use Rattle.up_canon.specs.Members.{object_of_map};
 ghost use Rattle.up_canon.specs.Refusals.{Gives};
-ghost use Rattle.up_roles.specs.Payload.{repository_in};
 ghost use Rattle.up_script.specs.AskedLines.{what_in, deliver_in, fetch_in, asks_running};
 
 use crate::asked::What;
@@ -19,7 +18,7 @@ use up_canon::fields::{count_at, text_at};
 use up_canon::readers::{file_name_at, ident_at};
 use up_canon::refusal::Refusal;
 use up_machine::command::Command;
-use up_roles::repository::Repository;
+use up_roles::payload::repository_at;
 use up_sign::scheme::Scheme;
 
 /// What a line of this word asks, or the first fault of the word's members.
@@ -68,15 +67,4 @@ fn fetch_at(alloc: Global, line: &Map<String, Value>) -> Result<What, Refusal>
     let repository = repository_at(line)?;
     let file = file_name_at(alloc, line, "file")?;
     Ok(What::Call(Command::Fetch(repository, file)))
-}
-
-#[tactic(auto, unfolding(up_roles::specs::Payload::repository_in, up_canon::specs::Steps::and_then))]
-fn repository_at(line: &Map<String, Value>) -> Result<Repository, Refusal>
-    ensures { Gives result (repository_in (object_of_map line.now.entries)) }
-{
-    match text_at(line, "repository")? {
-        "director" => Ok(Repository::Director),
-        "image" => Ok(Repository::Image),
-        _ => Err("repository".into()),
-    }
 }

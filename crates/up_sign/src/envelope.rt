@@ -8,6 +8,10 @@ use up_canon::bytes::Bytes;
 use up_canon::listed::{Duplicate, Listed};
 use up_canon::text::Text;
 
+/// Bytes of room that a text gets for each signature, so that it doesn't grow while it is written. One of the shipped scheme
+/// takes 172.
+const ROOM_OF_A_SIGNATURE: usize = 256;
+
 /// A signature over the signed text, with the identifier of its key and the name of its method. The type bounds none of
 /// them: what is read and what is sealed keeps the limits of the format (`envelope_fits`), which `Envelope::text` asks for.
 #[derive(Debug, Drop)]
@@ -44,11 +48,15 @@ impl Envelope {
         ensures value { IfOk result (λ text. string_bytes text ≡ envelope_text self.now) }
         ensures bytes { OnOk result (has_bytes self.now ≡ true) }
     {
-        let mut out = String::new(alloc);
+        let (signed, signatures) = (self.signed.as_str(), self.signatures.as_slice());
+        let room = signed
+            .len()
+            .saturating_add(ROOM_OF_A_SIGNATURE * signatures.len());
+        let mut out = String::with_capacity(alloc, room)?;
         out.push_str("{\"signatures\":")?;
-        push_signatures(alloc, &mut out, self.signatures.as_slice())?;
+        push_signatures(alloc, &mut out, signatures)?;
         out.push_str(",\"signed\":")?;
-        out.push_str(self.signed.as_str())?;
+        out.push_str(signed)?;
         out.push('}')?;
         Ok(out)
     }

@@ -1,5 +1,5 @@
 //! Identifiers of keys.
-ghost use Rattle.std.specs.Prelude.{◌≡◌, IfOk, bytes_eq, codes};
+ghost use Rattle.std.specs.Prelude.{◌≡◌, IfOk, codes};
 ghost use Rattle.hex.specs.Hex.{encode_lower};
 ghost use Rattle.up_sign.specs.Hmac.{hmac as hmac_of, key_id as key_id_of};
 
@@ -22,10 +22,11 @@ pub fn key_id_text(alloc: Global, public: &[u8]) -> Result<Text, AllocError>
     Ok(Text::new(hex::encode(alloc, key_id(public))?))
 }
 
-/// Whether the text is the identifier of the public part.
-pub(crate) fn is_key_id(text: &str, public: &[u8]) -> bool
-    ensures { result ≡ bytes_eq text.now (key_id_of public.now) }
+/// The digits of an identifier, as a signature names it.
+pub(crate) fn digits_of(key_id: &[u8; 32]) -> [u8; 64]
+    ensures { result ≡ encode_lower key_id.now }
 {
     let mut digits = [0; 64];
-    hex::encode_to_slice(key_id(public), &mut digits[..]).is_ok() && text.as_bytes() == &digits[..]
+    let _written = hex::encode_to_slice(*key_id, &mut digits[..]);
+    digits
 }

@@ -1,12 +1,13 @@
 //! Thresholds: how many of a list of keys have signed.
-ghost use Rattle.std.specs.Prelude.{◌≡◌, IsNone, map};
+ghost use Rattle.std.specs.Prelude.{◌≡◌, ◌∷◌, [], IsNone, map};
 ghost use Rattle.std.specs.List.{list_any};
+ghost use Rattle.hex.specs.Hex.{encode_lower};
 ghost use Rattle.up_canon.specs.Names.{first_repeated};
 ghost use Rattle.up_sign.specs.Envelopes.{is_by as is_by_of, is_satisfied as is_satisfied_of, is_accepted};
 ghost use Rattle.up_sign.specs.Hmac.{key_id as key_id_of};
 
 use crate::envelope::{Envelope, Signature};
-use crate::key_id::is_key_id;
+use crate::key_id::{digits_of, key_id};
 use crate::scheme::Scheme;
 use up_canon::bytes::Bytes;
 
@@ -28,22 +29,53 @@ pub fn accepts<K: Scheme>(
     satisfied >= threshold as usize
 }
 
+/// Whether this one key has signed the envelope, as `accepts` answers of it with a threshold of 1. `key_id` is what the call of
+/// that name answers of the public part: who asks about several envelopes computes it once.
+pub fn accepts_key<K: Scheme>(
+    scheme: &K,
+    key_id: &[u8; 32],
+    public: &[u8],
+    envelope: &Envelope,
+) -> bool
+    requires identifier { encode_lower key_id.now ≡ key_id_of public.now }
+    ensures { result ≡ is_accepted (K.rules scheme.now) (public.now ∷ []) 1 envelope.now }
+{
+    has_signed(scheme, key_id, public, envelope)
+}
+
 /// Whether a key has signed the envelope.
 fn is_satisfied<K: Scheme>(scheme: &K, public: &[u8], envelope: &Envelope) -> bool
     ensures { result ≡ is_satisfied_of (K.rules scheme.now) envelope.now public.now }
 {
+    has_signed(scheme, &key_id(public), public, envelope)
+}
+
+/// Whether the key with this identifier has signed the envelope.
+fn has_signed<K: Scheme>(scheme: &K, key_id: &[u8; 32], public: &[u8], envelope: &Envelope) -> bool
+    requires { encode_lower key_id.now ≡ key_id_of public.now }
+    ensures { result ≡ is_satisfied_of (K.rules scheme.now) envelope.now public.now }
+{
+    let digits = digits_of(key_id);
     let signed = envelope.signed.as_str().as_bytes();
     envelope
         .signatures
         .as_slice()
         .iter()
-        .any(|s| is_by(scheme, signed, public, s))
+        .any(|s| is_by(scheme, signed, public, &digits, s))
 }
 
-fn is_by<K: Scheme>(scheme: &K, signed: &[u8], public: &[u8], signature: &Signature) -> bool
+/// Whether the signature is the key's, whose identifier has these digits.
+fn is_by<K: Scheme>(
+    scheme: &K,
+    signed: &[u8],
+    public: &[u8],
+    digits: &[u8; 64],
+    signature: &Signature,
+) -> bool
+    requires { digits.now ≡ key_id_of public.now }
     ensures { result ≡ is_by_of (K.rules scheme.now) signed.now public.now signature.now }
 {
-    is_key_id(signature.keyid.as_str(), public)
+    signature.keyid.as_str().as_bytes() == &digits[..]
         && signature.method.as_str() == scheme.method()
         && scheme.verify(public, signed, signature.sig.as_slice())
 }

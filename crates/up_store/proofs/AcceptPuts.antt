@@ -14,7 +14,7 @@ use Rattle.up_machine.specs.declared.rows.VehicleRows.{VehicleRows}
 use Rattle.up_machine.specs.declared.vehicle.NewEcu.{NewEcu}
 use Rattle.up_machine.proofs.DistinctNames.{Distinct, distinct}
 use Rattle.up_rows.specs.Changes.{with_accepted_rows}
-use Rattle.up_rows.specs.StateRows.{StateRows, ecu_of as inventory_ecu}
+use Rattle.up_rows.specs.StateRows.{StateRows, ecu_of}
 use Rattle.up_tables.specs.declared.ecu.EcuRow.{EcuRow as EcuShown}
 use Rattle.up_tables.specs.declared.values.StoreFault.{StoreFault}
 use Rattle.up_tables.specs.declared.vehicle.VehicleRow.{VehicleRow as VehicleShown}
@@ -31,24 +31,24 @@ use Rattle.up_store.specs.Fitting.{IsRecorded}
 use Rattle.up_store.specs.Lines.{vehicle_lines, ecu_lines, ecus_lines, kept_line}
 use Rattle.up_store.specs.Listing.{ListsRows, table_rows}
 use Rattle.up_store.specs.Puts.{IsReported, with_reported}
-use Rattle.up_store.specs.Shown.{vehicle_of, ecu_of}
+use Rattle.up_store.specs.Shown.{vehicle_read, ecu_read}
 use Rattle.up_store.specs.Typed.{AreTyped, IsTypedKept}
 use Rattle.up_store.proofs.Alike.{lists_as}
 use Rattle.up_store.proofs.Closed.{only_inserted}
 use Rattle.up_store.proofs.Inserted.{changed_inserted}
-use Rattle.up_store.proofs.RootPuts.{has_tables, within_goes, tables_within}
+use Rattle.up_store.proofs.RootPuts.{has_tables, within_goes, goes_as, tables_within}
 use Rattle.up_store.proofs.TypedRows.{typed_accepted}
 use Rattle.up_store.proofs.VehiclePuts.{lines_are, vehicle_is}
 
 -- ---- the ECUs are those that are recorded
 
-same_ecus : (vehicle : Name) (place : ℕ) (was new : List EcuRow) → map inventory_ecu new ≡ map inventory_ecu was → AreSameEcus (ecu_lines vehicle place was) (ecu_lines vehicle place new)
+same_ecus : (vehicle : Name) (place : ℕ) (was new : List EcuRow) → map ecu_of new ≡ map ecu_of was → AreSameEcus (ecu_lines vehicle place was) (ecu_lines vehicle place new)
 same_ecus vehicle place [] [] h = tt
 same_ecus vehicle place [] (n ∷ new) h = absurd (let e = h in cc)
 same_ecus vehicle place (w ∷ was) [] h = absurd (let e = h in cc)
 same_ecus vehicle place (w ∷ was) (n ∷ new) h =
-    let first : inventory_ecu n ≡ inventory_ecu w = cc in
-    let rest : map inventory_ecu new ≡ map inventory_ecu was = cc in (
+    let first : ecu_of n ≡ ecu_of w = cc in
+    let rest : map ecu_of new ≡ map ecu_of was = cc in (
       record { ecu = ap (λ (e : NewEcu). e.ecu) (sym first); vehicle = refl; place = refl; hardware = ap (λ (e : NewEcu). e.hardware) (sym first); public_key = ap (λ (e : NewEcu). e.public) (sym first) },
       same_ecus vehicle (suc place) was new rest,
     )
@@ -63,7 +63,7 @@ distinct_lines vehicle place (r ∷ rows) h = (apart_from vehicle r.ecu (suc pla
 
 -- ---- the vehicle's rows are set
 
-pub puts_reported : {A : Type 0} (r : Result A StoreFault) (new : VehicleRows) (vehicle : VehicleShown) (ecus : List EcuShown) (before mid after : Connected) → vehicle_of vehicle ≡ new.vehicle → map ecu_of ecus ≡ new.ecus
+pub puts_reported : {A : Type 0} (r : Result A StoreFault) (new : VehicleRows) (vehicle : VehicleShown) (ecus : List EcuShown) (before mid after : Connected) → vehicle_read vehicle ≡ new.vehicle → map ecu_read ecus ≡ new.ecus
     → ((rows_of : List ℕ → List Row) (primary : List ℕ) (version last : ℕ) → HasTables before → Lists 1 rows_of (before.now.trees vehicle_table.tree)
     → rows_of (string_bytes vehicle.vehicle) ≡ vehicle_line (string_bytes vehicle.vehicle) primary version last ∷ []
     → Alters vehicle_table (Lists 1 (with_only (string_bytes vehicle.vehicle) (vehicle_row vehicle) rows_of)) before mid)
@@ -131,28 +131,20 @@ puts_accepted (Ok x) new before mid after first second typed was_open = λ rows 
     let two = second (with_reported new.vehicle (table_rows rows)) (within_goes (ListsTables (with_reported new.vehicle (table_rows rows))) mid one) tt in
     let t = two.here.rows in
     let next = with_accepted_rows rows new in
-    record {
-      mode = two.mode;
-      is_open = two.is_open;
-      here = record {
-        schema_is = two.here.schema_is;
-        sound = two.here.sound;
-        rows = record {
-          last = here.rows.last;
-          numbered = here.rows.numbered;
-          typed = typed_accepted rows new here.rows.typed typed;
-          tables = record {
-            meta = t.meta;
-            role_keys = t.role_keys;
-            files = t.files;
-            images = t.images;
-            campaigns = t.campaigns;
-            vehicles = lists_as 1 _ (λ n. vehicle_lines (table.get next.vehicles n)) (after.now.trees vehicle_table.tree)
-                (only_inserted rows.vehicles name new.vehicle vehicle_lines (vehicle_line name new.vehicle.vehicle.primary new.vehicle.vehicle.version new.vehicle.vehicle.last) refl) t.vehicles;
-            ecus = lists_as 2 _ (λ n. ecus_lines n (table.get next.vehicles n)) (after.now.trees ecu_table.tree)
-                (changed_inserted rows.vehicles name new.vehicle ecus_lines (λ _. map ecu_row (ecu_lines name 0 new.vehicle.ecus)) refl) t.ecus;
-            kept = lists_as 1 _ (λ n. map kept_line (next.kept n)) (after.now.trees kept_table.tree) (kept_with_one rows new) t.kept;
-          };
-        };
+    goes_as two (record {
+      last = here.rows.last;
+      numbered = here.rows.numbered;
+      typed = typed_accepted rows new here.rows.typed typed;
+      tables = record {
+        meta = t.meta;
+        role_keys = t.role_keys;
+        files = t.files;
+        images = t.images;
+        campaigns = t.campaigns;
+        vehicles = lists_as 1 _ (λ n. vehicle_lines (table.get next.vehicles n)) (after.now.trees vehicle_table.tree)
+            (only_inserted rows.vehicles name new.vehicle vehicle_lines (vehicle_line name new.vehicle.vehicle.primary new.vehicle.vehicle.version new.vehicle.vehicle.last) refl) t.vehicles;
+        ecus = lists_as 2 _ (λ n. ecus_lines n (table.get next.vehicles n)) (after.now.trees ecu_table.tree)
+            (changed_inserted rows.vehicles name new.vehicle ecus_lines (λ _. map ecu_row (ecu_lines name 0 new.vehicle.ecus)) refl) t.ecus;
+        kept = lists_as 1 _ (λ n. map kept_line (next.kept n)) (after.now.trees kept_table.tree) (kept_with_one rows new) t.kept;
       };
-    }
+    })

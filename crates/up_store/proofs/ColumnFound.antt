@@ -9,8 +9,10 @@ use Rattle.std.proofs.lemmas.Bool.Decides.{nat_tests}
 use Rattle.sqlite.specs.declared.types.Value.TheVariants.{Int, Text}
 use Rattle.sqlite.specs.Order.{Row, value_cmp}
 use Rattle.sqlite.specs.State.{State as Connected}
+use Rattle.sqlite.specs.Table.{Table as SqlTable}
+use Rattle.sqlite.specs.Tree.{Trees}
 use Rattle.sqlite_value.proofs.OrderLemmas.{value_cmp-Int}
-use Rattle.up_canon.specs.Names.{Name}
+use Rattle.up_canon.specs.Names.{Name, Table}
 use Rattle.up_canon.specs.Steps.{if_passes}
 use Rattle.up_columns.specs.CampaignColumns.{reach_column, items_column}
 use Rattle.up_plan.specs.Campaigns.{CampaignData}
@@ -47,57 +49,86 @@ within_read rows before after reads within =
       here = λ is_open. subst (IsWith up_schema (ListsRows rows)) (sym r.now_is) (within.here r.was_open);
     }
 
--- ---- images
+-- ---- the row of a name
 
-pub record FoundImage (o : Option ImageData) (shown : ImageRow) : Type 0 where
-  pub image : ImageData
-  pub there : o ≡ Some image
-  pub same : IsImage shown image
+-- a table with one row a name at most: X is what the row is of, R the row as it stands in the table
+pub record NamedRows (X R : Type 0) : Type 1 where
+  pub listed : SqlTable
+  pub places : List ℕ
+  pub row_of : R → Row
+  pub lines : Option X → List Row
+  pub values : StateRows → Table X
+  pub IsRow : R → X → Type 0
+  pub IsTyped : Name → X → Type 0
+  pub lists : (rows : StateRows) (trees : Trees) → ListsRows rows trees → Lists 1 (λ n. lines (table.get (values rows) n)) (trees listed.tree)
+  pub typed : (rows : StateRows) (trees : Trees) → ListsRows rows trees → (n : Name) (x : X) → table.get (values rows) n ≡ Some x → IsTyped n x
+  pub blank : (shown : R) → map (columns_at places) (lines None) ≡ row_of shown ∷ [] → ⊥
+  pub filled : (x : X) → map (columns_at places) (lines (Some x)) ≡ [] → ⊥
+  pub row_is : (x : X) (shown : R) → map (columns_at places) (lines (Some x)) ≡ row_of shown ∷ [] → IsRow shown x
+
+module _ {X R : Type 0} (t : NamedRows X R) where
+  pub record FoundRow (o : Option X) (shown : R) : Type 0 where
+    pub value : X
+    pub there : o ≡ Some value
+    pub same : t.IsRow shown value
+
+  some : (o : Option X) (shown : R) → map (columns_at t.places) (t.lines o) ≡ t.row_of shown ∷ [] → FoundRow o shown
+  some None shown h = absurd (t.blank shown h)
+  some (Some x) shown h = record { value = x; there = refl; same = t.row_is x shown h }
+
+  none : (o : Option X) → map (columns_at t.places) (t.lines o) ≡ [] → o ≡ None
+  none None h = refl
+  none (Some x) h = absurd (t.filled x h)
+
+  abbrev Shows : Name → Option R → Connected → Type 0
+  Shows name found before =
+      (rows_of : List ℕ → List Row) → HasTables before → Lists 1 rows_of (before.now.trees t.listed.tree) → map (columns_at t.places) (rows_of name) ≡ map t.row_of (option_to_list found)
+
+  rows_are : (rows : StateRows) (name : Name) (before after : Connected) (found : Option R) → (HasTables before → Reads before after) → Shows name found before
+      → IsWithin up_schema (ListsRows rows) before → map (columns_at t.places) (t.lines (table.get (t.values rows) name)) ≡ map t.row_of (option_to_list found)
+  rows_are rows name before after found reads shows within =
+      let has = has_tables rows before within in
+      shows (λ n. t.lines (table.get (t.values rows) n)) has (t.lists rows before.now.trees (within.here (reads has).was_open).rows)
+
+  -- what is read of a row that is found is what the table has under the name
+  pub some_found : {E : Type 0} (r : Result (Option X) E) (name : Name) (before after : Connected) (found : Option R) (shown : R) → found ≡ Some shown
+      → IfOk r (λ read. (n : Name) (x : X) → t.IsTyped n x → t.IsRow shown x → read ≡ Some x) → (HasTables before → Reads before after) → Shows name found before
+      → IfOk r (λ read. (rows : StateRows) → IsWithin up_schema (ListsRows rows) before → read ≡ table.get (t.values rows) name)
+  some_found (Err e) name before after found shown is read reads shows = tt
+  some_found (Ok x) name before after found shown is read reads shows = λ rows within.
+      let here = within.here (reads (has_tables rows before within)).was_open in
+      let f = some (table.get (t.values rows) name) shown (rows_are rows name before after found reads shows within ∙ ap (λ o. map t.row_of (option_to_list o)) is) in
+      read name f.value (t.typed rows before.now.trees here.rows name f.value f.there) f.same ∙ sym f.there
+
+  pub none_found : (rows : StateRows) (name : Name) (before after : Connected) (found : Option R) → found ≡ None → (HasTables before → Reads before after) → Shows name found before
+      → IsWithin up_schema (ListsRows rows) before → None ≡ table.get (t.values rows) name
+  none_found rows name before after found is reads shows within =
+      sym (none (table.get (t.values rows) name) (rows_are rows name before after found reads shows within ∙ ap (λ o. map t.row_of (option_to_list o)) is))
 
 pub image_shown : (image : ImageData) (shown : ImageRow) → image_lines (Some image) ≡ image_row shown ∷ [] → IsImage shown image
 image_shown image shown h = record { file = cc; length = cc; sha256 = cc; hardware = cc; release = cc; needs = cc; conflicts = cc }
 
-image_some : (o : Option ImageData) (shown : ImageRow) → map (columns_at image_places) (image_lines o) ≡ image_row shown ∷ [] → FoundImage o shown
-image_some None shown h = cc
-image_some (Some image) shown h = record { image = image; there = refl; same = image_shown image shown h }
+pub no_image : (shown : ImageRow) → [] ≡ image_row shown ∷ [] → ⊥
+no_image shown h = cc
 
-image_none : (o : Option ImageData) → map (columns_at image_places) (image_lines o) ≡ [] → o ≡ None
-image_none None h = refl
-image_none (Some image) h = cc
+pub one_image : (image : ImageData) → map (columns_at image_places) (image_lines (Some image)) ≡ [] → ⊥
+one_image image h = cc
 
-abbrev ShowsImage : Name → Option ImageRow → Connected → Type 0
-ShowsImage file found before =
-    (rows_of : List ℕ → List Row) → HasTables before → Lists 1 rows_of (before.now.trees image_table.tree) → map (columns_at image_places) (rows_of file) ≡ map image_row (option_to_list found)
-
-image_rows_are : (rows : StateRows) (file : Name) (before after : Connected) (found : Option ImageRow) → (HasTables before → Reads before after) → ShowsImage file found before
-    → IsWithin up_schema (ListsRows rows) before → map (columns_at image_places) (image_lines (table.get rows.images file)) ≡ map image_row (option_to_list found)
-image_rows_are rows file before after found reads shows within =
-    let has = has_tables rows before within in
-    let here = within.here (reads has).was_open in
-    shows (λ name. image_lines (table.get rows.images name)) has here.rows.tables.images
-
--- the image that is found is that of the row
-pub image_found : {E : Type 0} (r : Result (Option ImageData) E) (rows : StateRows) (file : Name) (before after : Connected) (found : Option ImageRow) (shown : ImageRow) → found ≡ Some shown
-    → IfOk r (λ read. (name : Name) (image : ImageData) → IsTypedImage name image → IsImage shown image → read ≡ Some image)
-    → (HasTables before → Reads before after) → ShowsImage file found before → IsWithin up_schema (ListsRows rows) before → IfOk r (λ read. read ≡ table.get rows.images file)
-image_found (Err e) rows file before after found shown is read reads shows within = tt
-image_found (Ok x) rows file before after found shown is read reads shows within =
-    let has = has_tables rows before within in
-    let here = within.here (reads has).was_open in
-    let f = image_some (table.get rows.images file) shown (image_rows_are rows file before after found reads shows within ∙ ap (λ o. map image_row (option_to_list o)) is) in
-    read file f.image (here.rows.typed.images file f.image f.there) f.same ∙ sym f.there
-
-pub image_unknown : (rows : StateRows) (file : Name) (before after : Connected) (found : Option ImageRow) → found ≡ None → (HasTables before → Reads before after) → ShowsImage file found before
-    → IsWithin up_schema (ListsRows rows) before → None ≡ table.get rows.images file
-image_unknown rows file before after found is reads shows within =
-    sym (image_none (table.get rows.images file) (image_rows_are rows file before after found reads shows within ∙ ap (λ o. map image_row (option_to_list o)) is))
-
--- ---- campaigns
-
-pub record FoundCampaign (o : Option CampaignData) (shown : CampaignRow) : Type 0 where
-  pub campaign : CampaignData
-  pub there : o ≡ Some campaign
-  pub same : IsCampaign shown campaign
+abbrev pub images : NamedRows ImageData ImageRow
+images = record {
+  listed = image_table;
+  places = image_places;
+  row_of = image_row;
+  lines = image_lines;
+  values = λ rows. rows.images;
+  IsRow = IsImage;
+  IsTyped = IsTypedImage;
+  lists = λ rows trees lists. lists.tables.images;
+  typed = λ rows trees lists. lists.typed.images;
+  blank = no_image;
+  filled = one_image;
+  row_is = image_shown;
+}
 
 same_yes : (a b : Bool) → yes_or_no a ≡ yes_or_no b → a ≡ b
 same_yes true true h = refl
@@ -108,40 +139,27 @@ same_yes false false h = refl
 pub campaign_shown : (campaign : CampaignData) (shown : CampaignRow) → campaign_lines (Some campaign) ≡ campaign_row shown ∷ [] → IsCampaign shown campaign
 campaign_shown campaign shown h = record { name = cc; reach = cc; items = cc; running = let same : yes_or_no shown.running ≡ yes_or_no campaign.running = cc in same_yes shown.running campaign.running same }
 
-campaign_some : (o : Option CampaignData) (shown : CampaignRow) → map (columns_at campaign_places) (campaign_lines o) ≡ campaign_row shown ∷ [] → FoundCampaign o shown
-campaign_some None shown h = cc
-campaign_some (Some campaign) shown h = record { campaign = campaign; there = refl; same = campaign_shown campaign shown h }
+pub no_campaign : (shown : CampaignRow) → [] ≡ campaign_row shown ∷ [] → ⊥
+no_campaign shown h = cc
 
-campaign_none : (o : Option CampaignData) → map (columns_at campaign_places) (campaign_lines o) ≡ [] → o ≡ None
-campaign_none None h = refl
-campaign_none (Some campaign) h = cc
+pub one_campaign : (campaign : CampaignData) → map (columns_at campaign_places) (campaign_lines (Some campaign)) ≡ [] → ⊥
+one_campaign campaign h = cc
 
-abbrev ShowsCampaign : Name → Option CampaignRow → Connected → Type 0
-ShowsCampaign name found before =
-    (rows_of : List ℕ → List Row) → HasTables before → Lists 1 rows_of (before.now.trees campaign_table.tree) → map (columns_at campaign_places) (rows_of name) ≡ map campaign_row (option_to_list found)
-
-campaign_rows_are : (rows : StateRows) (name : Name) (before after : Connected) (found : Option CampaignRow) → (HasTables before → Reads before after) → ShowsCampaign name found before
-    → IsWithin up_schema (ListsRows rows) before → map (columns_at campaign_places) (campaign_lines (table.get rows.campaigns name)) ≡ map campaign_row (option_to_list found)
-campaign_rows_are rows name before after found reads shows within =
-    let has = has_tables rows before within in
-    let here = within.here (reads has).was_open in
-    shows (λ n. campaign_lines (table.get rows.campaigns n)) has here.rows.tables.campaigns
-
--- the campaign that is found is that of the row
-pub campaign_found : {E : Type 0} (r : Result (Option CampaignData) E) (rows : StateRows) (name : Name) (before after : Connected) (found : Option CampaignRow) (shown : CampaignRow) → found ≡ Some shown
-    → IfOk r (λ read. (n : Name) (campaign : CampaignData) → IsTypedCampaign n campaign → IsCampaign shown campaign → read ≡ Some campaign)
-    → (HasTables before → Reads before after) → ShowsCampaign name found before → IsWithin up_schema (ListsRows rows) before → IfOk r (λ read. read ≡ table.get rows.campaigns name)
-campaign_found (Err e) rows name before after found shown is read reads shows within = tt
-campaign_found (Ok x) rows name before after found shown is read reads shows within =
-    let has = has_tables rows before within in
-    let here = within.here (reads has).was_open in
-    let f = campaign_some (table.get rows.campaigns name) shown (campaign_rows_are rows name before after found reads shows within ∙ ap (λ o. map campaign_row (option_to_list o)) is) in
-    read name f.campaign (here.rows.typed.campaigns name f.campaign f.there) f.same ∙ sym f.there
-
-pub campaign_unknown : (rows : StateRows) (name : Name) (before after : Connected) (found : Option CampaignRow) → found ≡ None → (HasTables before → Reads before after) → ShowsCampaign name found before
-    → IsWithin up_schema (ListsRows rows) before → None ≡ table.get rows.campaigns name
-campaign_unknown rows name before after found is reads shows within =
-    sym (campaign_none (table.get rows.campaigns name) (campaign_rows_are rows name before after found reads shows within ∙ ap (λ o. map campaign_row (option_to_list o)) is))
+abbrev pub campaigns : NamedRows CampaignData CampaignRow
+campaigns = record {
+  listed = campaign_table;
+  places = campaign_places;
+  row_of = campaign_row;
+  lines = campaign_lines;
+  values = λ rows. rows.campaigns;
+  IsRow = IsCampaign;
+  IsTyped = IsTypedCampaign;
+  lists = λ rows trees lists. lists.tables.campaigns;
+  typed = λ rows trees lists. lists.typed.campaigns;
+  blank = no_campaign;
+  filled = one_campaign;
+  row_is = campaign_shown;
+}
 
 -- ---- tables read whole
 

@@ -29,11 +29,8 @@ use Rattle.up_store.specs.Listing.{ListsRows, table_rows}
 use Rattle.up_store.specs.Typed.{AreTyped, IsTypedImage, IsTypedCampaign}
 use Rattle.up_store.proofs.Alike.{lists_as, alters_as}
 use Rattle.up_store.proofs.Inserted.{row_inserted}
+use Rattle.up_store.proofs.RootPuts.{within_goes}
 use Rattle.up_store.proofs.TypedRows.{typed_campaign}
-
--- what was put goes on as what a next step begins with
-pub within_on : (rows : StateRows) (s : Connected) → GoesOn up_schema (ListsRows rows) s → IsWithin up_schema (ListsRows rows) s
-within_on rows s on = record { mode = on.mode; here = λ is_open. on.here }
 
 -- ---- images
 
@@ -75,7 +72,7 @@ pub puts_both : {A : Type 0} (r : Result A StoreFault) (image : ImageData) (new 
     → OnOk r ((rows : StateRows) → IsWithin up_schema (ListsRows rows) before → IsNewImage image new rows → GoesOn up_schema (ListsRows (with_image_rows rows image new)) after)
 puts_both (Err e) image new before mid after first second = tt
 puts_both (Ok done) image new before mid after first second = λ rows within fits.
-    second (with_image rows image) (within_on (with_image rows image) mid (first rows within fits.none)) fits.root
+    second (with_image rows image) (within_goes (ListsRows (with_image rows image)) mid (first rows within fits.none)) fits.root
 
 -- ---- campaigns
 

@@ -31,14 +31,14 @@ use Rattle.up_tables.proofs.EcuRows.{text_is}
 use Rattle.up_store.specs.Found.{ecus_found, owner_found}
 use Rattle.up_store.specs.Lines.{ecu_line, ecu_lines, ecus_lines}
 use Rattle.up_store.specs.Listing.{ListsRows}
-use Rattle.up_store.specs.Shown.{ecu_of, installed_of}
+use Rattle.up_store.specs.Shown.{ecu_read, installed_read}
 use Rattle.up_store.specs.Typed.{AreTyped}
 
 -- ---- the ECUs of a vehicle
 
 same_installed : (o : Option Installed) (p : Option InstalledShown) → or_null (λ (i : Installed). Text i.file) o ≡ or_null (λ (s : InstalledShown). Text (string_bytes s.file)) p
     → or_null (λ (i : Installed). Int (pos i.length)) o ≡ or_null (λ (s : InstalledShown). Int (pos s.length)) p
-    → or_null (λ (i : Installed). Blob i.sha256) o ≡ or_null (λ (s : InstalledShown). Blob s.sha256.items) p → option_map installed_of p ≡ o
+    → or_null (λ (i : Installed). Blob i.sha256) o ≡ or_null (λ (s : InstalledShown). Blob s.sha256.items) p → option_map installed_read p ≡ o
 same_installed None None a b c = refl
 same_installed None (Some s) a b c = cc
 same_installed (Some i) None a b c = cc
@@ -54,7 +54,7 @@ same_report text None (Some s) h = cc
 same_report text (Some t) None h = cc
 same_report text (Some t) (Some s) h = let same : text s ≡ t = cc in ap Some same
 
-same_ecu : (vehicle : Name) (place : ℕ) (row : EcuRow) (shown : EcuShown) → ecu_row (ecu_line vehicle place row) ≡ ecu_row (line vehicle place shown) → ecu_of shown ≡ row
+same_ecu : (vehicle : Name) (place : ℕ) (row : EcuRow) (shown : EcuShown) → ecu_row (ecu_line vehicle place row) ≡ ecu_row (line vehicle place shown) → ecu_read shown ≡ row
 same_ecu vehicle place row shown h =
     let ecu : string_bytes shown.ecu ≡ row.ecu = cc in
     let hardware : string_bytes shown.hardware ≡ row.hardware = cc in
@@ -63,12 +63,12 @@ same_ecu vehicle place row shown h =
     let file : or_null (λ (i : Installed). Text i.file) row.installed ≡ or_null (λ (s : InstalledShown). Text (string_bytes s.file)) shown.installed = cc in
     let size : or_null (λ (i : Installed). Int (pos i.length)) row.installed ≡ or_null (λ (s : InstalledShown). Int (pos s.length)) shown.installed = cc in
     let hash : or_null (λ (i : Installed). Blob i.sha256) row.installed ≡ or_null (λ (s : InstalledShown). Blob s.sha256.items) shown.installed = cc in
-    let installed : option_map installed_of shown.installed ≡ row.installed = same_installed row.installed shown.installed file size hash in
+    let installed : option_map installed_read shown.installed ≡ row.installed = same_installed row.installed shown.installed file size hash in
     let text : or_null (λ (t : List ℕ). Text t) row.report ≡ or_null (λ s. Text (string_bytes s)) shown.report = cc in
     let report : option_map string_bytes shown.report ≡ row.report = same_report string_bytes row.report shown.report text in
     λ k. record { ecu = ecu k; hardware = hardware k; public = public k; installed = installed k; counter = counter k; report = report k }
 
-same_ecus : (vehicle : Name) (place : ℕ) (rows : List EcuRow) (found : List EcuShown) → map ecu_row (ecu_lines vehicle place rows) ≡ map ecu_row (lines vehicle place found) → map ecu_of found ≡ rows
+same_ecus : (vehicle : Name) (place : ℕ) (rows : List EcuRow) (found : List EcuShown) → map ecu_row (ecu_lines vehicle place rows) ≡ map ecu_row (lines vehicle place found) → map ecu_read found ≡ rows
 same_ecus vehicle place [] [] h = refl
 same_ecus vehicle place [] (f ∷ found) h = cc
 same_ecus vehicle place (row ∷ rows) [] h = cc
@@ -87,7 +87,7 @@ shown_ecus rows n = ecus_lines n (table.get rows.vehicles n)
 pub ecus_in : (rows : StateRows) (name : Name) (before after : Connected) (found : List EcuShown) → (HasTables before → Reads before after)
     → ((rows_of : List ℕ → List Row) (es : List EcuLine) → HasTables before → Lists 2 rows_of (before.now.trees ecu_table.tree) → rows_of name ≡ map ecu_row es → AreInPlace name 0 es
     → rows_of name ≡ map ecu_row (lines name 0 found))
-    → IsWithin up_schema (ListsRows rows) before → map ecu_of found ≡ ecus_found name rows
+    → IsWithin up_schema (ListsRows rows) before → map ecu_read found ≡ ecus_found name rows
 ecus_in rows name before after found reads shows within =
     let has : HasTables before = λ is_open. let here = within.here is_open in record { schema_is = here.schema_is; sound = here.sound; rows = tt } in
     let here = within.here (reads has).was_open in
@@ -95,7 +95,7 @@ ecus_in rows name before after found reads shows within =
   where
     go : (o : Option VehicleRows) → table.get rows.vehicles name ≡ o
         → ((es : List EcuLine) → HasTables before → Lists 2 (shown_ecus rows) (before.now.trees ecu_table.tree) → shown_ecus rows name ≡ map ecu_row es → AreInPlace name 0 es → shown_ecus rows name ≡ map ecu_row (lines name 0 found))
-        → HasTables before → Lists 2 (shown_ecus rows) (before.now.trees ecu_table.tree) → map ecu_of found ≡ ecus_found name rows
+        → HasTables before → Lists 2 (shown_ecus rows) (before.now.trees ecu_table.tree) → map ecu_read found ≡ ecus_found name rows
     go None is shown has lists =
         let same = ap (ecus_lines name) is in
         same_ecus name 0 [] found (sym same ∙ shown [] has lists same tt) ∙ sym (ap (λ (o : Option VehicleRows). unwrap_or (option_map (λ (v : VehicleRows). v.ecus) o) []) is)

@@ -20,6 +20,7 @@ pub mod ColumnPuts
 pub mod WholeTables
 pub mod ValuesWhere
 pub mod ColumnTables
+pub mod QuotedNames
 pub mod OneKeys
 pub mod RootMoments
 pub mod RootTexts

@@ -14,7 +14,7 @@ use Rattle.up_rows.specs.StateRows.{StateRows, no_rows}
 use Rattle.up_rows.specs.Lookups.{text_in, text_held}
 use Rattle.up_tables.specs.Lines.{AreNew}
 use Rattle.up_tables.specs.Ours.{ListsUs}
-use Rattle.up_tables.specs.Listed.{ListsTables, no_rows as no_tables}
+use Rattle.up_tables.specs.Listed.{ListsTables, no_table_rows}
 use Rattle.up_tables.specs.Tables.{repo_file_table, image_table, campaign_table, vehicle_table, ecu_table}
 use Rattle.up_tables.proofs.ListedLemmas.{lists_none}
 use Rattle.up_store.specs.Lines.{repository_word, file_lines, image_lines, campaign_lines, vehicle_lines, ecus_lines}
@@ -56,7 +56,7 @@ typed_none = record {
 
 pub new_lists : (trees : Trees) → AreNew trees → ListsRows no_rows trees
 new_lists trees new =
-    let none : ListsTables no_tables trees = lists_none trees new in
+    let none : ListsTables no_table_rows trees = lists_none trees new in
     record {
       last = refl;
       numbered = refl;

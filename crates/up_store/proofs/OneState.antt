@@ -30,7 +30,7 @@ use Rattle.up_machine.specs.declared.rows.VehicleRows.{VehicleRows}
 use Rattle.up_machine.specs.declared.vehicle.NewEcu.{NewEcu}
 use Rattle.up_rows.specs.declared.root_row.RootRow.{RootRow}
 use Rattle.up_rows.specs.Laws.{RowsTellTheState}
-use Rattle.up_rows.specs.StateRows.{StateRows, rows_of_state, root_of, ecu_of, entry_of, vehicle_of}
+use Rattle.up_rows.specs.StateRows.{StateRows, rows_of_state, root_of, ecu_of, entry_of, vehicle_of_rows}
 use Rattle.up_rows.proofs.Tables.{get_changed}
 use Rattle.up_tables.specs.Lines.{ecu_row, meta_row, yes_or_no}
 use Rattle.up_store.specs.Lines.{founding_number, image_lines, campaign_lines, vehicle_lines, ecu_lines, ecus_lines, kept_line}
@@ -147,7 +147,7 @@ abbrev the_vehicle : Name → List NewEcu → List Entry → Vehicle
 the_vehicle primary ecus entries = record { primary = primary; ecus = ecus; entries = entries }
 
 one_vehicle : (n : Name) (kept last : Name → List Kept) (a b : Option VehicleRows) → map entry_of (kept n) ≡ map entry_of (last n) → vehicle_lines a ≡ vehicle_lines b → ecus_lines n a ≡ ecus_lines n b
-    → option_map (vehicle_of kept n) a ≡ option_map (vehicle_of last n) b
+    → option_map (vehicle_of_rows kept n) a ≡ option_map (vehicle_of_rows last n) b
 one_vehicle n kept last None None entries h k = refl
 one_vehicle n kept last None (Some w) entries h k = absurd (cc)
 one_vehicle n kept last (Some v) None entries h k = absurd (cc)
@@ -210,13 +210,13 @@ module _ (law : CanonIsRead) (moments : MomentsAreRead) (tell : RowsTellTheState
   campaigns : s.campaigns ≡ t.campaigns
   campaigns = same_table s.campaigns t.campaigns (λ n. one_campaign_or_none law n (table.get s.campaigns n) (table.get t.campaigns n) (one.typed.campaigns n) (two.typed.campaigns n) (sym (one.tables.campaigns.parts n) ∙ two.tables.campaigns.parts n))
 
-  vehicle_at : (n : Name) → option_map (vehicle_of first.kept n) (table.get first.vehicles n) ≡ option_map (vehicle_of second.kept n) (table.get second.vehicles n)
+  vehicle_at : (n : Name) → option_map (vehicle_of_rows first.kept n) (table.get first.vehicles n) ≡ option_map (vehicle_of_rows second.kept n) (table.get second.vehicles n)
   vehicle_at n = one_vehicle n first.kept second.kept (table.get first.vehicles n) (table.get second.vehicles n)
       (one_kept law n (first.kept n) (second.kept n) (one.typed.kept n) (two.typed.kept n) (sym (one.tables.kept.parts n) ∙ two.tables.kept.parts n))
       (sym (one.tables.vehicles.parts n) ∙ two.tables.vehicles.parts n) (sym (one.tables.ecus.parts n) ∙ two.tables.ecus.parts n)
 
-  told : (u : State) → IsSound k u → (n : Name) → table.get u.vehicles n ≡ option_map (vehicle_of (rows_of_state k u).kept n) (table.get (rows_of_state k u).vehicles n)
-  told u is n = sym (ap (λ (x : State). table.get x.vehicles n) (tell k u is)) ∙ get_changed (vehicle_of (rows_of_state k u).kept) (rows_of_state k u).vehicles n
+  told : (u : State) → IsSound k u → (n : Name) → table.get u.vehicles n ≡ option_map (vehicle_of_rows (rows_of_state k u).kept n) (table.get (rows_of_state k u).vehicles n)
+  told u is n = sym (ap (λ (x : State). table.get x.vehicles n) (tell k u is)) ∙ get_changed (vehicle_of_rows (rows_of_state k u).kept) (rows_of_state k u).vehicles n
 
   vehicles : s.vehicles ≡ t.vehicles
   vehicles = same_table s.vehicles t.vehicles (λ n. told s sound n ∙ vehicle_at n ∙ sym (told t also n))

@@ -28,7 +28,7 @@ use Rattle.up_store.specs.Listing.{ListsRows, AreNumbered, files_lines, table_ro
 use Rattle.up_store.specs.Puts.{with_founding, with_keys, HasFilesOnce, with_files}
 use Rattle.up_store.proofs.Alike.{pairs_as}
 use Rattle.up_store.proofs.FoundingReads.{roots_push}
-use Rattle.up_store.proofs.RootPuts.{none_named, numbers_apart, role_files_set, files_once, set_once, within_goes, tables_within}
+use Rattle.up_store.proofs.RootPuts.{none_named, numbers_apart, role_files_set, files_once, set_once, within_goes, goes_as, tables_within}
 use Rattle.up_store.proofs.TypedRows.{typed_root}
 
 abbrev body_of : Repository → RootRows → List ℕ
@@ -166,26 +166,18 @@ puts_root (Ok x) new s0 s1 s2 s3 s4 small p1 p2 p3 p4 was_open = λ rows within 
     let number = fits.number in
     let keys : roots_lines rows.roots ++ root_lines new.founding.root (new_root new) ≡ roots_lines (rows.roots ++ new_root new ∷ []) =
     ap (λ (m : ℕ). roots_lines rows.roots ++ root_lines m (new_root new)) number ∙ sym (roots_push rows.roots (new_root new)) in
-    record {
-      mode = g4.mode;
-      is_open = g4.is_open;
-      here = record {
-        schema_is = g4.here.schema_is;
-        sound = g4.here.sound;
-        rows = record {
-          last = (number ∙ sym (length_push rows.roots (new_root new)), ap (option_map (λ (r : RootRow). r.keys)) (slice_last rows.roots (new_root new)));
-          numbered = next_numbered rows new number small here.rows.numbered;
-          typed = typed_root rows new here.rows.typed fits.keys;
-          tables = record {
-            meta = t.meta;
-            role_keys = subst (λ (l : List Row). ListsAll l (s4.now.trees role_key_table.tree)) keys t.role_keys;
-            files = pairs_as _ (files_lines (with_root_rows rows new)) (s4.now.trees repo_file_table.tree) (all_files_set rows new number small here.rows.numbered) t.files;
-            images = t.images;
-            campaigns = t.campaigns;
-            vehicles = t.vehicles;
-            ecus = t.ecus;
-            kept = t.kept;
-          };
-        };
+    goes_as g4 (record {
+      last = (number ∙ sym (length_push rows.roots (new_root new)), ap (option_map (λ (r : RootRow). r.keys)) (slice_last rows.roots (new_root new)));
+      numbered = next_numbered rows new number small here.rows.numbered;
+      typed = typed_root rows new here.rows.typed fits.keys;
+      tables = record {
+        meta = t.meta;
+        role_keys = subst (λ (l : List Row). ListsAll l (s4.now.trees role_key_table.tree)) keys t.role_keys;
+        files = pairs_as _ (files_lines (with_root_rows rows new)) (s4.now.trees repo_file_table.tree) (all_files_set rows new number small here.rows.numbered) t.files;
+        images = t.images;
+        campaigns = t.campaigns;
+        vehicles = t.vehicles;
+        ecus = t.ecus;
+        kept = t.kept;
       };
-    }
+    })

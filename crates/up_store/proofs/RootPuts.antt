@@ -33,7 +33,7 @@ use Rattle.up_store.specs.Fitting.{IsSameRoot}
 use Rattle.up_store.specs.Lines.{FileLine, file_row, file_line, file_lines, set_lines, role_file_lines, repository_word, repository_lines}
 use Rattle.up_store.specs.Listing.{ListsRows, AreNumbered, files_lines, table_rows}
 use Rattle.up_store.specs.Puts.{with_founding, with_keys, HasFilesOnce, with_files}
-use Rattle.up_store.specs.Shown.{file_of}
+use Rattle.up_store.specs.Shown.{file_read}
 use Rattle.up_store.proofs.Alike.{pairs_as}
 use Rattle.up_store.proofs.TypedRows.{typed_register}
 
@@ -63,11 +63,11 @@ puts_keys (Ok x) f made before after same sets was_open = λ rows within any.
     subst (λ (l : List Row). Alters role_key_table (ListsAll (rows.role_keys ++ l)) before after) same (sets rows.role_keys (has_tables (ListsTables rows) before within) here.rows.role_keys) in
     goes_on role_key_table _ (ListsTables (with_keys f rows)) before after alters (lists_role_keys rows all before after here.rows alters)
 
-set_is : (made : List FileShown) (rows_of : List ℕ → List ℕ → List Row) → set_files made rows_of ≡ set_lines (map file_of made) rows_of
+set_is : (made : List FileShown) (rows_of : List ℕ → List ℕ → List Row) → set_files made rows_of ≡ set_lines (map file_read made) rows_of
 set_is [] rows_of = refl
-set_is (f ∷ made) rows_of = set_is made (with_only_at (string_bytes f.repository) (string_bytes f.name) (file_row (file_of f)) rows_of)
+set_is (f ∷ made) rows_of = set_is made (with_only_at (string_bytes f.repository) (string_bytes f.name) (file_row (file_read f)) rows_of)
 
-pub puts_files : {A : Type 0} (r : Result A StoreFault) (files : List FileLine) (made : List FileShown) (before after : Connected) → map file_of made ≡ files
+pub puts_files : {A : Type 0} (r : Result A StoreFault) (files : List FileLine) (made : List FileShown) (before after : Connected) → map file_read made ≡ files
     → OnOk r ((rows_of : List ℕ → List ℕ → List Row) → HasTables before → ListsPairs rows_of (before.now.trees repo_file_table.tree) → ((repository name : List ℕ) → length (rows_of repository name) ≤ 1)
     → Alters repo_file_table (ListsPairs (set_files made rows_of)) before after)
     → OnOk r (IsTrue before.is_open) → OnOk r ((rows : TableRows) → IsWithin up_schema (ListsTables rows) before → HasFilesOnce rows → GoesOn up_schema (ListsTables (with_files files rows)) after)
@@ -214,6 +214,9 @@ module _ (rows : StateRows) (new : RegisterRows) (numbered : AreNumbered rows.ro
 pub within_goes : (P : Rattle.sqlite.specs.Tree.Trees → Type 0) (s : Connected) → GoesOn up_schema P s → IsWithin up_schema P s
 within_goes P s h = record { mode = h.mode; here = λ _. h.here }
 
+pub goes_as : {P Q : Rattle.sqlite.specs.Tree.Trees → Type 0} {s : Connected} → GoesOn up_schema P s → Q s.now.trees → GoesOn up_schema Q s
+goes_as on rows = record { mode = on.mode; is_open = on.is_open; here = record { schema_is = on.here.schema_is; sound = on.here.sound; rows = rows } }
+
 pub tables_within : (rows : StateRows) (s : Connected) → IsWithin up_schema (ListsRows rows) s → IsWithin up_schema (ListsTables (table_rows rows)) s
 tables_within rows s within = record { mode = within.mode; here = λ is_open. let here = within.here is_open in record { schema_is = here.schema_is; sound = here.sound; rows = here.rows.tables } }
 
@@ -227,26 +230,18 @@ puts_register (Ok x) new before mid after first second was_open = λ rows within
     let one = first (table_rows rows) (tables_within rows before within) tt in
     let two = second (with_founding new.founding (table_rows rows)) (within_goes _ mid one) (files_once rows) in
     let t = two.here.rows in
-    record {
-      mode = two.mode;
-      is_open = two.is_open;
-      here = record {
-        schema_is = two.here.schema_is;
-        sound = two.here.sound;
-        rows = record {
-          last = fits;
-          numbered = here.rows.numbered;
-          typed = typed_register rows new here.rows.typed;
-          tables = record {
-            meta = t.meta;
-            role_keys = t.role_keys;
-            files = pairs_as _ (files_lines (with_register_rows rows new)) (after.now.trees repo_file_table.tree) (role_files_set rows new here.rows.numbered) t.files;
-            images = t.images;
-            campaigns = t.campaigns;
-            vehicles = t.vehicles;
-            ecus = t.ecus;
-            kept = t.kept;
-          };
-        };
+    goes_as two (record {
+      last = fits;
+      numbered = here.rows.numbered;
+      typed = typed_register rows new here.rows.typed;
+      tables = record {
+        meta = t.meta;
+        role_keys = t.role_keys;
+        files = pairs_as _ (files_lines (with_register_rows rows new)) (after.now.trees repo_file_table.tree) (role_files_set rows new here.rows.numbered) t.files;
+        images = t.images;
+        campaigns = t.campaigns;
+        vehicles = t.vehicles;
+        ecus = t.ecus;
+        kept = t.kept;
       };
-    }
+    })

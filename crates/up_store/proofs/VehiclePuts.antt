@@ -26,22 +26,22 @@ use Rattle.up_tables.proofs.ListedLemmas.{goes_on, lists_vehicles, lists_ecus}
 use Rattle.up_store.specs.Fitting.{IsNewVehicle}
 use Rattle.up_store.specs.Lines.{vehicle_lines, ecu_line, ecu_lines, ecus_lines}
 use Rattle.up_store.specs.Listing.{ListsRows, table_rows}
-use Rattle.up_store.specs.Shown.{vehicle_of, ecu_of, installed_of}
+use Rattle.up_store.specs.Shown.{vehicle_read, ecu_read, installed_read}
 use Rattle.up_store.proofs.Alike.{lists_as, alters_as}
 use Rattle.up_store.proofs.Inserted.{changed_inserted, row_inserted}
 use Rattle.up_store.proofs.TypedRows.{typed_vehicle}
 
 -- ---- rows that are made
 
-file_is : (o : Option InstalledShown) → or_null (λ (i : Installed). Text i.file) (option_map installed_of o) ≡ or_null (λ (s : InstalledShown). Text (string_bytes s.file)) o
+file_is : (o : Option InstalledShown) → or_null (λ (i : Installed). Text i.file) (option_map installed_read o) ≡ or_null (λ (s : InstalledShown). Text (string_bytes s.file)) o
 file_is None = refl
 file_is (Some s) = refl
 
-size_is : (o : Option InstalledShown) → or_null (λ (i : Installed). Int (pos i.length)) (option_map installed_of o) ≡ or_null (λ (s : InstalledShown). Int (pos s.length)) o
+size_is : (o : Option InstalledShown) → or_null (λ (i : Installed). Int (pos i.length)) (option_map installed_read o) ≡ or_null (λ (s : InstalledShown). Int (pos s.length)) o
 size_is None = refl
 size_is (Some s) = refl
 
-hash_is : (o : Option InstalledShown) → or_null (λ (i : Installed). Blob i.sha256) (option_map installed_of o) ≡ or_null (λ (s : InstalledShown). Blob s.sha256.items) o
+hash_is : (o : Option InstalledShown) → or_null (λ (i : Installed). Blob i.sha256) (option_map installed_read o) ≡ or_null (λ (s : InstalledShown). Blob s.sha256.items) o
 hash_is None = refl
 hash_is (Some s) = refl
 
@@ -49,7 +49,7 @@ report_is : {S : Type 0} (text : S → List ℕ) (o : Option S) → or_null (λ 
 report_is text None = refl
 report_is text (Some s) = refl
 
-line_is : (vehicle : Name) (place : ℕ) (row : EcuShown) → ecu_line vehicle place (ecu_of row) ≡ line vehicle place row
+line_is : (vehicle : Name) (place : ℕ) (row : EcuShown) → ecu_line vehicle place (ecu_read row) ≡ line vehicle place row
 line_is vehicle place row = λ k. record {
   ecu = string_bytes row.ecu;
   vehicle = vehicle;
@@ -63,16 +63,16 @@ line_is vehicle place row = λ k. record {
   report = report_is string_bytes row.report k;
 }
 
-pub lines_are : (vehicle : Name) (place : ℕ) (made : List EcuShown) → ecu_lines vehicle place (map ecu_of made) ≡ lines vehicle place made
+pub lines_are : (vehicle : Name) (place : ℕ) (made : List EcuShown) → ecu_lines vehicle place (map ecu_read made) ≡ lines vehicle place made
 lines_are vehicle place [] = refl
 lines_are vehicle place (row ∷ made) = ap₂ (λ (e : EcuLine) (es : List EcuLine). e ∷ es) (line_is vehicle place row) (lines_are vehicle (suc place) made)
 
-pub vehicle_is : (made : VehicleShown) (row : VehicleRow) → vehicle_of made ≡ row → vehicle_row made ≡ vehicle_line row.vehicle row.primary row.version row.last
+pub vehicle_is : (made : VehicleShown) (row : VehicleRow) → vehicle_read made ≡ row → vehicle_row made ≡ vehicle_line row.vehicle row.primary row.version row.last
 vehicle_is made row same = ap (λ (r : VehicleRow). vehicle_line r.vehicle r.primary r.version r.last) same
 
 -- ---- what is put in
 
-pub puts_vehicle : {A : Type 0} (r : Result A StoreFault) (new : VehicleRows) (vehicle : VehicleShown) (ecus : List EcuShown) (before mid after : Connected) → vehicle_of vehicle ≡ new.vehicle → map ecu_of ecus ≡ new.ecus
+pub puts_vehicle : {A : Type 0} (r : Result A StoreFault) (new : VehicleRows) (vehicle : VehicleShown) (ecus : List EcuShown) (before mid after : Connected) → vehicle_read vehicle ≡ new.vehicle → map ecu_read ecus ≡ new.ecus
     → ((rows_of : List ℕ → List Row) → HasTables before → Lists 1 rows_of (before.now.trees vehicle_table.tree) → Alters vehicle_table (Lists 1 (with_row (string_bytes vehicle.vehicle) (vehicle_row vehicle) rows_of)) before mid)
     → OnOk r ((rows_of : List ℕ → List Row) → HasTables mid → Lists 2 rows_of (mid.now.trees ecu_table.tree)
     → Alters ecu_table (Lists 2 (changed_at new.vehicle.vehicle (λ were. were ++ map ecu_row (lines new.vehicle.vehicle 0 ecus)) rows_of)) mid after)

@@ -16,10 +16,10 @@ use Rattle.up_tables.specs.Tables.{up_schema, vehicle_table}
 use Rattle.up_store.specs.Found.{vehicle_found}
 use Rattle.up_store.specs.Lines.{vehicle_lines}
 use Rattle.up_store.specs.Listing.{ListsRows}
-use Rattle.up_store.specs.Shown.{vehicle_of}
+use Rattle.up_store.specs.Shown.{vehicle_read}
 
 shown_is : (o : Option VehicleRows) (found : Option VehicleShown) → map (columns_at vehicle_places) (vehicle_lines o) ≡ map vehicle_row (option_to_list found)
-    → option_map vehicle_of found ≡ option_map (λ (v : VehicleRows). v.vehicle) o
+    → option_map vehicle_read found ≡ option_map (λ (v : VehicleRows). v.vehicle) o
 shown_is None None h = refl
 shown_is None (Some f) h = cc
 shown_is (Some v) None h = cc
@@ -32,7 +32,7 @@ shown_is (Some v) (Some f) h =
 
 pub vehicle_in : (rows : StateRows) (name : Name) (before after : Connected) (found : Option VehicleShown) → (HasTables before → Reads before after)
     → ((rows_of : List ℕ → List Row) → HasTables before → Lists 1 rows_of (before.now.trees vehicle_table.tree) → map (columns_at vehicle_places) (rows_of name) ≡ map vehicle_row (option_to_list found))
-    → IsWithin up_schema (ListsRows rows) before → option_map vehicle_of found ≡ vehicle_found name rows
+    → IsWithin up_schema (ListsRows rows) before → option_map vehicle_read found ≡ vehicle_found name rows
 vehicle_in rows name before after found reads shows within =
     let has : HasTables before = λ is_open. let here = within.here is_open in record { schema_is = here.schema_is; sound = here.sound; rows = tt } in
     let here = within.here (reads has).was_open in

@@ -16,26 +16,26 @@ use Rattle.up_store.specs.Lines.{FileLine, founding_number}
 
 -- ---- vehicles
 
-abbrev pub vehicle_of : VehicleShown → VehicleRow
-vehicle_of shown = record { vehicle = string_bytes shown.vehicle; primary = string_bytes shown.primary_ecu; version = shown.version; last = shown.last_counter }
+abbrev pub vehicle_read : VehicleShown → VehicleRow
+vehicle_read shown = record { vehicle = string_bytes shown.vehicle; primary = string_bytes shown.primary_ecu; version = shown.version; last = shown.last_counter }
 
-abbrev pub installed_of : InstalledShown → Installed
-installed_of shown = record { file = string_bytes shown.file; length = shown.length; sha256 = shown.sha256.items }
+abbrev pub installed_read : InstalledShown → Installed
+installed_read shown = record { file = string_bytes shown.file; length = shown.length; sha256 = shown.sha256.items }
 
-abbrev pub ecu_of : EcuShown → EcuRow
-ecu_of shown = record {
+abbrev pub ecu_read : EcuShown → EcuRow
+ecu_read shown = record {
   ecu = string_bytes shown.ecu;
   hardware = string_bytes shown.hardware;
   public = shown.public_key.items;
-  installed = option_map installed_of shown.installed;
+  installed = option_map installed_read shown.installed;
   counter = shown.counter;
   report = option_map string_bytes shown.report;
 }
 
 -- ---- files
 
-abbrev pub file_of : FileShown → FileLine
-file_of shown = record { repository = string_bytes shown.repository; name = string_bytes shown.name; body = string_bytes shown.body }
+abbrev pub file_read : FileShown → FileLine
+file_read shown = record { repository = string_bytes shown.repository; name = string_bytes shown.name; body = string_bytes shown.body }
 
 -- ---- the founding
 

@@ -1,9 +1,12 @@
 //! The rows of campaigns, read and made.
-ghost use Rattle.std.specs.Prelude.{◌≡◌, ◌&&◌, if◌then◌else◌, IfOk, OnOk};
+ghost use Rattle.std.specs.Prelude.{◌≡◌, ◌&&◌, if◌then◌else◌, false, string_bytes, IfOk, OnOk};
 ghost use Rattle.std.specs.FinMap as table;
+ghost use Rattle.up_canon.specs.Canon.{quoted as quoted_text};
 ghost use Rattle.up_canon.specs.Names.{Name, Table as Named};
+ghost use Rattle.up_columns.specs.CampaignColumns.{reach_column};
 ghost use Rattle.up_plan.specs.Campaigns.{CampaignData};
 ghost use Rattle.up_plan.specs.Planning.{reaches as is_reached};
+ghost use Rattle.up_plan.specs.declared.campaign.Reach.{Reach as ReachData};
 ghost use Rattle.up_store.specs.ColumnRows.{IsCampaign, AreRunning};
 ghost use Rattle.up_store.specs.Found.{values_where};
 ghost use Rattle.up_store.specs.Typed.{IsTypedCampaign};
@@ -13,8 +16,8 @@ use crate::reading::{ident_in, read_column};
 use crate::store::StoreFault;
 use std::alloc::{AllocError, Global};
 use up_canon::ident::Ident;
-use up_canon::named::has_name;
 use up_canon::table::Table;
+use up_canon::writing::push_ident;
 use up_columns::campaigns::{items_text, reach_text, read_campaign_items, read_reach};
 use up_plan::campaign::{Campaign, Reach};
 use up_tables::campaign::CampaignRow;
@@ -52,27 +55,51 @@ pub fn read_reaching(
     ensures { IfOk result (λ read. (campaigns : Named CampaignData) → AreRunning shown.now campaigns → read ≡ values_where (λ c. c.running && is_reached vehicle.now c.reach) campaigns) }
 {
     let mut reaching = Table::new(alloc);
+    let quoted = quoted_name(alloc, vehicle)?;
     for row in shown {
-        add_reaching(&mut reaching, alloc, vehicle, row)?;
+        add_reaching(&mut reaching, alloc, vehicle, quoted.as_str(), row)?;
     }
     Ok(reaching)
 }
 
-/// Puts a campaign under its name where it reaches the vehicle. Of the rows of others the reach alone is read.
+/// The vehicle's name as it stands in a column.
+fn quoted_name(alloc: Global, vehicle: &Ident) -> Result<String, AllocError>
+    ensures { IfOk result (λ name. string_bytes name ≡ quoted_text vehicle.now) }
+{
+    let mut name = String::new(alloc);
+    push_ident(&mut name, vehicle)?;
+    Ok(name)
+}
+
+/// Puts a campaign under its name where it reaches the vehicle, whose quoted name is given too. Of the rows of others the reach
+/// alone is read, where it may be the vehicle's at all.
 fn add_reaching(
     reaching: &mut Table<Campaign>,
     alloc: Global,
     vehicle: &Ident,
+    quoted: &str,
     shown: &CampaignRow,
 ) -> Result<(), StoreFault>
+    requires { quoted.now ≡ quoted_text vehicle.now }
     ensures { OnOk result ((name : Name) (campaign : CampaignData) → IsTypedCampaign name campaign → IsCampaign shown.now campaign
         → reaching.new ≡ (if is_reached vehicle.now campaign.reach then table.insert reaching.old campaign.name campaign else reaching.old)) }
 {
+    if !may_reach(shown.reach.as_str(), quoted) {
+        return Ok(());
+    }
     let reach = read_its_reach(alloc, shown)?;
-    if !reaches(&reach, vehicle) {
+    if !reach.reaches(vehicle) {
         return Ok(());
     }
     put_reached(reaching, alloc, shown, reach)
+}
+
+/// Whether the reach in this column may have the vehicle of this quoted name, told without reading it: in a list without escapes
+/// each name stands as it is.
+fn may_reach(column: &str, quoted: &str) -> bool
+    ensures { (vehicle : Name) (reach : ReachData) → quoted.now ≡ quoted_text vehicle → column.now ≡ reach_column reach → result ≡ false → is_reached vehicle reach ≡ false }
+{
+    !column.starts_with('[') || column.contains('\\') || column.contains(quoted)
 }
 
 /// Reads the rest of a row as it stands in the table, and puts the campaign under its name.
@@ -96,15 +123,6 @@ fn read_its_reach(alloc: Global, shown: &CampaignRow) -> Result<Reach, StoreFaul
     ensures { IfOk result (λ read. (name : Name) (campaign : CampaignData) → IsTypedCampaign name campaign → IsCampaign shown.now campaign → read ≡ campaign.reach) }
 {
     read_column(read_reach(alloc, shown.reach.as_str()))
-}
-
-fn reaches(reach: &Reach, vehicle: &Ident) -> bool
-    ensures { result ≡ is_reached vehicle.now reach.now }
-{
-    match reach {
-        Reach::All => true,
-        Reach::Named(vehicles) => has_name(vehicles.as_slice(), vehicle.text()),
-    }
 }
 
 /// The row of a campaign as it stands in the table.

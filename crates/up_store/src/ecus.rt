@@ -1,7 +1,7 @@
 //! The rows of a vehicle's ECUs, read and made.
 ghost use Rattle.std.specs.Prelude.{◌≡◌, ◌<◌, ◌^◌, All, IfOk, map, option_map, string_bytes};
 ghost use Rattle.up_tables.specs.Ecus.{FitEcu};
-ghost use Rattle.up_store.specs.Shown.{ecu_of, installed_of};
+ghost use Rattle.up_store.specs.Shown.{ecu_read, installed_read};
 
 use crate::reading::{count_in, file_name_in, ident_in, sha256_in};
 use crate::store::StoreFault;
@@ -15,7 +15,7 @@ use up_tables::ecu::{EcuRow as EcuShown, Installed as InstalledShown};
 
 /// Rows as they stand in the table, read.
 pub fn read_ecus(alloc: Global, shown: Vec<EcuShown>) -> Result<Listed<EcuRow>, StoreFault>
-    ensures { IfOk result (λ read. read ≡ map ecu_of shown.items) }
+    ensures { IfOk result (λ read. read ≡ map ecu_read shown.items) }
 {
     let mut read = Vec::with_capacity(alloc, shown.len())?;
     for row in shown {
@@ -26,7 +26,7 @@ pub fn read_ecus(alloc: Global, shown: Vec<EcuShown>) -> Result<Listed<EcuRow>, 
 
 /// A row as it stands in the table, read.
 fn read_ecu(shown: EcuShown) -> Result<EcuRow, StoreFault>
-    ensures { IfOk result (λ read. read ≡ ecu_of shown) }
+    ensures { IfOk result (λ read. read ≡ ecu_read shown) }
 {
     Ok(EcuRow {
         ecu: ident_in(shown.ecu)?,
@@ -40,7 +40,7 @@ fn read_ecu(shown: EcuShown) -> Result<EcuRow, StoreFault>
 
 /// What is installed, read.
 fn read_installed(shown: Option<InstalledShown>) -> Result<Option<Installed>, StoreFault>
-    ensures { IfOk result (λ read. read ≡ option_map installed_of shown) }
+    ensures { IfOk result (λ read. read ≡ option_map installed_read shown) }
 {
     match shown {
         Some(image) => Ok(Some(Installed {
@@ -54,7 +54,7 @@ fn read_installed(shown: Option<InstalledShown>) -> Result<Option<Installed>, St
 
 /// The rows of ECUs as they stand in the table.
 pub fn make_ecus(alloc: Global, rows: &[EcuRow]) -> Result<Vec<EcuShown>, AllocError>
-    ensures same { IfOk result (λ made. map ecu_of made.items ≡ rows.now) }
+    ensures same { IfOk result (λ made. map ecu_read made.items ≡ rows.now) }
     ensures fit { IfOk result (λ made. All FitEcu made.items) }
 {
     let mut made = Vec::with_capacity(alloc, rows.len())?;
@@ -66,7 +66,7 @@ pub fn make_ecus(alloc: Global, rows: &[EcuRow]) -> Result<Vec<EcuShown>, AllocE
 
 /// The row of an ECU as it stands in the table.
 fn make_ecu(alloc: Global, row: &EcuRow) -> Result<EcuShown, AllocError>
-    ensures same { IfOk result (λ made. ecu_of made ≡ row.now) }
+    ensures same { IfOk result (λ made. ecu_read made ≡ row.now) }
     ensures fit { IfOk result FitEcu }
 {
     Ok(EcuShown {
@@ -84,7 +84,7 @@ fn make_installed(
     alloc: Global,
     installed: &Option<Installed>,
 ) -> Result<Option<InstalledShown>, AllocError>
-    ensures same { IfOk result (λ made. option_map installed_of made ≡ installed.now) }
+    ensures same { IfOk result (λ made. option_map installed_read made ≡ installed.now) }
     ensures fit { IfOk result (λ made. Rattle.std.specs.Prelude.IfSome made (λ image. image.length < 2 ^ 63)) }
 {
     match installed {

@@ -2,7 +2,7 @@
 ghost use Rattle.std.specs.Prelude.{◌≡◌, IfOk, map, string_bytes};
 ghost use Rattle.up_machine.specs.Files.{numbered_root_name};
 ghost use Rattle.up_store.specs.Lines.{file_line, root_file_lines, role_file_lines};
-ghost use Rattle.up_store.specs.Shown.{file_of};
+ghost use Rattle.up_store.specs.Shown.{file_read};
 
 use crate::keys::repository_word;
 use std::alloc::{AllocError, Global};
@@ -18,7 +18,7 @@ fn make_file(
     name: &str,
     body: &Text,
 ) -> Result<FileRow, AllocError>
-    ensures { IfOk result (λ made. file_of made ≡ file_line repository name.now body.now) }
+    ensures { IfOk result (λ made. file_read made ≡ file_line repository name.now body.now) }
 {
     Ok(FileRow {
         repository: repository_word(repository).to_string(alloc)?,
@@ -29,7 +29,7 @@ fn make_file(
 
 /// The rows of the image repository's files that are made together.
 pub fn make_role_files(alloc: Global, texts: &RoleTexts) -> Result<Vec<FileRow>, AllocError>
-    ensures { IfOk result (λ made. map file_of made.items ≡ role_file_lines texts.now) }
+    ensures { IfOk result (λ made. map file_read made.items ≡ role_file_lines texts.now) }
 {
     let mut made = Vec::with_capacity(alloc, 3)?;
     made.push(make_file(alloc, Repository::Image, "targets.json", &texts.targets)?)?;
@@ -47,7 +47,7 @@ fn root_name(alloc: Global, number: u64) -> Result<String, AllocError>
 
 /// The rows of the Root files of a new version, which is the latest, too.
 pub fn make_root_files(alloc: Global, new: &RootRows) -> Result<Vec<FileRow>, AllocError>
-    ensures { IfOk result (λ made. map file_of made.items ≡ root_file_lines new.now) }
+    ensures { IfOk result (λ made. map file_read made.items ≡ root_file_lines new.now) }
 {
     let name = root_name(alloc, new.founding.root)?;
     let mut made = Vec::with_capacity(alloc, 4)?;

@@ -4,7 +4,7 @@ ghost use Rattle.sqlite.specs.Held.{state};
 ghost use Rattle.sqlite.specs.State.{HasCleanDisk, Survives};
 ghost use Rattle.up_rows.specs.Changes.{with_vehicle_rows};
 ghost use Rattle.up_store.specs.Fitting.{IsNewVehicle};
-ghost use Rattle.up_store.specs.Shown.{vehicle_of};
+ghost use Rattle.up_store.specs.Shown.{vehicle_read};
 ghost use Rattle.up_store.specs.Found.{vehicle_found, ecus_found, owner_found};
 ghost use Rattle.up_tables.specs.Stands.{IfClean, IsAsCommitted, IsInside, IsOpen, Steps};
 ghost use Rattle.up_tables.specs.Forms.{FitVehicle};
@@ -98,7 +98,7 @@ fn find_vehicle<D: Alter>(
 
 /// A row as it stands in the table, read.
 fn read_vehicle(shown: VehicleShown) -> Result<Option<VehicleRow>, StoreFault>
-    ensures { IfOk result (λ read. read ≡ Some (vehicle_of shown)) }
+    ensures { IfOk result (λ read. read ≡ Some (vehicle_read shown)) }
 {
     Ok(Some(VehicleRow {
         vehicle: ident_in(shown.vehicle)?,
@@ -178,7 +178,7 @@ fn put_vehicle<D: Alter>(
 
 /// The row of a vehicle as it stands in the table; `Store` where its version is 2^63 or more.
 pub(crate) fn make_vehicle(alloc: Global, row: &VehicleRow) -> Result<VehicleShown, StoreFault>
-    ensures same { IfOk result (λ made. vehicle_of made ≡ row.now) }
+    ensures same { IfOk result (λ made. vehicle_read made ≡ row.now) }
     ensures fit { IfOk result FitVehicle }
 {
     if row.version > MOST_NUMBER {

@@ -9,7 +9,7 @@ use Rattle.sqlite_trees.specs.View.{IsShaped}
 use Rattle.sqlite_trees.specs.declared.store.Shape.TheVariants.{Table as TableShape}
 use Rattle.up_tables.specs.Tables.{up_schema, meta_table, role_key_table, repo_file_table, image_table, campaign_table, vehicle_table, ecu_table, kept_table}
 use Rattle.up_tables.specs.Lines.{meta_row, AreNew}
-use Rattle.up_tables.specs.Listed.{TableRows, ListsTables, no_rows}
+use Rattle.up_tables.specs.Listed.{TableRows, ListsTables, no_table_rows}
 use Rattle.up_tables.specs.Rows.{rows_with, bare, has_texts}
 use Rattle.up_tables.specs.Stands.{Lists, ListsAll, ListsPairs, StaysUnless, OthersStay, Alters, GoesOn}
 
@@ -76,7 +76,7 @@ none_named : (at : ℕ) (rows : List Row) → rows ≡ [] → Lists at (λ name.
 none_named at rows none = record { shaped = subst (IsShaped TableShape) (sym none) (tt, tt); parts = λ name. ap (rows_with at name) none }
 
 -- tables that were made list nothing
-pub lists_none : (trees : Trees) → AreNew trees → ListsTables no_rows trees
+pub lists_none : (trees : Trees) → AreNew trees → ListsTables no_table_rows trees
 lists_none trees new = record {
   meta = new.meta;
   role_keys = record { shaped = subst (IsShaped TableShape) (sym new.others.0) (tt, tt); every = ap bare new.others.0 };

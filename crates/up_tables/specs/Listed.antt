@@ -20,8 +20,8 @@ pub record TableRows : Type 0 where
   pub kept : List ℕ → List Row
 
 -- nothing is founded, and no table but `meta` has a row
-abbrev pub no_rows : TableRows
-no_rows = record {
+abbrev pub no_table_rows : TableRows
+no_table_rows = record {
   root = 0;
   image_version = 0;
   stamp = 0;

@@ -20,7 +20,7 @@ pub record IsWith (schema : Schema) (P : Trees → Type 0) (db : Database) : Typ
   pub sound : IsDatabase db
   pub rows : P db.trees
 
--- the trees list the schema, obey it, and P holds of their rows
+-- the same of trees alone, such as a crash may leave: they list the schema, obey it, and P holds of their rows
 abbrev pub Holds : Schema → (Trees → Type 0) → Trees → Type 0
 Holds schema P trees = IsWith schema P (record { schema = schema; trees = trees })
 
@@ -114,7 +114,7 @@ HasTables s = IsTrue s.is_open → IsWith up_schema AnyRows s.now
 
 -- ---- between transactions
 
--- no transaction is under way; what was committed has this schema, obeys it, and P holds of its rows
+-- the same of a connection on which no transaction is under way: what was committed has this schema, obeys it, and P holds of its rows
 pub record Stands (schema : Schema) (P : Trees → Type 0) (s : State) : Type 0 where
   pub mode : s.in_transaction ≡ false
   pub here : IsTrue s.is_open → IsWith schema P s.now

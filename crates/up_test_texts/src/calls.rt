@@ -1,7 +1,7 @@
 //! The calls by their words.
 use crate::envelopes::{envelope_of, key_identifier, opened};
 use crate::fits::{root_fits, snapshot_fits, targets_fit, timestamp_fits};
-use crate::manifests::{fronts, manifest, manifest_of_bytes, signed_text};
+use crate::manifests::{manifest, manifest_of_bytes, prefixes, signed_text};
 use crate::members::{count, ecu, ecus, file, files, note, object, sha256, signature, vehicle};
 use crate::moments::{moment_later, moment_read, moment_text};
 use crate::refusals::refusal;
@@ -46,7 +46,7 @@ fn of_text(alloc: Global, call: &str, given: &str) -> Result<String, AllocError>
         "sha256" => sha256_of_text(alloc, given),
         "lifetimes" => lifetimes(alloc, given),
         "manifest" => manifest(alloc, given),
-        "fronts of a manifest" => fronts(alloc, given),
+        "prefixes of a manifest" => prefixes(alloc, given),
         "signed text of a manifest" => signed_text(alloc, given),
         _ => of_limits(alloc, call, given),
     }

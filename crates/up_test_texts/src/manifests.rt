@@ -62,8 +62,8 @@ fn push_report(alloc: Global, out: &mut String, report: &Report) -> Result<(), A
     out.push_str(text.as_str())
 }
 
-/// What each front of a body that isn't the whole is read as, or the first that isn't refused as no JSON.
-pub(crate) fn fronts(alloc: Global, body: &str) -> Result<String, AllocError> {
+/// What each prefix of a body that isn't the whole is read as, or the first that isn't refused as no JSON.
+pub(crate) fn prefixes(alloc: Global, body: &str) -> Result<String, AllocError> {
     for n in 0..body.len() {
         let read = manifest_in(alloc, &body.as_bytes()[..n])?;
         if read.as_str() != "NotJson" {

@@ -13,11 +13,11 @@ use std::alloc::{AllocError, Global};
 use up_canon::bytes::Bytes;
 use up_canon::refusal::Refusal;
 use up_sign::envelope::Envelope;
-use up_sign::key_id::key_id_text;
+use up_sign::key_id::{key_id, key_id_text};
 use up_sign::reading::read_envelope;
 use up_sign::scheme::Scheme;
 use up_sign::seal::seal;
-use up_sign::threshold::accepts;
+use up_sign::threshold::{accepts, accepts_key};
 
 /// What a call under the scheme answers. What is given begins with words of bytes.
 pub(crate) fn under<K: Scheme>(
@@ -143,11 +143,35 @@ fn accepted_by<K: Scheme>(
     let (threshold, json) = rest.split_once(' ').unwrap_or((rest, ""));
     match (threshold.parse::<u32>(), envelope_from(alloc, json)) {
         (Ok(threshold), Ok(envelope)) => {
-            let accepted = accepts(scheme, publics, threshold, &envelope);
-            format!(in alloc; "{accepted}")
+            accepted_both_ways(alloc, scheme, publics, threshold, &envelope)
         }
         _ => "no number or envelope".to_string(alloc),
     }
+}
+
+/// What is answered of all the keys, where asking of each by itself tells the same.
+fn accepted_both_ways<K: Scheme>(
+    alloc: Global,
+    scheme: &K,
+    publics: &[Bytes],
+    threshold: u32,
+    envelope: &Envelope,
+) -> Result<String, AllocError>
+    requires { IsNone (first_repeated (map key_id_of publics.now)) }
+{
+    let accepted = accepts(scheme, publics, threshold, envelope);
+    let signers = publics
+        .iter()
+        .filter(|p| has_signed(scheme, p.as_slice(), envelope))
+        .count();
+    if accepted != (signers >= threshold as usize) {
+        return format!(in alloc; "{accepted}, and {signers} keys by themselves");
+    }
+    format!(in alloc; "{accepted}")
+}
+
+fn has_signed<K: Scheme>(scheme: &K, public: &[u8], envelope: &Envelope) -> bool {
+    accepts_key(scheme, &key_id(public), public, envelope)
 }
 
 fn envelope_from(alloc: Global, json: &str) -> Result<Envelope, Refusal> {

@@ -12,7 +12,7 @@ use up_canon::kinds::count_of;
 use up_canon::listed::Listed;
 use up_canon::name_readings::IdentReading;
 use up_canon::note::has_printable_bytes;
-use up_canon::writing::{push_count, push_hex, push_quoted};
+use up_canon::writing::{push_hex, push_number, push_quoted};
 use up_sign::hmac_sha256::hmac;
 
 /// The canonical text of a value.
@@ -58,7 +58,7 @@ pub(crate) fn count_written(alloc: Global, value: &Value) -> Result<String, Allo
 
 fn digits(alloc: Global, count: Count) -> Result<String, AllocError> {
     let mut out = String::new(alloc);
-    push_count(alloc, &mut out, count)?;
+    push_number(alloc, &mut out, count.get())?;
     Ok(out)
 }
 

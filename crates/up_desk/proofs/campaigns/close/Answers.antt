@@ -1,34 +1,19 @@
-use Rattle.std.proofs.Common.{refl, sym, subst}
-use Rattle.sqlite.specs.Held.{state}
-use Rattle.up_machine.specs.declared.answer.Answer.TheVariants.{Done, Already}
+use Rattle.std.proofs.Common.{refl}
 use Rattle.up_machine.specs.Inventory.{decide_close}
 use Rattle.up_rows.specs.Changes.{with_campaign_row}
 use Rattle.up_store.specs.Fitting.{IsClosing}
-use Rattle.up_desk.specs.Serving.{Serves}
 use Rattle.up_desk.proofs.Decided.{when_closed, when_closing}
 use Rattle.up_desk.proofs.Fitting.{closing_fits}
-use Rattle.up_desk.proofs.Steps.{refused, unchanged, written}
+use Rattle.up_desk.proofs.Steps.{done_written, refused, unchanged}
 use Rattle.up_desk.proofs.campaigns.close.Goals as goal
 
 pub returns-in-Ok-Already : goal.returns-in-Ok-Already
-returns-in-Ok-Already g c = λ k s sound was.
-    unchanged k s (state g.D.Store c.args.store.now) (state g.D.Store c.decide_closing.new.store) Already (decide_close s c.args.at c.args.name.now) refl (λ next commit same. commit) was c.decide_closing.ensures.reads
+returns-in-Ok-Already g c = λ k s sound was. unchanged refl (λ next commit same. commit) was c.decide_closing.ensures.reads
     (λ clean. when_closed s c.args.name.now c.in-Ok-Already.field-0 _ c.in-Ok-Already.field-0-is (c.in-Ok-Already.ensures.decided clean k s was))
 
 pub returns-in-Ok-New : goal.returns-in-Ok-New
-returns-in-Ok-New g c = λ k s sound was.
-    let old = state g.D.Store c.args.store.now in
-    let mid = state g.D.Store c.decide_closing.new.store in
-    let new = state g.D.Store c.write_close.new.self in
-    let row = c.in-Ok-New.row in
-    let computed = decide_close s c.args.at c.args.name.now in
-    subst (λ r. Serves k s old new r computed) (sym c.done_of.ensures)
-    (written k s old mid new Done c.write_close.result (IsClosing row) (λ rows. with_campaign_row rows row) computed refl was c.decide_closing.ensures.reads
-    (λ clean. closing_fits k s c.args.name.now row computed sound c.campaigns_are_written.ensures.campaigns
-    (when_closing s c.args.name.now c.in-Ok-New.field-0 row computed c.in-Ok-New.field-0-is (c.in-Ok-New.ensures.decided clean k s was)))
-    c.write_close.ensures.written c.write_close.ensures.durable c.write_close.ensures.kept c.write_close.ensures.crash c.write_close.ensures.clean)
+returns-in-Ok-New g c = λ k s sound was. done_written c.write_close.result (IsClosing c.in-Ok-New.row) (λ rows. with_campaign_row rows c.in-Ok-New.row) c.done_of.ensures was c.decide_closing.ensures.reads
+    (λ clean. closing_fits k s c.args.name.now c.in-Ok-New.row (decide_close s c.args.at c.args.name.now) sound c.campaigns_are_written.ensures.campaigns (when_closing s c.args.name.now c.in-Ok-New.field-0 c.in-Ok-New.row (decide_close s c.args.at c.args.name.now) c.in-Ok-New.field-0-is (c.in-Ok-New.ensures.decided clean k s was))) c.write_close.ensures.written c.write_close.ensures.durable c.write_close.ensures.kept c.write_close.ensures.crash c.write_close.ensures.clean
 
 pub returns-in-Err : goal.returns-in-Err
-returns-in-Err g c = λ k s sound was.
-    refused k s (state g.D.Store c.args.store.now) (state g.D.Store c.decide_closing.new.store) c.in-Err.refusal (decide_close s c.args.at c.args.name.now) was c.decide_closing.ensures.reads
-    (λ clean. c.in-Err.ensures.decided clean k s was)
+returns-in-Err g c = λ k s sound was. refused was c.decide_closing.ensures.reads (λ clean. c.in-Err.ensures.decided clean k s was)

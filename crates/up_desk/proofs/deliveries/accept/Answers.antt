@@ -1,6 +1,5 @@
 use Rattle.std.proofs.Common.{refl, sym, subst}
 use Rattle.sqlite.specs.Held.{state}
-use Rattle.up_canon.specs.declared.refusal.Refusal.TheVariants.{Memory}
 use Rattle.up_machine.specs.declared.answer.Answer.TheVariants.{Reply as Replied}
 use Rattle.up_machine.specs.declared.decision.Delivered.TheVariants.{Accepted}
 use Rattle.up_rows.specs.Changes.{with_accepted_rows}
@@ -26,4 +25,4 @@ returns-in-Ok g c = λ k s name computed sound was gives.
 
 pub returns-in-Err : goal.returns-in-Err
 returns-in-Err g c = λ k s name computed sound was gives.
-    refused k s (state g.D.Store c.args.store.now) (state g.D.Store c.args.store.now) Memory computed was (reads_none (state g.D.Store c.args.store.now)) (λ clean. tt)
+    refused was (reads_none (state g.D.Store c.args.store.now)) (λ clean. tt)

@@ -2,7 +2,6 @@ use Rattle.std.proofs.Common.{◌≡◌, Err, sym, ap, ◌∙◌, subst}
 use Rattle.std.specs.Prelude.{⊤, MatchBool}
 use Rattle.up_canon.specs.Refusals.{is_memory}
 use Rattle.sqlite.specs.Held.{state}
-use Rattle.up_canon.specs.Steps.{and_then}
 use Rattle.up_canon.proofs.Steps.{bind-ok}
 use Rattle.up_manifest.specs.Manifests.{incoming_in}
 use Rattle.up_machine.specs.Decisions.{decide_incoming}
@@ -20,5 +19,5 @@ returns-in-Ok-clause-serves g c = λ s sound was.
 pub returns-in-Err-clause-serves : goal.returns-in-Err-clause-serves
 returns-in-Err-clause-serves g c = λ s sound was.
     let k = g.K.Scheme.rules c.args.scheme.now in
-    refused k s (state g.D.Store c.args.store.now) (state g.D.Store c.args.store.now) c.in-Err.refusal (and_then (incoming_in c.args.body.now) (decide_incoming k s c.args.at)) was
+    refused was
     (reads_none (state g.D.Store c.args.store.now)) (λ clean. stopped_or_lost (incoming_in c.args.body.now) (decide_incoming k s c.args.at) c.in-Err.refusal (subst (λ b. MatchBool (is_memory c.in-Err.refusal) ⊤ (incoming_in b ≡ Err c.in-Err.refusal)) c.as_slice.ensures c.in-Err.ensures.value))

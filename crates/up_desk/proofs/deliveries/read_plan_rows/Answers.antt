@@ -1,4 +1,3 @@
-use Rattle.sqlite.specs.Held.{state}
 use Rattle.std.proofs.Common.{ap, ◌∙◌}
 use Rattle.std.specs.FinMap as table
 use Rattle.up_plan.specs.Planning.{items_for}
@@ -12,12 +11,9 @@ use Rattle.up_desk.proofs.deliveries.read_plan_rows.Goals as goal
 pub returns-in-Ok-images_for-clause-told : goal.returns-in-Ok-images_for-clause-told
 returns-in-Ok-images_for-clause-told g c clean = λ k s sound was.
     let manifest = c.args.manifest.now in
-    let old = state g.D.Store c.args.store.now in
-    let mid = state g.D.Store c.campaigns_for.new.self in
-    let new = state g.D.Store c.images_for.new.store in
-    let before = clean_before mid new c.images_for.ensures.reads clean in
+    let before = clean_before c.images_for.ensures.reads clean in
     let campaigns = c.in-Ok.ensures.told before (rows_of_state k s) was in
-    let at-mid = keeps_after k s old mid was (store_reads old mid c.campaigns_for.ensures.kept c.campaigns_for.ensures.crash) in
+    let at-mid = keeps_after k s was (store_reads c.campaigns_for.ensures.kept c.campaigns_for.ensures.crash) in
     record {
       items = ap (λ t. items_for (table.values t) manifest.vehicle) campaigns ∙ items_found (rows_of_state k s) manifest.vehicle;
       images_are = images_planned k s (table.values c.in-Ok.campaigns) manifest.vehicle manifest.reports c.in-Ok-images_for.images sound
@@ -28,12 +24,8 @@ returns-in-Ok-images_for-clause-told g c clean = λ k s sound was.
 
 pub returns-in-Ok-images_for-clause-reads : goal.returns-in-Ok-images_for-clause-reads
 returns-in-Ok-images_for-clause-reads g c =
-    let old = state g.D.Store c.args.store.now in
-    let mid = state g.D.Store c.campaigns_for.new.self in
-    reads_then old mid (state g.D.Store c.images_for.new.store) (store_reads old mid c.campaigns_for.ensures.kept c.campaigns_for.ensures.crash) c.images_for.ensures.reads
+    reads_then (store_reads c.campaigns_for.ensures.kept c.campaigns_for.ensures.crash) c.images_for.ensures.reads
 
 pub returns-in-Err-images_for-clause-reads : goal.returns-in-Err-images_for-clause-reads
 returns-in-Err-images_for-clause-reads g c =
-    let old = state g.D.Store c.args.store.now in
-    let mid = state g.D.Store c.campaigns_for.new.self in
-    reads_then old mid (state g.D.Store c.images_for.new.store) (store_reads old mid c.campaigns_for.ensures.kept c.campaigns_for.ensures.crash) c.images_for.ensures.reads
+    reads_then (store_reads c.campaigns_for.ensures.kept c.campaigns_for.ensures.crash) c.images_for.ensures.reads

@@ -1,6 +1,4 @@
 use Rattle.std.proofs.Common.{Ok, refl, subst}
-use Rattle.sqlite.specs.Held.{state}
-use Rattle.up_machine.specs.declared.answer.Answer.TheVariants.{Reply as Replied}
 use Rattle.up_machine.specs.Decisions.{decide_incoming, GivesDelivered}
 use Rattle.up_desk.proofs.Decided.{when_repeated}
 use Rattle.up_desk.proofs.Steps.{after_reads, keeps_after, refused, unchanged}
@@ -9,22 +7,19 @@ use Rattle.up_desk.proofs.deliveries.receive.Goals as goal
 pub returns-in-Ok-Repeat : goal.returns-in-Ok-Repeat
 returns-in-Ok-Repeat g c = λ s sound was.
     let k = g.K.Scheme.rules c.args.scheme.now in
-    unchanged k s (state g.D.Store c.args.store.now) (state g.D.Store c.decide.new.store) (Replied c.in-Ok-Repeat.reply) (decide_incoming k s c.args.at c.args.incoming.now) refl (λ next h same. h same) was c.decide.ensures.reads
+    unchanged refl (λ next h same. h same) was c.decide.ensures.reads
     (λ clean. when_repeated k s c.args.incoming.now.manifest.vehicle c.in-Ok-Repeat.field-0 c.in-Ok-Repeat.reply _ c.in-Ok-Repeat.field-0-is (c.in-Ok-Repeat.ensures.decided clean s sound was))
 
 pub returns-in-Ok-Accepted : goal.returns-in-Ok-Accepted
 returns-in-Ok-Accepted g c = λ s sound was.
     let k = g.K.Scheme.rules c.args.scheme.now in
-    let old = state g.D.Store c.args.store.now in
-    let mid = state g.D.Store c.decide.new.store in
-    let new = state g.D.Store c.accept.new.store in
     let name = c.args.incoming.now.manifest.vehicle in
     let computed = decide_incoming k s c.args.at c.args.incoming.now in
-    after_reads k s old mid new c.accept.result computed c.decide.ensures.reads
-    (c.accept.ensures k s name computed sound (keeps_after k s old mid was c.decide.ensures.reads)
+    after_reads c.decide.ensures.reads
+    (c.accept.ensures k s name computed sound (keeps_after k s was c.decide.ensures.reads)
     (λ clean. subst (λ d. GivesDelivered k s name (Ok d) computed) c.in-Ok-Accepted.field-0-is (c.in-Ok-Accepted.ensures.decided clean s sound was)))
 
 pub returns-in-Err : goal.returns-in-Err
 returns-in-Err g c = λ s sound was.
-    refused (g.K.Scheme.rules c.args.scheme.now) s (state g.D.Store c.args.store.now) (state g.D.Store c.decide.new.store) c.in-Err.refusal (decide_incoming (g.K.Scheme.rules c.args.scheme.now) s c.args.at c.args.incoming.now) was c.decide.ensures.reads
+    refused was c.decide.ensures.reads
     (λ clean. c.in-Err.ensures.decided clean s sound was)

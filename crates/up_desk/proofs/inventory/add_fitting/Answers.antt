@@ -1,38 +1,21 @@
-use Rattle.std.proofs.Common.{◌≡◌, [], refl, sym, subst}
-use Rattle.sqlite.specs.Held.{state}
-use Rattle.up_machine.specs.declared.answer.Answer.TheVariants.{Done, Already}
+use Rattle.std.proofs.Common.{◌≡◌, [], refl}
 use Rattle.up_machine.specs.Inventory.{decide_vehicle, with_vehicle}
 use Rattle.up_machine.specs.Rows.{rows_of}
 use Rattle.up_machine.specs.declared.rows.VehicleRows.{VehicleRows}
 use Rattle.up_rows.specs.Changes.{with_vehicle_rows}
 use Rattle.up_store.specs.Fitting.{IsNewVehicle}
-use Rattle.up_desk.specs.Serving.{Serves}
 use Rattle.up_desk.proofs.Decided.{when_already, when_new}
 use Rattle.up_desk.proofs.Fitting.{vehicle_fits}
-use Rattle.up_desk.proofs.Steps.{refused, unchanged, written}
+use Rattle.up_desk.proofs.Steps.{done_written, refused, unchanged}
 use Rattle.up_desk.proofs.inventory.add_fitting.Goals as goal
 
 pub returns-in-Ok-Already : goal.returns-in-Ok-Already
-returns-in-Ok-Already g c = λ s sound was.
-    let k = g.K.Scheme.rules c.args.scheme.now in
-    unchanged k s (state g.D.Store c.args.store.now) (state g.D.Store c.decide.new.store) Already (decide_vehicle k s c.args.at c.args.new.now) refl (λ next commit same. commit) was c.decide.ensures.reads
+returns-in-Ok-Already g c = λ s sound was. unchanged refl (λ next commit same. commit) was c.decide.ensures.reads
     (λ clean. when_already (λ (r : VehicleRows). r ≡ rows_of c.args.new.now.vehicle (record { primary = c.args.new.now.primary; ecus = c.args.new.now.ecus; entries = [] })) s (with_vehicle s c.args.new.now) c.in-Ok-Already.field-0 _ c.in-Ok-Already.field-0-is (c.in-Ok-Already.ensures.decided clean s sound was))
 
 pub returns-in-Ok-New : goal.returns-in-Ok-New
-returns-in-Ok-New g c = λ s sound was.
-    let k = g.K.Scheme.rules c.args.scheme.now in
-    let old = state g.D.Store c.args.store.now in
-    let mid = state g.D.Store c.decide.new.store in
-    let new = state g.D.Store c.write_vehicle.new.self in
-    let row = c.in-Ok-New.rows in
-    let computed = decide_vehicle k s c.args.at c.args.new.now in
-    subst (λ r. Serves k s old new r computed) (sym c.done_of.ensures)
-    (written k s old mid new Done c.write_vehicle.result (IsNewVehicle row) (λ rows. with_vehicle_rows rows row) computed refl was c.decide.ensures.reads
-    (λ clean. vehicle_fits k s c.args.at c.args.new.now row c.rows_are_found.ensures.vehicles c.vehicles_are_added.ensures.vehicles c.vehicles_are_added.ensures.new
-    (when_new (λ (r : VehicleRows). r ≡ rows_of c.args.new.now.vehicle (record { primary = c.args.new.now.primary; ecus = c.args.new.now.ecus; entries = [] })) s (with_vehicle s c.args.new.now) c.in-Ok-New.field-0 row computed c.in-Ok-New.field-0-is (c.in-Ok-New.ensures.decided clean s sound was)))
-    c.write_vehicle.ensures.written c.write_vehicle.ensures.durable c.write_vehicle.ensures.kept c.write_vehicle.ensures.crash c.write_vehicle.ensures.clean)
+returns-in-Ok-New g c = λ s sound was. done_written c.write_vehicle.result (IsNewVehicle c.in-Ok-New.rows) (λ rows. with_vehicle_rows rows c.in-Ok-New.rows) c.done_of.ensures was c.decide.ensures.reads
+    (λ clean. vehicle_fits (g.K.Scheme.rules c.args.scheme.now) s c.args.at c.args.new.now c.in-Ok-New.rows c.rows_are_found.ensures.vehicles c.vehicles_are_added.ensures.vehicles c.vehicles_are_added.ensures.new (when_new (λ (r : VehicleRows). r ≡ rows_of c.args.new.now.vehicle (record { primary = c.args.new.now.primary; ecus = c.args.new.now.ecus; entries = [] })) s (with_vehicle s c.args.new.now) c.in-Ok-New.field-0 c.in-Ok-New.rows (decide_vehicle (g.K.Scheme.rules c.args.scheme.now) s c.args.at c.args.new.now) c.in-Ok-New.field-0-is (c.in-Ok-New.ensures.decided clean s sound was))) c.write_vehicle.ensures.written c.write_vehicle.ensures.durable c.write_vehicle.ensures.kept c.write_vehicle.ensures.crash c.write_vehicle.ensures.clean
 
 pub returns-in-Err : goal.returns-in-Err
-returns-in-Err g c = λ s sound was.
-    refused (g.K.Scheme.rules c.args.scheme.now) s (state g.D.Store c.args.store.now) (state g.D.Store c.decide.new.store) c.in-Err.refusal (decide_vehicle (g.K.Scheme.rules c.args.scheme.now) s c.args.at c.args.new.now) was c.decide.ensures.reads
-    (λ clean. c.in-Err.ensures.decided clean s sound was)
+returns-in-Err g c = λ s sound was. refused was c.decide.ensures.reads (λ clean. c.in-Err.ensures.decided clean s sound was)

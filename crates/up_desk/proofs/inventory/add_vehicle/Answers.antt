@@ -1,7 +1,6 @@
 use Rattle.std.proofs.Common.{◌≡◌, List, false, sym, ap, ◌∙◌}
 use Rattle.std.specs.List.{list_all}
 use Rattle.sqlite.specs.Held.{state}
-use Rattle.up_machine.specs.Inventory.{decide_vehicle}
 use Rattle.up_machine.specs.Keys.{public_fits}
 use Rattle.up_machine.specs.Vehicles.{NewVehicleData}
 use Rattle.up_machine.specs.declared.vehicle.NewEcu.{NewEcu}
@@ -20,5 +19,5 @@ returns-else-publics_fit-clause-serves g c = λ s sound was.
     let k = g.K.Scheme.rules c.args.scheme.now in
     let all = λ (es : List NewEcu). list_all (λ (e : NewEcu). public_fits k e.public) es in
     let none : all c.args.new.now.ecus ≡ false = sym (c.publics_fit.ensures ∙ ap all (c.as_slice.ensures ∙ ap (λ (d : NewVehicleData). d.ecus) c.new.view_is)) ∙ c.if-publics_fit.false in
-    refused k s (state g.D.Store c.args.store.now) (state g.D.Store c.args.store.now) c.from.result (decide_vehicle k s c.args.at c.args.new.now) was (reads_none (state g.D.Store c.args.store.now))
+    refused was (reads_none (state g.D.Store c.args.store.now))
     (λ clean. by_key c.from.result _ (unfit_vehicle k s c.args.at c.args.new.now c.requires.moment none) c.from.ensures)

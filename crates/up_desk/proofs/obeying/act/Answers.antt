@@ -1,52 +1,33 @@
-use Rattle.sqlite.specs.Held.{state}
 use Rattle.up_machine.specs.declared.command.Command.TheVariants.{Found, Rotate, AddImage, Refresh, AddVehicle, OpenCampaign, CloseCampaign, Fetch}
 use Rattle.up_desk.proofs.Serving.{of_command, of_delivery, key_outright, large_outright}
 use Rattle.up_desk.proofs.obeying.act.Goals as goal
 
 pub returns-in-Found-clause-serves : goal.returns-in-Found-clause-serves
-returns-in-Found-clause-serves g c = λ s sound was.
-    of_command (g.K.Scheme.rules c.args.scheme.now) s (state g.D.Store c.args.store.now) (state g.D.Store c.found.new.store) c.found.result c.args.at c.args.command.now (Found c.in-Found.keys)
-    c.in-Found.is (c.found.ensures s sound was)
+returns-in-Found-clause-serves g c = λ s sound was. of_command c.args.at c.args.command.now (Found c.in-Found.keys) c.in-Found.is (c.found.ensures s sound was)
 
 pub returns-in-Rotate-clause-serves : goal.returns-in-Rotate-clause-serves
-returns-in-Rotate-clause-serves g c = λ s sound was.
-    of_command (g.K.Scheme.rules c.args.scheme.now) s (state g.D.Store c.args.store.now) (state g.D.Store c.rotate.new.store) c.rotate.result c.args.at c.args.command.now (Rotate c.in-Rotate.keys)
-    c.in-Rotate.is (c.rotate.ensures s sound was)
+returns-in-Rotate-clause-serves g c = λ s sound was. of_command c.args.at c.args.command.now (Rotate c.in-Rotate.keys) c.in-Rotate.is (c.rotate.ensures s sound was)
 
 pub returns-in-AddImage-clause-serves : goal.returns-in-AddImage-clause-serves
-returns-in-AddImage-clause-serves g c = λ s sound was.
-    of_command (g.K.Scheme.rules c.args.scheme.now) s (state g.D.Store c.args.store.now) (state g.D.Store c.add_image.new.store) c.add_image.result c.args.at c.args.command.now (AddImage c.in-AddImage.image)
-    c.in-AddImage.is (c.add_image.ensures s sound was)
+returns-in-AddImage-clause-serves g c = λ s sound was. of_command c.args.at c.args.command.now (AddImage c.in-AddImage.image) c.in-AddImage.is (c.add_image.ensures s sound was)
 
 pub returns-in-Refresh-clause-serves : goal.returns-in-Refresh-clause-serves
-returns-in-Refresh-clause-serves g c = λ s sound was.
-    of_command (g.K.Scheme.rules c.args.scheme.now) s (state g.D.Store c.args.store.now) (state g.D.Store c.refresh.new.store) c.refresh.result c.args.at c.args.command.now (Refresh c.in-Refresh.version)
-    c.in-Refresh.is (c.refresh.ensures s sound was)
+returns-in-Refresh-clause-serves g c = λ s sound was. of_command c.args.at c.args.command.now (Refresh c.in-Refresh.version) c.in-Refresh.is (c.refresh.ensures s sound was)
 
 pub returns-in-AddVehicle-clause-serves : goal.returns-in-AddVehicle-clause-serves
-returns-in-AddVehicle-clause-serves g c = λ s sound was.
-    of_command (g.K.Scheme.rules c.args.scheme.now) s (state g.D.Store c.args.store.now) (state g.D.Store c.add_vehicle.new.store) c.add_vehicle.result c.args.at c.args.command.now (AddVehicle c.in-AddVehicle.new)
-    c.in-AddVehicle.is (c.add_vehicle.ensures.serves s sound was)
+returns-in-AddVehicle-clause-serves g c = λ s sound was. of_command c.args.at c.args.command.now (AddVehicle c.in-AddVehicle.new) c.in-AddVehicle.is (c.add_vehicle.ensures.serves s sound was)
 
 pub returns-in-OpenCampaign-clause-serves : goal.returns-in-OpenCampaign-clause-serves
-returns-in-OpenCampaign-clause-serves g c = λ s sound was.
-    of_command (g.K.Scheme.rules c.args.scheme.now) s (state g.D.Store c.args.store.now) (state g.D.Store c.open.new.store) c.open.result c.args.at c.args.command.now (OpenCampaign c.in-OpenCampaign.campaign)
-    c.in-OpenCampaign.is (c.open.ensures (g.K.Scheme.rules c.args.scheme.now) s sound was)
+returns-in-OpenCampaign-clause-serves g c = λ s sound was. of_command c.args.at c.args.command.now (OpenCampaign c.in-OpenCampaign.campaign) c.in-OpenCampaign.is (c.open.ensures (g.K.Scheme.rules c.args.scheme.now) s sound was)
 
 pub returns-in-CloseCampaign-clause-serves : goal.returns-in-CloseCampaign-clause-serves
-returns-in-CloseCampaign-clause-serves g c = λ s sound was.
-    of_command (g.K.Scheme.rules c.args.scheme.now) s (state g.D.Store c.args.store.now) (state g.D.Store c.close.new.store) c.close.result c.args.at c.args.command.now (CloseCampaign c.in-CloseCampaign.name)
-    c.in-CloseCampaign.is (c.close.ensures (g.K.Scheme.rules c.args.scheme.now) s sound was)
+returns-in-CloseCampaign-clause-serves g c = λ s sound was. of_command c.args.at c.args.command.now (CloseCampaign c.in-CloseCampaign.name) c.in-CloseCampaign.is (c.close.ensures (g.K.Scheme.rules c.args.scheme.now) s sound was)
 
 pub returns-in-Fetch-clause-serves : goal.returns-in-Fetch-clause-serves
-returns-in-Fetch-clause-serves g c = λ s sound was.
-    of_command (g.K.Scheme.rules c.args.scheme.now) s (state g.D.Store c.args.store.now) (state g.D.Store c.fetch.new.store) c.fetch.result c.args.at c.args.command.now (Fetch c.in-Fetch.repository c.in-Fetch.name)
-    c.in-Fetch.is (c.fetch.ensures (g.K.Scheme.rules c.args.scheme.now) s sound was)
+returns-in-Fetch-clause-serves g c = λ s sound was. of_command c.args.at c.args.command.now (Fetch c.in-Fetch.repository c.in-Fetch.name) c.in-Fetch.is (c.fetch.ensures (g.K.Scheme.rules c.args.scheme.now) s sound was)
 
 pub returns-in-Deliver-clause-serves : goal.returns-in-Deliver-clause-serves
-returns-in-Deliver-clause-serves g c = λ s sound was.
-    of_delivery (g.K.Scheme.rules c.args.scheme.now) s (state g.D.Store c.args.store.now) (state g.D.Store c.deliver.new.store) c.deliver.result c.args.at c.args.command.now c.in-Deliver.body
-    c.in-Deliver.is c.requires.moment (c.deliver.ensures.serves s sound was)
+returns-in-Deliver-clause-serves g c = λ s sound was. of_delivery c.args.at c.args.command.now c.in-Deliver.body c.in-Deliver.is c.requires.moment (c.deliver.ensures.serves s sound was)
 
 pub returns-in-AddVehicle-clause-outright : goal.returns-in-AddVehicle-clause-outright
 returns-in-AddVehicle-clause-outright g c = key_outright (g.K.Scheme.rules c.args.scheme.now) c.in-AddVehicle.new c.args.command.now _ c.in-AddVehicle.is c.add_vehicle.ensures.key

@@ -1,23 +1,22 @@
 use Rattle.std.proofs.Common.{Err, refl, subst}
 use Rattle.sqlite.specs.Held.{state}
 use Rattle.up_canon.specs.declared.refusal.Refusal.TheVariants.{MomentOutOfRange}
-use Rattle.up_desk.specs.Serving.{Serves, served}
-use Rattle.up_desk.proofs.Serving.{late_served, in_time_outright, late_outright}
+use Rattle.up_desk.specs.Serving.{Serves, outcome_due}
+use Rattle.up_desk.proofs.Serving.{late_due, in_time_outright, late_outright}
 use Rattle.up_desk.proofs.Steps.{refused, reads_none}
 use Rattle.up_desk.proofs.obeying.obey.Goals as goal
 
 pub returns-in-None : goal.returns-in-None
 returns-in-None g c = record {
   serves = λ s sound was.
-      refused (g.K.Scheme.rules c.args.scheme.now) s (state g.D.Store c.args.store.now) (state g.D.Store c.args.store.now) MomentOutOfRange
-      (served (g.K.Scheme.rules c.args.scheme.now) s c.args.at c.args.command.now) was (reads_none (state g.D.Store c.args.store.now))
-      (λ clean. late_served (g.K.Scheme.rules c.args.scheme.now) s c.args.at c.args.command.now c.in-None.ensures);
+      refused was (reads_none (state g.D.Store c.args.store.now))
+      (λ clean. late_due (g.K.Scheme.rules c.args.scheme.now) s c.args.at c.args.command.now c.in-None.ensures);
   outright = late_outright (g.K.Scheme.rules c.args.scheme.now) c.args.at c.args.command.now (Err MomentOutOfRange) c.in-None.ensures refl;
 }
 
 pub returns-in-Some-clause-serves : goal.returns-in-Some-clause-serves
 returns-in-Some-clause-serves g c = λ s sound was.
-    subst (λ at. Serves (g.K.Scheme.rules c.args.scheme.now) s (state g.D.Store c.args.store.now) (state g.D.Store c.act.new.store) c.act.result (served (g.K.Scheme.rules c.args.scheme.now) s at c.args.command.now))
+    subst (λ at. Serves (g.K.Scheme.rules c.args.scheme.now) s (state g.D.Store c.args.store.now) (state g.D.Store c.act.new.store) c.act.result (outcome_due (g.K.Scheme.rules c.args.scheme.now) s at c.args.command.now))
     c.in-Some.ensures.1 (c.act.ensures.serves s sound was)
 
 pub returns-in-Some-clause-outright : goal.returns-in-Some-clause-outright

@@ -1,5 +1,4 @@
 use Rattle.std.proofs.Common.{sym, ◌∙◌}
-use Rattle.sqlite.specs.Held.{state}
 use Rattle.up_rows.specs.StateRows.{rows_of_state}
 use Rattle.up_desk.proofs.Steps.{clean_before, keeps_after, store_reads}
 use Rattle.up_desk.proofs.Told.{vehicle_whole, no_vehicle}
@@ -10,9 +9,6 @@ returns-in-Ok-None-clause-told g c clean = λ k s was. no_vehicle k s c.args.nam
 
 pub returns-in-Ok-clause-told : goal.returns-in-Ok-clause-told
 returns-in-Ok-clause-told g c clean = λ k s was.
-    let old = state g.D.Store c.args.store.now in
-    let mid = state g.D.Store c.vehicle.new.self in
-    let new = state g.D.Store c.ecus.new.self in
-    let before = clean_before mid new (store_reads mid new c.ecus.ensures.kept c.ecus.ensures.crash) clean in
-    let at-mid = keeps_after k s old mid was (store_reads old mid c.vehicle.ensures.kept c.vehicle.ensures.crash) in
+    let before = clean_before (store_reads c.ecus.ensures.kept c.ecus.ensures.crash) clean in
+    let at-mid = keeps_after k s was (store_reads c.vehicle.ensures.kept c.vehicle.ensures.crash) in
     vehicle_whole k s c.args.name.now _ _ c.rows_are_found.ensures.vehicles (sym c.in-Ok-Some.field-0-is ∙ c.in-Ok-Some.ensures.told before (rows_of_state k s) was) (c.in-Ok.ensures.told clean (rows_of_state k s) at-mid)

@@ -1,38 +1,21 @@
-use Rattle.std.proofs.Common.{refl, sym, subst}
-use Rattle.sqlite.specs.Held.{state}
-use Rattle.up_machine.specs.declared.answer.Answer.TheVariants.{Done, Already}
+use Rattle.std.proofs.Common.{refl}
 use Rattle.std.proofs.Common.{◌+◌}
 use Rattle.up_machine.specs.Repositories.{decide_image, stamped, with_image}
 use Rattle.up_machine.specs.Decisions.{HasRegisterRows}
 use Rattle.up_rows.specs.Changes.{with_image_rows}
 use Rattle.up_store.specs.Fitting.{IsNewImage}
-use Rattle.up_desk.specs.Serving.{Serves}
 use Rattle.up_desk.proofs.Decided.{when_already, when_new}
 use Rattle.up_desk.proofs.Fitting.{image_fits}
-use Rattle.up_desk.proofs.Steps.{refused, unchanged, written}
+use Rattle.up_desk.proofs.Steps.{done_written, refused, unchanged}
 use Rattle.up_desk.proofs.register.add_image.Goals as goal
 
 pub returns-in-Ok-Already : goal.returns-in-Ok-Already
-returns-in-Ok-Already g c = λ s sound was.
-    let k = g.K.Scheme.rules c.args.scheme.now in
-    unchanged k s (state g.D.Store c.args.store.now) (state g.D.Store c.decide_adding.new.store) Already (decide_image s c.args.at c.args.image.now) refl (λ next commit same. commit) was c.decide_adding.ensures.reads
+returns-in-Ok-Already g c = λ s sound was. unchanged refl (λ next commit same. commit) was c.decide_adding.ensures.reads
     (λ clean. when_already (HasRegisterRows (g.K.Scheme.rules c.args.scheme.now) (stamped (with_image s c.args.image.now) c.args.at (s.image_version + 1))) s (stamped (with_image s c.args.image.now) c.args.at (s.image_version + 1)) c.in-Ok-Already.field-0 _ c.in-Ok-Already.field-0-is (c.in-Ok-Already.ensures.decided clean s sound was))
 
 pub returns-in-Ok-New : goal.returns-in-Ok-New
-returns-in-Ok-New g c = λ s sound was.
-    let k = g.K.Scheme.rules c.args.scheme.now in
-    let old = state g.D.Store c.args.store.now in
-    let mid = state g.D.Store c.decide_adding.new.store in
-    let new = state g.D.Store c.write_image.new.self in
-    let row = c.in-Ok-New.rows in
-    let computed = decide_image s c.args.at c.args.image.now in
-    subst (λ r. Serves k s old new r computed) (sym c.done_of.ensures)
-    (written k s old mid new Done c.write_image.result (IsNewImage c.args.image.now row) (λ rows. with_image_rows rows c.args.image.now row) computed refl was c.decide_adding.ensures.reads
-    (λ clean. image_fits k s c.args.at c.args.image.now row sound c.images_are_added.ensures.images c.images_are_added.ensures.new
-    (when_new (HasRegisterRows (g.K.Scheme.rules c.args.scheme.now) (stamped (with_image s c.args.image.now) c.args.at (s.image_version + 1))) s (stamped (with_image s c.args.image.now) c.args.at (s.image_version + 1)) c.in-Ok-New.field-0 row computed c.in-Ok-New.field-0-is (c.in-Ok-New.ensures.decided clean s sound was)))
-    c.write_image.ensures.written c.write_image.ensures.durable c.write_image.ensures.kept c.write_image.ensures.crash c.write_image.ensures.clean)
+returns-in-Ok-New g c = λ s sound was. done_written c.write_image.result (IsNewImage c.args.image.now c.in-Ok-New.rows) (λ rows. with_image_rows rows c.args.image.now c.in-Ok-New.rows) c.done_of.ensures was c.decide_adding.ensures.reads
+    (λ clean. image_fits (g.K.Scheme.rules c.args.scheme.now) s c.args.at c.args.image.now c.in-Ok-New.rows sound c.images_are_added.ensures.images c.images_are_added.ensures.new (when_new (HasRegisterRows (g.K.Scheme.rules c.args.scheme.now) (stamped (with_image s c.args.image.now) c.args.at (s.image_version + 1))) s (stamped (with_image s c.args.image.now) c.args.at (s.image_version + 1)) c.in-Ok-New.field-0 c.in-Ok-New.rows (decide_image s c.args.at c.args.image.now) c.in-Ok-New.field-0-is (c.in-Ok-New.ensures.decided clean s sound was))) c.write_image.ensures.written c.write_image.ensures.durable c.write_image.ensures.kept c.write_image.ensures.crash c.write_image.ensures.clean
 
 pub returns-in-Err : goal.returns-in-Err
-returns-in-Err g c = λ s sound was.
-    refused (g.K.Scheme.rules c.args.scheme.now) s (state g.D.Store c.args.store.now) (state g.D.Store c.decide_adding.new.store) c.in-Err.refusal (decide_image s c.args.at c.args.image.now) was c.decide_adding.ensures.reads
-    (λ clean. c.in-Err.ensures.decided clean s sound was)
+returns-in-Err g c = λ s sound was. refused was c.decide_adding.ensures.reads (λ clean. c.in-Err.ensures.decided clean s sound was)

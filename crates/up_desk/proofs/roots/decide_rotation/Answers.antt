@@ -1,19 +1,9 @@
-use Rattle.sqlite.specs.Held.{state}
-use Rattle.up_desk.proofs.Steps.{clean_before, keeps_after, lost_told, reads_then}
+use Rattle.up_desk.proofs.Steps.{following, lost_told}
 use Rattle.up_desk.proofs.roots.decide_rotation.Goals as goal
 
-pub returns-in-Ok-clause-decided : goal.returns-in-Ok-clause-decided
-returns-in-Ok-clause-decided g c clean = λ s sound was.
-    let k = g.K.Scheme.rules c.args.scheme.now in
-    let mid = (state g.D.Store c.read_founding.new.store) in
-    let before = clean_before mid (state g.D.Store c.decide_rotation_after.new.store) c.decide_rotation_after.ensures.reads clean in
-    c.decide_rotation_after.ensures.decided clean s (c.in-Ok.ensures.told before k s was) (keeps_after k s (state g.D.Store c.args.store.now) mid was c.read_founding.ensures.reads)
+pub returns-in-Ok : goal.returns-in-Ok
+returns-in-Ok g c = let it = following c.read_founding.ensures.reads c.decide_rotation_after.ensures.reads in
+    record { decided = λ clean s sound was. c.decide_rotation_after.ensures.decided clean s (c.in-Ok.ensures.told (it.clean clean) (g.K.Scheme.rules c.args.scheme.now) s was) (it.keeps (g.K.Scheme.rules c.args.scheme.now) s was); reads = it.reads }
 
-pub returns-in-Ok-clause-reads : goal.returns-in-Ok-clause-reads
-returns-in-Ok-clause-reads g c = reads_then (state g.D.Store c.args.store.now) (state g.D.Store c.read_founding.new.store) (state g.D.Store c.decide_rotation_after.new.store) c.read_founding.ensures.reads c.decide_rotation_after.ensures.reads
-
-pub returns-in-Err-clause-decided : goal.returns-in-Err-clause-decided
-returns-in-Err-clause-decided g c = λ clean s sound was. lost_told c.refusal_of.result c.in-Err.fault _ c.refusal_of.ensures
-
-pub returns-in-Err-clause-reads : goal.returns-in-Err-clause-reads
-returns-in-Err-clause-reads g c = c.read_founding.ensures.reads
+pub returns-in-Err : goal.returns-in-Err
+returns-in-Err g c = record { decided = λ clean s sound was. lost_told c.refusal_of.result c.in-Err.fault _ c.refusal_of.ensures; reads = c.read_founding.ensures.reads }

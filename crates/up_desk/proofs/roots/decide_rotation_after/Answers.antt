@@ -14,9 +14,5 @@ returns-in-Ok-clause-decided g c clean = λ s founding was.
     rows_made (HasRoot next c.args.at c.args.keys.now) (HasRootRows k next) next c.in-Ok.new c.make_rows.result (decide_rotate k s c.args.at c.args.keys.now)
     (c.in-Ok.ensures.decided s founding) (λ due. c.make_rows.ensures.made clean s next was due refl)
 
-pub returns-in-Err-clause-decided : goal.returns-in-Err-clause-decided
-returns-in-Err-clause-decided g c = λ clean s founding was.
-    due_refused c.in-Err.refusal (decide_rotate (g.K.Scheme.rules c.args.scheme.now) s c.args.at c.args.keys.now) (c.in-Err.ensures.decided s founding)
-
-pub returns-in-Err-clause-reads : goal.returns-in-Err-clause-reads
-returns-in-Err-clause-reads g c = reads_none (state g.D.Store c.args.store.now)
+pub returns-in-Err : goal.returns-in-Err
+returns-in-Err g c = record { decided = λ clean s founding was. due_refused c.in-Err.refusal (decide_rotate (g.K.Scheme.rules c.args.scheme.now) s c.args.at c.args.keys.now) (c.in-Err.ensures.decided s founding); reads = reads_none (state g.D.Store c.args.store.now) }

@@ -1,5 +1,4 @@
 use Rattle.std.proofs.Common.{ap, sym, ◌∙◌}
-use Rattle.sqlite.specs.Held.{state}
 use Rattle.up_rows.specs.Lookups.{installed_among}
 use Rattle.up_rows.specs.StateRows.{rows_of_state}
 use Rattle.up_desk.proofs.Steps.{clean_before, if_ok_then, keeps_after, store_reads}
@@ -11,10 +10,7 @@ returns-in-Ok-None-clause-told g c clean = λ k s was. none_installed k s c.args
 
 pub returns-in-Ok-clause-told : goal.returns-in-Ok-clause-told
 returns-in-Ok-clause-told g c clean =
-    let old = state g.D.Store c.args.store.now in
-    let mid = state g.D.Store c.ecu_owner.new.self in
-    let new = state g.D.Store c.ecus.new.self in
-    let before = clean_before mid new (store_reads mid new c.ecus.ensures.kept c.ecus.ensures.crash) clean in
+    let before = clean_before (store_reads c.ecus.ensures.kept c.ecus.ensures.crash) clean in
     if_ok_then c.image_among.result _ _ c.image_among.ensures (λ found is. λ k s was.
-    let at-mid = keeps_after k s old mid was (store_reads old mid c.ecu_owner.ensures.kept c.ecu_owner.ensures.crash) in
+    let at-mid = keeps_after k s was (store_reads c.ecu_owner.ensures.kept c.ecu_owner.ensures.crash) in
     is ∙ ap (installed_among c.args.ecu.now) c.as_slice.ensures ∙ installed_read k s c.args.ecu.now _ _ c.views_are_told.ensures.installed (sym c.in-Ok-Some.field-0-is ∙ c.in-Ok-Some.ensures.told before (rows_of_state k s) was) (c.in-Ok.ensures.told clean (rows_of_state k s) at-mid))

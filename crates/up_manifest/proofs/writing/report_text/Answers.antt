@@ -1,9 +1,7 @@
-use Rattle.std.proofs.Common.{◌∙◌}
-use Rattle.up_manifest.proofs.Lengths.{joined-six, report-pieces}
+use Rattle.std.proofs.Common.{ap, ◌∙◌}
+use Rattle.up_canon.specs.Canon.{has_canon}
+use Rattle.up_manifest.proofs.Values.{report_has_canon}
 use Rattle.up_manifest.proofs.writing.report_text.Goals as goal
 
-pub returns : goal.returns
-returns c =
-    joined-six _ _ _ _ _ _ _ _ _ _ _ _ _ c.new-out.ensures.bytes c.in_ok-push_ecu.ensures c.in_ok-push_str.ensures.bytes c.in_ok-push_installed.ensures
-    c.in_ok-push_str-2.ensures.bytes c.in_ok-push_moment.ensures c.in_ok-push_str-3.ensures.bytes
-    ∙ report-pieces c.args.report.now
+pub canonical_text-requires : goal.canonical_text-requires
+canonical_text-requires c = ap has_canon c.in_ok-value.ensures ∙ report_has_canon c.moment_laws.ensures.plain c.args.report.now c.requires

@@ -5,7 +5,5 @@ use Rattle.up_store.proofs.campaigns.put_campaign.Goals as goal
 
 pub returns-clause-put : goal.returns-clause-put
 returns-clause-put g c clean =
-    let before = state g.D.Store c.args.tx.now.conn.now in
-    let after = state g.D.Store c.insert_campaign.new.tx.conn.now in
-    puts_campaign c.insert_campaign.result c.args.new.now c.in_ok-row.row before after c.in_ok-row.ensures.same c.in_ok-row.ensures.typed (c.insert_campaign.ensures.inserted clean)
-    (open_before before after c.insert_campaign.result c.insert_campaign.ensures.steps clean c.insert_campaign.ensures.open)
+    puts_campaign c.insert_campaign.result c.args.new.now c.in_ok-row.row (state g.D.Store c.args.tx.now.conn.now) (state g.D.Store c.insert_campaign.new.tx.conn.now) c.in_ok-row.ensures.same c.in_ok-row.ensures.typed (c.insert_campaign.ensures.inserted clean)
+    (open_before c.insert_campaign.result c.insert_campaign.ensures.steps clean c.insert_campaign.ensures.open)

@@ -6,7 +6,5 @@ use Rattle.up_store.proofs.campaigns.put_closed.Goals as goal
 
 pub returns-clause-put : goal.returns-clause-put
 returns-clause-put g c clean =
-    let before = state g.D.Store c.args.tx.now.conn.now in
-    let after = state g.D.Store c.close_campaign.new.tx.conn.now in
-    puts_closed c.close_campaign.result c.args.closed.now before after (rw (c.text.ensures.value, ap (λ r. r.name) c.closed.view_is) at c.close_campaign.ensures.closed clean)
-    (open_before before after c.close_campaign.result c.close_campaign.ensures.steps clean c.close_campaign.ensures.open)
+    puts_closed c.close_campaign.result c.args.closed.now (state g.D.Store c.args.tx.now.conn.now) (state g.D.Store c.close_campaign.new.tx.conn.now) (rw (c.text.ensures.value, ap (λ r. r.name) c.closed.view_is) at c.close_campaign.ensures.closed clean)
+    (open_before c.close_campaign.result c.close_campaign.ensures.steps clean c.close_campaign.ensures.open)

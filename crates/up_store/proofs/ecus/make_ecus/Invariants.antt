@@ -1,7 +1,7 @@
 use Rattle.std.proofs.Common.{◌≡◌, ◌++◌, All, map, drop}
 use Rattle.up_tables.specs.Ecus.{FitEcu}
-use Rattle.up_store.specs.Shown.{ecu_of}
+use Rattle.up_store.specs.Shown.{ecu_read}
 use Rattle.up_store.proofs.ecus.make_ecus.Given as goal
 
 abbrev pub invariant-loop-row : goal.invariant-loop-row
-invariant-loop-row l = (l.rows ≡ map ecu_of l.made.items ++ drop l.row-index l.rows) × All FitEcu l.made.items
+invariant-loop-row l = (l.rows ≡ map ecu_read l.made.items ++ drop l.row-index l.rows) × All FitEcu l.made.items

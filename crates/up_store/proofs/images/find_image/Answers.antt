@@ -1,20 +1,9 @@
 use Rattle.sqlite.specs.Held.{state}
-use Rattle.up_rows.specs.StateRows.{StateRows}
-use Rattle.up_tables.specs.Stands.{IsWithin}
-use Rattle.up_tables.specs.Tables.{up_schema}
-use Rattle.up_store.specs.Listing.{ListsRows}
-use Rattle.up_store.proofs.ColumnFound.{each_ok, image_found, image_unknown}
+use Rattle.up_store.proofs.ColumnFound.{images, none_found, some_found}
 use Rattle.up_store.proofs.images.find_image.Goals as goal
 
 pub returns-in-Ok-Some-clause-found : goal.returns-in-Ok-Some-clause-found
-returns-in-Ok-Some-clause-found g c clean =
-    let before = state g.D.Store c.args.tx.now.conn.now in
-    let after = state g.D.Store c.image.new.tx.conn.now in
-    each_ok c.some_image.result (λ (rows : StateRows). IsWithin up_schema (ListsRows rows) before) _
-    (λ rows within. image_found c.some_image.result rows c.args.file.now before after c.in-Ok-Some.field-0 c.in-Ok-Some.shown c.in-Ok-Some.field-0-is c.some_image.ensures (c.in-Ok-Some.ensures.reads clean) (rw c.text.ensures.value at c.in-Ok-Some.ensures.found clean) within)
+returns-in-Ok-Some-clause-found g c clean = some_found images c.some_image.result c.args.file.now (state g.D.Store c.args.tx.now.conn.now) (state g.D.Store c.image.new.tx.conn.now) c.in-Ok-Some.field-0 c.in-Ok-Some.shown c.in-Ok-Some.field-0-is c.some_image.ensures (c.in-Ok-Some.ensures.reads clean) (rw c.text.ensures.value at c.in-Ok-Some.ensures.found clean)
 
 pub returns-in-Ok-None-clause-found : goal.returns-in-Ok-None-clause-found
-returns-in-Ok-None-clause-found g c clean rows within =
-    let before = state g.D.Store c.args.tx.now.conn.now in
-    let after = state g.D.Store c.image.new.tx.conn.now in
-    image_unknown rows c.args.file.now before after c.in-Ok-None.field-0 c.in-Ok-None.field-0-is (c.in-Ok-None.ensures.reads clean) (rw c.text.ensures.value at c.in-Ok-None.ensures.found clean) within
+returns-in-Ok-None-clause-found g c clean rows within = none_found images rows c.args.file.now (state g.D.Store c.args.tx.now.conn.now) (state g.D.Store c.image.new.tx.conn.now) c.in-Ok-None.field-0 c.in-Ok-None.field-0-is (c.in-Ok-None.ensures.reads clean) (rw c.text.ensures.value at c.in-Ok-None.ensures.found clean) within

@@ -5,7 +5,5 @@ use Rattle.up_store.proofs.manifests.insert_kept_row.Goals as goal
 
 pub returns-clause-put : goal.returns-clause-put
 returns-clause-put g c clean =
-    let before = state g.D.Store c.args.tx.now.conn.now in
-    let after = state g.D.Store c.insert_kept.new.tx.conn.now in
-    puts_kept c.insert_kept.result c.args.kept.now c.in_ok-row.row before after c.in_ok-row.ensures.same (c.insert_kept.ensures.inserted clean)
-    (open_before before after c.insert_kept.result c.insert_kept.ensures.steps clean c.insert_kept.ensures.open)
+    puts_kept c.insert_kept.result c.args.kept.now c.in_ok-row.row (state g.D.Store c.args.tx.now.conn.now) (state g.D.Store c.insert_kept.new.tx.conn.now) c.in_ok-row.ensures.same (c.insert_kept.ensures.inserted clean)
+    (open_before c.insert_kept.result c.insert_kept.ensures.steps clean c.insert_kept.ensures.open)

@@ -1,15 +1,10 @@
-use Rattle.std.proofs.Common.{arith}
 use Rattle.sqlite.specs.Held.{state}
-use Rattle.sqlite.specs.State.{HasCleanDisk}
-use Rattle.up_store.proofs.Written.{was_open_before}
+use Rattle.up_store.proofs.Written.{clean_step, was_open_before}
 use Rattle.up_store.proofs.RootPuts.{puts_register}
 use Rattle.up_store.proofs.roots.put_register.Goals as goal
 
 pub returns-clause-put : goal.returns-clause-put
 returns-clause-put g c clean =
-    let before = state g.D.Store c.args.tx.now.conn.now in
-    let mid = state g.D.Store c.put_founding.new.tx.conn.now in
-    let after = state g.D.Store c.put_role_files.new.tx.conn.now in
-    let cleanly : HasCleanDisk mid = omega (arith, c.put_role_files.ensures.steps.survives.clean) in
-    puts_register c.put_role_files.result c.args.new.now before mid after (c.in_ok-put_founding.ensures.put cleanly) (c.put_role_files.ensures.put clean)
-    (was_open_before c.put_role_files.result before ((c.put_founding.ensures.steps.kept cleanly).was_open (c.in_ok-put_founding.ensures.open cleanly)))
+    let cleanly = clean_step c.put_role_files.ensures.steps clean in
+    puts_register c.put_role_files.result c.args.new.now (state g.D.Store c.args.tx.now.conn.now) (state g.D.Store c.put_founding.new.tx.conn.now) (state g.D.Store c.put_role_files.new.tx.conn.now) (c.in_ok-put_founding.ensures.put cleanly) (c.put_role_files.ensures.put clean)
+    (was_open_before c.put_role_files.result (state g.D.Store c.args.tx.now.conn.now) ((c.put_founding.ensures.steps.kept cleanly).was_open (c.in_ok-put_founding.ensures.open cleanly)))

@@ -6,7 +6,7 @@ use Rattle.up_tables.specs.Tables.{up_schema}
 use Rattle.up_tables.proofs.StateLemmas.{ok_then}
 use Rattle.up_store.specs.Found.{ecus_found}
 use Rattle.up_store.specs.Listing.{ListsRows}
-use Rattle.up_store.specs.Shown.{ecu_of}
+use Rattle.up_store.specs.Shown.{ecu_read}
 use Rattle.up_store.proofs.EcuReads.{ecus_in}
 use Rattle.up_store.proofs.vehicles.find_ecus.Goals as goal
 
@@ -14,6 +14,6 @@ pub returns-in-Ok-clause-found : goal.returns-in-Ok-clause-found
 returns-in-Ok-clause-found g c clean =
     let before = state g.D.Store c.args.tx.now.conn.now in
     let after = state g.D.Store c.ecus.new.tx.conn.now in
-    ok_then (λ read. read ≡ map ecu_of c.in-Ok.shown.items) (λ found. (rows : StateRows) → IsWithin up_schema (ListsRows rows) before → found ≡ ecus_found c.args.vehicle.now rows) c.read_ecus.result
+    ok_then (λ read. read ≡ map ecu_read c.in-Ok.shown.items) (λ found. (rows : StateRows) → IsWithin up_schema (ListsRows rows) before → found ≡ ecus_found c.args.vehicle.now rows) c.read_ecus.result
     (λ read is rows within. is ∙ ecus_in rows c.args.vehicle.now before after c.in-Ok.shown.items (c.in-Ok.ensures.reads clean) (rw c.text.ensures.value at c.in-Ok.ensures.found clean) within)
     c.read_ecus.ensures

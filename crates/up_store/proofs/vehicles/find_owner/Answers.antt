@@ -12,16 +12,12 @@ use Rattle.up_store.proofs.vehicles.find_owner.Goals as goal
 
 pub returns-in-Ok-Some-clause-found : goal.returns-in-Ok-Some-clause-found
 returns-in-Ok-Some-clause-found g c clean =
-    let before = state g.D.Store c.args.tx.now.conn.now in
-    let after = state g.D.Store c.ecu_owner.new.tx.conn.now in
-    ok_then (λ read. read ≡ Some (string_bytes c.in-Ok-Some.shown)) (λ found. (rows : StateRows) → IsWithin up_schema (ListsRows rows) before → found ≡ owner_found c.args.ecu.now rows) c.read_owner.result
+    ok_then (λ read. read ≡ Some (string_bytes c.in-Ok-Some.shown)) (λ found. (rows : StateRows) → IsWithin up_schema (ListsRows rows) (state g.D.Store c.args.tx.now.conn.now) → found ≡ owner_found c.args.ecu.now rows) c.read_owner.result
     (λ read is rows within. is ∙ ap (option_map string_bytes) (sym c.in-Ok-Some.field-0-is)
-    ∙ owner_in rows c.args.ecu.now before after (option_map string_bytes c.in-Ok-Some.field-0) (c.in-Ok-Some.ensures.reads clean) (rw c.text.ensures.value at c.in-Ok-Some.ensures.found clean) within)
+    ∙ owner_in rows c.args.ecu.now (state g.D.Store c.args.tx.now.conn.now) (state g.D.Store c.ecu_owner.new.tx.conn.now) (option_map string_bytes c.in-Ok-Some.field-0) (c.in-Ok-Some.ensures.reads clean) (rw c.text.ensures.value at c.in-Ok-Some.ensures.found clean) within)
     c.read_owner.ensures
 
 pub returns-in-Ok-None-clause-found : goal.returns-in-Ok-None-clause-found
 returns-in-Ok-None-clause-found g c clean rows within =
-    let before = state g.D.Store c.args.tx.now.conn.now in
-    let after = state g.D.Store c.ecu_owner.new.tx.conn.now in
     ap (option_map string_bytes) (sym c.in-Ok-None.field-0-is)
-    ∙ owner_in rows c.args.ecu.now before after (option_map string_bytes c.in-Ok-None.field-0) (c.in-Ok-None.ensures.reads clean) (rw c.text.ensures.value at c.in-Ok-None.ensures.found clean) within
+    ∙ owner_in rows c.args.ecu.now (state g.D.Store c.args.tx.now.conn.now) (state g.D.Store c.ecu_owner.new.tx.conn.now) (option_map string_bytes c.in-Ok-None.field-0) (c.in-Ok-None.ensures.reads clean) (rw c.text.ensures.value at c.in-Ok-None.ensures.found clean) within

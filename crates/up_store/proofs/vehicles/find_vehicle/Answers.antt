@@ -7,22 +7,18 @@ use Rattle.up_tables.specs.Tables.{up_schema}
 use Rattle.up_tables.proofs.StateLemmas.{ok_then}
 use Rattle.up_store.specs.Found.{vehicle_found}
 use Rattle.up_store.specs.Listing.{ListsRows}
-use Rattle.up_store.specs.Shown.{vehicle_of}
+use Rattle.up_store.specs.Shown.{vehicle_read}
 use Rattle.up_store.proofs.VehicleReads.{vehicle_in}
 use Rattle.up_store.proofs.vehicles.find_vehicle.Goals as goal
 
 pub returns-in-Ok-Some-clause-found : goal.returns-in-Ok-Some-clause-found
 returns-in-Ok-Some-clause-found g c clean =
-    let before = state g.D.Store c.args.tx.now.conn.now in
-    let after = state g.D.Store c.vehicle.new.tx.conn.now in
-    ok_then (λ read. read ≡ Some (vehicle_of c.in-Ok-Some.shown)) (λ found. (rows : StateRows) → IsWithin up_schema (ListsRows rows) before → found ≡ vehicle_found c.args.vehicle.now rows) c.read_vehicle.result
-    (λ read is rows within. is ∙ ap (option_map vehicle_of) (sym c.in-Ok-Some.field-0-is)
-    ∙ vehicle_in rows c.args.vehicle.now before after c.in-Ok-Some.field-0 (c.in-Ok-Some.ensures.reads clean) (rw c.text.ensures.value at c.in-Ok-Some.ensures.found clean) within)
+    ok_then (λ read. read ≡ Some (vehicle_read c.in-Ok-Some.shown)) (λ found. (rows : StateRows) → IsWithin up_schema (ListsRows rows) (state g.D.Store c.args.tx.now.conn.now) → found ≡ vehicle_found c.args.vehicle.now rows) c.read_vehicle.result
+    (λ read is rows within. is ∙ ap (option_map vehicle_read) (sym c.in-Ok-Some.field-0-is)
+    ∙ vehicle_in rows c.args.vehicle.now (state g.D.Store c.args.tx.now.conn.now) (state g.D.Store c.vehicle.new.tx.conn.now) c.in-Ok-Some.field-0 (c.in-Ok-Some.ensures.reads clean) (rw c.text.ensures.value at c.in-Ok-Some.ensures.found clean) within)
     c.read_vehicle.ensures
 
 pub returns-in-Ok-None-clause-found : goal.returns-in-Ok-None-clause-found
 returns-in-Ok-None-clause-found g c clean rows within =
-    let before = state g.D.Store c.args.tx.now.conn.now in
-    let after = state g.D.Store c.vehicle.new.tx.conn.now in
-    ap (option_map vehicle_of) (sym c.in-Ok-None.field-0-is)
-    ∙ vehicle_in rows c.args.vehicle.now before after c.in-Ok-None.field-0 (c.in-Ok-None.ensures.reads clean) (rw c.text.ensures.value at c.in-Ok-None.ensures.found clean) within
+    ap (option_map vehicle_read) (sym c.in-Ok-None.field-0-is)
+    ∙ vehicle_in rows c.args.vehicle.now (state g.D.Store c.args.tx.now.conn.now) (state g.D.Store c.vehicle.new.tx.conn.now) c.in-Ok-None.field-0 (c.in-Ok-None.ensures.reads clean) (rw c.text.ensures.value at c.in-Ok-None.ensures.found clean) within

@@ -1,25 +1,10 @@
-use Rattle.std.proofs.Common.{◌≡◌, subst, true}
+use Rattle.std.proofs.Common.{rules}
 use Rattle.up_rows.specs.Changes.{with_campaign_row}
 use Rattle.up_store.specs.Fitting.{IsNewCampaign}
-use Rattle.up_store.proofs.Written.{written, durable, spared}
+use Rattle.up_store.proofs.Written.{wrote}
 use Rattle.up_store.proofs.store.Store.write_campaign.Goals as goal
 
-pub returns-clause-written : goal.returns-clause-written
-returns-clause-written g c =
-    written g.D.Store c.args.self.now c.transaction-tx.result.conn.now c.put_campaign.new.tx.conn.now c.commit.new.tx.0 (IsNewCampaign c.args.new.now) (λ rows. with_campaign_row rows c.args.new.now) c.commit.result
-    (subst (λ x. c.transaction-tx.result.conn.now ≡ record x { in_transaction = true }) c.self.view_is c.transaction-tx.ensures.begun)
-    c.put_campaign.ensures.steps c.in_default.ensures.put c.commit.ensures.survives
-    c.commit.ensures.committed
-
-pub returns-clause-durable : goal.returns-clause-durable
-returns-clause-durable g c =
-    durable g.D.Store c.args.self.now c.transaction-tx.result.conn.now c.put_campaign.new.tx.conn.now c.commit.new.tx.0 (IsNewCampaign c.args.new.now) (λ rows. with_campaign_row rows c.args.new.now) c.commit.result
-    (subst (λ x. c.transaction-tx.result.conn.now ≡ record x { in_transaction = true }) c.self.view_is c.transaction-tx.ensures.begun)
-    c.put_campaign.ensures.steps c.in_default.ensures.put c.commit.ensures.survives
-    (λ is_open trees left. g.met.D.Store.settled c.commit.new.tx.0.store trees is_open left) c.commit.ensures.committed
-
-pub returns-clause-crash : goal.returns-clause-crash
-returns-clause-crash g c =
-    spared g.D.Store c.args.self.now c.transaction-tx.result.conn.now c.put_campaign.new.tx.conn.now c.commit.new.tx.0 (IsNewCampaign c.args.new.now) (λ rows. with_campaign_row rows c.args.new.now) c.commit.result
-    (subst (λ x. c.transaction-tx.result.conn.now ≡ record x { in_transaction = true }) c.self.view_is c.transaction-tx.ensures.begun)
-    c.put_campaign.ensures.steps c.in_default.ensures.put c.commit.ensures.survives
+pub returns : goal.returns
+returns g c =
+    let did = wrote g.D.Store c.args.self.now c.transaction-tx.result.conn.now c.put_campaign.new.tx.conn.now c.commit.new.tx.0 (IsNewCampaign c.args.new.now) (λ rows. with_campaign_row rows c.args.new.now) c.commit.result c.self.view_is c.transaction-tx.ensures.begun c.put_campaign.ensures.steps c.in_default.ensures.put c.commit.ensures.survives c.commit.ensures.committed (λ is_open trees left. g.met.D.Store.settled c.commit.new.tx.0.store trees is_open left) in
+    record { written = did.written; durable = did.durable; kept = search rules; crash = did.crash; clean = search rules; «open» = search rules }

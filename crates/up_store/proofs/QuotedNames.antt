@@ -1,0 +1,57 @@
+-- In the column of a reach, the quoted name of each vehicle stands as it is.
+use Rattle.std.proofs.Common.{◌≡◌, ℕ, ◌≤◌, List, [], ◌∷◌, ◌++◌, true, false, length, drop, map, inl, inr, refl, sym, ap, ◌∙◌, arith, append_assoc, length-append, get_or}
+use Rattle.std.specs.Prelude.{bytes_eq}
+use Rattle.std.specs.Cmp.Lexicographic.{bytes_decides}
+use Rattle.std.specs.List.{list_any}
+use Rattle.std.specs.Str.Pattern.{LacksTextAt}
+use Rattle.std.proofs.lemmas.Bool.{or_cases, false_from_ne_true, false≢true}
+use Rattle.std.proofs.lemmas.List.{drop_at}
+use Rattle.serde_json.specs.Data.{string}
+use Rattle.serde_json.specs.View.{items_of}
+use Rattle.up_canon.specs.Canon.{quoted, more_items_text}
+use Rattle.up_canon.specs.Names.{Name}
+use Rattle.up_columns.specs.CampaignColumns.{reach_column}
+use Rattle.up_plan.specs.Planning.{reaches}
+use Rattle.up_plan.specs.declared.campaign.Reach.{Reach}
+use Rattle.up_plan.specs.declared.campaign.Reach.TheVariants.{All, Named}
+
+-- a part of a text, with what stands before and behind it
+record IsPart (part text : List ℕ) : Type 0 where
+  before : List ℕ
+  behind : List ℕ
+  at : text ≡ before ++ (part ++ behind)
+
+later : (part front text : List ℕ) → IsPart part text → IsPart part (front ++ text)
+later part front text s = record {
+  before = front ++ s.before;
+  behind = s.behind;
+  at = ap (λ t. front ++ t) s.at ∙ sym (append_assoc front s.before (part ++ s.behind));
+}
+
+first : (v w : Name) (rest : List ℕ) → bytes_eq v w ≡ true → IsPart (quoted v) (quoted w ++ rest)
+first v w rest h = record { before = []; behind = rest; at = ap (λ n. quoted n ++ rest) (sym ((bytes_decides v w).0 h)) }
+
+among : (v w : Name) (vs : List Name) → list_any (bytes_eq v) (w ∷ vs) ≡ true → IsPart (quoted v) (quoted w ++ more_items_text (items_of (map string vs)))
+among v w [] h = elim (or_cases (bytes_eq v w) false h) [
+  | inl same ↦ first v w _ same
+  | inr none ↦ absurd (false≢true none)
+]
+among v w (x ∷ vs) h = elim (or_cases (bytes_eq v w) (list_any (bytes_eq v) (x ∷ vs)) h) [
+  | inl same ↦ first v w _ same
+  | inr more ↦ later (quoted v) (quoted w) _ (later (quoted v) (44 ∷ []) _ (among v x vs more))
+]
+
+lacks : (part text : List ℕ) → ((i : ℕ) → i ≤ length text → LacksTextAt part text i) → IsPart part text → ⊥
+lacks part text none s =
+    none (length s.before) (omega (arith, ap length s.at, length-append s.before (part ++ s.behind))) s.behind
+    (ap (drop (length s.before)) s.at ∙ drop_at s.before (part ++ s.behind) (length s.before) refl)
+
+-- a list in which the quoted name doesn't stand reaches others
+pub others_reached : (vehicle : Name) (reach : Reach) (column : List ℕ) → column ≡ reach_column reach → get_or column 0 0 ≡ 91 → ((i : ℕ) → i ≤ length column → LacksTextAt (quoted vehicle) column i) → reaches vehicle reach ≡ false
+unfolding reach_column
+others_reached vehicle All column is begins none = let e : 34 ≡ 91 = sym (ap (λ c. get_or c 0 0) is) ∙ begins in absurd (omega (arith, e))
+others_reached vehicle (Named []) column is begins none = refl
+others_reached vehicle (Named (v ∷ vs)) column is begins none =
+    false_from_ne_true _ (λ h.
+    let s = later (quoted vehicle) (91 ∷ []) _ (among vehicle v vs h) in
+    lacks (quoted vehicle) column none (record { before = s.before; behind = s.behind; at = is ∙ s.at }))
