@@ -16,6 +16,7 @@ mod founded;
 mod image_targets;
 pub mod kept_reply;
 pub mod key_checks;
+pub mod hashed_keys;
 pub mod keys;
 pub mod laws;
 pub mod making;

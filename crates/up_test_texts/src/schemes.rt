@@ -13,7 +13,7 @@ use std::alloc::{AllocError, Global};
 use up_canon::bytes::Bytes;
 use up_canon::refusal::Refusal;
 use up_sign::envelope::Envelope;
-use up_sign::key_id::{key_id, key_id_text};
+use up_sign::key_id::{HashedKey, key_id_text};
 use up_sign::reading::read_envelope;
 use up_sign::scheme::Scheme;
 use up_sign::seal::seal;
@@ -171,7 +171,7 @@ fn accepted_both_ways<K: Scheme>(
 }
 
 fn has_signed<K: Scheme>(scheme: &K, public: &[u8], envelope: &Envelope) -> bool {
-    accepts_key(scheme, &key_id(public), public, envelope)
+    accepts_key(scheme, &HashedKey::new(public), public, envelope)
 }
 
 fn envelope_from(alloc: Global, json: &str) -> Result<Envelope, Refusal> {

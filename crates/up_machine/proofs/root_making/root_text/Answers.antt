@@ -11,7 +11,7 @@ pub root_text-requires-clause-fit : goal.root_text-requires-clause-fit
 root_text-requires-clause-fit g c =
     let k = g.K.Scheme.rules c.args.scheme.now in
     let keys = keys_of c.args.repository c.args.keys.now in
-    let signers = c.as_slice.ensures.value ∙ c.in_ok-signers.ensures in
+    let signers = c.as_slice-secrets.ensures.value ∙ c.in_ok-signers.ensures.secrets in
     subst (λ xs. IsTrue (list_all k.secret_fits xs)) (sym signers)
     (signers_fit k keys.root (old_keys c.args.repository (option_copied c.args.before)) (roles_fit k keys c.requires.keys).0 (old_are_few k c.args.repository c.args.before c.requires.before))
 
@@ -19,7 +19,7 @@ pub root_text-requires-clause-number : goal.root_text-requires-clause-number
 root_text-requires-clause-number g c =
     let k = g.K.Scheme.rules c.args.scheme.now in
     let keys = keys_of c.args.repository c.args.keys.now in
-    let signers = c.as_slice.ensures.value ∙ c.in_ok-signers.ensures in
+    let signers = c.as_slice-secrets.ensures.value ∙ c.in_ok-signers.ensures.secrets in
     subst (λ xs. (1 ≤ length xs) × (length xs ≤ 8)) (sym signers)
     (signers_are_few k keys.root (old_keys c.args.repository (option_copied c.args.before)) (roles_fit k keys c.requires.keys).0 (old_are_few k c.args.repository c.args.before c.requires.before))
 
@@ -33,5 +33,5 @@ pub returns : goal.returns
 returns g c b is =
     let k = g.K.Scheme.rules c.args.scheme.now in
     c.new.ensures ∙ c.in_ok-root_text.ensures.value
-    ∙ ap₂ (root_text_of k) (c.as_slice.ensures.value ∙ c.in_ok-signers.ensures) c.in_ok-file.ensures
+    ∙ ap₂ (root_text_of k) (c.as_slice-secrets.ensures.value ∙ c.in_ok-signers.ensures.secrets) c.in_ok-file.ensures
     ∙ root_text_is k c.args.repository c.args.number (record { keys = c.args.keys.now; at = c.args.at }) b (option_copied c.args.before) is
