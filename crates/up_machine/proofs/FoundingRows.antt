@@ -64,6 +64,12 @@ some_root (x ∷ roots) root h = omega arith
 pub has_roots : (s : State) (f : Founding) → Some f ≡ founding_row s → 0 < length s.roots
 has_roots s f h = let of = founding_of s f h in some_root s.roots of.root of.there
 
+pub root_number : (s : State) (f : Founding) → Some f ≡ founding_row s → f.root ≡ length s.roots
+root_number s f h = ap (λ (f : Founding). f.root) (founding_of s f h).is
+
+pub version_number : (s : State) (f : Founding) → Some f ≡ founding_row s → f.image_version ≡ s.image_version
+version_number s f h = ap (λ (f : Founding). f.image_version) (founding_of s f h).is
+
 -- ---- one root more
 
 one_more : {A : Type 0} (xs : List A) (x : A) → length (xs ++ x ∷ []) ≡ 1 + length xs

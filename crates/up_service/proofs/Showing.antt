@@ -47,6 +47,13 @@ sees_weaker P Q old new first weaker = record {
   seen = λ now k s was. let a = first.seen now k s was in (weaker s a.0, a.1);
 }
 
+-- what was told is as the state has it, and what is seen next follows on it
+pub told_then : {A : Type 0} (f : State → A) (x : A) (Q R : State → Type 0) (old mid new : Connected) → Tells {E = StoreFault} (λ k s. f s) old mid (Ok x) → Reads old mid → Sees Q mid new → ((s : State) → x ≡ f s → Q s → R s) → Sees R old new
+told_then f x Q R old mid new told reads next joined = sees_then (λ s. x ≡ f s) Q R old mid new (seen_by {E = StoreFault} f (Ok x) old mid told reads) next joined
+
+pub told_so : {A : Type 0} (f : State → A) (x : A) (Q : State → Type 0) (old new : Connected) → Tells {E = StoreFault} (λ k s. f s) old new (Ok x) → Reads old new → ((s : State) → x ≡ f s → Q s) → Sees Q old new
+told_so f x Q old new told reads weaker = sees_weaker (λ s. x ≡ f s) Q old new (seen_by {E = StoreFault} f (Ok x) old new told reads) weaker
+
 -- nothing is read
 pub sees_none : (P : State → Type 0) (s : Connected) → ((q : State) → P q) → Sees P s s
 sees_none P s holds = record { clean = λ now. now; seen = λ now k q was. (holds q, was now) }

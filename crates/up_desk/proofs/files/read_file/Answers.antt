@@ -15,7 +15,4 @@ pub returns-in-Err : goal.returns-in-Err
 returns-in-Err g c = record { decided = λ clean k s was. lost_told c.refusal_of.result c.in-Err.fault _ c.refusal_of.ensures; reads = c.is_founded.ensures.reads }
 
 pub returns-in-Err-file : goal.returns-in-Err-file
-returns-in-Err-file g c = record {
-  decided = λ clean k s was. lost_told c.refusal_of-in-Err-file.result c.in-Err-file.fault _ c.refusal_of-in-Err-file.ensures;
-  reads = (following c.is_founded.ensures.reads (store_reads c.file.ensures.kept c.file.ensures.crash)).reads;
-}
+returns-in-Err-file g c = let it = following c.is_founded.ensures.reads (store_reads c.file.ensures.kept c.file.ensures.crash) in record { decided = λ clean k s was. lost_told c.refusal_of-in-Err-file.result c.in-Err-file.fault _ c.refusal_of-in-Err-file.ensures; reads = it.reads }

@@ -1,4 +1,4 @@
-use Rattle.std.proofs.Common.{◌≡◌, ◌+◌, ◌<◌, ◌≤◌, Some, length, sym, ap, ◌∙◌, subst, arith}
+use Rattle.std.proofs.Common.{◌≡◌, ◌+◌, ◌<◌, ◌≤◌, Some, length, sym, ◌∙◌, subst, arith}
 use Rattle.std.specs.Prelude.{IfSome, IsTrue}
 use Rattle.up_canon.specs.Canon.{max_count}
 use Rattle.up_machine.specs.Repositories.{stamped, with_root}
@@ -6,7 +6,7 @@ use Rattle.up_machine.specs.RowsFit.{founding_fits}
 use Rattle.up_machine.specs.Due.{HasRoot}
 use Rattle.up_machine.proofs.Decided.{keys_passed}
 use Rattle.up_machine.proofs.NewFiles.{version_in_limits}
-use Rattle.up_machine.proofs.FoundingRows.{founding_of, unfounded, has_roots, old_before, root_is_due}
+use Rattle.up_machine.proofs.FoundingRows.{unfounded, has_roots, root_number, version_number, old_before, root_is_due}
 use Rattle.up_machine.proofs.RootDecisions.{passed_on, rotate_gives, rotate_unfounded, rotate_full, rotate_limit, rotate_done}
 use Rattle.up_machine.proofs.decide_root.decide_rotate.Goals as goal
 
@@ -22,8 +22,7 @@ returns-in_default-clause-decided g c = λ s row.
 pub returns-then-old-ge-MAX_ROOTS-clause-decided : goal.returns-then-old-ge-MAX_ROOTS-clause-decided
 returns-then-old-ge-MAX_ROOTS-clause-decided g c = λ s row.
     let there = sym c.in-Some.is ∙ row in
-    let of = founding_of s c.in-Some.old there in
-    let number : c.in-Some.old.root ≡ length s.roots = ap (λ f. f.root) of.is in
+    let number = root_number s c.in-Some.old there in
     let test = c.if-old-ge-MAX_ROOTS.true in
     let full : 64 ≤ length s.roots = omega (arith, number, test) in
     rotate_full (g.K.Scheme.rules c.args.scheme.now) s c.args.at c.args.keys.now c.requires c.in_ok-hashed.ensures.checked (has_roots s c.in-Some.old there) full
@@ -31,11 +30,10 @@ returns-then-old-ge-MAX_ROOTS-clause-decided g c = λ s row.
 pub returns-then-old-ge-MAX_COUNT-clause-decided : goal.returns-then-old-ge-MAX_COUNT-clause-decided
 returns-then-old-ge-MAX_COUNT-clause-decided g c = λ s row.
     let there = sym c.in-Some.is ∙ row in
-    let of = founding_of s c.in-Some.old there in
-    let number : c.in-Some.old.root ≡ length s.roots = ap (λ f. f.root) of.is in
+    let number = root_number s c.in-Some.old there in
     let test = c.if-old-ge-MAX_ROOTS.false in
     let room : length s.roots < 64 = omega (arith, number, test) in
-    let version : c.in-Some.old.image_version ≡ s.image_version = ap (λ f. f.image_version) of.is in
+    let version = version_number s c.in-Some.old there in
     let test = c.if-old-ge-MAX_COUNT.true in
     let limit : max_count ≤ s.image_version = omega (arith, version, test) in
     rotate_limit (g.K.Scheme.rules c.args.scheme.now) s c.args.at c.args.keys.now c.requires c.in_ok-hashed.ensures.checked (has_roots s c.in-Some.old there) room limit
@@ -47,11 +45,10 @@ returns-clause-decided g c = λ s row.
     let keys = c.args.keys.now in
     let old = c.in-Some.old in
     let there = sym c.in-Some.is ∙ row in
-    let of = founding_of s old there in
-    let number : old.root ≡ length s.roots = ap (λ f. f.root) of.is in
+    let number = root_number s old there in
     let test = c.if-old-ge-MAX_ROOTS.false in
     let room : length s.roots < 64 = omega (arith, number, test) in
-    let version : old.image_version ≡ s.image_version = ap (λ f. f.image_version) of.is in
+    let version = version_number s old there in
     let test = c.if-old-ge-MAX_COUNT.false in
     let below : s.image_version < max_count = omega (arith, version, test) in
     let next : old.root + 1 ≡ 1 + length s.roots = omega (arith, number) in
