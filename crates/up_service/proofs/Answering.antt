@@ -103,14 +103,14 @@ asked_line k line asked t old new is h = record {
 pub told_view : (k : Rules) (vehicle : Name) (t : List ℕ) (old new : Connected) → Sees (λ s. shown_in s vehicle ≡ Ok t) old new → AnswersLine (λ s. viewed s vehicle) k t old new
 told_view k vehicle t old new sees = record {
   clean = sees.clean;
-  answered = λ now s sound was. let it = sees.seen now k s was in (s, inl (sym (ap shown_text it.0), refl), sound, it.1);
+  answered = λ now s sound was. let it = sees.seen now k s sound was in (s, inl (sym (ap shown_text it.0), refl), sound, it.1);
 }
 
 pub told_refusal : (k : Rules) (vehicle : Name) (r : Refusal) (t : List ℕ) (old new : Connected) → Sees (λ s. MatchBool (is_lost_by r) ⊤ (shown_in s vehicle ≡ Err r)) old new → t ≡ refused_text r
     → AnswersLine (λ s. viewed s vehicle) k t old new
 told_refusal k vehicle r t old new sees is = record {
   clean = sees.clean;
-  answered = λ now s sound was. let it = sees.seen now k s was in (s, by_loss_of s (is_lost_by r) refl it.0, sound, it.1);
+  answered = λ now s sound was. let it = sees.seen now k s sound was in (s, by_loss_of s (is_lost_by r) refl it.0, sound, it.1);
 }
   where
     by_loss_of : (s : State) (b : Bool) → is_lost_by r ≡ b → MatchBool b ⊤ (shown_in s vehicle ≡ Err r) → IsAnswerOrLost refused_text (viewed s vehicle) s t s

@@ -1,6 +1,6 @@
 -- What is read of the founding: its numbers, and the keys of the last root version.
 use Rattle.std.proofs.Common.{◌≡◌, ◌≤◌, ◌<◌, ◌+◌, ◌-◌, ℕ, suc, pos, List, [], ◌∷◌, ◌++◌, Bool, true, false, ◌&&◌, Option, Some, None, map, filter, length, slice_get, refl, sym, ap, ap₂, subst, ◌∙◌, arith, append-nil, string_bytes, bytes_eq, codes, IsTrue, append_assoc}
-use Rattle.std.specs.Prelude.{option_map, find, flat_map, ◌==◌}
+use Rattle.std.specs.Prelude.{option_map, find, flat_map, is_some, not, ◌==◌}
 use Rattle.std.specs.List.{AllByRecursion, enumerate_from}
 use Rattle.std.specs.Option.{option_or}
 use Rattle.std.specs.Ordering.{is_eq}
@@ -410,6 +410,20 @@ none_founded rows row before none was_open within numbers =
         let size : f.root ≡ length two.0 + 1 = last.0 ∙ ap length two.1 ∙ length_push two.0 root.0 in
         let zero : row.root ≡ 0 = grind (arith, none, nat_tests) in
         absurd (omega (arith, zero, number, size))
+
+-- a root version that isn't 0 tells that there is a founding
+pub founded_by : (rows : StateRows) (row : MetaRow) (before : Connected) → IsTrue before.is_open → IsWithin up_schema (ListsRows rows) before → row ≡ meta_told rows.founding → not (row.root == 0) ≡ is_some rows.founding
+founded_by rows row before was_open within numbers = by_root (row.root == 0) refl
+  where
+    there : (o : Option Founding) → rows.founding ≡ o → (row.root == 0) ≡ false → true ≡ is_some o
+    there None same some =
+        let zero : row.root ≡ 0 = ap (λ (m : MetaRow). m.root) (numbers ∙ ap meta_told same) in
+        absurd (let e = sym (ap (λ n. n == 0) zero) ∙ some in cc)
+    there (Some f) same some = refl
+
+    by_root : (b : Bool) → (row.root == 0) ≡ b → not b ≡ is_some rows.founding
+    by_root true zero = ap is_some (none_founded rows row before zero was_open within numbers)
+    by_root false some = there rows.founding refl some
 
 pub within_read : (rows : StateRows) (before mid : Connected) → Reads before mid → IsWithin up_schema (ListsRows rows) before → IsWithin up_schema (ListsRows rows) mid
 within_read rows before mid reads within = record {
