@@ -2,7 +2,7 @@
 ghost use Rattle.std.specs.Prelude.{◌≡◌, ◌<◌, ◌≤◌, OnOk, find, not, option_copied};
 ghost use Rattle.up_canon.specs.Canon.{max_count};
 ghost use Rattle.up_canon.specs.Refusals.{Gives};
-ghost use Rattle.up_sign.specs.Hmac.{IsHashedKey};
+ghost use Rattle.up_sign.specs.Hmac.{block_key};
 ghost use Rattle.up_machine.specs.Deliveries.{report_name};
 ghost use Rattle.up_machine.specs.ManifestRows.{row_of as row_in, has_row as has_row_in, is_signed_by_row, public_of_row, is_reported_in, follows as follows_row, follows_its_row, check_primary as check_primary_in, check_reports_of, check_new_of};
 
@@ -22,7 +22,7 @@ use up_sign::threshold::{accepts, accepts_key};
 
 /// What is computed once of the Primary's key, by which a manifest and the Primary's own report in it are tested.
 pub(crate) fn primary_key(rows: &VehicleRows) -> HashedKey
-    ensures { IsHashedKey result (public_of_row rows.now.ecus rows.now.vehicle.primary) }
+    ensures { result ≡ block_key (public_of_row rows.now.ecus rows.now.vehicle.primary) }
 {
     match row_of(rows.ecus.as_slice(), &rows.vehicle.primary) {
         Some(row) => HashedKey::new(row.public.as_slice()),
@@ -38,7 +38,7 @@ pub(crate) fn check_primary<K: Scheme>(
     primary_key: &HashedKey,
     incoming: &Incoming,
 ) -> Result<(), Refusal>
-    requires { IsHashedKey primary_key.now (public_of_row rows.now.ecus rows.now.vehicle.primary) }
+    requires { primary_key.now ≡ block_key (public_of_row rows.now.ecus rows.now.vehicle.primary) }
     ensures { result ≡ check_primary_in (K.rules scheme.now) rows.now incoming.now }
 {
     let primary = &rows.vehicle.primary;
@@ -61,7 +61,7 @@ pub(crate) fn check_new<K: Scheme>(
     primary_key: &HashedKey,
     manifest: &Manifest,
 ) -> Result<(), Refusal>
-    requires { IsHashedKey primary_key.now (public_of_row rows.now.ecus rows.now.vehicle.primary) }
+    requires { primary_key.now ≡ block_key (public_of_row rows.now.ecus rows.now.vehicle.primary) }
     ensures value { Gives result (check_new_of (K.rules scheme.now) rows.now manifest.now) }
     ensures later { OnOk result (rows.now.vehicle.last < manifest.now.counter) }
     ensures limit { OnOk result (manifest.now.counter ≤ max_count) }
@@ -92,7 +92,7 @@ fn check_reports<K: Scheme>(
     primary_key: &HashedKey,
     reports: &[SignedReport],
 ) -> Result<(), Refusal>
-    requires { IsHashedKey primary_key.now (public_of_row rows.now primary.now) }
+    requires { primary_key.now ≡ block_key (public_of_row rows.now primary.now) }
     ensures { Gives result (check_reports_of (K.rules scheme.now) rows.now reports.now) }
 {
     if let Some(unknown) = first_unknown(rows, reports) {
@@ -133,7 +133,7 @@ fn first_unsigned<'a, K: Scheme>(
     primary_key: &HashedKey,
     reports: &'a [SignedReport],
 ) -> Option<&'a SignedReport>
-    requires { IsHashedKey primary_key.now (public_of_row rows.now primary.now) }
+    requires { primary_key.now ≡ block_key (public_of_row rows.now primary.now) }
     ensures { option_copied result ≡ find (λ r. not (is_signed_by_row (K.rules scheme.now) rows.now (report_name r) r.envelope)) reports.now }
 {
     reports
@@ -167,7 +167,7 @@ fn is_signed<K: Scheme>(
     primary_key: &HashedKey,
     report: &SignedReport,
 ) -> bool
-    requires { IsHashedKey primary_key.now (public_of_row rows.now primary.now) }
+    requires { primary_key.now ≡ block_key (public_of_row rows.now primary.now) }
     ensures { result ≡ is_signed_by_row (K.rules scheme.now) rows.now (report_name report.now) report.now.envelope }
 {
     if report.report.ecu == *primary {
@@ -184,7 +184,7 @@ fn is_signed_by_primary<K: Scheme>(
     primary_key: &HashedKey,
     envelope: &Envelope,
 ) -> bool
-    requires { IsHashedKey primary_key.now (public_of_row rows.now primary.now) }
+    requires { primary_key.now ≡ block_key (public_of_row rows.now primary.now) }
     ensures { result ≡ is_signed_by_row (K.rules scheme.now) rows.now primary.now envelope.now }
 {
     match row_of(rows, primary) {
