@@ -176,8 +176,8 @@ no_file k s Image name [] none same =
 no_file k s repository name (root ∷ roots) some none = absurd (omega (arith, none))
 
 some_where : (o : Option Founding) (b : Bool) → is_none o ≡ b → b ≡ false → true ≡ is_some o
-some_where None b is no = absurd (let e = is ∙ no in cc)
-some_where (Some f) b is no = refl
+some_where None b is has = absurd (let e = is ∙ has in cc)
+some_where (Some f) b is has = refl
 
 -- where there is a file, there is a founding
 pub founded_with : (k : Rules) (s : State) (repository : Repository) (name : Name) (text : List ℕ) → FoundedIsFound → Some text ≡ file k s repository name → true ≡ is_some (founding_row s)

@@ -12,7 +12,7 @@ ghost use Rattle.up_manifest.specs.Manifests.{largest_body, incoming_in};
 ghost use Rattle.up_machine.specs.declared.decision.Delivered.TheVariants.{Accepted};
 ghost use Rattle.up_machine.specs.Deciding.{Outcome};
 ghost use Rattle.up_machine.specs.Decisions.{IsRead, decide_incoming, GivesDelivered};
-ghost use Rattle.up_machine.specs.Rows.{founding_row, kept_at, reply_kept, vehicle_rows};
+ghost use Rattle.up_machine.specs.Rows.{founding_row, kept_at, vehicle_rows};
 ghost use Rattle.up_machine.specs.RowsFit.{founding_fits, rows_fit};
 ghost use Rattle.up_machine.specs.Sound.{IsSound};
 ghost use Rattle.up_machine.specs.State.{State};
@@ -29,9 +29,10 @@ use up_canon::bytes::Bytes;
 use up_canon::moment::Moment;
 use up_canon::refusal::Refusal;
 use up_canon::table::Table;
-use up_machine::answer::{Answer, Reply};
+use up_machine::answer::Answer;
 use up_machine::decide_manifest::{DeliveryRows, decide_manifest};
 use up_machine::decision::{AcceptedRows, Delivered};
+use up_machine::kept_reply::{reply_in, targets_in};
 use up_machine::rows::{Founding, Kept, VehicleRows};
 use up_manifest::manifest::{Incoming, Manifest};
 use up_manifest::reading::read_manifest;
@@ -82,7 +83,7 @@ fn receive<K: Scheme, D: Alter>(
 }
 
 /// Writes the rows of a manifest that is accepted. Its reply is made of the rows themselves, so that nothing grows between the
-/// commit and the answer. A plan of more than 4294967295 images, which no state has, is answered as want of memory.
+/// commit and the answer.
 fn accept<D: Alter>(
     store: &mut Store<D>,
     alloc: Global,
@@ -94,25 +95,12 @@ fn accept<D: Alter>(
 {
     rows_are_found();
     manifests_are_added();
-    let Ok(targets) = u32::try_from(rows.kept.plan.assigned.as_slice().len()) else {
-        return Err(Refusal::Memory);
-    };
-    let written = store.write_accept(alloc, &rows);
-    replied(reply_in(rows.kept, targets), written)
-}
-
-/// The reply that a kept row holds, whose plan has so many images.
-fn reply_in(row: Kept, targets: u32) -> Reply
-    requires { targets ≡ length row.plan.assigned }
-    ensures { result ≡ reply_kept row }
-{
-    let plan = row.plan;
-    Reply {
-        vehicle: row.vehicle,
-        version: row.version,
-        targets,
-        withheld: plan.withheld,
-        text: row.reply,
+    match targets_in(&rows.kept) {
+        Ok(targets) => {
+            let written = store.write_accept(alloc, &rows);
+            replied(reply_in(rows.kept, targets), written)
+        }
+        Err(_) => Err(Refusal::Memory),
     }
 }
 

@@ -38,7 +38,8 @@ HasFounding next founding = founding_row next ≡ Some founding
 
 -- ---- what making files asks of it
 
--- the keys fit and are hashed as such, those of the version before can sign, and both repositories' files have a version and a command's moment
+-- the keys fit, `hashed` is of these keys, those of the version before can sign, and both repositories' files have a version and a
+-- command's moment
 pub record CanMakeRoot (k : Rules) (at : ℕ) (keys : KeySet) (new : NextRoot) : Type 0 where
   pub keys_fit : IsTrue (key_set_fits k keys)
   pub hashed : new.hashed ≡ hashed_key_set k keys

@@ -6,7 +6,7 @@ use Rattle.up_canon.specs.Steps.{◌>>=◌, unless}
 use Rattle.up_canon.specs.declared.refusal.Refusal.{Refusal}
 use Rattle.up_canon.specs.declared.refusal.Refusal.TheVariants.{BadShape}
 use Rattle.up_sign.specs.Schemes.{Rules}
-use Rattle.up_sign.specs.Envelopes.{identifier, hashed_key}
+use Rattle.up_sign.specs.Envelopes.{identifier, key_block}
 use Rattle.up_machine.specs.declared.keys.RoleSecrets.{RoleSecrets}
 use Rattle.up_machine.specs.declared.keys.RepoKeys.{RepoKeys}
 use Rattle.up_machine.specs.declared.keys.KeySet.{KeySet}
@@ -47,12 +47,13 @@ key_set_fits k keys = repository_fits k keys.director && repository_fits k keys.
 
 -- of the keys of a role, in order
 abbrev pub hashed_role : Rules → RoleSecrets → List (List ℕ)
-hashed_role k role = map (hashed_key k) role.keys
+hashed_role k role = map (key_block k) role.keys
 
 -- of the three roles whose files are made together
 abbrev pub hashed_roles : Rules → RepoKeys → HashedRoleKeys
 hashed_roles k keys = record { targets = hashed_role k keys.targets; snapshot = hashed_role k keys.snapshot; timestamp = hashed_role k keys.timestamp }
 
+-- of all four roles of a repository
 abbrev pub hashed_repo : Rules → RepoKeys → HashedRepoKeys
 hashed_repo k keys = record { root = hashed_role k keys.root; roles = hashed_roles k keys }
 

@@ -9,8 +9,8 @@ use up_sign::key_id::HashedKey;
 use up_sign::scheme::Scheme;
 use up_sign::seal::hashed_keys;
 
-/// The hashed keys of the Targets, Snapshot and Timestamp roles of a repository, in each role's order. As of all of this file,
-/// the type doesn't say whose keys; `check_keys` and `hashed_roles` give them.
+/// The hashed keys of the Targets, Snapshot and Timestamp roles of a repository, in each role's order. The types of this file
+/// don't say whose keys they hold; the contracts of `check_keys` and `hashed_roles` do.
 #[derive(Drop)]
 pub struct HashedRoleKeys {
     pub targets: Listed<HashedKey>,

@@ -3,7 +3,7 @@ ghost use Rattle.std.specs.Prelude.{◌≡◌, IfOk, is_none, map};
 ghost use Rattle.std.specs.List.{list_all};
 ghost use Rattle.up_canon.specs.Names.{first_repeated};
 ghost use Rattle.up_canon.specs.Refusals.{GivesAs};
-ghost use Rattle.up_sign.specs.Envelopes.{identifier, hashed_key};
+ghost use Rattle.up_sign.specs.Envelopes.{identifier, key_block};
 ghost use Rattle.up_machine.specs.Keys.{secret_fits as secret_fits_rule, hashed_role, hashed_repo, hashed_key_set, check_role as check_role_rule, check_repository as check_repository_rule, check_keys as check_keys_rule};
 
 use crate::hashed_keys::{HashedKeySet, HashedRepoKeys, HashedRoleKeys};
@@ -85,7 +85,7 @@ fn has_distinct_identifiers<K: Scheme>(
     keys: &[Bytes],
     hashed: &[HashedKey],
 ) -> Result<bool, AllocError>
-    requires { hashed.now ≡ map (hashed_key (K.rules scheme.now)) keys.now }
+    requires { hashed.now ≡ map (key_block (K.rules scheme.now)) keys.now }
     ensures { IfOk result (λ distinct. distinct ≡ is_none (first_repeated (map (identifier (K.rules scheme.now)) keys.now))) }
 {
     let mut names = Vec::with_capacity(alloc, hashed.len())?;

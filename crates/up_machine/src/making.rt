@@ -23,10 +23,10 @@ use up_canon::moment::Moment;
 use up_canon::text::Text;
 use up_roles::lifetimes::lifetimes_of;
 use up_roles::repository::Repository;
-use up_roles::snapshot::{SnapshotFile, snapshot_text};
+use up_roles::snapshot::{SnapshotFile, snapshot_text_by};
 use up_roles::targets::{Target, TargetsFile};
-use up_roles::targets_text::targets_text;
-use up_roles::timestamp::{TimestampFile, timestamp_text};
+use up_roles::targets_text::targets_text_by;
+use up_roles::timestamp::{TimestampFile, timestamp_text_by};
 use up_sign::key_id::HashedKey;
 use up_sign::scheme::Scheme;
 
@@ -109,7 +109,7 @@ fn signed_targets<K: Scheme>(
     ensures { IfOk result (λ t. t ≡ targets_text_of (K.rules scheme.now) role.now.keys file.now) }
 {
     let secrets = role.keys.as_slice();
-    Ok(Text::new(targets_text(alloc, scheme, secrets, hashed.as_slice(), file)?))
+    Ok(Text::new(targets_text_by(alloc, scheme, secrets, hashed.as_slice(), file)?))
 }
 
 #[tactic(auto, using(crate::proofs::Makings::secrets_fit, crate::proofs::Makings::secrets_are_few))]
@@ -126,7 +126,7 @@ fn signed_snapshot<K: Scheme>(
     ensures { IfOk result (λ t. t ≡ snapshot_text_of (K.rules scheme.now) role.now.keys file.now) }
 {
     let secrets = role.keys.as_slice();
-    Ok(Text::new(snapshot_text(alloc, scheme, secrets, hashed.as_slice(), file)?))
+    Ok(Text::new(snapshot_text_by(alloc, scheme, secrets, hashed.as_slice(), file)?))
 }
 
 #[tactic(auto, using(crate::proofs::Makings::secrets_fit, crate::proofs::Makings::secrets_are_few))]
@@ -143,7 +143,7 @@ fn signed_timestamp<K: Scheme>(
     ensures { IfOk result (λ t. t ≡ timestamp_text_of (K.rules scheme.now) role.now.keys file.now) }
 {
     let secrets = role.keys.as_slice();
-    Ok(Text::new(timestamp_text(alloc, scheme, secrets, hashed.as_slice(), file)?))
+    Ok(Text::new(timestamp_text_by(alloc, scheme, secrets, hashed.as_slice(), file)?))
 }
 
 /// When the Targets file expires that is made at the moment.

@@ -18,9 +18,10 @@ use up_manifest::report::SignedReport;
 use up_sign::envelope::Envelope;
 use up_sign::key_id::HashedKey;
 use up_sign::scheme::Scheme;
-use up_sign::threshold::{accepts, accepts_key};
+use up_sign::threshold::{accepts, accepts_by};
 
-/// What is computed once of the Primary's key, by which a manifest and the Primary's own report in it are tested.
+/// What is computed once of the Primary's key, with which a manifest and the Primary's own report in it are tested: of no bytes
+/// where no row is the Primary's, which nothing asks then.
 pub(crate) fn primary_key(rows: &VehicleRows) -> HashedKey
     ensures { result ≡ block_key (public_of_row rows.now.ecus rows.now.vehicle.primary) }
 {
@@ -188,7 +189,7 @@ fn is_signed_by_primary<K: Scheme>(
     ensures { result ≡ is_signed_by_row (K.rules scheme.now) rows.now primary.now envelope.now }
 {
     match row_of(rows, primary) {
-        Some(row) => accepts_key(scheme, primary_key, row.public.as_slice(), envelope),
+        Some(row) => accepts_by(scheme, primary_key, row.public.as_slice(), envelope),
         None => false,
     }
 }

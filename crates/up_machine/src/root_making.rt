@@ -2,7 +2,7 @@
 ghost use Rattle.std.specs.Prelude.{◌≡◌, ◌≤◌, ◌+◌, ◌++◌, Option, IsTrue, IfOk, OnOk, MatchOption, ⊤, bytes_eq, filter, map, not, option_copied, option_map, unwrap_or, []};
 ghost use Rattle.std.specs.List.{list_any};
 ghost use Rattle.up_canon.specs.Moments.{last_command_moment};
-ghost use Rattle.up_sign.specs.Envelopes.{hashed_key};
+ghost use Rattle.up_sign.specs.Envelopes.{key_block};
 ghost use Rattle.up_roles.specs.Lifetimes.{lifetimes};
 ghost use Rattle.up_roles.specs.Payload.{version_fits};
 ghost use Rattle.up_machine.specs.Files.{keys_of as keys_in, root_key as root_key_of, role_keys as role_keys_of, root_file as root_file_of, root_text as root_text_of};
@@ -21,7 +21,7 @@ use up_canon::text::Text;
 use up_roles::lifetimes::lifetimes_of;
 use up_roles::repository::Repository;
 use up_roles::root::{RoleKeys, RootFile, RootKey};
-use up_roles::root_text::root_text as signed_root;
+use up_roles::root_text::root_text_by as signed_root;
 use up_sign::key_id::HashedKey;
 use up_sign::laws::envelope_laws;
 use up_sign::scheme::Scheme;
@@ -112,7 +112,7 @@ fn root_keys<K: Scheme>(
     secrets: &[Bytes],
     hashed: &[HashedKey],
 ) -> Result<Listed<RootKey>, AllocError>
-    requires { hashed.now ≡ map (hashed_key (K.rules scheme.now)) secrets.now }
+    requires { hashed.now ≡ map (key_block (K.rules scheme.now)) secrets.now }
     ensures { IfOk result (λ keys. keys ≡ map (root_key_of (K.rules scheme.now)) secrets.now) }
 {
     let mut keys = Vec::with_capacity(alloc, secrets.len())?;
@@ -128,7 +128,7 @@ fn root_key<K: Scheme>(
     secret: &Bytes,
     hashed: &HashedKey,
 ) -> Result<RootKey, AllocError>
-    requires { hashed.now ≡ hashed_key (K.rules scheme.now) secret.now }
+    requires { hashed.now ≡ key_block (K.rules scheme.now) secret.now }
     ensures { IfOk result (λ key. key ≡ root_key_of (K.rules scheme.now) secret.now) }
 {
     let public = scheme.public(alloc, secret.as_slice())?;
@@ -158,7 +158,7 @@ fn root_signers<K: Scheme>(
     requires { hashed.now.root ≡ hashed_role (K.rules scheme.now) (keys_in repository keys.now).root }
     ensures secrets { IfOk result (λ signers. signers.secrets.items ≡ (keys_in repository keys.now).root.keys
         ++ filter (λ secret. not (list_any (bytes_eq secret) (keys_in repository keys.now).root.keys)) (unwrap_or (option_map (λ b. (keys_in repository b).root.keys) (option_copied before.entry)) [])) }
-    ensures hashed { IfOk result (λ signers. signers.hashed.items ≡ map (hashed_key (K.rules scheme.now)) signers.secrets.items) }
+    ensures hashed { IfOk result (λ signers. signers.hashed.items ≡ map (key_block (K.rules scheme.now)) signers.secrets.items) }
 {
     let own = &keys_of(repository, keys).root.keys;
     let mut signers = Signers {
@@ -180,9 +180,9 @@ fn push_others<K: Scheme>(
     old: &[Bytes],
     own: &[Bytes],
 ) -> Result<(), AllocError>
-    requires { signers.old.hashed.items ≡ map (hashed_key (K.rules scheme.now)) signers.old.secrets.items }
+    requires { signers.old.hashed.items ≡ map (key_block (K.rules scheme.now)) signers.old.secrets.items }
     ensures secrets { OnOk result (signers.new.secrets.items ≡ signers.old.secrets.items ++ filter (λ secret. not (list_any (bytes_eq secret) own.now)) old.now) }
-    ensures hashed { OnOk result (signers.new.hashed.items ≡ map (hashed_key (K.rules scheme.now)) signers.new.secrets.items) }
+    ensures hashed { OnOk result (signers.new.hashed.items ≡ map (key_block (K.rules scheme.now)) signers.new.secrets.items) }
 {
     for secret in old {
         if !is_among(secret.as_slice(), own) {

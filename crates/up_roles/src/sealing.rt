@@ -3,7 +3,7 @@ ghost use Rattle.std.specs.Prelude.{◌≡◌, ◌≤◌, IsTrue, IfOk, length, 
 ghost use Rattle.std.specs.List.{list_all};
 ghost use Rattle.serde_json.specs.View.{view};
 ghost use Rattle.up_canon.specs.Canon.{has_canon};
-ghost use Rattle.up_sign.specs.Envelopes.{hashed_key};
+ghost use Rattle.up_sign.specs.Envelopes.{key_block};
 ghost use Rattle.up_roles.specs.Payload.{sealed_text as sealed_text_of};
 
 use serde_json::Value;
@@ -12,7 +12,7 @@ use up_canon::bytes::Bytes;
 use up_canon::canonical::canonical_text;
 use up_sign::key_id::HashedKey;
 use up_sign::scheme::Scheme;
-use up_sign::seal::seal_as;
+use up_sign::seal::seal_by;
 
 /// The text of the envelope over the payload's canonical text, with a signature for each secret in order, whose keys, hashed,
 /// are these.
@@ -26,10 +26,10 @@ pub(crate) fn sealed_text<K: Scheme>(
 ) -> Result<String, AllocError>
     requires fit { IsTrue (list_all (K.rules scheme.now).secret_fits secrets.now) }
     requires number { (1 ≤ length secrets.now) × (length secrets.now ≤ 8) }
-    requires hashed { keys.now ≡ map (hashed_key (K.rules scheme.now)) secrets.now }
+    requires hashed { keys.now ≡ map (key_block (K.rules scheme.now)) secrets.now }
     requires canon { has_canon (view payload.now) ≡ true }
     ensures { IfOk result (λ t. string_bytes t ≡ sealed_text_of (K.rules scheme.now) secrets.now (view payload.now)) }
 {
     let signed = canonical_text(alloc, payload)?;
-    seal_as(alloc, scheme, secrets, keys, signed)?.text(alloc)
+    seal_by(alloc, scheme, secrets, keys, signed)?.text(alloc)
 }

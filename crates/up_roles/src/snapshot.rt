@@ -6,7 +6,7 @@ ghost use Rattle.up_canon.specs.Build.{members_with};
 ghost use Rattle.up_canon.specs.Members.{IsFault, object_of_map};
 ghost use Rattle.up_canon.specs.Refusals.{Gives};
 ghost use Rattle.up_canon.specs.declared.refusal.Refusal.TheVariants.{TooLarge};
-ghost use Rattle.up_sign.specs.Envelopes.{hashed_key};
+ghost use Rattle.up_sign.specs.Envelopes.{key_block};
 ghost use Rattle.up_roles.specs.Payload.{largest_file, IsCanonical};
 ghost use Rattle.up_roles.specs.Snapshot.{snapshot_meta, snapshot_payload, snapshot_text_of, snapshot_fits, snapshot_is_typed, snapshot_in, snapshot_of, snapshot_entry_in};
 
@@ -24,9 +24,10 @@ use up_canon::ident::Ident;
 use up_canon::listed::Duplicate;
 use up_canon::moment::Moment;
 use up_canon::refusal::Refusal;
-use up_sign::key_id::HashedKey;
 use up_sign::envelope::Envelope;
+use up_sign::key_id::HashedKey;
 use up_sign::scheme::Scheme;
+use up_sign::seal::hashed_keys;
 
 /// Snapshot metadata: the version of the Targets file. The Director's is for one vehicle, which it names. The type keeps no
 /// limits; `fits` tells.
@@ -101,8 +102,26 @@ fn targets_version_at(map: &Map<String, Value>) -> Result<u64, &'static str>
 }
 
 /// The text of the Snapshot file, which is within its limits (`fits`): its envelope, signed with each of 1 to 8 secrets that
-/// fit, in order, whose keys, hashed, are these (`up_sign::seal::hashed_keys`).
+/// fit, in order.
 pub fn snapshot_text<K: Scheme>(
+    alloc: Global,
+    scheme: &K,
+    secrets: &[Bytes],
+    file: &SnapshotFile,
+) -> Result<String, AllocError>
+    requires fit { IsTrue (list_all (K.rules scheme.now).secret_fits secrets.now) }
+    requires number { (1 ≤ length secrets.now) × (length secrets.now ≤ 8) }
+    requires limits { IsTrue (snapshot_fits file.now) }
+    ensures value { IfOk result (λ t. string_bytes t ≡ snapshot_text_of (K.rules scheme.now) secrets.now file.now) }
+    ensures canonical { OnOk result (IsCanonical (snapshot_payload file.now)) }
+    ensures typed { OnOk result (snapshot_is_typed file.now ≡ true) }
+{
+    let keys = hashed_keys(alloc, scheme, secrets)?;
+    snapshot_text_by(alloc, scheme, secrets, keys.as_slice(), file)
+}
+
+/// As `snapshot_text`, with the secrets' keys hashed already (`up_sign::seal::hashed_keys`).
+pub fn snapshot_text_by<K: Scheme>(
     alloc: Global,
     scheme: &K,
     secrets: &[Bytes],
@@ -111,7 +130,7 @@ pub fn snapshot_text<K: Scheme>(
 ) -> Result<String, AllocError>
     requires fit { IsTrue (list_all (K.rules scheme.now).secret_fits secrets.now) }
     requires number { (1 ≤ length secrets.now) × (length secrets.now ≤ 8) }
-    requires hashed { keys.now ≡ map (hashed_key (K.rules scheme.now)) secrets.now }
+    requires hashed { keys.now ≡ map (key_block (K.rules scheme.now)) secrets.now }
     requires limits { IsTrue (snapshot_fits file.now) }
     ensures value { IfOk result (λ t. string_bytes t ≡ snapshot_text_of (K.rules scheme.now) secrets.now file.now) }
     ensures canonical { OnOk result (IsCanonical (snapshot_payload file.now)) }

@@ -6,7 +6,7 @@ ghost use Rattle.up_canon.specs.Build.{members_with};
 ghost use Rattle.up_canon.specs.Members.{IsFault, object_of_map};
 ghost use Rattle.up_canon.specs.Refusals.{Gives};
 ghost use Rattle.up_canon.specs.declared.refusal.Refusal.TheVariants.{TooLarge};
-ghost use Rattle.up_sign.specs.Envelopes.{hashed_key};
+ghost use Rattle.up_sign.specs.Envelopes.{key_block};
 ghost use Rattle.up_roles.specs.Payload.{largest_file, IsCanonical};
 ghost use Rattle.up_roles.specs.Timestamp.{meta_of, timestamp_payload, timestamp_text_of, timestamp_fits, timestamp_is_typed, timestamp_in, timestamp_of, timestamp_entry_in};
 
@@ -25,9 +25,10 @@ use up_canon::ident::Ident;
 use up_canon::listed::Duplicate;
 use up_canon::moment::Moment;
 use up_canon::refusal::Refusal;
-use up_sign::key_id::HashedKey;
 use up_sign::envelope::Envelope;
+use up_sign::key_id::HashedKey;
 use up_sign::scheme::Scheme;
+use up_sign::seal::hashed_keys;
 
 /// Timestamp metadata: the version of the Snapshot file, and the SHA-256 of that file's whole text. The Director's is
 /// for one vehicle, which it names. The type keeps no limits; `fits` tells.
@@ -105,8 +106,26 @@ fn snapshot_entry_at(map: &Map<String, Value>) -> Result<&Map<String, Value>, &'
 }
 
 /// The text of the Timestamp file, which is within its limits (`fits`): its envelope, signed with each of 1 to 8 secrets that
-/// fit, in order, whose keys, hashed, are these (`up_sign::seal::hashed_keys`).
+/// fit, in order.
 pub fn timestamp_text<K: Scheme>(
+    alloc: Global,
+    scheme: &K,
+    secrets: &[Bytes],
+    file: &TimestampFile,
+) -> Result<String, AllocError>
+    requires fit { IsTrue (list_all (K.rules scheme.now).secret_fits secrets.now) }
+    requires number { (1 ≤ length secrets.now) × (length secrets.now ≤ 8) }
+    requires limits { IsTrue (timestamp_fits file.now) }
+    ensures value { IfOk result (λ t. string_bytes t ≡ timestamp_text_of (K.rules scheme.now) secrets.now file.now) }
+    ensures canonical { OnOk result (IsCanonical (timestamp_payload file.now)) }
+    ensures typed { OnOk result (timestamp_is_typed file.now ≡ true) }
+{
+    let keys = hashed_keys(alloc, scheme, secrets)?;
+    timestamp_text_by(alloc, scheme, secrets, keys.as_slice(), file)
+}
+
+/// As `timestamp_text`, with the secrets' keys hashed already (`up_sign::seal::hashed_keys`).
+pub fn timestamp_text_by<K: Scheme>(
     alloc: Global,
     scheme: &K,
     secrets: &[Bytes],
@@ -115,7 +134,7 @@ pub fn timestamp_text<K: Scheme>(
 ) -> Result<String, AllocError>
     requires fit { IsTrue (list_all (K.rules scheme.now).secret_fits secrets.now) }
     requires number { (1 ≤ length secrets.now) × (length secrets.now ≤ 8) }
-    requires hashed { keys.now ≡ map (hashed_key (K.rules scheme.now)) secrets.now }
+    requires hashed { keys.now ≡ map (key_block (K.rules scheme.now)) secrets.now }
     requires limits { IsTrue (timestamp_fits file.now) }
     ensures value { IfOk result (λ t. string_bytes t ≡ timestamp_text_of (K.rules scheme.now) secrets.now file.now) }
     ensures canonical { OnOk result (IsCanonical (timestamp_payload file.now)) }

@@ -24,7 +24,7 @@ abbrev pub within : {A : Type 0} → Option (List ℕ) → A → Result A Refusa
 within None x = Ok x
 within (Some fault) x = Err (BadShape fault)
 
--- so by the fault that is found
+-- the value, unless a fault is found in it
 abbrev pub checked : {A : Type 0} → (A → Option (List ℕ)) → A → Result A Refusal
 checked fault x = within (fault x) x
 

@@ -22,9 +22,9 @@ is_accepted k ps threshold e = nat_le threshold (count_by (is_satisfied k e) ps)
 abbrev pub identifier : Rules → List ℕ → List ℕ
 identifier k secret = key_id (k.public_of secret)
 
--- what is seen of a secret's key that is hashed: the block of its public part
-abbrev pub hashed_key : Rules → List ℕ → List ℕ
-hashed_key k secret = block_key (k.public_of secret)
+-- the HMAC block (RFC 2104, section 2) of a secret's public part, as which contracts see its hashed key
+abbrev pub key_block : Rules → List ℕ → List ℕ
+key_block k secret = block_key (k.public_of secret)
 
 -- one signature for each secret, in order
 abbrev pub signature_of : Rules → List ℕ → List ℕ → Signature

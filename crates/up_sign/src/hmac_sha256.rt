@@ -92,7 +92,7 @@ impl Model for HmacKey {
 }
 
 impl HmacKey {
-    /// The key of these bytes.
+    /// The key of these bytes, of any number.
     pub fn new(key: &[u8]) -> HmacKey
         ensures { result ≡ block_key key.now }
     {
@@ -108,7 +108,7 @@ impl HmacKey {
         }
     }
 
-    /// The tag of a message.
+    /// The tag of a message, 32 bytes.
     #[tactic(auto, unfolding(crate::specs::Hmac::hmac_under))]
     pub fn tag(&self, message: &[u8]) -> [u8; 32]
         ensures { result ≡ hmac_under self.now message.now }

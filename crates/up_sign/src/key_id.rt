@@ -25,8 +25,8 @@ pub fn key_id_text(alloc: Global, public: &[u8]) -> Result<Text, AllocError>
     Ok(Text::new(hex::encode(alloc, key_id(public))?))
 }
 
-/// What is computed of a public part once for all that is signed or checked by it: its identifier, and the key of HMAC by
-/// which that is computed. It is seen as the block of that key.
+/// A public part's identifier and the HMAC key that computes it, made once for all that is signed or checked with it.
+/// Contracts see it as that key's block (RFC 2104, section 2).
 #[derive(Drop)]
 pub struct HashedKey {
     mac: HmacKey,
@@ -42,7 +42,7 @@ impl Model for HashedKey {
 }
 
 impl HashedKey {
-    /// That of a public part.
+    /// Computes both of a public part; takes no memory.
     pub fn new(public: &[u8]) -> HashedKey
         ensures { result ≡ block_key public.now }
     {
@@ -59,7 +59,7 @@ impl HashedKey {
         Ok(Text::new(hex::encode(alloc, self.id)?))
     }
 
-    /// The key of HMAC.
+    /// The HMAC key.
     pub(crate) fn mac(&self) -> &HmacKey
         ensures { result.now ≡ self.now }
     {

@@ -35,8 +35,8 @@ pub trait Scheme: Drop {
     fn verify(&self, public: &[u8], message: &[u8], signature: &[u8]) -> bool
         ensures { result ≡ (rules self.now).is_valid public.now message.now signature.now };
 
-    /// What `sign` answers, where the key of HMAC is at hand by which the identifier of the public part is computed. A scheme
-    /// that signs by the same key needs not hash it again.
+    /// What `sign` answers. `key` is the HMAC key of the secret's public part, with which its identifier is computed; a scheme
+    /// that signs with that key need not hash it again.
     fn sign_by(
         &self,
         alloc: Global,
@@ -50,7 +50,8 @@ pub trait Scheme: Drop {
         self.sign(alloc, secret, message)
     }
 
-    /// What `verify` answers, where the key of HMAC is at hand by which the identifier of the public part is computed.
+    /// What `verify` answers. `key` is the HMAC key of the public part, with which its identifier is computed; a scheme that
+    /// verifies with that key need not hash it again.
     fn verify_by(&self, key: &HmacKey, public: &[u8], message: &[u8], signature: &[u8]) -> bool
         requires { key.now ≡ block_key public.now }
         ensures { result ≡ (rules self.now).is_valid public.now message.now signature.now }

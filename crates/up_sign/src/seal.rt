@@ -1,7 +1,7 @@
 //! Sealing: signing a text with each of a list of secrets.
 ghost use Rattle.std.specs.Prelude.{◌≡◌, ◌≤◌, IsTrue, IfOk, length, map, string_bytes};
 ghost use Rattle.std.specs.List.{list_all};
-ghost use Rattle.up_sign.specs.Envelopes.{hashed_key, signature_of as signature_of_secret, sealed};
+ghost use Rattle.up_sign.specs.Envelopes.{key_block, signature_of as signature_of_secret, sealed};
 ghost use Rattle.up_sign.specs.Formats.{envelope_fits};
 
 use crate::envelope::{Envelope, Signature};
@@ -25,12 +25,12 @@ pub fn seal<K: Scheme>(
     ensures limits { IfOk result (λ e. IsTrue (envelope_fits e)) }
 {
     let keys = hashed_keys(alloc, scheme, secrets)?;
-    seal_as(alloc, scheme, secrets, keys.as_slice(), signed)
+    seal_by(alloc, scheme, secrets, keys.as_slice(), signed)
 }
 
-/// What `seal` makes, where the keys of the secrets are hashed already: `hashed_keys` gives them. Who signs several texts with
-/// the same secrets, or shows the identifiers too, hashes the keys once.
-pub fn seal_as<K: Scheme>(
+/// As `seal`, with the secrets' keys hashed already (`hashed_keys`), for a caller that signs several texts with them or shows
+/// their identifiers.
+pub fn seal_by<K: Scheme>(
     alloc: Global,
     scheme: &K,
     secrets: &[Bytes],
@@ -39,7 +39,7 @@ pub fn seal_as<K: Scheme>(
 ) -> Result<Envelope, AllocError>
     requires fit { IsTrue (list_all (K.rules scheme.now).secret_fits secrets.now) }
     requires number { (1 ≤ length secrets.now) × (length secrets.now ≤ 8) }
-    requires hashed { keys.now ≡ map (hashed_key (K.rules scheme.now)) secrets.now }
+    requires hashed { keys.now ≡ map (key_block (K.rules scheme.now)) secrets.now }
     ensures value { IfOk result (λ e. e ≡ sealed (K.rules scheme.now) secrets.now (string_bytes signed)) }
     ensures limits { IfOk result (λ e. IsTrue (envelope_fits e)) }
 {
@@ -65,7 +65,7 @@ pub fn hashed_keys<K: Scheme>(
     scheme: &K,
     secrets: &[Bytes],
 ) -> Result<Listed<HashedKey>, AllocError>
-    ensures { IfOk result (λ keys. keys ≡ map (hashed_key (K.rules scheme.now)) secrets.now) }
+    ensures { IfOk result (λ keys. keys ≡ map (key_block (K.rules scheme.now)) secrets.now) }
 {
     let mut keys = Vec::with_capacity(alloc, secrets.len())?;
     for secret in secrets {
@@ -80,7 +80,7 @@ pub fn hashed_key_of<K: Scheme>(
     scheme: &K,
     secret: &[u8],
 ) -> Result<HashedKey, AllocError>
-    ensures { IfOk result (λ key. key ≡ hashed_key (K.rules scheme.now) secret.now) }
+    ensures { IfOk result (λ key. key ≡ key_block (K.rules scheme.now) secret.now) }
 {
     let public = scheme.public(alloc, secret)?;
     Ok(HashedKey::new(public.as_slice()))
@@ -95,7 +95,7 @@ fn signature_of<K: Scheme>(
     key: &HashedKey,
 ) -> Result<Signature, AllocError>
     requires fits { IsTrue ((K.rules scheme.now).secret_fits secret.now) }
-    requires hashed { key.now ≡ hashed_key (K.rules scheme.now) secret.now }
+    requires hashed { key.now ≡ key_block (K.rules scheme.now) secret.now }
     ensures { IfOk result (λ s. s ≡ signature_of_secret (K.rules scheme.now) signed.now secret.now) }
 {
     Ok(Signature {

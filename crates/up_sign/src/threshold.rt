@@ -30,7 +30,7 @@ pub fn accepts<K: Scheme>(
 
 /// Whether this one key has signed the envelope, as `accepts` answers of it with a threshold of 1. Who asks about several
 /// envelopes makes the key's `HashedKey` once.
-pub fn accepts_key<K: Scheme>(
+pub fn accepts_by<K: Scheme>(
     scheme: &K,
     key: &HashedKey,
     public: &[u8],
@@ -49,7 +49,7 @@ fn is_satisfied<K: Scheme>(scheme: &K, public: &[u8], envelope: &Envelope) -> bo
     has_signed(scheme, &HashedKey::new(public), public, envelope)
 }
 
-/// Whether the key has signed the envelope, of which what is computed once is known.
+/// Whether the key of the public part has signed the envelope; `key` is what is computed of it once.
 fn has_signed<K: Scheme>(scheme: &K, key: &HashedKey, public: &[u8], envelope: &Envelope) -> bool
     requires { key.now ≡ block_key public.now }
     ensures { result ≡ is_satisfied_of (K.rules scheme.now) envelope.now public.now }

@@ -16,7 +16,6 @@ use up_roles::targets::{TargetsFile, read_targets};
 use up_roles::targets_text::targets_text;
 use up_roles::timestamp::{TimestampFile, read_timestamp, timestamp_text};
 use up_sign::scheme::Scheme;
-use up_sign::seal::hashed_keys;
 
 /// In seconds, how long the files of a repository are valid.
 pub(crate) fn lifetimes(alloc: Global, repository: &str) -> Result<String, AllocError> {
@@ -79,8 +78,7 @@ fn root_written<K: Scheme>(
     requires number { (1 ≤ length secrets.now) × (length secrets.now ≤ 8) }
 {
     if file.fits() {
-        let keys = hashed_keys(alloc, scheme, secrets)?;
-        root_text(alloc, scheme, secrets, keys.as_slice(), file)
+        root_text(alloc, scheme, secrets, file)
     } else {
         "beyond the limits".to_string(alloc)
     }
@@ -131,8 +129,7 @@ fn targets_written<K: Scheme>(
     requires number { (1 ≤ length secrets.now) × (length secrets.now ≤ 8) }
 {
     if file.fits(alloc)? {
-        let keys = hashed_keys(alloc, scheme, secrets)?;
-        targets_text(alloc, scheme, secrets, keys.as_slice(), file)
+        targets_text(alloc, scheme, secrets, file)
     } else {
         "beyond the limits".to_string(alloc)
     }
@@ -183,8 +180,7 @@ fn snapshot_written<K: Scheme>(
     requires number { (1 ≤ length secrets.now) × (length secrets.now ≤ 8) }
 {
     if file.fits() {
-        let keys = hashed_keys(alloc, scheme, secrets)?;
-        snapshot_text(alloc, scheme, secrets, keys.as_slice(), file)
+        snapshot_text(alloc, scheme, secrets, file)
     } else {
         "beyond the limits".to_string(alloc)
     }
@@ -235,8 +231,7 @@ fn timestamp_written<K: Scheme>(
     requires number { (1 ≤ length secrets.now) × (length secrets.now ≤ 8) }
 {
     if file.fits() {
-        let keys = hashed_keys(alloc, scheme, secrets)?;
-        timestamp_text(alloc, scheme, secrets, keys.as_slice(), file)
+        timestamp_text(alloc, scheme, secrets, file)
     } else {
         "beyond the limits".to_string(alloc)
     }

@@ -22,6 +22,6 @@ returns-in-Ok g c = λ k s name computed sound was gives.
     (when_accepted k s name (Accepted rows) rows computed refl (gives clean))))
     c.write_accept-written.ensures.written c.write_accept-written.ensures.durable c.write_accept-written.ensures.kept c.write_accept-written.ensures.crash c.write_accept-written.ensures.clean)
 
-pub returns-in_default : goal.returns-in_default
-returns-in_default g c = λ k s name computed sound was gives.
+pub returns-in-Err : goal.returns-in-Err
+returns-in-Err g c = λ k s name computed sound was gives.
     refused was (reads_none (state g.D.Store c.args.store.now)) (λ clean. tt)

@@ -1,6 +1,6 @@
 use Rattle.std.proofs.Common.{◌≡◌, take, map}
 use Rattle.up_sign.specs.Envelopes.{signature_of}
-use Rattle.up_sign.proofs.seal.seal_as.Given as goal
+use Rattle.up_sign.proofs.seal.seal_by.Given as goal
 
 -- the secrets so far have signed
 abbrev pub invariant-loop-i : goal.invariant-loop-i

@@ -2,7 +2,7 @@ use Rattle.std.proofs.Common.{◌≡◌, ◌∙◌, ap, map, string_bytes}
 use Rattle.std.proofs.lemmas.List.{take_all}
 use Rattle.up_sign.specs.Envelopes.{signature_of}
 use Rattle.up_sign.proofs.Sealed.{sealed_fits}
-use Rattle.up_sign.proofs.seal.seal_as.Goals as goal
+use Rattle.up_sign.proofs.seal.seal_by.Goals as goal
 
 pub returns-clause-limits : goal.returns-clause-limits
 returns-clause-limits g c =

@@ -1,5 +1,5 @@
 use Rattle.up_roles.proofs.Writing.{roles_write, can_seal, is_written}
-use Rattle.up_roles.proofs.targets_text.targets_text.Goals as goal
+use Rattle.up_roles.proofs.targets_text.targets_text_by.Goals as goal
 
 pub sealed_text-requires-clause-canon : goal.sealed_text-requires-clause-canon
 sealed_text-requires-clause-canon g c = can_seal roles_write.targets c.args.file.now _ c.in_ok-payload.ensures.value c.requires.limits c.in_ok-payload.ensures.typed
