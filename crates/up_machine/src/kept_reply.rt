@@ -36,11 +36,12 @@ pub fn reply_in(row: Kept, targets: u32) -> Reply
     requires { targets ≡ length row.plan.assigned }
     ensures { result ≡ reply_kept row }
 {
+    let plan = row.plan;
     Reply {
         vehicle: row.vehicle,
         version: row.version,
         targets,
-        withheld: row.plan.withheld,
+        withheld: plan.withheld,
         text: row.reply,
     }
 }
