@@ -81,7 +81,13 @@ pub fn role_texts<K: Scheme>(
     Ok(RoleTexts {
         targets: signed_targets(alloc, scheme, &keys.targets, &hashed.targets, &targets)?,
         snapshot,
-        timestamp: signed_timestamp(alloc, scheme, &keys.timestamp, &hashed.timestamp, &timestamp)?,
+        timestamp: signed_timestamp(
+            alloc,
+            scheme,
+            &keys.timestamp,
+            &hashed.timestamp,
+            &timestamp,
+        )?,
     })
 }
 

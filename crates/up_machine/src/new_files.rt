@@ -15,8 +15,8 @@ ghost use Rattle.up_machine.specs.RowsFit.{all_can_sign};
 ghost use Rattle.up_machine.specs.State.{Root, State};
 
 use crate::decision::{NextRoot, RegisterRows, RoleTexts, RootRows};
-use crate::image_targets::{image_targets, targets_with};
 use crate::hashed_keys::{HashedKeySet, hashed_roles};
+use crate::image_targets::{image_targets, targets_with};
 use crate::keys::KeySet;
 use crate::making::role_texts;
 use crate::root_making::root_text;

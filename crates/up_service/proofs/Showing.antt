@@ -69,7 +69,7 @@ fault_shown r f computed is = subst (λ q. MatchBool (is_lost_by q) ⊤ (compute
 
 -- of an unknown vehicle
 pub no_vehicle : (vehicle : Name) (s : State) → None ≡ vehicle_rows s vehicle → shown_in s vehicle ≡ Err UnknownVehicle
-unfolding shown_in, and_then
+unfolding shown_in and_then
 no_vehicle vehicle s none = by_vehicle (table.get s.vehicles vehicle) refl none
   where
     by_vehicle : (o : Option Vehicle) → table.get s.vehicles vehicle ≡ o → None ≡ option_map (rows_of vehicle) o → shown_in s vehicle ≡ Err UnknownVehicle
@@ -78,7 +78,7 @@ no_vehicle vehicle s none = by_vehicle (table.get s.vehicles vehicle) refl none
 
 -- the line of a vehicle that is there
 line_there : (s : State) (name : Name) (v : Vehicle) → table.get s.vehicles name ≡ Some v → shown_in s name ≡ Ok (line_of s name (version v.entries) (ecu_names v.ecus))
-unfolding shown_in, and_then
+unfolding shown_in and_then
 line_there s name v there =
     ap (λ (o : Option Vehicle). or_error UnknownVehicle (option_map (λ (v : Vehicle). version v.entries) o)
     >>= (λ number. or_error UnknownVehicle (option_map (λ (v : Vehicle). ecu_names v.ecus) o) >>= (λ ecus. Ok (line_of s name number ecus)))) there
