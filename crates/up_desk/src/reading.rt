@@ -33,8 +33,15 @@ pub fn read_founding<K: Scheme, D: Alter>(
     ensures fits { IfOk result (λ found. IfSome found (λ f. IsTrue (founding_fits_in (K.rules scheme.now) f))) }
 {
     match store.founding(alloc) {
-        Ok(Some(founding)) if !founding_fits(scheme, &founding) => Err(StoreFault::Store),
-        read => read,
+        Ok(Some(founding)) => {
+            if founding_fits(scheme, &founding) {
+                Ok(Some(founding))
+            } else {
+                Err(StoreFault::Store)
+            }
+        }
+        Ok(None) => Ok(None),
+        Err(fault) => Err(fault),
     }
 }
 
@@ -70,7 +77,14 @@ pub fn read_fitting_vehicle<D: Alter>(
     ensures fits { IfOk result (λ found. IfSome found (λ v. IsTrue (rows_fit_in v))) }
 {
     match read_vehicle(store, alloc, name) {
-        Ok(Some(rows)) if !rows_fit(&rows) => Err(StoreFault::Store),
-        read => read,
+        Ok(Some(rows)) => {
+            if rows_fit(&rows) {
+                Ok(Some(rows))
+            } else {
+                Err(StoreFault::Store)
+            }
+        }
+        Ok(None) => Ok(None),
+        Err(fault) => Err(fault),
     }
 }
