@@ -11,7 +11,7 @@ loop-row-init c = c.in_ok-line.ensures ∙ sym (append-nil (vehicle_text c.args.
 
 pub loop-row-preserved : goal.loop-row-preserved
 loop-row-preserved c =
-    row_more c.args.plan.now c.as_slice-ecus.result.now c.loop-row.row-index _ _ _ _ c.loop-row-test.true c.row-item.is c.loop-row.invariant c.in_ok-push_row.ensures
+    row_more c.args.plan.now c.as_slice-ecus.result.now c.loop-row.row-index _ (vehicle_text c.args.rows.now.vehicle.vehicle c.args.rows.now.vehicle.version) _ _ c.loop-row-test.true c.row-item.is c.loop-row.invariant c.in_ok-push_row.ensures
 
 pub returns : goal.returns
 returns c =
