@@ -49,7 +49,7 @@ REFUSED = [
 ]
 
 READS = [
-    "founding",
+    "founding", "founded",
     "file director root.json", "file director 1.root.json", "file image root.json", "file image 2.root.json",
     "file image targets.json", "file image snapshot.json", "file image timestamp.json", "file director targets.json",
     "image x/y.bin", "image a.bin", "images",
@@ -58,9 +58,9 @@ READS = [
     "kept v 3", "kept v 5", "kept w 3", "latest v", "latest w",
 ]
 
-# one of each of the eleven
+# one of each of the twelve
 ONE_OF_EACH = [
-    "founding", "file image timestamp.json", "image x/y.bin", "images", "campaign any", "campaigns v",
+    "founding", "founded", "file image timestamp.json", "image x/y.bin", "images", "campaign any", "campaigns v",
     "vehicle v", "ecus v", "owner a-v", "kept v 3", "latest v",
 ]
 
@@ -120,6 +120,8 @@ class State:
     def read(self, word, *rest):
         if word == "founding":
             return self.founding
+        if word == "founded":
+            return "no" if self.founding == "none" else "yes"
         if word == "images":
             return " ; ".join(row for _, row in sorted(self.images.items())) or "no rows"
         if word == "campaigns":

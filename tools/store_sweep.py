@@ -4,7 +4,7 @@
     store_sweep.py PROGRAM PLACE [EVERY [FIRST [LAST]]]
 
 PLACE is `memory` or `files` (on disks that are memory). The section `each disk call refused` is carried out: each of the eight
-writes, and each of the eleven reads after each. What is told has to be the same whichever call failed: a write that was refused
+writes, and each of the twelve reads after each. What is told has to be the same whichever call failed: a write that was refused
 changed nothing, or stands whole, and goes through when it is made again. Else the program has to end with a message, having told
 nothing.
 """

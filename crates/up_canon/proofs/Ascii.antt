@@ -7,7 +7,8 @@ use Rattle.std.proofs.lemmas.Fmt.{IsAscii-decimal}
 use Rattle.std.proofs.lemmas.Str.{IsAscii-append}
 use Rattle.std.proofs.lemmas.Str.Ascii.{IsAscii-nil, IsAscii-cons}
 use Rattle.serde_json.specs.Data.{unsigned, negative, float, Data, null, boolean, number, string, array, object, Items, no_items, item, Members, no_members, member}
-use Rattle.up_canon.specs.Canon.{max_count, is_printable, is_printable_text, comes_first, is_plain, items_are_plain, members_are_plain, escaped, quoted, text, items_text, more_items_text, members_text, more_members_text}
+use Rattle.up_canon.specs.Canon.{max_count, is_printable, is_printable_text, is_plain, items_are_plain, members_are_plain, escaped, quoted, text, items_text, more_items_text, members_text, more_members_text}
+use Rattle.up_canon.proofs.PlainMembers.{plain_member}
 
 -- one byte more in front
 byte : (b : ℕ) (bs : List ℕ) → nat_le b 127 ≡ true → IsAscii bs → IsAscii (b ∷ bs)
@@ -67,18 +68,14 @@ mutual
   members-ascii : (ms : Members) → members_are_plain ms ≡ true → IsAscii (members_text ms)
   members-ascii no_members h = byte 125 [] refl IsAscii-nil
   members-ascii (member k d ms) h =
-      let p = and_parts (is_printable_text k) _ h in
-      let q = and_parts (comes_first k ms) _ p.1 in
-      let r = and_parts (is_plain d) _ q.1 in
-      IsAscii-append (quoted k) (58 ∷ (text d ++ more_members_text ms)) (quoted-ascii k p.0)
-      (byte 58 (text d ++ more_members_text ms) refl (IsAscii-append (text d) (more_members_text ms) (text-ascii d r.0) (more_members-ascii ms r.1)))
+      let p = plain_member k d ms h in
+      IsAscii-append (quoted k) (58 ∷ (text d ++ more_members_text ms)) (quoted-ascii k p.key)
+      (byte 58 (text d ++ more_members_text ms) refl (IsAscii-append (text d) (more_members_text ms) (text-ascii d p.value) (more_members-ascii ms p.others)))
 
   more_members-ascii : (ms : Members) → members_are_plain ms ≡ true → IsAscii (more_members_text ms)
   more_members-ascii no_members h = byte 125 [] refl IsAscii-nil
   more_members-ascii (member k d ms) h =
-      let p = and_parts (is_printable_text k) _ h in
-      let q = and_parts (comes_first k ms) _ p.1 in
-      let r = and_parts (is_plain d) _ q.1 in
+      let p = plain_member k d ms h in
       byte 44 (quoted k ++ 58 ∷ (text d ++ more_members_text ms)) refl
-      (IsAscii-append (quoted k) (58 ∷ (text d ++ more_members_text ms)) (quoted-ascii k p.0)
-      (byte 58 (text d ++ more_members_text ms) refl (IsAscii-append (text d) (more_members_text ms) (text-ascii d r.0) (more_members-ascii ms r.1))))
+      (IsAscii-append (quoted k) (58 ∷ (text d ++ more_members_text ms)) (quoted-ascii k p.key)
+      (byte 58 (text d ++ more_members_text ms) refl (IsAscii-append (text d) (more_members_text ms) (text-ascii d p.value) (more_members-ascii ms p.others))))

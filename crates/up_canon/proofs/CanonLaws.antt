@@ -24,6 +24,7 @@ use Rattle.serde_json.specs.Written as written
 use Rattle.serde_json.proofs.Numbers.{number_of-decimal}
 use Rattle.serde_json.proofs.Texts.{print-outline}
 use Rattle.up_canon.specs.Canon.{is_printable, is_printable_text, comes_first, is_plain, items_are_plain, members_are_plain, has_canon, escaped, quoted, text, items_text, more_items_text, members_text, more_members_text, PlainIsRead, CanonIsRead, CanonIsInjective, max_count}
+use Rattle.up_canon.proofs.PlainMembers.{plain_member}
 
 -- ---- the text is the one that `serde_json` prints
 
@@ -61,18 +62,14 @@ mutual
   members_text-plain : (ms : Members) → members_are_plain ms ≡ true → written.members_text false ms ≡ members_text ms
   members_text-plain no_members h = refl
   members_text-plain (member k d ms) h =
-      let p = and_parts (is_printable_text k) _ h in
-      let q = and_parts (comes_first k ms) _ p.1 in
-      let r = and_parts (is_plain d) _ q.1 in
-      ap₂ (λ a b. a ++ 58 ∷ b) (quoted-printable k p.0) (ap₂ (λ a b. a ++ b) (compact_text-plain d r.0) (more_members_text-plain ms r.1))
+      let p = plain_member k d ms h in
+      ap₂ (λ a b. a ++ 58 ∷ b) (quoted-printable k p.key) (ap₂ (λ a b. a ++ b) (compact_text-plain d p.value) (more_members_text-plain ms p.others))
 
   more_members_text-plain : (ms : Members) → members_are_plain ms ≡ true → written.members_text true ms ≡ more_members_text ms
   more_members_text-plain no_members h = refl
   more_members_text-plain (member k d ms) h =
-      let p = and_parts (is_printable_text k) _ h in
-      let q = and_parts (comes_first k ms) _ p.1 in
-      let r = and_parts (is_plain d) _ q.1 in
-      ap₂ (λ a b. 44 ∷ (a ++ 58 ∷ b)) (quoted-printable k p.0) (ap₂ (λ a b. a ++ b) (compact_text-plain d r.0) (more_members_text-plain ms r.1))
+      let p = plain_member k d ms h in
+      ap₂ (λ a b. 44 ∷ (a ++ 58 ∷ b)) (quoted-printable k p.key) (ap₂ (λ a b. a ++ b) (compact_text-plain d p.value) (more_members_text-plain ms p.others))
 
 -- ---- its tokens are those of the value
 
@@ -97,10 +94,8 @@ mutual
   MembersHaveNumbers-outline : (ms : Members) → members_are_plain ms ≡ true → MembersHaveNumbers (members_outline ms)
   MembersHaveNumbers-outline no_members h = tt
   MembersHaveNumbers-outline (member k d ms) h =
-      let p = and_parts (is_printable_text k) _ h in
-      let q = and_parts (comes_first k ms) _ p.1 in
-      let r = and_parts (is_plain d) _ q.1 in
-      (HasNumbers-outline d r.0, MembersHaveNumbers-outline ms r.1)
+      let p = plain_member k d ms h in
+      (HasNumbers-outline d p.value, MembersHaveNumbers-outline ms p.others)
 
 mutual
   depth-outline : (d : Data) → tree.depth (outline d) ≡ depth d
@@ -196,11 +191,9 @@ mutual
   of_members-outline : (found ms : Members) → members_are_plain ms ≡ true → AreBelowAll found ms → of_members (members_outline ms) found ≡ Some (then_members found ms)
   of_members-outline found no_members h below = ap Some (sym (then_none found))
   of_members-outline found (member k d ms) h below =
-      let p = and_parts (is_printable_text k) _ h in
-      let q = and_parts (comes_first k ms) _ p.1 in
-      let r = and_parts (is_plain d) _ q.1 in
-      rw (of_json-outline d r.0, put-above found k d below)
-      (of_members-outline (then_members found (member k d no_members)) ms r.1 (AreBelowAll-next found ms k d below q.0) ∙ ap Some (regroup found ms k d))
+      let p = plain_member k d ms h in
+      rw (of_json-outline d p.value, put-above found k d below)
+      (of_members-outline (then_members found (member k d no_members)) ms p.others (AreBelowAll-next found ms k d below p.first) ∙ ap Some (regroup found ms k d))
 
 -- ---- the laws
 

@@ -3,10 +3,11 @@ use Rattle.std.proofs.Common.{◌≡◌, ℕ, List, Bool, true, false, ◌||◌,
 use Rattle.std.proofs.lemmas.Bool.{and_parts}
 use Rattle.serde_json.specs.Data.{unsigned, negative, float, Data, null, boolean, number, string, array, object, Items, no_items, item, Members, no_members, member}
 use Rattle.serde_json.specs.Written.{has_float, items_have_float, members_have_float, compact_text}
-use Rattle.up_canon.specs.Canon.{has_canon, is_plain, items_are_plain, members_are_plain, is_printable_text, comes_first, text}
+use Rattle.up_canon.specs.Canon.{has_canon, is_plain, items_are_plain, members_are_plain, text}
 use Rattle.up_canon.specs.Refusals.{canonical_text}
 use Rattle.up_canon.specs.declared.refusal.Refusal.TheVariants.{NotCanonical}
 use Rattle.up_canon.proofs.CanonLaws.{compact_text-plain}
+use Rattle.up_canon.proofs.PlainMembers.{plain_member}
 
 neither : (a b : Bool) → a ≡ false → b ≡ false → (a || b) ≡ false
 neither a b p q = rw p q
@@ -29,10 +30,8 @@ mutual
   no_member_floats : (ms : Members) → members_are_plain ms ≡ true → members_have_float ms ≡ false
   no_member_floats no_members h = refl
   no_member_floats (member k d ms) h =
-      let p = and_parts (is_printable_text k) _ h in
-      let q = and_parts (comes_first k ms) _ p.1 in
-      let r = and_parts (is_plain d) _ q.1 in
-      neither (has_float d) (members_have_float ms) (no_float d r.0) (no_member_floats ms r.1)
+      let p = plain_member k d ms h in
+      neither (has_float d) (members_have_float ms) (no_float d p.value) (no_member_floats ms p.others)
 
 -- what is printed of a value with a canonical text
 pub printed : (d : Data) (t : List ℕ) → has_canon d ≡ true → (has_float d ≡ false → t ≡ compact_text d) → t ≡ text d

@@ -58,41 +58,22 @@ module _ {F : Refusal → Type 0} (law : AllowsShapes F) where
       by_test true = record { allowed = λ e h. cc }
       by_test false = record { allowed = λ e h. let same : BadShape name ≡ e = cc in subst F same (law.shape name) }
 
+  shape_fails : {A : Type 0} (name : List ℕ) (o : Option A) → Fails F (or_error (BadShape name) o)
+  shape_fails name o = or_error_fails (BadShape name) o (law.shape name)
+
   pub member_fails : (name : List ℕ) (d : Data) → Fails F (member_in name d)
   unfolding member_in
-  member_fails name d = or_error_fails (BadShape name) _ (law.shape name)
+  member_fails name d = shape_fails name _
 
   pub self_fails : (name : List ℕ) (d : Data) → Fails F (object_of name d)
   unfolding object_of
-  self_fails name d = or_error_fails (BadShape name) _ (law.shape name)
+  self_fails name d = shape_fails name _
+
+  -- a text of that name, and those that pass a test
 
   pub text_fails : (name : List ℕ) (d : Data) → Fails F (text_in name d)
   unfolding text_in text_of
-  text_fails name d = then_fails _ _ (member_fails name d) (λ v. or_error_fails (BadShape name) _ (law.shape name))
-
-  pub count_fails : (name : List ℕ) (d : Data) → Fails F (count_in name d)
-  unfolding count_in count_of
-  count_fails name d = then_fails _ _ (member_fails name d) (λ v. or_error_fails (BadShape name) _ (law.shape name))
-
-  pub list_fails : (name : List ℕ) (d : Data) → Fails F (list_in name d)
-  unfolding list_in list_of
-  list_fails name d = then_fails _ _ (member_fails name d) (λ v. or_error_fails (BadShape name) _ (law.shape name))
-
-  pub object_fails : (name : List ℕ) (d : Data) → Fails F (object_in name d)
-  unfolding object_in object_of
-  object_fails name d = then_fails _ _ (member_fails name d) (λ v. or_error_fails (BadShape name) _ (law.shape name))
-
-  pub ident_fails : (name : List ℕ) (d : Data) → Fails F (ident_in name d)
-  unfolding ident_in ident_of text_of
-  ident_fails name d = then_fails _ _ (member_fails name d) (λ v. then_fails _ _ (or_error_fails (BadShape name) _ (law.shape name)) (λ t. fitting_fails is_ident name t))
-
-  pub file_name_fails : (name : List ℕ) (d : Data) → Fails F (file_name_in name d)
-  unfolding file_name_in file_name_of text_of
-  file_name_fails name d = then_fails _ _ (member_fails name d) (λ v. then_fails _ _ (or_error_fails (BadShape name) _ (law.shape name)) (λ t. fitting_fails is_file_name name t))
-
-  pub note_fails : (name : List ℕ) (d : Data) → Fails F (note_in name d)
-  unfolding note_in note_of text_of
-  note_fails name d = then_fails _ _ (member_fails name d) (λ v. then_fails _ _ (or_error_fails (BadShape name) _ (law.shape name)) (λ t. fitting_fails is_note name t))
+  text_fails name d = then_fails _ _ (member_fails name d) (λ v. shape_fails name _)
 
   pub word_fails : (word name : List ℕ) (d : Data) → Fails F (word_in word name d)
   unfolding word_in
@@ -102,17 +83,53 @@ module _ {F : Refusal → Type 0} (law : AllowsShapes F) where
   unfolding short_text_in
   short_text_fails least most name d = then_fails _ _ (text_fails name d) (λ t. fitting_fails (is_short_text least most) name t)
 
+  pub moment_fails : (name : List ℕ) (d : Data) → Fails F (moment_in name d)
+  unfolding moment_in
+  moment_fails name d = then_fails _ _ (text_fails name d) (λ t. shape_fails name _)
+
+  name_fails : (fits : List ℕ → Bool) (name : List ℕ) (d : Data) → Fails F (member_in name d >>= λ v. text_of name v >>= λ t. fitting fits name t)
+  unfolding text_of
+  name_fails fits name d = then_fails _ _ (member_fails name d) (λ v. then_fails _ _ (shape_fails name _) (λ t. fitting_fails fits name t))
+
+  pub ident_fails : (name : List ℕ) (d : Data) → Fails F (ident_in name d)
+  unfolding ident_in ident_of
+  ident_fails = name_fails is_ident
+
+  pub file_name_fails : (name : List ℕ) (d : Data) → Fails F (file_name_in name d)
+  unfolding file_name_in file_name_of
+  file_name_fails = name_fails is_file_name
+
+  pub note_fails : (name : List ℕ) (d : Data) → Fails F (note_in name d)
+  unfolding note_in note_of
+  note_fails = name_fails is_note
+
+  -- a count, a list, an object
+
+  pub count_fails : (name : List ℕ) (d : Data) → Fails F (count_in name d)
+  unfolding count_in count_of
+  count_fails name d = then_fails _ _ (member_fails name d) (λ v. shape_fails name _)
+
   pub positive_fails : (name : List ℕ) (d : Data) → Fails F (positive_in name d)
   unfolding positive_in
   positive_fails name d = then_fails _ _ (count_fails name d) (λ n. fitting_fails (nat_le 1) name n)
+
+  pub list_fails : (name : List ℕ) (d : Data) → Fails F (list_in name d)
+  unfolding list_in list_of
+  list_fails name d = then_fails _ _ (member_fails name d) (λ v. shape_fails name _)
 
   pub list_within_fails : (least most : ℕ) (name : List ℕ) (d : Data) → Fails F (list_within least most name d)
   unfolding list_within
   list_within_fails least most name d = then_fails _ _ (list_fails name d) (λ ds. fitting_fails (λ x. is_from_to least most (length x)) name ds)
 
+  pub object_fails : (name : List ℕ) (d : Data) → Fails F (object_in name d)
+  unfolding object_in object_of
+  object_fails name d = then_fails _ _ (member_fails name d) (λ v. shape_fails name _)
+
+  -- hexadecimal text
+
   pub hex_of_fails : (least most : ℕ) (name : List ℕ) (d : Data) → Fails F (hex_of least most name d)
   unfolding hex_of text_of
-  hex_of_fails least most name d = then_fails _ _ (or_error_fails (BadShape name) _ (law.shape name)) (λ t. then_fails _ _ (fitting_fails (λ x. is_from_to least most (length x)) name t) (λ digits. or_error_fails (BadShape name) (value_of (decode_of digits)) (law.shape name)))
+  hex_of_fails least most name d = then_fails _ _ (shape_fails name _) (λ t. then_fails _ _ (fitting_fails (λ x. is_from_to least most (length x)) name t) (λ digits. shape_fails name (value_of (decode_of digits))))
 
   pub hex_fails : (least most : ℕ) (name : List ℕ) (d : Data) → Fails F (hex_in least most name d)
   unfolding hex_in
@@ -121,10 +138,6 @@ module _ {F : Refusal → Type 0} (law : AllowsShapes F) where
   pub sha256_fails : (name : List ℕ) (d : Data) → Fails F (sha256_in name d)
   unfolding sha256_in
   sha256_fails name d = then_fails _ _ (member_fails name d) (λ v. hex_of_fails 64 64 name v)
-
-  pub moment_fails : (name : List ℕ) (d : Data) → Fails F (moment_in name d)
-  unfolding moment_in
-  moment_fails name d = then_fails _ _ (text_fails name d) (λ t. or_error_fails (BadShape name) _ (law.shape name))
 
 -- ---- bytes
 

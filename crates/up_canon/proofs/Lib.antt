@@ -1,3 +1,4 @@
+pub mod PlainMembers
 pub mod CanonLaws
 pub mod Days
 pub mod MomentTexts

@@ -12,7 +12,7 @@ use Rattle.up_canon.specs.Moments.{read_moment}
 use Rattle.up_canon.specs.HexText.{hex_of, hex_in, sha256_in}
 use Rattle.up_canon.specs.Members.{items_list, text_of, count_of, list_of, object_of, member_in, text_in, count_in, list_in, object_in}
 use Rattle.up_canon.specs.Readers.{fitting, ident_of, file_name_of, note_of, ident_in, file_name_in, note_in, word_in, short_text_in, positive_in, list_within, moment_in}
-use Rattle.up_canon.specs.Steps.{or_error, if_passes, value_of}
+use Rattle.up_canon.specs.Steps.{◌>>=◌, or_error, if_passes, value_of}
 use Rattle.up_canon.specs.declared.refusal.Refusal.TheVariants.{BadShape}
 use Rattle.up_canon.specs.Meaning.{HasText, HasCount, HasObject, HasHex}
 use Rattle.up_canon.proofs.Steps.{first_ok, bind-ok, or_error_ok, unless_ok, value_of_some, passed}
@@ -120,32 +120,39 @@ fits_read fits name x y h = let p = passed (fits x) x y _ h in (subst (λ z. fit
 pub fits_there : {A : Type 0} (fits : A → Bool) (name : List ℕ) (x : A) → fits x ≡ true → fitting fits name x ≡ Ok x
 fits_there fits name x h = rw h
 
-pub ident_read : (name : List ℕ) (d : Data) (t : Name) → ident_in name d ≡ Ok t → HasText d name t × (is_ident t ≡ true)
-unfolding ident_in member_in ident_of text_of
-ident_read name d t h = first_ok _ _ _ _ h (λ v has h. first_ok _ _ _ _ h (λ s is h. let p = fits_read is_ident name s t h in
+-- a text of that name that passes a test
+fitting_read : (fits : List ℕ → Bool) (name : List ℕ) (d : Data) (t : List ℕ) → (member_in name d >>= λ v. text_of name v >>= λ s. fitting fits name s) ≡ Ok t → HasText d name t × (fits t ≡ true)
+unfolding member_in text_of
+fitting_read fits name d t h = first_ok _ _ _ _ h (λ v has h. first_ok _ _ _ _ h (λ s is h. let p = fits_read fits name s t h in
     (subst (HasText d name) p.1 (or_error_ok _ _ v has ∙ ap Some (is_text v s (or_error_ok _ _ s is))), p.0)))
 
-pub ident_there : (name : List ℕ) (d : Data) (t : Name) → HasText d name t → is_ident t ≡ true → ident_in name d ≡ Ok t
-unfolding ident_in member_in ident_of text_of
-ident_there name d t has ok = bind-ok _ _ (string t) (rw has) ∙ bind-ok _ _ t refl ∙ fits_there is_ident name t ok
+fitting_there : (fits : List ℕ → Bool) (name : List ℕ) (d : Data) (t : List ℕ) → HasText d name t → fits t ≡ true → (member_in name d >>= λ v. text_of name v >>= λ s. fitting fits name s) ≡ Ok t
+unfolding member_in text_of
+fitting_there fits name d t has ok = bind-ok _ _ (string t) (rw has) ∙ bind-ok _ _ t refl ∙ fits_there fits name t ok
+
+pub ident_read : (name : List ℕ) (d : Data) (t : Name) → ident_in name d ≡ Ok t → HasText d name t × (is_ident t ≡ true)
+unfolding ident_in ident_of
+ident_read = fitting_read is_ident
 
 pub file_name_read : (name : List ℕ) (d : Data) (t : Name) → file_name_in name d ≡ Ok t → HasText d name t × (is_file_name t ≡ true)
-unfolding file_name_in member_in file_name_of text_of
-file_name_read name d t h = first_ok _ _ _ _ h (λ v has h. first_ok _ _ _ _ h (λ s is h. let p = fits_read is_file_name name s t h in
-    (subst (HasText d name) p.1 (or_error_ok _ _ v has ∙ ap Some (is_text v s (or_error_ok _ _ s is))), p.0)))
-
-pub file_name_there : (name : List ℕ) (d : Data) (t : Name) → HasText d name t → is_file_name t ≡ true → file_name_in name d ≡ Ok t
-unfolding file_name_in member_in file_name_of text_of
-file_name_there name d t has ok = bind-ok _ _ (string t) (rw has) ∙ bind-ok _ _ t refl ∙ fits_there is_file_name name t ok
+unfolding file_name_in file_name_of
+file_name_read = fitting_read is_file_name
 
 pub note_read : (name : List ℕ) (d : Data) (t : Name) → note_in name d ≡ Ok t → HasText d name t × (is_note t ≡ true)
-unfolding note_in member_in note_of text_of
-note_read name d t h = first_ok _ _ _ _ h (λ v has h. first_ok _ _ _ _ h (λ s is h. let p = fits_read is_note name s t h in
-    (subst (HasText d name) p.1 (or_error_ok _ _ v has ∙ ap Some (is_text v s (or_error_ok _ _ s is))), p.0)))
+unfolding note_in note_of
+note_read = fitting_read is_note
+
+pub ident_there : (name : List ℕ) (d : Data) (t : Name) → HasText d name t → is_ident t ≡ true → ident_in name d ≡ Ok t
+unfolding ident_in ident_of
+ident_there = fitting_there is_ident
+
+pub file_name_there : (name : List ℕ) (d : Data) (t : Name) → HasText d name t → is_file_name t ≡ true → file_name_in name d ≡ Ok t
+unfolding file_name_in file_name_of
+file_name_there = fitting_there is_file_name
 
 pub note_there : (name : List ℕ) (d : Data) (t : Name) → HasText d name t → is_note t ≡ true → note_in name d ≡ Ok t
-unfolding note_in member_in note_of text_of
-note_there name d t has ok = bind-ok _ _ (string t) (rw has) ∙ bind-ok _ _ t refl ∙ fits_there is_note name t ok
+unfolding note_in note_of
+note_there = fitting_there is_note
 
 pub word_read : (word name : List ℕ) (d : Data) → word_in word name d ≡ Ok tt → HasText d name word
 unfolding word_in

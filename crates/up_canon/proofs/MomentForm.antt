@@ -26,17 +26,15 @@ digit b h = grind (arith, nat_tests)
 sign : (s b : ℕ) → (s == 48) ≡ false → fits_sign s b ≡ true → b ≡ s
 sign s b other h = let e : (b == s) ≡ true = rw other at h in grind (arith, nat_tests)
 
-tens : (a b : ℕ) → (48 ≤ a) × (a ≤ 57) → (48 ≤ b) × (b ≤ 57) → 48 + ((a - 48) * 10 + (b - 48)) / 10 ≡ a
-tens a b h k = omega arith
+-- two digits are those of the number that they spell
+pair : (a b : ℕ) → fits_sign 48 a ≡ true → fits_sign 48 b ≡ true → (48 + ((a - 48) * 10 + (b - 48)) / 10 ≡ a) × (48 + ((a - 48) * 10 + (b - 48)) % 10 ≡ b)
+pair a b h k = let x = digit a h in let y = digit b k in (omega arith, omega arith)
 
-ones : (a b : ℕ) → (48 ≤ a) × (a ≤ 57) → (48 ≤ b) × (b ≤ 57) → 48 + ((a - 48) * 10 + (b - 48)) % 10 ≡ b
-ones a b h k = omega arith
+century : (a b c d : ℕ) → fits_sign 48 c ≡ true → fits_sign 48 d ≡ true → (((a - 48) * 10 + (b - 48)) * 100 + ((c - 48) * 10 + (d - 48))) / 100 ≡ (a - 48) * 10 + (b - 48)
+century a b c d h k = let x = digit c h in let y = digit d k in omega arith
 
-century : (a b c d : ℕ) → (48 ≤ c) × (c ≤ 57) → (48 ≤ d) × (d ≤ 57) → (((a - 48) * 10 + (b - 48)) * 100 + ((c - 48) * 10 + (d - 48))) / 100 ≡ (a - 48) * 10 + (b - 48)
-century a b c d h k = omega arith
-
-in_century : (a b c d : ℕ) → (48 ≤ c) × (c ≤ 57) → (48 ≤ d) × (d ≤ 57) → (((a - 48) * 10 + (b - 48)) * 100 + ((c - 48) * 10 + (d - 48))) % 100 ≡ (c - 48) * 10 + (d - 48)
-in_century a b c d h k = omega arith
+in_century : (a b c d : ℕ) → fits_sign 48 c ≡ true → fits_sign 48 d ≡ true → (((a - 48) * 10 + (b - 48)) * 100 + ((c - 48) * 10 + (d - 48))) % 100 ≡ (c - 48) * 10 + (d - 48)
+in_century a b c d h k = let x = digit c h in let y = digit d k in omega arith
 
 pub form_is_spelled : (t : List ℕ) → has_form t ≡ true → t ≡ spelled_text t
 form_is_spelled (d0 ∷ d1 ∷ d2 ∷ d3 ∷ p4 ∷ d5 ∷ d6 ∷ p7 ∷ d8 ∷ d9 ∷ p10 ∷ d11 ∷ d12 ∷ p13 ∷ d14 ∷ d15 ∷ p16 ∷ d17 ∷ d18 ∷ p19 ∷ []) h =
@@ -60,27 +58,14 @@ form_is_spelled (d0 ∷ d1 ∷ d2 ∷ d3 ∷ p4 ∷ d5 ∷ d6 ∷ p7 ∷ d8 ∷ 
     let h17 = and_parts _ _ h16.1 in
     let h18 = and_parts _ _ h17.1 in
     let h19 = and_parts _ _ h18.1 in
-    let f0 = digit d0 h0.0 in
-    let f1 = digit d1 h1.0 in
-    let f2 = digit d2 h2.0 in
-    let f3 = digit d3 h3.0 in
-    let f4 = sign 45 p4 refl h4.0 in
-    let f5 = digit d5 h5.0 in
-    let f6 = digit d6 h6.0 in
-    let f7 = sign 45 p7 refl h7.0 in
-    let f8 = digit d8 h8.0 in
-    let f9 = digit d9 h9.0 in
-    let f10 = sign 84 p10 refl h10.0 in
-    let f11 = digit d11 h11.0 in
-    let f12 = digit d12 h12.0 in
-    let f13 = sign 58 p13 refl h13.0 in
-    let f14 = digit d14 h14.0 in
-    let f15 = digit d15 h15.0 in
-    let f16 = sign 58 p16 refl h16.0 in
-    let f17 = digit d17 h17.0 in
-    let f18 = digit d18 h18.0 in
-    let f19 = sign 90 p19 refl h19.0 in
-    rw (century d0 d1 d2 d3 f2 f3, in_century d0 d1 d2 d3 f2 f3, tens d0 d1 f0 f1, ones d0 d1 f0 f1, tens d2 d3 f2 f3, ones d2 d3 f2 f3, tens d5 d6 f5 f6, ones d5 d6 f5 f6, tens d8 d9 f8 f9, ones d8 d9 f8 f9, tens d11 d12 f11 f12, ones d11 d12 f11 f12, tens d14 d15 f14 f15, ones d14 d15 f14 f15, tens d17 d18 f17 f18, ones d17 d18 f17 f18, f4, f7, f10, f13, f16, f19) refl
+    let high_year = pair d0 d1 h0.0 h1.0 in
+    let low_year = pair d2 d3 h2.0 h3.0 in
+    let month = pair d5 d6 h5.0 h6.0 in
+    let day = pair d8 d9 h8.0 h9.0 in
+    let hour = pair d11 d12 h11.0 h12.0 in
+    let minute = pair d14 d15 h14.0 h15.0 in
+    let second = pair d17 d18 h17.0 h18.0 in
+    rw (century d0 d1 d2 d3 h2.0 h3.0, in_century d0 d1 d2 d3 h2.0 h3.0, high_year.0, high_year.1, low_year.0, low_year.1, month.0, month.1, day.0, day.1, hour.0, hour.1, minute.0, minute.1, second.0, second.1, sign 45 p4 refl h4.0, sign 45 p7 refl h7.0, sign 84 p10 refl h10.0, sign 58 p13 refl h13.0, sign 58 p16 refl h16.0, sign 90 p19 refl h19.0) refl
 form_is_spelled t h = absurd (omega (arith, pointwise_long fits_sign signs t h))
 
 -- ---- what has the form, and parts that are those of a moment

@@ -1,9 +1,16 @@
 -- What the members of a JSON value mean, as relations: which member of a name it has.
-use Rattle.std.specs.Prelude.{◌≡◌, ℕ, ◌≤◌, List, [], ◌∷◌, length, Some, Ok, ⊤}
+use Rattle.std.specs.Prelude.{◌≡◌, ℕ, ◌≤◌, List, [], ◌∷◌, length, Some, Ok, ⊤, IsUtf8}
 use Rattle.hex.specs.Hex.{decode_of}
 use Rattle.serde_json.specs.Data.{unsigned, Data, number, string, object, Items, no_items, item, Members}
 use Rattle.serde_json.specs.Find as json
+use Rattle.serde_json.specs.Read.{read}
 use Rattle.up_canon.specs.Canon.{max_count}
+
+-- the bytes, no more than so many, are the text of the JSON value
+pub record MeansValue (most : ℕ) (bytes : List ℕ) (value : Data) : Type 0 where
+  pub small : length bytes ≤ most
+  pub utf8 : IsUtf8 bytes
+  pub reads : read bytes ≡ Some value
 
 -- the member of that name is the text
 abbrev pub HasText : Data → List ℕ → List ℕ → Type 0

@@ -51,26 +51,22 @@ object_of name d = or_error (BadShape name) (option_map object (json.as_object d
 unfoldable pub member_in : List ℕ → Data → Result Data Refusal
 member_in name d = or_error (BadShape name) (json.get name d)
 
--- a text of that name
+-- what the value of that name is read as
+abbrev pub member_as : {A : Type 0} → (List ℕ → Data → Result A Refusal) → List ℕ → Data → Result A Refusal
+member_as reader name d = do
+  value ← member_in name d
+  reader name value
+
+-- a text, a count, a list, an object of that name
+
 unfoldable pub text_in : List ℕ → Data → Result (List ℕ) Refusal
-text_in name d = do
-  value ← member_in name d
-  text_of name value
+text_in = member_as text_of
 
--- a count of that name
 unfoldable pub count_in : List ℕ → Data → Result ℕ Refusal
-count_in name d = do
-  value ← member_in name d
-  count_of name value
+count_in = member_as count_of
 
--- a list of that name
 unfoldable pub list_in : List ℕ → Data → Result (List Data) Refusal
-list_in name d = do
-  value ← member_in name d
-  list_of name value
+list_in = member_as list_of
 
--- an object of that name
 unfoldable pub object_in : List ℕ → Data → Result Data Refusal
-object_in name d = do
-  value ← member_in name d
-  object_of name value
+object_in = member_as object_of

@@ -1,7 +1,7 @@
 -- Members within limits: names, short texts, counts from 1, moments.
 use Rattle.std.specs.Prelude.{ℕ, List, Bool, nat_le, length, bytes_eq, if◌then◌else◌, ⊤, Result, Ok, Err}
 use Rattle.serde_json.specs.Data.{Data}
-use Rattle.up_canon.specs.Members.{member_in, text_of, text_in, count_in, list_in}
+use Rattle.up_canon.specs.Members.{member_as, text_of, text_in, count_in, list_in}
 use Rattle.up_canon.specs.Moments.{read_moment}
 use Rattle.up_canon.specs.Names.{Name, is_from_to, is_ident, is_file_name, is_note, is_short_text}
 use Rattle.up_canon.specs.Steps.{◌>>=◌, or_error, unless}
@@ -14,41 +14,35 @@ fitting fits name x = if fits x then Ok x else Err (BadShape name)
 
 -- ---- names
 
+-- a text that passes the test
+abbrev pub text_fitting : (List ℕ → Bool) → List ℕ → Data → Result Name Refusal
+text_fitting fits name d = do
+  text ← text_of name d
+  fitting fits name text
+
 -- a text that is an identifier
 unfoldable pub ident_of : List ℕ → Data → Result Name Refusal
-ident_of name d = do
-  text ← text_of name d
-  fitting is_ident name text
+ident_of = text_fitting is_ident
 
 -- a text that is a filename
 unfoldable pub file_name_of : List ℕ → Data → Result Name Refusal
-file_name_of name d = do
-  text ← text_of name d
-  fitting is_file_name name text
+file_name_of = text_fitting is_file_name
 
 -- a text that is a note
 unfoldable pub note_of : List ℕ → Data → Result Name Refusal
-note_of name d = do
-  text ← text_of name d
-  fitting is_note name text
+note_of = text_fitting is_note
 
 -- an identifier of that name
 unfoldable pub ident_in : List ℕ → Data → Result Name Refusal
-ident_in name d = do
-  value ← member_in name d
-  ident_of name value
+ident_in = member_as ident_of
 
 -- a filename of that name
 unfoldable pub file_name_in : List ℕ → Data → Result Name Refusal
-file_name_in name d = do
-  value ← member_in name d
-  file_name_of name value
+file_name_in = member_as file_name_of
 
 -- a note of that name
 unfoldable pub note_in : List ℕ → Data → Result Name Refusal
-note_in name d = do
-  value ← member_in name d
-  note_of name value
+note_in = member_as note_of
 
 -- ---- other members within limits
 

@@ -1,5 +1,5 @@
 -- The reach and the items of a campaign have canonical texts, and are read again.
-use Rattle.std.proofs.Common.{◌≡◌, ℕ, List, [], ◌∷◌, true, Ok, map, refl, ◌∙◌, arith}
+use Rattle.std.proofs.Common.{◌≡◌, ℕ, List, true, Ok, map, refl, ◌∙◌, arith}
 use Rattle.std.specs.Prelude.{codes}
 use Rattle.std.specs.List.{list_all}
 use Rattle.std.proofs.lemmas.Bool.{and_parts}
@@ -10,7 +10,7 @@ use Rattle.up_canon.specs.Members.{items_list, object_of, list_of}
 use Rattle.up_canon.specs.Names.{is_ident}
 use Rattle.up_canon.specs.Readers.{ident_of}
 use Rattle.up_canon.proofs.Members.{ident_there, file_name_there}
-use Rattle.up_canon.proofs.PlainValues.{IsPlain, plain-object}
+use Rattle.up_canon.proofs.PlainValues.{IsPlain}
 use Rattle.up_canon.proofs.Steps.{bind-ok}
 use Rattle.up_plan.specs.declared.campaign.Item.{Item}
 use Rattle.up_plan.specs.declared.campaign.Reach.{Reach}
@@ -18,6 +18,7 @@ use Rattle.up_plan.specs.declared.campaign.Reach.TheVariants.{All, Named}
 use Rattle.up_columns.specs.CampaignColumns.{reach_data, reach_column, named_of, reach_of, reach_in, item_data, item_of, items_data, items_column, campaign_items_in}
 use Rattle.up_columns.specs.Typed.{is_typed_item, is_typed_reach}
 use Rattle.up_columns.proofs.NamesRead.{ident-plain, file_name-plain, ident-there, names-canon}
+use Rattle.up_columns.proofs.Pairs.{two-plain, two-there}
 use Rattle.up_columns.proofs.Texts.{text-there, list-canon, list-there, items-there}
 
 -- ---- items
@@ -25,16 +26,12 @@ use Rattle.up_columns.proofs.Texts.{text-there, list-canon, list-there, items-th
 item-plain : (item : Item) → is_typed_item item ≡ true → IsPlain 1 (item_data item)
 item-plain item h =
     let p = and_parts (is_ident item.hardware) _ h in
-    plain-object 0 ((codes "file", string item.file) ∷ (codes "hardware", string item.hardware) ∷ []) (refl, file_name-plain item.file p.1, (refl, ident-plain item.hardware p.0, tt))
+    two-plain (codes "file") (codes "hardware") _ _ refl refl (file_name-plain item.file p.1) (ident-plain item.hardware p.0)
 
 item-there : (name : List ℕ) (item : Item) → is_typed_item item ≡ true → item_of name (item_data item) ≡ Ok item
 unfolding item_of object_of
 item-there name item h =
-    let p = and_parts (is_ident item.hardware) _ h in
-    let d = item_data item in
-    bind-ok _ _ d refl
-    ∙ bind-ok _ _ item.hardware (ident_there (codes "hardware") d item.hardware refl p.0)
-    ∙ bind-ok _ _ item.file (file_name_there (codes "file") d item.file refl p.1)
+    two-there (is_ident item.hardware) _ name (item_data item) _ _ _ _ _ refl h (λ p. ident_there (codes "hardware") (item_data item) item.hardware refl p) (λ p. file_name_there (codes "file") (item_data item) item.file refl p)
 
 pub items-canon : (items : List Item) → list_all is_typed_item items ≡ true → has_canon (items_data items) ≡ true
 items-canon items h = list-canon 1 is_typed_item item_data (omega arith) item-plain items h

@@ -3,12 +3,14 @@ use Rattle.std.proofs.Common.{◌≡◌, ℕ, List, [], ◌∷◌, true, Option,
 use Rattle.std.specs.Prelude.{codes}
 use Rattle.std.specs.List.{list_all}
 use Rattle.std.proofs.lemmas.Bool.{and_parts}
-use Rattle.serde_json.specs.Data.{string}
+use Rattle.serde_json.specs.Data.{Data}
+use Rattle.serde_json.specs.Find as json
 use Rattle.serde_json.specs.View.{items_of}
 use Rattle.up_canon.specs.Build.{list_with}
 use Rattle.up_canon.specs.Canon.{CanonIsRead, has_canon}
+use Rattle.up_canon.specs.Meaning.{HasText}
 use Rattle.up_canon.specs.Members.{items_list, object_of, member_in}
-use Rattle.up_canon.specs.Names.{is_ident}
+use Rattle.up_canon.specs.Names.{Name, is_ident}
 use Rattle.up_canon.proofs.Members.{ident_there, file_name_there, list_there}
 use Rattle.up_canon.proofs.PlainValues.{IsPlain, plain-object, plain-list, all-plain, plain-canon, deeper}
 use Rattle.up_canon.proofs.Steps.{bind-ok}
@@ -19,6 +21,7 @@ use Rattle.up_plan.specs.declared.assigned.Plan.{Plan}
 use Rattle.up_columns.specs.PlanColumns.{assigned_data, assigned_of, assigned_in, cause_data, demand_of, cause_of, some_cause_of, withheld_of, withheld_in, plan_data, plan_column, plan_of, plan_in}
 use Rattle.up_columns.specs.Typed.{is_typed_assigned, is_typed_cause, is_typed_plan}
 use Rattle.up_columns.proofs.NamesRead.{ident-plain, file_name-plain, ident-there}
+use Rattle.up_columns.proofs.Pairs.{two-plain, two-there}
 use Rattle.up_columns.proofs.Texts.{text-there, list-there}
 
 -- ---- it has a canonical text
@@ -26,16 +29,16 @@ use Rattle.up_columns.proofs.Texts.{text-there, list-there}
 assigned-plain : (a : Assigned) → is_typed_assigned a ≡ true → IsPlain 1 (assigned_data a)
 assigned-plain a h =
     let p = and_parts (is_ident a.ecu) _ h in
-    plain-object 0 ((codes "ecu", string a.ecu) ∷ (codes "file", string a.file) ∷ []) (refl, ident-plain a.ecu p.0, (refl, file_name-plain a.file p.1, tt))
+    two-plain (codes "ecu") (codes "file") _ _ refl refl (ident-plain a.ecu p.0) (file_name-plain a.file p.1)
 
 cause-plain : (cause : Option Cause) → is_typed_cause cause ≡ true → IsPlain 1 (cause_data cause)
 cause-plain None h = record { plain = refl; shallow = omega arith }
 cause-plain (Some (Need ecu hardware)) h =
     let p = and_parts (is_ident ecu) _ h in
-    plain-object 0 ((codes "ecu", string ecu) ∷ (codes "hardware", string hardware) ∷ []) (refl, ident-plain ecu p.0, (refl, ident-plain hardware p.1, tt))
+    two-plain (codes "ecu") (codes "hardware") _ _ refl refl (ident-plain ecu p.0) (ident-plain hardware p.1)
 cause-plain (Some (Conflict ecu file)) h =
     let p = and_parts (is_ident ecu) _ h in
-    plain-object 0 ((codes "ecu", string ecu) ∷ (codes "file", string file) ∷ []) (refl, ident-plain ecu p.0, (refl, file_name-plain file p.1, tt))
+    two-plain (codes "ecu") (codes "file") _ _ refl refl (ident-plain ecu p.0) (file_name-plain file p.1)
 
 pub plan-canon : (plan : Plan) → is_typed_plan plan ≡ true → has_canon (plan_data plan) ≡ true
 plan-canon plan h =
@@ -49,28 +52,23 @@ plan-canon plan h =
 assigned-there : (name : List ℕ) (a : Assigned) → is_typed_assigned a ≡ true → assigned_of name (assigned_data a) ≡ Ok a
 unfolding assigned_of object_of
 assigned-there name a h =
-    let p = and_parts (is_ident a.ecu) _ h in
-    let d = assigned_data a in
-    bind-ok _ _ d refl
-    ∙ bind-ok _ _ a.ecu (ident_there (codes "ecu") d a.ecu refl p.0)
-    ∙ bind-ok _ _ a.file (file_name_there (codes "file") d a.file refl p.1)
+    two-there (is_ident a.ecu) _ name (assigned_data a) _ _ _ _ _ refl h (λ p. ident_there (codes "ecu") (assigned_data a) a.ecu refl p) (λ p. file_name_there (codes "file") (assigned_data a) a.file refl p)
+
+-- its ECU is read, and then what it asks for
+ecu-there : (ecu : Name) (cause : Cause) (d : Data) → object_of (codes "withheld") d ≡ Ok d → HasText d (codes "ecu") ecu → is_ident ecu ≡ true → demand_of ecu (json.get (codes "hardware") d) d ≡ Ok cause
+    → some_cause_of d ≡ Ok (Some cause)
+unfolding some_cause_of cause_of
+ecu-there ecu cause d is has fits demand = bind-ok _ _ cause (bind-ok _ _ d is ∙ bind-ok _ _ ecu (ident_there (codes "ecu") d ecu has fits) ∙ demand)
 
 cause-there : (cause : Cause) → is_typed_cause (Some cause) ≡ true → some_cause_of (cause_data (Some cause)) ≡ Ok (Some cause)
-unfolding some_cause_of cause_of demand_of object_of
+unfolding demand_of object_of
 cause-there (Need ecu hardware) h =
     let p = and_parts (is_ident ecu) _ h in
-    let d = cause_data (Some (Need ecu hardware)) in
-    bind-ok _ _ (Need ecu hardware)
-    (bind-ok _ _ d refl
-    ∙ bind-ok _ _ ecu (ident_there (codes "ecu") d ecu refl p.0)
-    ∙ bind-ok _ _ hardware (ident-there (codes "hardware") hardware p.1))
+    ecu-there ecu (Need ecu hardware) (cause_data (Some (Need ecu hardware))) refl refl p.0 (bind-ok _ _ hardware (ident-there (codes "hardware") hardware p.1))
 cause-there (Conflict ecu file) h =
     let p = and_parts (is_ident ecu) _ h in
     let d = cause_data (Some (Conflict ecu file)) in
-    bind-ok _ _ (Conflict ecu file)
-    (bind-ok _ _ d refl
-    ∙ bind-ok _ _ ecu (ident_there (codes "ecu") d ecu refl p.0)
-    ∙ bind-ok _ _ file (file_name_there (codes "file") d file refl p.1))
+    ecu-there ecu (Conflict ecu file) d refl refl p.0 (bind-ok _ _ file (file_name_there (codes "file") d file refl p.1))
 
 withheld-there : (plan : Plan) → is_typed_cause plan.withheld ≡ true → withheld_in (plan_data plan) ≡ Ok plan.withheld
 unfolding withheld_in member_in

@@ -182,6 +182,17 @@ none_of : {A B : Type 0} (f : A → B) (o : Option A) → option_map f o ≡ Non
 none_of f None h = refl
 none_of f (Some x) h = cc
 
+-- a delivery that is accepted was never kept before
+never_kept : RepeatsAreStale → CountersFindRepeats → (k : Rules) (s : State) (at : ℕ) (body : List ℕ) (o : Outcome) → IsSound k s → (decides : decide k s at (Deliver body) ≡ Ok o)
+    → repeat_in (delivery_ok k s at body o decides).received ≡ None
+never_kept stale counters k s at body o sound decides =
+    let is = delivery_ok k s at body o decides in
+    let r = is.received in
+    let it = received k s at body r is.receives in
+    let none = no_repeat stale counters k s at body r o sound is.receives it.vehicle is.is decides (repeat_of k s at (Deliver body)) refl in
+    let lookup : repeat_of k s at (Deliver body) ≡ repeat_in r = ap (λ (d : Result Received Refusal). option_and_then repeat_in (value_of d)) is.receives in
+    sym lookup ∙ none
+
 is_accepted : RepeatsAreStale → CountersFindRepeats → (k : Rules) (s : State) (at : ℕ) (body : List ℕ) (incoming : Incoming) (o : Outcome) → IsSound k s → incoming_in body ≡ Ok incoming
     → decide k s at (Deliver body) ≡ Ok o → IsAccepted k s at body incoming o
 unfolding receive
@@ -189,8 +200,7 @@ is_accepted stale counters k s at body incoming o sound reads decides =
     let is = delivery_ok k s at body o decides in
     let r = is.received in
     let it = received k s at body r is.receives in
-    let none = no_repeat stale counters k s at body r o sound is.receives it.vehicle is.is decides (repeat_of k s at (Deliver body)) refl in
-    let lookup : repeat_of k s at (Deliver body) ≡ repeat_in r = ap (λ (d : Result Received Refusal). option_and_then repeat_in (value_of d)) is.receives in
+    let unseen = never_kept stale counters k s at body o sound decides in
     subst (λ (i : Incoming). IsAccepted k s at body i o) (same_ok _ _ (sym it.reads ∙ reads)) (record {
       vehicle = r.vehicle;
       there = it.vehicle;
@@ -199,8 +209,8 @@ is_accepted stale counters k s at body incoming o sound reads decides =
       signed = signature k s at body r is.receives;
       checked = is.checked;
       new = none_passes _ (enumerate_from 1 r.vehicle.entries)
-          (none_of (λ (x : ℕ × Entry). record { vehicle = r.incoming.manifest.vehicle; number = x.0; entry = x.1 }) (entry_signed r.incoming.envelope.signed r.vehicle.entries) (sym lookup ∙ none));
-      unseen = sym lookup ∙ none;
+          (none_of (λ (x : ℕ × Entry). record { vehicle = r.incoming.manifest.vehicle; number = x.0; entry = x.1 }) (entry_signed r.incoming.envelope.signed r.vehicle.entries) unseen);
+      unseen = unseen;
       is = is.is;
     })
   where
@@ -296,11 +306,7 @@ served_as_accepted : RepeatsAreStale → CountersFindRepeats → (k : Rules) (s 
     → decide k s at (Deliver body) ≡ Ok o → serve k s at (Deliver body) ≡ o
 served_as_accepted stale counters k s at body incoming o sound reads decides =
     let is = delivery_ok k s at body o decides in
-    let r = is.received in
-    let it = received k s at body r is.receives in
-    let none = no_repeat stale counters k s at body r o sound is.receives it.vehicle is.is decides (repeat_of k s at (Deliver body)) refl in
-    let lookup : repeat_of k s at (Deliver body) ≡ repeat_in r = ap (λ (d : Result Received Refusal). option_and_then repeat_in (value_of d)) is.receives in
-    served_new k s at body r is.receives (sym lookup ∙ none) is.checked ∙ is.is
+    served_new k s at body is.received is.receives (never_kept stale counters k s at body o sound decides) is.checked ∙ is.is
 
 -- a crash leaves the state before the call or the next one
 either : {S : Type 0} (g : Ghosts S) (k : Rules) (s : State) (at : ℕ) (body : List ℕ) (incoming : Incoming) (old new : Held S) → IsCalled g k s at body incoming old new → HasCleanDisk (state g new)

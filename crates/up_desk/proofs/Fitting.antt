@@ -8,6 +8,7 @@ use Rattle.std.proofs.lemmas.Bool.{leb-true}
 use Rattle.up_canon.specs.Names.{Name, first_repeated, is_from_to}
 use Rattle.up_canon.specs.declared.refusal.Refusal.{Refusal}
 use Rattle.up_canon.proofs.Steps.{one_value}
+use Rattle.up_sign.specs.Envelopes.{identifier}
 use Rattle.up_sign.specs.Schemes.{Rules}
 use Rattle.up_plan.specs.Campaigns.{CampaignData}
 use Rattle.up_plan.specs.Images.{ImageData}
@@ -21,7 +22,7 @@ use Rattle.up_machine.specs.declared.decision.RootRows.{RootRows}
 use Rattle.up_machine.specs.declared.rows.EcuRow.{EcuRow}
 use Rattle.up_machine.specs.declared.rows.Founding.{Founding}
 use Rattle.up_machine.specs.declared.rows.VehicleRows.{VehicleRows}
-use Rattle.up_machine.specs.Keys.{role_fits, keys_fit, threshold_fits, secret_fits, identifier, repository_fits, key_set_fits}
+use Rattle.up_machine.specs.Keys.{role_fits, keys_fit, threshold_fits, secret_fits, repository_fits, key_set_fits}
 use Rattle.up_machine.specs.Vehicles.{NewVehicleData}
 use Rattle.up_machine.specs.State.{Entry, Root, Vehicle, State, nth, root_at}
 use Rattle.up_machine.specs.Sound.{IsSound}

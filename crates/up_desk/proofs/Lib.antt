@@ -5,6 +5,7 @@ pub mod Fitting
 pub mod Told
 pub mod LookedUp
 pub mod Loops
+pub mod Marks
 pub mod Serving
 pub mod Outlasting
 pub mod Calls

@@ -1,6 +1,6 @@
 -- What is read of the rows of a state is the state's.
-use Rattle.std.proofs.Common.{◌≡◌, List, [], ◌∷◌, Bool, true, false, cond, T, Option, Some, None, map, refl, sym, ap, ap₂, ◌∙◌, subst}
-use Rattle.std.specs.Prelude.{◌||◌, ◌&&◌, is_some, option_map, option_and_then, unwrap_or, find, filter, flat_map}
+use Rattle.std.proofs.Common.{◌≡◌, ℕ, List, [], ◌∷◌, Bool, true, false, cond, T, Option, Some, None, length, map, refl, sym, ap, ap₂, ◌∙◌, arith, subst}
+use Rattle.std.specs.Prelude.{◌||◌, ◌&&◌, ◌==◌, bytes_eq, is_none, is_some, option_map, option_and_then, unwrap_or, find, filter, flat_map}
 use Rattle.std.specs.List.{list_any, AllByRecursion}
 use Rattle.std.specs.FinMap as table
 use Rattle.std.specs.FinMap.Entries.{below_all, is_sorted}
@@ -9,6 +9,7 @@ use Rattle.std.specs.Ordering.{nat_cmp, eq_by_cmp, is_eq, is_lt}
 use Rattle.std.specs.declared.cmp.Ordering.{Ordering}
 use Rattle.std.specs.declared.cmp.Ordering.TheVariants.{Less, Equal, Greater}
 use Rattle.std.specs.Cmp.{tied_itself}
+use Rattle.std.proofs.lemmas.Bool.Decides.{nat_tests}
 use Rattle.std.proofs.lemmas.Cmp.{nat_list_cmp_total}
 use Rattle.std.specs.Cmp.Lexicographic.{slice_cmp}
 use Rattle.up_canon.specs.Names.{Name}
@@ -16,17 +17,21 @@ use Rattle.up_sign.specs.Schemes.{Rules}
 use Rattle.up_machine.specs.declared.rows.EcuRow.{EcuRow}
 use Rattle.up_machine.specs.declared.rows.VehicleRow.{VehicleRow}
 use Rattle.up_machine.specs.declared.rows.VehicleRows.{VehicleRows}
-use Rattle.up_machine.specs.State.{State, Vehicle, is_recorded}
-use Rattle.up_machine.specs.Rows.{vehicle_rows, rows_of}
+use Rattle.up_machine.specs.declared.rows.Founding.{Founding}
+use Rattle.up_machine.specs.Files.{File, file, files}
+use Rattle.up_machine.specs.State.{Root, State, Vehicle, is_recorded}
+use Rattle.up_machine.specs.Rows.{founding_row, vehicle_rows, rows_of}
 use Rattle.up_machine.specs.Reads.{version_of, ecus_of, installed}
 use Rattle.up_machine.proofs.Lists.{and_left, and_right}
 use Rattle.up_machine.proofs.Tables.{one_name}
 use Rattle.up_plan.specs.Campaigns.{CampaignData}
 use Rattle.up_plan.specs.Planning.{items_for, reaches}
+use Rattle.up_roles.specs.declared.repository.Repository.{Repository}
+use Rattle.up_roles.specs.declared.repository.Repository.TheVariants.{Director, Image}
 use Rattle.up_rows.proofs.Tables.{changed, entries_changed}
 use Rattle.up_rows.specs.StateRows.{StateRows, rows_of_state}
 use Rattle.up_rows.specs.Lookups.{stands_among, owner_among, installed_among}
-use Rattle.up_rows.specs.Laws.{VehiclesAreFound, OwnersAreFound, VersionsAreTold, EcusAreTold, InstalledIsTold}
+use Rattle.up_rows.specs.Laws.{FoundedIsFound, VehiclesAreFound, OwnersAreFound, VersionsAreTold, EcusAreTold, InstalledIsTold}
 use Rattle.up_store.specs.Found.{vehicle_found, ecus_found, owner_found, campaigns_found}
 use Rattle.up_store.proofs.ValuesWhere.{from_T}
 
@@ -158,6 +163,29 @@ not_installed ecu (Some v) h = cc
 
 pub none_installed : (k : Rules) (s : State) (ecu : Name) → InstalledIsTold → None ≡ owner_found ecu (rows_of_state k s) → None ≡ installed s ecu
 none_installed k s ecu told h = not_installed ecu (owner_among ecu (table.values (rows_of_state k s).vehicles)) h ∙ told k s ecu
+
+-- ---- files
+
+-- before founding there is no file
+no_file : (k : Rules) (s : State) (repository : Repository) (name : Name) (roots : List Root) → s.roots ≡ roots → length roots ≡ 0 → file k s repository name ≡ None
+unfolding files
+no_file k s Director name [] none same =
+    ap (λ (roots : List Root). option_map (λ (f : File). f.1) (find (λ (f : File). bytes_eq f.0 name) (files k (record s { roots = roots }) Director))) none
+no_file k s Image name [] none same =
+    ap (λ (roots : List Root). option_map (λ (f : File). f.1) (find (λ (f : File). bytes_eq f.0 name) (files k (record s { roots = roots }) Image))) none
+no_file k s repository name (root ∷ roots) some none = absurd (omega (arith, none))
+
+some_where : (o : Option Founding) (b : Bool) → is_none o ≡ b → b ≡ false → true ≡ is_some o
+some_where None b is has = absurd (let e = is ∙ has in cc)
+some_where (Some f) b is has = refl
+
+-- where there is a file, there is a founding
+pub founded_with : (k : Rules) (s : State) (repository : Repository) (name : Name) (text : List ℕ) → FoundedIsFound → Some text ≡ file k s repository name → true ≡ is_some (founding_row s)
+founded_with k s repository name text founded there = by_roots (length s.roots == 0) refl
+  where
+    by_roots : (b : Bool) → (length s.roots == 0) ≡ b → true ≡ is_some (founding_row s)
+    by_roots true none = absurd (let e = there ∙ no_file k s repository name s.roots refl (grind (arith, none, nat_tests)) in cc)
+    by_roots false some = some_where (founding_row s) (length s.roots == 0) (founded s) some
 
 -- ---- campaigns that reach a vehicle
 

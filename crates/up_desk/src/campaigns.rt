@@ -61,7 +61,7 @@ fn decide_opening<D: Alter>(
         → GivesOrLost (GivesDecision (λ row. row ≡ campaign.now) s (with_campaign s campaign.now)) result (decide_open_in s at campaign.now) }
     ensures reads { Reads (state D.Store store.old) (state D.Store store.new) }
 {
-    match is_founded(store, alloc) {
+    match is_founded(store) {
         Ok(founded) => decide_founded(store, alloc, at, campaign, founded),
         Err(fault) => Err(refusal_of(fault)),
     }
@@ -200,7 +200,7 @@ fn decide_closing<D: Alter>(
         → GivesOrLost (GivesClosed s name.now) result (decide_close_in s at name.now) }
     ensures reads { Reads (state D.Store store.old) (state D.Store store.new) }
 {
-    let founded = match is_founded(store, alloc) {
+    let founded = match is_founded(store) {
         Ok(founded) => founded,
         Err(fault) => return Err(refusal_of(fault)),
     };

@@ -32,7 +32,7 @@ use up_canon::table::Table;
 use up_machine::answer::Answer;
 use up_machine::decide_manifest::{DeliveryRows, decide_manifest};
 use up_machine::decision::{AcceptedRows, Delivered};
-use up_machine::kept_reply::reply_of;
+use up_machine::kept_reply::{reply_in, targets_in};
 use up_machine::rows::{Founding, Kept, VehicleRows};
 use up_manifest::manifest::{Incoming, Manifest};
 use up_manifest::reading::read_manifest;
@@ -77,26 +77,29 @@ fn receive<K: Scheme, D: Alter>(
 {
     match decide(store, alloc, scheme, at, incoming) {
         Ok(Delivered::Repeat(reply)) => Ok(Answer::Reply(reply)),
-        Ok(Delivered::Accepted(rows)) => accept(store, alloc, &rows),
+        Ok(Delivered::Accepted(rows)) => accept(store, alloc, rows),
         Err(refusal) => Err(refusal),
     }
 }
 
-/// Writes the rows of a manifest that is accepted. The reply is made before anything is written, so that nothing grows between
-/// the commit and the answer.
+/// Writes the rows of a manifest that is accepted. Its reply is made of the rows themselves, so that nothing grows between the
+/// commit and the answer.
 fn accept<D: Alter>(
     store: &mut Store<D>,
     alloc: Global,
-    rows: &AcceptedRows,
+    rows: AcceptedRows,
 ) -> Result<Answer, Refusal>
     ensures { (k : Rules) (s : State) (name : Name) (computed : Result Outcome Refusal) → IsSound k s → IfClean (KeepsState k s) (state D.Store store.old)
-        → (HasCleanDisk (state D.Store store.old) → GivesDelivered k s name (Ok (Accepted rows.now)) computed)
+        → (HasCleanDisk (state D.Store store.old) → GivesDelivered k s name (Ok (Accepted rows)) computed)
         → Serves k s (state D.Store store.old) (state D.Store store.new) result computed }
 {
     rows_are_found();
     manifests_are_added();
-    match reply_of(alloc, &rows.kept) {
-        Ok(reply) => replied(reply, store.write_accept(alloc, rows)),
+    match targets_in(&rows.kept) {
+        Ok(targets) => {
+            let written = store.write_accept(alloc, &rows);
+            replied(reply_in(rows.kept, targets), written)
+        }
         Err(_) => Err(Refusal::Memory),
     }
 }

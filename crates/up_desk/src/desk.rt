@@ -7,11 +7,13 @@ ghost use Rattle.up_machine.specs.declared.answer.Answer.{Answer};
 ghost use Rattle.up_machine.specs.declared.answer.Answer.TheVariants.{Refused};
 ghost use Rattle.up_machine.specs.Commands.{opens_running};
 ghost use Rattle.up_machine.specs.Reads.{ecus_of as ecus_in, version_of as version_in, installed as installed_in, assigned_to};
+ghost use Rattle.up_machine.specs.Rows.{vehicle_rows};
 ghost use Rattle.up_desk.specs.Runs.{AreOutright, RunsCalls};
 ghost use Rattle.up_desk.specs.Calls.{CommitsCall, ServesCall, SparesCall};
 ghost use Rattle.up_desk.specs.Serving.{Reads, Tells, outright as outright_of};
 
 use crate::obeying::{answer_of, keeps_limits, obey};
+use crate::reading::read_vehicle;
 use crate::views::{assigned_of, ecus_of, installed_on, version_of};
 use sqlite::Alter;
 use std::alloc::{AllocError, Global};
@@ -23,6 +25,7 @@ use up_machine::command::Command;
 use up_machine::laws::{
     kept_replies_stay, repeats_change_nothing, states_stay_sound, vehicles_stand_apart,
 };
+use up_machine::rows::VehicleRows;
 use up_manifest::report::Installed;
 use up_plan::assigned::Plan;
 use up_sign::scheme::Scheme;
@@ -117,6 +120,20 @@ impl<K: Scheme, D: Alter> Desk<K, D> {
             answers.push(answer).unwrap();
         }
         Ok(())
+    }
+
+    /// The rows of a vehicle and its ECUs in inventory order, none of an unknown vehicle: all that is read of it at once, but for
+    /// what is assigned.
+    pub fn vehicle(
+        &mut self,
+        alloc: Global,
+        vehicle: &Ident,
+    ) -> Result<Option<VehicleRows>, StoreFault>
+        ensures told { Tells (λ k s. vehicle_rows s vehicle.now) (state D.Store self.old.store) (state D.Store self.new.store) result }
+        ensures reads { Reads (state D.Store self.old.store) (state D.Store self.new.store) }
+        ensures scheme { self.new.scheme ≡ self.old.scheme }
+    {
+        read_vehicle(&mut self.store, alloc, vehicle)
     }
 
     /// The ECUs of a vehicle in inventory order, none of an unknown vehicle.

@@ -1,9 +1,12 @@
 //! Files of the repositories.
-ghost use Rattle.std.specs.Prelude.{◌≡◌, ◌≤◌};
+ghost use Rattle.std.specs.Prelude.{◌≡◌, ◌≤◌, None};
 ghost use Rattle.sqlite.specs.Held.{state};
 ghost use Rattle.sqlite.specs.State.{HasCleanDisk};
 ghost use Rattle.up_canon.specs.Moments.{last_command_moment};
+ghost use Rattle.up_canon.specs.Names.{Name};
 ghost use Rattle.up_sign.specs.Schemes.{Rules};
+ghost use Rattle.up_roles.specs.declared.repository.Repository.{Repository as RepositoryName};
+ghost use Rattle.up_machine.specs.Files.{file};
 ghost use Rattle.up_machine.specs.Repositories.{decide_fetch as decide_fetch_in};
 ghost use Rattle.up_machine.specs.Decisions.{GivesFile};
 ghost use Rattle.up_machine.specs.Sound.{IsSound};
@@ -58,13 +61,22 @@ fn read_file<D: Alter>(
     ensures reads { Reads (state D.Store store.old) (state D.Store store.new) }
 {
     rows_are_found();
-    let founded = match is_founded(store, alloc) {
-        Ok(founded) => founded,
-        Err(fault) => return Err(refusal_of(fault)),
-    };
-    let text = match store.file(alloc, repository, name) {
-        Ok(text) => text,
-        Err(fault) => return Err(refusal_of(fault)),
-    };
-    decide_fetch(at, founded, text)
+    match store.file(alloc, repository, name) {
+        Ok(Some(text)) => decide_fetch(at, true, Some(text)),
+        Ok(None) => decide_missing(store, at),
+        Err(fault) => Err(refusal_of(fault)),
+    }
+}
+
+/// The same where there is no such file: whether the repositories are founded is read for the refusal alone.
+fn decide_missing<D: Alter>(store: &mut Store<D>, at: Moment) -> Result<Text, Refusal>
+    requires { at ≤ last_command_moment }
+    ensures decided { HasCleanDisk (state D.Store store.new) → (k : Rules) (s : State) (repository : RepositoryName) (name : Name) → None ≡ file k s repository name → IfClean (KeepsState k s) (state D.Store store.old)
+        → GivesOrLost (GivesFile s) result (decide_fetch_in k s at repository name) }
+    ensures reads { Reads (state D.Store store.old) (state D.Store store.new) }
+{
+    match is_founded(store) {
+        Ok(founded) => decide_fetch(at, founded, None),
+        Err(fault) => Err(refusal_of(fault)),
+    }
 }

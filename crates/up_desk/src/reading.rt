@@ -1,5 +1,5 @@
 //! What commands read of the store.
-ghost use Rattle.std.specs.Prelude.{◌≡◌, IfOk, IfSome, IsTrue, is_some};
+ghost use Rattle.std.specs.Prelude.{IfOk, IfSome, IsTrue, is_some};
 ghost use Rattle.sqlite.specs.Held.{state};
 ghost use Rattle.up_machine.specs.Rows.{founding_row, vehicle_rows as vehicle_rows_in};
 ghost use Rattle.up_machine.specs.RowsFit.{founding_fits as founding_fits_in, rows_fit as rows_fit_in};
@@ -15,14 +15,11 @@ use up_sign::scheme::Scheme;
 use up_store::store::{Store, StoreFault};
 
 /// Whether the repositories are founded.
-pub fn is_founded<D: Alter>(store: &mut Store<D>, alloc: Global) -> Result<bool, StoreFault>
+pub fn is_founded<D: Alter>(store: &mut Store<D>) -> Result<bool, StoreFault>
     ensures told { Tells (λ k s. is_some (founding_row s)) (state D.Store store.old) (state D.Store store.new) result }
     ensures reads { Reads (state D.Store store.old) (state D.Store store.new) }
 {
-    match store.founding(alloc) {
-        Ok(founding) => Ok(founding.is_some()),
-        Err(fault) => Err(fault),
-    }
+    store.is_founded()
 }
 
 /// The founding's row, none before founding. `Store` where its keys can't sign, which no call of this product leaves.
@@ -36,27 +33,15 @@ pub fn read_founding<K: Scheme, D: Alter>(
     ensures fits { IfOk result (λ found. IfSome found (λ f. IsTrue (founding_fits_in (K.rules scheme.now) f))) }
 {
     match store.founding(alloc) {
-        Ok(founding) => fitting_founding(scheme, founding),
-        Err(fault) => Err(fault),
-    }
-}
-
-fn fitting_founding<K: Scheme>(
-    scheme: &K,
-    founding: Option<Founding>,
-) -> Result<Option<Founding>, StoreFault>
-    ensures same { IfOk result (λ found. found ≡ founding) }
-    ensures fits { IfOk result (λ found. IfSome found (λ f. IsTrue (founding_fits_in (K.rules scheme.now) f))) }
-{
-    match founding {
-        Some(founding) => {
+        Ok(Some(founding)) => {
             if founding_fits(scheme, &founding) {
                 Ok(Some(founding))
             } else {
                 Err(StoreFault::Store)
             }
         }
-        None => Ok(None),
+        Ok(None) => Ok(None),
+        Err(fault) => Err(fault),
     }
 }
 
@@ -92,23 +77,14 @@ pub fn read_fitting_vehicle<D: Alter>(
     ensures fits { IfOk result (λ found. IfSome found (λ v. IsTrue (rows_fit_in v))) }
 {
     match read_vehicle(store, alloc, name) {
-        Ok(rows) => fitting_rows(rows),
-        Err(fault) => Err(fault),
-    }
-}
-
-fn fitting_rows(rows: Option<VehicleRows>) -> Result<Option<VehicleRows>, StoreFault>
-    ensures same { IfOk result (λ found. found ≡ rows) }
-    ensures fits { IfOk result (λ found. IfSome found (λ v. IsTrue (rows_fit_in v))) }
-{
-    match rows {
-        Some(rows) => {
+        Ok(Some(rows)) => {
             if rows_fit(&rows) {
                 Ok(Some(rows))
             } else {
                 Err(StoreFault::Store)
             }
         }
-        None => Ok(None),
+        Ok(None) => Ok(None),
+        Err(fault) => Err(fault),
     }
 }

@@ -205,6 +205,7 @@ fn decide_refreshing_after<K: Scheme, D: Alter>(
 }
 
 /// Makes the rows of new files that are due, with all images, which are read here, after every refusal.
+#[tactic(auto, using(crate::proofs::Steps::store_reads))]
 fn make_rows<K: Scheme, D: Alter>(
     store: &mut Store<D>,
     alloc: Global,

@@ -64,7 +64,7 @@ fn decide_founding<K: Scheme, D: Alter>(
         (decide_found_in (K.rules scheme.now) s at keys.now) }
     ensures reads { Reads (state D.Store store.old) (state D.Store store.new) }
 {
-    match is_founded(store, alloc) {
+    match is_founded(store) {
         Ok(founded) => decide_founding_after(store, alloc, scheme, at, keys, founded),
         Err(fault) => Err(refusal_of(fault)),
     }
@@ -153,6 +153,7 @@ fn decide_rotation_after<K: Scheme, D: Alter>(
 }
 
 /// Makes the rows of a root version that is due, with all images, which are read here, after every refusal.
+#[tactic(auto, using(crate::proofs::Steps::store_reads))]
 fn make_rows<K: Scheme, D: Alter>(
     store: &mut Store<D>,
     alloc: Global,

@@ -7,7 +7,7 @@ use Rattle.std.proofs.lemmas.List.Elements.{filter-append}
 use Rattle.std.proofs.Math.Seq.{take-take, drop-drop, take-add}
 use Rattle.up_http.specs.Requests.{First, Firsts, most_requests, most_request}
 use Rattle.up_http.specs.Feeding.{Waits}
-use Rattle.up_lines.specs.Runs.{Run}
+use Rattle.up_lines.specs.Runs.{HasRead, Run}
 use Rattle.up_http.specs.Serving.{joined, is_call, calls, Sofar, Stopped, Finished, Breaks, IsBegun, Takes, Stops, Completes, Ran, told, most_bytes, IsNext, AnswersFirst, Unanswered}
 use Rattle.up_http.specs.declared.asked.Next.{Next}
 use Rattle.up_http.specs.declared.fault.Fault.{Fault}
@@ -290,27 +290,19 @@ module _ {S : Type 0} (gives : S → Next → List ℕ → S → Type 0) where
   ran_stop cause first now had has held holds came at read bounded stopped =
       record { came = came; ended = false; read = read; bounded = bounded; at_end = λ h. absurd (cc); leaves = stopped }
 
+  -- all bytes were read
+  read_to_end : (P : List ℕ → Bool → Type 0) (had has : Option (List ℕ)) (came : List ℕ) → Consumes had has came → length came ≤ most_bytes → IsAtEnd has → P came true → HasRead most_bytes had has P
+  read_to_end P had has came read bounded end leaves = record { came = came; ended = true; read = read; bounded = bounded; at_end = λ _. end; leaves = leaves }
+
   -- a run to the input's end
   pub ran_end : (r : Result (Unit {0}) Fault) (first now : S) (had has held holds : Option (List ℕ)) (came : List ℕ) (old : Progress) (before : S) (have : Option (List ℕ)) (new : Progress)
       → Consumes had has came → length came ≤ most_bytes → IsAtEnd has → Sofar gives first held came old before have
       → OnOk r (Completes gives old before have new now holds) → IfErr r (λ cause. Stops gives cause true [] old before have new now holds)
       → Ran gives first now had has held holds (told r new)
-  ran_end (Ok _) first now had has held holds came old before have new read bounded end so ok err = record {
-    came = came;
-    ended = true;
-    read = read;
-    bounded = bounded;
-    at_end = λ _. end;
-    leaves = λ more none. subst (λ l. Finished gives first held l new.answered now holds) (sym (ap (λ l. came ++ l) (none refl) ∙ append-nil came)) (ok first held came so);
-  }
-  ran_end (Err cause) first now had has held holds came old before have new read bounded end so ok err = record {
-    came = came;
-    ended = true;
-    read = read;
-    bounded = bounded;
-    at_end = λ _. end;
-    leaves = subst (λ l. Stopped gives cause first held l true new.called new.answered now holds) (append-nil came) (err first held came so);
-  }
+  ran_end (Ok _) first now had has held holds came old before have new read bounded end so ok err =
+      read_to_end _ had has came read bounded end (λ more none. subst (λ l. Finished gives first held l new.answered now holds) (sym (ap (λ l. came ++ l) (none refl) ∙ append-nil came)) (ok first held came so))
+  ran_end (Err cause) first now had has held holds came old before have new read bounded end so ok err =
+      read_to_end _ had has came read bounded end (subst (λ l. Stopped gives cause first held l true new.called new.answered now holds) (append-nil came) (err first held came so))
 
 -- a turn that takes bytes or gives a request is nearer to the end
 pub nearer : (most at filled n given now len : ℕ) → at < filled → len ≡ filled - at → n ≤ len → ((n ≡ len) × (now ≡ given)) ⊎ ((now ≡ given + 1) × (given < 100))

@@ -8,6 +8,7 @@ use Rattle.up_sign.specs.Schemes.{Rules}
 use Rattle.up_roles.specs.declared.repository.Repository.TheVariants.{Director, Image}
 use Rattle.up_roles.specs.declared.targets.Target.{Target}
 use Rattle.up_plan.specs.Images.{ImageData}
+use Rattle.up_machine.specs.declared.hashed_keys.HashedKeySet.{HashedKeySet}
 use Rattle.up_machine.specs.declared.keys.KeySet.{KeySet}
 use Rattle.up_machine.specs.declared.rows.Founding.{Founding}
 use Rattle.up_machine.specs.declared.decision.NextRoot.{NextRoot}
@@ -63,6 +64,12 @@ some_root (x ∷ roots) root h = omega arith
 pub has_roots : (s : State) (f : Founding) → Some f ≡ founding_row s → 0 < length s.roots
 has_roots s f h = let of = founding_of s f h in some_root s.roots of.root of.there
 
+pub root_number : (s : State) (f : Founding) → Some f ≡ founding_row s → f.root ≡ length s.roots
+root_number s f h = ap (λ (f : Founding). f.root) (founding_of s f h).is
+
+pub version_number : (s : State) (f : Founding) → Some f ≡ founding_row s → f.image_version ≡ s.image_version
+version_number s f h = ap (λ (f : Founding). f.image_version) (founding_of s f h).is
+
 -- ---- one root more
 
 one_more : {A : Type 0} (xs : List A) (x : A) → length (xs ++ x ∷ []) ≡ 1 + length xs
@@ -96,14 +103,14 @@ old_before s at keys f h =
 
 -- ---- what is due
 
-pub root_is_due : (s : State) (at : ℕ) (keys : KeySet) (version number : ℕ) (before : Option KeySet) → number ≡ 1 + length s.roots → option_map (λ r. r.keys) (root_before s at keys) ≡ before
-    → HasRoot (stamped (with_root s at keys) at version) at keys (record { number = number; version = version; before = before })
-root_is_due s at keys version number before is old =
+pub root_is_due : (s : State) (at : ℕ) (keys : KeySet) (version number : ℕ) (hashed : HashedKeySet) (before : Option KeySet) → number ≡ 1 + length s.roots → option_map (λ r. r.keys) (root_before s at keys) ≡ before
+    → HasRoot (stamped (with_root s at keys) at version) at keys (record { number = number; version = version; hashed = hashed; before = before })
+root_is_due s at keys version number hashed before is old =
     let next = stamped (with_root s at keys) at version in
     let root : Root = record { keys = keys; at = at } in
     let last : root_at next (length next.roots) ≡ Some root = nth_last s.roots root in record {
       root = last;
-      founding = ap (option_map (row_of next)) last ∙ ap (λ n. Some (row_with_root at keys (record { number = n; version = version; before = before }))) (new_number s at keys ∙ sym is);
+      founding = ap (option_map (row_of next)) last ∙ ap (λ n. Some (row_with_root at keys (record { number = n; version = version; hashed = hashed; before = before }))) (new_number s at keys ∙ sym is);
       before = old;
     }
 

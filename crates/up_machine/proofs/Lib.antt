@@ -26,6 +26,7 @@ pub mod Signing
 pub mod Serving
 pub mod Makings
 pub mod RootMakings
+pub mod HashedIds
 pub mod NewFiles
 pub mod FoundingRows
 pub mod Registers

@@ -1,5 +1,5 @@
 -- Which secrets sign the files of a role, and how long files last.
-use Rattle.std.proofs.Common.{◌≡◌, ◌≤◌, true, ap₂, arith}
+use Rattle.std.proofs.Common.{◌≡◌, ◌≤◌, Bool, true, ap₂, arith}
 use Rattle.std.specs.Prelude.{◌&&◌, length, nat_le, is_none, IsTrue}
 use Rattle.std.specs.List.{list_all}
 use Rattle.std.proofs.lemmas.Bool.{leb-true}
@@ -34,23 +34,23 @@ keys_are_few k role h =
 pub secrets_are_few : (k : Rules) (role : RoleSecrets) → IsTrue (can_sign k role) → (1 ≤ length role.keys) × (length role.keys ≤ 8)
 secrets_are_few k role h = let few = keys_are_few k role h in (few.0, omega (arith, few.1))
 
+-- what each role of a repository passes
+each_role : (p : RoleSecrets → Bool) (keys : RepoKeys) → (p keys.root && p keys.targets && p keys.snapshot && p keys.timestamp) ≡ true
+    → IsTrue (p keys.root) × IsTrue (p keys.targets) × IsTrue (p keys.snapshot) × IsTrue (p keys.timestamp)
+each_role p keys h = (
+  and_left _ _ (and_left _ _ (and_left _ _ h)),
+  and_right (p keys.root) _ (and_left _ _ (and_left _ _ h)),
+  and_right (p keys.root && p keys.targets) _ (and_left _ _ h),
+  and_right (p keys.root && p keys.targets && p keys.snapshot) _ h,
+)
+
 pub roles_fit : (k : Rules) (keys : RepoKeys) → IsTrue (repository_fits k keys)
     → IsTrue (role_fits k keys.root) × IsTrue (role_fits k keys.targets) × IsTrue (role_fits k keys.snapshot) × IsTrue (role_fits k keys.timestamp)
-roles_fit k keys h = (
-  and_left _ _ (and_left _ _ (and_left _ _ h)),
-  and_right (role_fits k keys.root) _ (and_left _ _ (and_left _ _ h)),
-  and_right (role_fits k keys.root && role_fits k keys.targets) _ (and_left _ _ h),
-  and_right (role_fits k keys.root && role_fits k keys.targets && role_fits k keys.snapshot) _ h,
-)
+roles_fit k keys h = each_role (role_fits k) keys h
 
 pub roles_sign : (k : Rules) (keys : RepoKeys) → IsTrue (roles_can_sign k keys)
     → IsTrue (can_sign k keys.root) × IsTrue (can_sign k keys.targets) × IsTrue (can_sign k keys.snapshot) × IsTrue (can_sign k keys.timestamp)
-roles_sign k keys h = (
-  and_left _ _ (and_left _ _ (and_left _ _ h)),
-  and_right (can_sign k keys.root) _ (and_left _ _ (and_left _ _ h)),
-  and_right (can_sign k keys.root && can_sign k keys.targets) _ (and_left _ _ h),
-  and_right (can_sign k keys.root && can_sign k keys.targets && can_sign k keys.snapshot) _ h,
-)
+roles_sign k keys h = each_role (can_sign k) keys h
 
 -- roles that fit can sign
 pub fitting_sign : (k : Rules) (keys : RepoKeys) → IsTrue (repository_fits k keys) → IsTrue (roles_can_sign k keys)

@@ -8,7 +8,7 @@ use Rattle.up_canon.specs.Names.{is_from_to, is_short_text, first_repeated, are_
 use Rattle.up_canon.proofs.Printable.{both}
 use Rattle.up_sign.specs.Schemes.{Rules, IsScheme}
 use Rattle.up_sign.specs.Formats.{signature_fits}
-use Rattle.up_sign.specs.Envelopes.{signature_of}
+use Rattle.up_sign.specs.Envelopes.{identifier, signature_of}
 use Rattle.up_sign.specs.Laws.{SealedFits}
 use Rattle.up_roles.specs.declared.repository.Repository.{Repository}
 use Rattle.up_roles.specs.declared.root.RootKey.{RootKey}
@@ -16,7 +16,7 @@ use Rattle.up_roles.specs.Payload.{version_fits}
 use Rattle.up_roles.specs.Root.{key_fits, role_fits as root_role_fits, root_fits as root_file_fits, root_text_of}
 use Rattle.up_machine.specs.declared.keys.RoleSecrets.{RoleSecrets}
 use Rattle.up_machine.specs.declared.keys.KeySet.{KeySet}
-use Rattle.up_machine.specs.Keys.{secret_fits, identifier, keys_fit, threshold_fits, role_fits, repository_fits}
+use Rattle.up_machine.specs.Keys.{secret_fits, keys_fit, threshold_fits, role_fits, repository_fits}
 use Rattle.up_machine.specs.RowsFit.{can_sign}
 use Rattle.up_machine.specs.State.{Root}
 use Rattle.up_machine.specs.Files.{keys_of, root_key, role_keys, root_file, root_secrets, root_text}

@@ -1,6 +1,7 @@
 -- The plain machine keeps states sound.
 use Rattle.std.proofs.Common.{◌≡◌, ℕ, ◌+◌, ◌<◌, ◌≤◌, List, [], ◌∷◌, ◌++◌, true, false, cond, Option, Some, None, Ok, inl, inr, refl, sym, ap, ◌∙◌, subst, arith}
 use Rattle.std.specs.Prelude.{length, is_none, is_some}
+use Rattle.std.specs.List.{AllByRecursion}
 use Rattle.std.specs.FinMap as table
 use Rattle.std.specs.FinMap.{get-empty, len-empty, len-insert}
 use Rattle.std.specs.Ordering.{nat_cmp}
@@ -55,49 +56,39 @@ empty_sound k = record {
 
 -- ---- the repositories
 
-one_more_root : (k : Rules) (s : State) (root : Root) (version : ℕ) → IsSound k s → IsSoundRoot k root → length s.roots < 64 → 0 < version → version ≤ max_count
-    → root.at ≤ last_command_moment → AreSoundRepositories k (s.roots ++ root ∷ []) s.images version root.at
-one_more_root k s root version sound is room low high moment =
-    let size = length-append s.roots (root ∷ []) in
-    record {
-      each_root = each_one_more (IsSoundRoot k) s.roots root sound.repositories.each_root is;
-      root_limit = omega arith;
-      unfounded = λ h. absurd (omega arith);
-      founded = λ h. low;
-      version_limit = high;
-      moment = moment;
-      image_limit = sound.repositories.image_limit;
-      each_image = sound.repositories.each_image;
-    }
-
-stamped_again : (k : Rules) (s : State) (at version : ℕ) → IsSound k s → 0 < length s.roots → 0 < version → version ≤ max_count → at ≤ last_command_moment
-    → AreSoundRepositories k s.roots s.images version at
-stamped_again k s at version sound founded low high moment = record {
-  each_root = sound.repositories.each_root;
-  root_limit = sound.repositories.root_limit;
+-- where there is a root
+sound_with_root : (k : Rules) (roots : List Root) (images : Table ImageData) (version at : ℕ) → AllByRecursion (IsSoundRoot k) roots → length roots ≤ 64 → 0 < length roots → 0 < version → version ≤ max_count
+    → at ≤ last_command_moment → table.len images ≤ 1024 → ((file : Name) (image : ImageData) → table.get images file ≡ Some image → IsSoundImage file image) → AreSoundRepositories k roots images version at
+sound_with_root k roots images version at each_root root_limit some low high moment image_limit each_image = record {
+  each_root = each_root;
+  root_limit = root_limit;
   unfounded = λ h. absurd (omega arith);
   founded = λ h. low;
   version_limit = high;
   moment = moment;
-  image_limit = sound.repositories.image_limit;
-  each_image = sound.repositories.each_image;
+  image_limit = image_limit;
+  each_image = each_image;
 }
 
-one_more_image : (k : Rules) (s : State) (at version : ℕ) (image : ImageData) → AreSoundRepositories k s.roots s.images version at → IsSoundImage image.file image
+one_more_root : (k : Rules) (s : State) (root : Root) (version : ℕ) → IsSound k s → IsSoundRoot k root → length s.roots < 64 → 0 < version → version ≤ max_count
+    → root.at ≤ last_command_moment → AreSoundRepositories k (s.roots ++ root ∷ []) s.images version root.at
+one_more_root k s root version sound is room low high moment =
+    let size = length-append s.roots (root ∷ []) in
+    sound_with_root k (s.roots ++ root ∷ []) s.images version root.at (each_one_more (IsSoundRoot k) s.roots root sound.repositories.each_root is) (omega arith) (omega arith) low high moment
+    sound.repositories.image_limit sound.repositories.each_image
+
+stamped_again : (k : Rules) (s : State) (at version : ℕ) → IsSound k s → 0 < length s.roots → 0 < version → version ≤ max_count → at ≤ last_command_moment
+    → AreSoundRepositories k s.roots s.images version at
+stamped_again k s at version sound founded low high moment =
+    sound_with_root k s.roots s.images version at sound.repositories.each_root sound.repositories.root_limit founded low high moment sound.repositories.image_limit sound.repositories.each_image
+
+one_more_image : (k : Rules) (s : State) (at version : ℕ) (image : ImageData) → IsSound k s → 0 < length s.roots → 0 < version → version ≤ max_count → at ≤ last_command_moment → IsSoundImage image.file image
     → table.get s.images image.file ≡ None → table.len s.images < 1024 → AreSoundRepositories k s.roots (table.insert s.images image.file image) version at
-one_more_image k s at version image h is none room =
+one_more_image k s at version image sound founded low high moment is none room =
     let size : table.len (table.insert s.images image.file image) ≡ table.len s.images + 1 =
     len-insert nat_list_cmp_total s.images image.file image ∙ ap (λ o. cond (is_some o) (table.len s.images) (table.len s.images + 1)) none in
-    record {
-      each_root = h.each_root;
-      root_limit = h.root_limit;
-      unfounded = h.unfounded;
-      founded = h.founded;
-      version_limit = h.version_limit;
-      moment = h.moment;
-      image_limit = omega arith;
-      each_image = λ file x found. get_after-insert IsSoundImage s.images image.file file x image found is (h.each_image file x);
-    }
+    sound_with_root k s.roots (table.insert s.images image.file image) version at sound.repositories.each_root sound.repositories.root_limit founded low high moment (omega arith)
+    (λ file x found. get_after-insert IsSoundImage s.images image.file file x image found is (sound.repositories.each_image file x))
 
 -- the rest of a state where only the repositories change
 with_repositories : (k : Rules) (s next : State) → IsSound k s → IsLater s next → next.campaigns ≡ s.campaigns → next.vehicles ≡ s.vehicles
@@ -229,7 +220,7 @@ acted bodies texts k s at (AddImage image) o fits sound h later = elim (image_ok
   | inr is ↦
       let below = is.below in
       subst (λ (o : Outcome). IsLater s o.next → IsSound k o.next) is.is (λ later. with_repositories k s _ sound later refl refl
-      (one_more_image k s at (s.image_version + 1) image (stamped_again k s at (s.image_version + 1) sound is.founded (omega arith) (omega arith) is.moment)
+      (one_more_image k s at (s.image_version + 1) image sound is.founded (omega arith) (omega arith) is.moment
       (record { named = refl; fits = fits }) is.none is.room)) later
 ]
 acted bodies texts k s at (Refresh version) o fits sound h later =

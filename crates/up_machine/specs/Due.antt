@@ -12,7 +12,7 @@ use Rattle.up_machine.specs.declared.rows.Founding.{Founding}
 use Rattle.up_machine.specs.declared.decision.NextRoot.{NextRoot}
 use Rattle.up_machine.specs.declared.decision.Decision.{Decision}
 use Rattle.up_machine.specs.declared.decision.Decision.TheVariants.{Already, New}
-use Rattle.up_machine.specs.Keys.{key_set_fits}
+use Rattle.up_machine.specs.Keys.{key_set_fits, hashed_key_set}
 use Rattle.up_machine.specs.RowsFit.{roles_can_sign, all_can_sign}
 use Rattle.up_machine.specs.State.{State, root_at}
 use Rattle.up_machine.specs.Rows.{founding_row}
@@ -38,9 +38,11 @@ HasFounding next founding = founding_row next ≡ Some founding
 
 -- ---- what making files asks of it
 
--- the keys fit, those of the version before can sign, and both repositories' files have a version and a command's moment
+-- the keys fit, `hashed` is of these keys, those of the version before can sign, and both repositories' files have a version and a
+-- command's moment
 pub record CanMakeRoot (k : Rules) (at : ℕ) (keys : KeySet) (new : NextRoot) : Type 0 where
   pub keys_fit : IsTrue (key_set_fits k keys)
+  pub hashed : new.hashed ≡ hashed_key_set k keys
   pub before : IfSome new.before (λ b. IsTrue (all_can_sign k b))
   pub number : IsTrue (version_fits new.number)
   pub version : IsTrue (version_fits new.version)

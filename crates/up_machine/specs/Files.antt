@@ -4,6 +4,7 @@ use Rattle.std.specs.List.{list_any, enumerate_from}
 use Rattle.std.specs.FinMap as table
 use Rattle.sha2.specs.Sha256.{sha256}
 use Rattle.up_canon.specs.Names.{Name}
+use Rattle.up_sign.specs.Envelopes.{identifier}
 use Rattle.up_sign.specs.Schemes.{Rules}
 use Rattle.up_roles.specs.declared.repository.Repository.{Repository}
 use Rattle.up_roles.specs.declared.repository.Repository.TheVariants.{Director, Image}
@@ -24,7 +25,6 @@ use Rattle.up_machine.specs.declared.keys.RoleSecrets.{RoleSecrets}
 use Rattle.up_machine.specs.declared.keys.RepoKeys.{RepoKeys}
 use Rattle.up_machine.specs.declared.keys.KeySet.{KeySet}
 use Rattle.up_machine.specs.declared.decision.RoleTexts.{RoleTexts}
-use Rattle.up_machine.specs.Keys.{identifier}
 use Rattle.up_machine.specs.State.{Root, State, root_at}
 
 abbrev pub keys_of : Repository → KeySet → RepoKeys

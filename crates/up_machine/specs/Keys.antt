@@ -6,10 +6,13 @@ use Rattle.up_canon.specs.Steps.{◌>>=◌, unless}
 use Rattle.up_canon.specs.declared.refusal.Refusal.{Refusal}
 use Rattle.up_canon.specs.declared.refusal.Refusal.TheVariants.{BadShape}
 use Rattle.up_sign.specs.Schemes.{Rules}
-use Rattle.up_sign.specs.Hmac.{key_id}
+use Rattle.up_sign.specs.Envelopes.{identifier, key_block}
 use Rattle.up_machine.specs.declared.keys.RoleSecrets.{RoleSecrets}
 use Rattle.up_machine.specs.declared.keys.RepoKeys.{RepoKeys}
 use Rattle.up_machine.specs.declared.keys.KeySet.{KeySet}
+use Rattle.up_machine.specs.declared.hashed_keys.HashedRoleKeys.{HashedRoleKeys}
+use Rattle.up_machine.specs.declared.hashed_keys.HashedRepoKeys.{HashedRepoKeys}
+use Rattle.up_machine.specs.declared.hashed_keys.HashedKeySet.{HashedKeySet}
 
 -- 1 to 256 bytes that the scheme takes as a secret
 abbrev pub secret_fits : Rules → List ℕ → Bool
@@ -18,10 +21,6 @@ secret_fits k secret = is_from_to 1 256 (length secret) && k.secret_fits secret
 -- 1 to 256 bytes that the scheme takes as a public part
 abbrev pub public_fits : Rules → List ℕ → Bool
 public_fits k public = is_from_to 1 256 (length public) && k.public_fits public
-
--- the identifier of a secret's public part
-abbrev pub identifier : Rules → List ℕ → Name
-identifier k secret = key_id (k.public_of secret)
 
 -- ---- the keys of a role
 
@@ -43,6 +42,24 @@ repository_fits k keys = role_fits k keys.root && role_fits k keys.targets && ro
 -- the keys of both repositories
 abbrev pub key_set_fits : Rules → KeySet → Bool
 key_set_fits k keys = repository_fits k keys.director && repository_fits k keys.image
+
+-- ---- the keys, hashed
+
+-- of the keys of a role, in order
+abbrev pub hashed_role : Rules → RoleSecrets → List (List ℕ)
+hashed_role k role = map (key_block k) role.keys
+
+-- of the three roles whose files are made together
+abbrev pub hashed_roles : Rules → RepoKeys → HashedRoleKeys
+hashed_roles k keys = record { targets = hashed_role k keys.targets; snapshot = hashed_role k keys.snapshot; timestamp = hashed_role k keys.timestamp }
+
+-- of all four roles of a repository
+abbrev pub hashed_repo : Rules → RepoKeys → HashedRepoKeys
+hashed_repo k keys = record { root = hashed_role k keys.root; roles = hashed_roles k keys }
+
+-- of the keys of both repositories
+abbrev pub hashed_key_set : Rules → KeySet → HashedKeySet
+hashed_key_set k keys = record { director = hashed_repo k keys.director; image = hashed_repo k keys.image }
 
 -- ---- the first fault
 

@@ -8,7 +8,6 @@ use Rattle.up_canon.specs.declared.refusal.Refusal.{Refusal}
 use Rattle.up_canon.specs.declared.refusal.Refusal.TheVariants.{WrongPrimary, BadManifestSignature, Stale, UnknownEcu, DuplicateEcu, MissingEcu, BadReportSignature, ReportReplayed}
 use Rattle.up_sign.specs.Schemes.{Rules}
 use Rattle.up_sign.specs.Envelopes.{is_accepted}
-use Rattle.up_sign.specs.Hmac.{key_id}
 use Rattle.up_sign.specs.declared.envelope.Envelope.{Envelope}
 use Rattle.up_manifest.specs.declared.report.SignedReport.{SignedReport}
 use Rattle.up_manifest.specs.declared.manifest.Manifest.{Manifest}
@@ -37,9 +36,9 @@ use Rattle.up_machine.specs.Replies.{reply_json}
 abbrev pub row_of : List EcuRow → Name → Option EcuRow
 row_of rows name = find (λ row. bytes_eq row.ecu name) rows
 
--- the identifier of the key of the ECU of the name
-abbrev pub row_key_id : List EcuRow → Name → Option (List ℕ)
-row_key_id rows name = option_map (λ row. key_id row.public) (row_of rows name)
+-- the public part of the key of the ECU of the name, no bytes where there is no such ECU
+abbrev pub public_of_row : List EcuRow → Name → List ℕ
+public_of_row rows name = unwrap_or (option_map (λ row. row.public) (row_of rows name)) []
 
 -- the ECU of the name signed it
 abbrev pub is_signed_by_row : Rules → List EcuRow → Name → Envelope → Bool

@@ -10,7 +10,7 @@ ghost use Rattle.up_machine.specs.Decisions.{IsRead, AreRowsFor, decide_incoming
 use crate::acceptance::accepted_rows;
 use crate::decision::Delivered;
 use crate::kept_reply::reply_of;
-use crate::manifest_checks::{check_new, check_primary, primary_key_id};
+use crate::manifest_checks::{check_new, check_primary, primary_key};
 use crate::rows::{Founding, Kept, VehicleRows};
 use std::alloc::Global;
 use std::marker::Model;
@@ -78,12 +78,12 @@ pub fn decide_manifest<K: Scheme>(
     let Some(vehicle) = rows.vehicle else {
         return Err(Refusal::UnknownVehicle);
     };
-    let primary_id = primary_key_id(vehicle);
-    check_primary(scheme, vehicle, &primary_id, incoming)?;
+    let primary_key = primary_key(vehicle);
+    check_primary(scheme, vehicle, &primary_key, incoming)?;
     if let Some(row) = repeated(incoming, rows.kept) {
         return Ok(Delivered::Repeat(reply_of(alloc, row)?));
     }
-    check_new(alloc, scheme, vehicle, &primary_id, &incoming.manifest)?;
+    check_new(alloc, scheme, vehicle, &primary_key, &incoming.manifest)?;
     let (images, campaigns) = (rows.images, rows.campaigns);
     let accepted = accepted_rows(
         alloc, scheme, at, incoming, founding, vehicle, images, campaigns,

@@ -37,13 +37,14 @@ pub fn decide_found<K: Scheme>(
         (decide_found_in (K.rules scheme.now) s at keys.now) }
     ensures fits { IfOk result (λ new. CanMakeRoot (K.rules scheme.now) at keys.now new) }
 {
-    check_keys(alloc, scheme, keys)?;
+    let hashed = check_keys(alloc, scheme, keys)?;
     if is_founded {
         return Err(Refusal::AlreadyFounded);
     }
     Ok(NextRoot {
         number: 1,
         version: 1,
+        hashed,
         before: None,
     })
 }
@@ -64,7 +65,7 @@ pub fn decide_rotate<K: Scheme>(
         (decide_rotate_in (K.rules scheme.now) s at keys.now) }
     ensures fits { IfSome founding (λ f. IsTrue (founding_fits (K.rules scheme.now) f)) → IfOk result (λ new. CanMakeRoot (K.rules scheme.now) at keys.now new) }
 {
-    check_keys(alloc, scheme, keys)?;
+    let hashed = check_keys(alloc, scheme, keys)?;
     let Some(old) = founding else {
         return Err(Refusal::NotFounded);
     };
@@ -77,6 +78,7 @@ pub fn decide_rotate<K: Scheme>(
     Ok(NextRoot {
         number: old.root + 1,
         version: old.image_version + 1,
+        hashed,
         before: Some(old.keys),
     })
 }

@@ -1,5 +1,6 @@
 //! What decisions answer: new rows with all texts, or, in a first step, what is due.
 use crate::answer::Reply;
+use crate::hashed_keys::HashedKeySet;
 use crate::keys::KeySet;
 use crate::rows::{Founding, Kept, VehicleRows};
 use up_canon::text::Text;
@@ -12,12 +13,13 @@ pub struct RoleTexts {
     pub timestamp: Text,
 }
 
-/// A root version that is due: its number, the image repository's version with it, and the keys of the version before, none at
-/// a founding.
+/// A root version that is due: its number, the image repository's version with it, its keys, hashed, and the keys
+/// of the version before, none at a founding.
 #[derive(Drop)]
 pub struct NextRoot {
     pub number: u64,
     pub version: u64,
+    pub hashed: HashedKeySet,
     pub before: Option<KeySet>,
 }
 

@@ -12,6 +12,7 @@ ghost use Rattle.up_machine.specs.ManifestRows.{target_for, reply_of};
 ghost use Rattle.up_machine.specs.Replies.{reply_json as reply_json_of};
 
 use crate::decision::RoleTexts;
+use crate::hashed_keys::hashed_roles;
 use crate::making::role_texts;
 use crate::rows::{Founding, VehicleRow};
 use std::alloc::{AllocError, Global};
@@ -79,11 +80,13 @@ pub(crate) fn reply_text<K: Scheme>(
 {
     let vehicle = Some(row.vehicle.copy(alloc)?);
     let version = row.version + 1;
+    let hashed = hashed_roles(alloc, scheme, &founding.keys.director)?;
     let files = role_texts(
         alloc,
         scheme,
         Repository::Director,
         &founding.keys,
+        &hashed,
         &vehicle,
         version,
         at,

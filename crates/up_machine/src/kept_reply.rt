@@ -1,5 +1,5 @@
 //! The reply that a kept row holds.
-ghost use Rattle.std.specs.Prelude.{◌≡◌, IfOk};
+ghost use Rattle.std.specs.Prelude.{◌≡◌, IfOk, length};
 ghost use Rattle.up_machine.specs.Rows.{reply_kept};
 
 use crate::answer::Reply;
@@ -8,20 +8,42 @@ use std::alloc::{AllocError, Global};
 use up_canon::listed::Duplicate;
 use up_plan::assigned::Cause;
 
-/// The reply that a row holds. A plan of more than 4294967295 images, which no state has, is answered as want of memory.
+/// The reply that a row holds; want of memory as `targets_in` says.
 pub fn reply_of(alloc: Global, row: &Kept) -> Result<Reply, AllocError>
     ensures { IfOk result (λ reply. reply ≡ reply_kept row.now) }
 {
-    let Ok(targets) = u32::try_from(row.plan.assigned.as_slice().len()) else {
-        return Err(AllocError);
-    };
     Ok(Reply {
         vehicle: row.vehicle.copy(alloc)?,
         version: row.version,
-        targets,
+        targets: targets_in(row)?,
         withheld: copy_cause(alloc, &row.plan.withheld)?,
         text: row.reply.copy(alloc)?,
     })
+}
+
+/// How many images a row's plan assigns. More than 4294967295, which no state has, are answered as want of memory.
+pub fn targets_in(row: &Kept) -> Result<u32, AllocError>
+    ensures { IfOk result (λ targets. targets ≡ length row.now.plan.assigned) }
+{
+    match u32::try_from(row.plan.assigned.as_slice().len()) {
+        Ok(targets) => Ok(targets),
+        Err(_) => Err(AllocError),
+    }
+}
+
+/// The reply that a row holds, made of the row itself; `targets` is the number of images that its plan assigns.
+pub fn reply_in(row: Kept, targets: u32) -> Reply
+    requires { targets ≡ length row.plan.assigned }
+    ensures { result ≡ reply_kept row }
+{
+    let plan = row.plan;
+    Reply {
+        vehicle: row.vehicle,
+        version: row.version,
+        targets,
+        withheld: plan.withheld,
+        text: row.reply,
+    }
 }
 
 fn copy_cause(alloc: Global, cause: &Option<Cause>) -> Result<Option<Cause>, AllocError>

@@ -13,6 +13,7 @@ pub mod decide_vehicle;
 pub mod decision;
 mod director_files;
 mod founded;
+pub mod hashed_keys;
 mod image_targets;
 pub mod kept_reply;
 pub mod key_checks;

@@ -9,9 +9,11 @@ ghost use Rattle.up_roles.specs.Targets.{targets_text_of, targets_fits, target_f
 ghost use Rattle.up_roles.specs.Snapshot.{snapshot_text_of, snapshot_fits};
 ghost use Rattle.up_roles.specs.Timestamp.{timestamp_text_of, timestamp_fits};
 ghost use Rattle.up_machine.specs.Files.{keys_of as keys_in, role_texts as role_texts_of};
+ghost use Rattle.up_machine.specs.Keys.{hashed_role, hashed_roles};
 ghost use Rattle.up_machine.specs.RowsFit.{can_sign, roles_can_sign};
 
 use crate::decision::RoleTexts;
+use crate::hashed_keys::HashedRoleKeys;
 use crate::keys::{KeySet, RepoKeys, RoleSecrets};
 use sha2::{Digest, Sha256};
 use std::alloc::{AllocError, Global};
@@ -21,26 +23,30 @@ use up_canon::moment::Moment;
 use up_canon::text::Text;
 use up_roles::lifetimes::lifetimes_of;
 use up_roles::repository::Repository;
-use up_roles::snapshot::{SnapshotFile, snapshot_text};
+use up_roles::snapshot::{SnapshotFile, snapshot_text_by};
 use up_roles::targets::{Target, TargetsFile};
-use up_roles::targets_text::targets_text;
-use up_roles::timestamp::{TimestampFile, timestamp_text};
+use up_roles::targets_text::targets_text_by;
+use up_roles::timestamp::{TimestampFile, timestamp_text_by};
+use up_sign::key_id::HashedKey;
 use up_sign::scheme::Scheme;
 
-/// The texts of a repository's Targets, Snapshot and Timestamp files of this version, signed with the keys of their roles.
-/// Each expires its lifetime after the moment. The Director's files name their vehicle, and each target its ECU.
+/// The texts of a repository's Targets, Snapshot and Timestamp files of this version, signed with the keys of their roles,
+/// which are hashed already (`hashed_roles`). Each expires its lifetime after the moment. The Director's files name their
+/// vehicle, and each target its ECU.
 #[tactic(auto, unfolding(crate::specs::Files::targets_text, crate::specs::Files::snapshot_text, crate::specs::Files::timestamp_text), using(crate::proofs::Makings::roles_sign))]
 pub fn role_texts<K: Scheme>(
     alloc: Global,
     scheme: &K,
     repository: Repository,
     keys: &KeySet,
+    hashed: &HashedRoleKeys,
     vehicle: &Option<Ident>,
     version: u64,
     at: Moment,
     targets: Listed<Target>,
 ) -> Result<RoleTexts, AllocError>
     requires keys { IsTrue (roles_can_sign (K.rules scheme.now) (keys_in repository keys.now)) }
+    requires hashed { hashed.now ≡ hashed_roles (K.rules scheme.now) (keys_in repository keys.now) }
     requires version { IsTrue (version_fits version) }
     requires moment { at ≤ last_command_moment }
     requires vehicle { IsTrue (name_fits repository vehicle.now) }
@@ -63,7 +69,7 @@ pub fn role_texts<K: Scheme>(
         vehicle: vehicle.copy(alloc)?,
         targets_version: version,
     };
-    let snapshot = signed_snapshot(alloc, scheme, &keys.snapshot, &snapshot)?;
+    let snapshot = signed_snapshot(alloc, scheme, &keys.snapshot, &hashed.snapshot, &snapshot)?;
     let timestamp = TimestampFile {
         repository,
         version,
@@ -73,9 +79,15 @@ pub fn role_texts<K: Scheme>(
         snapshot_sha256: Sha256::digest(snapshot.as_str().as_bytes()),
     };
     Ok(RoleTexts {
-        targets: signed_targets(alloc, scheme, &keys.targets, &targets)?,
+        targets: signed_targets(alloc, scheme, &keys.targets, &hashed.targets, &targets)?,
         snapshot,
-        timestamp: signed_timestamp(alloc, scheme, &keys.timestamp, &timestamp)?,
+        timestamp: signed_timestamp(
+            alloc,
+            scheme,
+            &keys.timestamp,
+            &hashed.timestamp,
+            &timestamp,
+        )?,
     })
 }
 
@@ -94,13 +106,16 @@ fn signed_targets<K: Scheme>(
     alloc: Global,
     scheme: &K,
     role: &RoleSecrets,
+    hashed: &Listed<HashedKey>,
     file: &TargetsFile,
 ) -> Result<Text, AllocError>
     requires role { IsTrue (can_sign (K.rules scheme.now) role.now) }
+    requires hashed { hashed.now ≡ hashed_role (K.rules scheme.now) role.now }
     requires limits { IsTrue (targets_fits file.now) }
     ensures { IfOk result (λ t. t ≡ targets_text_of (K.rules scheme.now) role.now.keys file.now) }
 {
-    Ok(Text::new(targets_text(alloc, scheme, role.keys.as_slice(), file)?))
+    let secrets = role.keys.as_slice();
+    Ok(Text::new(targets_text_by(alloc, scheme, secrets, hashed.as_slice(), file)?))
 }
 
 #[tactic(auto, using(crate::proofs::Makings::secrets_fit, crate::proofs::Makings::secrets_are_few))]
@@ -108,13 +123,16 @@ fn signed_snapshot<K: Scheme>(
     alloc: Global,
     scheme: &K,
     role: &RoleSecrets,
+    hashed: &Listed<HashedKey>,
     file: &SnapshotFile,
 ) -> Result<Text, AllocError>
     requires role { IsTrue (can_sign (K.rules scheme.now) role.now) }
+    requires hashed { hashed.now ≡ hashed_role (K.rules scheme.now) role.now }
     requires limits { IsTrue (snapshot_fits file.now) }
     ensures { IfOk result (λ t. t ≡ snapshot_text_of (K.rules scheme.now) role.now.keys file.now) }
 {
-    Ok(Text::new(snapshot_text(alloc, scheme, role.keys.as_slice(), file)?))
+    let secrets = role.keys.as_slice();
+    Ok(Text::new(snapshot_text_by(alloc, scheme, secrets, hashed.as_slice(), file)?))
 }
 
 #[tactic(auto, using(crate::proofs::Makings::secrets_fit, crate::proofs::Makings::secrets_are_few))]
@@ -122,13 +140,16 @@ fn signed_timestamp<K: Scheme>(
     alloc: Global,
     scheme: &K,
     role: &RoleSecrets,
+    hashed: &Listed<HashedKey>,
     file: &TimestampFile,
 ) -> Result<Text, AllocError>
     requires role { IsTrue (can_sign (K.rules scheme.now) role.now) }
+    requires hashed { hashed.now ≡ hashed_role (K.rules scheme.now) role.now }
     requires limits { IsTrue (timestamp_fits file.now) }
     ensures { IfOk result (λ t. t ≡ timestamp_text_of (K.rules scheme.now) role.now.keys file.now) }
 {
-    Ok(Text::new(timestamp_text(alloc, scheme, role.keys.as_slice(), file)?))
+    let secrets = role.keys.as_slice();
+    Ok(Text::new(timestamp_text_by(alloc, scheme, secrets, hashed.as_slice(), file)?))
 }
 
 /// When the Targets file expires that is made at the moment.

@@ -1,10 +1,10 @@
 //! The checks of a manifest over the rows of its vehicle.
-ghost use Rattle.std.specs.Prelude.{◌≡◌, ◌<◌, ◌≤◌, OnOk, find, not, option_copied, option_map};
-ghost use Rattle.hex.specs.Hex.{encode_lower};
+ghost use Rattle.std.specs.Prelude.{◌≡◌, ◌<◌, ◌≤◌, OnOk, find, not, option_copied};
 ghost use Rattle.up_canon.specs.Canon.{max_count};
 ghost use Rattle.up_canon.specs.Refusals.{Gives};
+ghost use Rattle.up_sign.specs.Hmac.{block_key};
 ghost use Rattle.up_machine.specs.Deliveries.{report_name};
-ghost use Rattle.up_machine.specs.ManifestRows.{row_of as row_in, has_row as has_row_in, is_signed_by_row, row_key_id, is_reported_in, follows as follows_row, follows_its_row, check_primary as check_primary_in, check_reports_of, check_new_of};
+ghost use Rattle.up_machine.specs.ManifestRows.{row_of as row_in, has_row as has_row_in, is_signed_by_row, public_of_row, is_reported_in, follows as follows_row, follows_its_row, check_primary as check_primary_in, check_reports_of, check_new_of};
 
 use crate::rows::{EcuRow, VehicleRows};
 use std::alloc::Global;
@@ -16,17 +16,19 @@ use up_canon::refusal::Refusal;
 use up_manifest::manifest::{Incoming, Manifest};
 use up_manifest::report::SignedReport;
 use up_sign::envelope::Envelope;
-use up_sign::key_id::key_id;
+use up_sign::key_id::HashedKey;
 use up_sign::scheme::Scheme;
-use up_sign::threshold::{accepts, accepts_key};
+use up_sign::threshold::{accepts, accepts_by};
 
-/// The bytes of the identifier of the Primary's key, none where no row is the Primary's. A manifest and the Primary's own
-/// report in it are tested by it, so that it is computed once.
-pub(crate) fn primary_key_id(rows: &VehicleRows) -> Option<[u8; 32]>
-    ensures { option_map encode_lower result ≡ row_key_id rows.now.ecus rows.now.vehicle.primary }
+/// What is computed once of the Primary's key, with which a manifest and the Primary's own report in it are tested: of no bytes
+/// where no row is the Primary's, which nothing asks then.
+pub(crate) fn primary_key(rows: &VehicleRows) -> HashedKey
+    ensures { result ≡ block_key (public_of_row rows.now.ecus rows.now.vehicle.primary) }
 {
-    let row = row_of(rows.ecus.as_slice(), &rows.vehicle.primary)?;
-    Some(key_id(row.public.as_slice()))
+    match row_of(rows.ecus.as_slice(), &rows.vehicle.primary) {
+        Some(row) => HashedKey::new(row.public.as_slice()),
+        None => HashedKey::new(&[]),
+    }
 }
 
 /// Tests that the manifest names the vehicle's Primary, and that its Primary signed it.
@@ -34,10 +36,10 @@ pub(crate) fn primary_key_id(rows: &VehicleRows) -> Option<[u8; 32]>
 pub(crate) fn check_primary<K: Scheme>(
     scheme: &K,
     rows: &VehicleRows,
-    primary_id: &Option<[u8; 32]>,
+    primary_key: &HashedKey,
     incoming: &Incoming,
 ) -> Result<(), Refusal>
-    requires { option_map encode_lower primary_id.now ≡ row_key_id rows.now.ecus rows.now.vehicle.primary }
+    requires { primary_key.now ≡ block_key (public_of_row rows.now.ecus rows.now.vehicle.primary) }
     ensures { result ≡ check_primary_in (K.rules scheme.now) rows.now incoming.now }
 {
     let primary = &rows.vehicle.primary;
@@ -45,7 +47,7 @@ pub(crate) fn check_primary<K: Scheme>(
         return Err(Refusal::WrongPrimary);
     }
     let ecus = rows.ecus.as_slice();
-    if !is_signed_by_primary(scheme, ecus, primary, primary_id, &incoming.envelope) {
+    if !is_signed_by_primary(scheme, ecus, primary, primary_key, &incoming.envelope) {
         return Err(Refusal::BadManifestSignature);
     }
     Ok(())
@@ -57,10 +59,10 @@ pub(crate) fn check_new<K: Scheme>(
     alloc: Global,
     scheme: &K,
     rows: &VehicleRows,
-    primary_id: &Option<[u8; 32]>,
+    primary_key: &HashedKey,
     manifest: &Manifest,
 ) -> Result<(), Refusal>
-    requires { option_map encode_lower primary_id.now ≡ row_key_id rows.now.ecus rows.now.vehicle.primary }
+    requires { primary_key.now ≡ block_key (public_of_row rows.now.ecus rows.now.vehicle.primary) }
     ensures value { Gives result (check_new_of (K.rules scheme.now) rows.now manifest.now) }
     ensures later { OnOk result (rows.now.vehicle.last < manifest.now.counter) }
     ensures limit { OnOk result (manifest.now.counter ≤ max_count) }
@@ -75,7 +77,7 @@ pub(crate) fn check_new<K: Scheme>(
         scheme,
         rows.ecus.as_slice(),
         &rows.vehicle.primary,
-        primary_id,
+        primary_key,
         reports,
     )
 }
@@ -88,10 +90,10 @@ fn check_reports<K: Scheme>(
     scheme: &K,
     rows: &[EcuRow],
     primary: &Ident,
-    primary_id: &Option<[u8; 32]>,
+    primary_key: &HashedKey,
     reports: &[SignedReport],
 ) -> Result<(), Refusal>
-    requires { option_map encode_lower primary_id.now ≡ row_key_id rows.now primary.now }
+    requires { primary_key.now ≡ block_key (public_of_row rows.now primary.now) }
     ensures { Gives result (check_reports_of (K.rules scheme.now) rows.now reports.now) }
 {
     if let Some(unknown) = first_unknown(rows, reports) {
@@ -103,7 +105,7 @@ fn check_reports<K: Scheme>(
     if let Some(row) = first_missing(rows, reports) {
         return Err(Refusal::MissingEcu(row.ecu.copy(alloc)?));
     }
-    if let Some(unsigned) = first_unsigned(scheme, rows, primary, primary_id, reports) {
+    if let Some(unsigned) = first_unsigned(scheme, rows, primary, primary_key, reports) {
         let ecu = unsigned.report.ecu.copy(alloc)?;
         return Err(Refusal::BadReportSignature(ecu));
     }
@@ -129,15 +131,15 @@ fn first_unsigned<'a, K: Scheme>(
     scheme: &K,
     rows: &[EcuRow],
     primary: &Ident,
-    primary_id: &Option<[u8; 32]>,
+    primary_key: &HashedKey,
     reports: &'a [SignedReport],
 ) -> Option<&'a SignedReport>
-    requires { option_map encode_lower primary_id.now ≡ row_key_id rows.now primary.now }
+    requires { primary_key.now ≡ block_key (public_of_row rows.now primary.now) }
     ensures { option_copied result ≡ find (λ r. not (is_signed_by_row (K.rules scheme.now) rows.now (report_name r) r.envelope)) reports.now }
 {
     reports
         .iter()
-        .find(|r| !is_signed(scheme, rows, primary, primary_id, r))
+        .find(|r| !is_signed(scheme, rows, primary, primary_key, r))
 }
 
 fn first_replayed<'a>(rows: &[EcuRow], reports: &'a [SignedReport]) -> Option<&'a SignedReport>
@@ -163,32 +165,32 @@ fn is_signed<K: Scheme>(
     scheme: &K,
     rows: &[EcuRow],
     primary: &Ident,
-    primary_id: &Option<[u8; 32]>,
+    primary_key: &HashedKey,
     report: &SignedReport,
 ) -> bool
-    requires { option_map encode_lower primary_id.now ≡ row_key_id rows.now primary.now }
+    requires { primary_key.now ≡ block_key (public_of_row rows.now primary.now) }
     ensures { result ≡ is_signed_by_row (K.rules scheme.now) rows.now (report_name report.now) report.now.envelope }
 {
     if report.report.ecu == *primary {
-        return is_signed_by_primary(scheme, rows, primary, primary_id, &report.envelope);
+        return is_signed_by_primary(scheme, rows, primary, primary_key, &report.envelope);
     }
     is_signed_by(scheme, rows, &report.report.ecu, &report.envelope)
 }
 
-/// Whether the Primary signed it, of whose key the identifier is known.
+/// Whether the Primary signed it.
 fn is_signed_by_primary<K: Scheme>(
     scheme: &K,
     rows: &[EcuRow],
     primary: &Ident,
-    primary_id: &Option<[u8; 32]>,
+    primary_key: &HashedKey,
     envelope: &Envelope,
 ) -> bool
-    requires { option_map encode_lower primary_id.now ≡ row_key_id rows.now primary.now }
+    requires { primary_key.now ≡ block_key (public_of_row rows.now primary.now) }
     ensures { result ≡ is_signed_by_row (K.rules scheme.now) rows.now primary.now envelope.now }
 {
-    match (row_of(rows, primary), primary_id) {
-        (Some(row), Some(id)) => accepts_key(scheme, id, row.public.as_slice(), envelope),
-        _ => false,
+    match row_of(rows, primary) {
+        Some(row) => accepts_by(scheme, primary_key, row.public.as_slice(), envelope),
+        None => false,
     }
 }
 

@@ -9,12 +9,13 @@ ghost use Rattle.up_roles.specs.Targets.{target_fits, ecus_of};
 ghost use Rattle.up_machine.specs.Decisions.{HasRegisterRows, HasRootRows};
 ghost use Rattle.up_machine.specs.Due.{CanMakeFiles, CanMakeRoot, HasFounding, HasRoot};
 ghost use Rattle.up_machine.specs.Files.{role_texts as role_texts_of, root_text as root_text_of, target_of};
-ghost use Rattle.up_machine.specs.Keys.{key_set_fits};
+ghost use Rattle.up_machine.specs.Keys.{key_set_fits, hashed_key_set};
 ghost use Rattle.up_machine.specs.Registers.{place_among};
 ghost use Rattle.up_machine.specs.RowsFit.{all_can_sign};
 ghost use Rattle.up_machine.specs.State.{Root, State};
 
 use crate::decision::{NextRoot, RegisterRows, RoleTexts, RootRows};
+use crate::hashed_keys::{HashedKeySet, hashed_roles};
 use crate::image_targets::{image_targets, targets_with};
 use crate::keys::KeySet;
 use crate::making::role_texts;
@@ -50,6 +51,7 @@ pub fn root_rows<K: Scheme>(
         scheme,
         new.number,
         keys,
+        &new.hashed,
         at,
         before,
         new.version,
@@ -57,19 +59,21 @@ pub fn root_rows<K: Scheme>(
     )
 }
 
-/// The same of this number, with these keys before and this version of the image repository.
+/// The same of this number, with keys that are hashed already, these keys before and this version of the image repository.
 #[tactic(auto, using(crate::proofs::NewFiles::both_fit, crate::proofs::NewFiles::no_ecus))]
 fn rows_of_root<K: Scheme>(
     alloc: Global,
     scheme: &K,
     number: u64,
     keys: &KeySet,
+    hashed: &HashedKeySet,
     at: Moment,
     before: Option<&KeySet>,
     version: u64,
     images: &[Image],
 ) -> Result<RootRows, AllocError>
     requires keys { IsTrue (key_set_fits (K.rules scheme.now) keys.now) }
+    requires hashed { hashed.now ≡ hashed_key_set (K.rules scheme.now) keys.now }
     requires before { MatchOption before ⊤ (λ b. IsTrue (all_can_sign (K.rules scheme.now) b.now)) }
     requires number { IsTrue (version_fits number) }
     requires version { IsTrue (version_fits version) }
@@ -88,15 +92,26 @@ fn rows_of_root<K: Scheme>(
         Repository::Director,
         number,
         keys,
+        &hashed.director,
         at,
         before,
     )?;
-    let image = root_text(alloc, scheme, Repository::Image, number, keys, at, before)?;
+    let image = root_text(
+        alloc,
+        scheme,
+        Repository::Image,
+        number,
+        keys,
+        &hashed.image,
+        at,
+        before,
+    )?;
     let files = role_texts(
         alloc,
         scheme,
         Repository::Image,
         keys,
+        &hashed.image.roles,
         &None,
         version,
         at,
@@ -197,11 +212,13 @@ fn image_files<K: Scheme>(
     requires ecus { IsTrue (are_distinct (ecus_of targets)) }
     ensures { IfOk result (λ files. files ≡ role_texts_of (K.rules scheme.now) (record { repository = ImageRepository; keys = founding.now.keys; vehicle = None; version = founding.now.image_version; at = founding.now.stamp; targets = targets })) }
 {
+    let hashed = hashed_roles(alloc, scheme, &founding.keys.image)?;
     role_texts(
         alloc,
         scheme,
         Repository::Image,
         &founding.keys,
+        &hashed,
         &None,
         founding.image_version,
         founding.stamp,

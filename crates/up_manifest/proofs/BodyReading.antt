@@ -156,10 +156,8 @@ body_read body i h =
     first_ok _ _ _ _ h (λ d a h. first_ok _ _ _ _ h (λ opened c h. first_ok _ _ _ _ h (λ manifest e h.
     let v = value_read largest_body body d a in
     subst (MeansBody body) (same_ok _ _ h) (record {
-      small = v.0;
-      utf8 = v.1;
       value = d;
-      reads = v.2;
+      json_text = record { small = v.0; utf8 = v.1; reads = v.2 };
       payload = opened.payload;
       envelope = opened_read (codes "body") d opened c;
       manifest = manifest_read opened.payload manifest e;
@@ -168,6 +166,6 @@ body_read body i h =
 pub body_there : (body : List ℕ) (i : Incoming) → MeansBody body i → incoming_in body ≡ Ok i
 unfolding incoming_in
 body_there body i h =
-    bind-ok _ _ h.value (value_there largest_body body h.value h.small h.utf8 h.reads)
+    bind-ok _ _ h.value (value_there largest_body body h.value h.json_text.small h.json_text.utf8 h.json_text.reads)
     ∙ bind-ok _ _ _ (opened_there (codes "body") h.value h.payload i.envelope h.envelope)
     ∙ bind-ok _ _ _ (manifest_there h.payload i.manifest h.manifest)

@@ -54,10 +54,8 @@ built_means texts sealing plain moments k scheme secret vehicle primary counter 
     let is_signed : IsSigned signed payload = (payload_canon, refl) in
     let size = envelope-length e 250_000 refl limits.0 (manifest-length plain vehicle primary counter es rs h v p high few) in
     subst (λ t. MeansBody t (built k secret vehicle primary counter rs es)) (sym same) (record {
-      small = omega arith;
-      utf8 = subst IsUtf8 same utf8;
       value = envelope_value e payload;
-      reads = (texts [] e payload limits.0 limits.1 is_signed).0;
+      json_text = record { small = omega arith; utf8 = subst IsUtf8 same utf8; reads = (texts [] e payload limits.0 limits.1 is_signed).0 };
       payload = payload;
       envelope = envelope_means texts e payload limits.0 limits.1 is_signed;
       manifest = manifest_means texts plain moments (built k secret vehicle primary counter rs es).manifest es rs h refl v p low high few;

@@ -1,11 +1,10 @@
 -- What a manifest's body means, as a relation: which members its values have.
-use Rattle.std.specs.Prelude.{◌≡◌, ℕ, ◌≤◌, List, IsTrue, IsUtf8, length, Some, codes}
+use Rattle.std.specs.Prelude.{◌≡◌, ℕ, ◌≤◌, List, IsTrue, length, Some, codes}
 use Rattle.serde_json.specs.Data.{Data, array, Items}
 use Rattle.serde_json.specs.Find as json
-use Rattle.serde_json.specs.Read.{read}
 use Rattle.up_canon.specs.Names.{is_ident, is_file_name, is_note}
 use Rattle.up_canon.specs.Moments.{read_moment}
-use Rattle.up_canon.specs.Meaning.{HasText, HasCount, HasObject, HasHex, EachMeans}
+use Rattle.up_canon.specs.Meaning.{MeansValue, HasText, HasCount, HasObject, HasHex, EachMeans}
 use Rattle.up_sign.specs.Meaning.{MeansEnvelope}
 use Rattle.up_manifest.specs.Manifests.{largest_body, most_reports}
 use Rattle.up_manifest.specs.declared.report.Installed.{Installed}
@@ -64,10 +63,8 @@ pub record MeansManifest (d : Data) (m : Manifest) : Type 0 where
 
 -- JSON in UTF-8 (RFC 8259), with the envelope that the Primary signed
 pub record MeansBody (body : List ℕ) (i : Incoming) : Type 0 where
-  pub small : length body ≤ largest_body
-  pub utf8 : IsUtf8 body
   pub value : Data
-  pub reads : read body ≡ Some value
+  pub json_text : MeansValue largest_body body value
   pub payload : Data
   pub envelope : MeansEnvelope value payload i.envelope
   pub manifest : MeansManifest payload i.manifest

@@ -6,10 +6,10 @@ use Rattle.serde_json.specs.Data.{Data, string, array, Items}
 use Rattle.serde_json.specs.Find as json
 use Rattle.up_canon.specs.Canon.{is_plain, has_canon, text}
 use Rattle.up_canon.specs.Meaning.{EachMeans}
-use Rattle.up_canon.specs.Members.{items_list, text_of}
+use Rattle.up_canon.specs.Members.{items_list, text_of, object_in}
 use Rattle.up_canon.specs.Names.{Name, is_from_to, is_ident, are_distinct}
 use Rattle.up_canon.specs.Readers.{ident_of}
-use Rattle.up_canon.specs.Steps.{each}
+use Rattle.up_canon.specs.Steps.{◌>>=◌, each}
 use Rattle.up_canon.specs.declared.refusal.Refusal.{Refusal}
 use Rattle.up_canon.proofs.Faults.{Fails, AllowsShapes, then_fails, ok_fails, each_fails, fitting_fails, self_fails, object_fails, list_fails, value_fails}
 use Rattle.up_canon.proofs.JsonTexts.{value_read, value_there}
@@ -20,8 +20,10 @@ use Rattle.up_sign.specs.declared.envelope.Envelope.{Envelope}
 use Rattle.up_sign.proofs.Faults.{opened_text_fails}
 use Rattle.up_sign.proofs.Meaning.{opened_read, opened_there}
 use Rattle.up_roles.specs.Laws.{MeanOneOrFail}
-use Rattle.up_roles.specs.Meaning.{HasName, MeansIdent, MeansTarget, MeansTargets, MeansSnapshot, MeansTimestamp, MeansFile}
-use Rattle.up_roles.specs.Payload.{largest_file, file_in}
+use Rattle.up_roles.specs.Meaning.{HasName, MeansHead, MeansIdent, MeansTarget, MeansTargets, MeansListing, MeansSnapshot, MeansTimestamp, MeansFile}
+use Rattle.up_roles.specs.Parts.{object_part}
+use Rattle.up_roles.specs.Payload.{largest_file, head_in, vehicle_in, file_in}
+use Rattle.up_roles.specs.declared.payload.Head.{Head}
 use Rattle.up_roles.specs.Snapshot.{snapshot_entry_in, snapshot_of}
 use Rattle.up_roles.specs.Targets.{ecus_of, ecu_of, hardware_of, target_of, target_list_in, targets_of}
 use Rattle.up_roles.specs.Timestamp.{timestamp_entry_in, timestamp_of}
@@ -42,7 +44,27 @@ pub record ReadsAs {F : Type 0} (meaning : Data → Result F Refusal) (M : Data 
   pub there : (d : Data) (file : F) → is_plain d ≡ true → M d file → meaning d ≡ Ok file
   pub fails : (d : Data) → Fails IsTextFault (meaning d)
 
+-- ---- what begins each payload
+
+heading_there : Moments → {B : Type 0} (kind : List ℕ) (d : Data) (r : Repository) (version expires : ℕ) (name : Option Name) (f : Head → Option Name → Result B Refusal) → MeansHead kind d r version expires
+    → HasName r d (codes "vehicle") name → (head_in kind d >>= λ head. vehicle_in head.repository d >>= λ vehicle. f head vehicle) ≡ f (record { repository = r; version = version; expires = expires }) name
+heading_there moments kind d r version expires name f head vehicle = bind-ok _ _ _ (head_there moments kind d r version expires head) ∙ bind-ok _ _ name (vehicle_there r d name vehicle)
+
+heading_fails : {B : Type 0} (kind : List ℕ) (d : Data) (f : Head → Option Name → Result B Refusal) → ((head : Head) (vehicle : Option Name) → Fails IsTextFault (f head vehicle))
+    → Fails IsTextFault (head_in kind d >>= λ head. vehicle_in head.repository d >>= λ vehicle. f head vehicle)
+heading_fails kind d f more = then_fails _ _ (head_fails shapes kind d) (λ head. then_fails _ _ (vehicle_fails shapes head.repository d) (λ vehicle. more head vehicle))
+
 -- ---- Snapshot
+
+listing_read : Moments → (kind listed : List ℕ) (d meta entry : Data) (head : Head) (name : Option Name) → head_in kind d ≡ Ok head → vehicle_in head.repository d ≡ Ok name
+    → object_in (codes "meta") d ≡ Ok meta → object_part (codes "meta") listed meta ≡ Ok entry → MeansListing kind listed d head.repository head.version head.expires name entry
+listing_read moments kind listed d meta entry head name a b e f = record {
+  head = head_read moments kind d head a;
+  vehicle = vehicle_read head.repository d name b;
+  meta = meta;
+  has_meta = object_read (codes "meta") d meta e;
+  has_entry = object_part_read (codes "meta") listed meta entry f;
+}
 
 snapshot_read : Moments → (d : Data) (file : SnapshotFile) → snapshot_of d ≡ Ok file → MeansSnapshot d file
 unfolding snapshot_of snapshot_entry_in
@@ -50,33 +72,26 @@ snapshot_read moments d file h =
     first_ok _ _ _ _ h (λ head a h. first_ok _ _ _ _ h (λ vehicle b h. first_ok _ _ _ _ h (λ version c h.
     first_ok _ _ _ _ c (λ meta e c. first_ok _ _ _ _ c (λ entry f c.
     subst (MeansSnapshot d) (same_ok _ _ h) (record {
-      head = head_read moments (codes "snapshot") d head a;
-      vehicle = vehicle_read head.repository d vehicle b;
-      meta = meta;
-      has_meta = object_read (codes "meta") d meta e;
       entry = entry;
-      has_entry = object_part_read (codes "meta") (codes "targets.json") meta entry f;
+      listing = listing_read moments (codes "snapshot") (codes "targets.json") d meta entry head vehicle a b e f;
       targets_version = positive_part_read (codes "meta") (codes "version") entry version c;
     }))))))
 
 snapshot_there : Moments → (d : Data) (file : SnapshotFile) → MeansSnapshot d file → snapshot_of d ≡ Ok file
 unfolding snapshot_of snapshot_entry_in
 snapshot_there moments d file h =
-    bind-ok _ _ _ (head_there moments (codes "snapshot") d file.repository file.version file.expires h.head)
-    ∙ bind-ok _ _ file.vehicle (vehicle_there file.repository d file.vehicle h.vehicle)
+    heading_there moments (codes "snapshot") d file.repository file.version file.expires file.vehicle _ h.listing.head h.listing.vehicle
     ∙ bind-ok _ _ file.targets_version (
-    bind-ok _ _ h.meta (object_there (codes "meta") d h.meta h.has_meta)
-    ∙ bind-ok _ _ h.entry (object_part_there (codes "meta") (codes "targets.json") h.meta h.entry h.has_entry)
+    bind-ok _ _ h.listing.meta (object_there (codes "meta") d h.listing.meta h.listing.has_meta)
+    ∙ bind-ok _ _ h.entry (object_part_there (codes "meta") (codes "targets.json") h.listing.meta h.entry h.listing.has_entry)
     ∙ positive_part_there (codes "meta") (codes "version") h.entry file.targets_version h.targets_version)
 
 snapshot_fails : (d : Data) → Fails IsTextFault (snapshot_of d)
 unfolding snapshot_of snapshot_entry_in
 snapshot_fails d =
-    then_fails _ _ (head_fails shapes (codes "snapshot") d) (λ head.
-    then_fails _ _ (vehicle_fails shapes head.repository d) (λ vehicle.
-    then_fails _ _ (
+    heading_fails (codes "snapshot") d _ (λ head vehicle. then_fails _ _ (
     then_fails _ _ (object_fails shapes (codes "meta") d) (λ meta.
-    then_fails _ _ (object_part_fails shapes (codes "meta") (codes "targets.json") meta) (λ entry. positive_part_fails shapes (codes "meta") (codes "version") entry))) (λ version. ok_fails _)))
+    then_fails _ _ (object_part_fails shapes (codes "meta") (codes "targets.json") meta) (λ entry. positive_part_fails shapes (codes "meta") (codes "version") entry))) (λ version. ok_fails _))
 
 pub snapshots_read : Moments → ReadsAs snapshot_of MeansSnapshot
 snapshots_read moments = record { read = snapshot_read moments; there = λ d file plain h. snapshot_there moments d file h; fails = snapshot_fails }
@@ -89,12 +104,8 @@ timestamp_read moments d file h =
     first_ok _ _ _ _ h (λ head a h. first_ok _ _ _ _ h (λ vehicle b h. first_ok _ _ _ _ h (λ entry c h. first_ok _ _ _ _ h (λ version e h. first_ok _ _ _ _ h (λ hash f h.
     first_ok _ _ _ _ c (λ meta g c.
     subst (MeansTimestamp d) (same_ok _ _ h) (record {
-      head = head_read moments (codes "timestamp") d head a;
-      vehicle = vehicle_read head.repository d vehicle b;
-      meta = meta;
-      has_meta = object_read (codes "meta") d meta g;
       entry = entry;
-      has_entry = object_part_read (codes "meta") (codes "snapshot.json") meta entry c;
+      listing = listing_read moments (codes "timestamp") (codes "snapshot.json") d meta entry head vehicle a b g c;
       snapshot_version = positive_part_read (codes "meta") (codes "version") entry version e;
       snapshot_sha256 = sha256_part_read (codes "meta") entry hash f;
     })))))))
@@ -102,22 +113,18 @@ timestamp_read moments d file h =
 timestamp_there : Moments → (d : Data) (file : TimestampFile) → MeansTimestamp d file → timestamp_of d ≡ Ok file
 unfolding timestamp_of timestamp_entry_in
 timestamp_there moments d file h =
-    bind-ok _ _ _ (head_there moments (codes "timestamp") d file.repository file.version file.expires h.head)
-    ∙ bind-ok _ _ file.vehicle (vehicle_there file.repository d file.vehicle h.vehicle)
-    ∙ bind-ok _ _ h.entry (
-    bind-ok _ _ h.meta (object_there (codes "meta") d h.meta h.has_meta)
-    ∙ object_part_there (codes "meta") (codes "snapshot.json") h.meta h.entry h.has_entry)
+    heading_there moments (codes "timestamp") d file.repository file.version file.expires file.vehicle _ h.listing.head h.listing.vehicle
+    ∙ bind-ok _ _ h.entry (bind-ok _ _ h.listing.meta (object_there (codes "meta") d h.listing.meta h.listing.has_meta) ∙ object_part_there (codes "meta") (codes "snapshot.json") h.listing.meta h.entry h.listing.has_entry)
     ∙ bind-ok _ _ file.snapshot_version (positive_part_there (codes "meta") (codes "version") h.entry file.snapshot_version h.snapshot_version)
     ∙ bind-ok _ _ file.snapshot_sha256 (sha256_part_there (codes "meta") h.entry file.snapshot_sha256 h.snapshot_sha256)
 
 timestamp_fails : (d : Data) → Fails IsTextFault (timestamp_of d)
 unfolding timestamp_of timestamp_entry_in
 timestamp_fails d =
-    then_fails _ _ (head_fails shapes (codes "timestamp") d) (λ head.
-    then_fails _ _ (vehicle_fails shapes head.repository d) (λ vehicle.
+    heading_fails (codes "timestamp") d _ (λ head vehicle.
     then_fails _ _ (then_fails _ _ (object_fails shapes (codes "meta") d) (λ meta. object_part_fails shapes (codes "meta") (codes "snapshot.json") meta)) (λ entry.
     then_fails _ _ (positive_part_fails shapes (codes "meta") (codes "version") entry) (λ version.
-    then_fails _ _ (sha256_part_fails shapes (codes "meta") entry) (λ hash. ok_fails _)))))
+    then_fails _ _ (sha256_part_fails shapes (codes "meta") entry) (λ hash. ok_fails _))))
 
 pub timestamps_read : Moments → ReadsAs timestamp_of MeansTimestamp
 timestamps_read moments = record { read = timestamp_read moments; there = λ d file plain h. timestamp_there moments d file h; fails = timestamp_fails }
@@ -247,8 +254,7 @@ targets_read moments d file h =
 targets_there : Moments → (d : Data) (file : TargetsFile) → MeansTargets d file → targets_of d ≡ Ok file
 unfolding targets_of target_list_in
 targets_there moments d file h =
-    bind-ok _ _ _ (head_there moments (codes "targets") d file.repository file.version file.expires h.head)
-    ∙ bind-ok _ _ file.vehicle (vehicle_there file.repository d file.vehicle h.vehicle)
+    heading_there moments (codes "targets") d file.repository file.version file.expires file.vehicle _ h.head h.vehicle
     ∙ bind-ok _ _ file.targets (
     bind-ok _ _ (items_list h.listed) (list_there (codes "targets") d h.listed h.has_targets)
     ∙ bind-ok _ _ file.targets (each_there (target_of file.repository) (MeansTarget file.repository) (target_there file.repository) h.listed file.targets h.targets)
@@ -257,11 +263,9 @@ targets_there moments d file h =
 targets_fails : (d : Data) → Fails IsTextFault (targets_of d)
 unfolding targets_of target_list_in
 targets_fails d =
-    then_fails _ _ (head_fails shapes (codes "targets") d) (λ head.
-    then_fails _ _ (vehicle_fails shapes head.repository d) (λ vehicle.
-    then_fails _ _ (
+    heading_fails (codes "targets") d _ (λ head vehicle. then_fails _ _ (
     then_fails _ _ (list_fails shapes (codes "targets") d) (λ values.
-    then_fails _ _ (each_fails (target_of head.repository) (target_fails head.repository) values) (λ targets. fitting_fails shapes (λ ts. are_distinct (ecus_of ts)) (codes "targets") targets))) (λ targets. ok_fails _)))
+    then_fails _ _ (each_fails (target_of head.repository) (target_fails head.repository) values) (λ targets. fitting_fails shapes (λ ts. are_distinct (ecus_of ts)) (codes "targets") targets))) (λ targets. ok_fails _))
 
 pub targets_files_read : Moments → ReadsAs targets_of MeansTargets
 targets_files_read moments = record { read = targets_read moments; there = λ d file plain h. targets_there moments d file h; fails = targets_fails }
@@ -274,10 +278,8 @@ file_read meaning M reads bytes p h =
     first_ok _ _ _ _ h (λ d a h. first_ok _ _ _ _ h (λ opened b h. first_ok _ _ _ _ h (λ file c h.
     let v = value_read largest_file bytes d a in
     subst (λ p. MeansFile M bytes p.0 p.1) (same_ok _ _ h) (record {
-      small = v.0;
-      utf8 = v.1;
       value = d;
-      reads = v.2;
+      json_text = record { small = v.0; utf8 = v.1; reads = v.2 };
       payload = opened.payload;
       enveloped = opened_read (codes "body") d opened b;
       means = reads.read opened.payload file c;
@@ -292,7 +294,7 @@ unfolding file_in
 file_there meaning M reads bytes file e h =
     let canon = chosen (has_canon h.payload) (text h.payload) e.signed h.enveloped.signed.0 in
     let plain = (and_parts (is_plain h.payload) _ canon).0 in
-    bind-ok _ _ h.value (value_there largest_file bytes h.value h.small h.utf8 h.reads)
+    bind-ok _ _ h.value (value_there largest_file bytes h.value h.json_text.small h.json_text.utf8 h.json_text.reads)
     ∙ bind-ok _ _ _ (opened_there (codes "body") h.value h.payload e h.enveloped)
     ∙ bind-ok _ _ file (reads.there h.payload file plain h.means)
 

@@ -56,16 +56,16 @@ hash_fitting d hash h =
 
 pub snapshots_fit : MeantSnapshotsFit
 snapshots_fit d file h =
-    let name = name_fitting file.repository d (codes "vehicle") file.vehicle h.vehicle in (
-      both _ _ (both _ _ (version_fitting d (codes "version") file.version h.head.has_version) name.0) (version_fitting h.entry (codes "version") file.targets_version h.targets_version),
-      both _ _ (moment_fitting file.expires h.head.in_time) name.1,
+    let name = name_fitting file.repository d (codes "vehicle") file.vehicle h.listing.vehicle in (
+      both _ _ (both _ _ (version_fitting d (codes "version") file.version h.listing.head.has_version) name.0) (version_fitting h.entry (codes "version") file.targets_version h.targets_version),
+      both _ _ (moment_fitting file.expires h.listing.head.in_time) name.1,
     )
 
 pub timestamps_fit : MeantTimestampsFit
 timestamps_fit d file h =
-    let name = name_fitting file.repository d (codes "vehicle") file.vehicle h.vehicle in (
-      both _ _ (both _ _ (version_fitting d (codes "version") file.version h.head.has_version) name.0) (version_fitting h.entry (codes "version") file.snapshot_version h.snapshot_version),
-      both _ _ (both _ _ (moment_fitting file.expires h.head.in_time) name.1) (hash_fitting h.entry file.snapshot_sha256 h.snapshot_sha256),
+    let name = name_fitting file.repository d (codes "vehicle") file.vehicle h.listing.vehicle in (
+      both _ _ (both _ _ (version_fitting d (codes "version") file.version h.listing.head.has_version) name.0) (version_fitting h.entry (codes "version") file.snapshot_version h.snapshot_version),
+      both _ _ (both _ _ (moment_fitting file.expires h.listing.head.in_time) name.1) (hash_fitting h.entry file.snapshot_sha256 h.snapshot_sha256),
     )
 
 -- ---- Targets

@@ -12,8 +12,8 @@ use Rattle.up_canon.specs.Meaning.{HasText, HasCount, HasObject}
 use Rattle.up_canon.specs.Members.{items_list, text_of, count_of, list_of, object_of}
 use Rattle.up_canon.specs.Moments.{moment_text, MomentsAreRead, OnlyTextsAreRead}
 use Rattle.up_canon.specs.Names.{Name, is_from_to, is_ident, is_file_name}
-use Rattle.up_canon.specs.Readers.{ident_of, file_name_of}
-use Rattle.up_canon.specs.Steps.{or_error, value_of}
+use Rattle.up_canon.specs.Readers.{ident_of, file_name_of, fitting}
+use Rattle.up_canon.specs.Steps.{◌>>=◌, or_error, value_of}
 use Rattle.up_canon.specs.declared.refusal.Refusal.{Refusal}
 use Rattle.up_canon.specs.declared.refusal.Refusal.TheVariants.{BadShape}
 use Rattle.up_canon.proofs.Faults.{Fails, AllowsShapes, then_fails, ok_fails, or_error_fails, unless_fails, fitting_fails, self_fails, text_fails, word_fails, positive_fails, ident_fails}
@@ -74,25 +74,32 @@ pub object_part_there : (fault name : List ℕ) (d o : Data) → HasObject d nam
 unfolding object_part part_in object_of
 object_part_there fault name d o has = bind-ok _ _ (object has.0) (ap (or_error (BadShape fault)) has.1) ∙ ap Ok (sym has.2)
 
-pub ident_part_read : (fault name : List ℕ) (d : Data) (t : Name) → ident_part fault name d ≡ Ok t → HasText d name t × (is_ident t ≡ true)
-unfolding ident_part part_in ident_of text_of
-ident_part_read fault name d t h = first_ok _ _ _ _ h (λ v has h. first_ok _ _ _ _ h (λ s is h.
-    let p = fits_read is_ident fault s t h in
+-- a text that passes a test
+named_part_read : (fits : List ℕ → Bool) (fault name : List ℕ) (d : Data) (t : Name) → (part_in fault name d >>= λ v. text_of fault v >>= λ s. fitting fits fault s) ≡ Ok t → HasText d name t × (fits t ≡ true)
+unfolding part_in text_of
+named_part_read fits fault name d t h = first_ok _ _ _ _ h (λ v has h. first_ok _ _ _ _ h (λ s is h.
+    let p = fits_read fits fault s t h in
     (subst (HasText d name) p.1 (or_error_ok _ _ v has ∙ ap Some (is_text v s (or_error_ok _ _ s is))), p.0)))
 
-pub ident_part_there : (fault name : List ℕ) (d : Data) (t : Name) → HasText d name t → is_ident t ≡ true → ident_part fault name d ≡ Ok t
-unfolding ident_part part_in ident_of text_of
-ident_part_there fault name d t has ok = bind-ok _ _ (string t) (ap (or_error (BadShape fault)) has) ∙ bind-ok _ _ t refl ∙ fits_there is_ident fault t ok
+named_part_there : (fits : List ℕ → Bool) (fault name : List ℕ) (d : Data) (t : Name) → HasText d name t → fits t ≡ true → (part_in fault name d >>= λ v. text_of fault v >>= λ s. fitting fits fault s) ≡ Ok t
+unfolding part_in text_of
+named_part_there fits fault name d t has ok = bind-ok _ _ (string t) (ap (or_error (BadShape fault)) has) ∙ bind-ok _ _ t refl ∙ fits_there fits fault t ok
+
+pub ident_part_read : (fault name : List ℕ) (d : Data) (t : Name) → ident_part fault name d ≡ Ok t → HasText d name t × (is_ident t ≡ true)
+unfolding ident_part ident_of
+ident_part_read = named_part_read is_ident
 
 pub file_name_part_read : (fault name : List ℕ) (d : Data) (t : Name) → file_name_part fault name d ≡ Ok t → HasText d name t × (is_file_name t ≡ true)
-unfolding file_name_part part_in file_name_of text_of
-file_name_part_read fault name d t h = first_ok _ _ _ _ h (λ v has h. first_ok _ _ _ _ h (λ s is h.
-    let p = fits_read is_file_name fault s t h in
-    (subst (HasText d name) p.1 (or_error_ok _ _ v has ∙ ap Some (is_text v s (or_error_ok _ _ s is))), p.0)))
+unfolding file_name_part file_name_of
+file_name_part_read = named_part_read is_file_name
+
+pub ident_part_there : (fault name : List ℕ) (d : Data) (t : Name) → HasText d name t → is_ident t ≡ true → ident_part fault name d ≡ Ok t
+unfolding ident_part ident_of
+ident_part_there = named_part_there is_ident
 
 pub file_name_part_there : (fault name : List ℕ) (d : Data) (t : Name) → HasText d name t → is_file_name t ≡ true → file_name_part fault name d ≡ Ok t
-unfolding file_name_part part_in file_name_of text_of
-file_name_part_there fault name d t has ok = bind-ok _ _ (string t) (ap (or_error (BadShape fault)) has) ∙ bind-ok _ _ t refl ∙ fits_there is_file_name fault t ok
+unfolding file_name_part file_name_of
+file_name_part_there = named_part_there is_file_name
 
 pub few_part_read : (least most : ℕ) (fault name : List ℕ) (d : Data) (ds : List Data) → few_part least most fault name d ≡ Ok ds
     → (items : Items) × (json.get name d ≡ Some (array items)) × (items_list items ≡ ds) × (is_from_to least most (length ds) ≡ true)

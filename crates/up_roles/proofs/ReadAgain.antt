@@ -69,10 +69,8 @@ read-again meaning M reads k secrets payload file law signers canon object means
     let read = law.texts (codes "body") e payload limits.0 limits.1 (rw canon refl, object) in
     let ascii = envelope-ascii e limits.0 limits.1 (text-ascii payload (and_parts (is_plain payload) _ canon).0) in
     file_there meaning M reads (envelope_text e) file e (record {
-      small = small;
-      utf8 = IsUtf8-from_ascii (envelope_text e) ascii;
       value = envelope_value e payload;
-      reads = read.0;
+      json_text = record { small = small; utf8 = IsUtf8-from_ascii (envelope_text e) ascii; reads = read.0 };
       payload = payload;
       enveloped = opened_read (codes "body") (envelope_value e payload) (record { envelope = e; payload = payload }) read.1;
       means = means;

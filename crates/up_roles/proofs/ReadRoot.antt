@@ -1,8 +1,8 @@
 -- The payload of a Root file within its limits means the file.
-use Rattle.std.proofs.Common.{◌≡◌, ℕ, List, [], ◌∷◌, ◌++◌, Bool, true, false, Some, None, Ok, length, map, refl, ap, subst, ◌∙◌, arith}
+use Rattle.std.proofs.Common.{◌≡◌, ℕ, List, [], ◌∷◌, ◌++◌, Bool, true, Some, None, Ok, length, map, refl, ap, subst, ◌∙◌, arith}
 use Rattle.std.specs.Prelude.{codes, nat_le, bytes_eq, ◌||◌}
 use Rattle.std.specs.List.{AllByRecursion, list_all, list_any}
-use Rattle.std.proofs.lemmas.Bool.{and_parts, or_right}
+use Rattle.std.proofs.lemmas.Bool.{and_parts, or_left, or_right}
 use Rattle.std.proofs.lemmas.Bool.Decides.{nat_tests}
 use Rattle.std.proofs.lemmas.List.Folds.{list_all-append}
 use Rattle.serde_json.specs.Data.{Data, string, object, Members, no_members}
@@ -70,38 +70,16 @@ has-own (k ∷ keys) =
     let own = bytes_eq-refl k.keyid in
     both _ _ (rw own refl) (all-more (has keys) (has (k ∷ keys)) keys (λ x h. or_right (bytes_eq k.keyid x.keyid) (has keys x) h) (has-own keys))
 
-used_1 : (a b c d : Bool) → a ≡ true → (a || b || c || d) ≡ true
-used_1 true b c d h = refl
-used_1 false b c d h = cc
-
-used_2 : (a b c d : Bool) → b ≡ true → (a || b || c || d) ≡ true
-used_2 true b c d h = refl
-used_2 false true c d h = refl
-used_2 false false c d h = cc
-
-used_3 : (a b c d : Bool) → c ≡ true → (a || b || c || d) ≡ true
-used_3 true b c d h = refl
-used_3 false true c d h = refl
-used_3 false false true d h = refl
-used_3 false false false d h = cc
-
-used_4 : (a b c d : Bool) → d ≡ true → (a || b || c || d) ≡ true
-used_4 true b c d h = refl
-used_4 false true c d h = refl
-used_4 false false true d h = refl
-used_4 false false false true h = refl
-used_4 false false false false h = cc
-
 all-used : (file : RootFile) → list_all (is_used file) (all_keys file) ≡ true
 all-used file =
     let a = has_key file.root in
     let b = has_key file.targets in
     let c = has_key file.snapshot in
     let d = has_key file.timestamp in
-    let root = all-more a (is_used file) file.root.keys (λ x h. used_1 (a x) (b x) (c x) (d x) h) (has-own file.root.keys) in
-    let targets = all-more b (is_used file) file.targets.keys (λ x h. used_2 (a x) (b x) (c x) (d x) h) (has-own file.targets.keys) in
-    let snapshot = all-more c (is_used file) file.snapshot.keys (λ x h. used_3 (a x) (b x) (c x) (d x) h) (has-own file.snapshot.keys) in
-    let timestamp = all-more d (is_used file) file.timestamp.keys (λ x h. used_4 (a x) (b x) (c x) (d x) h) (has-own file.timestamp.keys) in
+    let root = all-more a (is_used file) file.root.keys (λ x h. or_left _ _ (or_left _ _ (or_left (a x) (b x) h))) (has-own file.root.keys) in
+    let targets = all-more b (is_used file) file.targets.keys (λ x h. or_left _ _ (or_left _ _ (or_right (a x) (b x) h))) (has-own file.targets.keys) in
+    let snapshot = all-more c (is_used file) file.snapshot.keys (λ x h. or_left _ _ (or_right (a x || b x) (c x) h)) (has-own file.snapshot.keys) in
+    let timestamp = all-more d (is_used file) file.timestamp.keys (λ x h. or_right (a x || b x || c x) (d x) h) (has-own file.timestamp.keys) in
     rw (
       list_all-append (is_used file) (file.root.keys ++ file.targets.keys ++ file.snapshot.keys) file.timestamp.keys,
       list_all-append (is_used file) (file.root.keys ++ file.targets.keys) file.snapshot.keys,

@@ -1,11 +1,10 @@
 -- What the bytes of a role file mean, as relations: which members its payload has (Uptane Standard 2.1.0 says what each role's metadata
 -- contain, and leaves the encoding open; this is the one used here). Members that none of these names are left aside.
-use Rattle.std.specs.Prelude.{◌≡◌, ℕ, ◌≤◌, List, IsTrue, IsUtf8, bytes_eq, length, Option, Some, None, codes, ⊤}
+use Rattle.std.specs.Prelude.{◌≡◌, ℕ, ◌≤◌, List, IsTrue, bytes_eq, length, Option, Some, None, codes, ⊤}
 use Rattle.std.specs.List.{AllByRecursion, list_all, list_any}
 use Rattle.serde_json.specs.Data.{Data, string, array, Items}
 use Rattle.serde_json.specs.Find as json
-use Rattle.serde_json.specs.Read.{read}
-use Rattle.up_canon.specs.Meaning.{HasText, HasCount, HasObject, HasHex, EachMeans}
+use Rattle.up_canon.specs.Meaning.{MeansValue, HasText, HasCount, HasObject, HasHex, EachMeans}
 use Rattle.up_canon.specs.Moments.{last_moment, moment_text}
 use Rattle.up_canon.specs.Names.{Name, is_ident, is_file_name, are_distinct, hardware_fits}
 use Rattle.up_sign.specs.Meaning.{MeansEnvelope}
@@ -52,28 +51,26 @@ pub record MeansHead (kind : List ℕ) (d : Data) (repository : Repository) (ver
   pub has_expires : HasText d (codes "expires") (moment_text expires)
   pub in_time : expires ≤ last_moment
 
--- ---- Snapshot
+-- ---- Snapshot and Timestamp
+
+-- what a file that lists another one says of itself, and its entry of the file of that name
+pub record MeansListing (kind listed : List ℕ) (d : Data) (repository : Repository) (version expires : ℕ) (name : Option Name) (entry : Data) : Type 0 where
+  pub head : MeansHead kind d repository version expires
+  pub vehicle : HasName repository d (codes "vehicle") name
+  pub meta : Data
+  pub has_meta : HasObject d (codes "meta") meta
+  pub has_entry : HasObject meta listed entry
 
 -- the version of the Targets file
 pub record MeansSnapshot (d : Data) (file : SnapshotFile) : Type 0 where
-  pub head : MeansHead (codes "snapshot") d file.repository file.version file.expires
-  pub vehicle : HasName file.repository d (codes "vehicle") file.vehicle
-  pub meta : Data
-  pub has_meta : HasObject d (codes "meta") meta
   pub entry : Data
-  pub has_entry : HasObject meta (codes "targets.json") entry
+  pub listing : MeansListing (codes "snapshot") (codes "targets.json") d file.repository file.version file.expires file.vehicle entry
   pub targets_version : HasPositive entry (codes "version") file.targets_version
-
--- ---- Timestamp
 
 -- the version of the Snapshot file, and the hash of its text
 pub record MeansTimestamp (d : Data) (file : TimestampFile) : Type 0 where
-  pub head : MeansHead (codes "timestamp") d file.repository file.version file.expires
-  pub vehicle : HasName file.repository d (codes "vehicle") file.vehicle
-  pub meta : Data
-  pub has_meta : HasObject d (codes "meta") meta
   pub entry : Data
-  pub has_entry : HasObject meta (codes "snapshot.json") entry
+  pub listing : MeansListing (codes "timestamp") (codes "snapshot.json") d file.repository file.version file.expires file.vehicle entry
   pub snapshot_version : HasPositive entry (codes "version") file.snapshot_version
   pub snapshot_sha256 : HasSha256 entry file.snapshot_sha256
 
@@ -146,10 +143,8 @@ pub record MeansRoot (d : Data) (file : RootFile) : Type 0 where
 
 -- JSON in UTF-8 (RFC 8259): an envelope, of whose payload M says what it means
 pub record MeansFile {F : Type 0} (M : Data → F → Type 0) (bytes : List ℕ) (file : F) (envelope : Envelope) : Type 0 where
-  pub small : length bytes ≤ largest_file
-  pub utf8 : IsUtf8 bytes
   pub value : Data
-  pub reads : read bytes ≡ Some value
+  pub json_text : MeansValue largest_file bytes value
   pub payload : Data
   pub enveloped : MeansEnvelope value payload envelope
   pub means : M payload file

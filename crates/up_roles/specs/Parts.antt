@@ -15,10 +15,14 @@ use Rattle.up_canon.specs.declared.refusal.Refusal.TheVariants.{BadShape}
 unfoldable pub part_in : List ℕ → List ℕ → Data → Result Data Refusal
 part_in fault name d = or_error (BadShape fault) (json.get name d)
 
-unfoldable pub object_part : List ℕ → List ℕ → Data → Result Data Refusal
-object_part fault name d = do
+-- what the part of that name is read as
+abbrev pub part_as : {A : Type 0} → (List ℕ → Data → Result A Refusal) → List ℕ → List ℕ → Data → Result A Refusal
+part_as reader fault name d = do
   value ← part_in fault name d
-  object_of fault value
+  reader fault value
+
+unfoldable pub object_part : List ℕ → List ℕ → Data → Result Data Refusal
+object_part = part_as object_of
 
 -- a list of so many items
 unfoldable pub few_part : ℕ → ℕ → List ℕ → List ℕ → Data → Result (List Data) Refusal
@@ -28,14 +32,10 @@ few_part least most fault name d = do
   fitting (λ vs. is_from_to least most (length vs)) fault values
 
 unfoldable pub text_part : List ℕ → List ℕ → Data → Result (List ℕ) Refusal
-text_part fault name d = do
-  value ← part_in fault name d
-  text_of fault value
+text_part = part_as text_of
 
 unfoldable pub count_part : List ℕ → List ℕ → Data → Result ℕ Refusal
-count_part fault name d = do
-  value ← part_in fault name d
-  count_of fault value
+count_part = part_as count_of
 
 -- a count from 1
 unfoldable pub positive_part : List ℕ → List ℕ → Data → Result ℕ Refusal
@@ -44,14 +44,10 @@ positive_part fault name d = do
   fitting (nat_le 1) fault count
 
 unfoldable pub ident_part : List ℕ → List ℕ → Data → Result Name Refusal
-ident_part fault name d = do
-  value ← part_in fault name d
-  ident_of fault value
+ident_part = part_as ident_of
 
 unfoldable pub file_name_part : List ℕ → List ℕ → Data → Result Name Refusal
-file_name_part fault name d = do
-  value ← part_in fault name d
-  file_name_of fault value
+file_name_part = part_as file_name_of
 
 -- `0` to `9` and `a` to `f`
 abbrev pub is_lower_digit : ℕ → Bool

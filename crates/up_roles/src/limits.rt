@@ -8,7 +8,7 @@ ghost use Rattle.up_roles.specs.Targets.{target_fits as target_fits_of, targets_
 ghost use Rattle.up_roles.specs.Timestamp.{timestamp_fits};
 
 use crate::repository::Repository;
-use crate::root::{RoleKeys, RootFile, RootKey};
+use crate::root::{MAX_KEYID, MAX_METHOD, MAX_SHOWN, RoleKeys, RootFile, RootKey};
 use crate::snapshot::SnapshotFile;
 use crate::targets::{Target, TargetsFile, has_distinct_ecus};
 use crate::timestamp::TimestampFile;
@@ -113,9 +113,9 @@ fn keys_fit(keys: &[RootKey]) -> bool
 fn key_fits(key: &RootKey) -> bool
     ensures { result ≡ key_fits_of key.now }
 {
-    is_short(key.keyid.as_str(), 1, 128)
-        && is_short(key.method.as_str(), 1, 64)
-        && is_short(key.shown.as_str(), 0, 1024)
+    is_short(key.keyid.as_str(), 1, MAX_KEYID)
+        && is_short(key.method.as_str(), 1, MAX_METHOD)
+        && is_short(key.shown.as_str(), 0, MAX_SHOWN)
 }
 
 fn all_fit(repository: Repository, targets: &[Target]) -> bool

@@ -21,6 +21,15 @@ use up_canon::refusal::Refusal;
 use up_canon::text::Text;
 use up_sign::envelope::Envelope;
 
+/// The most bytes of a key's identifier.
+pub(crate) const MAX_KEYID: usize = 128;
+
+/// The most bytes of the name of a key's method.
+pub(crate) const MAX_METHOD: usize = 64;
+
+/// The most bytes of the text of a key's public part.
+pub(crate) const MAX_SHOWN: usize = 1024;
+
 /// A key as Root metadata shows it: its identifier, the name of its method, and the scheme's text of its public part.
 #[derive(Debug, Drop)]
 pub struct RootKey {

@@ -7,7 +7,7 @@ ghost use Rattle.up_canon.specs.Steps.{each};
 ghost use Rattle.up_roles.specs.Root.{entries_of, shown_in, key_of, keys_in};
 
 use crate::parts::text_part;
-use crate::root::RootKey;
+use crate::root::{MAX_KEYID, MAX_METHOD, MAX_SHOWN, RootKey};
 use serde_json::{Map, Value};
 use std::alloc::Global;
 use up_canon::fields::object_at;
@@ -40,12 +40,12 @@ fn each_key(alloc: Global, map: &Map<String, Value>) -> Result<Listed<RootKey>, 
 fn key_at(alloc: Global, keyid: &str, value: &Value) -> Result<RootKey, Refusal>
     ensures { Gives result (key_of (keyid.now, view value.now)) }
 {
-    if !is_short(keyid, 1, 128) {
+    if !is_short(keyid, 1, MAX_KEYID) {
         return Err(Refusal::from("keys"));
     }
     let map = object_of(value, "keys")?;
-    let method = shown_at(map, "method", 1, 64)?;
-    let shown = shown_at(map, "public", 0, 1024)?;
+    let method = shown_at(map, "method", 1, MAX_METHOD)?;
+    let shown = shown_at(map, "public", 0, MAX_SHOWN)?;
     Ok(RootKey {
         keyid: Text::new(keyid.to_string(alloc)?),
         method: Text::new(method.to_string(alloc)?),

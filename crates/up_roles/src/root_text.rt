@@ -4,6 +4,7 @@ ghost use Rattle.std.specs.List.{list_all};
 ghost use Rattle.serde_json.specs.Data.{string};
 ghost use Rattle.serde_json.specs.View.{view, members_view};
 ghost use Rattle.up_canon.specs.Build.{list_with, members_with, object_with};
+ghost use Rattle.up_sign.specs.Envelopes.{key_block};
 ghost use Rattle.up_roles.specs.Payload.{IsCanonical};
 ghost use Rattle.up_roles.specs.Root.{all_keys, key_member, put_keys, role_value as role_value_of, roles_value as roles_value_of, root_more, root_payload, root_text_of, root_fits, root_is_typed};
 
@@ -14,10 +15,12 @@ use crate::values::one_member;
 use serde_json::{Map, Value, json, put};
 use std::alloc::{AllocError, Global};
 use up_canon::bytes::Bytes;
+use up_sign::key_id::HashedKey;
 use up_sign::scheme::Scheme;
+use up_sign::seal::hashed_keys;
 
-/// The text of the Root file, which is within its limits (`fits`): its envelope, signed with each of 1 to 8 secrets that fit,
-/// in order.
+/// The text of the Root file, which is within its limits (`fits`): its envelope, signed with each of 1 to 8 secrets that
+/// fit, in order.
 pub fn root_text<K: Scheme>(
     alloc: Global,
     scheme: &K,
@@ -31,8 +34,28 @@ pub fn root_text<K: Scheme>(
     ensures canonical { OnOk result (IsCanonical (root_payload file.now)) }
     ensures typed { OnOk result (root_is_typed file.now ≡ true) }
 {
+    let keys = hashed_keys(alloc, scheme, secrets)?;
+    root_text_by(alloc, scheme, secrets, keys.as_slice(), file)
+}
+
+/// As `root_text`, with the secrets' keys hashed already (`up_sign::seal::hashed_keys`).
+pub fn root_text_by<K: Scheme>(
+    alloc: Global,
+    scheme: &K,
+    secrets: &[Bytes],
+    keys: &[HashedKey],
+    file: &RootFile,
+) -> Result<String, AllocError>
+    requires fit { IsTrue (list_all (K.rules scheme.now).secret_fits secrets.now) }
+    requires number { (1 ≤ length secrets.now) × (length secrets.now ≤ 8) }
+    requires hashed { keys.now ≡ map (key_block (K.rules scheme.now)) secrets.now }
+    requires limits { IsTrue (root_fits file.now) }
+    ensures value { IfOk result (λ t. string_bytes t ≡ root_text_of (K.rules scheme.now) secrets.now file.now) }
+    ensures canonical { OnOk result (IsCanonical (root_payload file.now)) }
+    ensures typed { OnOk result (root_is_typed file.now ≡ true) }
+{
     let payload = root_value(alloc, file)?;
-    sealed_text(alloc, scheme, secrets, &payload)
+    sealed_text(alloc, scheme, secrets, keys, &payload)
 }
 
 fn root_value(alloc: Global, file: &RootFile) -> Result<Value, AllocError>

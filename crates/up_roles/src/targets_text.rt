@@ -4,6 +4,7 @@ ghost use Rattle.std.specs.List.{list_all};
 ghost use Rattle.serde_json.specs.Data.{string};
 ghost use Rattle.serde_json.specs.View.{view, members_view};
 ghost use Rattle.up_canon.specs.Build.{list_with, members_with};
+ghost use Rattle.up_sign.specs.Envelopes.{key_block};
 ghost use Rattle.up_roles.specs.Payload.{IsCanonical, is_named};
 ghost use Rattle.up_roles.specs.Targets.{target_value as target_value_of, targets_payload, targets_text_of, targets_fits, target_is_typed, targets_is_typed};
 
@@ -16,7 +17,9 @@ use std::alloc::{AllocError, Global};
 use up_canon::bytes::Bytes;
 use up_canon::hex_text::hashes_value;
 use up_canon::ident::Ident;
+use up_sign::key_id::HashedKey;
 use up_sign::scheme::Scheme;
+use up_sign::seal::hashed_keys;
 
 /// The text of the Targets file, which is within its limits (`fits`): its envelope, signed with each of 1 to 8 secrets that
 /// fit, in order.
@@ -33,8 +36,28 @@ pub fn targets_text<K: Scheme>(
     ensures canonical { OnOk result (IsCanonical (targets_payload file.now)) }
     ensures typed { OnOk result (targets_is_typed file.now ≡ true) }
 {
+    let keys = hashed_keys(alloc, scheme, secrets)?;
+    targets_text_by(alloc, scheme, secrets, keys.as_slice(), file)
+}
+
+/// As `targets_text`, with the secrets' keys hashed already (`up_sign::seal::hashed_keys`).
+pub fn targets_text_by<K: Scheme>(
+    alloc: Global,
+    scheme: &K,
+    secrets: &[Bytes],
+    keys: &[HashedKey],
+    file: &TargetsFile,
+) -> Result<String, AllocError>
+    requires fit { IsTrue (list_all (K.rules scheme.now).secret_fits secrets.now) }
+    requires number { (1 ≤ length secrets.now) × (length secrets.now ≤ 8) }
+    requires hashed { keys.now ≡ map (key_block (K.rules scheme.now)) secrets.now }
+    requires limits { IsTrue (targets_fits file.now) }
+    ensures value { IfOk result (λ t. string_bytes t ≡ targets_text_of (K.rules scheme.now) secrets.now file.now) }
+    ensures canonical { OnOk result (IsCanonical (targets_payload file.now)) }
+    ensures typed { OnOk result (targets_is_typed file.now ≡ true) }
+{
     let payload = targets_value(alloc, file)?;
-    sealed_text(alloc, scheme, secrets, &payload)
+    sealed_text(alloc, scheme, secrets, keys, &payload)
 }
 
 fn targets_value(alloc: Global, file: &TargetsFile) -> Result<Value, AllocError>

@@ -1,11 +1,12 @@
 //! Timestamp files: the version and the hash of the Snapshot file.
-ghost use Rattle.std.specs.Prelude.{◌≡◌, ◌<◌, ◌≤◌, ◌∷◌, [], Ok, Err, IsTrue, IfOk, OnOk, MatchResult, codes, length, string_bytes, true};
+ghost use Rattle.std.specs.Prelude.{◌≡◌, ◌<◌, ◌≤◌, ◌∷◌, [], Ok, Err, IsTrue, IfOk, OnOk, MatchResult, codes, length, map, string_bytes, true};
 ghost use Rattle.std.specs.List.{list_all};
 ghost use Rattle.serde_json.specs.View.{view, members_view};
 ghost use Rattle.up_canon.specs.Build.{members_with};
 ghost use Rattle.up_canon.specs.Members.{IsFault, object_of_map};
 ghost use Rattle.up_canon.specs.Refusals.{Gives};
 ghost use Rattle.up_canon.specs.declared.refusal.Refusal.TheVariants.{TooLarge};
+ghost use Rattle.up_sign.specs.Envelopes.{key_block};
 ghost use Rattle.up_roles.specs.Payload.{largest_file, IsCanonical};
 ghost use Rattle.up_roles.specs.Timestamp.{meta_of, timestamp_payload, timestamp_text_of, timestamp_fits, timestamp_is_typed, timestamp_in, timestamp_of, timestamp_entry_in};
 
@@ -25,7 +26,9 @@ use up_canon::listed::Duplicate;
 use up_canon::moment::Moment;
 use up_canon::refusal::Refusal;
 use up_sign::envelope::Envelope;
+use up_sign::key_id::HashedKey;
 use up_sign::scheme::Scheme;
+use up_sign::seal::hashed_keys;
 
 /// Timestamp metadata: the version of the Snapshot file, and the SHA-256 of that file's whole text. The Director's is
 /// for one vehicle, which it names. The type keeps no limits; `fits` tells.
@@ -117,8 +120,28 @@ pub fn timestamp_text<K: Scheme>(
     ensures canonical { OnOk result (IsCanonical (timestamp_payload file.now)) }
     ensures typed { OnOk result (timestamp_is_typed file.now ≡ true) }
 {
+    let keys = hashed_keys(alloc, scheme, secrets)?;
+    timestamp_text_by(alloc, scheme, secrets, keys.as_slice(), file)
+}
+
+/// As `timestamp_text`, with the secrets' keys hashed already (`up_sign::seal::hashed_keys`).
+pub fn timestamp_text_by<K: Scheme>(
+    alloc: Global,
+    scheme: &K,
+    secrets: &[Bytes],
+    keys: &[HashedKey],
+    file: &TimestampFile,
+) -> Result<String, AllocError>
+    requires fit { IsTrue (list_all (K.rules scheme.now).secret_fits secrets.now) }
+    requires number { (1 ≤ length secrets.now) × (length secrets.now ≤ 8) }
+    requires hashed { keys.now ≡ map (key_block (K.rules scheme.now)) secrets.now }
+    requires limits { IsTrue (timestamp_fits file.now) }
+    ensures value { IfOk result (λ t. string_bytes t ≡ timestamp_text_of (K.rules scheme.now) secrets.now file.now) }
+    ensures canonical { OnOk result (IsCanonical (timestamp_payload file.now)) }
+    ensures typed { OnOk result (timestamp_is_typed file.now ≡ true) }
+{
     let payload = timestamp_value(alloc, file)?;
-    sealed_text(alloc, scheme, secrets, &payload)
+    sealed_text(alloc, scheme, secrets, keys, &payload)
 }
 
 fn timestamp_value(alloc: Global, file: &TimestampFile) -> Result<Value, AllocError>

@@ -10,6 +10,7 @@ use Rattle.up_canon.specs.declared.refusal.Refusal.TheVariants.{NotJson}
 use Rattle.up_sign.specs.Schemes.{Rules}
 use Rattle.up_roles.specs.Payload.{repository_in}
 use Rattle.up_machine.specs.Commands.{opens_running}
+use Rattle.up_machine.specs.declared.command.Command.{Command}
 use Rattle.up_machine.specs.declared.command.Command.TheVariants as command
 use Rattle.up_script.specs.declared.asked.Asked.{Asked}
 use Rattle.up_script.specs.declared.asked.What.{What}
@@ -25,46 +26,15 @@ use Rattle.up_script.specs.BenchLines.{bench_in}
 
 -- ---- the members of each word
 
-unfoldable pub found_in : Data → Result What Refusal
-found_in d = do
-  keys ← key_set_in d
-  Ok (Call (command.Found keys))
-
-unfoldable pub rotate_in : Data → Result What Refusal
-rotate_in d = do
-  keys ← key_set_in d
-  Ok (Call (command.Rotate keys))
-
-unfoldable pub add_vehicle_in : Data → Result What Refusal
-add_vehicle_in d = do
-  vehicle ← vehicle_in d
-  Ok (Call (command.AddVehicle vehicle))
-
-unfoldable pub add_image_in : Data → Result What Refusal
-add_image_in d = do
-  image ← image_in d
-  Ok (Call (command.AddImage image))
-
-unfoldable pub refresh_in : Data → Result What Refusal
-refresh_in d = do
-  version ← count_in (codes "version") d
-  Ok (Call (command.Refresh version))
-
-unfoldable pub open_campaign_in : Data → Result What Refusal
-open_campaign_in d = do
-  campaign ← campaign_in d
-  Ok (Call (command.OpenCampaign campaign))
-
-unfoldable pub close_campaign_in : Data → Result What Refusal
-close_campaign_in d = do
-  name ← ident_in (codes "campaign") d
-  Ok (Call (command.CloseCampaign name))
+-- the command of what is read
+abbrev pub calls : {A : Type 0} → (A → Command) → Result A Refusal → Result What Refusal
+calls make read = do
+  x ← read
+  Ok (Call (make x))
 
 -- the bytes of a text
 unfoldable pub deliver_in : Data → Result What Refusal
-deliver_in d = do
-  body ← text_in (codes "body") d
-  Ok (Call (command.Deliver body))
+deliver_in d = calls command.Deliver (text_in (codes "body") d)
 
 unfoldable pub fetch_in : Data → Result What Refusal
 fetch_in d = do
@@ -72,28 +42,23 @@ fetch_in d = do
   file ← file_name_in (codes "file") d
   Ok (Call (command.Fetch repository file))
 
--- a delivery of the manifest that is built
-unfoldable pub delivered_in : Rules → Data → Result What Refusal
-delivered_in k d = do
-  body ← bench_in k d
-  Ok (Call (command.Deliver body))
-
 unfoldable pub show_in : Data → Result What Refusal
 show_in d = do
   vehicle ← ident_in (codes "vehicle") d
   Ok (Show vehicle)
 
+-- each word has its command, and that of a bench is a delivery of the manifest that is built
 abbrev pub what_in : Rules → Word → Data → Result What Refusal
-what_in k word.Found d = found_in d
-what_in k word.Rotate d = rotate_in d
-what_in k word.AddVehicle d = add_vehicle_in d
-what_in k word.AddImage d = add_image_in d
-what_in k word.Refresh d = refresh_in d
-what_in k word.OpenCampaign d = open_campaign_in d
-what_in k word.CloseCampaign d = close_campaign_in d
+what_in k word.Found d = calls command.Found (key_set_in d)
+what_in k word.Rotate d = calls command.Rotate (key_set_in d)
+what_in k word.AddVehicle d = calls command.AddVehicle (vehicle_in d)
+what_in k word.AddImage d = calls command.AddImage (image_in d)
+what_in k word.Refresh d = calls command.Refresh (count_in (codes "version") d)
+what_in k word.OpenCampaign d = calls command.OpenCampaign (campaign_in d)
+what_in k word.CloseCampaign d = calls command.CloseCampaign (ident_in (codes "campaign") d)
 what_in k word.Deliver d = deliver_in d
 what_in k word.Fetch d = fetch_in d
-what_in k word.Bench d = delivered_in k d
+what_in k word.Bench d = calls command.Deliver (bench_in k d)
 what_in k word.Show d = show_in d
 
 -- a campaign that a line opens is running

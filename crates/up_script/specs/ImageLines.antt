@@ -24,8 +24,9 @@ abbrev pub within : {A : Type 0} → Option (List ℕ) → A → Result A Refusa
 within None x = Ok x
 within (Some fault) x = Err (BadShape fault)
 
-abbrev pub checked : ImageData → Result ImageData Refusal
-checked image = within (image_fault image) image
+-- the value, unless a fault is found in it
+abbrev pub checked : {A : Type 0} → (A → Option (List ℕ)) → A → Result A Refusal
+checked fault x = within (fault x) x
 
 unfoldable pub image_in : Data → Result ImageData Refusal
 image_in d = do
@@ -39,4 +40,4 @@ image_in d = do
   needs ← each (need_of (codes "needs")) need_values
   conflict_values ← optional_list_in (codes "conflicts") d
   conflicts ← each (file_name_of (codes "conflicts")) conflict_values
-  checked (record { file = file; length = size; sha256 = sha256; hardware = hardware; release = release; needs = needs; conflicts = conflicts })
+  checked image_fault (record { file = file; length = size; sha256 = sha256; hardware = hardware; release = release; needs = needs; conflicts = conflicts })

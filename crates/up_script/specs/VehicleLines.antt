@@ -8,7 +8,7 @@ use Rattle.up_canon.specs.Steps.{◌>>=◌, each}
 use Rattle.up_canon.specs.declared.refusal.Refusal.{Refusal}
 use Rattle.up_machine.specs.Vehicles.{NewVehicleData, new_vehicle_fault}
 use Rattle.up_machine.specs.declared.vehicle.NewEcu.{NewEcu}
-use Rattle.up_script.specs.ImageLines.{within}
+use Rattle.up_script.specs.ImageLines.{checked}
 
 unfoldable pub ecu_of : List ℕ → Data → Result NewEcu Refusal
 ecu_of place value = do
@@ -18,13 +18,10 @@ ecu_of place value = do
   key ← hex_in 2 512 (codes "key") d
   Ok (record { ecu = ecu; hardware = hardware; public = key })
 
-abbrev pub checked_vehicle : NewVehicleData → Result NewVehicleData Refusal
-checked_vehicle vehicle = within (new_vehicle_fault vehicle) vehicle
-
 unfoldable pub vehicle_in : Data → Result NewVehicleData Refusal
 vehicle_in d = do
   vehicle ← ident_in (codes "vehicle") d
   primary ← ident_in (codes "primary") d
   ecu_values ← list_in (codes "ecus") d
   ecus ← each (ecu_of (codes "ecus")) ecu_values
-  checked_vehicle (record { vehicle = vehicle; primary = primary; ecus = ecus })
+  checked new_vehicle_fault (record { vehicle = vehicle; primary = primary; ecus = ecus })

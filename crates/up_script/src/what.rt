@@ -22,7 +22,7 @@ use up_roles::payload::repository_at;
 use up_sign::scheme::Scheme;
 
 /// What a line of this word asks, or the first fault of the word's members.
-#[tactic(auto, unfolding(crate::specs::AskedLines::found_in, crate::specs::AskedLines::rotate_in, crate::specs::AskedLines::add_vehicle_in, crate::specs::AskedLines::add_image_in, crate::specs::AskedLines::refresh_in, crate::specs::AskedLines::open_campaign_in, crate::specs::AskedLines::close_campaign_in, crate::specs::AskedLines::delivered_in, crate::specs::AskedLines::show_in, up_canon::specs::Steps::and_then))]
+#[tactic(auto, unfolding(crate::specs::AskedLines::show_in, up_canon::specs::Steps::and_then))]
 pub(crate) fn what_at<K: Scheme>(
     alloc: Global,
     scheme: &K,

@@ -6,7 +6,7 @@ use Rattle.sqlite_trees.specs.declared.store.Store.{Ghosts}
 use Rattle.up_canon.specs.Names.{Name}
 use Rattle.up_canon.specs.Refusals.{is_memory}
 use Rattle.up_canon.specs.declared.refusal.Refusal.{Refusal}
-use Rattle.up_canon.specs.declared.refusal.Refusal.TheVariants.{Memory, Store, MomentOutOfRange, TooLarge, NotJson, NotCanonical, BadShape, NotFounded, AlreadyFounded, UnknownVehicle, WrongPrimary, BadManifestSignature, Stale, UnknownEcu, DuplicateEcu, MissingEcu, BadReportSignature, ReportReplayed, ImageTaken, RegisterFull, VersionLimit, VehicleTaken, EcuTaken, CampaignTaken, UnknownCampaign, UnknownImage, WrongHardware, VersionNotGreater, UnknownFile, RootFull, PrimaryFixed}
+use Rattle.up_canon.specs.declared.refusal.Refusal.TheVariants.{Memory, Store}
 use Rattle.up_sign.specs.Schemes.{Rules}
 use Rattle.up_machine.specs.declared.answer.Answer.{Answer}
 use Rattle.up_machine.specs.declared.answer.Answer.TheVariants.{Done, Already, Reply, File, Refused}
@@ -32,35 +32,7 @@ use Rattle.up_service.specs.Responses.{answer_response, AnswersCall, IsResponseT
 refused_by : (r : Refusal) → is_lost_by r ≡ true → (r ≡ Memory) ⊎ (r ≡ Store)
 refused_by Memory h = inl refl
 refused_by Store h = inr refl
-refused_by MomentOutOfRange h = cc
-refused_by TooLarge h = cc
-refused_by NotJson h = cc
-refused_by NotCanonical h = cc
-refused_by (BadShape x) h = cc
-refused_by NotFounded h = cc
-refused_by AlreadyFounded h = cc
-refused_by UnknownVehicle h = cc
-refused_by WrongPrimary h = cc
-refused_by BadManifestSignature h = cc
-refused_by (Stale x) h = cc
-refused_by (UnknownEcu x) h = cc
-refused_by (DuplicateEcu x) h = cc
-refused_by (MissingEcu x) h = cc
-refused_by (BadReportSignature x) h = cc
-refused_by (ReportReplayed x) h = cc
-refused_by ImageTaken h = cc
-refused_by RegisterFull h = cc
-refused_by VersionLimit h = cc
-refused_by VehicleTaken h = cc
-refused_by (EcuTaken x) h = cc
-refused_by CampaignTaken h = cc
-refused_by UnknownCampaign h = cc
-refused_by UnknownImage h = cc
-refused_by WrongHardware h = cc
-refused_by VersionNotGreater h = cc
-refused_by UnknownFile h = cc
-refused_by RootFull h = cc
-refused_by PrimaryFixed h = cc
+refused_by other h = cc
 
 lost_refusal : (tell : Refusal → List ℕ) (r : Refusal) (t : List ℕ) → is_lost_by r ≡ true → t ≡ tell r → IsLost tell t
 lost_refusal tell r t h is = by_case (refused_by r h)
@@ -131,14 +103,14 @@ asked_line k line asked t old new is h = record {
 pub told_view : (k : Rules) (vehicle : Name) (t : List ℕ) (old new : Connected) → Sees (λ s. shown_in s vehicle ≡ Ok t) old new → AnswersLine (λ s. viewed s vehicle) k t old new
 told_view k vehicle t old new sees = record {
   clean = sees.clean;
-  answered = λ now s sound was. let it = sees.seen now k s was in (s, inl (sym (ap shown_text it.0), refl), sound, it.1);
+  answered = λ now s sound was. let it = sees.seen now k s sound was in (s, inl (sym (ap shown_text it.0), refl), sound, it.1);
 }
 
 pub told_refusal : (k : Rules) (vehicle : Name) (r : Refusal) (t : List ℕ) (old new : Connected) → Sees (λ s. MatchBool (is_lost_by r) ⊤ (shown_in s vehicle ≡ Err r)) old new → t ≡ refused_text r
     → AnswersLine (λ s. viewed s vehicle) k t old new
 told_refusal k vehicle r t old new sees is = record {
   clean = sees.clean;
-  answered = λ now s sound was. let it = sees.seen now k s was in (s, by_loss_of s (is_lost_by r) refl it.0, sound, it.1);
+  answered = λ now s sound was. let it = sees.seen now k s sound was in (s, by_loss_of s (is_lost_by r) refl it.0, sound, it.1);
 }
   where
     by_loss_of : (s : State) (b : Bool) → is_lost_by r ≡ b → MatchBool b ⊤ (shown_in s vehicle ≡ Err r) → IsAnswerOrLost refused_text (viewed s vehicle) s t s

@@ -1,6 +1,8 @@
 -- A view, step by step.
-use Rattle.std.proofs.Common.{◌≡◌, ℕ, List, ◌++◌, Option, Some, None, Result, Ok, Err, refl, sym, subst, ap, ◌∙◌, arith, take, length, get_or, ◌<◌, ◌+◌, [], ◌∷◌}
-use Rattle.std.specs.Prelude.{⊤, IfOk, flat_map, MatchBool}
+use Rattle.std.proofs.Common.{◌≡◌, ℕ, List, ◌++◌, Bool, true, false, Option, Some, None, Result, Ok, Err, refl, sym, subst, ap, ap₂, ◌∙◌, arith, take, map, length, get_or, ◌<◌, ◌+◌, [], ◌∷◌}
+use Rattle.std.specs.Prelude.{◌||◌, ⊤, IfOk, bytes_eq, flat_map, option_map, MatchBool}
+use Rattle.std.specs.List.{AllByRecursion}
+use Rattle.std.specs.FinMap as table
 use Rattle.std.proofs.lemmas.List.{flat_map_more, take_more}
 use Rattle.std.proofs.lemmas.Result.{IfOk-weaker}
 use Rattle.sqlite.specs.State.{State as Connected, HasCleanDisk}
@@ -8,15 +10,24 @@ use Rattle.up_canon.specs.Names.{Name}
 use Rattle.up_canon.specs.Steps.{and_then, ◌>>=◌, or_error}
 use Rattle.up_canon.specs.declared.refusal.Refusal.{Refusal}
 use Rattle.up_canon.specs.declared.refusal.Refusal.TheVariants.{UnknownVehicle}
+use Rattle.up_sign.specs.Schemes.{Rules}
+use Rattle.up_sign.proofs.Accepted.{bytes_eq-refl}
 use Rattle.up_plan.specs.declared.assigned.Plan.{Plan}
-use Rattle.up_machine.specs.Reads.{ecus_of, version_of, installed, assigned_to}
-use Rattle.up_machine.specs.State.{State}
+use Rattle.up_machine.specs.declared.rows.EcuRow.{EcuRow}
+use Rattle.up_machine.specs.declared.rows.VehicleRows.{VehicleRows}
+use Rattle.up_machine.specs.declared.vehicle.NewEcu.{NewEcu}
+use Rattle.up_machine.specs.ApartLaws.{InstalledIsOfTheVehicle}
+use Rattle.up_machine.specs.Reads.{assigned_to}
+use Rattle.up_machine.specs.Rows.{ecu_row, rows_of, vehicle_rows}
+use Rattle.up_machine.specs.Sound.{IsSound}
+use Rattle.up_machine.specs.State.{State, Vehicle, version}
+use Rattle.up_machine.specs.Vehicles.{has_ecu, ecu_names}
 use Rattle.up_rows.specs.StateRows.{rows_of_state}
 use Rattle.up_tables.specs.declared.values.StoreFault.{StoreFault}
 use Rattle.up_tables.specs.declared.values.StoreFault.TheVariants as fault
 use Rattle.up_desk.specs.Serving.{Reads, Tells, is_lost_by, refusal_told}
 use Rattle.up_script.specs.PrintedLines.{ecu_text, vehicle_text}
-use Rattle.up_service.specs.LineAnswers.{GivesShown, Sees, ecus_text, line_of, shown_in, shown_with}
+use Rattle.up_service.specs.LineAnswers.{Sees, ecus_text, row_text, rows_text, line_of, shown_in, shown_with}
 
 -- ---- steps
 
@@ -24,32 +35,28 @@ use Rattle.up_service.specs.LineAnswers.{GivesShown, Sees, ecus_text, line_of, s
 pub seen_by : {A E : Type 0} (f : State → A) (result : Result A E) (old new : Connected) → Tells (λ k s. f s) old new result → Reads old new → Sees (λ s. IfOk result (λ found. found ≡ f s)) old new
 seen_by f result old new told reads = record {
   clean = λ now. let before : HasCleanDisk old = omega (arith, reads.survives.clean) in before;
-  seen = λ now k s was. (IfOk-weaker result _ _ (λ found is. is k s was) (told now), reads.kept (rows_of_state k s) was now);
+  seen = λ now k s sound was. (IfOk-weaker result _ _ (λ found is. is k s was) (told now), reads.kept (rows_of_state k s) was now);
 }
 
 -- the database refused
 pub seen_in_fault : (P : State → Type 0) (old new : Connected) → Reads old new → ((s : State) → P s) → Sees P old new
 seen_in_fault P old new reads holds = record {
   clean = λ now. let before : HasCleanDisk old = omega (arith, reads.survives.clean) in before;
-  seen = λ now k s was. (holds s, reads.kept (rows_of_state k s) was now);
+  seen = λ now k s sound was. (holds s, reads.kept (rows_of_state k s) was now);
 }
 
 -- one step after another
-pub sees_then : (P Q R : State → Type 0) (old mid new : Connected) → Sees P old mid → Sees Q mid new → ((s : State) → P s → Q s → R s) → Sees R old new
+pub sees_then : (P Q R : State → Type 0) (old mid new : Connected) → Sees P old mid → Sees Q mid new → ((k : Rules) (s : State) → IsSound k s → P s → Q s → R s) → Sees R old new
 sees_then P Q R old mid new first next joined = record {
   clean = λ now. first.clean (next.clean now);
-  seen = λ now k s was. let a = first.seen (next.clean now) k s was in let b = next.seen now k s (λ _. a.1) in (joined s a.0 b.0, b.1);
+  seen = λ now k s sound was. let a = first.seen (next.clean now) k s sound was in let b = next.seen now k s sound (λ _. a.1) in (joined k s sound a.0 b.0, b.1);
 }
 
 pub sees_weaker : (P Q : State → Type 0) (old new : Connected) → Sees P old new → ((s : State) → P s → Q s) → Sees Q old new
 sees_weaker P Q old new first weaker = record {
   clean = first.clean;
-  seen = λ now k s was. let a = first.seen now k s was in (weaker s a.0, a.1);
+  seen = λ now k s sound was. let a = first.seen now k s sound was in (weaker s a.0, a.1);
 }
-
--- nothing is read
-pub sees_none : (P : State → Type 0) (s : Connected) → ((q : State) → P q) → Sees P s s
-sees_none P s holds = record { clean = λ now. now; seen = λ now k q was. (holds q, was now) }
 
 -- ---- what is shown
 
@@ -60,55 +67,60 @@ fault_shown r f computed is = subst (λ q. MatchBool (is_lost_by q) ⊤ (compute
     by_fault fault.Memory = tt
     by_fault fault.Store = tt
 
-found_then : {S A : Type 0} (bytes : S → List ℕ) (result : Result S Refusal) (o : Option A) (f : A → Result (List ℕ) Refusal) (x : A) → Some x ≡ o → GivesShown bytes result (f x) → GivesShown bytes result (or_error UnknownVehicle o >>= f)
-unfolding and_then
-found_then bytes result o f x is h = subst (λ q. GivesShown bytes result (or_error UnknownVehicle q >>= f)) is h
-
-none_then : {A : Type 0} (o : Option A) (f : A → Result (List ℕ) Refusal) → None ≡ o → or_error UnknownVehicle o >>= f ≡ Err UnknownVehicle
-unfolding and_then
-none_then o f is = subst (λ q. or_error UnknownVehicle q >>= f ≡ Err UnknownVehicle) is refl
-
--- the version is read
-pub version_shown : {S : Type 0} (bytes : S → List ℕ) (result : Result S Refusal) (vehicle : Name) (version : ℕ) (s : State) → Some version ≡ version_of s vehicle
-    → GivesShown bytes result (shown_with s vehicle version) → GivesShown bytes result (shown_in s vehicle)
-unfolding shown_in
-version_shown bytes result vehicle version s is h = found_then bytes result (version_of s vehicle) (shown_with s vehicle) version is h
-
-pub no_version : (vehicle : Name) (s : State) → None ≡ version_of s vehicle → shown_in s vehicle ≡ Err UnknownVehicle
-unfolding shown_in
-no_version vehicle s is = none_then (version_of s vehicle) (shown_with s vehicle) is
-
--- the ECUs are read
-pub ecus_shown : {S : Type 0} (bytes : S → List ℕ) (result : Result S Refusal) (vehicle : Name) (version : ℕ) (ecus : List Name) (s : State) → Some ecus ≡ ecus_of s vehicle
-    → GivesShown bytes result (Ok (line_of s vehicle version ecus)) → GivesShown bytes result (shown_with s vehicle version)
-ecus_shown bytes result vehicle version ecus s is h = found_then bytes result (ecus_of s vehicle) (λ ecus. Ok (line_of s vehicle version ecus)) ecus is h
-
-pub no_ecus : (vehicle : Name) (version : ℕ) (s : State) → None ≡ ecus_of s vehicle → shown_with s vehicle version ≡ Err UnknownVehicle
-no_ecus vehicle version s is = none_then (ecus_of s vehicle) (λ ecus. Ok (line_of s vehicle version ecus)) is
-
--- the plan is read
-pub plan_shown : {S : Type 0} (bytes : S → List ℕ) (result : Result S Refusal) (vehicle : Name) (version : ℕ) (ecus : List Name) (plan : Option Plan) (s : State) → plan ≡ assigned_to s vehicle
-    → GivesShown bytes result (Ok (vehicle_text vehicle version ++ ecus_text s plan ecus)) → GivesShown bytes result (Ok (line_of s vehicle version ecus))
-plan_shown bytes result vehicle version ecus plan s is h = subst (λ p. GivesShown bytes result (Ok (vehicle_text vehicle version ++ ecus_text s p ecus))) is h
-
--- the line's beginning is made
-pub begun_shown : {S : Type 0} (bytes : S → List ℕ) (result : Result S Refusal) (out begun behind : List ℕ) → out ≡ begun → GivesShown bytes result (Ok (out ++ behind)) → GivesShown bytes result (Ok (begun ++ behind))
-begun_shown bytes result out begun behind is h = subst (λ t. GivesShown bytes result (Ok (t ++ behind))) is h
-
--- a text that was made
-pub as_shown : {S : Type 0} (bytes : S → List ℕ) (out : S) (text : List ℕ) → bytes out ≡ text → GivesShown bytes (Ok out) (Ok text)
-as_shown bytes out text is = sym (ap (λ t. Ok t) is)
-
--- ---- the ECUs
-
--- one more ECU's text behind those so far
-pub ecu_more : (s : State) (plan : Option Plan) (ecus : List Name) (i : ℕ) (ecu : Name) (start held more : List ℕ) → i < length ecus → ecu ≡ get_or ecus i ecu
-    → held ≡ start ++ ecus_text s plan (take i ecus) → more ≡ held ++ ecu_text plan ecu (installed s ecu) → more ≡ start ++ ecus_text s plan (take (i + 1) ecus)
-ecu_more s plan ecus i ecu start held more within is so_far pushed =
-    pushed ∙ ap (λ t. t ++ text ecu) so_far ∙ flat_map_more text start (take i ecus) ecu ∙ ap (λ l. start ++ flat_map text l) (sym taken)
+-- of an unknown vehicle
+pub no_vehicle : (vehicle : Name) (s : State) → None ≡ vehicle_rows s vehicle → shown_in s vehicle ≡ Err UnknownVehicle
+unfolding shown_in and_then
+no_vehicle vehicle s none = by_vehicle (table.get s.vehicles vehicle) refl none
   where
-    text : Name → List ℕ
-    text e = ecu_text plan e (installed s e)
+    by_vehicle : (o : Option Vehicle) → table.get s.vehicles vehicle ≡ o → None ≡ option_map (rows_of vehicle) o → shown_in s vehicle ≡ Err UnknownVehicle
+    by_vehicle None there h = ap (λ (o : Option Vehicle). or_error UnknownVehicle (option_map (λ (v : Vehicle). version v.entries) o) >>= shown_with s vehicle) there
+    by_vehicle (Some v) there h = absurd (let e = h in cc)
 
-    taken : take (i + 1) ecus ≡ take i ecus ++ ecu ∷ []
-    taken = take_more ecus i ecu within ∙ ap (λ y. take i ecus ++ y ∷ []) (sym is)
+-- the line of a vehicle that is there
+line_there : (s : State) (name : Name) (v : Vehicle) → table.get s.vehicles name ≡ Some v → shown_in s name ≡ Ok (line_of s name (version v.entries) (ecu_names v.ecus))
+unfolding shown_in and_then
+line_there s name v there =
+    ap (λ (o : Option Vehicle). or_error UnknownVehicle (option_map (λ (v : Vehicle). version v.entries) o)
+    >>= (λ number. or_error UnknownVehicle (option_map (λ (v : Vehicle). ecu_names v.ecus) o) >>= (λ ecus. Ok (line_of s name number ecus)))) there
+
+-- ---- its rows
+
+or_true : (b c : Bool) → c ≡ true → (b || c) ≡ true
+or_true true c h = refl
+or_true false c h = h
+
+behind : (x : NewEcu) (all es : List NewEcu) → AllByRecursion (λ (e : NewEcu). has_ecu e.ecu all ≡ true) es → AllByRecursion (λ (e : NewEcu). has_ecu e.ecu (x ∷ all) ≡ true) es
+behind x all [] has = tt
+behind x all (e ∷ es) has = (or_true (bytes_eq x.ecu e.ecu) (has_ecu e.ecu all) has.0, behind x all es has.1)
+
+each_stands : (ecus : List NewEcu) → AllByRecursion (λ (e : NewEcu). has_ecu e.ecu ecus ≡ true) ecus
+each_stands [] = tt
+each_stands (e ∷ ecus) = (ap (λ b. b || has_ecu e.ecu ecus) (bytes_eq-refl e.ecu), behind e ecus ecus (each_stands ecus))
+
+-- each row has the image that its ECU reported last
+ecus_shown : (k : Rules) (s : State) (name : Name) (v : Vehicle) (plan : Option Plan) (es : List NewEcu) → InstalledIsOfTheVehicle → IsSound k s → table.get s.vehicles name ≡ Some v
+    → AllByRecursion (λ (e : NewEcu). has_ecu e.ecu v.ecus ≡ true) es → flat_map (row_text plan) (map (ecu_row v) es) ≡ ecus_text s plan (ecu_names es)
+ecus_shown k s name v plan [] law sound there has = refl
+ecus_shown k s name v plan (e ∷ es) law sound there has =
+    ap₂ (λ (a b : List ℕ). a ++ b) (ap (ecu_text plan e.ecu) (sym (law k s name e.ecu v sound there has.0))) (ecus_shown k s name v plan es law sound there has.1)
+
+pub rows_shown : (k : Rules) (s : State) (name : Name) (rows : VehicleRows) → InstalledIsOfTheVehicle → IsSound k s → Some rows ≡ vehicle_rows s name
+    → Ok (rows_text (assigned_to s rows.vehicle.vehicle) rows) ≡ shown_in s name
+rows_shown k s name rows law sound is = by_vehicle (table.get s.vehicles name) refl is
+  where
+    by_vehicle : (o : Option Vehicle) → table.get s.vehicles name ≡ o → Some rows ≡ option_map (rows_of name) o → Ok (rows_text (assigned_to s rows.vehicle.vehicle) rows) ≡ shown_in s name
+    by_vehicle None there h = absurd (let e = h in cc)
+    by_vehicle (Some v) there h =
+        let same : rows ≡ rows_of name v = cc in
+        ap (λ (r : VehicleRows). Ok (rows_text (assigned_to s r.vehicle.vehicle) r)) same
+        ∙ ap (λ (t : List ℕ). Ok (vehicle_text name (version v.entries) ++ t)) (ecus_shown k s name v (assigned_to s name) v.ecus law sound there (each_stands v.ecus))
+        ∙ sym (line_there s name v there)
+
+-- one more row's text behind those so far
+pub row_more : (plan : Option Plan) (rows : List EcuRow) (i : ℕ) (row : EcuRow) (start held more : List ℕ) → i < length rows → row ≡ get_or rows i row
+    → held ≡ start ++ flat_map (row_text plan) (take i rows) → more ≡ held ++ row_text plan row → more ≡ start ++ flat_map (row_text plan) (take (i + 1) rows)
+row_more plan rows i row start held more within is so_far pushed =
+    pushed ∙ ap (λ t. t ++ row_text plan row) so_far ∙ flat_map_more (row_text plan) start (take i rows) row ∙ ap (λ l. start ++ flat_map (row_text plan) l) (sym taken)
+  where
+    taken : take (i + 1) rows ≡ take i rows ++ row ∷ []
+    taken = take_more rows i row within ∙ ap (λ y. take i rows ++ y ∷ []) (sym is)

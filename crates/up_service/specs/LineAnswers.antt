@@ -10,7 +10,10 @@ use Rattle.up_canon.specs.declared.refusal.Refusal.TheVariants.{UnknownVehicle}
 use Rattle.up_sign.specs.Schemes.{Rules}
 use Rattle.up_plan.specs.declared.assigned.Plan.{Plan}
 use Rattle.up_machine.specs.declared.command.Command.{Command}
+use Rattle.up_machine.specs.declared.rows.EcuRow.{EcuRow}
+use Rattle.up_machine.specs.declared.rows.VehicleRows.{VehicleRows}
 use Rattle.up_machine.specs.Reads.{ecus_of, version_of, installed, assigned_to}
+use Rattle.up_machine.specs.Sound.{IsSound}
 use Rattle.up_machine.specs.State.{State}
 use Rattle.up_tables.specs.Stands.{IfClean}
 use Rattle.up_store.specs.Connections.{KeepsState}
@@ -27,6 +30,13 @@ use Rattle.up_service.specs.Answers.{Answered, answered_as, AnswersAs}
 -- ECUs, each with what is installed and what of a plan is assigned
 abbrev pub ecus_text : State → Option Plan → List Name → List ℕ
 ecus_text s plan ecus = flat_map (λ ecu. ecu_text plan ecu (installed s ecu)) ecus
+
+-- the same of the rows of a vehicle, of which each has what is installed
+abbrev pub row_text : Option Plan → EcuRow → List ℕ
+row_text plan row = ecu_text plan row.ecu row.installed
+
+abbrev pub rows_text : Option Plan → VehicleRows → List ℕ
+rows_text plan rows = vehicle_text rows.vehicle.vehicle rows.vehicle.version ++ flat_map (row_text plan) rows.ecus
 
 -- a vehicle's version, and its ECUs in inventory order
 abbrev pub line_of : State → Name → ℕ → List Name → List ℕ
@@ -53,11 +63,11 @@ abbrev pub shown_text : Result (List ℕ) Refusal → List ℕ
 shown_text (Ok text) = text
 shown_text (Err r) = refused_text r
 
--- a step of a view, over a disk that has returned what was written so far: this holds of each state that the tables show, and they
--- go on showing it
+-- a step of a view, over a disk that has returned what was written so far: this holds of each sound state that the tables show, and
+-- they go on showing it
 pub record Sees (holds : State → Type 0) (old new : Connected) : Type 0 where
   pub clean : HasCleanDisk new → HasCleanDisk old
-  pub seen : HasCleanDisk new → (k : Rules) (s : State) → IfClean (KeepsState k s) old → holds s × KeepsState k s new
+  pub seen : HasCleanDisk new → (k : Rules) (s : State) → IsSound k s → IfClean (KeepsState k s) old → holds s × KeepsState k s new
 
 -- ---- lines
 

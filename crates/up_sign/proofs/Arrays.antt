@@ -7,6 +7,7 @@ use Rattle.std.proofs.lemmas.Bool.Decides.{nat_tests}
 use Rattle.up_sign.specs.Hmac.{block_key}
 
 pub block_key-short : (key : List ℕ) → length key ≤ 64 → key ++ drop (length key) (replicate 64 0) ≡ block_key key
+unfolding block_key
 block_key-short key h =
     let short : nat_lt 64 (length key) ≡ false = grind (arith, nat_tests) in
     rw short (ap (λ z. key ++ z) (drop-replicate (length key) 64 0))

@@ -5,7 +5,7 @@ use Rattle.hex.specs.Hex.{encode_lower}
 use Rattle.up_sign.specs.Schemes.{Rules}
 
 -- the key with zero bytes up to 64, hashed first if longer
-abbrev pub block_key : List ℕ → List ℕ
+unfoldable pub block_key : List ℕ → List ℕ
 block_key key = if nat_lt 64 (length key) then sha256 key ++ replicate 32 0 else key ++ replicate (64 - length key) 0
 
 -- the byte that masks the key of the inner hash (RFC 2104)
@@ -16,10 +16,14 @@ inner_pad = 0x36
 abbrev pub outer_pad : ℕ
 outer_pad = 0x5c
 
--- H(K xor opad, H(K xor ipad, text)) of RFC 2104, where H is SHA-256 (FIPS 180-4)
+-- H(K xor opad, H(K xor ipad, text)) of RFC 2104, where H is SHA-256 (FIPS 180-4), and K is the block of a key
+unfoldable pub hmac_under : List ℕ → List ℕ → List ℕ
+hmac_under block m =
+    sha256 (map (bit_xor outer_pad) block ++ sha256 (map (bit_xor inner_pad) block ++ m))
+
+-- HMAC of RFC 2104
 unfoldable pub hmac : List ℕ → List ℕ → List ℕ
-hmac key m =
-    sha256 (map (bit_xor outer_pad) (block_key key) ++ sha256 (map (bit_xor inner_pad) (block_key key) ++ m))
+hmac key m = hmac_under (block_key key) m
 
 -- the identifier of a public part, in every scheme
 abbrev pub key_id : List ℕ → List ℕ

@@ -9,11 +9,11 @@ use Rattle.std.specs.Cmp.Lexicographic.{bytes_decides}
 use Rattle.sha2.specs.Sha256.{sha256, digest_bytes}
 use Rattle.sha2.proofs.Facts256.{length-sha256}
 use Rattle.up_sign.specs.Schemes.{is_byte, IsScheme}
-use Rattle.up_sign.specs.Hmac.{hmac, hmac_sha256}
+use Rattle.up_sign.specs.Hmac.{hmac, hmac_under, hmac_sha256}
 
 -- a tag has 32 bytes
 pub length-hmac : (k m : List ℕ) → length (hmac k m) ≡ 32
-unfolding hmac
+unfolding hmac hmac_under
 length-hmac k m = length-sha256 _
 
 -- the digits of a number to base 256 are bytes
@@ -35,7 +35,7 @@ are_bytes-sha256 m = are_bytes-digest _ 8
 
 -- a tag is made of bytes
 pub are_bytes-hmac : (k m : List ℕ) → list_all is_byte (hmac k m) ≡ true
-unfolding hmac
+unfolding hmac hmac_under
 are_bytes-hmac k m = are_bytes-sha256 _
 
 -- a tag is equal to itself

@@ -1,4 +1,5 @@
 pub mod Hmac
+pub mod HmacKeys
 pub mod HmacLaws
 pub mod Schemes
 pub mod Envelopes

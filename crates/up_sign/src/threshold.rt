@@ -1,13 +1,12 @@
 //! Thresholds: how many of a list of keys have signed.
 ghost use Rattle.std.specs.Prelude.{◌≡◌, ◌∷◌, [], IsNone, map};
 ghost use Rattle.std.specs.List.{list_any};
-ghost use Rattle.hex.specs.Hex.{encode_lower};
 ghost use Rattle.up_canon.specs.Names.{first_repeated};
 ghost use Rattle.up_sign.specs.Envelopes.{is_by as is_by_of, is_satisfied as is_satisfied_of, is_accepted};
-ghost use Rattle.up_sign.specs.Hmac.{key_id as key_id_of};
+ghost use Rattle.up_sign.specs.Hmac.{block_key, key_id as key_id_of};
 
 use crate::envelope::{Envelope, Signature};
-use crate::key_id::{digits_of, key_id};
+use crate::key_id::HashedKey;
 use crate::scheme::Scheme;
 use up_canon::bytes::Bytes;
 
@@ -29,53 +28,55 @@ pub fn accepts<K: Scheme>(
     satisfied >= threshold as usize
 }
 
-/// Whether this one key has signed the envelope, as `accepts` answers of it with a threshold of 1. `key_id` is what the call of
-/// that name answers of the public part: who asks about several envelopes computes it once.
-pub fn accepts_key<K: Scheme>(
+/// Whether this one key has signed the envelope, as `accepts` answers of it with a threshold of 1. Who asks about several
+/// envelopes makes the key's `HashedKey` once.
+pub fn accepts_by<K: Scheme>(
     scheme: &K,
-    key_id: &[u8; 32],
+    key: &HashedKey,
     public: &[u8],
     envelope: &Envelope,
 ) -> bool
-    requires identifier { encode_lower key_id.now ≡ key_id_of public.now }
+    requires { key.now ≡ block_key public.now }
     ensures { result ≡ is_accepted (K.rules scheme.now) (public.now ∷ []) 1 envelope.now }
 {
-    has_signed(scheme, key_id, public, envelope)
+    has_signed(scheme, key, public, envelope)
 }
 
 /// Whether a key has signed the envelope.
 fn is_satisfied<K: Scheme>(scheme: &K, public: &[u8], envelope: &Envelope) -> bool
     ensures { result ≡ is_satisfied_of (K.rules scheme.now) envelope.now public.now }
 {
-    has_signed(scheme, &key_id(public), public, envelope)
+    has_signed(scheme, &HashedKey::new(public), public, envelope)
 }
 
-/// Whether the key with this identifier has signed the envelope.
-fn has_signed<K: Scheme>(scheme: &K, key_id: &[u8; 32], public: &[u8], envelope: &Envelope) -> bool
-    requires { encode_lower key_id.now ≡ key_id_of public.now }
+/// Whether the key of the public part has signed the envelope; `key` is what is computed of it once.
+fn has_signed<K: Scheme>(scheme: &K, key: &HashedKey, public: &[u8], envelope: &Envelope) -> bool
+    requires { key.now ≡ block_key public.now }
     ensures { result ≡ is_satisfied_of (K.rules scheme.now) envelope.now public.now }
 {
-    let digits = digits_of(key_id);
+    let digits = key.digits();
     let signed = envelope.signed.as_str().as_bytes();
     envelope
         .signatures
         .as_slice()
         .iter()
-        .any(|s| is_by(scheme, signed, public, &digits, s))
+        .any(|s| is_by(scheme, signed, key, public, &digits, s))
 }
 
 /// Whether the signature is the key's, whose identifier has these digits.
 fn is_by<K: Scheme>(
     scheme: &K,
     signed: &[u8],
+    key: &HashedKey,
     public: &[u8],
     digits: &[u8; 64],
     signature: &Signature,
 ) -> bool
-    requires { digits.now ≡ key_id_of public.now }
+    requires digits { digits.now ≡ key_id_of public.now }
+    requires key { key.now ≡ block_key public.now }
     ensures { result ≡ is_by_of (K.rules scheme.now) signed.now public.now signature.now }
 {
     signature.keyid.as_str().as_bytes() == &digits[..]
         && signature.method.as_str() == scheme.method()
-        && scheme.verify(public, signed, signature.sig.as_slice())
+        && scheme.verify_by(key.mac(), public, signed, signature.sig.as_slice())
 }

@@ -4,6 +4,7 @@ use Rattle.sqlite.specs.Order.{Row}
 use Rattle.sqlite.specs.State.{State}
 use Rattle.sqlite.specs.Table.{Table}
 use Rattle.up_tables.specs.Stands.{Lists, ListsPairs, Alters}
+use Rattle.up_tables.proofs.OthersLemmas.{alters_to}
 
 pub lists_as : (at : ℕ) (old new : List ℕ → List Row) (rows : List Row) → ((name : List ℕ) → old name ≡ new name) → Lists at old rows → Lists at new rows
 lists_as at old new rows same lists = record { shaped = lists.shaped; parts = λ name. lists.parts name ∙ same name }
@@ -13,12 +14,4 @@ pairs_as old new rows same lists = record { shaped = lists.shaped; parts = λ fi
 
 -- what is said of the written table follows
 pub alters_as : (table : Table) (P Q : List Row → Type 0) → ((rows : List Row) → P rows → Q rows) → (old new : State) → Alters table P old new → Alters table Q old new
-alters_as table P Q is old new h = record {
-  was_open = h.was_open;
-  is_open = h.is_open;
-  mode = h.mode;
-  schema_is = h.schema_is;
-  sound = h.sound;
-  rows = is (new.now.trees table.tree) h.rows;
-  others = h.others;
-}
+alters_as table P Q is old new h = alters_to table P Q old new (is (new.now.trees table.tree)) h

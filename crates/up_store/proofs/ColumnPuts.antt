@@ -1,9 +1,11 @@
 -- Images, campaigns and kept manifests are put into the tables.
-use Rattle.std.proofs.Common.{◌≡◌, ℕ, pos, List, [], ◌∷◌, Some, None, Result, Ok, Err, OnOk, IsTrue, refl, sym, ap, ◌∙◌, string_bytes}
+use Rattle.std.proofs.Common.{◌≡◌, ℕ, pos, List, [], ◌∷◌, Option, Some, None, Result, Ok, Err, OnOk, IsTrue, refl, sym, ap, ◌∙◌, string_bytes}
 use Rattle.std.specs.FinMap as table
 use Rattle.sqlite.specs.declared.types.Value.TheVariants.{Int, Text, Blob}
 use Rattle.sqlite.specs.Order.{Row}
 use Rattle.sqlite.specs.State.{State as Connected}
+use Rattle.sqlite.specs.Table.{Table as Written}
+use Rattle.up_canon.specs.Names.{Name, Table}
 use Rattle.up_plan.specs.Campaigns.{CampaignData}
 use Rattle.up_plan.specs.Images.{ImageData}
 use Rattle.up_machine.specs.declared.decision.RegisterRows.{RegisterRows}
@@ -32,6 +34,27 @@ use Rattle.up_store.proofs.Inserted.{row_inserted}
 use Rattle.up_store.proofs.RootPuts.{within_goes}
 use Rattle.up_store.proofs.TypedRows.{typed_campaign}
 
+-- ---- a row of a new name, in a table of one row a name
+
+abbrev Named : {X : Type 0} → (Option X → List Row) → Table X → List ℕ → List Row
+Named lines values n = lines (table.get values n)
+
+puts_named : {A X : Type 0} (r : Result A StoreFault) (listed : Written) (lines : Option X → List Row) (values : StateRows → Table X) (name : Name) (x : X) (made_name : List ℕ) (row : Row) (Fits : StateRows → Type 0)
+    (next : StateRows → StateRows) (before after : Connected) → ((rows : StateRows) → Fits rows → table.get (values rows) name ≡ None) → lines None ≡ [] → lines (Some x) ≡ row ∷ [] → made_name ≡ name
+    → ((rows : StateRows) → ListsRows rows before.now.trees → Lists 1 (Named lines (values rows)) (before.now.trees listed.tree))
+    → ((rows : StateRows) → ListsRows rows before.now.trees → Alters listed (Lists 1 (Named lines (table.insert (values rows) name x))) before after → ListsRows (next rows) after.now.trees)
+    → OnOk r ((rows_of : List ℕ → List Row) → HasTables before → Lists 1 rows_of (before.now.trees listed.tree) → Alters listed (Lists 1 (with_row made_name row rows_of)) before after)
+    → OnOk r (IsTrue before.is_open) → OnOk r ((rows : StateRows) → IsWithin up_schema (ListsRows rows) before → Fits rows → GoesOn up_schema (ListsRows (next rows)) after)
+puts_named (Err e) listed lines values name x made_name row Fits next before after new none one same there whole puts was_open = tt
+puts_named (Ok done) listed lines values name x made_name row Fits next before after new none one same there whole puts was_open = λ rows within fits.
+    let here = within.here was_open in
+    let were = Named lines (values rows) in
+    let put = puts were (λ _. record { schema_is = here.schema_is; sound = here.sound; rows = tt }) (there rows here.rows) in
+    let named : (n : List ℕ) → with_row made_name row were n ≡ Named lines (table.insert (values rows) name x) n =
+    λ n. ap (λ m. with_row m row were n) same ∙ row_inserted (values rows) name x lines row (new rows fits) none one n in
+    let now = alters_as listed _ _ (λ trees. lists_as 1 _ _ trees named) before after put in
+    goes_on listed _ (ListsRows (next rows)) before after now (whole rows here.rows now)
+
 -- ---- images
 
 image_is : (made : ImageRow) (image : ImageData) → IsImage made image → image_row made ∷ [] ≡ image_lines (Some image)
@@ -50,20 +73,10 @@ typed_one rows image typed is = record {
 pub puts_image : {A : Type 0} (r : Result A StoreFault) (image : ImageData) (made : ImageRow) (before after : Connected) → IsImage made image → IsTypedImage image.file image
     → OnOk r ((rows_of : List ℕ → List Row) → HasTables before → Lists 1 rows_of (before.now.trees image_table.tree) → Alters image_table (Lists 1 (with_row (string_bytes made.file) (image_row made) rows_of)) before after)
     → OnOk r (IsTrue before.is_open) → OnOk r ((rows : StateRows) → IsWithin up_schema (ListsRows rows) before → table.get rows.images image.file ≡ None → GoesOn up_schema (ListsRows (with_image rows image)) after)
-puts_image (Err e) image made before after is typed puts was_open = tt
-puts_image (Ok done) image made before after is typed puts was_open = λ rows within new.
-    let here = within.here was_open in
-    let images : List ℕ → List Row = λ n. image_lines (table.get (table.insert rows.images image.file image) n) in
-    let put = puts (λ n. image_lines (table.get rows.images n)) (λ _. record { schema_is = here.schema_is; sound = here.sound; rows = tt }) here.rows.tables.images in
-    let named : (n : List ℕ) → with_row (string_bytes made.file) (image_row made) (λ m. image_lines (table.get rows.images m)) n ≡ images n =
-    λ n. ap (λ m. with_row m (image_row made) (λ k. image_lines (table.get rows.images k)) n) is.file ∙ row_inserted rows.images image.file image image_lines (image_row made) new refl (sym (image_is made image is)) n in
-    let now : Alters image_table (Lists 1 images) before after = alters_as image_table _ _ (λ trees. lists_as 1 _ _ trees named) before after put in
-    goes_on image_table _ (ListsRows (with_image rows image)) before after now (record {
-      last = here.rows.last;
-      numbered = here.rows.numbered;
-      typed = typed_one rows image here.rows.typed typed;
-      tables = lists_images (table_rows rows) images before after here.rows.tables now;
-    })
+puts_image r image made before after is typed puts was_open =
+    puts_named r image_table image_lines (λ rows. rows.images) image.file image (string_bytes made.file) (image_row made) (λ rows. table.get rows.images image.file ≡ None) (λ rows. with_image rows image) before after
+    (λ rows new. new) refl (sym (image_is made image is)) is.file (λ rows lists. lists.tables.images)
+    (λ rows lists now. record { last = lists.last; numbered = lists.numbered; typed = typed_one rows image lists.typed typed; tables = lists_images (table_rows rows) _ before after lists.tables now }) puts was_open
 
 -- an image's row, and then the files
 pub puts_both : {A : Type 0} (r : Result A StoreFault) (image : ImageData) (new : RegisterRows) (before mid after : Connected)
@@ -82,20 +95,10 @@ campaign_is made campaign is = λ i. (Text (is.name i) ∷ Text (is.reach i) ∷
 pub puts_campaign : {A : Type 0} (r : Result A StoreFault) (new : CampaignData) (made : CampaignRow) (before after : Connected) → IsCampaign made new → IsTypedCampaign new.name new
     → OnOk r ((rows_of : List ℕ → List Row) → HasTables before → Lists 1 rows_of (before.now.trees campaign_table.tree) → Alters campaign_table (Lists 1 (with_row (string_bytes made.name) (campaign_row made) rows_of)) before after)
     → OnOk r (IsTrue before.is_open) → OnOk r ((rows : StateRows) → IsWithin up_schema (ListsRows rows) before → IsNewCampaign new rows → GoesOn up_schema (ListsRows (with_campaign_row rows new)) after)
-puts_campaign (Err e) new made before after is typed puts was_open = tt
-puts_campaign (Ok done) new made before after is typed puts was_open = λ rows within fits.
-    let here = within.here was_open in
-    let campaigns : List ℕ → List Row = λ n. campaign_lines (table.get (table.insert rows.campaigns new.name new) n) in
-    let put = puts (λ n. campaign_lines (table.get rows.campaigns n)) (λ _. record { schema_is = here.schema_is; sound = here.sound; rows = tt }) here.rows.tables.campaigns in
-    let named : (n : List ℕ) → with_row (string_bytes made.name) (campaign_row made) (λ m. campaign_lines (table.get rows.campaigns m)) n ≡ campaigns n =
-    λ n. ap (λ m. with_row m (campaign_row made) (λ k. campaign_lines (table.get rows.campaigns k)) n) is.name ∙ row_inserted rows.campaigns new.name new campaign_lines (campaign_row made) fits refl (sym (campaign_is made new is)) n in
-    let now : Alters campaign_table (Lists 1 campaigns) before after = alters_as campaign_table _ _ (λ trees. lists_as 1 _ _ trees named) before after put in
-    goes_on campaign_table _ (ListsRows (with_campaign_row rows new)) before after now (record {
-      last = here.rows.last;
-      numbered = here.rows.numbered;
-      typed = typed_campaign rows new here.rows.typed typed;
-      tables = lists_campaigns (table_rows rows) campaigns before after here.rows.tables now;
-    })
+puts_campaign r new made before after is typed puts was_open =
+    puts_named r campaign_table campaign_lines (λ rows. rows.campaigns) new.name new (string_bytes made.name) (campaign_row made) (IsNewCampaign new) (λ rows. with_campaign_row rows new) before after (λ rows fits. fits)
+    refl (sym (campaign_is made new is)) is.name (λ rows lists. lists.tables.campaigns)
+    (λ rows lists now. record { last = lists.last; numbered = lists.numbered; typed = typed_campaign rows new lists.typed typed; tables = lists_campaigns (table_rows rows) _ before after lists.tables now }) puts was_open
 
 -- ---- kept manifests
 

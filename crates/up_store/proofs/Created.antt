@@ -3,7 +3,7 @@ use Rattle.std.proofs.Common.{inl, inr}
 use Rattle.sqlite.specs.State.{State as Connected, Survives}
 use Rattle.sqlite.specs.Tree.{Trees}
 use Rattle.up_rows.specs.StateRows.{no_rows}
-use Rattle.up_tables.specs.Stands.{Stands, Holds, HasNoTables}
+use Rattle.up_tables.specs.Stands.{Stands, AreWith, HasNoTables}
 use Rattle.up_tables.specs.Tables.{up_schema}
 use Rattle.up_store.specs.Connections.{MadeIn}
 use Rattle.up_store.specs.Listing.{ListsRows}
@@ -16,11 +16,11 @@ stands_as P Q is s stands = record {
   committed = stands.committed;
 }
 
-pub holds_as : (P Q : Trees → Type 0) → ((trees : Trees) → P trees → Q trees) → (trees : Trees) → Holds up_schema P trees → Holds up_schema Q trees
+pub holds_as : (P Q : Trees → Type 0) → ((trees : Trees) → P trees → Q trees) → (trees : Trees) → AreWith up_schema P trees → AreWith up_schema Q trees
 holds_as P Q is trees holds = record { schema_is = holds.schema_is; sound = holds.sound; rows = is trees holds.rows }
 
 -- what was made in a database without tables lists no rows
-pub made_as : (P : Trees → Type 0) → ((trees : Trees) → P trees → ListsRows no_rows trees) → (old new : Connected) → Survives old new (λ trees. HasNoTables old × Holds up_schema P trees) → Survives old new (MadeIn old)
+pub made_as : (P : Trees → Type 0) → ((trees : Trees) → P trees → ListsRows no_rows trees) → (old new : Connected) → Survives old new (λ trees. HasNoTables old × AreWith up_schema P trees) → Survives old new (MadeIn old)
 made_as P is old new survives = record {
   clean = survives.clean;
   shield = survives.shield;

@@ -1,6 +1,6 @@
 -- What is read of the founding: its numbers, and the keys of the last root version.
 use Rattle.std.proofs.Common.{◌≡◌, ◌≤◌, ◌<◌, ◌+◌, ◌-◌, ℕ, suc, pos, List, [], ◌∷◌, ◌++◌, Bool, true, false, ◌&&◌, Option, Some, None, map, filter, length, slice_get, refl, sym, ap, ap₂, subst, ◌∙◌, arith, append-nil, string_bytes, bytes_eq, codes, IsTrue, append_assoc}
-use Rattle.std.specs.Prelude.{option_map, find, flat_map, ◌==◌}
+use Rattle.std.specs.Prelude.{option_map, find, flat_map, is_some, not, ◌==◌}
 use Rattle.std.specs.List.{AllByRecursion, enumerate_from}
 use Rattle.std.specs.Option.{option_or}
 use Rattle.std.specs.Ordering.{is_eq}
@@ -155,27 +155,31 @@ module _ (m : ℕ) (word role : List ℕ) (threshold : ℕ) (w o : List ℕ) whe
       let second : string_bytes row.role ≡ role = cc in
       ap₂ (λ (a b : List ℕ). bytes_eq a w && bytes_eq b o) first second
 
-  others : (bytes_eq word w && bytes_eq role o) ≡ false → (i : ℕ) (keys : List (List ℕ)) (rows : List RoleKeyRow) → Lines i keys ≡ map role_key_row rows → Has w o rows [] None
-  others apart i [] [] h = record { secrets_are = refl; threshold_is = refl }
-  others apart i [] (row ∷ rows) h = absurd (let e = h in cc)
-  others apart i (key ∷ keys) [] h = absurd (let e = h in cc)
-  others apart i (key ∷ keys) (row ∷ rows) h =
+  -- what the row of a key says
+  record IsLine (key : List ℕ) (row : RoleKeyRow) : Type 0 where
+    test : is_key_of w o row ≡ (bytes_eq word w && bytes_eq role o)
+    secret : row.secret.items ≡ key
+
+  -- row by row
+  by_lines : (P : List (List ℕ) → List RoleKeyRow → Type 0) → P [] [] → ((key : List ℕ) (keys : List (List ℕ)) (row : RoleKeyRow) (rows : List RoleKeyRow) → IsLine key row → P keys rows → P (key ∷ keys) (row ∷ rows))
+      → (i : ℕ) (keys : List (List ℕ)) (rows : List RoleKeyRow) → Lines i keys ≡ map role_key_row rows → P keys rows
+  by_lines P none more i [] [] h = none
+  by_lines P none more i [] (row ∷ rows) h = absurd (let e = h in cc)
+  by_lines P none more i (key ∷ keys) [] h = absurd (let e = h in cc)
+  by_lines P none more i (key ∷ keys) (row ∷ rows) h =
       let first : key_line m word role threshold (i, key) ≡ role_key_row row = cc in
       let rest : Lines (i + 1) keys ≡ map role_key_row rows = cc in
-      let test : is_key_of w o row ≡ false = key_test i key row first ∙ apart in
-      let more = others apart (i + 1) keys rows rest in
-      record { secrets_are = rw test more.secrets_are; threshold_is = rw test more.threshold_is }
+      let secret : row.secret.items ≡ key = cc in
+      more key keys row rows (record { test = key_test i key row first; secret = secret }) (by_lines P none more (i + 1) keys rows rest)
+
+  others : (bytes_eq word w && bytes_eq role o) ≡ false → (i : ℕ) (keys : List (List ℕ)) (rows : List RoleKeyRow) → Lines i keys ≡ map role_key_row rows → Has w o rows [] None
+  others apart i keys rows h = by_lines (λ keys rows. Has w o rows [] None) (record { secrets_are = refl; threshold_is = refl }) (λ key keys row rows line more.
+      let test : is_key_of w o row ≡ false = line.test ∙ apart in record { secrets_are = rw test more.secrets_are; threshold_is = rw test more.threshold_is }) i keys rows h
 
   own_secrets : (bytes_eq word w && bytes_eq role o) ≡ true → (i : ℕ) (keys : List (List ℕ)) (rows : List RoleKeyRow) → Lines i keys ≡ map role_key_row rows → secrets_of w o rows ≡ keys
-  own_secrets same i [] [] h = refl
-  own_secrets same i [] (row ∷ rows) h = absurd (let e = h in cc)
-  own_secrets same i (key ∷ keys) [] h = absurd (let e = h in cc)
-  own_secrets same i (key ∷ keys) (row ∷ rows) h =
-      let first : key_line m word role threshold (i, key) ≡ role_key_row row = cc in
-      let rest : Lines (i + 1) keys ≡ map role_key_row rows = cc in
-      let test : is_key_of w o row ≡ true = key_test i key row first ∙ same in
-      let secret : row.secret.items ≡ key = cc in
-      rw test (ap₂ (λ (x : List ℕ) (xs : List (List ℕ)). x ∷ xs) secret (own_secrets same (i + 1) keys rows rest))
+  own_secrets same i keys rows h = by_lines (λ keys rows. secrets_of w o rows ≡ keys) refl (λ key keys row rows line more.
+      let test : is_key_of w o row ≡ true = line.test ∙ same in
+      rw test (ap₂ (λ (x : List ℕ) (xs : List (List ℕ)). x ∷ xs) line.secret more)) i keys rows h
 
   own_threshold : (bytes_eq word w && bytes_eq role o) ≡ true → (i : ℕ) (keys : List (List ℕ)) (rows : List RoleKeyRow) → 1 ≤ length keys → Lines i keys ≡ map role_key_row rows → threshold_of w o rows ≡ Some threshold
   own_threshold same i [] rows some h = absurd (omega (arith, some))
@@ -290,35 +294,36 @@ after_none w o xs ys keys p a b = has_both w o xs ys [] keys None p a b
 before_none : (w o : List ℕ) (xs ys : List RoleKeyRow) (keys : List (List ℕ)) (n : ℕ) → Has w o xs keys (Some n) → Has w o ys [] None → Has w o (xs ++ ys) keys (Some n)
 before_none w o xs ys keys n a b = bare_end w o (xs ++ ys) keys (Some n) (has_both w o xs ys keys [] (Some n) None a b)
 
+-- the keys of a repository are read of the rows of its four roles
+four_are : (w : List ℕ) (rows : List RoleKeyRow) (kept read : RepoKeys) → AreKeysOf w rows read → Has w (codes "root") rows kept.root.keys (Some kept.root.threshold)
+    → Has w (codes "targets") rows kept.targets.keys (Some kept.targets.threshold) → Has w (codes "snapshot") rows kept.snapshot.keys (Some kept.snapshot.threshold)
+    → Has w (codes "timestamp") rows kept.timestamp.keys (Some kept.timestamp.threshold) → read ≡ kept
+four_are w rows kept read is a b c d =
+    let root = role_is w (codes "root") rows kept.root read.root a is.root in
+    let targets = role_is w (codes "targets") rows kept.targets read.targets b is.targets in
+    let snapshot = role_is w (codes "snapshot") rows kept.snapshot read.snapshot c is.snapshot in
+    let timestamp = role_is w (codes "timestamp") rows kept.timestamp read.timestamp d is.timestamp in
+    λ i. record { root = root i; targets = targets i; snapshot = snapshot i; timestamp = timestamp i }
+
 director_is : (m : ℕ) (kept : KeySet) (read : RepoKeys) (xs ys : List RoleKeyRow) → Parts m Director kept.director xs → Parts m Image kept.image ys → HaveKeys kept.director
     → AreKeysOf (codes "director") (xs ++ ys) read → read ≡ kept.director
 director_is m kept read xs ys px py have is =
     let w = codes "director" in
     let none : (o : List ℕ) → Has w o ys [] None = λ o. none_of m Image kept.image ys py w o refl refl refl refl in
-    let root : read.root ≡ kept.director.root = role_is w (codes "root") (xs ++ ys) kept.director.root read.root
-    (before_none w (codes "root") xs ys _ _ (bare_three w (codes "root") xs _ _ (root_of m Director kept.director xs px w (codes "root") refl refl refl refl have.root)) (none (codes "root"))) is.root in
-    let targets : read.targets ≡ kept.director.targets = role_is w (codes "targets") (xs ++ ys) kept.director.targets read.targets
-    (before_none w (codes "targets") xs ys _ _ (bare_two w (codes "targets") xs _ _ (targets_of m Director kept.director xs px w (codes "targets") refl refl refl refl have.targets)) (none (codes "targets"))) is.targets in
-    let snapshot : read.snapshot ≡ kept.director.snapshot = role_is w (codes "snapshot") (xs ++ ys) kept.director.snapshot read.snapshot
-    (before_none w (codes "snapshot") xs ys _ _ (bare_end w (codes "snapshot") xs _ _ (snapshot_of m Director kept.director xs px w (codes "snapshot") refl refl refl refl have.snapshot)) (none (codes "snapshot"))) is.snapshot in
-    let timestamp : read.timestamp ≡ kept.director.timestamp = role_is w (codes "timestamp") (xs ++ ys) kept.director.timestamp read.timestamp
-    (before_none w (codes "timestamp") xs ys _ _ (timestamp_of m Director kept.director xs px w (codes "timestamp") refl refl refl refl have.timestamp) (none (codes "timestamp"))) is.timestamp in
-    λ i. record { root = root i; targets = targets i; snapshot = snapshot i; timestamp = timestamp i }
+    four_are w (xs ++ ys) kept.director read is (before_none w (codes "root") xs ys _ _ (bare_three w (codes "root") xs _ _ (root_of m Director kept.director xs px w (codes "root") refl refl refl refl have.root)) (none (codes "root")))
+    (before_none w (codes "targets") xs ys _ _ (bare_two w (codes "targets") xs _ _ (targets_of m Director kept.director xs px w (codes "targets") refl refl refl refl have.targets)) (none (codes "targets")))
+    (before_none w (codes "snapshot") xs ys _ _ (bare_end w (codes "snapshot") xs _ _ (snapshot_of m Director kept.director xs px w (codes "snapshot") refl refl refl refl have.snapshot)) (none (codes "snapshot")))
+    (before_none w (codes "timestamp") xs ys _ _ (timestamp_of m Director kept.director xs px w (codes "timestamp") refl refl refl refl have.timestamp) (none (codes "timestamp")))
 
 image_is : (m : ℕ) (kept : KeySet) (read : RepoKeys) (xs ys : List RoleKeyRow) → Parts m Director kept.director xs → Parts m Image kept.image ys → HaveKeys kept.image
     → AreKeysOf (codes "image") (xs ++ ys) read → read ≡ kept.image
 image_is m kept read xs ys px py have is =
     let w = codes "image" in
     let none : (o : List ℕ) → Has w o xs [] None = λ o. none_of m Director kept.director xs px w o refl refl refl refl in
-    let root : read.root ≡ kept.image.root = role_is w (codes "root") (xs ++ ys) kept.image.root read.root
-    (after_none w (codes "root") xs ys _ _ (none (codes "root")) (bare_three w (codes "root") ys _ _ (root_of m Image kept.image ys py w (codes "root") refl refl refl refl have.root))) is.root in
-    let targets : read.targets ≡ kept.image.targets = role_is w (codes "targets") (xs ++ ys) kept.image.targets read.targets
-    (after_none w (codes "targets") xs ys _ _ (none (codes "targets")) (bare_two w (codes "targets") ys _ _ (targets_of m Image kept.image ys py w (codes "targets") refl refl refl refl have.targets))) is.targets in
-    let snapshot : read.snapshot ≡ kept.image.snapshot = role_is w (codes "snapshot") (xs ++ ys) kept.image.snapshot read.snapshot
-    (after_none w (codes "snapshot") xs ys _ _ (none (codes "snapshot")) (bare_end w (codes "snapshot") ys _ _ (snapshot_of m Image kept.image ys py w (codes "snapshot") refl refl refl refl have.snapshot))) is.snapshot in
-    let timestamp : read.timestamp ≡ kept.image.timestamp = role_is w (codes "timestamp") (xs ++ ys) kept.image.timestamp read.timestamp
-    (after_none w (codes "timestamp") xs ys _ _ (none (codes "timestamp")) (timestamp_of m Image kept.image ys py w (codes "timestamp") refl refl refl refl have.timestamp)) is.timestamp in
-    λ i. record { root = root i; targets = targets i; snapshot = snapshot i; timestamp = timestamp i }
+    four_are w (xs ++ ys) kept.image read is (after_none w (codes "root") xs ys _ _ (none (codes "root")) (bare_three w (codes "root") ys _ _ (root_of m Image kept.image ys py w (codes "root") refl refl refl refl have.root)))
+    (after_none w (codes "targets") xs ys _ _ (none (codes "targets")) (bare_two w (codes "targets") ys _ _ (targets_of m Image kept.image ys py w (codes "targets") refl refl refl refl have.targets)))
+    (after_none w (codes "snapshot") xs ys _ _ (none (codes "snapshot")) (bare_end w (codes "snapshot") ys _ _ (snapshot_of m Image kept.image ys py w (codes "snapshot") refl refl refl refl have.snapshot)))
+    (after_none w (codes "timestamp") xs ys _ _ (none (codes "timestamp")) (timestamp_of m Image kept.image ys py w (codes "timestamp") refl refl refl refl have.timestamp))
 
 pub keys_are : (m : ℕ) (root : RootRow) (rows : List RoleKeyRow) (director image : RepoKeys) → root_lines m root ≡ map role_key_row rows → EachHasKeys root.keys
     → AreKeysOf (codes "director") rows director → AreKeysOf (codes "image") rows image → (director ≡ root.keys.director) × (image ≡ root.keys.image)
@@ -405,6 +410,20 @@ none_founded rows row before none was_open within numbers =
         let size : f.root ≡ length two.0 + 1 = last.0 ∙ ap length two.1 ∙ length_push two.0 root.0 in
         let zero : row.root ≡ 0 = grind (arith, none, nat_tests) in
         absurd (omega (arith, zero, number, size))
+
+-- a root version that isn't 0 tells that there is a founding
+pub founded_by : (rows : StateRows) (row : MetaRow) (before : Connected) → IsTrue before.is_open → IsWithin up_schema (ListsRows rows) before → row ≡ meta_told rows.founding → not (row.root == 0) ≡ is_some rows.founding
+founded_by rows row before was_open within numbers = by_root (row.root == 0) refl
+  where
+    there : (o : Option Founding) → rows.founding ≡ o → (row.root == 0) ≡ false → true ≡ is_some o
+    there None same some =
+        let zero : row.root ≡ 0 = ap (λ (m : MetaRow). m.root) (numbers ∙ ap meta_told same) in
+        absurd (let e = sym (ap (λ n. n == 0) zero) ∙ some in cc)
+    there (Some f) same some = refl
+
+    by_root : (b : Bool) → (row.root == 0) ≡ b → not b ≡ is_some rows.founding
+    by_root true zero = ap is_some (none_founded rows row before zero was_open within numbers)
+    by_root false some = there rows.founding refl some
 
 pub within_read : (rows : StateRows) (before mid : Connected) → Reads before mid → IsWithin up_schema (ListsRows rows) before → IsWithin up_schema (ListsRows rows) mid
 within_read rows before mid reads within = record {

@@ -3,6 +3,7 @@ use Rattle.std.proofs.Common.{◌≡◌, ◌+◌, ◌≤◌, ◌^◌, ℕ, suc, 
 use Rattle.std.specs.Prelude.{option_map}
 use Rattle.std.specs.List.{AllByRecursion, list_all}
 use Rattle.std.specs.FinMap as table
+use Rattle.sqlite.specs.Order.{Row}
 use Rattle.sqlite.specs.Tree.{Trees}
 use Rattle.sqlite.specs.declared.types.Value.TheVariants.{Int}
 use Rattle.up_canon.specs.Canon.{CanonIsRead}
@@ -58,6 +59,14 @@ one_items law xs ys h k same = let e = sym (campaign_items-there law xs h) ∙ a
 one_reach : CanonIsRead → (x y : Reach) → Rattle.up_columns.specs.Typed.is_typed_reach x ≡ true → Rattle.up_columns.specs.Typed.is_typed_reach y ≡ true → reach_column x ≡ reach_column y → x ≡ y
 one_reach law x y h k same = let e = sym (reach-there law x h) ∙ ap reach_in same ∙ reach-there law y k in cc
 
+-- what has a value's lines is that value, and what has none is none
+one_or_none : {X : Type 0} (lines : Option X → List Row) (IsTyped : X → Type 0) → ((x : X) → lines None ≡ lines (Some x) → ⊥) → ((x y : X) → IsTyped x → IsTyped y → lines (Some x) ≡ lines (Some y) → x ≡ y)
+    → (a b : Option X) → ((x : X) → a ≡ Some x → IsTyped x) → ((x : X) → b ≡ Some x → IsTyped x) → lines a ≡ lines b → a ≡ b
+one_or_none lines IsTyped apart one None None ta tb h = refl
+one_or_none lines IsTyped apart one None (Some y) ta tb h = absurd (apart y h)
+one_or_none lines IsTyped apart one (Some x) None ta tb h = absurd (apart x (sym h))
+one_or_none lines IsTyped apart one (Some x) (Some y) ta tb h = ap Some (one x y (ta x refl) (tb y refl) h)
+
 -- ---- an image
 
 one_image : CanonIsRead → (n : Name) (i j : ImageData) → IsTypedImage n i → IsTypedImage n j → image_lines (Some i) ≡ image_lines (Some j) → i ≡ j
@@ -76,11 +85,8 @@ one_image law n i j ti tj h =
     rw (file, size, hash, hardware, release, needs, conflicts) refl in
     same
 
-one_image_or_none : CanonIsRead → (n : Name) (a b : Option ImageData) → ((i : ImageData) → a ≡ Some i → IsTypedImage n i) → ((i : ImageData) → b ≡ Some i → IsTypedImage n i) → image_lines a ≡ image_lines b → a ≡ b
-one_image_or_none law n None None ta tb h = refl
-one_image_or_none law n None (Some j) ta tb h = absurd (cc)
-one_image_or_none law n (Some i) None ta tb h = absurd (cc)
-one_image_or_none law n (Some i) (Some j) ta tb h = ap Some (one_image law n i j (ta i refl) (tb j refl) h)
+no_image_lines : (image : ImageData) → image_lines None ≡ image_lines (Some image) → ⊥
+no_image_lines image h = cc
 
 -- ---- a campaign
 
@@ -102,11 +108,8 @@ one_campaign law n c d tc td h =
     let same : campaign_made c.name c.reach c.items c.running ≡ campaign_made d.name d.reach d.items d.running = rw (name, reach, items, running) refl in
     same
 
-one_campaign_or_none : CanonIsRead → (n : Name) (a b : Option CampaignData) → ((c : CampaignData) → a ≡ Some c → IsTypedCampaign n c) → ((c : CampaignData) → b ≡ Some c → IsTypedCampaign n c) → campaign_lines a ≡ campaign_lines b → a ≡ b
-one_campaign_or_none law n None None ta tb h = refl
-one_campaign_or_none law n None (Some d) ta tb h = absurd (cc)
-one_campaign_or_none law n (Some c) None ta tb h = absurd (cc)
-one_campaign_or_none law n (Some c) (Some d) ta tb h = ap Some (one_campaign law n c d (ta c refl) (tb d refl) h)
+no_campaign_lines : (campaign : CampaignData) → campaign_lines None ≡ campaign_lines (Some campaign) → ⊥
+no_campaign_lines campaign h = cc
 
 -- ---- a vehicle
 
@@ -205,10 +208,10 @@ module _ (law : CanonIsRead) (moments : MomentsAreRead) (tell : RowsTellTheState
   roots = one_roots moments k s t 1 s.roots t.roots sound.repositories.each_root also.repositories.each_root (sym (keys_told s sound) ∙ keys ∙ keys_told t also) texts
 
   images : s.images ≡ t.images
-  images = same_table s.images t.images (λ n. one_image_or_none law n (table.get s.images n) (table.get t.images n) (one.typed.images n) (two.typed.images n) (sym (one.tables.images.parts n) ∙ two.tables.images.parts n))
+  images = same_table s.images t.images (λ n. one_or_none image_lines (IsTypedImage n) no_image_lines (one_image law n) (table.get s.images n) (table.get t.images n) (one.typed.images n) (two.typed.images n) (sym (one.tables.images.parts n) ∙ two.tables.images.parts n))
 
   campaigns : s.campaigns ≡ t.campaigns
-  campaigns = same_table s.campaigns t.campaigns (λ n. one_campaign_or_none law n (table.get s.campaigns n) (table.get t.campaigns n) (one.typed.campaigns n) (two.typed.campaigns n) (sym (one.tables.campaigns.parts n) ∙ two.tables.campaigns.parts n))
+  campaigns = same_table s.campaigns t.campaigns (λ n. one_or_none campaign_lines (IsTypedCampaign n) no_campaign_lines (one_campaign law n) (table.get s.campaigns n) (table.get t.campaigns n) (one.typed.campaigns n) (two.typed.campaigns n) (sym (one.tables.campaigns.parts n) ∙ two.tables.campaigns.parts n))
 
   vehicle_at : (n : Name) → option_map (vehicle_of_rows first.kept n) (table.get first.vehicles n) ≡ option_map (vehicle_of_rows second.kept n) (table.get second.vehicles n)
   vehicle_at n = one_vehicle n first.kept second.kept (table.get first.vehicles n) (table.get second.vehicles n)

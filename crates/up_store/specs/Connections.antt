@@ -6,7 +6,7 @@ use Rattle.sqlite.specs.Tree.{Trees}
 use Rattle.up_sign.specs.Schemes.{Rules}
 use Rattle.up_machine.specs.State.{State}
 use Rattle.up_rows.specs.StateRows.{StateRows, no_rows, rows_of_state}
-use Rattle.up_tables.specs.Stands.{IfClean, Stands, IsWithin, GoesOn, Holds, HasNoTables, LeavesOnly}
+use Rattle.up_tables.specs.Stands.{IfClean, Stands, IsWithin, GoesOn, AreWith, HasNoTables, LeavesOnly}
 use Rattle.up_tables.specs.Listed.{TableRows, ListsTables}
 use Rattle.up_tables.specs.Tables.{up_schema}
 use Rattle.up_store.specs.Listing.{ListsRows}
@@ -17,7 +17,7 @@ KeepsRows rows = Stands up_schema (ListsRows rows)
 
 -- what a crash may leave lists these rows
 abbrev pub HoldsRows : StateRows → Trees → Type 0
-HoldsRows rows = Holds up_schema (ListsRows rows)
+HoldsRows rows = AreWith up_schema (ListsRows rows)
 
 -- no transaction is under way, and the tables show the state
 abbrev pub KeepsState : Rules → State → Connected → Type 0

@@ -45,15 +45,14 @@ fn read_lists(alloc: Global, shown: &ImageRow) -> Result<ImageLists, StoreFault>
 }
 
 /// A row as it stands in the table, read.
-pub fn read_image(alloc: Global, shown: &ImageRow) -> Result<Image, StoreFault>
-    ensures { IfOk result (λ read. (file : Name) (image : ImageData) → IsTypedImage file image → IsImage shown.now image → read ≡ image) }
+pub fn read_image(alloc: Global, shown: ImageRow) -> Result<Image, StoreFault>
+    ensures { IfOk result (λ read. (file : Name) (image : ImageData) → IsTypedImage file image → IsImage shown image → read ≡ image) }
 {
     let sha256 = sha256_in(shown.sha256.as_slice())?;
     let length = count_in(shown.length)?;
     let release = count_in(shown.release_count)?;
-    let name = shown.file.as_str().to_string(alloc)?;
-    let file = file_name_in(name)?;
-    let lists = read_lists(alloc, shown)?;
+    let lists = read_lists(alloc, &shown)?;
+    let file = file_name_in(shown.file)?;
     let hardware = lists.hardware.into_vec();
     let needs = lists.needs.into_vec();
     let conflicts = lists.conflicts.into_vec();
@@ -64,8 +63,8 @@ pub fn read_image(alloc: Global, shown: &ImageRow) -> Result<Image, StoreFault>
 }
 
 /// The rows of all images as they stand in the table, read.
-pub fn read_images(alloc: Global, shown: &[ImageRow]) -> Result<Table<Image>, StoreFault>
-    ensures { IfOk result (λ read. (images : Named ImageData) → AreImages shown.now images → read ≡ images) }
+pub fn read_images(alloc: Global, shown: Vec<ImageRow>) -> Result<Table<Image>, StoreFault>
+    ensures { IfOk result (λ read. (images : Named ImageData) → AreImages shown.items images → read ≡ images) }
 {
     let mut images = Table::new(alloc);
     for row in shown {
@@ -75,8 +74,8 @@ pub fn read_images(alloc: Global, shown: &[ImageRow]) -> Result<Table<Image>, St
 }
 
 /// Reads a row as it stands in the table, and puts the image under its name.
-fn add_image(images: &mut Table<Image>, alloc: Global, shown: &ImageRow) -> Result<(), StoreFault>
-    ensures { OnOk result ((file : Name) (image : ImageData) → IsTypedImage file image → IsImage shown.now image → images.new ≡ table.insert images.old image.file image) }
+fn add_image(images: &mut Table<Image>, alloc: Global, shown: ImageRow) -> Result<(), StoreFault>
+    ensures { OnOk result ((file : Name) (image : ImageData) → IsTypedImage file image → IsImage shown image → images.new ≡ table.insert images.old image.file image) }
 {
     let image = read_image(alloc, shown)?;
     let name = name_of(alloc, image.file.text())?;

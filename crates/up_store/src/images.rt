@@ -81,15 +81,15 @@ fn find_image<D: Alter>(
     ensures steps { Steps (state D.Store tx.old.conn.now) (state D.Store tx.new.conn.now) }
 {
     match image_shown(tx, file.text()) {
-        Ok(Some(shown)) => some_image(alloc, &shown),
+        Ok(Some(shown)) => some_image(alloc, shown),
         Ok(None) => Ok(None),
         Err(fault) => Err(fault),
     }
 }
 
 /// A row as it stands in the table, read.
-fn some_image(alloc: Global, shown: &ImageRow) -> Result<Option<Image>, StoreFault>
-    ensures { IfOk result (λ read. (file : Name) (image : ImageData) → IsTypedImage file image → IsImage shown.now image → read ≡ Some image) }
+fn some_image(alloc: Global, shown: ImageRow) -> Result<Option<Image>, StoreFault>
+    ensures { IfOk result (λ read. (file : Name) (image : ImageData) → IsTypedImage file image → IsImage shown image → read ≡ Some image) }
 {
     match read_image(alloc, shown) {
         Ok(image) => Ok(Some(image)),
@@ -109,7 +109,7 @@ fn find_images<D: Alter>(
     ensures steps { Steps (state D.Store tx.old.conn.now) (state D.Store tx.new.conn.now) }
 {
     match images_shown(tx, alloc) {
-        Ok(shown) => read_images(alloc, shown.as_slice()),
+        Ok(shown) => read_images(alloc, shown),
         Err(fault) => Err(fault),
     }
 }

@@ -1,5 +1,5 @@
 //! Accepted manifests.
-ghost use Rattle.std.specs.Prelude.{◌≡◌, ◌<◌, ◌^◌, ⊤, Some, IfOk, OnErr, OnOk};
+ghost use Rattle.std.specs.Prelude.{◌≡◌, ⊤, Some, IfOk, OnErr, OnOk};
 ghost use Rattle.sqlite.specs.Held.{state};
 ghost use Rattle.sqlite.specs.State.{HasCleanDisk, Survives};
 ghost use Rattle.up_canon.specs.Names.{Name};
@@ -15,7 +15,8 @@ ghost use Rattle.up_store.specs.Connections.{Answers, FindsRows, NeedsOpen, Puts
 
 use crate::ecus::make_ecus;
 use crate::kept_rows::{make_kept, read_kept};
-use crate::store::{MOST_NUMBER, MOST_ROWS, Store, StoreFault, commit};
+use crate::reading::count_in;
+use crate::store::{MOST_ROWS, Store, StoreFault, commit};
 use crate::vehicles::make_vehicle;
 use sqlite::{Alter, Transaction};
 use std::alloc::Global;
@@ -41,7 +42,7 @@ impl<D: Alter> Store<D> {
         ensures open { NeedsOpen (state D.Store self.old) (state D.Store self.new) result }
     {
         let mut tx = self.conn.transaction();
-        find_kept(&mut tx, alloc, vehicle, counter.get())
+        find_kept(&mut tx, alloc, vehicle, counter)
     }
 
     /// The vehicle's row with its greatest counter, none of an unknown vehicle and before its first manifest.
@@ -134,16 +135,15 @@ fn find_kept<D: Alter>(
     tx: &mut Transaction<'_, D>,
     alloc: Global,
     vehicle: &Ident,
-    counter: u64,
+    counter: Count,
 ) -> Result<Option<Kept>, StoreFault>
-    requires counter { counter < 2 ^ 63 }
     requires mode { IfClean IsInside (state D.Store tx.old.conn.now) }
     ensures same_reference { tx.new.conn.ghost_name ≡ tx.old.conn.ghost_name }
     ensures found { FindsRows (kept_with vehicle.now counter) (state D.Store tx.old.conn.now) (state D.Store tx.new.conn.now) result }
     ensures open { NeedsOpen (state D.Store tx.old.conn.now) (state D.Store tx.new.conn.now) result }
     ensures steps { Steps (state D.Store tx.old.conn.now) (state D.Store tx.new.conn.now) }
 {
-    match kept_shown(tx, vehicle.text(), counter) {
+    match kept_shown(tx, vehicle.text(), counter.get()) {
         Ok(Some(shown)) => some_kept(alloc, shown),
         Ok(None) => Ok(None),
         Err(fault) => Err(fault),
@@ -173,36 +173,17 @@ fn find_latest<D: Alter>(
     ensures steps { Steps (state D.Store tx.old.conn.now) (state D.Store tx.new.conn.now) }
 {
     match find_last(tx, vehicle) {
-        Ok(Some(last)) => find_counted(tx, alloc, vehicle, last),
+        Ok(Some(last)) => find_kept(tx, alloc, vehicle, last),
         Ok(None) => Ok(None),
         Err(fault) => Err(fault),
     }
-}
-
-/// The vehicle's row with this counter; `Store` where that is 2^63 or more.
-fn find_counted<D: Alter>(
-    tx: &mut Transaction<'_, D>,
-    alloc: Global,
-    vehicle: &Ident,
-    counter: u64,
-) -> Result<Option<Kept>, StoreFault>
-    requires mode { IfClean IsInside (state D.Store tx.old.conn.now) }
-    ensures same_reference { tx.new.conn.ghost_name ≡ tx.old.conn.ghost_name }
-    ensures found { FindsRows (kept_with vehicle.now counter) (state D.Store tx.old.conn.now) (state D.Store tx.new.conn.now) result }
-    ensures open { NeedsOpen (state D.Store tx.old.conn.now) (state D.Store tx.new.conn.now) result }
-    ensures steps { Steps (state D.Store tx.old.conn.now) (state D.Store tx.new.conn.now) }
-{
-    if counter > MOST_NUMBER {
-        return Err(StoreFault::Store);
-    }
-    find_kept(tx, alloc, vehicle, counter)
 }
 
 /// The vehicle's greatest counter, none of an unknown vehicle.
 fn find_last<D: Alter>(
     tx: &mut Transaction<'_, D>,
     vehicle: &Ident,
-) -> Result<Option<u64>, StoreFault>
+) -> Result<Option<Count>, StoreFault>
     requires mode { IfClean IsInside (state D.Store tx.old.conn.now) }
     ensures same_reference { tx.new.conn.ghost_name ≡ tx.old.conn.ghost_name }
     ensures found { FindsRows (last_found vehicle.now) (state D.Store tx.old.conn.now) (state D.Store tx.new.conn.now) result }
@@ -212,8 +193,15 @@ fn find_last<D: Alter>(
     ensures steps { Steps (state D.Store tx.old.conn.now) (state D.Store tx.new.conn.now) }
 {
     match vehicle_shown(tx, vehicle.text()) {
-        Ok(Some(shown)) => Ok(Some(shown.last_counter)),
+        Ok(Some(shown)) => some_count(shown.last_counter),
         Ok(None) => Ok(None),
         Err(fault) => Err(fault),
     }
+}
+
+/// A counter as it stands in the table, read.
+fn some_count(shown: u64) -> Result<Option<Count>, StoreFault>
+    ensures { IfOk result (λ read. read ≡ Some shown) }
+{
+    Ok(Some(count_in(shown)?))
 }

@@ -1,5 +1,5 @@
 //! Root versions and the files that are served.
-ghost use Rattle.std.specs.Prelude.{◌≡◌, ⊤, OnErr, OnOk, IfOk};
+ghost use Rattle.std.specs.Prelude.{◌≡◌, ⊤, OnErr, OnOk, IfOk, is_some};
 ghost use Rattle.sqlite.specs.Held.{state};
 ghost use Rattle.sqlite.specs.State.{HasCleanDisk, Survives};
 ghost use Rattle.up_rows.specs.Changes.{with_root_rows, with_register_rows};
@@ -39,6 +39,17 @@ impl<D: Alter> Store<D> {
     {
         let mut tx = self.conn.transaction();
         find_founding(&mut tx, alloc)
+    }
+
+    /// Whether the repositories are founded.
+    pub fn is_founded(&mut self) -> Result<bool, StoreFault>
+        ensures told { Answers (λ rows. is_some rows.founding) (state D.Store self.old) (state D.Store self.new) result }
+        ensures kept { IfClean (IsAsCommitted (state D.Store self.old)) (state D.Store self.new) }
+        ensures crash { Survives (state D.Store self.old) (state D.Store self.new) (λ _. ⊥) }
+        ensures open { NeedsOpen (state D.Store self.old) (state D.Store self.new) result }
+    {
+        let mut tx = self.conn.transaction();
+        find_whether_founded(&mut tx)
     }
 
     /// The text of a repository's file of this name, none where there is none.
@@ -128,6 +139,21 @@ fn find_founding<D: Alter>(
 {
     match meta(tx) {
         Ok(Some(row)) => find_founded(tx, alloc, row),
+        Ok(None) => Err(StoreFault::Store),
+        Err(fault) => Err(fault),
+    }
+}
+
+/// Whether there is a founding, which its numbers tell: the keys aren't read.
+fn find_whether_founded<D: Alter>(tx: &mut Transaction<'_, D>) -> Result<bool, StoreFault>
+    requires mode { IfClean IsInside (state D.Store tx.old.conn.now) }
+    ensures same_reference { tx.new.conn.ghost_name ≡ tx.old.conn.ghost_name }
+    ensures found { FindsRows (λ rows. is_some rows.founding) (state D.Store tx.old.conn.now) (state D.Store tx.new.conn.now) result }
+    ensures open { NeedsOpen (state D.Store tx.old.conn.now) (state D.Store tx.new.conn.now) result }
+    ensures steps { Steps (state D.Store tx.old.conn.now) (state D.Store tx.new.conn.now) }
+{
+    match meta(tx) {
+        Ok(Some(row)) => Ok(row.root != 0),
         Ok(None) => Err(StoreFault::Store),
         Err(fault) => Err(fault),
     }

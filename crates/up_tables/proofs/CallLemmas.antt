@@ -1,5 +1,5 @@
 -- What a call of one statement leaves in a transaction, whatever it answers.
-use Rattle.std.proofs.Common.{◌⊎◌, ℕ, List, IfOk, IfErr, OnOk, Result, IsTrue, arith}
+use Rattle.std.proofs.Common.{◌≡◌, ◌∙◌, ◌⊎◌, ℕ, List, IfOk, IfErr, OnOk, Result, IsTrue, arith}
 use Rattle.std.specs.Result.{IsOk, IsOkAnd}
 use Rattle.sqlite.specs.declared.error.Error.{Error}
 use Rattle.sqlite.specs.Order.{Row}
@@ -61,3 +61,17 @@ go_on old mid new on inside opened steps = record { inside = inside; opened = op
 -- the disk was clean before a step, too
 pub clean_before : (old new : State) → Steps old new → HasCleanDisk new → HasCleanDisk old
 clean_before old new steps clean = omega (arith, steps.survives.clean)
+
+-- what a loop of such calls keeps: the connection has its name, and once the disk is clean, P holds of the states before the loop and now
+pub record KeepsOn {N : Type 0} (P : State → State → Type 0) (was is : N) (old now : State) : Type 0 where
+  pub same_reference : is ≡ was
+  pub on : GoOn old now
+  pub written : HasCleanDisk now → P old now
+
+pub keeps_on : {N : Type 0} (P Q : State → State → Type 0) (was mid_is is : N) (old mid new : State) → KeepsOn P was mid_is old mid → is ≡ mid_is → IfClean IsInside new → IfClean IsOpen new → Steps mid new
+    → (HasCleanDisk new → P old mid → Q old new) → KeepsOn Q was is old new
+keeps_on P Q was mid_is is old mid new so_far same inside opened steps next = record {
+  same_reference = same ∙ so_far.same_reference;
+  on = go_on old mid new so_far.on inside opened steps;
+  written = λ clean. next clean (so_far.written (clean_before mid new steps clean));
+}

@@ -21,7 +21,7 @@ use Rattle.sqlite_value.specs.declared.keys.Collation.TheVariants.{Binary}
 use Rattle.up_tables.specs.Rows.{columns_at, has_number, with_row}
 use Rattle.up_tables.specs.Stands.{Lists, IfClean, IsInside, Alters, HasTables}
 use Rattle.up_tables.specs.declared.values.StoreFault.{StoreFault}
-use Rattle.up_tables.proofs.AnswerLemmas.{over, equals_int}
+use Rattle.up_tables.proofs.AnswerLemmas.{over, given, all_columns, equals_int}
 use Rattle.up_tables.proofs.Casts.{cast_int, cast_null}
 use Rattle.up_tables.proofs.EcuRows.{text_is, column_after}
 use Rattle.up_tables.proofs.EcuUpsert.{equals}
@@ -35,44 +35,38 @@ use Rattle.up_tables.proofs.ReadLemmas.{Asks, answers_all, by_rowid}
 
 -- ---- put in
 
+casts : (c : CampaignRow) → cast_row campaign_table (Null ∷ campaign_row c) ≡ Null ∷ campaign_row c
+casts c = rw (cast_null, cast_int (yes_or_no c.running)) refl
+
 abbrev pub insert_campaign_text : List ℕ
 insert_campaign_text = codes "INSERT INTO campaign (name, reach, items, running) VALUES (?1, ?2, ?3, ?4)"
 
-abbrev terms : List Term
-terms = lit Null ∷ col 0 0 ∷ col 0 1 ∷ col 0 2 ∷ col 0 3 ∷ []
-
-insert_is : (command_of (understood up_schema insert_campaign_text) ≡ Insert 4 (Values terms 5)) × IsPlain (understood up_schema insert_campaign_text)
+insert_is : (command_of (understood up_schema insert_campaign_text) ≡ Insert 4 (Values (given 4) 5)) × IsPlain (understood up_schema insert_campaign_text)
 unfolding understood everything
 insert_is = (refl, (refl, refl))
-
-casts : (c : CampaignRow) → cast_row campaign_table (Null ∷ campaign_row c) ≡ Null ∷ campaign_row c
-casts c = rw (cast_null, cast_int (yes_or_no c.running)) refl
 
 pub campaign_inserts : (r : Result ℕ Error) (old new : State) (c : CampaignRow) → Survives old new (λ _. ⊥) → IfClean IsInside old
     → (HasCleanDisk new → IsTrue old.in_transaction → ExecutesInside 0 insert_campaign_text (campaign_row c) old new r)
     → HasCleanDisk new → OnOk r ((rows_of : List ℕ → List Row) → HasTables old → Lists 1 rows_of (old.now.trees 7) → Alters campaign_table (Lists 1 (with_row (string_bytes c.name) (campaign_row c) rows_of)) old new)
 campaign_inserts r old new c survives inside ran clean =
     listed_in campaign_table 1 (string_bytes c.name) (campaign_row c) old new r (λ x n. text_is (string_bytes c.name) n)
-    (inserts_in insert_campaign_text 4 campaign_table terms 5 (campaign_row c) (campaign_row c) insert_is.0 insert_is.1 refl refl (append-nil _) refl (casts c) r old new survives inside ran clean)
+    (inserts_in insert_campaign_text 4 campaign_table (given 4) 5 (campaign_row c) (campaign_row c) insert_is.0 insert_is.1 refl refl (append-nil _) refl (casts c) r old new survives inside ran clean)
 
 -- ---- read
 
 abbrev part : Row → Row
 part = columns_at campaign_places
 
-abbrev shown : List Term
-shown = col 1 1 ∷ col 1 2 ∷ col 1 3 ∷ col 1 4 ∷ []
-
 abbrev names : List (List ℕ)
 names = codes "name" ∷ codes "reach" ∷ codes "items" ∷ codes "running" ∷ []
 
-shows : (params r : Row) → Rattle.sqlite.specs.Term.eval_all shown (params ∷ r ∷ []) ≡ part (drop 1 r)
+shows : (params r : Row) → Rattle.sqlite.specs.Term.eval_all (all_columns 4) (params ∷ r ∷ []) ≡ part (drop 1 r)
 shows params r = rw (column_after r 0, column_after r 1, column_after r 2, column_after r 3) refl
 
 abbrev pub find_campaign_text : List ℕ
 find_campaign_text = codes "SELECT name, reach, items, running FROM campaign WHERE name = ?1"
 
-pub find_is : Asks up_schema find_campaign_text (over 7 (equals 1 0 ∷ []) shown []) names
+pub find_is : Asks up_schema find_campaign_text (over 7 (equals 1 0 ∷ []) (all_columns 4) []) names
 unfolding understood everything
 find_is = (refl, refl, (refl, refl))
 
@@ -80,7 +74,7 @@ pub finds_campaign : {X : Type 0} (items : X → List Row) (answer : Result X Er
     → IfOk r (λ found. IsOkAnd answer (λ v. map part (items v) ≡ map campaign_row (option_to_list found))) → IfOk answer (λ v. Shown find_campaign_text (Text name ∷ []) old new (items v))
     → IfOk r (λ found. (rows_of : List ℕ → List Row) → HasTables old → Lists 1 rows_of (old.now.trees 7) → map part (rows_of name) ≡ map campaign_row (option_to_list found))
 finds_campaign items answer r old new name h ran =
-    named_in items campaign_table 0 find_campaign_text shown names part campaign_row name find_is (λ db. refl) (shows (Text name ∷ [])) (λ x. refl) answer r old new h ran
+    named_in items campaign_table 0 find_campaign_text (all_columns 4) names part campaign_row name find_is (λ db. refl) (shows (Text name ∷ [])) (λ x. refl) answer r old new h ran
 
 abbrev pub running_text : List ℕ
 running_text = codes "SELECT name, reach, items, running FROM campaign WHERE running = 1 ORDER BY rowid"
@@ -88,7 +82,7 @@ running_text = codes "SELECT name, reach, items, running FROM campaign WHERE run
 abbrev runs : Term
 runs = op2 (Compare Eq Binary) (col 1 4) (lit (Int (pos 1)))
 
-pub running_is : Asks up_schema running_text (over 7 (runs ∷ []) shown by_rowid) names
+pub running_is : Asks up_schema running_text (over 7 (runs ∷ []) (all_columns 4) by_rowid) names
 unfolding understood everything
 running_is = (refl, refl, (refl, refl))
 
@@ -98,5 +92,5 @@ pub finds_running : {X R : Type 0} (items : X → List Row) (list : R → List C
     → (name : List ℕ) → map part (filter (has_number 3 (pos 1)) (rows_of name)) ≡ map campaign_row (filter (λ c. bytes_eq (string_bytes c.name) name) (list found)))
 finds_running items list answer r old new h ran =
     all_in items list campaign_table running_text part campaign_row (λ c. string_bytes c.name) (has_number 3 (pos 1)) (λ x. refl) (λ x n. refl) (λ x n. text_is (string_bytes x.name) n) answer r old new
-    (λ rows has table. answers_all up_schema running_text 7 (runs ∷ []) shown names [] (has_number 3 (pos 1)) part
+    (λ rows has table. answers_all up_schema running_text 7 (runs ∷ []) (all_columns 4) names [] (has_number 3 (pos 1)) part
     (λ x. and-true _ ∙ equals_int (column x 4) (pos 1) ∙ ap (λ v. is_eq (value_cmp v (Int (pos 1)))) (column_after x 3)) (shows []) (λ db. refl) running_is old new rows has table) h ran

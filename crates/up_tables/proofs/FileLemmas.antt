@@ -6,14 +6,13 @@ use Rattle.std.proofs.Math.Bool.{and-true}
 use Rattle.sqlite.specs.declared.types.Value.TheVariants.{Text}
 use Rattle.sqlite.specs.declared.error.Error.{Error}
 use Rattle.sqlite.specs.Order.{Row, column}
-use Rattle.sqlite.specs.Term.{Term, col}
 use Rattle.sqlite.specs.Listing.{understood}
 use Rattle.sqlite.specs.State.{State, Shown}
 use Rattle.sqlite_tied.specs.Compute.{everything}
 use Rattle.up_tables.specs.Rows.{bare, columns_at, has_text}
 use Rattle.up_tables.specs.Stands.{IsInside, Alters, HasTables}
 use Rattle.up_tables.specs.declared.values.StoreFault.{StoreFault}
-use Rattle.up_tables.proofs.AnswerLemmas.{over, equals_text}
+use Rattle.up_tables.proofs.AnswerLemmas.{over, all_columns, equals_text}
 use Rattle.up_tables.proofs.EcuRows.{column_after}
 use Rattle.up_tables.proofs.EcuUpsert.{equals}
 use Rattle.up_tables.specs.Tables.{up_schema, repo_file_table}
@@ -75,16 +74,13 @@ all_set fs i old new end so_far rows_of has lists few =
 abbrev part : Row → Row
 part = columns_at file_places
 
-abbrev shown : List Term
-shown = col 1 1 ∷ col 1 2 ∷ col 1 3 ∷ []
-
 abbrev names : List (List ℕ)
 names = codes "repository" ∷ codes "name" ∷ codes "body" ∷ []
 
 abbrev pub find_file_text : List ℕ
 find_file_text = codes "SELECT repository, name, body FROM repo_file WHERE repository = ?1 AND name = ?2"
 
-pub find_is : Asks up_schema find_file_text (over 3 (equals 1 0 ∷ equals 2 1 ∷ []) shown []) names
+pub find_is : Asks up_schema find_file_text (over 3 (equals 1 0 ∷ equals 2 1 ∷ []) (all_columns 3) []) names
 unfolding understood everything
 find_is = (refl, refl, (refl, refl))
 
@@ -95,7 +91,7 @@ finds_file items answer r old new repository name h ran =
     let params = Text repository ∷ Text name ∷ [] in
     let q : Row → Bool = λ x. has_text 0 repository x && has_text 1 name x in
     let test : (x : Row) → has_texts 1 repository 2 name x ≡ q (drop 1 x) = λ x. rw (column_after x 0, column_after x 1) refl in
-    let answers = answers_some up_schema find_file_text 3 (equals 1 0 ∷ equals 2 1 ∷ []) shown names params q part
+    let answers = answers_some up_schema find_file_text 3 (equals 1 0 ∷ equals 2 1 ∷ []) (all_columns 3) names params q part
     (λ x. rw (equals_text (column x 1) repository, equals_text (column x 2) name, column_after x 0, column_after x 1) (ap (λ b. has_text 0 repository (drop 1 x) && b) (and-true _)))
     (λ x. rw (column_after x 0, column_after x 1, column_after x 2) refl) (λ db. refl) find_is old new in
     ok_then _ _ r (λ found is rows_of has lists. ap (map part) (sym (lists.parts repository name) ∙ bare_filter (has_texts 1 repository 2 name) q test (old.now.trees 3)) ∙ is has)

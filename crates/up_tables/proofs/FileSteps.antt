@@ -5,7 +5,7 @@ use Rattle.std.proofs.Math.Bool.{and-true}
 use Rattle.sqlite.specs.declared.types.Value.TheVariants.{Null, Int, Text, Blob}
 use Rattle.sqlite.specs.declared.error.Error.{Error}
 use Rattle.sqlite.specs.Order.{Row, column, value_cmp}
-use Rattle.sqlite.specs.Term.{Term, lit, col, eval_all, holds}
+use Rattle.sqlite.specs.Term.{Term, col, eval_all, holds}
 use Rattle.sqlite.specs.Cast.{cast_row}
 use Rattle.sqlite.specs.Source.TheVariants.{Values}
 use Rattle.sqlite.specs.Command.TheVariants.{InsertOr}
@@ -16,7 +16,7 @@ use Rattle.sqlite_tied.specs.Compute.{everything}
 use Rattle.sqlite_schema.specs.declared.schema.Keys.TheVariants.{Enforced}
 use Rattle.up_tables.specs.Rows.{bare, has_text}
 use Rattle.up_tables.specs.Stands.{IfClean, IsInside, Alters, HasTables}
-use Rattle.up_tables.proofs.AnswerLemmas.{over, equals_text, equals_int}
+use Rattle.up_tables.proofs.AnswerLemmas.{over, given, equals_text, equals_int}
 use Rattle.up_tables.proofs.Casts.{cast_int, cast_null}
 use Rattle.up_tables.proofs.EcuRows.{text_is}
 use Rattle.up_tables.proofs.EcuUpsert.{equals}
@@ -58,9 +58,6 @@ use Rattle.up_tables.proofs.UpsertLemmas.{tried, updated, rewritten_by, tries_ro
 abbrev pub upsert_file_text : List ℕ
 upsert_file_text = codes "INSERT INTO repo_file (repository, name, body) VALUES (?1, ?2, ?3) ON CONFLICT (repository, name) DO UPDATE SET body = excluded.body"
 
-abbrev terms : List Term
-terms = lit Null ∷ col 0 0 ∷ col 0 1 ∷ col 0 2 ∷ []
-
 abbrev update_shown : List Term
 update_shown = col 1 0 ∷ col 1 0 ∷ col 1 1 ∷ col 1 2 ∷ col 0 7 ∷ []
 
@@ -70,7 +67,7 @@ update = record { lets = []; body = over 3 (equals 0 3 ∷ []) update_shown [] }
 abbrev clause : Upsert
 clause = record { target = Some (1 ∷ 2 ∷ []); update = Some update }
 
-upsert_is : (command_of (understood up_schema upsert_file_text) ≡ InsertOr 2 Abort (Values terms 4) (clause ∷ [])) × IsPlain (understood up_schema upsert_file_text)
+upsert_is : (command_of (understood up_schema upsert_file_text) ≡ InsertOr 2 Abort (Values (given 3) 4) (clause ∷ [])) × IsPlain (understood up_schema upsert_file_text)
 unfolding understood everything
 upsert_is = (refl, (refl, refl))
 
@@ -242,7 +239,7 @@ upserts_file old new repository name body rows_of count has lists few h =
     let db = old.now.trees in
     let row = file_line repository name body in
     let task : Task = record { limit = old.step_limit; keys = Enforced; schema = up_schema; table = repo_file_table; params = row } in
-    let tries = tries_row up_schema upsert_file_text 2 repo_file_table terms 4 row row (clause ∷ []) upsert_is.0 upsert_is.1 refl refl (append-nil _) refl (casts repository name body) old new count has h in
+    let tries = tries_row up_schema upsert_file_text 2 repo_file_table (given 3) 4 row row (clause ∷ []) upsert_is.0 upsert_is.1 refl refl (append-nil _) refl (casts repository name body) old new count has h in
     let set = sets old.step_limit db repository name body tries.0 rows_of lists few (tried task clause (Int (next_rowid (db 3)) ∷ row) db tries.0 tries.1) in (
       ap (λ (d : Database). d.schema) tries.3,
       tries.2,

@@ -5,7 +5,7 @@ use Rattle.std.specs.Result.{IsOkAnd}
 use Rattle.sqlite.specs.declared.types.Value.TheVariants.{Null, Text}
 use Rattle.sqlite.specs.declared.error.Error.{Error}
 use Rattle.sqlite.specs.Order.{Row, column, value_cmp}
-use Rattle.sqlite.specs.Term.{Term, lit, col}
+use Rattle.sqlite.specs.Term.{Term}
 use Rattle.sqlite.specs.Cast.{cast_row}
 use Rattle.sqlite.specs.Source.TheVariants.{Values}
 use Rattle.sqlite.specs.Command.TheVariants.{Insert}
@@ -19,7 +19,7 @@ use Rattle.up_tables.specs.Forms.{image_row, image_places}
 use Rattle.up_tables.specs.Stands.{Lists, IfClean, IsInside, Alters, HasTables}
 use Rattle.up_tables.specs.declared.image.ImageRow.{ImageRow}
 use Rattle.up_tables.specs.declared.values.StoreFault.{StoreFault}
-use Rattle.up_tables.proofs.AnswerLemmas.{over}
+use Rattle.up_tables.proofs.AnswerLemmas.{over, given, all_columns}
 use Rattle.up_tables.proofs.ByNameLemmas.{listed_in, named_in, all_in, filter_true}
 use Rattle.up_tables.proofs.Casts.{cast_int, cast_null}
 use Rattle.up_tables.proofs.EcuRows.{text_is, column_after}
@@ -33,10 +33,7 @@ use Rattle.up_tables.proofs.StateLemmas.{ok_then}
 abbrev pub insert_image_text : List ℕ
 insert_image_text = codes "INSERT INTO image (file, length, sha256, hardware, release_count, needs, conflicts) VALUES (?1, ?2, ?3, ?4, ?5, ?6, ?7)"
 
-abbrev terms : List Term
-terms = lit Null ∷ col 0 0 ∷ col 0 1 ∷ col 0 2 ∷ col 0 3 ∷ col 0 4 ∷ col 0 5 ∷ col 0 6 ∷ []
-
-insert_is : (command_of (understood up_schema insert_image_text) ≡ Insert 3 (Values terms 8)) × IsPlain (understood up_schema insert_image_text)
+insert_is : (command_of (understood up_schema insert_image_text) ≡ Insert 3 (Values (given 7) 8)) × IsPlain (understood up_schema insert_image_text)
 unfolding understood everything
 insert_is = (refl, (refl, refl))
 
@@ -48,38 +45,35 @@ pub image_inserts : (r : Result ℕ Error) (old new : State) (i : ImageRow) → 
     → HasCleanDisk new → OnOk r ((rows_of : List ℕ → List Row) → HasTables old → Lists 1 rows_of (old.now.trees 5) → Alters image_table (Lists 1 (with_row (string_bytes i.file) (image_row i) rows_of)) old new)
 image_inserts r old new i survives inside ran clean =
     listed_in image_table 1 (string_bytes i.file) (image_row i) old new r (λ x n. text_is (string_bytes i.file) n)
-    (inserts_in insert_image_text 3 image_table terms 8 (image_row i) (image_row i) insert_is.0 insert_is.1 refl refl (append-nil _) refl (casts i) r old new survives inside ran clean)
+    (inserts_in insert_image_text 3 image_table (given 7) 8 (image_row i) (image_row i) insert_is.0 insert_is.1 refl refl (append-nil _) refl (casts i) r old new survives inside ran clean)
 
 -- ---- read
 
 abbrev part : Row → Row
 part = columns_at image_places
 
-abbrev shown : List Term
-shown = col 1 1 ∷ col 1 2 ∷ col 1 3 ∷ col 1 4 ∷ col 1 5 ∷ col 1 6 ∷ col 1 7 ∷ []
-
 abbrev names : List (List ℕ)
 names = codes "file" ∷ codes "length" ∷ codes "sha256" ∷ codes "hardware" ∷ codes "release_count" ∷ codes "needs" ∷ codes "conflicts" ∷ []
 
-shows : (params r : Row) → Rattle.sqlite.specs.Term.eval_all shown (params ∷ r ∷ []) ≡ part (Rattle.std.proofs.Common.drop 1 r)
+shows : (params r : Row) → Rattle.sqlite.specs.Term.eval_all (all_columns 7) (params ∷ r ∷ []) ≡ part (Rattle.std.proofs.Common.drop 1 r)
 shows params r = rw (column_after r 0, column_after r 1, column_after r 2, column_after r 3, column_after r 4, column_after r 5, column_after r 6) refl
 
 abbrev pub find_image_text : List ℕ
 find_image_text = codes "SELECT file, length, sha256, hardware, release_count, needs, conflicts FROM image WHERE file = ?1"
 
-pub find_is : Asks up_schema find_image_text (over 5 (equals 1 0 ∷ []) shown []) names
+pub find_is : Asks up_schema find_image_text (over 5 (equals 1 0 ∷ []) (all_columns 7) []) names
 unfolding understood everything
 find_is = (refl, refl, (refl, refl))
 
 pub finds_image : {X : Type 0} (items : X → List Row) (answer : Result X Error) (r : Result (Option ImageRow) StoreFault) (old new : State) (file : List ℕ)
     → IfOk r (λ found. IsOkAnd answer (λ v. map part (items v) ≡ map image_row (option_to_list found))) → IfOk answer (λ v. Shown find_image_text (Text file ∷ []) old new (items v))
     → IfOk r (λ found. (rows_of : List ℕ → List Row) → HasTables old → Lists 1 rows_of (old.now.trees 5) → map part (rows_of file) ≡ map image_row (option_to_list found))
-finds_image items answer r old new file = named_in items image_table 0 find_image_text shown names part image_row file find_is (λ db. refl) (shows (Text file ∷ [])) (λ x. refl) answer r old new
+finds_image items answer r old new file = named_in items image_table 0 find_image_text (all_columns 7) names part image_row file find_is (λ db. refl) (shows (Text file ∷ [])) (λ x. refl) answer r old new
 
 abbrev pub all_images_text : List ℕ
 all_images_text = codes "SELECT file, length, sha256, hardware, release_count, needs, conflicts FROM image ORDER BY rowid"
 
-pub all_is : Asks up_schema all_images_text (over 5 [] shown by_rowid) names
+pub all_is : Asks up_schema all_images_text (over 5 [] (all_columns 7) by_rowid) names
 unfolding understood everything
 all_is = (refl, refl, (refl, refl))
 
@@ -90,4 +84,4 @@ pub finds_images : {X R : Type 0} (items : X → List Row) (list : R → List Im
 finds_images items list answer r old new h ran =
     ok_then _ _ r (λ found is rows_of has lists name. ap (map part) (sym (filter_true (rows_of name))) ∙ is rows_of has lists name)
     (all_in items list image_table all_images_text part image_row (λ i. string_bytes i.file) (λ _. true) (λ x. refl) (λ x n. refl) (λ x n. text_is (string_bytes x.file) n) answer r old new
-    (λ shown' has table. answers_all up_schema all_images_text 5 [] shown names [] (λ _. true) part (λ x. refl) (shows []) (λ db. refl) all_is old new shown' has table) h ran)
+    (λ shown' has table. answers_all up_schema all_images_text 5 [] (all_columns 7) names [] (λ _. true) part (λ x. refl) (shows []) (λ db. refl) all_is old new shown' has table) h ran)

@@ -7,7 +7,6 @@ use Rattle.std.proofs.Math.Bool.{and-true}
 use Rattle.sqlite.specs.declared.types.Value.TheVariants.{Null, Int, Text}
 use Rattle.sqlite.specs.declared.error.Error.{Error}
 use Rattle.sqlite.specs.Order.{Row, column, value_cmp}
-use Rattle.sqlite.specs.Term.{Term, lit, col}
 use Rattle.sqlite.specs.Cast.{cast_row}
 use Rattle.sqlite.specs.Source.TheVariants.{Values}
 use Rattle.sqlite.specs.Command.TheVariants.{Insert}
@@ -18,7 +17,7 @@ use Rattle.sqlite_tied.specs.Compute.{everything}
 use Rattle.up_tables.specs.Rows.{bare, columns_at, has_text, has_number, with_row}
 use Rattle.up_tables.specs.Stands.{Lists, IfClean, IsInside, Alters, HasTables}
 use Rattle.up_tables.specs.declared.values.StoreFault.{StoreFault}
-use Rattle.up_tables.proofs.AnswerLemmas.{over, equals_text, equals_int}
+use Rattle.up_tables.proofs.AnswerLemmas.{over, given, all_columns, equals_text, equals_int}
 use Rattle.up_tables.proofs.Casts.{cast_int, cast_null}
 use Rattle.up_tables.proofs.EcuRows.{text_is, column_after}
 use Rattle.up_tables.proofs.EcuUpsert.{equals}
@@ -35,10 +34,7 @@ use Rattle.up_tables.proofs.StateLemmas.{one_in, ok_then}
 abbrev pub insert_kept_text : List ℕ
 insert_kept_text = codes "INSERT INTO kept (vehicle, counter, version, moment, root, signed, plan_text, reply) VALUES (?1, ?2, ?3, ?4, ?5, ?6, ?7, ?8)"
 
-abbrev terms : List Term
-terms = lit Null ∷ col 0 0 ∷ col 0 1 ∷ col 0 2 ∷ col 0 3 ∷ col 0 4 ∷ col 0 5 ∷ col 0 6 ∷ col 0 7 ∷ []
-
-insert_is : (command_of (understood up_schema insert_kept_text) ≡ Insert 7 (Values terms 9)) × IsPlain (understood up_schema insert_kept_text)
+insert_is : (command_of (understood up_schema insert_kept_text) ≡ Insert 7 (Values (given 8) 9)) × IsPlain (understood up_schema insert_kept_text)
 unfolding understood everything
 insert_is = (refl, (refl, refl))
 
@@ -50,15 +46,12 @@ pub kept_inserts : (r : Result ℕ Error) (old new : State) (k : KeptRow) → Su
     → HasCleanDisk new → OnOk r ((rows_of : List ℕ → List Row) → HasTables old → Lists 1 rows_of (old.now.trees 14) → Alters kept_table (Lists 1 (with_row (string_bytes k.vehicle) (kept_row k) rows_of)) old new)
 kept_inserts r old new k survives inside ran clean =
     listed_in kept_table 1 (string_bytes k.vehicle) (kept_row k) old new r (λ x n. text_is (string_bytes k.vehicle) n)
-    (inserts_in insert_kept_text 7 kept_table terms 9 (kept_row k) (kept_row k) insert_is.0 insert_is.1 refl refl (append-nil _) refl (casts k) r old new survives inside ran clean)
+    (inserts_in insert_kept_text 7 kept_table (given 8) 9 (kept_row k) (kept_row k) insert_is.0 insert_is.1 refl refl (append-nil _) refl (casts k) r old new survives inside ran clean)
 
 -- ---- read
 
 abbrev part : Row → Row
 part = columns_at kept_places
-
-abbrev shown : List Term
-shown = col 1 1 ∷ col 1 2 ∷ col 1 3 ∷ col 1 4 ∷ col 1 5 ∷ col 1 6 ∷ col 1 7 ∷ col 1 8 ∷ []
 
 abbrev names : List (List ℕ)
 names = codes "vehicle" ∷ codes "counter" ∷ codes "version" ∷ codes "moment" ∷ codes "root" ∷ codes "signed" ∷ codes "plan_text" ∷ codes "reply" ∷ []
@@ -66,7 +59,7 @@ names = codes "vehicle" ∷ codes "counter" ∷ codes "version" ∷ codes "momen
 abbrev pub find_kept_text : List ℕ
 find_kept_text = codes "SELECT vehicle, counter, version, moment, root, signed, plan_text, reply FROM kept WHERE vehicle = ?1 AND counter = ?2"
 
-pub find_is : Asks up_schema find_kept_text (over 14 (equals 1 0 ∷ equals 2 1 ∷ []) shown []) names
+pub find_is : Asks up_schema find_kept_text (over 14 (equals 1 0 ∷ equals 2 1 ∷ []) (all_columns 8) []) names
 unfolding understood everything
 find_is = (refl, refl, (refl, refl))
 
@@ -77,7 +70,7 @@ finds_kept items answer r old new vehicle counter h ran =
     let params = Text vehicle ∷ Int (pos counter) ∷ [] in
     let q : Row → Bool = λ x. has_text 0 vehicle x && has_number 1 (pos counter) x in
     let test : (x : Row) → has_text 1 vehicle x ≡ has_text 0 vehicle (drop 1 x) = λ x. ap (λ v. is_eq (value_cmp v (Text vehicle))) (column_after x 0) in
-    let answers = answers_some up_schema find_kept_text 14 (equals 1 0 ∷ equals 2 1 ∷ []) shown names params q part
+    let answers = answers_some up_schema find_kept_text 14 (equals 1 0 ∷ equals 2 1 ∷ []) (all_columns 8) names params q part
     (λ x. rw (equals_text (column x 1) vehicle, equals_int (column x 2) (pos counter), column_after x 0, column_after x 1) (ap (λ b. has_text 0 vehicle (drop 1 x) && b) (and-true _)))
     (λ x. rw (column_after x 0, column_after x 1, column_after x 2, column_after x 3, column_after x 4, column_after x 5, column_after x 6, column_after x 7) refl) (λ db. refl) find_is old new in
     ok_then _ _ r (λ found is rows_of has lists.

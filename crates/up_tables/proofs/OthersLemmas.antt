@@ -60,17 +60,21 @@ others_then written a b d h k = record {
   kept = stays_then written kept_table a b d h.kept k.kept;
 }
 
--- more may be said of the rows that were written
-pub alters_to : (table : Table) (P Q : List Row → Type 0) (old new : State) → (P (new.now.trees table.tree) → Q (new.now.trees table.tree)) → Alters table P old new → Alters table Q old new
-alters_to table P Q old new f h = record {
-  was_open = h.was_open;
+-- what is so since a state before
+alters_since : (table : Table) (P Q : List Row → Type 0) (old mid new : State) → IsOpen old → OthersStay table old.now.trees new.now.trees → Q (new.now.trees table.tree) → Alters table P mid new → Alters table Q old new
+alters_since table P Q old mid new was_open others rows h = record {
+  was_open = was_open;
   is_open = h.is_open;
   mode = h.mode;
   schema_is = h.schema_is;
   sound = h.sound;
-  rows = f h.rows;
-  others = h.others;
+  rows = rows;
+  others = others;
 }
+
+-- more may be said of the rows that were written
+pub alters_to : (table : Table) (P Q : List Row → Type 0) (old new : State) → (P (new.now.trees table.tree) → Q (new.now.trees table.tree)) → Alters table P old new → Alters table Q old new
+alters_to table P Q old new f h = alters_since table P Q old old new h.was_open h.others (f h.rows) h
 
 -- where nothing is written
 pub alters_none : (table : Table) (P : List Row → Type 0) (s : State) → IsInside s → IsOpen s → HasTables s → P (s.now.trees table.tree) → Alters table P s s
@@ -84,12 +88,5 @@ has_after table P old new h is_open = record { schema_is = h.schema_is; sound = 
 
 -- one write after another
 pub alters_then : (table : Table) (P Q : List Row → Type 0) (old mid new : State) → Alters table P old mid → Alters table Q mid new → Alters table Q old new
-alters_then table P Q old mid new h k = record {
-  was_open = h.was_open;
-  is_open = k.is_open;
-  mode = k.mode;
-  schema_is = k.schema_is;
-  sound = k.sound;
-  rows = k.rows;
-  others = others_then table old.now.trees mid.now.trees new.now.trees h.others k.others;
-}
+alters_then table P Q old mid new h k =
+    alters_since table Q Q old mid new h.was_open (others_then table old.now.trees mid.now.trees new.now.trees h.others k.others) k.rows k

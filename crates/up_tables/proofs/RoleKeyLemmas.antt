@@ -6,7 +6,7 @@ use Rattle.std.proofs.Math.Bool.{and-true}
 use Rattle.sqlite.specs.declared.types.Value.TheVariants.{Null, Int}
 use Rattle.sqlite.specs.declared.error.Error.{Error}
 use Rattle.sqlite.specs.Order.{Row, column, value_cmp}
-use Rattle.sqlite.specs.Term.{Term, lit, col, op2}
+use Rattle.sqlite.specs.Term.{Term, op2}
 use Rattle.sqlite.specs.Cast.{cast_row}
 use Rattle.sqlite.specs.Source.TheVariants.{Values}
 use Rattle.sqlite.specs.Command.TheVariants.{Insert}
@@ -17,7 +17,7 @@ use Rattle.sqlite_tied.specs.Compute.{everything}
 use Rattle.up_tables.specs.Rows.{bare, columns_at, has_number}
 use Rattle.up_tables.specs.Stands.{ListsAll, IfClean, IsInside, Alters, HasTables}
 use Rattle.up_tables.specs.declared.values.StoreFault.{StoreFault}
-use Rattle.up_tables.proofs.AnswerLemmas.{over, equals_int}
+use Rattle.up_tables.proofs.AnswerLemmas.{over, given, all_columns, equals_int}
 use Rattle.up_tables.proofs.Casts.{cast_int, cast_null}
 use Rattle.up_tables.proofs.EcuRows.{column_after}
 use Rattle.up_tables.proofs.EcuUpsert.{equals}
@@ -41,10 +41,7 @@ use Rattle.up_tables.proofs.StateLemmas.{each_in, ok_then}
 abbrev pub insert_role_key_text : List ℕ
 insert_role_key_text = codes "INSERT INTO role_key (root, repository, role, place, secret, threshold) VALUES (?1, ?2, ?3, ?4, ?5, ?6)"
 
-abbrev terms : List Term
-terms = lit Null ∷ col 0 0 ∷ col 0 1 ∷ col 0 2 ∷ col 0 3 ∷ col 0 4 ∷ col 0 5 ∷ []
-
-insert_is : (command_of (understood up_schema insert_role_key_text) ≡ Insert 1 (Values terms 7)) × IsPlain (understood up_schema insert_role_key_text)
+insert_is : (command_of (understood up_schema insert_role_key_text) ≡ Insert 1 (Values (given 6) 7)) × IsPlain (understood up_schema insert_role_key_text)
 unfolding understood everything
 insert_is = (refl, (refl, refl))
 
@@ -56,7 +53,7 @@ pub role_key_inserts : (r : Result ℕ Error) (old new : State) (k : RoleKeyRow)
     → HasCleanDisk new → OnOk r ((all : List Row) → HasTables old → ListsAll all (old.now.trees 1) → Alters role_key_table (ListsAll (all ++ role_key_row k ∷ [])) old new)
 role_key_inserts r old new k survives inside ran clean =
     added_in role_key_table (role_key_row k) old new r
-    (inserts_in insert_role_key_text 1 role_key_table terms 7 (role_key_row k) (role_key_row k) insert_is.0 insert_is.1 refl refl (append-nil _) refl (casts k) r old new survives inside ran clean)
+    (inserts_in insert_role_key_text 1 role_key_table (given 6) 7 (role_key_row k) (role_key_row k) insert_is.0 insert_is.1 refl refl (append-nil _) refl (casts k) r old new survives inside ran clean)
 
 -- what a loop over the keys has put in when it comes to one of them
 abbrev pub PutSoFar : List RoleKeyRow → ℕ → State → State → Type 0
@@ -85,19 +82,16 @@ all_put ks i old new end so_far all has lists =
 abbrev part : Row → Row
 part = columns_at role_key_places
 
-abbrev shown : List Term
-shown = col 1 1 ∷ col 1 2 ∷ col 1 3 ∷ col 1 4 ∷ col 1 5 ∷ col 1 6 ∷ []
-
 abbrev names : List (List ℕ)
 names = codes "root" ∷ codes "repository" ∷ codes "role" ∷ codes "place" ∷ codes "secret" ∷ codes "threshold" ∷ []
 
-shows : (params r : Row) → Rattle.sqlite.specs.Term.eval_all shown (params ∷ r ∷ []) ≡ part (drop 1 r)
+shows : (params r : Row) → Rattle.sqlite.specs.Term.eval_all (all_columns 6) (params ∷ r ∷ []) ≡ part (drop 1 r)
 shows params r = rw (column_after r 0, column_after r 1, column_after r 2, column_after r 3, column_after r 4, column_after r 5) refl
 
 abbrev pub keys_of_text : List ℕ
 keys_of_text = codes "SELECT root, repository, role, place, secret, threshold FROM role_key WHERE root = ?1 ORDER BY rowid"
 
-pub keys_of_is : Asks up_schema keys_of_text (over 1 (equals 1 0 ∷ []) shown by_rowid) names
+pub keys_of_is : Asks up_schema keys_of_text (over 1 (equals 1 0 ∷ []) (all_columns 6) by_rowid) names
 unfolding understood everything
 keys_of_is = (refl, refl, (refl, refl))
 
@@ -108,13 +102,13 @@ finds_keys_of items list answer r old new root h ran =
     let rows = filter (has_number 0 (pos root)) (bare (old.now.trees 1)) in
     ok_then _ _ r (λ found is all has lists. ap (λ xs. map part (filter (has_number 0 (pos root)) xs)) (sym lists.every) ∙ is lists.shaped has)
     (each_in items part part (λ x. refl) role_key_row keys_of_text (Int (pos root) ∷ []) old new (IsShaped Table (old.now.trees 1)) list rows answer r
-    (λ shown' shaped has. answers_all up_schema keys_of_text 1 (equals 1 0 ∷ []) shown names (Int (pos root) ∷ []) (has_number 0 (pos root)) part
+    (λ shown' shaped has. answers_all up_schema keys_of_text 1 (equals 1 0 ∷ []) (all_columns 6) names (Int (pos root) ∷ []) (has_number 0 (pos root)) part
     (λ x. and-true _ ∙ equals_int (column x 1) (pos root) ∙ ap (λ v. is_eq (value_cmp v (Int (pos root)))) (column_after x 0)) (shows (Int (pos root) ∷ [])) (λ db. refl) keys_of_is old new shown' has shaped.0) h ran)
 
 abbrev pub all_keys_text : List ℕ
 all_keys_text = codes "SELECT root, repository, role, place, secret, threshold FROM role_key ORDER BY rowid"
 
-pub all_keys_is : Asks up_schema all_keys_text (over 1 [] shown by_rowid) names
+pub all_keys_is : Asks up_schema all_keys_text (over 1 [] (all_columns 6) by_rowid) names
 unfolding understood everything
 all_keys_is = (refl, refl, (refl, refl))
 
@@ -125,4 +119,4 @@ finds_all_keys items list answer r old new h ran =
     let rows = filter (λ _. true) (bare (old.now.trees 1)) in
     ok_then _ _ r (λ found is all has lists. ap (map part) (sym lists.every ∙ sym (filter_true (bare (old.now.trees 1)))) ∙ is lists.shaped has)
     (each_in items part part (λ x. refl) role_key_row all_keys_text [] old new (IsShaped Table (old.now.trees 1)) list rows answer r
-    (λ shown' shaped has. answers_all up_schema all_keys_text 1 [] shown names [] (λ _. true) part (λ x. refl) (shows []) (λ db. refl) all_keys_is old new shown' has shaped.0) h ran)
+    (λ shown' shaped has. answers_all up_schema all_keys_text 1 [] (all_columns 6) names [] (λ _. true) part (λ x. refl) (shows []) (λ db. refl) all_keys_is old new shown' has shaped.0) h ran)

@@ -10,7 +10,7 @@ use Rattle.sqlite.specs.declared.types.Value.TheVariants.{Null, Int, Text}
 use Rattle.sqlite.specs.declared.error.Error.{Error}
 use Rattle.sqlite.specs.Order.{Row, column, value_cmp}
 use Rattle.sqlite.specs.Ops.{binary, is_true}
-use Rattle.sqlite.specs.Term.{Term, lit, col, eval_all, holds}
+use Rattle.sqlite.specs.Term.{Term, col, eval_all, holds}
 use Rattle.sqlite.specs.Cast.{cast_row}
 use Rattle.sqlite.specs.Does.{Does, OnRows}
 use Rattle.sqlite.specs.Edit.{edit_of, edited, with_rowid, next_rowid, taken_by}
@@ -50,7 +50,7 @@ use Rattle.up_tables.specs.Upserts.{Rewrites}
 use Rattle.up_tables.specs.declared.vehicle.VehicleRow.{VehicleRow}
 use Rattle.up_tables.specs.declared.values.StoreFault.{StoreFault}
 use Rattle.up_tables.proofs.ReadLemmas.{Asks}
-use Rattle.up_tables.proofs.AnswerLemmas.{over, equals_text, equals_int, answer_is, shows_passing}
+use Rattle.up_tables.proofs.AnswerLemmas.{over, given, all_columns, equals_text, equals_int, answer_is, shows_passing}
 use Rattle.up_tables.proofs.ByNameLemmas.{listed_in, named_in}
 use Rattle.up_tables.proofs.Casts.{cast_int, cast_null}
 use Rattle.up_tables.proofs.CreateLemmas.{went}
@@ -68,18 +68,15 @@ use Rattle.up_tables.proofs.UpsertLemmas.{upserted, tried_each, tried, resolved,
 
 -- ---- put in
 
+casts : (name primary : List ℕ) (version last : ℕ) → cast_row vehicle_table (Null ∷ vehicle_line name primary version last) ≡ Null ∷ vehicle_line name primary version last
+casts name primary version last = rw (cast_null, cast_int (pos version), cast_int (pos last)) refl
+
 abbrev pub insert_vehicle_text : List ℕ
 insert_vehicle_text = codes "INSERT INTO vehicle (vehicle, primary_ecu, version, last_counter) VALUES (?1, ?2, ?3, ?4)"
 
-abbrev terms : List Term
-terms = lit Null ∷ col 0 0 ∷ col 0 1 ∷ col 0 2 ∷ col 0 3 ∷ []
-
-insert_is : (command_of (understood up_schema insert_vehicle_text) ≡ Insert 5 (Values terms 5)) × IsPlain (understood up_schema insert_vehicle_text)
+insert_is : (command_of (understood up_schema insert_vehicle_text) ≡ Insert 5 (Values (given 4) 5)) × IsPlain (understood up_schema insert_vehicle_text)
 unfolding understood everything
 insert_is = (refl, (refl, refl))
-
-casts : (name primary : List ℕ) (version last : ℕ) → cast_row vehicle_table (Null ∷ vehicle_line name primary version last) ≡ Null ∷ vehicle_line name primary version last
-casts name primary version last = rw (cast_null, cast_int (pos version), cast_int (pos last)) refl
 
 casts_given : (id : ℤ) (name primary : List ℕ) (version last : ℕ) → cast_row vehicle_table (Int id ∷ vehicle_line name primary version last) ≡ Int id ∷ vehicle_line name primary version last
 casts_given id name primary version last = rw (cast_int id, cast_int (pos version), cast_int (pos last)) refl
@@ -89,15 +86,12 @@ pub vehicle_inserts : (r : Result ℕ Error) (old new : State) (v : VehicleRow) 
     → HasCleanDisk new → OnOk r ((rows_of : List ℕ → List Row) → HasTables old → Lists 1 rows_of (old.now.trees 9) → Alters vehicle_table (Lists 1 (with_row (string_bytes v.vehicle) (vehicle_row v) rows_of)) old new)
 vehicle_inserts r old new v survives inside ran clean =
     listed_in vehicle_table 1 (string_bytes v.vehicle) (vehicle_row v) old new r (λ x n. text_is (string_bytes v.vehicle) n)
-    (inserts_in insert_vehicle_text 5 vehicle_table terms 5 (vehicle_row v) (vehicle_row v) insert_is.0 insert_is.1 refl refl (append-nil _) refl (casts _ _ v.version v.last_counter) r old new survives inside ran clean)
+    (inserts_in insert_vehicle_text 5 vehicle_table (given 4) 5 (vehicle_row v) (vehicle_row v) insert_is.0 insert_is.1 refl refl (append-nil _) refl (casts _ _ v.version v.last_counter) r old new survives inside ran clean)
 
 -- ---- read
 
 abbrev part : Row → Row
 part = columns_at vehicle_places
-
-abbrev shown : List Term
-shown = col 1 1 ∷ col 1 2 ∷ col 1 3 ∷ col 1 4 ∷ []
 
 abbrev names : List (List ℕ)
 names = codes "vehicle" ∷ codes "primary_ecu" ∷ codes "version" ∷ codes "last_counter" ∷ []
@@ -105,14 +99,14 @@ names = codes "vehicle" ∷ codes "primary_ecu" ∷ codes "version" ∷ codes "l
 abbrev pub find_vehicle_text : List ℕ
 find_vehicle_text = codes "SELECT vehicle, primary_ecu, version, last_counter FROM vehicle WHERE vehicle = ?1"
 
-pub find_is : Asks up_schema find_vehicle_text (over 9 (equals 1 0 ∷ []) shown []) names
+pub find_is : Asks up_schema find_vehicle_text (over 9 (equals 1 0 ∷ []) (all_columns 4) []) names
 unfolding understood everything
 find_is = (refl, refl, (refl, refl))
 
 pub finds_vehicle : {X : Type 0} (items : X → List Row) (answer : Result X Error) (r : Result (Option VehicleRow) StoreFault) (old new : State) (name : List ℕ)
     → IfOk r (λ found. IsOkAnd answer (λ v. map part (items v) ≡ map vehicle_row (option_to_list found))) → IfOk answer (λ v. Shown find_vehicle_text (Text name ∷ []) old new (items v))
     → IfOk r (λ found. (rows_of : List ℕ → List Row) → HasTables old → Lists 1 rows_of (old.now.trees 9) → map part (rows_of name) ≡ map vehicle_row (option_to_list found))
-finds_vehicle items answer r old new name = named_in items vehicle_table 0 find_vehicle_text shown names part vehicle_row name find_is (λ db. refl) (λ x. rw (column_after x 0, column_after x 1, column_after x 2, column_after x 3) refl) (λ x. refl) answer r old new
+finds_vehicle items answer r old new name = named_in items vehicle_table 0 find_vehicle_text (all_columns 4) names part vehicle_row name find_is (λ db. refl) (λ x. rw (column_after x 0, column_after x 1, column_after x 2, column_after x 3) refl) (λ x. refl) answer r old new
 
 -- ---- its numbers are set
 
@@ -131,7 +125,7 @@ clause = record { target = Some (1 ∷ []); update = Some update }
 abbrev what : Returning
 what = record { names = names; row = Values (col 0 6 ∷ col 0 7 ∷ col 0 8 ∷ col 0 9 ∷ []) 4 }
 
-upsert_is : (command_of (understood up_schema upsert_vehicle_text) ≡ InsertOr 5 Abort (Values terms 5) (clause ∷ [])) × IsShowing what (understood up_schema upsert_vehicle_text)
+upsert_is : (command_of (understood up_schema upsert_vehicle_text) ≡ InsertOr 5 Abort (Values (given 4) 5) (clause ∷ [])) × IsShowing what (understood up_schema upsert_vehicle_text)
 unfolding understood everything
 upsert_is = (refl, (refl, refl))
 
@@ -193,14 +187,14 @@ upserts_vehicle : (old new : State) (name primary was_primary : List ℕ) (versi
 upserts_vehicle old new name primary was_primary version last was_version was_last rows has shaped is h =
     let db = old.now.trees in
     let row = vehicle_line name primary version last in
-    let command = InsertOr 5 Abort (Values terms 5) (clause ∷ []) in
+    let command = InsertOr 5 Abort (Values (given 4) 5) (clause ∷ []) in
     let task : Task = record { limit = old.step_limit; keys = Enforced; schema = up_schema; table = vehicle_table; params = row } in
     let made = writes_as upsert_vehicle_text row old new up_schema command what rows has upsert_is.0 upsert_is.1 h in
     let w = made.1 in
     let on : OnRows task (mode_of old) (Some what) command db (Ok (w.tally, new.now)) =
     subst (λ s. Does old.step_limit (mode_of old) row (record old.now { schema = s }) (statement_of upsert_vehicle_text (understood up_schema upsert_vehicle_text)) (Some what) command (Ok (w.tally, new.now))) has w.changed in
     let done = went on in
-    let up = upserted task (clause ∷ []) (Values terms 5) db done.0 refl done.1 in
+    let up = upserted task (clause ∷ []) (Values (given 4) 5) db done.0 refl done.1 in
     let source : up.0 ≡ (Null ∷ row) ∷ [] = up.1.1 in
     let each : TriesEach task Abort (clause ∷ []) ((Null ∷ row) ∷ []) up.2.0 (nothing db) (Ok up.2.1) = subst (λ all. TriesEach task Abort (clause ∷ []) all up.2.0 (nothing db) (Ok up.2.1)) source up.2.2 in
     let one = tried_each task (clause ∷ []) (Null ∷ row) up.2.0 db up.2.1 refl each in

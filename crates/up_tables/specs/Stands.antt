@@ -21,8 +21,8 @@ pub record IsWith (schema : Schema) (P : Trees → Type 0) (db : Database) : Typ
   pub rows : P db.trees
 
 -- the same of trees alone, such as a crash may leave: they list the schema, obey it, and P holds of their rows
-abbrev pub Holds : Schema → (Trees → Type 0) → Trees → Type 0
-Holds schema P trees = IsWith schema P (record { schema = schema; trees = trees })
+abbrev pub AreWith : Schema → (Trees → Type 0) → Trees → Type 0
+AreWith schema P trees = IsWith schema P (record { schema = schema; trees = trees })
 
 abbrev pub AnyRows : Trees → Type 0
 AnyRows trees = Unit {0}

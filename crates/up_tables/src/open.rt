@@ -7,7 +7,7 @@ ghost use Rattle.sqlite.specs.Held.{state};
 ghost use Rattle.sqlite.specs.State.{HasCleanDisk, Survives, IsLive};
 ghost use Rattle.up_tables.specs.Tables.{no_schema, up_schema};
 ghost use Rattle.up_tables.specs.Lines.{AreNew};
-ghost use Rattle.up_tables.specs.Stands.{AreEmpty, IfClean, IsInside, IsOpen, LeavesOnly, Stands, Steps, Holds, HasNoTables, IsAsCommitted};
+ghost use Rattle.up_tables.specs.Stands.{AreEmpty, IfClean, IsInside, IsOpen, LeavesOnly, Stands, Steps, AreWith, HasNoTables, IsAsCommitted};
 ghost use Rattle.up_tables.specs.Ours.{NamesUs, NamesOthers, ListsUs, IsOurs, is_refused};
 ghost use Rattle.up_tables.specs.declared.open.OpenFault.TheVariants as OpenFault;
 
@@ -42,12 +42,12 @@ fn has_no_table<S: Alter>(conn: &Connection<S>) -> bool
 pub fn create_tables<S: Alter>(conn: &mut Connection<S>) -> Result<(), OpenFault>
     requires { (state S.Store conn.old).in_transaction ≡ false }
     ensures made { OnOk result (IfClean (Stands up_schema AreNew) (state S.Store conn.new)) }
-    ensures durable { OnOk result (IfClean (LeavesOnly (Holds up_schema AreNew)) (state S.Store conn.new)) }
+    ensures durable { OnOk result (IfClean (LeavesOnly (AreWith up_schema AreNew)) (state S.Store conn.new)) }
     ensures empty { HasCleanDisk (state S.Store conn.new) → OnOk result (HasNoTables (state S.Store conn.old)) }
     ensures fault { IfErr result (λ e. e ≢ OpenFault.NotOurs) }
     ensures kept { OnErr result (IfClean (IsAsCommitted (state S.Store conn.old)) (state S.Store conn.new)) }
     ensures autocommit { (state S.Store conn.new).in_transaction ≡ false }
-    ensures crash { Survives (state S.Store conn.old) (state S.Store conn.new) (λ trees. HasNoTables (state S.Store conn.old) × Holds up_schema AreNew trees) }
+    ensures crash { Survives (state S.Store conn.old) (state S.Store conn.new) (λ trees. HasNoTables (state S.Store conn.old) × AreWith up_schema AreNew trees) }
     ensures open { HasCleanDisk (state S.Store conn.new) → OnOk result (IsTrue (state S.Store conn.old).is_open) }
 {
     if !has_no_table(conn) {

@@ -1,4 +1,4 @@
-//! The eleven reads by their words, each told as a line of text.
+//! The twelve reads by their words, each told as a line of text.
 use crate::campaigns::{campaign_text, campaigns_text};
 use crate::fault::Fault;
 use crate::images::{image_text, images_text};
@@ -16,8 +16,8 @@ use up_plan::campaign::Campaign;
 use up_roles::repository::Repository;
 use up_store::store::{Store, StoreFault};
 
-/// What a read answers: `founding`, `file REPOSITORY NAME`, `image FILE`, `images`, `campaign NAME`, `campaigns VEHICLE`, `vehicle
-/// VEHICLE`, `ecus VEHICLE`, `owner ECU`, `kept VEHICLE COUNTER` or `latest VEHICLE`.
+/// What a read answers: `founding`, `founded`, `file REPOSITORY NAME`, `image FILE`, `images`, `campaign NAME`, `campaigns VEHICLE`,
+/// `vehicle VEHICLE`, `ecus VEHICLE`, `owner ECU`, `kept VEHICLE COUNTER` or `latest VEHICLE`.
 pub(crate) fn read<S: Alter>(
     alloc: Global,
     store: &mut Store<S>,
@@ -26,6 +26,7 @@ pub(crate) fn read<S: Alter>(
     let (word, rest) = first_of(given);
     match word {
         "founding" => founding(alloc, store),
+        "founded" => founded(alloc, store),
         "file" => file(alloc, store, rest),
         "image" => image(alloc, store, rest),
         "images" => images(alloc, store),
@@ -82,6 +83,14 @@ fn founding<S: Alter>(alloc: Global, store: &mut Store<S>) -> Result<String, Fau
     match store.founding(alloc) {
         Ok(Some(row)) => made(founding_text(alloc, &row)),
         Ok(None) => none(alloc),
+        Err(fault) => Err(Fault::from(fault)),
+    }
+}
+
+fn founded<S: Alter>(alloc: Global, store: &mut Store<S>) -> Result<String, Fault> {
+    match store.is_founded() {
+        Ok(true) => made("yes".to_string(alloc)),
+        Ok(false) => made("no".to_string(alloc)),
         Err(fault) => Err(Fault::from(fault)),
     }
 }

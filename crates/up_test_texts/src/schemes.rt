@@ -13,11 +13,11 @@ use std::alloc::{AllocError, Global};
 use up_canon::bytes::Bytes;
 use up_canon::refusal::Refusal;
 use up_sign::envelope::Envelope;
-use up_sign::key_id::{key_id, key_id_text};
+use up_sign::key_id::{HashedKey, key_id_text};
 use up_sign::reading::read_envelope;
 use up_sign::scheme::Scheme;
 use up_sign::seal::seal;
-use up_sign::threshold::{accepts, accepts_key};
+use up_sign::threshold::{accepts, accepts_by};
 
 /// What a call under the scheme answers. What is given begins with words of bytes.
 pub(crate) fn under<K: Scheme>(
@@ -171,7 +171,7 @@ fn accepted_both_ways<K: Scheme>(
 }
 
 fn has_signed<K: Scheme>(scheme: &K, public: &[u8], envelope: &Envelope) -> bool {
-    accepts_key(scheme, &key_id(public), public, envelope)
+    accepts_by(scheme, &HashedKey::new(public), public, envelope)
 }
 
 fn envelope_from(alloc: Global, json: &str) -> Result<Envelope, Refusal> {

@@ -16,7 +16,4 @@ pub returns-in-Err : goal.returns-in-Err
 returns-in-Err g c = record { decided = λ clean k s was. lost_told c.refusal_of.result c.in-Err.fault _ c.refusal_of.ensures; reads = c.is_founded.ensures.reads }
 
 pub returns-in-Err-campaign : goal.returns-in-Err-campaign
-returns-in-Err-campaign g c = record {
-  decided = λ clean k s was. lost_told c.refusal_of-in-Err-campaign.result c.in-Err-campaign.fault _ c.refusal_of-in-Err-campaign.ensures;
-  reads = (following c.is_founded.ensures.reads (store_reads c.campaign.ensures.kept c.campaign.ensures.crash)).reads;
-}
+returns-in-Err-campaign g c = let it = following c.is_founded.ensures.reads (store_reads c.campaign.ensures.kept c.campaign.ensures.crash) in record { decided = λ clean k s was. lost_told c.refusal_of-in-Err-campaign.result c.in-Err-campaign.fault _ c.refusal_of-in-Err-campaign.ensures; reads = it.reads }

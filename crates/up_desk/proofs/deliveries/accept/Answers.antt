@@ -13,15 +13,14 @@ use Rattle.up_desk.proofs.deliveries.accept.Goals as goal
 pub returns-in-Ok : goal.returns-in-Ok
 returns-in-Ok g c = λ k s name computed sound was gives.
     let old = state g.D.Store c.args.store.now in
-    let new = state g.D.Store c.write_accept.new.self in
-    let rows = c.args.rows.now in
-    let reply = c.in-Ok.reply in
+    let new = state g.D.Store c.write_accept-written.new.self in
+    let rows = c.args.rows in
     subst (λ r. Serves k s old new r computed) (sym c.replied.ensures)
-    (written k s old old new (Replied reply) c.write_accept.result (IsRecorded rows) (λ r. with_accepted_rows r rows) computed refl was (reads_none old)
-    (λ clean. subst (λ r. WillWrite k s (IsRecorded rows) (λ q. with_accepted_rows q rows) (Replied r) computed) (sym c.in-Ok.ensures)
+    (written k s old old new (Replied c.reply_in.result) c.write_accept-written.result (IsRecorded rows) (λ r. with_accepted_rows r rows) computed refl was (reads_none old)
+    (λ clean. subst (λ r. WillWrite k s (IsRecorded rows) (λ q. with_accepted_rows q rows) (Replied r) computed) (sym c.reply_in.ensures)
     (accepting_fits k s name rows computed sound c.rows_are_found.ensures.vehicles c.manifests_are_added.ensures
     (when_accepted k s name (Accepted rows) rows computed refl (gives clean))))
-    c.write_accept.ensures.written c.write_accept.ensures.durable c.write_accept.ensures.kept c.write_accept.ensures.crash c.write_accept.ensures.clean)
+    c.write_accept-written.ensures.written c.write_accept-written.ensures.durable c.write_accept-written.ensures.kept c.write_accept-written.ensures.crash c.write_accept-written.ensures.clean)
 
 pub returns-in-Err : goal.returns-in-Err
 returns-in-Err g c = λ k s name computed sound was gives.

@@ -1,7 +1,7 @@
-use Rattle.std.proofs.Common.{ap, ◌∙◌}
-use Rattle.std.specs.Prelude.{is_some}
 use Rattle.up_rows.specs.StateRows.{rows_of_state}
+use Rattle.up_desk.proofs.Steps.{if_ok_then}
 use Rattle.up_desk.proofs.reading.is_founded.Goals as goal
 
-pub returns-in-Ok-clause-told : goal.returns-in-Ok-clause-told
-returns-in-Ok-clause-told g c clean = λ k s was. c.is_some.ensures ∙ ap is_some (c.in-Ok.ensures.told clean (rows_of_state k s) was)
+pub returns-clause-told : goal.returns-clause-told
+returns-clause-told g c clean =
+    if_ok_then c.is_founded.result _ _ (c.is_founded.ensures.told clean) (λ found is. λ k s was. is (rows_of_state k s) was)

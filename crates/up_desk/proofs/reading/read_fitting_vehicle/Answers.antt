@@ -1,7 +1,8 @@
-use Rattle.std.proofs.Common.{◌∙◌}
-use Rattle.up_desk.proofs.Steps.{if_ok_then}
+use Rattle.std.proofs.Common.{sym, ◌∙◌}
 use Rattle.up_desk.proofs.reading.read_fitting_vehicle.Goals as goal
 
-pub returns-in-Ok-clause-told : goal.returns-in-Ok-clause-told
-returns-in-Ok-clause-told g c clean =
-    if_ok_then c.fitting_rows.result _ _ c.fitting_rows.ensures.same (λ found is. λ k s was. is ∙ c.in-Ok.ensures.told clean k s was)
+pub returns-then-rows_fit-clause-told : goal.returns-then-rows_fit-clause-told
+returns-then-rows_fit-clause-told g c clean k s was = sym c.in-Ok-Some.field-0-is ∙ c.in-Ok-Some.ensures.told clean k s was
+
+pub returns-in-Ok-None-clause-told : goal.returns-in-Ok-None-clause-told
+returns-in-Ok-None-clause-told g c clean k s was = sym c.in-Ok-None.field-0-is ∙ c.in-Ok-None.ensures.told clean k s was

@@ -1,8 +1,9 @@
-use Rattle.std.proofs.Common.{◌∙◌}
+use Rattle.std.proofs.Common.{sym, ◌∙◌}
 use Rattle.up_rows.specs.StateRows.{rows_of_state}
-use Rattle.up_desk.proofs.Steps.{if_ok_then}
 use Rattle.up_desk.proofs.reading.read_founding.Goals as goal
 
-pub returns-in-Ok-clause-told : goal.returns-in-Ok-clause-told
-returns-in-Ok-clause-told g c clean =
-    if_ok_then c.fitting_founding.result _ _ c.fitting_founding.ensures.same (λ found is. λ k s was. is ∙ c.in-Ok.ensures.told clean (rows_of_state k s) was)
+pub returns-then-founding_fits-clause-told : goal.returns-then-founding_fits-clause-told
+returns-then-founding_fits-clause-told g c clean k s was = sym c.in-Ok-Some.field-0-is ∙ c.in-Ok-Some.ensures.told clean (rows_of_state k s) was
+
+pub returns-in-Ok-None-clause-told : goal.returns-in-Ok-None-clause-told
+returns-in-Ok-None-clause-told g c clean k s was = sym c.in-Ok-None.field-0-is ∙ c.in-Ok-None.ensures.told clean (rows_of_state k s) was

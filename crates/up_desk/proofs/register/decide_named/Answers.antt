@@ -23,19 +23,15 @@ decide_new-requires-clause-keys g c =
 
 pub returns-in_ok-decide_new-in-Ok-New-clause-decided : goal.returns-in_ok-decide_new-in-Ok-New-clause-decided
 returns-in_ok-decide_new-in-Ok-New-clause-decided g c clean = λ s sound founding old was.
-    let k = g.K.Scheme.rules c.args.scheme.now in
-    let computed = decide_image s c.args.at c.args.image.now in
     let next = stamped (with_image s c.args.image.now) c.args.at (s.image_version + 1) in
-    let it = when_new_image s c.args.at c.args.image.now c.in-Ok-New.field-0 c.in-Ok-New.founding computed c.in-Ok-New.field-0-is (c.in-Ok-New.ensures.decided s founding old) in
-    new_rows_made (HasRegisterRows k next) next _ computed _ it.2 (c.in_ok-decide_new-in-Ok-New.ensures.decided clean s sound it.0 it.1 was)
+    let it = when_new_image s c.args.at c.args.image.now c.in-Ok-New.field-0 c.in-Ok-New.founding (decide_image s c.args.at c.args.image.now) c.in-Ok-New.field-0-is (c.in-Ok-New.ensures.decided s founding old) in
+    new_rows_made (HasRegisterRows (g.K.Scheme.rules c.args.scheme.now) next) next _ _ _ it.2 (c.in_ok-decide_new-in-Ok-New.ensures.decided clean s sound it.0 it.1 was)
 
 pub returns-in_err-decide_new-in-Ok-New-clause-decided : goal.returns-in_err-decide_new-in-Ok-New-clause-decided
 returns-in_err-decide_new-in-Ok-New-clause-decided g c clean = λ s sound founding old was.
-    let k = g.K.Scheme.rules c.args.scheme.now in
-    let computed = decide_image s c.args.at c.args.image.now in
     let next = stamped (with_image s c.args.image.now) c.args.at (s.image_version + 1) in
-    let it = when_new_image s c.args.at c.args.image.now c.in-Ok-New.field-0 c.in-Ok-New.founding computed c.in-Ok-New.field-0-is (c.in-Ok-New.ensures.decided s founding old) in
-    new_rows_refused (HasRegisterRows k next) s next c.from_residual.result c.in_err-decide_new-in-Ok-New.field-0.0 computed _ it.2 c.from_residual.ensures.1 (c.in_err-decide_new-in-Ok-New.ensures.decided clean s sound it.0 it.1 was)
+    let it = when_new_image s c.args.at c.args.image.now c.in-Ok-New.field-0 c.in-Ok-New.founding (decide_image s c.args.at c.args.image.now) c.in-Ok-New.field-0-is (c.in-Ok-New.ensures.decided s founding old) in
+    new_rows_refused (HasRegisterRows (g.K.Scheme.rules c.args.scheme.now) next) s next c.from_residual.result c.in_err-decide_new-in-Ok-New.field-0.0 _ _ it.2 c.from_residual.ensures.1 (c.in_err-decide_new-in-Ok-New.ensures.decided clean s sound it.0 it.1 was)
 
 pub returns-in-Err-clause-decided : goal.returns-in-Err-clause-decided
 returns-in-Err-clause-decided g c = λ clean s sound founding old was.

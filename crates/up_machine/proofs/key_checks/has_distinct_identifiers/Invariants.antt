@@ -1,7 +1,6 @@
-use Rattle.std.proofs.Common.{◌≡◌, ◌++◌, map, drop}
-use Rattle.up_machine.specs.Keys.{identifier}
+use Rattle.std.proofs.Common.{◌≡◌, take, map}
+use Rattle.up_sign.specs.Envelopes.{identifier}
 use Rattle.up_machine.proofs.key_checks.has_distinct_identifiers.Given as goal
 
-abbrev pub invariant-loop-key : goal.invariant-loop-key
-invariant-loop-key g l =
-    map (identifier (g.K.Scheme.rules l.scheme)) l.keys ≡ l.names.items ++ map (identifier (g.K.Scheme.rules l.scheme)) (drop l.key-index l.keys)
+abbrev pub invariant-loop-i : goal.invariant-loop-i
+invariant-loop-i g l = l.names.items ≡ map (identifier (g.K.Scheme.rules l.scheme)) (take l.i l.keys)

@@ -1,26 +1,21 @@
-use Rattle.std.proofs.Common.{◌≡◌, Some, Ok, sym, ap, ◌∙◌}
+use Rattle.std.proofs.Common.{◌≡◌, Ok, subst}
+use Rattle.std.specs.Prelude.{string_bytes}
 use Rattle.sqlite.specs.Held.{state}
-use Rattle.up_machine.specs.Reads.{ecus_of}
+use Rattle.up_machine.specs.Reads.{assigned_to}
 use Rattle.up_tables.specs.declared.values.StoreFault.{StoreFault}
-use Rattle.up_service.proofs.Showing.{seen_by, seen_in_fault, sees_then, sees_weaker, fault_shown, ecus_shown, no_ecus}
+use Rattle.up_service.specs.LineAnswers.{GivesShown, rows_text}
+use Rattle.up_service.proofs.Showing.{seen_by, seen_in_fault, sees_weaker, fault_shown}
 use Rattle.up_service.proofs.show.shown_with.Goals as goal
 
-pub returns-in-Ok-Some-clause-sees : goal.returns-in-Ok-Some-clause-sees
-returns-in-Ok-Some-clause-sees g c =
+pub returns-in-Ok-clause-sees : goal.returns-in-Ok-clause-sees
+returns-in-Ok-clause-sees g c =
     let old = state g.D.Store c.args.desk.now.store in
-    let mid = state g.D.Store c.ecus.new.self.store in
-    sees_then (λ s. c.in-Ok-Some.field-0 ≡ ecus_of s c.args.vehicle.now) _ _ old mid (state g.D.Store c.shown_ecus.new.desk.store)
-    (seen_by {E = StoreFault} (λ s. ecus_of s c.args.vehicle.now) (Ok c.in-Ok-Some.field-0) old mid c.in-Ok-Some.ensures.told c.in-Ok-Some.ensures.reads) c.shown_ecus.ensures.sees
-    (λ s is h. ecus_shown _ c.shown_ecus.result c.args.vehicle.now c.args.version c.as_slice.result.now s (ap Some c.as_slice.ensures ∙ sym c.in-Ok-Some.field-0-is ∙ is) h)
-
-pub returns-in-Ok-None-clause-sees : goal.returns-in-Ok-None-clause-sees
-returns-in-Ok-None-clause-sees g c =
-    let old = state g.D.Store c.args.desk.now.store in
-    let new = state g.D.Store c.ecus.new.self.store in
-    sees_weaker (λ s. c.in-Ok-None.field-0 ≡ ecus_of s c.args.vehicle.now) _ old new
-    (seen_by {E = StoreFault} (λ s. ecus_of s c.args.vehicle.now) (Ok c.in-Ok-None.field-0) old new c.in-Ok-None.ensures.told c.in-Ok-None.ensures.reads)
-    (λ s is. no_ecus c.args.vehicle.now c.args.version s (sym c.in-Ok-None.field-0-is ∙ is))
+    let new = state g.D.Store c.assigned.new.self.store in
+    let rows = c.args.rows.now in
+    sees_weaker (λ s. c.in-Ok.plan ≡ assigned_to s rows.vehicle.vehicle) _ old new
+    (seen_by {E = StoreFault} (λ s. assigned_to s rows.vehicle.vehicle) (Ok c.in-Ok.plan) old new c.in-Ok.ensures.told c.in-Ok.ensures.reads)
+    (λ s is. subst (λ plan. GivesShown string_bytes c.line_with.result (Ok (rows_text plan rows))) is c.line_with.ensures)
 
 pub returns-in-Err-clause-sees : goal.returns-in-Err-clause-sees
 returns-in-Err-clause-sees g c =
-    seen_in_fault _ (state g.D.Store c.args.desk.now.store) (state g.D.Store c.ecus.new.self.store) c.in-Err.ensures.reads (λ s. fault_shown c.refusal_of.result c.in-Err.fault _ c.refusal_of.ensures)
+    seen_in_fault _ (state g.D.Store c.args.desk.now.store) (state g.D.Store c.assigned.new.self.store) c.in-Err.ensures.reads (λ s. fault_shown c.refusal_of.result c.in-Err.fault _ c.refusal_of.ensures)

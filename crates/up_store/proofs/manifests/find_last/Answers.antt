@@ -1,18 +1,26 @@
-use Rattle.std.proofs.Common.{sym, ap, ◌∙◌}
+use Rattle.std.proofs.Common.{◌≡◌, Some, sym, ap, ◌∙◌}
 use Rattle.std.specs.Prelude.{option_map}
 use Rattle.sqlite.specs.Held.{state}
 use Rattle.up_machine.specs.declared.rows.VehicleRow.{VehicleRow}
+use Rattle.up_rows.specs.StateRows.{StateRows}
+use Rattle.up_tables.specs.Stands.{IsWithin}
+use Rattle.up_tables.specs.Tables.{up_schema}
+use Rattle.up_tables.proofs.StateLemmas.{ok_then}
+use Rattle.up_store.specs.ColumnRows.{last_found}
+use Rattle.up_store.specs.Listing.{ListsRows}
 use Rattle.up_store.specs.Shown.{vehicle_read}
 use Rattle.up_store.proofs.ColumnFound.{last_told}
 use Rattle.up_store.proofs.VehicleReads.{vehicle_in}
 use Rattle.up_store.proofs.manifests.find_last.Goals as goal
 
 pub returns-in-Ok-Some-clause-found : goal.returns-in-Ok-Some-clause-found
-returns-in-Ok-Some-clause-found g c clean rows within =
+returns-in-Ok-Some-clause-found g c clean =
     let before = state g.D.Store c.args.tx.now.conn.now in
     let after = state g.D.Store c.vehicle.new.tx.conn.now in
-    ap (option_map (λ (r : VehicleRow). r.last)) (ap (option_map vehicle_read) (sym c.in-Ok-Some.field-0-is)
-    ∙ vehicle_in rows c.args.vehicle.now before after c.in-Ok-Some.field-0 (c.in-Ok-Some.ensures.reads clean) (rw c.text.ensures.value at c.in-Ok-Some.ensures.found clean) within) ∙ last_told rows c.args.vehicle.now
+    ok_then (λ read. read ≡ Some c.in-Ok-Some.shown.last_counter) (λ found. (rows : StateRows) → IsWithin up_schema (ListsRows rows) before → found ≡ last_found c.args.vehicle.now rows) c.some_count.result
+    (λ read is rows within. is ∙ ap (option_map (λ (r : VehicleRow). r.last)) (ap (option_map vehicle_read) (sym c.in-Ok-Some.field-0-is)
+    ∙ vehicle_in rows c.args.vehicle.now before after c.in-Ok-Some.field-0 (c.in-Ok-Some.ensures.reads clean) (rw c.text.ensures.value at c.in-Ok-Some.ensures.found clean) within) ∙ last_told rows c.args.vehicle.now)
+    c.some_count.ensures
 
 pub returns-in-Ok-None-clause-found : goal.returns-in-Ok-None-clause-found
 returns-in-Ok-None-clause-found g c clean rows within =
