@@ -97,7 +97,7 @@ def first_reply(rows, given, reply):
 
 def primaries(program, rows):
     given, body, reply = (read(PRIMARY / name) for name in ("manifest-input.json", "manifest.json", "reply.json"))
-    keys = str(PRIMARY / "director-keys.json")
+    keys = str(PRIMARY / "director-secrets.json")
     yield "the Primary builds the manifest that the page shows", primary("build", given=given) == (0, body)
     yield "the Primary checks the reply that the page shows", primary("check", keys, given=reply)[0] == 0
     broken = reply.replace('"version":1}', '"version":2}', 1)

@@ -3,7 +3,7 @@
 
     check_program.py PROGRAM [WORD]
 
-Random scripts and requests are those of a hundred seeds. Each tool has five minutes; on four processors all take about two.
+Random scripts and requests are those of a hundred seeds. Each tool has five minutes.
 Where there is a WORD it draws a part of the sweeps of `tools/sweeps.py`, some ten seconds of each kind; they need a C compiler.
 """
 import os
@@ -18,7 +18,9 @@ TOOLS = Path(__file__).resolve().parent
 LIMIT = 300
 # the longest first
 TRIED = [("file_cases.py",), ("fuzz.py", "1", "50"), ("fuzz.py", "51", "50"), ("http_fleet.py",), ("fuzz_http.py", "1", "50"),
-         ("fuzz_http.py", "51", "50"), ("http_cases.py",), ("each_line.py",), ("tables.py",)]
+         ("fuzz_http.py", "51", "50"), ("http_cases.py",), ("proxy_cases.py",), ("each_line.py",), ("tables.py",)]
+# what operators and integrators use
+TRIED += [("copy_cases.py", "2"), ("primary_cases.py",), ("operator_cases.py",)]
 # every so manieth call of a kind
 SWEPT = {"memory": "997", "disk": "31", "http": "199"}
 

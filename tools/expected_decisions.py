@@ -63,8 +63,8 @@ def report(s, ecu, byte, counter, file):
     return {"attack": "", "counter": counter, "ecu": ecu, "image": {"file": file, "hashes": {"sha256": H(b"")}, "length": 0}, "time": time(T0), "type": "report"}
 def vehicle(s, name, number, last, ecus):
     """A vehicle's row, and a digest of those of its ECUs (name, hardware, key), each with its last report (counter, file) where there is one."""
-    def line(e, h, b, counter=0, file="none"):
-        return f"{e} {h} {s.public(K(b)).hex()} {counter} {file} {canon(report(s, e, b, counter, file)) if counter else 'none'}\n"
+    def line(e, h, b, counter=None, file="none"):
+        return f"{e} {h} {s.public(K(b)).hex()} {counter or 0} {file} {'none' if counter is None else canon(report(s, e, b, counter, file))}\n"
     return f"{name} of {ecus[0][0]} version {number} last {last} {digest(''.join(line(*e) for e in ecus))}"
 def accepted(s, name, n, at, ecus, plan):
     """The vehicle after its n-th manifest, which has the counter n, by these reports of its ECUs, and the kept row."""
@@ -76,6 +76,8 @@ def accepted(s, name, n, at, ecus, plan):
 
 V1, V2 = [("P1", "HP", 17)], [("P2", "HP", 68), ("S2", "HS", 51)]
 V32 = [("E0", "HP", 1)] + [(f"E{i}", "HS", i + 1) for i in range(1, 32)]
+V2_AFTER = [("P2", "HP", 68, 1, "factory.bin"), ("S3", "HS", 119), ("S5", "HS", 85, 1, "factory.bin")]
+V2_REPORTED = [V2_AFTER[0], ("S3", "HS", 119, 0, "factory.bin"), V2_AFTER[2]]
 factory = lambda ecus: [(*e, 1, "factory.bin") for e in ecus]
 IMAGES = [target("z.bin", "", ["HS"], 1), target("b.bin", "abc", ["HS"], 7), target("a.bin", "abc", ["HS"], 2), target("m.bin", "", ["HP"], 3)]
 def one_role(keys, threshold):
@@ -103,6 +105,9 @@ EXPECTED = {
     "v2": lambda s: vehicle(s, "V2", 0, 0, V2),
     "v3": lambda s: vehicle(s, "V3", 0, 0, [("P3", "HP", 17)]),
     "v32": lambda s: vehicle(s, "V32", 0, 0, V32),
+    "replaced": lambda s: vehicle(s, "V2", 1, 1, V2_AFTER),
+    "after_replacement": lambda s: accepted(s, "V2", 2, T0, V2_REPORTED, []),
+    "replaced_again": lambda s: vehicle(s, "V2", 2, 2, V2_REPORTED[:2] + [("S4", "HT", 153)]),
     "manifest1": lambda s: accepted(s, "V2", 1, T0, factory(V2), ["S2"]),
     "manifest2": lambda s: accepted(s, "V2", 2, T0 + DAY, factory(V2), ["S2"]),
     "next_manifest": lambda s: accepted(s, "V2", 2, T0, [("P2", "HP", 68, 2, "a"), ("S2", "HS", 51, 1, "factory.bin")], ["S2"]),

@@ -11,7 +11,8 @@ import row_texts
 
 TOP = Path(__file__).resolve().parent.parent
 EXAMPLE = {"README.md", "script", "printed"}
-PRIMARY = {"primary.py", "director-keys.json", "manifest-input.json", "manifest.json", "reply.json"}
+PRIMARY = {"primary.py", "envelopes.py", "verify.py", "director-secrets.json", "manifest-input.json", "manifest.json", "reply.json", "vehicle.json"}
+SERVICE = {"README.md", "nginx.conf", "haproxy.cfg", "uptane-desk.service", "uptane-desk-refresh.service", "uptane-desk-refresh.timer", "refresh.sh"}
 ROW = {"script", "printed"}
 
 
@@ -67,7 +68,7 @@ def gaps():
     examples, rows = TOP / "examples", TOP / "rows"
     yield from apart("examples", listed(examples / "README.md"), folders(examples))
     for name in sorted(folders(examples)):
-        yield from apart("examples/" + name, PRIMARY if name == "primary" else EXAMPLE, names(examples / name))
+        yield from apart("examples/" + name, {"primary": PRIMARY, "service": SERVICE}.get(name, EXAMPLE), names(examples / name))
     yield from apart("rows", listed(rows / "README.md") | set(row_texts.REPLIES) | set(row_texts.FILES), folders(rows))
     for name in sorted(folders(rows)):
         yield from row_gaps(rows / name)

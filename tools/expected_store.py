@@ -1,18 +1,23 @@
 #!/usr/bin/env python3
-"""The rows of `up_test_store` on the eight writes: every read after every write, with what it has to answer.
+"""The rows of `up_test_store` on the nine writes, every read after every write, and on databases of older schemas.
 
     python3 tools/expected_store.py         tells whether its rows are these
     python3 tools/expected_store.py write   writes them
 
 What a read has to answer is computed from the rows that are written and the page on tables, and not by the program: the parts of a
 row are read as they were spelled when they were written. FORMATS says which files a root version has.
+
+A database of an older schema is made by the statements of that schema, which stand here, and by rows that are put in as the page
+on tables has them. Once it is taken it has to answer each read as a created database answers it.
 """
+import json
 import pathlib
 import sys
 
 KEYS = {
     1: "01,02/2;0b/1;15,16,17,18/3;1f20/1 33,34/2;3d/1;47/1;51,52/1",
     2: "0102/1;6f/1;79,7a/2;83/1 97,98,99/2;a1/1;ab/1;b5/1",
+    3: "c1/1;c2/1;c3/1;c4/1 c5/1;c6/1;c7/1;c8/1",
 }
 TWO, FIVE, NINE = "02" * 32, "05" * 32, "9f" * 32
 
@@ -38,6 +43,9 @@ WRITES = [
     ("accept", 'w 1 1 4001 2 {"m":1} -!b-w=conflicts=c.bin {"r":1}', "w b-w 1 1", OTHER),
 ]
 
+# the ninth, behind the others: an ECU of the vehicle, with its report, is replaced
+REPLACEMENT = ("replace", "v a-v a-x hz 0c0c")
+
 # written a second time: a name, a version or a counter that is there already
 REFUSED = [
     ("rotate", 2, 5, 5000, "director-6", "image-6", "targets-6 snapshot-6 timestamp-6"),
@@ -46,6 +54,8 @@ REFUSED = [
     ("campaign", "any * hw:a.bin runs"),
     ("accept", 'v 5 3 5000 2 {"m":6} -!- {"r":6}', "v b-v 3 5", FRESH),
     ("accept", 'v 6 3 5000 2 {"m":6} -!- {"r":6}', "v a-v 3 6", FRESH),
+    ("replace", "v b-v a-w hz 0c"),
+    ("replace", "v a-v a-y hz 0c"),
 ]
 
 READS = [
@@ -54,7 +64,7 @@ READS = [
     "file image targets.json", "file image snapshot.json", "file image timestamp.json", "file director targets.json",
     "image x/y.bin", "image a.bin", "images",
     "campaign some", "campaign any", "campaigns v", "campaigns w",
-    "vehicle v", "ecus v", "ecus w", "owner a-v", "owner v",
+    "vehicle v", "ecus v", "ecus w", "owner a-v", "owner a-x", "owner v",
     "kept v 3", "kept v 5", "kept w 3", "latest v", "latest w",
 ]
 
@@ -63,6 +73,48 @@ ONE_OF_EACH = [
     "founding", "founded", "file image timestamp.json", "image x/y.bin", "images", "campaign any", "campaigns v",
     "vehicle v", "ecus v", "owner a-v", "kept v 3", "latest v",
 ]
+
+# ---- older schemas: their statements, as databases in the field have them
+
+EIGHT_TABLES = [
+    "CREATE TABLE meta (id INTEGER PRIMARY KEY, app TEXT NOT NULL, schema INTEGER NOT NULL, root INTEGER NOT NULL, "
+    "image_version INTEGER NOT NULL, stamp INTEGER NOT NULL) STRICT",
+    "CREATE TABLE role_key (root INTEGER NOT NULL, repository TEXT NOT NULL, role TEXT NOT NULL, place INTEGER NOT NULL, "
+    "secret BLOB NOT NULL, threshold INTEGER NOT NULL, PRIMARY KEY (root, repository, role, place)) STRICT",
+    "CREATE TABLE repo_file (repository TEXT NOT NULL, name TEXT NOT NULL, body TEXT NOT NULL, "
+    "PRIMARY KEY (repository, name)) STRICT",
+    "CREATE TABLE image (file TEXT NOT NULL PRIMARY KEY, length INTEGER NOT NULL, sha256 BLOB NOT NULL, hardware TEXT NOT NULL, "
+    "release_count INTEGER NOT NULL, needs TEXT NOT NULL, conflicts TEXT NOT NULL) STRICT",
+    "CREATE TABLE campaign (name TEXT NOT NULL PRIMARY KEY, reach TEXT NOT NULL, items TEXT NOT NULL, "
+    "running INTEGER NOT NULL) STRICT",
+    "CREATE TABLE vehicle (vehicle TEXT NOT NULL PRIMARY KEY, primary_ecu TEXT NOT NULL, version INTEGER NOT NULL, "
+    "last_counter INTEGER NOT NULL) STRICT",
+    "CREATE TABLE ecu (ecu TEXT NOT NULL PRIMARY KEY, vehicle TEXT NOT NULL REFERENCES vehicle (vehicle), place INTEGER NOT NULL, "
+    "hardware TEXT NOT NULL, public_key BLOB NOT NULL, file TEXT, length INTEGER, sha256 BLOB, counter INTEGER NOT NULL, "
+    "report TEXT, UNIQUE (vehicle, place)) STRICT",
+    "CREATE TABLE kept (vehicle TEXT NOT NULL REFERENCES vehicle (vehicle), counter INTEGER NOT NULL, version INTEGER NOT NULL, "
+    "moment INTEGER NOT NULL, root INTEGER NOT NULL, signed TEXT NOT NULL, plan_text TEXT NOT NULL, reply TEXT NOT NULL, "
+    "PRIMARY KEY (vehicle, counter), UNIQUE (vehicle, version)) STRICT",
+]
+RETIRED_TABLE = (
+    "CREATE TABLE retired (ecu TEXT NOT NULL PRIMARY KEY, vehicle TEXT NOT NULL REFERENCES vehicle (vehicle)) STRICT"
+)
+TABLES_OF = {1: EIGHT_TABLES, 2: EIGHT_TABLES + [RETIRED_TABLE]}
+EIGHT_NAMES = ["meta", "role_key", "repo_file", "image", "campaign", "vehicle", "ecu", "kept"]
+NAMES_OF = {1: EIGHT_NAMES, 2: EIGHT_NAMES + ["retired"], 3: EIGHT_NAMES + ["retired", "image_sha512"]}
+RETIRED_ECUS = [("s-v", "v"), ("r-v", "v")]
+
+# written into a database that was taken
+FURTHER = [
+    ("accept", 'v 6 3 5000 2 {"m":6} -!- {"r":6}', "v b-v 3 6", SECOND),
+    ("vehicle", "x b-x 0 0", ["b-x hw 0c - 0 -"]),
+    ("image", f"c.bin 1 {TWO} hv 1 - -", 2, 6, 5000, "targets-7 snapshot-7 timestamp-7"),
+    ("rotate", 3, 7, 6000, "director-3", "image-3", "targets-8 snapshot-8 timestamp-8"),
+    REPLACEMENT,
+]
+
+# after a fault: few calls, since each is made to fail in turn
+FEW_READS = ["founding", "image x/y.bin", "ecus v", "kept v 3", "latest v"]
 
 
 def spelled(write):
@@ -73,6 +125,8 @@ def spelled(write):
     if word == "refresh":
         root, version, stamp, texts = rest
         return f"write refresh {root} {version} {stamp} {KEYS[root]} ; {texts}"
+    if word == "replace":
+        return f"write replace {rest[0]}"
     if word == "image":
         image, root, version, stamp, texts = rest
         return f"write image {image} ; {root} {version} {stamp} {KEYS[root]} ; {texts}"
@@ -84,6 +138,7 @@ class State:
     def __init__(self):
         self.founding = "none"
         self.files, self.images, self.campaigns, self.vehicles, self.ecus, self.kept = {}, {}, {}, {}, {}, {}
+        self.retired = {}
 
     def texts(self, texts):
         for name, text in zip(("targets", "snapshot", "timestamp"), texts.split()):
@@ -101,6 +156,8 @@ class State:
             self.images[image.split()[0]] = image
         elif word in ("campaign", "close"):
             self.campaigns[rest[0].split()[0]] = rest[0]
+        elif word == "replace":
+            self.replace(*rest[0].split())
         else:
             *kept, vehicle, ecus = rest
             name = vehicle.split()[0]
@@ -110,6 +167,11 @@ class State:
         if word in ("found", "rotate", "refresh", "image"):
             self.founding = f"{root} {version} {stamp} {KEYS[root]}"
             self.texts(texts)
+
+    def replace(self, vehicle, old, ecu, hardware, key):
+        new = f"{ecu} {hardware} {key} - 0 -"
+        self.ecus[vehicle] = [new if row.split()[0] == old else row for row in self.ecus[vehicle]]
+        self.retired[old] = vehicle
 
     def reaching(self, vehicle):
         for name, row in sorted(self.campaigns.items()):
@@ -129,7 +191,8 @@ class State:
         if word == "ecus":
             return " ; ".join(self.ecus.get(rest[0], [])) or "no rows"
         if word == "owner":
-            return next((name for name, ecus in self.ecus.items() for ecu in ecus if ecu.split()[0] == rest[0]), "none")
+            owners = {ecu.split()[0]: name for name, ecus in self.ecus.items() for ecu in ecus}
+            return (self.retired | owners).get(rest[0], "none")
         if word == "latest":
             return max(((key[1], row) for key, row in self.kept.items() if key[0] == rest[0]), default=(0, "none"))[1]
         if word == "kept":
@@ -137,6 +200,71 @@ class State:
         if word == "file":
             return self.files.get(rest, "none")
         return {"image": self.images, "campaign": self.campaigns, "vehicle": self.vehicles}[word].get(rest[0], "none")
+
+    def inserts(self, schema):
+        """The statements that put these rows into tables of a schema."""
+        root, version, stamp = self.founding.split()[:3] if self.founding != "none" else (0, 0, 0)
+        rows = {
+            "meta": [f"1, 'uptane_desk', {schema}, {root}, {version}, {stamp}"],
+            "role_key": [row for last in range(1, int(root) + 1) for row in role_keys(last)],
+            "repo_file": [f"'{repository}', '{name}', '{text}'" for (repository, name), text in self.files.items()],
+            "image": [image_columns(*row.split()) for row in self.images.values()],
+            "campaign": [campaign_columns(*row.split()) for row in self.campaigns.values()],
+            "vehicle": [vehicle_columns(*row.split()) for row in self.vehicles.values()],
+            "ecu": [ecu_columns(name, place, *row.split()) for name, ecus in self.ecus.items() for place, row in enumerate(ecus)],
+            "kept": [kept_columns(*row.split()) for row in self.kept.values()],
+        }
+        return [f"INSERT INTO {table} VALUES ({row})" for table, all_rows in rows.items() for row in all_rows]
+
+
+# ---- columns
+
+
+def text_of(value):
+    return "'" + json.dumps(value, separators=(",", ":"), sort_keys=True) + "'"
+
+
+def listed(words):
+    return [] if words == "-" else words.split(",")
+
+
+def role_keys(root):
+    for repository, roles in zip(("director", "image"), KEYS[root].split()):
+        for role, keys in zip(("root", "targets", "snapshot", "timestamp"), roles.split(";")):
+            secrets, threshold = keys.split("/")
+            for place, secret in enumerate(secrets.split(",")):
+                yield f"{root}, '{repository}', '{role}', {place}, x'{secret}', {threshold}"
+
+
+def image_columns(file, length, sha256, hardware, release, needs, conflicts):
+    needs = [dict(zip(("hardware", "release"), (need.split(":")[0], int(need.split(":")[1])))) for need in listed(needs)]
+    return f"'{file}', {length}, x'{sha256}', {text_of(listed(hardware))}, {release}, {text_of(needs)}, {text_of(listed(conflicts))}"
+
+
+def campaign_columns(name, reach, items, state):
+    items = [dict(zip(("hardware", "file"), item.split(":"))) for item in listed(items)]
+    reach = "all" if reach == "*" else listed(reach)
+    return f"'{name}', {text_of(reach)}, {text_of(items)}, {int(state == 'runs')}"
+
+
+def vehicle_columns(vehicle, primary, version, last):
+    return f"'{vehicle}', '{primary}', {version}, {last}"
+
+
+def ecu_columns(vehicle, place, ecu, hardware, public, installed, counter, report):
+    file, length, sha256 = installed.split(":") if installed != "-" else (None, "NULL", None)
+    file, sha256 = (f"'{file}'", f"x'{sha256}'") if file else ("NULL", "NULL")
+    report = "NULL" if report == "-" else f"'{report}'"
+    return f"'{ecu}', '{vehicle}', {place}, '{hardware}', x'{public}', {file}, {length}, {sha256}, {counter}, {report}"
+
+
+def kept_columns(vehicle, counter, version, moment, root, signed, plan, reply):
+    assigned, cause = plan.split("!")
+    assigned = [dict(zip(("ecu", "file"), pair.split("="))) for pair in listed(assigned)]
+    ecu, kind, what = cause.split("=") if cause != "-" else (None, None, None)
+    withheld = {"ecu": ecu, {"needs": "hardware", "conflicts": "file"}[kind]: what} if ecu else None
+    plan = text_of({"assigned": assigned, "withheld": withheld})
+    return f"'{vehicle}', {counter}, {version}, {moment}, {root}, '{signed}', {plan}, '{reply}'"
 
 
 def section(name, writes, refused, reads):
@@ -151,12 +279,55 @@ def section(name, writes, refused, reads):
     return name + "\n" + "\n".join(rows) + "\n"
 
 
+def rows_text(rows):
+    return "rows" + "".join(" ; " + " ".join(str(column) for column in row) for row in rows)
+
+
+def asked(state, schema):
+    """Questions to the database itself, in this schema, about its tables and the texts that are kept."""
+    kept = [row.split() for row in state.kept.values()]
+    return [
+        f"ask SELECT id, app, schema FROM meta => {rows_text([(1, 'uptane_desk', schema)])}",
+        f"ask SELECT name FROM sqlite_schema WHERE type = 'table' => {rows_text([(name,) for name in NAMES_OF[schema]])}",
+        f"ask SELECT vehicle, counter, signed, reply FROM kept => {rows_text([(row[0], row[1], row[5], row[7]) for row in kept])}",
+    ] + ([f"ask SELECT ecu, vehicle FROM retired => {rows_text(state.retired.items())}"] if schema > 1 else []) + (
+        ["ask SELECT file, sha512 FROM image_sha512 => rows"] if schema > 2 else []
+    )
+
+
+def older(name, schema, writes, further, reads):
+    """A database of an older schema in which the rows of these writes stand, before and after it is taken."""
+    state = State()
+    for write in writes:
+        state.write(*write)
+    if schema == 2 and writes:
+        state.retired, reads = dict(RETIRED_ECUS), [*reads, "owner r-v"]
+    made = TABLES_OF[schema] + state.inserts(schema)
+    made += [f"INSERT INTO retired VALUES ('{ecu}', '{vehicle}')" for ecu, vehicle in state.retired.items()]
+    rows = [f"run {statement} => done" for statement in made] + asked(state, schema)
+    rows += ["create => store"] + asked(state, schema) + ["adopt => done"]
+    rows += [f"{read} => {state.read(*read.split())}" for read in reads]
+    rows += ["release => done"] + asked(state, 3) + ["adopt => done"]
+    for write in further:
+        rows.append(f"{spelled(write)} => done")
+        state.write(*write)
+        rows += [f"{read} => {state.read(*read.split())}" for read in reads]
+    rows += ["release => done"] + asked(state, 3)
+    return name + "\n" + "\n".join(rows) + "\n"
+
+
 def computed():
     once = {write[0]: write for write in reversed(WRITES) if write[-1] != "some v,w hw:x/y.bin,hv:a.bin runs"}
     in_order = [write for write in WRITES if write in once.values()]
     return [
-        section("all eight writes", WRITES, REFUSED, READS),
-        section("each disk call refused", in_order, [], ONE_OF_EACH),
+        section("all nine writes", [*WRITES, REPLACEMENT], REFUSED, READS),
+        section("each disk call refused", [*in_order, REPLACEMENT], [], ONE_OF_EACH),
+        older("a raise of schema 1 in files", 1, WRITES, FURTHER[:1], FEW_READS),
+        older("a raise of schema 2 in files", 2, WRITES, FURTHER[:1], FEW_READS),
+        older("a database of schema 1 in files", 1, WRITES, FURTHER, READS),
+        older("a database of schema 2 in files", 2, WRITES, FURTHER, READS),
+        older("a new database of schema 1 in files", 1, [], WRITES[:1], READS),
+        older("a new database of schema 2 in files", 2, [], WRITES[:1], READS),
     ]
 
 

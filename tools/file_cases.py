@@ -7,7 +7,8 @@ The file is its owner's alone; a second program is refused and the first goes on
 Three hundred bits of a file at rest are flipped, one at a time: each is answered by status 3 or by unchanged answers.
 The program is killed (SIGKILL) once so many lines of a fleet's day are printed, at KILLS moments (100), each over
 a new file, and the day is repeated over what is left: it is answered as by the rules after the lines that were
-carried out. A minute is given for it, in which at least a quarter of the moments must come.
+carried out. A minute is given for it, in which at least a quarter of the moments must come. And it is killed while it
+opens files of older schemas: they are of the old schema or of the page's, and go on as they would have gone on.
 """
 import json
 import os
@@ -26,6 +27,7 @@ sys.dont_write_bytecode = True
 
 import fleet
 import reference
+import schemas
 import trials
 
 DAY = list(fleet.script(vehicles=5, ecus=3, rounds=3, images=6, campaigns=2, seed=4))
@@ -57,6 +59,16 @@ def modes(program, own):
     for name in ("folder", "missing/file"):
         yield name + " is refused", trials.run(program, own / name, DAY[:1]) == (3, b"", trials.NO_DATABASE)
     yield "nothing is made in their place", not (own / "missing").exists() and not (own / "nowhere").exists()
+    path = own / "byte"
+    path.write_bytes(b"S")
+    told = trials.run(program, path, DAY[:1])
+    yield "a file of one byte is refused, and stays", told == (3, b"", trials.NO_DATABASE) and path.read_bytes() == b"S"
+    # the log's name has four bytes more, and a file system takes 255
+    there = sorted(os.listdir(own))
+    told = trials.run(program, own / (252 * "n"), DAY[:1])
+    yield "a name too long for its log is refused, and no file is left", told == (3, b"", trials.NO_DATABASE) and sorted(os.listdir(own)) == there
+    # a journal of SQLite's is looked for too, whose name has eight bytes more
+    yield "the longest that fits is taken", trials.printed(program, own / (247 * "n"), DAY[:1]) == ["done"]
 
 
 class Running:
@@ -145,11 +157,12 @@ def operated(program, own):
     yield "the last copy is whole", trials.faults(path) == []
     page = (trials.TOP / "docs" / "OPERATING.md").read_text(encoding="ascii")
     shown = re.findall(r"^    ((?:reply|vehicle) .*)$", page, re.M)
-    yield "the page shows what is printed", len(shown) == 2 and set(shown) <= set(told)
+    yield "the page shows what is printed", len(shown) == 3 and set(shown) <= set(told)
     reports = (report for part in parts for line in part.splitlines() for report in json.loads(line).get("reports", []))
     attacks = sorted((report["ecu"], report["attack"]) for report in reports if report.get("attack"))
     with trials.read(path) as db:
-        found = db.execute(re.search(r"^    (SELECT .*?)\n\n", page, re.S | re.M)[1]).fetchall()
+        asked = [query for query in re.findall(r"^    (SELECT .*?)\n\n", page, re.S | re.M) if "AS attack" in query]
+        found = [(ecu, attack) for query in asked for _, ecu, attack in db.execute(query)]
     yield "and a query that tells the attacks", sorted(found) == attacks != []
 
 
@@ -157,8 +170,8 @@ def operated(program, own):
 
 
 def killed_day():
-    """A fleet's day with two refreshes, two rotations and two campaigns that are closed, between its manifests."""
-    day = list(fleet.script(vehicles=8, ecus=3, rounds=3, images=6, campaigns=2, seed=4))
+    """A fleet's day with some ECUs replaced, two refreshes, two rotations and two campaigns that are closed, between its manifests."""
+    day = list(fleet.script(vehicles=8, ecus=3, rounds=3, images=6, campaigns=2, seed=4, replaced=0.3))
     sent = [at for at, line in enumerate(day) if '"do":"bench"' in line]
     for number in (2, 1):
         more = [fleet.line("refresh", version=100 * number), fleet.line("rotate", **fleet.key_set(32 * number))]
@@ -212,11 +225,13 @@ def left(path):
 
 
 def is_kept(line, first, again):
-    """Whether a line that was answered before the kill is answered by what was kept; of other lines the rules alone tell."""
+    """Whether a line that was answered before the kill is answered by what was kept; of other lines the rules alone tell. A vehicle
+    of which an ECU was replaced is another one than the line added."""
     do = json.loads(line)["do"]
     if do in ("bench", "found"):
         return again == ("refused 9 AlreadyFounded" if do == "found" else first)
-    return do not in ("add_vehicle", "add_image") or again == "already"
+    done = {"add_vehicle": ("already", "refused 22 VehicleTaken"), "add_image": ("already",)}
+    return again in done.get(do, (again,))
 
 
 def survives(program, path, told, days):
@@ -249,10 +264,45 @@ def kills(program, number):
     yield "%d kills, %d of them before the end" % (tried, stopped), stopped > tried // 2 and tried >= number // 4
 
 
+def killed_soon(program, path, after):
+    """Kills the program so many seconds after it began to open the file."""
+    with subprocess.Popen([str(program), "run", str(path)], stdin=subprocess.PIPE, stdout=subprocess.PIPE) as it:
+        time.sleep(after)
+        os.kill(it.pid, signal.SIGKILL)
+
+
+def taken_in(program, path):
+    """The seconds in which the program opens the file, answers a line and ends."""
+    begun = time.monotonic()
+    trials.printed(program, path, SHOWS[:1])
+    return time.monotonic() - begun
+
+
+def raises(program, number):
+    """Kills in the time in which a file of an older schema is opened and raised."""
+    with trials.folder() as own:
+        path, found = own / "day", []
+        yield "a day before it is taken back", trials.printed(program, path, DAY) is not None
+        wanted = trials.expected(trials.copied(path, own / "rules"), SHOWS + FILES + DAY)
+        for older, made in ((1, schemas.lowered), (2, schemas.written)):
+            begun = made(path, own / ("older%d" % older), older)
+            rows, most = schemas.rows(begun), taken_in(program, trials.copied(begun, own / ("timed%d" % older)))
+            for at in range(number):
+                to = trials.copied(begun, own / ("killed %d %d" % (older, at)))
+                killed_soon(program, to, most * at / number)
+                found.append(schemas.schema_of(to))
+                well = found[-1] in (older, reference.SCHEMA) and schemas.rows(to) == rows and trials.faults(to) == []
+                if not well or trials.printed(program, to, SHOWS + FILES + DAY) != wanted or trials.faults(to):
+                    yield "schema %d, killed at part %d of %d" % (older, at, number), False
+        new = found.count(reference.SCHEMA)
+        yield "%d kills while files of older schemas are opened, %d of them once they were raised" % (len(found), new), True
+
+
 def cases(program, number=100):
     for part in (modes, seconds, rests, operated, flipped):
         with trials.folder() as own:
             yield from part(program, own)
+    yield from raises(program, number // 5)
     yield from kills(program, number)
 
 

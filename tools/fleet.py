@@ -2,11 +2,12 @@
 """Prints a script of a fleet: the same for the same words.
 
     fleet.py [--vehicles N] [--ecus N] [--rounds N] [--images N] [--campaigns N] [--seed N] [--repeats SHARE]
-             [--deliver] [--from-round N]
+             [--replaced SHARE] [--deliver] [--from-round N]
 
 It founds, adds vehicles and images, opens campaigns, and goes so many rounds of manifests over all vehicles, each
-round in another order, a share of them sent again: half of these the one just before, half any earlier one. At the
-end it shows some vehicles and fetches files. `--deliver` prints bodies that are built here in place of `bench`
+round in another order, a share of them sent again: half of these the one just before, half any earlier one. Before
+each round but the first an ECU of a share of the vehicles (none) is replaced. At the end it shows some vehicles and
+fetches files. `--deliver` prints bodies that are built here in place of `bench`
 lines, so that the program builds and signs no manifest itself. `--from-round R` leaves out what comes before round
 R, for a database that has it already.
 """
@@ -147,8 +148,21 @@ class Fleet:
             told = {"vehicle": name, "primary": ecus[0][0], "key": ecus[0][2], "counter": number}
             yield told | {"reports": reports}
 
-    def round(self, number, share, history, delivers):
+    def replacements(self, number, share):
+        """The lines that replace an ECU of some vehicles, each a Secondary."""
+        for name, ecus in sorted(self.vehicles.items()) if share else []:
+            if len(ecus) < 2 or self.rng.random() >= share:
+                continue
+            place = self.rng.randrange(1, len(ecus))
+            old, kind, _ = ecus[place]
+            new = "%s-e%d-r%d" % (name, place, number)
+            ecus[place] = new, kind, digest("%d %s" % (self.seed, new))
+            told = {"vehicle": name, "old": old, "ecu": new, "hardware": kind, "key": ecus[place][2]}
+            yield line("replace_ecu", START + 3600 * number, **told)
+
+    def round(self, number, share, replaced, history, delivers):
         at = START + 3600 * number
+        yield from self.replacements(number, replaced if number > 1 else 0)
 
         def printed(told, at):
             return line("deliver", at, body=body(told)) if delivers else line("bench", at, **told)
@@ -168,13 +182,14 @@ class Fleet:
             yield line("fetch", repository="image", file=file)
 
 
-def script(vehicles=100, ecus=4, rounds=5, images=20, campaigns=5, seed=1, repeats=0.2, deliver=False, from_round=0):
+def script(vehicles=100, ecus=4, rounds=5, images=20, campaigns=5, seed=1, repeats=0.2, replaced=0, deliver=False,
+           from_round=0):
     """The lines of the script."""
     fleet, history = Fleet(vehicles, ecus, images, campaigns, seed), []
     setup = list(fleet.setup())
     yield from setup if from_round < 2 else []
     for number in range(1, rounds + 1):
-        told = list(fleet.round(number, repeats, history, deliver and number >= from_round))
+        told = list(fleet.round(number, repeats, replaced, history, deliver and number >= from_round))
         yield from told if number >= from_round else []
     yield from fleet.closing()
 
@@ -185,6 +200,7 @@ def main():
     for name, usual in numbers.items():
         parser.add_argument("--" + name, type=int, default=usual)
     parser.add_argument("--repeats", type=float, default=0.2)
+    parser.add_argument("--replaced", type=float, default=0)
     parser.add_argument("--deliver", action="store_true")
     for text in script(**vars(parser.parse_args())):
         print(text)

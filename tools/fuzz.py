@@ -28,7 +28,7 @@ class Script:
 
     def __init__(self, seed):
         self.rng, self.lines, self.counters, self.reported, self.images = random.Random(seed), [], {}, {}, []
-        self.at = START
+        self.at, self.present, self.retired, self.sent = START, {}, [], []
 
     def some(self, share):
         return self.rng.random() < share
@@ -48,19 +48,48 @@ class Script:
             role["threshold"] = self.rng.randint(0 if self.some(0.1) else 1, len(role["keys"]))
         return keys
 
-    def ecus(self, number):
-        """The ECUs of a vehicle: always the same ones."""
+    def first_ecus(self, number):
+        """The ECUs with which a vehicle is added: always the same ones."""
         return [{"ecu": "E%d%d" % (number, i), "hardware": KINDS[min(i, 2)], "key": fleet.key(16 * number + i + 1)}
                 for i in range(1 + number % 4)]
 
+    def ecus(self, number):
+        """The ECUs of a vehicle with the replacements that were asked."""
+        return list(self.present.setdefault(number, self.first_ecus(number)))
+
     def add_vehicle(self, number=None):
         number = self.rng.randrange(6) if number is None else number
-        ecus = self.ecus(number)
+        ecus = self.first_ecus(number) if self.some(0.8) else self.ecus(number)
         if self.some(0.15):
             ecus[self.rng.randrange(len(ecus))] = self.rng.choice(self.ecus(self.rng.randrange(6)))
         if self.some(0.05):
             ecus[0]["hardware"] = self.rng.choice(KINDS)
         self.add("add_vehicle", vehicle="V%d" % number, primary="E%d0" % number, ecus=ecus)
+
+    def replace_ecu(self):
+        """Mostly a Secondary by a new ECU; else an ECU that can't be replaced, or one that is recorded or retired in its place. What the
+        vehicle sent last often comes again then, and its next manifest."""
+        rng, number = self.rng, self.rng.choice([1, 2, 3] if self.some(0.9) else range(6))
+        ecus = self.ecus(number)
+        place = rng.randrange(len(ecus)) if self.some(0.1) else rng.randint(min(1, len(ecus) - 1), len(ecus) - 1)
+        old, new = ecus[place]["ecu"], {"ecu": "R%d" % len(self.lines), "hardware": ecus[place]["hardware"]}
+        new["key"] = fleet.key(rng.randrange(256))
+        known = self.retired + [it["ecu"] for it in self.ecus(rng.randrange(6))]
+        if self.some(0.15):
+            new["ecu"] = rng.choice(known)
+        elif self.some(0.1):
+            old = rng.choice(known + ["X"])
+        elif place:
+            self.retired.append(old)
+            self.present[number][place] = new
+        if self.some(0.1):
+            new["hardware"] = rng.choice(KINDS)
+        self.add("replace_ecu", vehicle="V%d" % number, old=old, **new)
+        sent = [told for told in self.sent if told["vehicle"] == "V%d" % number]
+        if sent and self.some(0.6):
+            self.add("bench", **sent[-1])
+        if sent and self.some(0.6):
+            self.add("bench", **self.manifest(number))
 
     def add_image(self):
         rng, number = self.rng, self.rng.randrange(12)
@@ -102,9 +131,9 @@ class Script:
         self.reported[name] = told
         return told
 
-    def manifest(self):
+    def manifest(self, number=None):
         """The members of a bench line, some of them wrong."""
-        rng, number = self.rng, self.rng.randrange(6 if self.some(0.05) else 5)
+        rng, number = self.rng, self.rng.randrange(6 if self.some(0.05) else 5) if number is None else number
         vehicle, ecus = "V%d" % number, self.ecus(number)
         last = self.counters.get(vehicle, 0)
         counter = max(1, last + rng.choice([1, 1, 1, 1, 1, 7, 0, -1]))
@@ -113,7 +142,7 @@ class Script:
         told = {"vehicle": vehicle, "primary": ecus[0]["ecu"], "key": ecus[0]["key"], "counter": counter}
         told["reports"] = reports
         if self.some(0.12):
-            wrong = rng.choice(["primary", "key", "report", "missing", "twice", "unknown", "order"])
+            wrong = rng.choice(["primary", "key", "report", "missing", "twice", "unknown", "retired", "order"])
             if wrong == "primary":
                 told["primary"] = ecus[-1]["ecu"]
             elif wrong == "key":
@@ -126,12 +155,16 @@ class Script:
                 reports.append(rng.choice(reports))
             elif wrong == "unknown":
                 reports.append(reports[0] | {"ecu": "X"})
+            elif wrong == "retired":
+                reports[-1] = reports[-1] | {"ecu": rng.choice(self.retired or ["X"])}
             else:
                 rng.shuffle(reports)
+        self.sent.append(told)
         return told
 
     def bench(self):
-        self.add("bench", **self.manifest())
+        """A manifest, or one that was sent before."""
+        self.add("bench", **(self.rng.choice(self.sent) if self.sent and self.some(0.08) else self.manifest()))
 
     def deliver(self):
         """A body as it is signed, or with another spelling, other signatures, or damage."""
@@ -162,8 +195,8 @@ class Script:
     def refresh(self):
         self.add("refresh", version=self.rng.choice([1, 5, 40, 80, MOST] if self.some(0.05) else [5, 20, 40]))
 
-    WEIGHTS = {"add_vehicle": 8, "add_image": 8, "open_campaign": 6, "close_campaign": 1, "bench": 30, "deliver": 16,
-               "fetch": 5, "show": 6, "refresh": 1}
+    WEIGHTS = {"add_vehicle": 8, "replace_ecu": 5, "add_image": 8, "open_campaign": 6, "close_campaign": 1, "bench": 30,
+               "deliver": 16, "fetch": 5, "show": 6, "refresh": 1}
 
     def step(self):
         rng = self.rng

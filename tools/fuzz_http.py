@@ -5,10 +5,11 @@
 
 For each seed from FIRST (1) on, NUMBER (100) of them, a script of `tools/fuzz.py` founds and fills a file. The
 program serves it to one connection, which sends manifests, some of them damaged, and asks for files, in pieces
-that are cut anywhere. Each answer has to be, byte for byte, what `tools/reference.py` answers at the moment that
-the program's clock had, and the file has to have its rows. The same manifests and files are then asked for by script, each
-manifest at the moment that was kept: over a copy of the file as it was, and over memory after the script that filled it.
-Both have to answer alike, and the copy has to have the same rows, byte for byte. Five more connections send requests whose
+that are cut anywhere. Then a script replaces some ECUs, and a new start serves another connection, over which earlier manifests
+come again too. Each answer has to be, byte for byte, what `tools/reference.py` answers at the moment that the program's clock
+had, and the file has to have its rows. The same is then asked for by script, each manifest at the moment that was kept: over a
+copy of the file as it was, and over memory after the script that filled it. Both have to answer alike, and the copy has to have
+the same rows, byte for byte. Five more connections send requests whose
 heads are damaged anywhere: whatever they mean, whole answers come, and the file stays as it was.
 """
 import contextlib
@@ -91,7 +92,7 @@ class Stream:
     """The requests of one seed: bodies of the seed's own script, and files."""
 
     def __init__(self, seed, script):
-        self.rng, self.script = random.Random(seed), script
+        self.rng, self.script, self.sent = random.Random(seed), script, []
 
     def body(self):
         self.script.lines.clear()
@@ -108,7 +109,7 @@ class Stream:
         return fields
 
     def deliver(self, **more):
-        body = self.sent[-1] if self.sent and self.rng.random() < 0.2 else self.body()
+        body = self.rng.choice(self.sent[-8:]) if self.sent and self.rng.random() < 0.2 else self.body()
         self.sent.append(body)
         query = self.rng.choice(["", "", "", "?", "?a=b"])
         fields = self.fields("Content-Length: %d" % len(body))
@@ -146,8 +147,14 @@ class Stream:
                             asks=("image", "root.json"), ends=True),
         ])()
 
+    def between(self):
+        """The lines that replace some ECUs."""
+        self.script.lines.clear()
+        for _ in range(self.rng.randint(0, 4)):
+            self.script.replace_ecu()
+        return [line.decode() for line in self.script.lines]
+
     def made(self):
-        self.sent = []
         kinds, number = [self.deliver, self.fetch, self.other], self.rng.randint(1, 30)
         found = [self.rng.choices(kinds, [6, 3, 1])[0]() for _ in range(number)]
         return found + ([self.last()] if self.rng.random() < 0.5 else [])
@@ -171,7 +178,9 @@ def came(running, sent, rng):
 
 
 def line_of(asks, moments):
-    """The line that asks the same; a manifest that was accepted at its moment."""
+    """The line that asks the same, where it isn't one; a manifest that was accepted at its moment."""
+    if isinstance(asks, str):
+        return asks
     if isinstance(asks, tuple):
         return fleet.line("fetch", repository=asks[0], file=asks[1])
     at = fleet.START
@@ -182,7 +191,9 @@ def line_of(asks, moments):
 
 
 def printed_as(line, asks, answer, replies):
-    """Whether a script's line says what the answer says."""
+    """Whether a script's line says what the answer says, or what another line of a script said."""
+    if isinstance(asks, str):
+        return line == answer
     head, _, body = answer.partition(b"\r\n\r\n")
     if not head.startswith(b"HTTP/1.1 200 "):
         return line == "refused %(error)d %(text)s" % json.loads(body)
@@ -244,6 +255,36 @@ def hostile(program, path, rng):
         return well and http_cases.ended(running) and trials.rows(path) == rows
 
 
+def kept_moments(path):
+    with trials.read(path) as db:
+        return {row[:2]: row[2] for row in db.execute("SELECT vehicle, counter, moment FROM kept")}
+
+
+def served_as(program, path, desk, requests, rng, commands):
+    """What went otherwise where these are served; what they ask is added to the commands, with its answers by the rules."""
+    with http_cases.served(program, path, 1) as running:
+        told = came(running, b"".join(it.sent for it in requests), rng)
+        if not http_cases.ended(running):
+            return "another end"
+    moments = kept_moments(path)
+    for number, request in enumerate(requests, 1):
+        wanted = answer(desk, request, moments)
+        if not told.startswith(wanted):
+            words = number, request.sent[:300], wanted[:300], told[:300]
+            return "request %d: %r\n  rules: %r\n  program: %r" % words
+        told = told[len(wanted) :]
+        if request.check is None:
+            commands.append((request.asks, wanted))
+    return "more than the answers: %r" % told[:300] if told else None
+
+
+def replaced_as(program, path, desk, lines, commands):
+    """The same of lines that replace ECUs."""
+    wanted = [desk.answer(line.encode()) for line in lines]
+    commands.extend(zip(lines, wanted, strict=True))
+    return None if trials.printed(program, path, lines) == wanted else "lines between"
+
+
 def tried(program, seed, own):
     script = fuzz.Script(seed)
     path, rules, scripted, lines = own / "served", own / "rules", own / "scripted", script.made()
@@ -251,29 +292,17 @@ def tried(program, seed, own):
         return "the script"
     shutil.copy(path, rules)
     shutil.copy(path, scripted)
-    rng, commands = random.Random(seed), []
-    requests = Stream(seed, script).made()
-    with http_cases.served(program, path, 1) as running:
-        told = came(running, b"".join(it.sent for it in requests), rng)
-        if not http_cases.ended(running):
-            return "another end"
-    with trials.read(path) as db:
-        moments = {row[:2]: row[2] for row in db.execute("SELECT vehicle, counter, moment FROM kept")}
+    rng, commands, stream = random.Random(seed), [], Stream(seed, script)
     with closing(sqlite3.connect(rules)) as db:
         desk = reference.Desk(db)
-        for number, request in enumerate(requests, 1):
-            wanted = answer(desk, request, moments)
-            if not told.startswith(wanted):
-                words = number, request.sent[:300], wanted[:300], told[:300]
-                return "request %d: %r\n  rules: %r\n  program: %r" % words
-            told = told[len(wanted) :]
-            if request.check is None:
-                commands.append((request.asks, wanted))
-    if told:
-        return "more than the answers: %r" % told[:300]
+        other = served_as(program, path, desk, stream.made(), rng, commands)
+        other = other or replaced_as(program, path, desk, stream.between(), commands)
+        other = other or served_as(program, path, desk, stream.made(), rng, commands)
+    if other:
+        return other
     if not hostile(program, path, rng):
         return "damaged heads"
-    other = by_script(program, lines, scripted, commands, moments)
+    other = by_script(program, lines, scripted, commands, kept_moments(path))
     return other or (None if trials.rows(path) == trials.rows(rules) == trials.rows(scripted) else "other rows")
 
 

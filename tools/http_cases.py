@@ -1,14 +1,17 @@
 #!/usr/bin/env python3
 """Tries the program over HTTP, with clients of several kinds: what `docs/HTTP.md` says. Each wait is bounded.
 
-    http_cases.py PROGRAM
+    http_cases.py PROGRAM [whole]
 
 The program serves a file in which `examples/first_path` was carried out, so that its files and the reply that it kept
-are known beforehand.
+are known beforehand. Clients that hold the connection are tried all at once, beside the others: this takes two minutes. For
+those that send or take a byte now and then, the program's clock is made to go thirty times as fast, which needs a C compiler.
+`whole` tries these alone, by the clock as it is, which takes six minutes.
 """
 import contextlib
 import http.client
 import json
+import os
 import re
 import select
 import shlex
@@ -18,11 +21,16 @@ import sqlite3
 import struct
 import subprocess
 import sys
+import threading
+import time
 import urllib.parse
+from concurrent.futures import ThreadPoolExecutor
 from contextlib import closing
+from pathlib import Path
 
 sys.dont_write_bytecode = True
 
+import fleet
 import reference
 import trials
 
@@ -31,6 +39,10 @@ FIRST_PATH = (trials.TOP / "examples" / "first_path" / "script").read_text(encod
 GIVEN, MANIFEST, REPLY = ((PRIMARY / name).read_bytes() for name in ("manifest-input.json", "manifest.json", "reply.json"))
 MANIFEST, REPLY = MANIFEST.strip(), REPLY.strip()
 PATIENCE = 30
+
+# how long the service waits for a client that does nothing, and for a connection as a whole, in seconds; what more a busy machine
+# may take, and how many times as fast its clock is made to go
+SILENCE, WHOLE, SLACK, FAST = 30, 300, 15, 30
 
 GET_ROOT = b"GET /image/root.json HTTP/1.1\r\nHost: d\r\n\r\n"
 NO_FILE = b"GET /image/nofile HTTP/1.1\r\nHost: d\r\n\r\n"
@@ -61,11 +73,12 @@ def free_port():
 
 
 @contextlib.contextmanager
-def served(program, path, count):
+def served(program, path, count, variables=None):
     """The program, or the words that run it, while it serves so many connections, and its port."""
     port = free_port()
     words = [*(program if isinstance(program, list) else [str(program)]), "serve", str(path), str(port), str(count)]
-    running = subprocess.Popen(words, stdout=subprocess.PIPE, stderr=subprocess.PIPE)
+    told = os.environ | (variables or {})
+    running = subprocess.Popen(words, stdout=subprocess.PIPE, stderr=subprocess.PIPE, env=told)
     try:
         ready = select.select([running.stdout], [], [], PATIENCE)[0]
         if not ready or running.stdout.readline() != b"listening %d\n" % port:
@@ -86,8 +99,8 @@ def ended(running, err=b""):
     return (running.returncode, out, told) == (0, b"", err)
 
 
-def connected(running):
-    client = socket.create_connection(("127.0.0.1", running.port), timeout=PATIENCE)
+def connected(running, patience=PATIENCE):
+    client = socket.create_connection(("127.0.0.1", running.port), timeout=patience)
     client.setsockopt(socket.IPPROTO_TCP, socket.TCP_NODELAY, 1)
     return client
 
@@ -100,9 +113,9 @@ def to_the_end(client):
     return b"".join(parts)
 
 
-def told(running, sent):
+def told(running, sent, patience=PATIENCE):
     """What is answered to a client that sends this and ends its half."""
-    with connected(running) as client:
+    with connected(running, patience) as client:
         client.sendall(sent)
         client.shutdown(socket.SHUT_WR)
         return to_the_end(client)
@@ -245,6 +258,108 @@ def second_program(program, path):
         return refused and told(running, NO_FILE) == OPEN and ended(running)
 
 
+# ---- clients that hold the connection
+
+OTHERS = 3
+
+
+def outlived(program, path, first, kind, least, most, variables=None):
+    """Whether, while the first client does what it does, others are answered between so many and so many seconds after it came,
+    and what is told of it is that a read or a write failed."""
+    with served(program, path, 1 + OTHERS, variables) as running, connected(running) as held:
+        begun, left = time.monotonic(), threading.Event()
+        holder = threading.Thread(target=quietly, args=(first, held, left))
+        holder.start()
+        with ThreadPoolExecutor(OTHERS) as pool:
+            others = list(pool.map(lambda _: (told(running, NO_FILE, 2 * most), time.monotonic() - begun), range(OTHERS)))
+        left.set()
+        well = ended(running, b"uptane_desk: connection 1: %s\n" % kind)
+        holder.join()
+    return well and all(came == OPEN and least < after < most for came, after in others)
+
+
+def quietly(first, held, left):
+    """Lets a client do what it does, until it is closed."""
+    with contextlib.suppress(OSError):
+        first(held, left)
+
+
+def sends_nothing(held, left):
+    """sends nothing"""
+    left.wait()
+
+
+def idle(held, left):
+    """sends nothing after its answer"""
+    held.sendall(NO_FILE)
+    left.wait()
+
+
+def half_of_a_body(held, left):
+    """sends half of a body"""
+    held.sendall(POST % len(MANIFEST) + MANIFEST[: len(MANIFEST) // 2])
+    left.wait()
+
+
+def reads_nothing(held, left):
+    """reads nothing of a hundred large answers"""
+    held.setsockopt(socket.SOL_SOCKET, socket.SO_RCVBUF, 4096)
+    held.sendall(100 * GET_TARGETS)
+    left.wait()
+
+
+def drips(held, left):
+    """sends a byte a second"""
+    for byte in 20 * NO_FILE:
+        held.sendall(bytes([byte]))
+        if left.wait(1):
+            return
+
+
+def sips(held, left):
+    """takes a little each second of a hundred large answers"""
+    held.setsockopt(socket.SOL_SOCKET, socket.SO_RCVBUF, 4096)
+    held.sendall(100 * GET_TARGETS)
+    while not left.wait(1):
+        held.recv(1024)
+
+
+GET_TARGETS = b"GET /image/targets.json HTTP/1.1\r\nHost: d\r\n\r\n"
+SILENT = [(sends_nothing, b"read"), (idle, b"read"), (half_of_a_body, b"read"), (reads_nothing, b"write")]
+SLOW = [(drips, b"read"), (sips, b"write")]
+# a system that keeps more and more of what isn't read takes a part after some waits; and it may not see that a little was taken
+WAITS, LEAST = {b"read": 1, b"write": 4}, {b"read": WHOLE - 2, b"write": SILENCE - 2}
+
+
+def many_images(program, path):
+    """A file whose Image repository has so large a Targets file that a hundred don't fit into what systems keep for a connection."""
+    kinds = ["hardware-%02d-%s" % (number, 48 * "x") for number in range(16)]
+    lines = [fleet.line("found", **fleet.key_set(1))]
+    for number in range(60):
+        told = {"file": "%03d.bin" % number, "length": 1, "sha256": fleet.digest(str(number)), "hardware": kinds, "release": number}
+        lines.append(fleet.line("add_image", **told))
+    assert trials.printed(program, path, lines) == len(lines) * ["done"]
+    return path
+
+
+def holding(program, own, whole):
+    """What to try of the clients that hold the connection: the words of each case, and what is called for it."""
+    large = many_images(program, own / "large")
+    tried = [] if whole else [(first, kind, SILENCE - 2, WAITS[kind] * SILENCE + SLACK, None) for first, kind in SILENT]
+    if whole:
+        tried += [(first, kind, LEAST[kind], WHOLE + SILENCE + SLACK, None) for first, kind in SLOW]
+    elif shutil.which("cc"):
+        library, source = own / "fast_clock.so", Path(__file__).resolve().parent / "fast_clock.c"
+        subprocess.run(["cc", "-shared", "-fPIC", "-O1", "-o", str(library), str(source)], check=True)
+        faster = {"LD_PRELOAD": str(library), "FAST_CLOCK": str(FAST)}
+        tried += [(first, kind, WHOLE // FAST - 2, WHOLE // FAST + SILENCE + SLACK, faster) for first, kind in SLOW]
+    else:
+        print("no C compiler, so no client that sends or takes a byte now and then")
+    for first, *told in tried:
+        path = trials.copied(large, own / first.__name__)
+        yield "a client that %s holds up others no longer than that" % first.__doc__, (program, path, first, *told)
+
+
 # ---- the small Primary and curl
 
 
@@ -263,7 +378,7 @@ def small_primary(program, path):
         well = primary(running, "send", given=GIVEN) == (0, REPLY)
         status, reply = primary(running, "send", given=json.dumps(after).encode())
         well = well and status == 0 and json.loads(reply)["version"] == 2
-        well = well and primary(running, "check", str(PRIMARY / "director-keys.json"), given=reply)[0] == 0
+        well = well and primary(running, "check", str(PRIMARY / "director-secrets.json"), given=reply)[0] == 0
         after["reports"][0]["key"] = 64 * "e"
         after["counter"] = 3
         refused = 1, b'403 {"error":17,"text":"BadReportSignature P1"}'
@@ -318,17 +433,20 @@ def goes_well(case, *given):
         return False
 
 
-def cases(program):
+def cases(program, whole=False):
     """Each case with whether the program does as the page says."""
-    with trials.folder() as own:
+    with trials.folder() as own, ThreadPoolExecutor(8) as pool:
         trials.printed(program, own / "first", FIRST_PATH)
-        for client in CLIENTS:
+        held = [(words, pool.submit(goes_well, outlived, *given)) for words, given in holding(program, own, whole)]
+        for client in [] if whole else CLIENTS:
             path = trials.copied(own / "first", own / client.__name__)
             yield client.__doc__.strip().rstrip("."), goes_well(client, program, path)
-        yield from exchanges(program, own / "first")
+        yield from [] if whole else exchanges(program, own / "first")
+        for words, well in held:
+            yield words, well.result()
 
 
 if __name__ == "__main__":
-    if len(sys.argv) != 2:
+    if len(sys.argv) not in (2, 3) or sys.argv[2:] not in ([], ["whole"]):
         sys.exit(__doc__)
-    sys.exit(trials.judged("HTTP", cases(sys.argv[1])))
+    sys.exit(trials.judged("HTTP", cases(sys.argv[1], len(sys.argv) == 3)))

@@ -8,14 +8,17 @@ makes without that extension (`.backup`) has a wrong one on its first page, and 
 makes such a copy one that the program takes. A file whose pages have no sums is left as it is. Never use it on
 a file that the program refuses without a copy having been made by sqlite3: then a sum has found damage.
 
-The status is 0, or 1 with a message where SQLite finds the file damaged.
+The status is 0, or 1 with a message where SQLite finds the file damaged, or where it isn't a database of this product: an
+empty file is none. That file stays as it was.
 """
 import sqlite3
 import struct
 import sys
 from contextlib import closing
+from pathlib import Path
 
 RESERVED = 8
+PRODUCT = [(1, "uptane_desk")]
 
 
 def sum_of(page):
@@ -44,8 +47,10 @@ def wrong_sums(data):
 
 
 def faults(path):
-    """What SQLite finds wrong. It also copies a log that is there into the file."""
-    with closing(sqlite3.connect("file:%s?mode=rw" % path, uri=True)) as db:
+    """What SQLite finds wrong. It also copies a log that is there into a file of this product."""
+    with closing(sqlite3.connect("%s?mode=rw" % Path(path).resolve().as_uri(), uri=True)) as db:
+        if db.execute("SELECT id, app FROM meta").fetchall() != PRODUCT:
+            return ["not a database of uptane_desk"]
         db.execute("PRAGMA wal_checkpoint(TRUNCATE)").fetchall()
         found = [row[0] for row in db.execute("PRAGMA integrity_check") if row[0] != "ok"]
         return found + [str(row) for row in db.execute("PRAGMA foreign_key_check")]

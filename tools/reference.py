@@ -4,7 +4,7 @@
     reference.py run FILE < SCRIPT      FILE is `:memory:`, or is made where it isn't there
 
 It is slow and short, and tests nothing of a database's own. It has no limits of lines or of a script: those are tried by
-`tools/program_cases.py`. The tables are those of `docs/TABLES.md`.
+`tools/program_cases.py`. The tables are those of `docs/TABLES.md`; those of an older schema are raised.
 """
 import hashlib
 import hmac
@@ -29,8 +29,11 @@ NAMES = dict(enumerate(
     """Memory Store MomentOutOfRange TooLarge NotJson NotCanonical BadShape NotFounded AlreadyFounded
     UnknownVehicle WrongPrimary BadManifestSignature Stale UnknownEcu DuplicateEcu MissingEcu
     BadReportSignature ReportReplayed ImageTaken RegisterFull VersionLimit VehicleTaken EcuTaken
-    CampaignTaken UnknownCampaign UnknownImage WrongHardware VersionNotGreater UnknownFile RootFull""".split(), 1))
+    CampaignTaken UnknownCampaign UnknownImage WrongHardware VersionNotGreater UnknownFile RootFull PrimaryFixed""".split(), 1))
 PAGE = Path(__file__).resolve().parent.parent / "docs" / "TABLES.md"
+SCHEMA = 3
+# which of the page's tables a database of an older schema lacks
+LACKS = {1: ["retired", "image_sha512"], 2: ["image_sha512"], SCHEMA: []}
 
 
 class Refused(Exception):
@@ -42,6 +45,10 @@ class Refused(Exception):
 def schema():
     """The statements of the page that make the tables."""
     return re.findall(r"^    (CREATE TABLE .*?STRICT)$", PAGE.read_text(encoding="ascii"), re.S | re.M)
+
+
+def table_of(statement):
+    return statement.split()[2]
 
 
 # ---- JSON
@@ -367,12 +374,22 @@ class Desk:
         db.row_factory = sqlite3.Row
         db.execute("PRAGMA foreign_keys = ON")
         if not db.execute("SELECT name FROM sqlite_schema").fetchall():
-            with db:
-                for statement in schema():
-                    db.execute(statement)
-                db.execute("INSERT INTO meta VALUES (1, 'uptane_desk', 1, 0, 0, 0)")
-        if [tuple(r) for r in db.execute("SELECT app, schema FROM meta WHERE id = 1")] != [("uptane_desk", 1)]:
+            self.make([table_of(statement) for statement in schema()], "INSERT INTO meta VALUES (1, 'uptane_desk', ?, 0, 0, 0)")
+        told = [tuple(row) for row in db.execute("SELECT app, schema FROM meta WHERE id = 1")]
+        found = next((number for number in LACKS if told == [("uptane_desk", number)]), None)
+        if found is None:
             raise sqlite3.DatabaseError
+        if found < SCHEMA:
+            self.make(LACKS[found], "UPDATE meta SET schema = ?")
+
+    def make(self, tables, named):
+        """Makes these tables of the page, and says that they are of its schema."""
+        with self.db:
+            self.db.execute("BEGIN")
+            for statement in schema():
+                if table_of(statement) in tables:
+                    self.db.execute(statement)
+            self.db.execute(named, (SCHEMA,))
 
     def one(self, sql, *given):
         return self.db.execute(sql, given).fetchone()
@@ -526,12 +543,39 @@ class Desk:
             if ecu in told[:i]:
                 raise Refused(15, ecu)
         for ecu in told:
-            if self.one("SELECT 1 FROM ecu WHERE ecu = ?", ecu):
-                raise Refused(23, ecu)
+            self.not_taken(ecu)
         self.db.execute("INSERT INTO vehicle VALUES (?, ?, 0, 0)", (name, primary))
         sql = "INSERT INTO ecu VALUES (?, ?, ?, ?, ?, NULL, NULL, NULL, 0, NULL)"
         for place, (ecu, hardware, key) in enumerate(ecus):
             self.db.execute(sql, (ecu, name, place, hardware, key))
+        return "done"
+
+    def not_taken(self, ecu):
+        """An identifier that is recorded anywhere is taken, and so is one that is retired."""
+        for table in ("ecu", "retired"):
+            if self.one("SELECT 1 FROM %s WHERE ecu = ?" % table, ecu):
+                raise Refused(23, ecu)
+
+    def replace_ecu(self, line):
+        name, old = member(line, "vehicle", IDENT), member(line, "old", IDENT)
+        ecu, hardware, key = read_ecu(line)
+        self.in_range(line)
+        if len(key) != 32:
+            raise Refused(7, "key")
+        self.founded()
+        vehicle = self.one("SELECT primary_ecu FROM vehicle WHERE vehicle = ?", name)
+        if not vehicle:
+            raise Refused(10)
+        place = self.one("SELECT place FROM ecu WHERE vehicle = ? AND ecu = ?", name, old)
+        if not place:
+            raise Refused(14, old)
+        if old == vehicle[0]:
+            raise Refused(31)
+        self.not_taken(ecu)
+        self.db.execute("DELETE FROM ecu WHERE ecu = ?", (old,))
+        sql = "INSERT INTO ecu VALUES (?, ?, ?, ?, ?, NULL, NULL, NULL, 0, NULL)"
+        self.db.execute(sql, (ecu, name, place[0], hardware, key))
+        self.db.execute("INSERT INTO retired VALUES (?, ?)", (old, name))
         return "done"
 
     def open_campaign(self, line):
@@ -669,8 +713,8 @@ class Desk:
             told += " withheld %s %s %s" % (cause["ecu"], kind, cause[name])
         return told
 
-    WORDS = ["found", "rotate", "add_vehicle", "add_image", "refresh", "open_campaign", "close_campaign", "deliver",
-             "fetch", "bench", "show"]
+    WORDS = ["found", "rotate", "add_vehicle", "replace_ecu", "add_image", "refresh", "open_campaign", "close_campaign",
+             "deliver", "fetch", "bench", "show"]
 
     def answer(self, line):
         """What is printed for a line that has any byte."""

@@ -26,6 +26,8 @@ A = {"file": "a.bin", "hardware": ["HS"], "hashes": {"sha256": ABC}, "length": 3
 A7 = A | {"file": "a7.bin", "release": 7}
 A_FOR_S2 = A | {"ecu": "S2"}
 A7_FOR_S2 = A7 | {"ecu": "S2"}
+A_FOR_S3 = A | {"ecu": "S3"}
+A_FOR_S4 = A | {"ecu": "S4"}
 S_FOR_S2 = A_FOR_S2 | {"file": "s.bin", "release": 3}
 P_FOR_P2 = A | {"ecu": "P2", "file": "p.bin", "hardware": ["HP"], "release": 5}
 A7_FOR_31 = [A7 | {"ecu": "E%d" % number} for number in range(1, 32)]
@@ -53,6 +55,9 @@ REPLIES = {
     "vehicles_in_another_turn": [
         ("V2", 1, 1, [S_FOR_S2]), ("V1", 1, 1, []), ("V2", 2, 1, [S_FOR_S2]), ("V1", 2, 1, []), ("V1", 1, 1, [])
     ],
+    "replaced_ecu": [("V2", 1, 1, []), ("V2", 2, 1, []), ("V2", 1, 1, [])],
+    "replaced_ecu_under_a_second_scheme": [("V2", 1, 1, []), ("V2", 2, 1, []), ("V2", 1, 1, [])],
+    "replaced_ecu_of_a_campaign": [("V2", 1, 1, [A_FOR_S2]), ("V2", 2, 1, [A_FOR_S3]), ("V2", 1, 1, [A_FOR_S2]), ("V2", 3, 1, [A_FOR_S4])],
     "vehicle_of_32_ecus": 2 * [("V32", 1, 1, A7_FOR_31)],
     "vehicle_of_32_ecus_under_a_second_scheme": 2 * [("V32", 1, 1, A7_FOR_31)],
 }

@@ -11,7 +11,9 @@ draws one of the calls 1 to EVERY, so that another part is tried each time.
 which the tables are those before the line, and the line is given again at once and has to have the row's answer; or, where
 the disk failed, `refused 2 Store`; or the program stops with its message. Then the file has to have the rows that
 `tools/reference.py` makes of just the lines that were answered, or of the next one too; the rest of the row is carried out
-over it by a new start, and has to end as the row does.
+over it by a new start, and has to end as the row does. Each goes over an empty file, and two of the rows are carried out
+again over files of older schemas, which have what the row does up to its first manifest: they stay of their schema until they
+are of the page's.
 
 `http` refuses memory while a vehicle's first manifest is posted four times, a request a connection. Each answer has to be
 the kept reply, but for one, which may be a 503 for want of memory or none, and the tables those of the rules at the moment
@@ -29,10 +31,12 @@ sys.dont_write_bytecode = True
 
 import http_cases
 import reference
+import schemas
 import trials
 
 ROWS = ["first_manifest", "equal_and_greater_releases", "kept_reply_after_a_rotation", "images_taken",
-        "files_of_the_image_repository", "campaigns"]
+        "files_of_the_image_repository", "campaigns", "replaced_ecu"]
+OLDER = [("equal_and_greater_releases", 1), ("kept_reply_after_a_rotation", 2)]
 REFUSED = {"memory": "refused 1 Memory", "disk": "refused 2 Store"}
 VARIABLES = {"memory": "FAIL_ALLOC", "disk": "FAIL_IO", "http": "FAIL_ALLOC"}
 MESSAGES = [b"", b"uptane_desk: stopped after %d lines: memory\n", trials.NO_DATABASE]
@@ -91,14 +95,44 @@ class Row:
         self.name, self.lines = name, [line for line in (folder / "script").read_text("ascii").split("\n") if line]
         self.printed = (folder / "printed").read_text("ascii").split("\n")[:-1]
         path, self.states = own / ("rules " + name), []
+        Row.begin(self, path)
         for count in range(len(self.lines) + 1):
             assert trials.expected(path, self.lines[max(count - 1, 0) : count]) == self.printed[max(count - 1, 0) : count]
             self.states.append(trials.rows(path))
+
+    def begin(self, path):
+        for part in (path, trials.log_of(path)):
+            part.unlink(missing_ok=True)
 
     def shown(self, path):
         """The tables of the file, or none where it isn't a database; those of the empty state where nothing was written."""
         try:
             return trials.rows(path) if path.exists() and path.stat().st_size else self.states[0]
+        except sqlite3.DatabaseError:
+            return None
+
+
+class Older(Row):
+    """A row from its first manifest on, which is given again, over a file of an older schema that has what came before."""
+
+    def __init__(self, program, name, number, own):
+        super().__init__(name, own)
+        done = next(at for at, line in enumerate(self.lines) if '"bench"' in line) + 1
+        path = own / ("before " + name)
+        assert trials.printed(program, path, self.lines[:done]) == self.printed[:done]
+        self.begun, self.number = schemas.lowered(path, own / ("older " + name), number), number
+        self.lines, self.printed = self.lines[done - 1 :], self.printed[done - 1 :]
+        self.states = self.states[done : done + 1] + self.states[done:]
+        self.name += " over schema %d" % number
+
+    def begin(self, path):
+        super().begin(path)
+        trials.copied(self.begun, path)
+
+    def shown(self, path):
+        """The tables as they are once they were raised; none where they are of neither schema."""
+        try:
+            return schemas.rows(path) if schemas.schema_of(path) in (self.number, reference.SCHEMA) else None
         except sqlite3.DatabaseError:
             return None
 
@@ -144,8 +178,7 @@ def found(path, row, count):
 
 def tried(program, row, failing, kind, path):
     """What went otherwise than it has to, in words; none where all went well."""
-    for part in (path, trials.log_of(path)):
-        part.unlink(missing_ok=True)
+    row.begin(path)
     it = failing.start([program, "run", path])
     count, well = answered(it, row, kind, path)
     if not ended(it, count) or not well:
@@ -161,7 +194,7 @@ def tried(program, row, failing, kind, path):
 
 
 def over_rows(program, own, sweep):
-    for row in [Row(name, own) for name in ROWS]:
+    for row in [Row(name, own) for name in ROWS] + [Older(program, name, number, own) for name, number in OLDER]:
         yield sweep.over(row.name, lambda failing: tried(program, row, failing, sweep.kind, own / "swept"))
 
 

@@ -5,8 +5,9 @@
 
 A fleet's day is carried out over a file. SQLite has to find the file whole, with the tables of `docs/TABLES.md`
 and the rows that `tools/reference.py` makes of the same day. A file that SQLite wrote, with the same rows, is
-adopted and answers alike, and so are copies. The page's queries have to tell what the day's answers told. And
-refusals that come before images or campaigns are read are answered where SQLite has damaged those rows.
+adopted and answers alike, and so are copies. The page's queries have to tell what the day's answers told. Files of
+older schemas, which SQLite makes of the rows of worked rows, are raised and answer as before, with the same kept
+replies. And refusals that come before images or campaigns are read are answered where SQLite has damaged those rows.
 """
 import json
 import re
@@ -22,6 +23,7 @@ sys.dont_write_bytecode = True
 import fleet
 import page_sums
 import reference
+import schemas
 import trials
 
 DAY = list(fleet.script(vehicles=9, ecus=4, rounds=3, images=14, campaigns=4, seed=13))
@@ -29,37 +31,12 @@ HALF = len(DAY) // 2
 SHOWS = [fleet.line("show", vehicle="v%06d" % number) for number in range(9)]
 
 
-def described(db):
-    """Each table as SQLite describes it: strictness, columns, keys and references."""
-    found = {}
-    listed = "SELECT name, strict FROM pragma_table_list WHERE schema = 'main' AND name <> 'sqlite_schema'"
-    for table, strict in db.execute(listed):
-        indexes = sorted((row[2:4], tuple(db.execute("SELECT name FROM pragma_index_info(?)", row[1:2])))
-                         for row in db.execute("PRAGMA index_list(%s)" % table))
-        columns = db.execute("PRAGMA table_info(%s)" % table).fetchall()
-        found[table] = strict, columns, indexes, db.execute("PRAGMA foreign_key_list(%s)" % table).fetchall()
-    return found
-
-
-def schemas(path):
-    with trials.read(path) as db, closing(sqlite3.connect(":memory:")) as wanted:
-        for statement in reference.schema():
-            wanted.execute(statement)
-        yield "the file's tables are those of the page", described(db) == described(wanted)
+def has_the_schema(path):
+    with trials.read(path) as db:
+        yield "the file's tables are those of the page", schemas.number_in(db) == reference.SCHEMA
         texts = db.execute("SELECT sql FROM sqlite_schema WHERE type = 'table' ORDER BY rowid")
         told = [row[0].split() for row in texts]
         yield "so is the text of each", told == [statement.split() for statement in reference.schema()]
-
-
-def written_by_sqlite(path, to):
-    """The same rows, table by table, in a file that SQLite makes."""
-    with trials.read(path) as db, closing(sqlite3.connect(to)) as made, made:
-        for statement in reference.schema():
-            made.execute(statement)
-        for table in trials.TABLES:
-            for row in db.execute("SELECT * FROM %s ORDER BY rowid" % table):
-                made.execute("INSERT INTO %s VALUES (%s)" % (table, ", ".join("?" * len(row))), row)
-    return to
 
 
 def backed_up(path, to):
@@ -93,7 +70,7 @@ def copies(program, own):
     half = own / "half"
     yield "the first half", trials.printed(program, half, DAY[:HALF]) is not None
     made = {
-        "a file that SQLite wrote": written_by_sqlite(half, own / "written"),
+        "a file that SQLite wrote": schemas.written(half, own / "written", reference.SCHEMA),
         "a backup by SQLite": backed_up(half, own / "backup"),
         "a backup by the page's commands": by_the_page(trials.copied(half, own / "other"), own / "page"),
         "a dump read again": dumped(half, own / "dumped"),
@@ -107,12 +84,16 @@ def copies(program, own):
         yield name + " is whole then", trials.faults(path) == []
 
 
+OURS = "INSERT INTO meta VALUES (1, 'uptane_desk', %d, 0, 0, 0)"
+
+
 def foreign(program, own):
     """Databases of others, and files that hold none, are refused and stay as they are."""
     made = {
         "another product's": ["CREATE TABLE meta (id INTEGER PRIMARY KEY, app TEXT, schema INTEGER)",
                               "INSERT INTO meta VALUES (1, 'other', 1)"],
-        "another schema's": reference.schema() + ["INSERT INTO meta VALUES (1, 'uptane_desk', 0, 0, 0, 0)"],
+        **{"schema %d's" % number: reference.schema() + [OURS % number] for number in (0, 4, -1, 2**62)},
+        **{"one set back to schema %d" % number: reference.schema() + [OURS % number] for number in schemas.OLDER},
         "one without our row": reference.schema(),
         "tables of the same names": ["CREATE TABLE %s (a INTEGER) STRICT" % table for table in trials.TABLES],
     }
@@ -130,6 +111,77 @@ def foreign(program, own):
 def is_refused(program, path):
     before = path.read_bytes()
     return trials.run(program, path, DAY[:1]) == (3, b"", trials.NO_DATABASE) and path.read_bytes() == before
+
+
+# ---- older schemas
+
+
+WORKED = ["first_manifest", "kept_reply_after_a_rotation", "equal_and_greater_releases", "withheld_for_a_need", "vehicles_in_turn"]
+FILES = [("director", "root.json"), ("director", "1.root.json"), ("image", "root.json"), ("image", "targets.json"),
+         ("image", "snapshot.json"), ("image", "timestamp.json"), ("image", "2.root.json")]
+
+
+def worked():
+    """Scripts after which a database is taken back to an older schema: worked rows, and half a day."""
+    for name in WORKED:
+        text = (trials.TOP / "rows" / name / "script").read_text(encoding="ascii")
+        yield name, [line for line in text.split("\n") if line]
+    yield "half a day", DAY[:HALF]
+
+
+def asked_again(lines):
+    """After a script: its vehicles are shown, files fetched, its lines given again, each vehicle sends one more manifest, and an ECU
+    of it is replaced, after which its last manifests come again and the new one reports."""
+    told = [json.loads(line) for line in lines]
+    names = [it["vehicle"] for it in told if it["do"] == "add_vehicle"]
+    yield from (fleet.line("show", vehicle=name) for name in names)
+    yield from (fleet.line("fetch", repository=repository, file=file) for repository, file in FILES)
+    yield from lines
+    for last in {it["vehicle"]: it for it in told if it["do"] == "bench"}.values():
+        reports = [report | {"counter": report["counter"] + 50} for report in last["reports"]]
+        yield json.dumps(last | {"counter": last["counter"] + 50, "reports": reports})
+        old = reports[-1]
+        new = {"ecu": old["ecu"] + "-new", "key": fleet.key(9)}
+        told = {"vehicle": last["vehicle"], "old": old["ecu"], "hardware": "HS", **new}
+        yield fleet.line("replace_ecu", **told)
+        yield json.dumps(last)
+        yield json.dumps(last | {"counter": last["counter"] + 51, "reports": reports})
+        yield json.dumps(last | {"counter": last["counter"] + 51, "reports": [*reports[:-1], old | new]})
+    yield from (fleet.line("show", vehicle=name) for name in names)
+
+
+def raised(program, path, asked, wanted, rules):
+    """A file of an older schema is raised as it is, then goes on as it would have gone on."""
+    before = schemas.rows(path)
+    yield "is taken", trials.printed(program, path, []) == []
+    yield "has the page's schema then", all(well for _, well in has_the_schema(path))
+    yield "has the same rows then", trials.rows(path) == before
+    yield "answers as before", trials.printed(program, path, asked) == wanted
+    after = trials.rows(path)
+    yield "has the rows of the rules", after == rules
+    yield "keeps each reply, byte for byte", before["kept"] != [] and set(before["kept"]) <= set(after["kept"])
+    yield "has no second hash", after["image_sha512"] == []
+    yield "is whole", trials.faults(path) == []
+
+
+def older(program, own):
+    """Databases of each older schema: made by its statements, and files of the program's own that are taken back to it."""
+    for name, lines in worked():
+        path, rules = own / name, own / (name + " by the rules")
+        yield name, trials.printed(program, path, lines) is not None
+        asked = list(asked_again(lines))
+        wanted = trials.expected(trials.copied(path, rules), asked)
+        for number in schemas.OLDER:
+            for made in (schemas.written, schemas.lowered):
+                to = made(path, own / ("%s %s %d" % (name, made.__name__, number)), number)
+                yield "%s, of schema %d" % (to.name, number), schemas.schema_of(to) == number
+                for what, well in raised(program, to, asked, wanted, trials.rows(rules)):
+                    yield "%s: it %s" % (to.name, what), well
+    path = schemas.written(own / "half a day", own / "retired", 2)
+    with closing(sqlite3.connect(path)) as db, db:
+        db.execute("INSERT INTO retired VALUES ('old-ecu', 'v000001')")
+    yield "schema 2 with a retired ECU is taken", trials.printed(program, path, []) == []
+    yield "and keeps it", trials.rows(path)["retired"] == [("old-ecu", "v000001")] and trials.faults(path) == []
 
 
 # ---- what refusals read
@@ -158,6 +210,10 @@ def close(name):
 def vehicle(name, *ecus):
     told = [{"ecu": ecu, "hardware": "HP", "key": fleet.key(7)} for ecu in ecus]
     return fleet.line("add_vehicle", vehicle=name, primary=ecus[0], ecus=told)
+
+
+def replaced(vehicle, old, ecu, at=fleet.START):
+    return fleet.line("replace_ecu", at, vehicle=vehicle, old=old, ecu=ecu, hardware="HP", key=fleet.key(7))
 
 
 def delivered(name, counter, *ecus, primary="P1", key=7, report_key=7, of=0, file=None):
@@ -209,6 +265,11 @@ def all_damaged():
     yield vehicle("V1", "P1", "S2"), "refused 22 VehicleTaken"
     yield vehicle("V3", "P3", "P3"), "refused 15 DuplicateEcu P3"
     yield vehicle("V3", "P3", "S1"), "refused 23 EcuTaken S1"
+    yield replaced("V1", "S1", "S2", LATE), "refused 3 MomentOutOfRange"
+    yield replaced("V3", "S1", "S2"), "refused 10 UnknownVehicle"
+    yield replaced("V1", "P2", "S2"), "refused 14 UnknownEcu P2"
+    yield replaced("V1", "P1", "S2"), "refused 31 PrimaryFixed"
+    yield replaced("V1", "S1", "P2"), "refused 23 EcuTaken P2"
     yield fleet.line("fetch", repository="image", file="none"), "refused 29 UnknownFile"
 
 
@@ -244,6 +305,7 @@ def unfounded():
     yield image("c"), "refused 8 NotFounded"
     yield close("mine"), "refused 8 NotFounded"
     yield delivered("V1", 4, "P1", "S1"), "refused 8 NotFounded"
+    yield replaced("V1", "S1", "S2"), "refused 8 NotFounded"
     yield fleet.line("found", **fleet.key_set(1)), LOST
 
 
@@ -314,29 +376,68 @@ def due_ecus(ecus, offered):
         yield campaign["campaign"], left
 
 
+def replacing(lines):
+    """The ECUs that are in each vehicle after the lines, those that were replaced in order, and the hardware of all."""
+    present, retired, kinds = {}, [], {}
+    for it in lines:
+        if it["do"] == "add_vehicle":
+            present[it["vehicle"]] = [ecu["ecu"] for ecu in it["ecus"]]
+            kinds |= {ecu["ecu"]: ecu["hardware"] for ecu in it["ecus"]}
+        if it["do"] == "replace_ecu":
+            ecus = present[it["vehicle"]]
+            ecus[ecus.index(it["old"])] = it["ecu"]
+            retired.append((it["vehicle"], it["old"]))
+            kinds[it["ecu"]] = it["hardware"]
+    return present, retired, kinds
+
+
+def replaced_day():
+    """The day with replacements between its rounds and, of some vehicles, at its end."""
+    day = list(fleet.script(vehicles=9, ecus=4, rounds=3, images=14, campaigns=4, seed=13, replaced=0.3))
+    present, _, kinds = replacing([json.loads(line) for line in day])
+    for vehicle in sorted(present)[::2]:
+        for old in present[vehicle][1:3]:
+            told = {"vehicle": vehicle, "old": old, "ecu": old + "-new", "hardware": kinds[old], "key": fleet.key(9)}
+            day.append(fleet.line("replace_ecu", **told))
+    return day
+
+
+def last_versions(lines, answers, retired):
+    """Each replaced ECU, vehicle by vehicle, with the last version whose manifest had a report of it."""
+    had = {}
+    for it, answer in zip(lines, answers):
+        for report in it.get("reports", []) if answer.startswith("reply ") else []:
+            had[report["ecu"]] = max(int(answer.split(" ")[3]), had.get(report["ecu"], 0))
+    return [(vehicle, ecu, had.get(ecu)) for vehicle, ecu in sorted(retired, key=lambda it: it[0])]
+
+
 def asked(program, own):
     path = own / "day"
-    script = [*DAY, *SHOWS]
+    script = [*replaced_day(), *SHOWS]
     answers = trials.printed(program, path, script)
     yield "the day", answers == trials.expected(own / "expected", script)
     if answers is None:
         return
     yield "its rows are those of the rules", trials.rows(path) == trials.rows(own / "expected")
     yield "SQLite finds it whole", trials.faults(path) == []
-    yield from schemas(path)
+    yield from has_the_schema(path)
     lines = [json.loads(line) for line in script]
     seen, told = sorted(set(shown(answers[-len(SHOWS):]))), last_told(answers)
     with trials.read(path) as db:
-        assigned, run, history, withheld, left = queries()
+        assigned, run, history, withheld, left, replaced, new = queries()
         yield "open assignments", sorted(db.execute(assigned)) == [(v, e, to) for v, e, _, to in seen if to]
         told_to_run = sorted((v, e, f) for f, _, v, e in db.execute(run))
-        yield "ECUs that run an image", told_to_run == [it[:3] for it in seen]
-        kinds = {e["ecu"]: e["hardware"] for it in lines if it["do"] == "add_vehicle" for e in it["ecus"]}
+        yield "ECUs that run an image", told_to_run == [it[:3] for it in seen if it[2] != "-"]
+        _, retired, kinds = replacing(lines)
         due = sorted(due_ecus([(v, kinds[e], f) for v, e, f, _ in seen], lines))
         yield "ECUs that a campaign has to reach", db.execute(left).fetchall() == due and any(n for _, n in due)
         causes = sorted((v, w[7], w[9] if w[8] == "need" else None, w[9] if w[8] == "conflict" else None)
                         for v, w in told.items() if "withheld" in w)
         yield "withheld plans", db.execute(withheld).fetchall() == causes and causes != []
+        versions = last_versions(lines, answers, retired)
+        yield "replaced ECUs", db.execute(replaced).fetchall() == versions and len(versions) > 10
+        unreported = [(v, e) for v, e, file, _ in seen if file == "-"]
+        yield "new ECUs that haven't reported", sorted(db.execute(new)) == unreported != []
         for vehicle, words in told.items():
             past = db.execute(history, {"vehicle": vehicle}).fetchall()
             replies = (w for w in (a.split(" ") for a in answers) if w[:2] == ["reply", vehicle])
@@ -349,6 +450,7 @@ def cases(program):
         yield from asked(program, own)
         yield from copies(program, own)
         yield from foreign(program, own)
+        yield from older(program, own)
         yield from read(program, own)
 
 

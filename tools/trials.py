@@ -9,7 +9,7 @@ from pathlib import Path
 import reference
 
 TOP = Path(__file__).resolve().parent.parent
-TABLES = ["meta", "role_key", "repo_file", "image", "campaign", "vehicle", "ecu", "kept"]
+TABLES = [reference.table_of(statement) for statement in reference.schema()]
 NO_DATABASE = b"uptane_desk: cannot open the database\n"
 
 

@@ -1,123 +1,200 @@
 #!/usr/bin/env python3
-"""A Primary ECU in small: builds and signs a vehicle version manifest, and checks the reply that comes back.
+"""A Primary ECU in small: builds and signs a vehicle version manifest, sends it, and verifies all that comes back.
 
     primary.py build < manifest-input.json        prints the body to deliver
     primary.py line AT < manifest-input.json      prints it as a `deliver` line of a script, at the moment AT
     primary.py send URL < manifest-input.json     posts it to the Director at http://HOST:PORT, and prints the reply
-    primary.py check KEYS < reply.json            checks a reply: KEYS is a file with the Director's public keys of each role
+    primary.py check SECRETS < reply.json         looks at a reply's signatures alone: SECRETS is a file with the Director's
+                                                  secrets of each role, which verify as they sign
+    primary.py round URL VEHICLE [IMAGES]         one round of a vehicle: a new manifest, the metadata of both repositories,
+                                                  and what is to be installed, from the folder IMAGES
 
 Nothing but Python's standard library is used. The input of `build` is one JSON object:
 
     {"vehicle": .., "primary": .., "key": HEX, "counter": N,
      "reports": [{"ecu": .., "key": HEX, "counter": N, "time": SECONDS, "attack": .., "file": .., "length": N, "sha256": HEX}, ..]}
 
-In a vehicle each ECU signs its own report with its own key and hands the envelope to the Primary; here one program holds all keys.
+VEHICLE is a file that holds what the vehicle knows, `vehicle.json` for one; it is written anew in each round. It holds secrets: the
+ECUs' and those of the repositories' roles. In a vehicle each ECU signs its own report with its own key and hands the envelope to
+the Primary, and checks the metadata once more; here one program holds all keys. Images aren't served by the repositories: a round
+takes them from a folder, by their filenames, and leaves out those that aren't there yet.
+
+The status is 0 where all went well, 1 with a message where it didn't, and 2 where the words are wrong.
 """
-import hashlib
-import hmac
+import http.client
 import json
+import os
+import random
 import sys
+import time
 import urllib.error
 import urllib.request
-from datetime import datetime, timedelta
+from pathlib import Path
 
-METHOD = "hmac-sha256"
-TRIES = 3
+sys.dont_write_bytecode = True
+
+import verify
+from envelopes import canonical, key_identifier, manifest
+
+# seconds: what an answer may take, and the waits between tries, each half as long again at random so that a fleet doesn't come at once
 PATIENCE = 20
+WAITS = (1, 3, 9)
 
 
-def canonical(value):
-    """The canonical text: compact, keys in byte order. Texts here are printable ASCII, numbers whole."""
-    return json.dumps(value, sort_keys=True, separators=(",", ":"))
+class Failed(Exception):
+    """What ends a round, told in one line."""
 
 
-def mac(key, text):
-    return hmac.new(key, text.encode("ascii"), hashlib.sha256).hexdigest()
+# ---- requests
 
 
-def key_identifier(public):
-    """The identifier of a public key: HMAC-SHA-256 of a fixed word under it, in lower case hex."""
-    return mac(public, "uptane-key-id")
-
-
-def moment(seconds):
-    """Seconds since 1970-01-01T00:00:00Z as the text of a moment."""
-    return (datetime(1970, 1, 1) + timedelta(seconds=seconds)).strftime("%Y-%m-%dT%H:%M:%SZ")
-
-
-def sealed(key, signed):
-    """The envelope round a canonical text, with one signature. The text stands in it as it is."""
-    signature = {"keyid": key_identifier(key), "method": METHOD, "sig": mac(key, signed)}
-    return '{"signatures":[%s],"signed":%s}' % (canonical(signature), signed)
-
-
-def report(given):
-    """An ECU version report, signed by the ECU."""
-    image = {"file": given["file"], "hashes": {"sha256": given["sha256"]}, "length": given["length"]}
-    payload = {
-        "attack": given.get("attack", ""),
-        "counter": given["counter"],
-        "ecu": given["ecu"],
-        "image": image,
-        "time": moment(given["time"]),
-        "type": "report",
-    }
-    return sealed(bytes.fromhex(given["key"]), canonical(payload))
-
-
-def manifest(given):
-    """The body of a vehicle version manifest, signed by the Primary."""
-    reports = ",".join(report(one) for one in given["reports"])
-    payload = '{"counter":%d,"primary":%s,"reports":[%s],"type":"manifest","vehicle":%s}' % (
-        given["counter"],
-        canonical(given["primary"]),
-        reports,
-        canonical(given["vehicle"]),
-    )
-    return sealed(bytes.fromhex(given["key"]), payload)
+def asked(url, body=None):
+    """The status and the text of an answer. Where none comes, or the service says that the fault is its own, the same is asked
+    again after a while: a manifest that was accepted meanwhile is answered by its kept reply."""
+    for wait in (*WAITS, None):
+        try:
+            request = urllib.request.Request(url, data=body and body.encode("ascii"), headers={"Connection": "close"})
+            with urllib.request.urlopen(request, timeout=PATIENCE) as answer:
+                return answer.status, answer.read().decode("ascii")
+        except urllib.error.HTTPError as refused:
+            status, said = refused.code, refused.read().decode("ascii", "replace")
+            if status not in (502, 503, 504) or wait is None:
+                return status, said
+        except (OSError, http.client.HTTPException, UnicodeError) as error:
+            if wait is None:
+                raise Failed("no answer from %s: %s" % (url, error)) from None
+        time.sleep(wait * random.uniform(1, 1.5))
 
 
 def send(url, body):
-    """Posts a manifest: the status and the body of the answer. Where none comes, the same manifest is sent again; one that was
-    accepted meanwhile is answered by its kept reply."""
-    asked = urllib.request.Request(url + "/director/manifest", data=body.encode("ascii"), method="POST")
-    for tries_left in reversed(range(TRIES)):
+    return asked(url + "/director/manifest", body)
+
+
+def fetcher(url):
+    """Fetches a file of a repository as a JSON value; none where there is none of that name."""
+
+    def fetch(name):
+        status, text = asked("%s/%s" % (url, name))
+        if status == 404:
+            return None
+        verify.expect(status == 200, "%s: %d %s", name, status, text)
+        return json.loads(text)
+
+    return fetch
+
+
+# ---- a round
+
+
+def new_manifest(told, now):
+    """The body of the next manifest: its counter and that of each report rise, and each ECU reports what it has."""
+    told["counter"] += 1
+    secrets, reports = {}, []
+    for ecu in told["ecus"]:
+        ecu["counter"] += 1
+        secrets[ecu["ecu"]] = ecu["secret"]
+        has = {name: ecu["installed"][name] for name in ("file", "length", "sha256")}
+        reports.append({"ecu": ecu["ecu"], "key": ecu["secret"], "counter": ecu["counter"], "time": now, "attack": ecu.get("attack", "")} | has)
+    made = {"vehicle": told["vehicle"], "primary": told["primary"], "key": secrets[told["primary"]]}
+    return manifest(made | {"counter": told["counter"], "reports": reports})
+
+
+def verified(told, reply, url, now):
+    """What is to be installed, by ECU, and what is trusted from now on of both repositories. The Director's Root files come first."""
+    fetch, secrets = fetcher(url), {key_identifier(key): key for key in map(bytes.fromhex, told["role_secrets"])}
+    ecus = {ecu["ecu"]: ecu for ecu in told["ecus"]}
+    director = verify.latest_root(told["director"], fetch, secrets, "director", now)
+    director["versions"] |= verify.check_reply(director, reply, secrets, told["vehicle"], now)
+    if not reply["targets"]["signed"]["targets"]:
+        return {}, {"director": director}
+    image = verify.latest_root(told["image"], fetch, secrets, "image", now)
+    files = {role: fetch("image/%s.json" % role) for role in verify.ROLES}
+    verify.expect(all(files.values()), "the Image repository lacks a file")
+    image["versions"] |= verify.check_files(image, files, secrets, "image", now)
+    return verify.check_targets(reply["targets"], files["targets"], ecus), {"director": director, "image": image}
+
+
+def answered(told, url, save):
+    """The reply to this round's manifest, verified. A manifest is kept until it was answered; one whose reply is old by now, of an
+    older Root or expired, can only ever get that same reply, so a new one follows it."""
+    for _ in range(3):
+        now = int(time.time())
+        if not told.get("pending"):
+            told["pending"] = new_manifest(told, now)
+            save()
+        status, text = send(url, told["pending"])
+        refused = json.loads(text) if status != 200 and text.startswith("{") else {}
+        if refused.get("error") == 13:
+            told["counter"], told["pending"] = int(refused["text"].split()[1]), None
+            continue
+        if status != 200:
+            told["pending"] = told["pending"] if status >= 500 else None
+            raise Failed("%d %s" % (status, text))
         try:
-            with urllib.request.urlopen(asked, timeout=PATIENCE) as answer:
-                return answer.status, answer.read().decode("ascii")
-        except urllib.error.HTTPError as refused:
-            return refused.code, refused.read().decode("ascii")
-        except OSError:
-            if not tries_left:
-                raise
+            return verified(told, json.loads(text), url, now)
+        except verify.Old as old:
+            print("again with a new manifest: %s" % old)
+            told["pending"] = None
+    raise Failed("the service's replies stay old: is its clock right?")
 
 
-def is_signed(envelope, keys, threshold):
-    """Whether at least so many of the keys have signed the envelope; a key counts once."""
-    signed = canonical(envelope["signed"])
-    valid = lambda key: any(
-        s["keyid"] == key_identifier(key) and s["method"] == METHOD and hmac.compare_digest(s["sig"], mac(key, signed))
-        for s in envelope["signatures"]
-    )
-    return sum(valid(key) for key in keys) >= threshold
+def install(told, due, folder):
+    """Puts each image that is there into its ECU."""
+    for ecu in told["ecus"]:
+        target = due.get(ecu["ecu"])
+        path = folder / target["file"] if target and folder else None
+        if target and not (path and path.is_file()):
+            print("%s is to install %s, which isn't here yet" % (ecu["ecu"], target["file"]))
+        elif target:
+            verify.check_image(target, path.read_bytes())
+            has = {"file": target["file"], "length": target["length"], "sha256": target["hashes"]["sha256"], "release": target["release"]}
+            ecu["installed"] = has
+            print("%s installed %s" % (ecu["ecu"], target["file"]))
+
+
+def go_round(url, path, images):
+    told = json.loads(path.read_text(encoding="ascii"))
+
+    def save():
+        """Writes the file whole or not at all, for its owner alone."""
+        new = path.with_name(path.name + ".new")
+        with open(os.open(new, os.O_WRONLY | os.O_CREAT | os.O_TRUNC, 0o600), "w", encoding="ascii") as file:
+            file.write(json.dumps(told, indent=1) + "\n")
+        os.replace(new, path)
+
+    try:
+        due, trusted = answered(told, url, save)
+        told |= trusted | {"pending": None}
+        save()
+        install(told, due, images)
+        print("verified: version %d, targets %d" % (told["director"]["versions"]["targets"], len(due)))
+    finally:
+        save()
+
+
+# ---- words
 
 
 def check(text, roles):
-    """Checks a reply: each file under its role's keys, the versions, and that the Timestamp names this very Snapshot."""
+    """Looks at a reply alone: each file under its role's keys, its versions, and that the Timestamp names this very Snapshot."""
     reply = json.loads(text)
-    for role in ("timestamp", "snapshot", "targets"):
-        keys = [bytes.fromhex(key) for key in roles[role]["keys"]]
-        if not is_signed(reply[role], keys, roles[role]["threshold"]):
-            return "%s isn't signed by its role's keys" % role
-        if reply[role]["signed"]["version"] != reply["version"] or reply[role]["signed"]["vehicle"] != reply["vehicle"]:
-            return "%s is of another version or vehicle" % role
-    named = reply["timestamp"]["signed"]["meta"]["snapshot.json"]["hashes"]["sha256"]
-    if hashlib.sha256(canonical(reply["snapshot"]).encode("ascii")).hexdigest() != named:
-        return "the Timestamp names another Snapshot"
-    return None
+    trust = {"root": {"signed": root_of(roles)}, "versions": {}}
+    versions = verify.check_files(trust, reply, secrets_of(roles), "director", 0, reply["vehicle"])
+    verify.expect(set(versions.values()) == {reply["version"]}, "the files of the reply are of several versions")
 
 
-def main(words):
+def secrets_of(roles):
+    every = [bytes.fromhex(key) for told in roles.values() for key in told["secrets"]]
+    return {key_identifier(key): key for key in every}
+
+
+def root_of(roles):
+    """What a Root file says of these roles."""
+    identifiers = lambda told: [key_identifier(bytes.fromhex(key)) for key in told["secrets"]]
+    return {"roles": {role: {"keyids": identifiers(told), "threshold": told["threshold"]} for role, told in roles.items()}}
+
+
+def carried_out(words):
     if words == ["build"]:
         print(manifest(json.load(sys.stdin)))
     elif len(words) == 2 and words[0] == "line":
@@ -127,14 +204,24 @@ def main(words):
         print(answer if status == 200 else "%d %s" % (status, answer))
         return 0 if status == 200 else 1
     elif len(words) == 2 and words[0] == "check":
-        with open(words[1], encoding="ascii") as keys:
-            fault = check(sys.stdin.read(), json.load(keys))
-        print(fault or "the reply is signed as it must be")
-        return 1 if fault else 0
+        check(sys.stdin.read(), json.loads(Path(words[1]).read_text(encoding="ascii")))
+        print("the reply is signed as it must be")
+    elif len(words) in (3, 4) and words[0] == "round":
+        go_round(words[1].rstrip("/"), Path(words[2]), Path(words[3]) if len(words) == 4 else None)
     else:
         print(__doc__.strip(), file=sys.stderr)
         return 2
     return 0
+
+
+def main(words):
+    try:
+        return carried_out(words)
+    except (Failed, verify.Refused, OSError) as wrong:
+        print("primary: %s" % wrong, file=sys.stderr)
+    except (ValueError, KeyError, TypeError, AttributeError) as wrong:
+        print("primary: that has another form than it must have: %r" % wrong, file=sys.stderr)
+    return 1
 
 
 if __name__ == "__main__":

@@ -5,7 +5,7 @@ use Rattle.std.specs.List.{AllByRecursion, enumerate_from}
 use Rattle.std.specs.Cmp.Lexicographic.{bytes_decides}
 use Rattle.std.specs.FinMap as table
 use Rattle.std.proofs.Math.Logic.{∥∥₁_map}
-use Rattle.std.proofs.lemmas.Bool.{ne_eqb}
+use Rattle.std.proofs.lemmas.Bool.{ne_eqb, or_parts}
 use Rattle.std.proofs.lemmas.List.{length-append}
 use Rattle.sqlite_disk.specs.declared.Disk.{Ghosts as DiskGhosts}
 use Rattle.sqlite.specs.Files.{over_files, file_state}
@@ -23,7 +23,7 @@ use Rattle.up_sign.specs.Schemes.{Rules}
 use Rattle.up_manifest.specs.declared.manifest.Incoming.{Incoming}
 use Rattle.up_manifest.specs.Manifests.{incoming_in}
 use Rattle.up_machine.specs.declared.command.Command.{Command}
-use Rattle.up_machine.specs.declared.command.Command.TheVariants.{Found, Rotate, AddImage, Refresh, AddVehicle, OpenCampaign, CloseCampaign, Deliver, Fetch}
+use Rattle.up_machine.specs.declared.command.Command.TheVariants.{Found, Rotate, AddImage, Refresh, AddVehicle, ReplaceEcu, OpenCampaign, CloseCampaign, Deliver, Fetch}
 use Rattle.up_machine.specs.declared.answer.Answer.TheVariants.{Reply as Replied, Refused}
 use Rattle.up_machine.specs.State.{Entry, Vehicle, State, nth, version}
 use Rattle.up_machine.specs.Deciding.{Outcome, already}
@@ -34,7 +34,7 @@ use Rattle.up_machine.specs.Replies.{reply_text, reply_to}
 use Rattle.up_machine.specs.RepeatLaws.{RepeatsAreStale, CountersFindRepeats, ServedIsThinned, ServedStaysSound}
 use Rattle.up_machine.specs.Repeats.{KeptEntry, Sent, entry_signed, repeat_in, repeat_of, served_as, serve, meet, after, thinned, vehicle_of, delivers_own}
 use Rattle.up_machine.specs.Sound.{IsSound}
-use Rattle.up_machine.proofs.Decided.{IsDelivered, found_ok, rotate_ok, image_ok, refresh_ok, vehicle_ok, open_ok, close_ok, delivery_ok, fetch_ok}
+use Rattle.up_machine.proofs.Decided.{IsDelivered, found_ok, rotate_ok, image_ok, refresh_ok, vehicle_ok, replace_ok, open_ok, close_ok, delivery_ok, fetch_ok}
 use Rattle.up_machine.proofs.Growing.{by_decision}
 use Rattle.up_machine.proofs.Lists.{none_passes}
 use Rattle.up_machine.proofs.Receiving.{received, manifest_received}
@@ -44,16 +44,19 @@ use Rattle.up_machine.proofs.Places.{nth_last}
 use Rattle.up_machine.proofs.Fetched.{in_time}
 use Rattle.up_rows.specs.StateRows.{rows_of_state}
 use Rattle.up_store.specs.Connections.{KeepsState}
-use Rattle.up_desk.specs.Laws.{ActsOnce, DeliverNone, ActsOnceFrom, DeliveriesActOnce, FindsState, IsCalled, CrashesActOnce, ReopenedActsOnce}
+use Rattle.up_desk.specs.Laws.{ActsOnce, replaced_in, replaces_own, LeaveAlone, ActsOnceFrom, DeliveriesActOnce, FindsState, IsCalled, CrashesActOnce, ReopenedActsOnce}
 use Rattle.up_desk.specs.Serving.{HoldsState}
 
--- ---- a vehicle of which nothing is delivered
+-- ---- a vehicle that is left alone
 
 abbrev Has : Name → Vehicle → State → Type 0
 Has name v s = table.get s.vehicles name ≡ Some v
 
 abbrev owns : Name → Command → Bool
 owns name c = unwrap_or (option_map (λ vehicle. bytes_eq vehicle name) (vehicle_of c)) false
+
+abbrev replaces : Name → Command → Bool
+replaces name c = unwrap_or (option_map (λ vehicle. bytes_eq vehicle name) (replaced_in c)) false
 
 unchanged : (s : State) (o : Outcome) (name : Name) (v : Vehicle) → already s ≡ o → Has name v s → Has name v o.next
 unchanged s o name v is there = subst (λ (o : Outcome). Has name v o.next) is there
@@ -68,46 +71,52 @@ other_vehicle k s at body o name v other is there =
     subst (λ (o : Outcome). Has name v o.next) is.is
     (get_other s.vehicles r.incoming.manifest.vehicle name _ (λ same. let yes = (bytes_decides r.incoming.manifest.vehicle name).1 same in cc) ∙ there)
 
-stays_outcome : (k : Rules) (s : State) (at : ℕ) (c : Command) (o : Outcome) (name : Name) (v : Vehicle) → owns name c ≡ false → Has name v s → decide k s at c ≡ Ok o → Has name v o.next
-stays_outcome k s at (Found keys) o name v other there h = subst (λ (o : Outcome). Has name v o.next) (found_ok k s at keys o h).is there
-stays_outcome k s at (Rotate keys) o name v other there h = subst (λ (o : Outcome). Has name v o.next) (rotate_ok k s at keys o h).is there
-stays_outcome k s at (AddImage image) o name v other there h = elim (image_ok s at image o h) [
+stays_outcome : (k : Rules) (s : State) (at : ℕ) (c : Command) (o : Outcome) (name : Name) (v : Vehicle) → owns name c ≡ false → replaces name c ≡ false → Has name v s → decide k s at c ≡ Ok o → Has name v o.next
+stays_outcome k s at (Found keys) o name v other apart there h = subst (λ (o : Outcome). Has name v o.next) (found_ok k s at keys o h).is there
+stays_outcome k s at (Rotate keys) o name v other apart there h = subst (λ (o : Outcome). Has name v o.next) (rotate_ok k s at keys o h).is there
+stays_outcome k s at (AddImage image) o name v other apart there h = elim (image_ok s at image o h) [
   | inl same ↦ unchanged s o name v same there
   | inr new ↦ subst (λ (o : Outcome). Has name v o.next) new.is there
 ]
-stays_outcome k s at (Refresh version) o name v other there h = subst (λ (o : Outcome). Has name v o.next) (refresh_ok s at version o h).is there
-stays_outcome k s at (AddVehicle new) o name v other there h = elim (vehicle_ok k s at new o h) [
+stays_outcome k s at (Refresh version) o name v other apart there h = subst (λ (o : Outcome). Has name v o.next) (refresh_ok s at version o h).is there
+stays_outcome k s at (AddVehicle new) o name v other apart there h = elim (vehicle_ok k s at new o h) [
   | inl same ↦ unchanged s o name v same there
   | inr is ↦ subst (λ (o : Outcome). Has name v o.next) is.is (kept_by_insert s.vehicles new.vehicle name _ v is.none there)
 ]
-stays_outcome k s at (OpenCampaign campaign) o name v other there h = elim (open_ok s at campaign o h) [
+stays_outcome k s at (ReplaceEcu new) o name v other apart there h =
+    let is = replace_ok k s at new o h in
+    subst (λ (o : Outcome). Has name v o.next) is.is
+    (get_other s.vehicles new.vehicle name _ (λ same. let yes = (bytes_decides new.vehicle name).1 same in cc) ∙ there)
+stays_outcome k s at (OpenCampaign campaign) o name v other apart there h = elim (open_ok s at campaign o h) [
   | inl same ↦ unchanged s o name v same there
   | inr is ↦ subst (λ (o : Outcome). Has name v o.next) is.is there
 ]
-stays_outcome k s at (CloseCampaign campaign) o name v other there h = elim (close_ok s at campaign o h) [
+stays_outcome k s at (CloseCampaign campaign) o name v other apart there h = elim (close_ok s at campaign o h) [
   | inl same ↦ unchanged s o name v same there
   | inr is ↦ subst (λ (o : Outcome). Has name v o.next) is.is there
 ]
-stays_outcome k s at (Deliver body) o name v other there h = other_vehicle k s at body o name v other (delivery_ok k s at body o h) there
-stays_outcome k s at (Fetch repository file) o name v other there h = subst (λ (o : Outcome). Has name v o.next) (fetch_ok k s at repository file o h).2 there
+stays_outcome k s at (Deliver body) o name v other apart there h = other_vehicle k s at body o name v other (delivery_ok k s at body o h) there
+stays_outcome k s at (Fetch repository file) o name v other apart there h = subst (λ (o : Outcome). Has name v o.next) (fetch_ok k s at repository file o h).2 there
 
-stays_served : (k : Rules) (s : State) (at : ℕ) (c : Command) (name : Name) (v : Vehicle) → owns name c ≡ false → Has name v s → Has name v (serve k s at c).next
+stays_served : (k : Rules) (s : State) (at : ℕ) (c : Command) (name : Name) (v : Vehicle) → owns name c ≡ false → replaces name c ≡ false → Has name v s → Has name v (serve k s at c).next
 unfolding serve step
-stays_served k s at c name v other there = by_repeat (repeat_of k s at c)
+stays_served k s at c name v other apart there = by_repeat (repeat_of k s at c)
   where
     by_repeat : (o : Option KeptEntry) → Has name v (served_as k s at c o).next
-    by_repeat None = by_decision s (decide k s at c) (Has name v) there (λ o. stays_outcome k s at c o name v other there)
+    by_repeat None = by_decision s (decide k s at c) (Has name v) there (λ o. stays_outcome k s at c o name v other apart there)
     by_repeat (Some r) = there
 
-stays_met : (k : Rules) (s : State) (m : Sent) (name : Name) (v : Vehicle) → (lost : Bool) → m.lost ≡ lost → IsTrue (lost || not (delivers_own name m)) → Has name v s → Has name v (meet k s m).next
+stays_met : (k : Rules) (s : State) (m : Sent) (name : Name) (v : Vehicle) → (lost : Bool) → m.lost ≡ lost → IsTrue (lost || not (delivers_own name m || replaces_own name m)) → Has name v s → Has name v (meet k s m).next
 stays_met k s m name v true is none there = rw is there
-stays_met k s m name v false is none there = rw is (stays_served k s m.item.at m.item.command name v (not_own (delivers_own name m) none) there)
+stays_met k s m name v false is none there =
+    let apart = or_parts (delivers_own name m) (replaces_own name m) (not_own (delivers_own name m || replaces_own name m) none) in
+    rw is (stays_served k s m.item.at m.item.command name v apart.0 apart.1 there)
   where
     not_own : (b : Bool) → IsTrue (not b) → b ≡ false
     not_own true h = cc
     not_own false h = refl
 
-vehicle_stays : (k : Rules) (s : State) (name : Name) (v : Vehicle) (between : List Sent) → DeliverNone name between → Has name v s → Has name v (after k s between)
+vehicle_stays : (k : Rules) (s : State) (name : Name) (v : Vehicle) (between : List Sent) → LeaveAlone name between → Has name v s → Has name v (after k s between)
 vehicle_stays k s name v [] none there = there
 vehicle_stays k s name v (m ∷ between) none there = vehicle_stays k (meet k s m).next name v between none.1 (stays_met k s m name v m.lost refl none.0 there)
 

@@ -6,7 +6,7 @@ use Rattle.up_canon.specs.declared.refusal.Refusal.{Refusal}
 use Rattle.up_canon.proofs.Steps.{one_value}
 use Rattle.up_sign.specs.Schemes.{Rules}
 use Rattle.up_machine.specs.declared.command.Command.{Command}
-use Rattle.up_machine.specs.declared.command.Command.TheVariants.{Found, Rotate, AddImage, Refresh, AddVehicle, OpenCampaign, CloseCampaign, Deliver, Fetch}
+use Rattle.up_machine.specs.declared.command.Command.TheVariants.{Found, Rotate, AddImage, Refresh, AddVehicle, ReplaceEcu, OpenCampaign, CloseCampaign, Deliver, Fetch}
 use Rattle.up_machine.specs.declared.answer.Answer.TheVariants.{Reply as Replied}
 use Rattle.up_machine.specs.declared.answer.Reply.{Reply}
 use Rattle.up_machine.specs.State.{Entry, Vehicle, State}
@@ -14,7 +14,7 @@ use Rattle.up_machine.specs.Deciding.{Outcome}
 use Rattle.up_machine.specs.Deliveries.{entry_of, with_entry}
 use Rattle.up_machine.specs.Machine.{decide, outcome_of, step}
 use Rattle.up_machine.specs.Repeats.{served_as, serve}
-use Rattle.up_machine.proofs.Decided.{found_ok, rotate_ok, image_ok, refresh_ok, vehicle_ok, open_ok, close_ok, delivery_ok, fetch_ok}
+use Rattle.up_machine.proofs.Decided.{found_ok, rotate_ok, image_ok, refresh_ok, vehicle_ok, replace_ok, open_ok, close_ok, delivery_ok, fetch_ok}
 use Rattle.up_machine.proofs.Receiving.{received}
 use Rattle.up_machine.proofs.Tables.{get_same}
 use Rattle.up_desk.specs.Laws.{NewRepliesCommit}
@@ -43,6 +43,7 @@ changed k s at (AddVehicle new) o reply h replied = λ same. elim (vehicle_ok k 
   | inl is ↦ no_reply o _ reply is replied (λ e. cc)
   | inr is ↦ no_reply o _ reply is.is replied (λ e. cc)
 ]
+changed k s at (ReplaceEcu new) o reply h replied = λ same. no_reply o _ reply (replace_ok k s at new o h).is replied (λ e. cc)
 changed k s at (OpenCampaign campaign) o reply h replied = λ same. elim (open_ok s at campaign o h) [
   | inl is ↦ no_reply o _ reply is replied (λ e. cc)
   | inr is ↦ no_reply o _ reply is.is replied (λ e. cc)

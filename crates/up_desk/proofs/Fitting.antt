@@ -22,26 +22,28 @@ use Rattle.up_machine.specs.declared.decision.RootRows.{RootRows}
 use Rattle.up_machine.specs.declared.rows.EcuRow.{EcuRow}
 use Rattle.up_machine.specs.declared.rows.Founding.{Founding}
 use Rattle.up_machine.specs.declared.rows.VehicleRows.{VehicleRows}
+use Rattle.up_machine.specs.declared.vehicle.Replacement.{Replacement}
 use Rattle.up_machine.specs.Keys.{role_fits, keys_fit, threshold_fits, secret_fits, repository_fits, key_set_fits}
 use Rattle.up_machine.specs.Vehicles.{NewVehicleData}
-use Rattle.up_machine.specs.State.{Entry, Root, Vehicle, State, nth, root_at}
+use Rattle.up_machine.specs.State.{Entry, Root, Vehicle, State, nth, root_at, added}
 use Rattle.up_machine.specs.Sound.{IsSound}
 use Rattle.up_machine.specs.Deciding.{Outcome, done}
-use Rattle.up_machine.specs.Decisions.{IsDone, HasRootRows, HasRegisterRows, HasAcceptedRows}
+use Rattle.up_machine.specs.Decisions.{IsDone, HasRootRows, HasRegisterRows, HasAcceptedRows, GivesReplacement}
 use Rattle.up_machine.specs.Deliveries.{with_entry}
-use Rattle.up_machine.specs.Inventory.{with_campaign, decide_open, with_vehicle, decide_vehicle}
+use Rattle.up_machine.specs.Inventory.{with_campaign, decide_open, with_vehicle, decide_vehicle, with_replacement, decide_replace}
 use Rattle.up_machine.specs.Repositories.{stamped, with_root, with_image, decide_found, decide_rotate, decide_image, decide_refresh}
 use Rattle.up_machine.specs.Rows.{rows_of, reply_kept}
 use Rattle.up_machine.proofs.Decided.{found_ok, rotate_ok}
 use Rattle.up_machine.proofs.Lists.{and_left, and_right}
+use Rattle.up_machine.proofs.ReplacedRows.{rows_have}
 use Rattle.up_machine.proofs.SoundRows.{row_names}
 use Rattle.up_machine.proofs.Places.{nth_last}
 use Rattle.up_rows.specs.StateRows.{rows_of_state, root_row, ecu_of}
-use Rattle.up_rows.specs.Changes.{with_root_rows, with_register_rows, with_image_rows, with_vehicle_rows, with_campaign_row, with_accepted_rows}
-use Rattle.up_rows.specs.Laws.{VehiclesAreFound, RootsAreAdded, FilesAreReplaced, ImagesAreAdded, VehiclesAreAdded, CampaignsAreWritten, ManifestsAreAdded}
-use Rattle.up_rows.specs.Fitting.{NewImagesAreNew, NewVehiclesAreNew, NewCampaignsAreNew}
+use Rattle.up_rows.specs.Changes.{with_root_rows, with_register_rows, with_image_rows, with_vehicle_rows, with_replaced_rows, with_campaign_row, with_accepted_rows}
+use Rattle.up_rows.specs.Laws.{VehiclesAreFound, RootsAreAdded, FilesAreReplaced, ImagesAreAdded, VehiclesAreAdded, EcusAreReplaced, CampaignsAreWritten, ManifestsAreAdded}
+use Rattle.up_rows.specs.Fitting.{NewImagesAreNew, NewVehiclesAreNew, ReplacementsFit, NewCampaignsAreNew}
 use Rattle.up_rows.proofs.Told.{ecus_back}
-use Rattle.up_store.specs.Fitting.{IsNextRoot, IsSameRoot, IsNewImage, IsNewVehicle, IsClosing, IsNewCampaign, IsRecorded}
+use Rattle.up_store.specs.Fitting.{IsNextRoot, IsSameRoot, IsNewImage, IsNewVehicle, IsReplacement, IsClosing, IsNewCampaign, IsRecorded}
 use Rattle.up_store.specs.Listing.{IsOfLastRoot}
 use Rattle.up_store.specs.Typed.{HasKeys, HaveKeys, EachHasKeys}
 use Rattle.up_desk.proofs.Steps.{WillWrite}
@@ -182,7 +184,7 @@ rotation_fits k s at keys new sound added it = record {
 -- ---- vehicles
 
 pub vehicle_fits : (k : Rules) (s : State) (at : ℕ) (new : NewVehicleData) (row : VehicleRows) → VehiclesAreFound → VehiclesAreAdded → NewVehiclesAreNew
-    → IsDone (λ r. r ≡ rows_of new.vehicle (record { primary = new.primary; ecus = new.ecus; entries = [] })) (with_vehicle s new) row (decide_vehicle k s at new)
+    → IsDone (λ r. r ≡ rows_of new.vehicle (added new)) (with_vehicle s new) row (decide_vehicle k s at new)
     → WillWrite k s (IsNewVehicle row) (λ rows. with_vehicle_rows rows row) Done (decide_vehicle k s at new)
 vehicle_fits k s at new row found added fresh it =
     let none = (fresh k s at new it.0).none in record {
@@ -190,6 +192,23 @@ vehicle_fits k s at new row found added fresh it =
       computed_is = it.0;
       fit = ap (λ (r : VehicleRows). table.get (rows_of_state k s).vehicles r.vehicle.vehicle) it.1 ∙ found k s new.vehicle ∙ ap (option_map (rows_of new.vehicle)) none;
       rows = ap (with_vehicle_rows (rows_of_state k s)) it.1 ∙ added k s new none;
+    }
+
+pub replacement_fits : (k : Rules) (s : State) (at : ℕ) (new : Replacement) → IsSound k s → VehiclesAreFound → EcusAreReplaced → ReplacementsFit
+    → GivesReplacement s new (Ok tt) (decide_replace k s at new)
+    → WillWrite k s (IsReplacement new) (λ rows. with_replaced_rows rows new) Done (decide_replace k s at new)
+replacement_fits k s at new sound found replaced fit it =
+    let v = it.0 in
+    let fits = fit k s at new v sound it.1 it.2 in record {
+      next = with_replacement s new v;
+      computed_is = it.2;
+      fit = record {
+        was = rows_of new.vehicle v;
+        there = found k s new.vehicle ∙ ap (option_map (rows_of new.vehicle)) it.1;
+        has = rows_have v new.old v.ecus ∙ fits.has;
+        once = ap first_repeated (row_names v v.ecus) ∙ fits.once;
+      };
+      rows = replaced k s new v sound it.1 fits.free;
     }
 
 recorded : (k : Rules) (s : State) (name : Name) (v : Vehicle) (e : Entry) (new : AcceptedRows) → IsSound k s → VehiclesAreFound → table.get s.vehicles name ≡ Some v → HasAcceptedRows k s name v e new

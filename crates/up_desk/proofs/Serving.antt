@@ -12,7 +12,8 @@ use Rattle.up_canon.proofs.Steps.{bind-ok, bind-err}
 use Rattle.up_sign.specs.Schemes.{Rules}
 use Rattle.up_manifest.specs.Manifests.{largest_body, incoming_in}
 use Rattle.up_machine.specs.declared.command.Command.{Command}
-use Rattle.up_machine.specs.declared.command.Command.TheVariants.{Found, Rotate, AddImage, Refresh, AddVehicle, OpenCampaign, CloseCampaign, Deliver, Fetch}
+use Rattle.up_machine.specs.declared.command.Command.TheVariants.{Found, Rotate, AddImage, Refresh, AddVehicle, ReplaceEcu, OpenCampaign, CloseCampaign, Deliver, Fetch}
+use Rattle.up_machine.specs.declared.vehicle.Replacement.{Replacement}
 use Rattle.up_machine.specs.declared.answer.Answer.{Answer}
 use Rattle.up_machine.specs.declared.answer.Answer.TheVariants.{Reply as Replied, Refused}
 use Rattle.up_machine.specs.Keys.{public_fits}
@@ -25,7 +26,7 @@ use Rattle.up_machine.specs.State.{State, empty_state}
 use Rattle.up_machine.specs.Replies.{reply_to}
 use Rattle.up_machine.specs.Deciding.{Outcome, check_moment}
 use Rattle.up_machine.specs.Repositories.{decide_found, decide_rotate, decide_image, decide_refresh, decide_fetch}
-use Rattle.up_machine.specs.Inventory.{decide_vehicle, decide_open, decide_close}
+use Rattle.up_machine.specs.Inventory.{decide_vehicle, decide_replace, decide_open, decide_close}
 use Rattle.up_machine.specs.Deliveries.{Received, receive_manifest, receive, decide_received, decide_delivery}
 use Rattle.up_machine.specs.Decisions.{resolve, decide_incoming}
 use Rattle.up_machine.specs.Machine.{decide, outcome_of, step}
@@ -59,12 +60,13 @@ stopped_or_lost m f r h = by_loss (is_memory r) (is_store r) h
     by_loss false false h = bind-err m f r h
 
 pub late_due : (k : Rules) (s : State) (at : ℕ) (c : Command) → last_command_moment < at → outcome_due k s at c ≡ Err MomentOutOfRange
-unfolding decide_found decide_rotate decide_image decide_refresh decide_fetch decide_vehicle decide_open decide_close
+unfolding decide_found decide_rotate decide_image decide_refresh decide_fetch decide_vehicle decide_replace decide_open decide_close
 late_due k s at (Found keys) h = bind-err _ _ _ (too_late at h)
 late_due k s at (Rotate keys) h = bind-err _ _ _ (too_late at h)
 late_due k s at (AddImage image) h = bind-err _ _ _ (too_late at h)
 late_due k s at (Refresh version) h = bind-err _ _ _ (too_late at h)
 late_due k s at (AddVehicle new) h = bind-err _ _ _ (too_late at h)
+late_due k s at (ReplaceEcu new) h = bind-err _ _ _ (too_late at h)
 late_due k s at (OpenCampaign campaign) h = bind-err _ _ _ (too_late at h)
 late_due k s at (CloseCampaign name) h = bind-err _ _ _ (too_late at h)
 late_due k s at (Deliver body) h = bind-err _ _ _ (too_late at h)
@@ -87,6 +89,12 @@ pub unfit_vehicle : (k : Rules) (s : State) (at : ℕ) (new : NewVehicleData) �
     → decide_vehicle k s at new ≡ Err (BadShape (codes "key"))
 unfolding decide_vehicle
 unfit_vehicle k s at new h none = bind-ok _ _ tt (in_time at h) ∙ bind-err _ _ _ (ap (λ b. unless b (BadShape (codes "key"))) none)
+
+-- and so is an ECU
+pub unfit_ecu : (k : Rules) (s : State) (at : ℕ) (new : Replacement) → at ≤ last_command_moment → public_fits k new.ecu.public ≡ false
+    → decide_replace k s at new ≡ Err (BadShape (codes "key"))
+unfolding decide_replace
+unfit_ecu k s at new h none = bind-ok _ _ tt (in_time at h) ∙ bind-err _ _ _ (ap (λ b. unless b (BadShape (codes "key"))) none)
 
 pub by_key : (r : Refusal) (computed : Result Outcome Refusal) → computed ≡ Err (BadShape (codes "key")) → r ≡ BadShape (codes "key") → MatchBool (is_lost_by r) ⊤ (computed ≡ Err r)
 by_key r computed is same = subst (λ q. MatchBool (is_lost_by q) ⊤ (computed ≡ Err q)) (sym same) is
@@ -133,6 +141,7 @@ due_is k s at (Rotate keys) = refl
 due_is k s at (AddImage image) = refl
 due_is k s at (Refresh version) = refl
 due_is k s at (AddVehicle new) = refl
+due_is k s at (ReplaceEcu new) = refl
 due_is k s at (OpenCampaign campaign) = refl
 due_is k s at (CloseCampaign name) = refl
 due_is k s at (Deliver body) = delivered k s at body
@@ -193,6 +202,15 @@ key_outright k new c result is refused =
     subst (λ (d : Command). IfSome (outright_in_time k d) (λ r. result ≡ Err r)) (sym is) (by_test (list_all (λ e. public_fits k e.public) new.ecus) refl)
   where
     by_test : (t : Bool) → list_all (λ e. public_fits k e.public) new.ecus ≡ t → IfSome (if t then None else Some (BadShape (codes "key"))) (λ r. result ≡ Err r)
+    by_test true is = tt
+    by_test false is = refused is
+
+pub ecu_outright : (k : Rules) (new : Replacement) (c : Command) (result : Result Answer Refusal) → c ≡ ReplaceEcu new
+    → (public_fits k new.ecu.public ≡ false → result ≡ Err (BadShape (codes "key"))) → IfSome (outright_in_time k c) (λ r. result ≡ Err r)
+ecu_outright k new c result is refused =
+    subst (λ (d : Command). IfSome (outright_in_time k d) (λ r. result ≡ Err r)) (sym is) (by_test (public_fits k new.ecu.public) refl)
+  where
+    by_test : (t : Bool) → public_fits k new.ecu.public ≡ t → IfSome (if t then None else Some (BadShape (codes "key"))) (λ r. result ≡ Err r)
     by_test true is = tt
     by_test false is = refused is
 

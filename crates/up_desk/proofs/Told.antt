@@ -1,7 +1,8 @@
 -- What is read of the rows of a state is the state's.
 use Rattle.std.proofs.Common.{◌≡◌, ℕ, List, [], ◌∷◌, Bool, true, false, cond, T, Option, Some, None, length, map, refl, sym, ap, ap₂, ◌∙◌, arith, subst}
-use Rattle.std.specs.Prelude.{◌||◌, ◌&&◌, ◌==◌, bytes_eq, is_none, is_some, option_map, option_and_then, unwrap_or, find, filter, flat_map}
-use Rattle.std.specs.List.{list_any, AllByRecursion}
+use Rattle.std.specs.Prelude.{◌&&◌, ◌==◌, bytes_eq, is_none, is_some, option_map, option_and_then, unwrap_or, find, filter, flat_map}
+use Rattle.std.specs.List.{AllByRecursion}
+use Rattle.std.specs.Option.{option_or}
 use Rattle.std.specs.FinMap as table
 use Rattle.std.specs.FinMap.Entries.{below_all, is_sorted}
 use Rattle.std.specs.FinMap.Entries as entries
@@ -9,6 +10,7 @@ use Rattle.std.specs.Ordering.{nat_cmp, eq_by_cmp, is_eq, is_lt}
 use Rattle.std.specs.declared.cmp.Ordering.{Ordering}
 use Rattle.std.specs.declared.cmp.Ordering.TheVariants.{Less, Equal, Greater}
 use Rattle.std.specs.Cmp.{tied_itself}
+use Rattle.std.proofs.lemmas.Bool.{or_parts}
 use Rattle.std.proofs.lemmas.Bool.Decides.{nat_tests}
 use Rattle.std.proofs.lemmas.Cmp.{nat_list_cmp_total}
 use Rattle.std.specs.Cmp.Lexicographic.{slice_cmp}
@@ -19,10 +21,10 @@ use Rattle.up_machine.specs.declared.rows.VehicleRow.{VehicleRow}
 use Rattle.up_machine.specs.declared.rows.VehicleRows.{VehicleRows}
 use Rattle.up_machine.specs.declared.rows.Founding.{Founding}
 use Rattle.up_machine.specs.Files.{File, file, files}
-use Rattle.up_machine.specs.State.{Root, State, Vehicle, is_recorded}
+use Rattle.up_machine.specs.State.{Root, State, Vehicle}
 use Rattle.up_machine.specs.Rows.{founding_row, vehicle_rows, rows_of}
 use Rattle.up_machine.specs.Reads.{version_of, ecus_of, installed}
-use Rattle.up_machine.proofs.Lists.{and_left, and_right}
+use Rattle.up_machine.proofs.Lists.{and_left, and_right, none_passes}
 use Rattle.up_machine.proofs.Tables.{one_name}
 use Rattle.up_plan.specs.Campaigns.{CampaignData}
 use Rattle.up_plan.specs.Planning.{items_for, reaches}
@@ -30,9 +32,9 @@ use Rattle.up_roles.specs.declared.repository.Repository.{Repository}
 use Rattle.up_roles.specs.declared.repository.Repository.TheVariants.{Director, Image}
 use Rattle.up_rows.proofs.Tables.{changed, entries_changed}
 use Rattle.up_rows.specs.StateRows.{StateRows, rows_of_state}
-use Rattle.up_rows.specs.Lookups.{stands_among, owner_among, installed_among}
-use Rattle.up_rows.specs.Laws.{FoundedIsFound, VehiclesAreFound, OwnersAreFound, VersionsAreTold, EcusAreTold, InstalledIsTold}
-use Rattle.up_store.specs.Found.{vehicle_found, ecus_found, owner_found, campaigns_found}
+use Rattle.up_rows.specs.Lookups.{stands_among, owner_among, last_owner, owner_found, installed_among}
+use Rattle.up_rows.specs.Laws.{FoundedIsFound, VehiclesAreFound, VersionsAreTold, EcusAreTold, InstalledIsTold}
+use Rattle.up_store.specs.Found.{vehicle_found, ecus_found, campaigns_found}
 use Rattle.up_store.proofs.ValuesWhere.{from_T}
 
 -- ---- vehicles
@@ -62,22 +64,6 @@ there_after f (Some x) = refl
 -- a vehicle is known where it has a row
 pub vehicle_known : (k : Rules) (s : State) (name : Name) → VehiclesAreFound → is_some (vehicle_found name (rows_of_state k s)) ≡ table.contains_key s.vehicles name
 vehicle_known k s name found = there_after (λ (v : VehicleRows). v.vehicle) (table.get (rows_of_state k s).vehicles name) ∙ ap is_some (found k s name) ∙ there_after (rows_of name) (table.get s.vehicles name)
-
--- ---- ECUs
-
-found_any : {A : Type 0} (test : A → Bool) (xs : List A) → is_some (find test xs) ≡ list_any test xs
-found_any test [] = refl
-found_any test (x ∷ xs) = by_test (test x) (found_any test xs)
-  where
-    by_test : (b : Bool) → is_some (find test xs) ≡ list_any test xs → is_some (cond b (Some x) (find test xs)) ≡ (b || list_any test xs)
-    by_test true more = refl
-    by_test false more = more
-
--- an ECU is recorded where it has an owner
-pub owner_known : (k : Rules) (s : State) (ecu : Name) → OwnersAreFound → is_some (owner_found ecu (rows_of_state k s)) ≡ is_recorded s ecu
-owner_known k s ecu found =
-    there_after (λ (v : VehicleRows). v.vehicle.vehicle) (owner_among ecu (table.values (rows_of_state k s).vehicles))
-    ∙ found_any (λ (v : VehicleRows). stands_among ecu v.ecus) (table.values (rows_of_state k s).vehicles) ∙ found k s ecu
 
 -- ---- views
 
@@ -144,10 +130,34 @@ owner_there k s ecu v h =
     ∙ owner_at (λ (r : VehicleRows). stands_among ecu r.ecus) (table.entries all) v (from_T _ (table.entries_sorted all))
     (subst (AllByRecursion IsNamed) (sym (entries_changed rows_of s.vehicles)) (all_named (table.entries s.vehicles))) h
 
+-- what holds of all values holds of the one of a name
+value_at : {X : Type 0} (P : X → Type 0) (name : Name) (es : List (Name × X)) (x : X) → AllByRecursion P (map (λ e. e.1) es) → entries.find by_name name es ≡ Some x → P x
+value_at P name [] x all h = cc
+value_at P name (e ∷ es) x all h = by_test (eq_by_cmp by_name name e.0) h (λ is. value_at P name es x all.1 is)
+  where
+    by_test : (b : Bool) → cond b (Some e.1) (entries.find by_name name es) ≡ Some x → (entries.find by_name name es ≡ Some x → P x) → P x
+    by_test true is more = let same : e.1 ≡ x = cc in subst P same all.0
+    by_test false is more = more is
+
+none_among : (ecu : Name) (ecus : List EcuRow) → stands_among ecu ecus ≡ false → installed_among ecu ecus ≡ None
+none_among ecu [] h = refl
+none_among ecu (row ∷ ecus) h =
+    let both = or_parts (bytes_eq row.ecu ecu) _ h in
+    ap (λ b. option_and_then (λ (r : EcuRow). r.installed) (cond b (Some row) (find (λ (r : EcuRow). bytes_eq r.ecu ecu) ecus))) both.0 ∙ none_among ecu ecus both.1
+
+-- an ECU that stands in no vehicle doesn't stand in the one in which it was replaced
+none_there : (k : Rules) (s : State) (ecu owner : Name) (o : Option VehicleRows) → owner_among ecu (table.values (rows_of_state k s).vehicles) ≡ None
+    → table.get (rows_of_state k s).vehicles owner ≡ o → installed_among ecu (unwrap_or (option_map (λ (r : VehicleRows). r.ecus) o) []) ≡ None
+none_there k s ecu owner None none is = refl
+none_there k s ecu owner (Some v) none is =
+    let all = (rows_of_state k s).vehicles in
+    let each = none_passes (λ (r : VehicleRows). stands_among ecu r.ecus) (table.values all) none in
+    none_among ecu v.ecus (value_at (λ (r : VehicleRows). stands_among ecu r.ecus ≡ false) owner (table.entries all) v each (sym (table.get-entries all owner) ∙ is))
+
 installed_from : (k : Rules) (s : State) (ecu owner : Name) (ecus : List EcuRow) (o : Option VehicleRows) → owner_among ecu (table.values (rows_of_state k s).vehicles) ≡ o
-    → Some owner ≡ option_map (λ (v : VehicleRows). v.vehicle.vehicle) o → ecus ≡ ecus_found owner (rows_of_state k s)
+    → Some owner ≡ option_or (option_map (λ (v : VehicleRows). v.vehicle.vehicle) o) (last_owner ecu (rows_of_state k s)) → ecus ≡ ecus_found owner (rows_of_state k s)
     → installed_among ecu ecus ≡ option_and_then (λ (v : VehicleRows). installed_among ecu v.ecus) o
-installed_from k s ecu owner ecus None is first second = cc
+installed_from k s ecu owner ecus None is first second = ap (installed_among ecu) second ∙ none_there k s ecu owner (table.get (rows_of_state k s).vehicles owner) is refl
 installed_from k s ecu owner ecus (Some v) is first second =
     let name : owner ≡ v.vehicle.vehicle = cc in
     ap (installed_among ecu) (second ∙ ap (λ n. ecus_found n (rows_of_state k s)) name
@@ -157,12 +167,14 @@ pub installed_read : (k : Rules) (s : State) (ecu owner : Name) (ecus : List Ecu
     → installed_among ecu ecus ≡ installed s ecu
 installed_read k s ecu owner ecus told first second = installed_from k s ecu owner ecus (owner_among ecu (table.values (rows_of_state k s).vehicles)) refl first second ∙ told k s ecu
 
-not_installed : (ecu : Name) (o : Option VehicleRows) → None ≡ option_map (λ (v : VehicleRows). v.vehicle.vehicle) o → None ≡ option_and_then (λ (v : VehicleRows). installed_among ecu v.ecus) o
-not_installed ecu None h = refl
-not_installed ecu (Some v) h = cc
+not_installed : (ecu : Name) (o : Option VehicleRows) (last : Option Name) → None ≡ option_or (option_map (λ (v : VehicleRows). v.vehicle.vehicle) o) last
+    → None ≡ option_and_then (λ (v : VehicleRows). installed_among ecu v.ecus) o
+not_installed ecu None last h = refl
+not_installed ecu (Some v) last h = cc
 
 pub none_installed : (k : Rules) (s : State) (ecu : Name) → InstalledIsTold → None ≡ owner_found ecu (rows_of_state k s) → None ≡ installed s ecu
-none_installed k s ecu told h = not_installed ecu (owner_among ecu (table.values (rows_of_state k s).vehicles)) h ∙ told k s ecu
+none_installed k s ecu told h =
+    not_installed ecu (owner_among ecu (table.values (rows_of_state k s).vehicles)) (last_owner ecu (rows_of_state k s)) h ∙ told k s ecu
 
 -- ---- files
 

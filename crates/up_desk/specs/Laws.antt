@@ -1,5 +1,5 @@
 -- Deliveries that come again, and replies that are commits.
-use Rattle.std.specs.Prelude.{◌≡◌, ◌≤◌, ◌||◌, ℕ, List, [], ◌∷◌, not, Some, None, IsTrue, Ok, filter, bytes_eq}
+use Rattle.std.specs.Prelude.{◌≡◌, ◌≤◌, ◌||◌, ℕ, List, [], ◌∷◌, Bool, false, not, Option, Some, None, option_map, unwrap_or, IsTrue, Ok, filter, bytes_eq}
 use Rattle.std.specs.List.{AllByRecursion}
 use Rattle.std.specs.FinMap as table
 use Rattle.sqlite_disk.specs.declared.Disk.{Ghosts as DiskGhosts}
@@ -19,7 +19,7 @@ use Rattle.up_sign.specs.Schemes.{Rules}
 use Rattle.up_manifest.specs.declared.manifest.Incoming.{Incoming}
 use Rattle.up_manifest.specs.Manifests.{incoming_in}
 use Rattle.up_machine.specs.declared.command.Command.{Command}
-use Rattle.up_machine.specs.declared.command.Command.TheVariants.{Deliver}
+use Rattle.up_machine.specs.declared.command.Command.TheVariants.{ReplaceEcu, Deliver}
 use Rattle.up_machine.specs.declared.answer.Answer.TheVariants.{Reply as Replied}
 use Rattle.up_machine.specs.declared.answer.Reply.{Reply}
 use Rattle.up_machine.specs.Deciding.{Outcome}
@@ -52,13 +52,21 @@ pub record ActsOnce (k : Rules) (incoming : Incoming) (served : Outcome) : Type 
   pub numbered : nth vehicle.entries number ≡ Some entry
   pub answer : served.answer ≡ Replied (reply_to k served.next incoming.manifest.vehicle number entry)
 
--- none of these items delivers a manifest of the vehicle, or it was lost
-abbrev pub DeliverNone : Name → List Sent → Type 0
-DeliverNone vehicle items = AllByRecursion (λ m. IsTrue (m.lost || not (delivers_own vehicle m))) items
+-- the vehicle of which the command replaces an ECU
+abbrev pub replaced_in : Command → Option Name
+replaced_in (ReplaceEcu new) = Some new.vehicle
+replaced_in _ = None
 
--- delivered again in this state, at a moment in range, before another manifest of its vehicle and not lost, it acts once
+abbrev pub replaces_own : Name → Sent → Bool
+replaces_own name m = unwrap_or (option_map (λ vehicle. bytes_eq vehicle name) (replaced_in m.item.command)) false
+
+-- none of these items delivers a manifest of the vehicle or replaces an ECU of it, or it was lost
+abbrev pub LeaveAlone : Name → List Sent → Type 0
+LeaveAlone vehicle items = AllByRecursion (λ m. IsTrue (m.lost || not (delivers_own vehicle m || replaces_own vehicle m))) items
+
+-- delivered again in this state, at a moment in range, before another manifest or a replacement of its vehicle and not lost, it acts once
 abbrev pub ActsOnceFrom : Rules → State → List ℕ → Incoming → Type 0
-ActsOnceFrom k s body incoming = (between : List Sent) (at : ℕ) → DeliverNone incoming.manifest.vehicle between → at ≤ last_command_moment
+ActsOnceFrom k s body incoming = (between : List Sent) (at : ℕ) → LeaveAlone incoming.manifest.vehicle between → at ≤ last_command_moment
     → ActsOnce k incoming (serve k (after k s between) at (Deliver body))
 
 -- a delivery that the plain machine accepts acts once, whether or not its call came through

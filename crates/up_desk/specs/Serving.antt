@@ -19,7 +19,7 @@ use Rattle.up_plan.specs.Campaigns.{CampaignData}
 use Rattle.up_plan.specs.Images.{ImageData}
 use Rattle.up_plan.specs.Planning.{items_for}
 use Rattle.up_machine.specs.declared.command.Command.{Command}
-use Rattle.up_machine.specs.declared.command.Command.TheVariants.{AddVehicle, Deliver}
+use Rattle.up_machine.specs.declared.command.Command.TheVariants.{AddVehicle, ReplaceEcu, Deliver}
 use Rattle.up_machine.specs.declared.answer.Answer.{Answer}
 use Rattle.up_machine.specs.declared.answer.Answer.TheVariants.{Done, Already, Reply as Replied, File, Refused}
 use Rattle.up_machine.specs.declared.answer.Reply.{Reply}
@@ -65,10 +65,11 @@ RepliesStay k old new = (vehicle : Name) (number : ℕ) (reply : Reply) → kept
 
 -- ---- refusals that are answered whether or not there is memory, whatever the database does
 
--- of a command in time: that of a body that is too large, and that of a new vehicle with a public part that doesn't fit
+-- of a command in time: that of a body that is too large, and that of a new vehicle or ECU with a public part that doesn't fit
 abbrev pub outright_in_time : Rules → Command → Option Refusal
 outright_in_time k (Deliver body) = if nat_lt largest_body (length body) then Some TooLarge else None
 outright_in_time k (AddVehicle new) = if list_all (λ e. public_fits k e.public) new.ecus then None else Some (BadShape (codes "key"))
+outright_in_time k (ReplaceEcu new) = if public_fits k new.ecu.public then None else Some (BadShape (codes "key"))
 outright_in_time k c = None
 
 -- that of a moment past the last one, before all others

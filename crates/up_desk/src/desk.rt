@@ -76,7 +76,7 @@ impl<K: Scheme, D: Alter> Desk<K, D> {
     /// Answers a command at a moment: as the plain machine does, but a repeat of an accepted manifest is answered the reply
     /// that was kept for it, and each kept reply stays. Where memory or the database refuses (`Refused(Memory)`,
     /// `Refused(Store)`) nothing changes; a moment past 2100-01-01T00:00:00Z, a body of more than 262,144 bytes and a key of a
-    /// new vehicle that doesn't fit are refused as that whatever they do. Whatever is answered, a crash leaves what it could
+    /// new vehicle or ECU that doesn't fit are refused as that whatever they do. Whatever is answered, a crash leaves what it could
     /// leave before, or the next state; after `Done` and a reply to a newly accepted manifest that state alone.
     pub fn call(&mut self, alloc: Global, at: u64, command: &Command) -> Answer
         requires { IsTrue (opens_running command.now) }

@@ -1,5 +1,5 @@
 //! Vehicles of the inventory.
-ghost use Rattle.std.specs.Prelude.{◌≡◌, ◌≤◌, IfOk, [], is_some, map, option_copied, codes, false, Err};
+ghost use Rattle.std.specs.Prelude.{◌≡◌, ◌≤◌, IfOk, is_some, map, option_copied, codes, false, Err};
 ghost use Rattle.std.specs.List.{list_all};
 ghost use Rattle.sqlite.specs.Held.{state};
 ghost use Rattle.sqlite.specs.State.{HasCleanDisk};
@@ -11,7 +11,7 @@ ghost use Rattle.up_machine.specs.Inventory.{decide_vehicle as decide_vehicle_in
 ghost use Rattle.up_machine.specs.Rows.{founding_row, rows_of, vehicle_rows};
 ghost use Rattle.up_machine.specs.Decisions.{GivesDecision};
 ghost use Rattle.up_machine.specs.Sound.{IsSound};
-ghost use Rattle.up_machine.specs.State.{State, is_recorded as is_recorded_in};
+ghost use Rattle.up_machine.specs.State.{State, added, is_taken as is_taken_in};
 ghost use Rattle.up_store.specs.Connections.{KeepsState};
 ghost use Rattle.up_tables.specs.Stands.{IfClean};
 ghost use Rattle.up_desk.specs.Serving.{GivesOrLost, Reads, Serves, Tells};
@@ -84,7 +84,7 @@ fn decide<K: Scheme, D: Alter>(
 ) -> Result<Decision<VehicleRows>, Refusal>
     requires { at ≤ last_command_moment }
     ensures decided { HasCleanDisk (state D.Store store.new) → (s : State) → IsSound (K.rules scheme.now) s → IfClean (KeepsState (K.rules scheme.now) s) (state D.Store store.old)
-        → GivesOrLost (GivesDecision (λ rows. rows ≡ rows_of new.now.vehicle (record { primary = new.now.primary; ecus = new.now.ecus; entries = [] })) s (with_vehicle s new.now)) result
+        → GivesOrLost (GivesDecision (λ rows. rows ≡ rows_of new.now.vehicle (added new.now)) s (with_vehicle s new.now)) result
         (decide_vehicle_in (K.rules scheme.now) s at new.now) }
     ensures reads { Reads (state D.Store store.old) (state D.Store store.new) }
 {
@@ -105,7 +105,7 @@ fn decide_founded<K: Scheme, D: Alter>(
 ) -> Result<Decision<VehicleRows>, Refusal>
     requires { at ≤ last_command_moment }
     ensures decided { HasCleanDisk (state D.Store store.new) → (s : State) → IsSound (K.rules scheme.now) s → founded ≡ is_some (founding_row s) → IfClean (KeepsState (K.rules scheme.now) s) (state D.Store store.old)
-        → GivesOrLost (GivesDecision (λ rows. rows ≡ rows_of new.now.vehicle (record { primary = new.now.primary; ecus = new.now.ecus; entries = [] })) s (with_vehicle s new.now)) result
+        → GivesOrLost (GivesDecision (λ rows. rows ≡ rows_of new.now.vehicle (added new.now)) s (with_vehicle s new.now)) result
         (decide_vehicle_in (K.rules scheme.now) s at new.now) }
     ensures reads { Reads (state D.Store store.old) (state D.Store store.new) }
 {
@@ -127,43 +127,43 @@ fn decide_named<K: Scheme, D: Alter>(
 ) -> Result<Decision<VehicleRows>, Refusal>
     requires { at ≤ last_command_moment }
     ensures decided { HasCleanDisk (state D.Store store.new) → (s : State) → IsSound (K.rules scheme.now) s → founded ≡ is_some (founding_row s) → option_copied old.entry ≡ vehicle_rows s new.now.vehicle → IfClean (KeepsState (K.rules scheme.now) s) (state D.Store store.old)
-        → GivesOrLost (GivesDecision (λ rows. rows ≡ rows_of new.now.vehicle (record { primary = new.now.primary; ecus = new.now.ecus; entries = [] })) s (with_vehicle s new.now)) result
+        → GivesOrLost (GivesDecision (λ rows. rows ≡ rows_of new.now.vehicle (added new.now)) s (with_vehicle s new.now)) result
         (decide_vehicle_in (K.rules scheme.now) s at new.now) }
     ensures reads { Reads (state D.Store store.old) (state D.Store store.new) }
 {
-    match recorded_marks(store, alloc, new.ecus.as_slice()) {
+    match taken_marks(store, alloc, new.ecus.as_slice()) {
         Ok(marks) => decide_vehicle(alloc, scheme, at, new, founded, old, marks.as_slice()),
         Err(fault) => Err(refusal_of(fault)),
     }
 }
 
-/// Marks for each new ECU whether one of its name stands in a vehicle.
-fn recorded_marks<D: Alter>(
+/// Marks for each new ECU whether its name is that of an ECU, or of one that was replaced.
+fn taken_marks<D: Alter>(
     store: &mut Store<D>,
     alloc: Global,
     ecus: &[NewEcu],
 ) -> Result<Vec<bool>, StoreFault>
     ensures told { HasCleanDisk (state D.Store store.new) → IfOk result (λ marks. (k : Rules) (s : State) → IfClean (KeepsState k s) (state D.Store store.old)
-        → marks.items ≡ map (λ e. is_recorded_in s e.ecu) ecus.now) }
+        → marks.items ≡ map (λ e. is_taken_in s e.ecu) ecus.now) }
     ensures reads { Reads (state D.Store store.old) (state D.Store store.new) }
 {
     let mut marks = Vec::with_capacity(alloc, ecus.len())?;
     for ecu in ecus {
-        match is_recorded(store, alloc, &ecu.ecu) {
-            Ok(is_recorded) => marks.push(is_recorded)?,
+        match is_taken(store, alloc, &ecu.ecu) {
+            Ok(is_taken) => marks.push(is_taken)?,
             Err(fault) => return Err(fault),
         }
     }
     Ok(marks)
 }
 
-/// Whether an ECU of the name stands in one of the vehicles.
-fn is_recorded<D: Alter>(
+/// Whether the name is that of an ECU of any vehicle, or of one that was replaced.
+pub fn is_taken<D: Alter>(
     store: &mut Store<D>,
     alloc: Global,
     ecu: &Ident,
 ) -> Result<bool, StoreFault>
-    ensures told { Tells (λ k s. is_recorded_in s ecu.now) (state D.Store store.old) (state D.Store store.new) result }
+    ensures told { Tells (λ k s. is_taken_in s ecu.now) (state D.Store store.old) (state D.Store store.new) result }
     ensures reads { Reads (state D.Store store.old) (state D.Store store.new) }
 {
     rows_are_found();

@@ -12,5 +12,6 @@ pub mod lost;
 mod obeying;
 mod reading;
 mod register;
+mod replacements;
 mod roots;
 mod views;

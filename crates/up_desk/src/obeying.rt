@@ -14,6 +14,7 @@ use crate::deliveries::deliver;
 use crate::files::fetch;
 use crate::inventory::add_vehicle;
 use crate::register::{add_image, refresh};
+use crate::replacements::replace_ecu;
 use crate::roots::{found, rotate};
 use sqlite::Alter;
 use std::alloc::Global;
@@ -61,6 +62,7 @@ fn act<K: Scheme, D: Alter>(
         Command::AddImage(image) => add_image(store, alloc, scheme, at, image),
         Command::Refresh(version) => refresh(store, alloc, scheme, at, *version),
         Command::AddVehicle(new) => add_vehicle(store, alloc, scheme, at, new),
+        Command::ReplaceEcu(new) => replace_ecu(store, alloc, scheme, at, new),
         Command::OpenCampaign(campaign) => open(store, alloc, at, campaign),
         Command::CloseCampaign(name) => close(store, alloc, at, name),
         Command::Deliver(body) => deliver(store, alloc, scheme, at, body),

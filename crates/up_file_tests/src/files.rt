@@ -5,7 +5,7 @@ use std::test::Fail;
 use std::{fs, io};
 use up_file::closing::close_file;
 use up_file::opening::open_file;
-use up_tables::open::{OpenFault, create_tables, names_us};
+use up_tables::open::{OpenFault, create_tables, take_tables};
 
 fn opened(
     rt: &HostRuntime,
@@ -14,7 +14,10 @@ fn opened(
     open_file(rt, path, Unknown)
 }
 
-fn found(rt: &HostRuntime, path: &str) -> io::Result<Connection<FileStore<FileFrom<Unknown>>>> {
+pub(crate) fn found(
+    rt: &HostRuntime,
+    path: &str,
+) -> io::Result<Connection<FileStore<FileFrom<Unknown>>>> {
     match opened(rt, path) {
         Ok(conn) => Ok(conn),
         Err(_) => Err(io::ErrorKind::Other.into()),
@@ -36,10 +39,10 @@ fn is_ours<S: Alter>(conn: &mut Connection<S>) -> Result<bool, OpenFault> {
     if !conn.is_autocommit() {
         return Err(OpenFault::NotOurs);
     }
-    names_us(conn)
+    take_tables(conn)
 }
 
-fn in_new_folder(rt: &HostRuntime, folder: &str) -> Result<(), Fail> {
+pub(crate) fn in_new_folder(rt: &HostRuntime, folder: &str) -> Result<(), Fail> {
     let _ = fs::remove_dir_all(rt, folder);
     fs::create_dir(rt, folder)?;
     Ok(())

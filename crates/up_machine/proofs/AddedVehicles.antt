@@ -10,7 +10,7 @@ use Rattle.up_canon.specs.declared.refusal.Refusal.TheVariants.{VehicleTaken}
 use Rattle.up_machine.specs.declared.rows.VehicleRows.{VehicleRows}
 use Rattle.up_machine.specs.declared.vehicle.NewEcu.{NewEcu}
 use Rattle.up_machine.specs.Vehicles.{NewVehicleData, ecu_names, first_marked}
-use Rattle.up_machine.specs.State.{Vehicle, State, last_report}
+use Rattle.up_machine.specs.State.{Vehicle, State, added, last_report}
 use Rattle.up_machine.specs.Deciding.{Outcome, already, where_new}
 use Rattle.up_machine.specs.Inventory.{same_ecu, same_vehicle}
 use Rattle.up_machine.specs.Rows.{ecu_row, new_row, new_rows, rows_of, same_ecu_row, same_rows, vehicle_rows}
@@ -52,18 +52,18 @@ none_there s new old decided of_state is = there_by_rows s new VehicleTaken old 
 
 -- ---- a vehicle that is new
 
-each_new : (name primary : Name) (all ecus : List NewEcu) → map new_row ecus ≡ map (ecu_row (record { primary = primary; ecus = all; entries = [] })) ecus
+each_new : (name primary : Name) (all ecus : List NewEcu) → map new_row ecus ≡ map (ecu_row (record { primary = primary; ecus = all; retired = []; entries = [] })) ecus
 unfolding last_report
 each_new name primary all [] = refl
 each_new name primary all (e ∷ ecus) = ap (λ rows. new_row e ∷ rows) (each_new name primary all ecus)
 
-pub rows_of_new : (new : NewVehicleData) → new_rows new ≡ rows_of new.vehicle (record { primary = new.primary; ecus = new.ecus; entries = [] })
+pub rows_of_new : (new : NewVehicleData) → new_rows new ≡ rows_of new.vehicle (added new)
 rows_of_new new = ap (λ rows. record { vehicle = record { vehicle = new.vehicle; primary = new.primary; version = 0; last = 0 }; ecus = rows }) (each_new new.vehicle new.primary new.ecus new.ecus)
 
 -- the first ECU with a mark is the first that passes
-pub recorded_first : (p : Name → Bool) (ecus : List NewEcu) → find p (ecu_names ecus) ≡ first_marked ecus (map p (ecu_names ecus))
-recorded_first p [] = refl
-recorded_first p (e ∷ ecus) = by_test (p e.ecu) (recorded_first p ecus)
+pub taken_first : (p : Name → Bool) (ecus : List NewEcu) → find p (ecu_names ecus) ≡ first_marked ecus (map p (ecu_names ecus))
+taken_first p [] = refl
+taken_first p (e ∷ ecus) = by_test (p e.ecu) (taken_first p ecus)
   where
     by_test : (b : Bool) → find p (ecu_names ecus) ≡ first_marked ecus (map p (ecu_names ecus))
         → cond b (Some e.ecu) (find p (ecu_names ecus)) ≡ option_map (λ e. e.0.ecu) (cond b (Some (e, b)) (find (λ e. e.1) (zip ecus (map p (ecu_names ecus)))))

@@ -1,5 +1,5 @@
 -- What is served to one vehicle doesn't depend on what other vehicles deliver.
-use Rattle.std.proofs.Common.{◌≡◌, ℕ, List, [], Bool, true, false, cond, not, Option, Some, None, Result, Ok, Err, refl, sym, ap, ◌∙◌, subst}
+use Rattle.std.proofs.Common.{◌≡◌, ℕ, List, Bool, true, false, cond, not, Option, Some, None, Result, Ok, Err, refl, sym, ap, ◌∙◌, subst}
 use Rattle.std.proofs.lemmas.Bool.{not-true, not-false}
 use Rattle.std.specs.Prelude.{⊤, ◌≢◌, option_map, unwrap_or, is_some, find, bytes_eq, length, ◌==◌, nat_le}
 use Rattle.std.specs.List.{list_any, list_all}
@@ -9,7 +9,7 @@ use Rattle.std.specs.FinMap as table
 use Rattle.up_canon.specs.Names.{Name, Table, first_repeated}
 use Rattle.up_canon.specs.Steps.{and_then, ◌>>=◌, unless, refuse_if, refuse_first, or_error, value_of}
 use Rattle.up_canon.specs.declared.refusal.Refusal.{Refusal}
-use Rattle.up_canon.specs.declared.refusal.Refusal.TheVariants.{AlreadyFounded, ImageTaken, RegisterFull, VersionNotGreater, UnknownFile, RootFull, DuplicateEcu, VehicleTaken, EcuTaken, CampaignTaken, UnknownVehicle, UnknownCampaign, UnknownImage, WrongHardware}
+use Rattle.up_canon.specs.declared.refusal.Refusal.TheVariants.{AlreadyFounded, ImageTaken, RegisterFull, VersionNotGreater, UnknownFile, RootFull, DuplicateEcu, VehicleTaken, EcuTaken, CampaignTaken, UnknownVehicle, UnknownEcu, PrimaryFixed, UnknownCampaign, UnknownImage, WrongHardware}
 use Rattle.up_sign.specs.Schemes.{Rules}
 use Rattle.up_roles.specs.declared.repository.Repository.{Repository}
 use Rattle.up_roles.specs.declared.repository.Repository.TheVariants.{Director, Image}
@@ -20,16 +20,17 @@ use Rattle.up_plan.specs.declared.campaign.Reach.TheVariants.{All, Named}
 use Rattle.up_plan.specs.Campaigns.{CampaignData}
 use Rattle.up_plan.specs.Images.{ImageData}
 use Rattle.up_machine.specs.declared.keys.KeySet.{KeySet}
+use Rattle.up_machine.specs.declared.vehicle.Replacement.{Replacement}
 use Rattle.up_machine.specs.declared.command.Command.{Command}
-use Rattle.up_machine.specs.declared.command.Command.TheVariants.{Found, Rotate, AddImage, Refresh, AddVehicle, OpenCampaign, CloseCampaign, Deliver, Fetch}
+use Rattle.up_machine.specs.declared.command.Command.TheVariants.{Found, Rotate, AddImage, Refresh, AddVehicle, ReplaceEcu, OpenCampaign, CloseCampaign, Deliver, Fetch}
 use Rattle.up_machine.specs.declared.answer.Answer.TheVariants.{Refused}
 use Rattle.up_machine.specs.Keys.{check_keys}
 use Rattle.up_machine.specs.Vehicles.{NewVehicleData, has_ecu, ecu_names}
-use Rattle.up_machine.specs.State.{Vehicle, State, is_recorded}
+use Rattle.up_machine.specs.State.{Vehicle, State, added, is_taken_in, is_taken}
 use Rattle.up_machine.specs.Files.{files, file}
 use Rattle.up_machine.specs.Deciding.{Outcome, done, already, where_new, check_moment, check_founded, check_version}
 use Rattle.up_machine.specs.Repositories.{same_image, decide_found, decide_rotate, decide_new_image, decide_image, decide_refresh, decide_fetch}
-use Rattle.up_machine.specs.Inventory.{same_vehicle, same_campaign, reach_is_known, has_its_image, has_its_hardware, closed, with_campaign, decide_new_vehicle, decide_vehicle, decide_new_campaign, decide_open, decide_close}
+use Rattle.up_machine.specs.Inventory.{same_vehicle, same_campaign, reach_is_known, has_its_image, has_its_hardware, closed, with_campaign, decide_new_vehicle, decide_vehicle, with_replaced, decide_replacement, decide_replace, decide_new_campaign, decide_open, decide_close}
 use Rattle.up_machine.specs.Deliveries.{receive, receive_manifest}
 use Rattle.up_machine.specs.Machine.{decide, outcome_of, step}
 use Rattle.up_machine.specs.Repeats.{serve, vehicle_of}
@@ -159,15 +160,65 @@ counterpart (Some u) None v h is = cc
 counterpart (Some u) (Some w) v h is = (w, refl, cc)
 
 recorded_in : (name : Name) (a b : Table Vehicle) (ecu : Name) → ((q : Name) → option_map bare (table.get b q) ≡ option_map bare (table.get a q))
-    → list_any (λ v. has_ecu ecu v.ecus) (table.values a) ≡ true → list_any (λ v. has_ecu ecu v.ecus) (table.values b) ≡ true
+    → list_any (is_taken_in ecu) (table.values a) ≡ true → list_any (is_taken_in ecu) (table.values b) ≡ true
 recorded_in name a b ecu others h =
-    let found = any_found (λ (v : Vehicle). has_ecu ecu v.ecus) a h in
+    let found = any_found (is_taken_in ecu) a h in
     let other = counterpart (table.get a found.0) (table.get b found.0) found.1 (others found.0) found.2 in
-    found_any (λ (v : Vehicle). has_ecu ecu v.ecus) b found.0 other.0 other.1 (ap (λ (v : Vehicle). has_ecu ecu v.ecus) other.2 ∙ found.3)
+    found_any (is_taken_in ecu) b found.0 other.0 other.1 (ap (is_taken_in ecu) other.2 ∙ found.3)
 
-recorded_alike : (name : Name) (s : State) (vehicles : Table Vehicle) (ecu : Name) → AlikeTables name s.vehicles vehicles → is_recorded (with_vehicles s vehicles) ecu ≡ is_recorded s ecu
+recorded_alike : (name : Name) (s : State) (vehicles : Table Vehicle) (ecu : Name) → AlikeTables name s.vehicles vehicles → is_taken (with_vehicles s vehicles) ecu ≡ is_taken s ecu
 recorded_alike name s vehicles ecu h =
     both_ways _ _ (recorded_in name vehicles s.vehicles ecu (λ q. sym (h.others q))) (recorded_in name s.vehicles vehicles ecu h.others)
+
+-- two vehicles that are equal but for their entries are put in
+inserted_alike : (name : Name) (a b : Table Vehicle) (n : Name) (v w : Vehicle) → bare w ≡ bare v → (n ≡ name → w ≡ v) → AlikeTables name a b → AlikeTables name (table.insert a n v) (table.insert b n w)
+inserted_alike name a b n v w alike own h = record {
+  own = get_new b n name w ∙ own_test (eq_by_cmp (slice_cmp nat_cmp) name n) refl ∙ sym (get_new a n name v);
+  others = λ q. ap (option_map bare) (get_new b n q w) ∙ others_test q (eq_by_cmp (slice_cmp nat_cmp) q n) ∙ sym (ap (option_map bare) (get_new a n q v));
+}
+  where
+    own_test : (t : Bool) → eq_by_cmp (slice_cmp nat_cmp) name n ≡ t → cond t (Some w) (table.get b name) ≡ cond t (Some v) (table.get a name)
+    own_test true is = ap Some (own (sym (one_name name n is)))
+    own_test false is = h.own
+
+    others_test : (q : Name) (t : Bool) → option_map bare (cond t (Some w) (table.get b q)) ≡ option_map bare (cond t (Some v) (table.get a q))
+    others_test q true = ap Some alike
+    others_test q false = h.others q
+
+replacement_alike : (s : State) (vehicles : Table Vehicle) (r : Replacement) (v w : Vehicle) (name : Name) → bare w ≡ bare v → (r.vehicle ≡ name → w ≡ v) → AlikeTables name s.vehicles vehicles
+    → AlikeResult name (decide_replacement s r v) (decide_replacement (with_vehicles s vehicles) r w)
+unfolding decide_replacement
+replacement_alike s vehicles r v w name alike own h =
+    bind_alike_to name (unless (has_ecu r.old v.ecus) (UnknownEcu r.old)) (unless (has_ecu r.old w.ecus) (UnknownEcu r.old)) _ _ (ap (λ (x : Vehicle). unless (has_ecu r.old x.ecus) (UnknownEcu r.old)) alike) (λ a.
+    bind_alike_to name (refuse_if (bytes_eq r.old v.primary) PrimaryFixed) (refuse_if (bytes_eq r.old w.primary) PrimaryFixed) _ _ (ap (λ (x : Vehicle). refuse_if (bytes_eq r.old x.primary) PrimaryFixed) alike) (λ b.
+    bind_alike_to name (refuse_if (is_taken s r.ecu.ecu) (EcuTaken r.ecu.ecu)) (refuse_if (is_taken (with_vehicles s vehicles) r.ecu.ecu) (EcuTaken r.ecu.ecu)) _ _
+    (ap (λ t. refuse_if t (EcuTaken r.ecu.ecu)) (recorded_alike name s vehicles r.ecu.ecu h)) (λ c. (
+      refl,
+      record {
+        vehicles = table.insert vehicles r.vehicle (with_replaced w r.old r.ecu);
+        rest = refl;
+        alike = inserted_alike name s.vehicles vehicles r.vehicle (with_replaced v r.old r.ecu) (with_replaced w r.old r.ecu) (ap (λ (x : Vehicle). with_replaced x r.old r.ecu) alike)
+            (λ same. ap (λ (x : Vehicle). with_replaced x r.old r.ecu) (own same)) h;
+      },
+    ))))
+
+known_alike : (name : Name) (x y : Option Vehicle) → option_map bare y ≡ option_map bare x → (f g : Vehicle → Result Outcome Refusal)
+    → ((v w : Vehicle) → x ≡ Some v → y ≡ Some w → bare w ≡ bare v → AlikeResult name (f v) (g w)) → AlikeResult name (or_error UnknownVehicle x >>= f) (or_error UnknownVehicle y >>= g)
+unfolding and_then
+known_alike name None None h f g each = refl
+known_alike name None (Some w) h f g each = cc
+known_alike name (Some v) None h f g each = cc
+known_alike name (Some v) (Some w) h f g each = each v w refl refl cc
+
+replace_alike : (k : Rules) (s : State) (vehicles : Table Vehicle) (at : ℕ) (r : Replacement) (name : Name) → AlikeTables name s.vehicles vehicles
+    → AlikeResult name (decide_replace k s at r) (decide_replace k (with_vehicles s vehicles) at r)
+unfolding decide_replace
+replace_alike k s vehicles at r name h =
+    bind_alike name (check_moment at) _ _ (λ a. bind_alike name _ _ _ (λ b. bind_alike name (check_founded s) _ _ (λ c.
+    known_alike name (table.get s.vehicles r.vehicle) (table.get vehicles r.vehicle) (h.others r.vehicle) _ _ (λ v w here there alike.
+    replacement_alike s vehicles r v w name alike (λ same.
+    let both : Some w ≡ Some v = sym there ∙ ap (table.get vehicles) same ∙ h.own ∙ ap (table.get s.vehicles) (sym same) ∙ here in
+    cc) h))))
 
 where_vehicle_alike : (name : Name) (s : State) (vehicles : Table Vehicle) (new : NewVehicleData) (x y : Option Vehicle) (d e : Result Outcome Refusal)
     → option_map bare y ≡ option_map bare x → AlikeTables name s.vehicles vehicles → AlikeResult name d e
@@ -189,9 +240,9 @@ new_vehicle_alike : (s : State) (vehicles : Table Vehicle) (new : NewVehicleData
 unfolding decide_new_vehicle
 new_vehicle_alike s vehicles new name h =
     bind_alike name (refuse_first DuplicateEcu (first_repeated (ecu_names new.ecus))) _ _ (λ a.
-    bind_alike_to name (refuse_first EcuTaken (find (is_recorded s) (ecu_names new.ecus))) (refuse_first EcuTaken (find (is_recorded (with_vehicles s vehicles)) (ecu_names new.ecus))) _ _
-    (ap (refuse_first EcuTaken) (find_alike (is_recorded (with_vehicles s vehicles)) (is_recorded s) (λ ecu. recorded_alike name s vehicles ecu h) (ecu_names new.ecus))) (λ b.
-    (refl, record { vehicles = table.insert vehicles new.vehicle (record { primary = new.primary; ecus = new.ecus; entries = [] }); rest = refl; alike = both_inserted name s.vehicles vehicles new.vehicle _ h })))
+    bind_alike_to name (refuse_first EcuTaken (find (is_taken s) (ecu_names new.ecus))) (refuse_first EcuTaken (find (is_taken (with_vehicles s vehicles)) (ecu_names new.ecus))) _ _
+    (ap (refuse_first EcuTaken) (find_alike (is_taken (with_vehicles s vehicles)) (is_taken s) (λ ecu. recorded_alike name s vehicles ecu h) (ecu_names new.ecus))) (λ b.
+    (refl, record { vehicles = table.insert vehicles new.vehicle (added new); rest = refl; alike = both_inserted name s.vehicles vehicles new.vehicle _ h })))
 
 vehicle_alike : (k : Rules) (s : State) (vehicles : Table Vehicle) (at : ℕ) (new : NewVehicleData) (name : Name) → AlikeTables name s.vehicles vehicles
     → AlikeResult name (decide_vehicle k s at new) (decide_vehicle k (with_vehicles s vehicles) at new)
@@ -319,6 +370,7 @@ served_alike k s vehicles at (Rotate keys) name h own = step_alike k s vehicles 
 served_alike k s vehicles at (AddImage image) name h own = step_alike k s vehicles at (AddImage image) name h (image_alike s vehicles at image name h)
 served_alike k s vehicles at (Refresh version) name h own = step_alike k s vehicles at (Refresh version) name h (refresh_alike s vehicles at version name h)
 served_alike k s vehicles at (AddVehicle new) name h own = step_alike k s vehicles at (AddVehicle new) name h (vehicle_alike k s vehicles at new name h)
+served_alike k s vehicles at (ReplaceEcu r) name h own = step_alike k s vehicles at (ReplaceEcu r) name h (replace_alike k s vehicles at r name h)
 served_alike k s vehicles at (OpenCampaign campaign) name h own = step_alike k s vehicles at (OpenCampaign campaign) name h (open_alike s vehicles at campaign name h)
 served_alike k s vehicles at (CloseCampaign campaign) name h own = step_alike k s vehicles at (CloseCampaign campaign) name h (close_alike s vehicles at campaign name h)
 served_alike k s vehicles at (Fetch repository file_name) name h own = step_alike k s vehicles at (Fetch repository file_name) name h (fetch_alike k s vehicles at repository file_name name h)
@@ -332,6 +384,7 @@ other_alike k s vehicles at (Rotate keys) name h other = cc
 other_alike k s vehicles at (AddImage image) name h other = cc
 other_alike k s vehicles at (Refresh version) name h other = cc
 other_alike k s vehicles at (AddVehicle new) name h other = cc
+other_alike k s vehicles at (ReplaceEcu replacement) name h other = cc
 other_alike k s vehicles at (OpenCampaign campaign) name h other = cc
 other_alike k s vehicles at (CloseCampaign campaign) name h other = cc
 other_alike k s vehicles at (Fetch repository file_name) name h other = cc

@@ -1,24 +1,27 @@
 -- States only grow, and what was kept stays.
-use Rattle.std.proofs.Common.{◌≡◌, ℕ, List, [], ◌∷◌, ◌++◌, Bool, true, false, Some, None, Result, Ok, Err, inl, inr, refl, sym, ap, ◌∙◌, subst, append-nil, append_assoc}
+use Rattle.std.proofs.Common.{◌≡◌, ℕ, List, [], ◌∷◌, ◌++◌, Bool, true, false, Some, None, Result, Ok, Err, ◌⊎◌, inl, inr, refl, sym, ap, ◌∙◌, subst, append-nil, append_assoc}
 use Rattle.std.specs.Ordering.{nat_cmp, eq_by_cmp}
-use Rattle.std.specs.Cmp.Lexicographic.{slice_cmp}
+use Rattle.std.specs.Cmp.Lexicographic.{slice_cmp, bytes_decides}
+use Rattle.std.specs.Prelude.{◌||◌, if◌then◌else◌, map, bytes_eq}
 use Rattle.std.specs.FinMap as table
 use Rattle.up_canon.specs.Names.{Name, Table}
 use Rattle.up_canon.specs.declared.refusal.Refusal.{Refusal}
 use Rattle.up_sign.specs.Schemes.{Rules}
 use Rattle.up_plan.specs.Images.{ImageData}
 use Rattle.up_machine.specs.declared.command.Command.{Command}
-use Rattle.up_machine.specs.declared.command.Command.TheVariants.{Found, Rotate, AddImage, Refresh, AddVehicle, OpenCampaign, CloseCampaign, Deliver, Fetch}
-use Rattle.up_machine.specs.Vehicles.{NewVehicleData}
-use Rattle.up_machine.specs.State.{Entry, Vehicle, Root, State}
+use Rattle.up_machine.specs.declared.command.Command.TheVariants.{Found, Rotate, AddImage, Refresh, AddVehicle, ReplaceEcu, OpenCampaign, CloseCampaign, Deliver, Fetch}
+use Rattle.up_machine.specs.Vehicles.{NewVehicleData, has_ecu, is_among, in_place_of}
+use Rattle.up_machine.specs.declared.vehicle.NewEcu.{NewEcu}
+use Rattle.up_machine.specs.declared.vehicle.Replacement.{Replacement}
+use Rattle.up_machine.specs.State.{Entry, Vehicle, Root, State, is_taken_in}
 use Rattle.up_machine.specs.Deciding.{Outcome, already}
-use Rattle.up_machine.specs.Inventory.{with_vehicle}
+use Rattle.up_machine.specs.Inventory.{with_vehicle, with_replaced, with_replacement}
 use Rattle.up_machine.specs.Deliveries.{with_entry}
 use Rattle.up_machine.specs.Machine.{decide, outcome_of, step}
-use Rattle.up_machine.specs.Laws.{IsLater, LaterIsReflexive, LaterIsTransitive, StepsGrow, RunsGrow}
+use Rattle.up_machine.specs.Laws.{IsLaterVehicle, IsLater, LaterIsReflexive, LaterIsTransitive, StepsGrow, RunsGrow}
 use Rattle.up_canon.proofs.Steps.{one_value}
 use Rattle.up_machine.proofs.Tables.{one_name, get_new, kept_by_insert}
-use Rattle.up_machine.proofs.Decided.{found_ok, rotate_ok, image_ok, refresh_ok, vehicle_ok, open_ok, close_ok, delivery_ok, fetch_ok}
+use Rattle.up_machine.proofs.Decided.{found_ok, rotate_ok, image_ok, refresh_ok, vehicle_ok, replace_ok, open_ok, close_ok, delivery_ok, fetch_ok}
 use Rattle.up_machine.proofs.Receiving.{received}
 
 -- what holds of the state where a command is refused, and of the next state of each outcome, holds after the step
@@ -26,8 +29,9 @@ pub by_decision : (s : State) (r : Result Outcome Refusal) (P : State → Type 0
 by_decision s (Ok o) P here go = go o refl
 by_decision s (Err e) P here go = here
 
-more_of_none : (v : Vehicle) → v ≡ record v { entries = v.entries ++ [] }
-more_of_none v = ap (λ es. record v { entries = es }) (sym (append-nil v.entries))
+-- the same vehicle
+pub same_later : (v : Vehicle) → IsLaterVehicle v v
+same_later v = record { primary = refl; more_entries = []; entries = sym (append-nil v.entries); more_retired = []; retired = sym (append-nil v.retired); taken = λ ecu h. h }
 
 pub later_with : (s next : State) (more : List Root) → next.roots ≡ s.roots ++ more
     → ((file : Name) (image : ImageData) → table.get s.images file ≡ Some image → table.get next.images file ≡ Some image)
@@ -36,11 +40,21 @@ later_with s next more roots images vehicles = record {
   more_roots = more;
   roots = roots;
   images = images;
-  vehicles = λ name v there. ([], vehicles name v there ∙ ap Some (more_of_none v));
+  vehicles = λ name v there. (v, vehicles name v there, same_later v);
 }
 
 pub itself : LaterIsReflexive
 itself s = later_with s s [] (sym (append-nil s.roots)) (λ file image h. h) (λ name v h. h)
+
+both_later : (v w x : Vehicle) → IsLaterVehicle v w → IsLaterVehicle w x → IsLaterVehicle v x
+both_later v w x a b = record {
+  primary = b.primary ∙ a.primary;
+  more_entries = a.more_entries ++ b.more_entries;
+  entries = b.entries ∙ ap (λ es. es ++ b.more_entries) a.entries ∙ append_assoc v.entries a.more_entries b.more_entries;
+  more_retired = a.more_retired ++ b.more_retired;
+  retired = b.retired ∙ ap (λ ns. ns ++ b.more_retired) a.retired ∙ append_assoc v.retired a.more_retired b.more_retired;
+  taken = λ ecu h. b.taken ecu (a.taken ecu h);
+}
 
 pub onward : LaterIsTransitive
 onward s t u a b = record {
@@ -49,8 +63,8 @@ onward s t u a b = record {
   images = λ file image h. b.images file image (a.images file image h);
   vehicles = λ name v h.
       let first = a.vehicles name v h in
-      let second = b.vehicles name (record v { entries = v.entries ++ first.0 }) first.1 in
-      (first.0 ++ second.0, second.1 ∙ ap (λ es. Some (record v { entries = es })) (append_assoc v.entries first.0 second.0));
+      let second = b.vehicles name first.0 first.1 in
+      (second.0, second.1, both_later v first.0 second.0 first.2 second.2);
 }
 
 -- ---- each outcome
@@ -75,11 +89,76 @@ grown_entries s name v e found = record {
 }
   where
     by_test : (q : Name) (w : Vehicle) → table.get s.vehicles q ≡ Some w → (b : Bool) → eq_by_cmp (slice_cmp nat_cmp) q name ≡ b
-        → (more : List Entry) × (table.get (with_entry s name v e).vehicles q ≡ Some (record w { entries = w.entries ++ more }))
+        → (x : Vehicle) × (table.get (with_entry s name v e).vehicles q ≡ Some x) × IsLaterVehicle w x
     by_test q w there true is =
-        let same : v ≡ w = one_value _ v w found (ap (table.get s.vehicles) (sym (one_name q name is)) ∙ there) in
-        (e ∷ [], get_new s.vehicles name q _ ∙ rw is (ap (λ (x : Vehicle). Some (record x { entries = x.entries ++ e ∷ [] })) same))
-    by_test q w there false is = ([], get_new s.vehicles name q _ ∙ rw is (there ∙ ap Some (more_of_none w)))
+        let same : v ≡ w = one_value _ v w found (ap (table.get s.vehicles) (sym (one_name q name is)) ∙ there) in (
+          record v { entries = v.entries ++ e ∷ [] },
+          get_new s.vehicles name q _ ∙ rw is refl,
+          subst (λ (x : Vehicle). IsLaterVehicle x (record v { entries = v.entries ++ e ∷ [] })) same
+              (record { primary = refl; more_entries = e ∷ []; entries = refl; more_retired = []; retired = sym (append-nil v.retired); taken = λ ecu h. h }),
+        )
+    by_test q w there false is = (w, get_new s.vehicles name q _ ∙ rw is there, same_later w)
+
+-- ---- replacements
+
+pub or_left : (a b : Bool) → a ≡ true → (a || b) ≡ true
+or_left true b h = refl
+or_left false b h = cc
+
+pub or_right : (a b : Bool) → b ≡ true → (a || b) ≡ true
+or_right true b h = refl
+or_right false b h = h
+
+-- a name that was taken is that of an ECU that stays, of the one that is replaced, or of one that was
+pub still_taken : (old ecu : Name) (new : NewEcu) (ecus : List NewEcu) → has_ecu ecu ecus ≡ true → (has_ecu ecu (map (in_place_of old new) ecus) ≡ true) ⊎ (bytes_eq old ecu ≡ true)
+still_taken old ecu new [] h = cc
+still_taken old ecu new (e ∷ ecus) h = by_test (still_taken old ecu new ecus) (bytes_eq e.ecu ecu) (bytes_eq e.ecu old) refl refl h
+  where
+    by_test : (has_ecu ecu ecus ≡ true → (has_ecu ecu (map (in_place_of old new) ecus) ≡ true) ⊎ (bytes_eq old ecu ≡ true)) → (a b : Bool) → bytes_eq e.ecu ecu ≡ a → bytes_eq e.ecu old ≡ b → (a || has_ecu ecu ecus) ≡ true
+        → ((bytes_eq (if b then new else e).ecu ecu || has_ecu ecu (map (in_place_of old new) ecus)) ≡ true) ⊎ (bytes_eq old ecu ≡ true)
+    by_test more true true is hit h = inr (let same : e.ecu ≡ old = (bytes_decides e.ecu old).0 hit in ap (λ n. bytes_eq n ecu) (sym same) ∙ is)
+    by_test more true false is hit h = inl (or_left _ _ is)
+    by_test more false b is hit h = elim (more h) [
+      | inl there ↦ inl (or_right _ _ there)
+      | inr it ↦ inr it
+    ]
+
+pub one_more_name : (ecu old : Name) (names : List Name) → (is_among ecu names || bytes_eq old ecu) ≡ is_among ecu (names ++ old ∷ [])
+one_more_name ecu old [] = or-false-last (bytes_eq old ecu)
+  where
+    or-false-last : (b : Bool) → b ≡ (b || false)
+    or-false-last true = refl
+    or-false-last false = refl
+one_more_name ecu old (n ∷ names) = by_test (bytes_eq n ecu) (one_more_name ecu old names)
+  where
+    by_test : (b : Bool) → (is_among ecu names || bytes_eq old ecu) ≡ is_among ecu (names ++ old ∷ []) → ((b || is_among ecu names) || bytes_eq old ecu) ≡ (b || is_among ecu (names ++ old ∷ []))
+    by_test true h = refl
+    by_test false h = h
+
+pub replaced_later : (v : Vehicle) (old : Name) (new : NewEcu) → IsLaterVehicle v (with_replaced v old new)
+replaced_later v old new = record { primary = refl; more_entries = []; entries = sym (append-nil v.entries); more_retired = old ∷ []; retired = refl; taken = λ ecu h. stays ecu (has_ecu ecu v.ecus) refl h }
+  where
+    stays : (ecu : Name) (a : Bool) → has_ecu ecu v.ecus ≡ a → (a || is_among ecu v.retired) ≡ true → is_taken_in ecu (with_replaced v old new) ≡ true
+    stays ecu true is h = elim (still_taken old ecu new v.ecus is) [
+      | inl there ↦ or_left _ _ there
+      | inr it ↦ or_right _ _ (sym (one_more_name ecu old v.retired) ∙ or_right (is_among ecu v.retired) _ it)
+    ]
+    stays ecu false is h = or_right _ _ (sym (one_more_name ecu old v.retired) ∙ or_left _ _ h)
+
+pub grown_replacement : (s : State) (r : Replacement) (v : Vehicle) → table.get s.vehicles r.vehicle ≡ Some v → IsLater s (with_replacement s r v)
+grown_replacement s r v found = record {
+  more_roots = [];
+  roots = sym (append-nil s.roots);
+  images = λ file old there. there;
+  vehicles = λ q w there. by_test q w there (eq_by_cmp (slice_cmp nat_cmp) q r.vehicle) refl;
+}
+  where
+    by_test : (q : Name) (w : Vehicle) → table.get s.vehicles q ≡ Some w → (b : Bool) → eq_by_cmp (slice_cmp nat_cmp) q r.vehicle ≡ b
+        → (x : Vehicle) × (table.get (with_replacement s r v).vehicles q ≡ Some x) × IsLaterVehicle w x
+    by_test q w there true is =
+        let same : v ≡ w = one_value _ v w found (ap (table.get s.vehicles) (sym (one_name q r.vehicle is)) ∙ there) in
+        (with_replaced v r.old r.ecu, get_new s.vehicles r.vehicle q _ ∙ rw is refl, subst (λ (x : Vehicle). IsLaterVehicle x (with_replaced v r.old r.ecu)) same (replaced_later v r.old r.ecu))
+    by_test q w there false is = (w, get_new s.vehicles r.vehicle q _ ∙ rw is there, same_later w)
 
 unchanged : (s : State) (o : Outcome) → already s ≡ o → IsLater s o.next
 unchanged s o h = subst (λ (o : Outcome). IsLater s o.next) h (itself s)
@@ -101,6 +180,9 @@ grow_outcome k s at (AddVehicle new) o h = elim (vehicle_ok k s at new o h) [
   | inl same ↦ unchanged s o same
   | inr is ↦ subst (λ (o : Outcome). IsLater s o.next) is.is (grown_vehicle s new is.none)
 ]
+grow_outcome k s at (ReplaceEcu r) o h =
+    let is = replace_ok k s at r o h in
+    subst (λ (o : Outcome). IsLater s o.next) is.is (grown_replacement s r is.vehicle is.there)
 grow_outcome k s at (OpenCampaign campaign) o h = elim (open_ok s at campaign o h) [
   | inl same ↦ unchanged s o same
   | inr is ↦ subst (λ (o : Outcome). IsLater s o.next) is.is (same_vehicles s _ [] (sym (append-nil s.roots)) refl refl)

@@ -15,7 +15,10 @@ pub mod Refusing
 pub mod Planned
 pub mod Staying
 pub mod Accepting
+pub mod Replacing
+pub mod ReplacedRows
 pub mod Soundness
+pub mod Retired
 pub mod Repeating
 pub mod Effects
 pub mod Apart

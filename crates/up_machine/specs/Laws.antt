@@ -1,5 +1,5 @@
 -- The laws of the plain machine over single commands and over runs.
-use Rattle.std.specs.Prelude.{◌≡◌, ℕ, ◌≤◌, List, ◌++◌, Some, IsTrue, slice_get}
+use Rattle.std.specs.Prelude.{◌≡◌, ℕ, ◌≤◌, List, ◌++◌, false, Some, IsTrue, slice_get}
 use Rattle.std.specs.List.{AllByRecursion}
 use Rattle.std.specs.FinMap as table
 use Rattle.up_canon.specs.Canon.{max_count}
@@ -11,7 +11,7 @@ use Rattle.up_machine.specs.declared.answer.Answer.TheVariants.{Refused, Already
 use Rattle.up_machine.specs.declared.answer.Reply.{Reply}
 use Rattle.up_canon.specs.declared.refusal.Refusal.{Refusal}
 use Rattle.up_machine.specs.Commands.{is_command}
-use Rattle.up_machine.specs.State.{Entry, Vehicle, Root, State, empty_state, version, last_counter}
+use Rattle.up_machine.specs.State.{Entry, Vehicle, Root, State, empty_state, version, last_counter, is_taken_in, is_recorded, is_retired}
 use Rattle.up_machine.specs.Replies.{kept_reply}
 use Rattle.up_machine.specs.Machine.{Timed, step, run}
 use Rattle.up_machine.specs.Sound.{CountersRise, IsSound}
@@ -50,13 +50,22 @@ VersionsAreCounts = (k : Rules) (s : State) (name : Name) (v : Vehicle) → IsSo
 
 -- ---- later states
 
--- roots and images are only added, and a vehicle keeps its Primary and its ECUs and its entries only grow
+-- a vehicle keeps its Primary, its entries and the names of replaced ECUs only grow, and each name that was taken is taken still
+pub record IsLaterVehicle (v later : Vehicle) : Type 0 where
+  pub primary : later.primary ≡ v.primary
+  pub more_entries : List Entry
+  pub entries : later.entries ≡ v.entries ++ more_entries
+  pub more_retired : List Name
+  pub retired : later.retired ≡ v.retired ++ more_retired
+  pub taken : (ecu : Name) → IsTrue (is_taken_in ecu v) → IsTrue (is_taken_in ecu later)
+
+-- roots and images are only added, and each vehicle stays, with all that was accepted of it
 pub record IsLater (s later : State) : Type 0 where
   pub more_roots : List Root
   pub roots : later.roots ≡ s.roots ++ more_roots
   pub images : (file : Name) (image : ImageData) → table.get s.images file ≡ Some image → table.get later.images file ≡ Some image
   pub vehicles : (name : Name) (v : Vehicle) → table.get s.vehicles name ≡ Some v
-      → (more : List Entry) × (table.get later.vehicles name ≡ Some (record v { entries = v.entries ++ more }))
+      → (w : Vehicle) × (table.get later.vehicles name ≡ Some w) × IsLaterVehicle v w
 
 abbrev pub LaterIsReflexive : Type 0
 LaterIsReflexive = (s : State) → IsLater s s
@@ -69,6 +78,21 @@ StepsGrow = (k : Rules) (s : State) (at : ℕ) (c : Command) → IsLater s (step
 
 abbrev pub RunsGrow : Type 0
 RunsGrow = (k : Rules) (s : State) (ts : List Timed) → IsLater s (run k s ts)
+
+-- ---- replaced ECUs
+
+-- the name of a replaced ECU stays one
+abbrev pub RetiredStayRetired : Type 0
+RetiredStayRetired = (k : Rules) (s : State) (ts : List Timed) (ecu : Name) → IsTrue (is_retired s ecu) → IsTrue (is_retired (run k s ts) ecu)
+
+-- no ECU of any vehicle has it
+abbrev pub RetiredAreNoEcus : Type 0
+RetiredAreNoEcus = (k : Rules) (s : State) (ecu : Name) → IsSound k s → IsTrue (is_retired s ecu) → is_recorded s ecu ≡ false
+
+-- and none ever has it again
+abbrev pub RetiredAreNeverRecorded : Type 0
+RetiredAreNeverRecorded = (k : Rules) (s : State) (ts : List Timed) (ecu : Name) → AllByRecursion (λ t. IsTrue (is_command t.command)) ts → IsSound k s
+    → IsTrue (is_retired s ecu) → is_recorded (run k s ts) ecu ≡ false
 
 -- ---- kept replies
 

@@ -1,5 +1,5 @@
 -- The state of the plain machine, and what is read off it. It holds nothing that can be computed from the rest of it.
-use Rattle.std.specs.Prelude.{ℕ, ◌-◌, ◌==◌, max, List, [], ◌∷◌, Bool, Option, None, option_map, option_and_then, if◌then◌else◌, length, find, bytes_eq, slice_get}
+use Rattle.std.specs.Prelude.{ℕ, ◌-◌, ◌==◌, ◌||◌, max, List, [], ◌∷◌, Bool, Option, None, option_map, option_and_then, if◌then◌else◌, length, find, bytes_eq, slice_get}
 use Rattle.std.specs.List.{list_any}
 use Rattle.std.specs.FinMap as table
 use Rattle.up_canon.specs.Names.{Name, Table}
@@ -12,7 +12,7 @@ use Rattle.up_plan.specs.Campaigns.{CampaignData}
 use Rattle.up_plan.specs.Images.{ImageData}
 use Rattle.up_machine.specs.declared.keys.KeySet.{KeySet}
 use Rattle.up_machine.specs.declared.vehicle.NewEcu.{NewEcu}
-use Rattle.up_machine.specs.Vehicles.{has_ecu}
+use Rattle.up_machine.specs.Vehicles.{NewVehicleData, has_ecu, is_among}
 
 -- ---- the state
 
@@ -24,10 +24,12 @@ pub record Entry : Type 0 where
   pub root : ℕ
   pub plan : Plan
 
--- a vehicle of the inventory: its Primary, its ECUs in inventory order, and its accepted manifests in the order of acceptance
+-- a vehicle of the inventory: its Primary, its ECUs in inventory order, the identifiers of those that were replaced, and its accepted
+-- manifests in the order of acceptance
 pub record Vehicle : Type 0 where
   pub primary : Name
   pub ecus : List NewEcu
+  pub retired : List Name
   pub entries : List Entry
 
 -- a root version of both repositories: the keys and the moment
@@ -92,6 +94,22 @@ installed_on v ecu = option_map (λ r. r.report.image) (last_report v ecu)
 
 -- ---- the inventory
 
--- whether an ECU of the name stands in a vehicle
+-- a vehicle that is added: none of its ECUs was replaced, and none of its manifests was accepted
+abbrev pub added : NewVehicleData → Vehicle
+added new = record { primary = new.primary; ecus = new.ecus; retired = []; entries = [] }
+
+-- whether the name is that of an ECU of the vehicle, or of one that was replaced
+abbrev pub is_taken_in : Name → Vehicle → Bool
+is_taken_in ecu v = has_ecu ecu v.ecus || is_among ecu v.retired
+
+-- whether it is that of an ECU of any vehicle
 abbrev pub is_recorded : State → Name → Bool
 is_recorded s ecu = list_any (λ v. has_ecu ecu v.ecus) (table.values s.vehicles)
+
+-- whether it is that of an ECU of any vehicle that was replaced
+abbrev pub is_retired : State → Name → Bool
+is_retired s ecu = list_any (λ v. is_among ecu v.retired) (table.values s.vehicles)
+
+-- whether it is either
+abbrev pub is_taken : State → Name → Bool
+is_taken s ecu = list_any (is_taken_in ecu) (table.values s.vehicles)

@@ -7,7 +7,7 @@ ghost use Rattle.up_canon.specs.declared.refusal.Refusal.TheVariants.{BadShape, 
 ghost use Rattle.up_canon.specs.Steps.{and_then};
 ghost use Rattle.up_machine.specs.Deciding.{check_founded as check_founded_in, where_new};
 ghost use Rattle.up_machine.specs.Keys.{public_fits};
-ghost use Rattle.up_machine.specs.State.{State, is_recorded};
+ghost use Rattle.up_machine.specs.State.{State, added, is_taken};
 ghost use Rattle.up_machine.specs.Sound.{IsSound};
 ghost use Rattle.up_machine.specs.Rows.{founding_row, rows_of, vehicle_rows};
 ghost use Rattle.up_machine.specs.Vehicles.{ecu_names, first_marked};
@@ -31,8 +31,8 @@ use up_sign::scheme::Scheme;
 
 /// Decides on a new vehicle, at a command's moment: `BadShape` with `key` where a public part doesn't fit; `NotFounded`;
 /// `Already` where an equal vehicle is there; `VehicleTaken` where another one has its name; `DuplicateEcu`; `EcuTaken`;
-/// `Memory`. The rows are those of the vehicle of that name, and for each new ECU whether one of its name stands in any
-/// vehicle.
+/// `Memory`. The rows are those of the vehicle of that name, and for each new ECU whether its name is that of any ECU,
+/// or of one that was replaced.
 #[tactic(auto, unfolding(crate::specs::Inventory::decide_vehicle, up_canon::specs::Steps::and_then))]
 pub fn decide_vehicle<K: Scheme>(
     alloc: Global,
@@ -41,17 +41,17 @@ pub fn decide_vehicle<K: Scheme>(
     new: &NewVehicle,
     is_founded: bool,
     old: Option<&VehicleRows>,
-    recorded: &[bool],
+    taken: &[bool],
 ) -> Result<Decision<VehicleRows>, Refusal>
     requires { at ≤ last_command_moment }
     ensures key { list_all (λ e. public_fits (K.rules scheme.now) e.public) new.now.ecus ≡ false → result ≡ Err (BadShape (codes "key")) }
     ensures decided { (s : State) → IsSound (K.rules scheme.now) s → is_founded ≡ is_some (founding_row s)
-        → option_copied old.entry ≡ vehicle_rows s new.now.vehicle → recorded.now ≡ map (is_recorded s) (ecu_names new.now.ecus)
-        → GivesDecision (λ rows. rows ≡ rows_of new.now.vehicle (record { primary = new.now.primary; ecus = new.now.ecus; entries = [] })) s (with_vehicle s new.now) result
+        → option_copied old.entry ≡ vehicle_rows s new.now.vehicle → taken.now ≡ map (is_taken s) (ecu_names new.now.ecus)
+        → GivesDecision (λ rows. rows ≡ rows_of new.now.vehicle (added new.now)) s (with_vehicle s new.now) result
         (decide_vehicle_in (K.rules scheme.now) s at new.now) }
 {
     if publics_fit(scheme, new.ecus.as_slice()) {
-        decide_fitting(alloc, new, is_founded, old, recorded)
+        decide_fitting(alloc, new, is_founded, old, taken)
     } else {
         Err(Refusal::from("key"))
     }
@@ -64,15 +64,15 @@ fn decide_fitting(
     new: &NewVehicle,
     is_founded: bool,
     old: Option<&VehicleRows>,
-    recorded: &[bool],
+    taken: &[bool],
 ) -> Result<Decision<VehicleRows>, Refusal>
     ensures { (s : State) → is_founded ≡ is_some (founding_row s)
-        → option_copied old.entry ≡ vehicle_rows s new.now.vehicle → recorded.now ≡ map (is_recorded s) (ecu_names new.now.ecus)
-        → GivesDecision (λ rows. rows ≡ rows_of new.now.vehicle (record { primary = new.now.primary; ecus = new.now.ecus; entries = [] })) s (with_vehicle s new.now) result
+        → option_copied old.entry ≡ vehicle_rows s new.now.vehicle → taken.now ≡ map (is_taken s) (ecu_names new.now.ecus)
+        → GivesDecision (λ rows. rows ≡ rows_of new.now.vehicle (added new.now)) s (with_vehicle s new.now) result
         (and_then (check_founded_in s) (λ _. where_new s (same_vehicle_of new.now) VehicleTaken (table.get s.vehicles new.now.vehicle) (decide_new_vehicle s new.now))) }
 {
     check_founded(is_founded)?;
-    decide_named(alloc, new, old, recorded)
+    decide_named(alloc, new, old, taken)
 }
 
 /// Decides on a new vehicle, once the repositories are founded.
@@ -80,10 +80,10 @@ fn decide_named(
     alloc: Global,
     new: &NewVehicle,
     old: Option<&VehicleRows>,
-    recorded: &[bool],
+    taken: &[bool],
 ) -> Result<Decision<VehicleRows>, Refusal>
-    ensures { (s : State) → option_copied old.entry ≡ vehicle_rows s new.now.vehicle → recorded.now ≡ map (is_recorded s) (ecu_names new.now.ecus)
-        → GivesDecision (λ rows. rows ≡ rows_of new.now.vehicle (record { primary = new.now.primary; ecus = new.now.ecus; entries = [] })) s (with_vehicle s new.now) result
+    ensures { (s : State) → option_copied old.entry ≡ vehicle_rows s new.now.vehicle → taken.now ≡ map (is_taken s) (ecu_names new.now.ecus)
+        → GivesDecision (λ rows. rows ≡ rows_of new.now.vehicle (added new.now)) s (with_vehicle s new.now) result
         (where_new s (same_vehicle_of new.now) VehicleTaken (table.get s.vehicles new.now.vehicle) (decide_new_vehicle s new.now)) }
 {
     match old {
@@ -94,41 +94,41 @@ fn decide_named(
                 Err(Refusal::VehicleTaken)
             }
         }
-        None => decide_new(alloc, new, recorded),
+        None => decide_new(alloc, new, taken),
     }
 }
 
 /// Decides on a vehicle of a name that none has.
-#[tactic(auto, using(crate::proofs::AddedVehicles::recorded_first, crate::proofs::AddedVehicles::rows_of_new), unfolding(crate::specs::Inventory::decide_new_vehicle, up_canon::specs::Steps::and_then))]
+#[tactic(auto, using(crate::proofs::AddedVehicles::taken_first, crate::proofs::AddedVehicles::rows_of_new), unfolding(crate::specs::Inventory::decide_new_vehicle, up_canon::specs::Steps::and_then))]
 fn decide_new(
     alloc: Global,
     new: &NewVehicle,
-    recorded: &[bool],
+    taken: &[bool],
 ) -> Result<Decision<VehicleRows>, Refusal>
-    ensures { (s : State) → recorded.now ≡ map (is_recorded s) (ecu_names new.now.ecus)
-        → GivesDecision (λ rows. rows ≡ rows_of new.now.vehicle (record { primary = new.now.primary; ecus = new.now.ecus; entries = [] })) s (with_vehicle s new.now) result
+    ensures { (s : State) → taken.now ≡ map (is_taken s) (ecu_names new.now.ecus)
+        → GivesDecision (λ rows. rows ≡ rows_of new.now.vehicle (added new.now)) s (with_vehicle s new.now) result
         (decide_new_vehicle s new.now) }
 {
     let ecus = new.ecus.as_slice();
     if let Some(repeated) = first_repeated(ecus) {
         return Err(Refusal::DuplicateEcu(repeated.ecu.copy(alloc)?));
     }
-    if let Some(ecu) = first_recorded(ecus, recorded) {
+    if let Some(ecu) = first_taken(ecus, taken) {
         return Err(Refusal::EcuTaken(ecu.copy(alloc)?));
     }
     Ok(Decision::New(new_rows(alloc, new)?))
 }
 
-/// The first ECU that stands in a vehicle.
-fn first_recorded<'a>(ecus: &'a [NewEcu], recorded: &[bool]) -> Option<&'a Ident>
-    ensures { option_copied result ≡ first_marked ecus.now recorded.now }
+/// The first ECU whose name is marked.
+fn first_taken<'a>(ecus: &'a [NewEcu], taken: &[bool]) -> Option<&'a Ident>
+    ensures { option_copied result ≡ first_marked ecus.now taken.now }
 {
     let [ecu, ecus @ ..] = ecus else {
         return None;
     };
-    match recorded {
+    match taken {
         [] => None,
         [true, ..] => Some(&ecu.ecu),
-        [false, recorded @ ..] => first_recorded(ecus, recorded),
+        [false, taken @ ..] => first_taken(ecus, taken),
     }
 }

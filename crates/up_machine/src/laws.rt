@@ -1,5 +1,5 @@
 //! The laws of the plain machine.
-ghost use Rattle.up_machine.specs.Laws.{RefusalsChangeNothing, AlreadyChangesNothing, EmptyIsSound, StepsStaySound, RunsStaySound, CountersTellEntries, VersionsAreCounts, LaterIsReflexive, LaterIsTransitive, StepsGrow, RunsGrow, KeptRepliesStay, KeptRepliesOutlastRuns};
+ghost use Rattle.up_machine.specs.Laws.{RefusalsChangeNothing, AlreadyChangesNothing, EmptyIsSound, StepsStaySound, RunsStaySound, CountersTellEntries, VersionsAreCounts, LaterIsReflexive, LaterIsTransitive, StepsGrow, RunsGrow, RetiredStayRetired, RetiredAreNoEcus, RetiredAreNeverRecorded, KeptRepliesStay, KeptRepliesOutlastRuns};
 ghost use Rattle.up_machine.specs.RepeatLaws.{RepeatsAreStale, RepeatsGetKeptReplies, CountersFindRepeats, OlderCountersAreStale, RepeatsChangeNothing, ServedIsThinned, ServedStaysSound};
 ghost use Rattle.up_machine.specs.ApartLaws.{VehiclesStandApart, DeliveriesCommute, InstalledIsOfTheVehicle};
 ghost use Rattle.up_machine.specs.RowLaws.{FoundingRowFits, VehicleRowsFit};
@@ -13,8 +13,9 @@ pub fn refusals_change_nothing()
     ensures already { AlreadyChangesNothing }
 {}
 
-/// Every state that commands reach from the empty one is sound: limits hold, keys fit, an ECU stands in one vehicle, what
-/// campaigns and plans name exists, and each kept manifest is one of its vehicle, with counters that rise.
+/// Every state that commands reach from the empty one is sound: limits hold, keys fit, an identifier is that of an ECU, or of a
+/// replaced one, of one vehicle alone, what campaigns and plans name exists, and each kept manifest is one of its vehicle, with
+/// counters that rise.
 pub fn states_stay_sound()
     ensures empty { EmptyIsSound }
     ensures step { StepsStaySound }
@@ -29,13 +30,23 @@ pub fn counters_tell_entries()
     ensures versions { VersionsAreCounts }
 {}
 
-/// Roots, images and vehicles are only added, and a vehicle's accepted manifests only grow.
+/// Roots, images and vehicles are only added. A vehicle keeps its Primary, its accepted manifests and retired identifiers only
+/// grow, and an identifier that was taken stays taken.
 pub fn states_only_grow()
     ensures reflexive { LaterIsReflexive }
     ensures transitive { LaterIsTransitive }
     ensures step { StepsGrow }
     ensures run { RunsGrow }
 {}
+
+/// A retired identifier stays retired, and no ECU of any vehicle has it, now or ever again.
+pub fn retired_stay_retired()
+    ensures stay { RetiredStayRetired }
+    ensures apart { RetiredAreNoEcus }
+    ensures never { RetiredAreNeverRecorded }
+{
+    body_laws();
+}
 
 /// The reply that was kept for an accepted manifest is the same text in every later state, whatever keys were rotated,
 /// images added and campaigns closed since.

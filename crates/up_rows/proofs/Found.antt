@@ -1,7 +1,8 @@
 -- What is looked up among the rows of a state is the state's.
 use Rattle.std.proofs.Common.{◌≡◌, ℕ, ◌+◌, List, [], ◌∷◌, Bool, true, false, cond, Option, Some, None, map, refl, ap, ap₂, ◌∙◌}
-use Rattle.std.specs.Prelude.{◌==◌, ◌||◌, option_map, option_and_then, unwrap_or, find, length, bytes_eq}
-use Rattle.std.specs.List.{enumerate_from, list_any}
+use Rattle.std.specs.Prelude.{◌==◌, ◌||◌, is_some, option_map, option_and_then, unwrap_or, find, length, bytes_eq}
+use Rattle.std.specs.List.{AllByRecursion, enumerate_from, list_any}
+use Rattle.std.specs.Option.{option_or}
 use Rattle.std.specs.Cmp.Lexicographic.{bytes_decides}
 use Rattle.std.specs.FinMap as table
 use Rattle.up_canon.specs.Names.{Name}
@@ -11,13 +12,14 @@ use Rattle.up_machine.specs.declared.rows.EcuRow.{EcuRow}
 use Rattle.up_machine.specs.declared.rows.VehicleRows.{VehicleRows}
 use Rattle.up_machine.specs.declared.rows.Kept.{Kept}
 use Rattle.up_machine.specs.declared.vehicle.NewEcu.{NewEcu}
-use Rattle.up_machine.specs.Vehicles.{has_ecu, ecu_names}
+use Rattle.up_machine.specs.Vehicles.{has_ecu, is_among, ecu_names}
 use Rattle.up_machine.specs.State.{Entry, Vehicle, State, last_counter, plan_for, installed_on}
 use Rattle.up_machine.specs.Rows.{ecu_row, rows_of, kept_row}
 use Rattle.up_machine.proofs.SoundRows.{row_names}
-use Rattle.up_rows.specs.StateRows.{rows_of_state}
-use Rattle.up_rows.specs.Lookups.{stands_among, has_ecu_row, owner_among, installed_among, kept_with}
-use Rattle.up_rows.specs.Laws.{VehiclesAreFound, KeptAreFound, OwnersAreFound, VersionsAreTold, EcusAreTold, InstalledIsTold, AssignedIsTold}
+use Rattle.up_machine.proofs.Values.{each_found}
+use Rattle.up_rows.specs.StateRows.{retired_names, rows_of_state}
+use Rattle.up_rows.specs.Lookups.{stands_among, owner_among, last_owner, installed_among, kept_with}
+use Rattle.up_rows.specs.Laws.{VehiclesAreFound, KeptAreFound, TakenAreFound, VersionsAreTold, EcusAreTold, InstalledIsTold, AssignedIsTold}
 use Rattle.up_rows.proofs.Tables.{changed, entries_changed, get_changed}
 use Rattle.up_rows.proofs.Staying.{rows_for}
 
@@ -40,18 +42,64 @@ ecus_told k s name = ap (option_map (λ (rows : VehicleRows). map (λ (row : Ecu
     by_case None = refl
     by_case (Some v) = ap Some (row_names v v.ecus)
 
--- ---- whether an ECU stands in a vehicle
+-- ---- whether a name is that of an ECU, or of one that was replaced
 
 among_rows : (v : Vehicle) (ecu : Name) (ecus : List NewEcu) → stands_among ecu (map (ecu_row v) ecus) ≡ has_ecu ecu ecus
 among_rows v ecu [] = refl
 among_rows v ecu (e ∷ ecus) = ap (λ t. bytes_eq e.ecu ecu || t) (among_rows v ecu ecus)
 
-among_vehicles : (ecu : Name) (es : List (Name × Vehicle)) → has_ecu_row ecu (map (λ e. e.1) (map (changed rows_of) es)) ≡ list_any (λ (v : Vehicle). has_ecu ecu v.ecus) (map (λ e. e.1) es)
+abbrev any_has : Name → List VehicleRows → Bool
+any_has ecu vehicles = list_any (λ (rows : VehicleRows). stands_among ecu rows.ecus) vehicles
+
+among_vehicles : (ecu : Name) (es : List (Name × Vehicle)) → any_has ecu (map (λ e. e.1) (map (changed rows_of) es)) ≡ list_any (λ (v : Vehicle). has_ecu ecu v.ecus) (map (λ e. e.1) es)
 among_vehicles ecu [] = refl
 among_vehicles ecu (e ∷ es) = ap₂ (λ a c. a || c) (among_rows e.1 ecu e.1.ecus) (among_vehicles ecu es)
 
-pub owners_found : OwnersAreFound
-owners_found k s ecu = ap (λ (es : List (Name × VehicleRows)). has_ecu_row ecu (map (λ e. e.1) es)) (entries_changed rows_of s.vehicles) ∙ among_vehicles ecu (table.entries s.vehicles)
+abbrev any_had : State → Name → List Name → Bool
+any_had s ecu names = list_any (λ (name : Name). is_among ecu (retired_names s name)) names
+
+among_retired : (s : State) (ecu : Name) (es : List (Name × Vehicle)) → AllByRecursion (λ (e : Name × Vehicle). table.get s.vehicles e.0 ≡ Some e.1) es
+    → any_had s ecu (map (λ e. e.0) (map (changed rows_of) es)) ≡ list_any (λ (v : Vehicle). is_among ecu v.retired) (map (λ e. e.1) es)
+among_retired s ecu [] all = refl
+among_retired s ecu (e ∷ es) all = ap₂ (λ a c. a || c) (ap (λ (o : Option Vehicle). is_among ecu (unwrap_or (option_map (λ (v : Vehicle). v.retired) o) [])) all.0) (among_retired s ecu es all.1)
+
+or_exchanged : (a b c d : Bool) → ((a || c) || (b || d)) ≡ ((a || b) || (c || d))
+or_exchanged true b c d = refl
+or_exchanged false true true d = refl
+or_exchanged false true false d = refl
+or_exchanged false false c d = refl
+
+either_any : {A : Type 0} (p q : A → Bool) (xs : List A) → (list_any p xs || list_any q xs) ≡ list_any (λ x. p x || q x) xs
+either_any p q [] = refl
+either_any p q (x ∷ xs) = or_exchanged (p x) (q x) (list_any p xs) (list_any q xs) ∙ ap (λ t. (p x || q x) || t) (either_any p q xs)
+
+found_any : {A : Type 0} (test : A → Bool) (xs : List A) → is_some (find test xs) ≡ list_any test xs
+found_any test [] = refl
+found_any test (x ∷ xs) = by_test (test x) (found_any test xs)
+  where
+    by_test : (b : Bool) → is_some (find test xs) ≡ list_any test xs → is_some (cond b (Some x) (find test xs)) ≡ (b || list_any test xs)
+    by_test true more = refl
+    by_test false more = more
+
+some_or : {A B : Type 0} (f : A → B) (o : Option A) (p : Option B) → is_some (option_or (option_map f o) p) ≡ (is_some o || is_some p)
+some_or f None p = refl
+some_or f (Some x) p = refl
+
+has_found : (k : Rules) (s : State) (ecu : Name) → is_some (owner_among ecu (table.values (rows_of_state k s).vehicles)) ≡ list_any (λ (v : Vehicle). has_ecu ecu v.ecus) (table.values s.vehicles)
+has_found k s ecu =
+    found_any (λ (rows : VehicleRows). stands_among ecu rows.ecus) (table.values (rows_of_state k s).vehicles)
+    ∙ ap (λ (es : List (Name × VehicleRows)). any_has ecu (map (λ e. e.1) es)) (entries_changed rows_of s.vehicles) ∙ among_vehicles ecu (table.entries s.vehicles)
+
+had_found : (k : Rules) (s : State) (ecu : Name) → is_some (last_owner ecu (rows_of_state k s)) ≡ list_any (λ (v : Vehicle). is_among ecu v.retired) (table.values s.vehicles)
+had_found k s ecu =
+    found_any (λ (name : Name). is_among ecu (retired_names s name)) (table.keys (rows_of_state k s).vehicles)
+    ∙ ap (λ (es : List (Name × VehicleRows)). any_had s ecu (map (λ e. e.0) es)) (entries_changed rows_of s.vehicles) ∙ among_retired s ecu (table.entries s.vehicles) (each_found s.vehicles)
+
+pub taken_found : TakenAreFound
+taken_found k s ecu =
+    some_or (λ (v : VehicleRows). v.vehicle.vehicle) (owner_among ecu (table.values (rows_of_state k s).vehicles)) (last_owner ecu (rows_of_state k s))
+    ∙ ap₂ (λ a c. a || c) (has_found k s ecu) (had_found k s ecu)
+    ∙ either_any (λ (v : Vehicle). has_ecu ecu v.ecus) (λ (v : Vehicle). is_among ecu v.retired) (table.values s.vehicles)
 
 -- ---- the image that an ECU reported last
 

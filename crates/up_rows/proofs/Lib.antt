@@ -7,4 +7,5 @@ pub mod Files
 pub mod Roots
 mod Registers
 pub mod Vehicles
+mod Replacements
 mod Fitting

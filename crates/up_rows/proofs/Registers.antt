@@ -10,7 +10,7 @@ use Rattle.up_machine.specs.Laws.{IsLater}
 use Rattle.up_machine.proofs.Growing.{later_with}
 use Rattle.up_machine.proofs.Tables.{kept_by_insert}
 use Rattle.up_rows.specs.Tables.{each_value}
-use Rattle.up_rows.specs.StateRows.{root_rows, kept_rows}
+use Rattle.up_rows.specs.StateRows.{root_rows, kept_rows, retired_names}
 use Rattle.up_rows.specs.Laws.{FilesAreReplaced, ImagesAreAdded}
 use Rattle.up_rows.proofs.Staying.{kept_stay}
 
@@ -21,7 +21,7 @@ files_replaced k s at version rows sound has =
     let founding : Some rows.founding ≡ founding_row next = sym has.founding in
     let files : Some rows.files ≡ image_texts k next = sym has.files in
     let kept : (name : Name) → kept_rows k s name ≡ kept_rows k next name = λ name. sym (kept_stay k s next name sound later refl) in
-    λ i. record { founding = founding i; roots = root_rows k s; images = s.images; files = files i; campaigns = s.campaigns; vehicles = each_value rows_of s.vehicles; kept = λ name. kept name i }
+    λ i. record { founding = founding i; roots = root_rows k s; images = s.images; files = files i; campaigns = s.campaigns; vehicles = each_value rows_of s.vehicles; kept = λ name. kept name i; retired = retired_names s }
 
 pub images_added : ImagesAreAdded
 images_added k s at version image rows sound new has =
@@ -30,4 +30,4 @@ images_added k s at version image rows sound new has =
     let founding : Some rows.founding ≡ founding_row next = sym has.founding in
     let files : Some rows.files ≡ image_texts k next = sym has.files in
     let kept : (name : Name) → kept_rows k s name ≡ kept_rows k next name = λ name. sym (kept_stay k s next name sound later refl) in
-    λ i. record { founding = founding i; roots = root_rows k s; images = table.insert s.images image.file image; files = files i; campaigns = s.campaigns; vehicles = each_value rows_of s.vehicles; kept = λ name. kept name i }
+    λ i. record { founding = founding i; roots = root_rows k s; images = table.insert s.images image.file image; files = files i; campaigns = s.campaigns; vehicles = each_value rows_of s.vehicles; kept = λ name. kept name i; retired = retired_names s }

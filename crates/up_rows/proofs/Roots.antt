@@ -1,5 +1,5 @@
 -- One more root version takes the rows of a state to those of the next.
-use Rattle.std.proofs.Common.{◌≡◌, ℕ, ◌+◌, ◌-◌, List, [], ◌∷◌, ◌++◌, Some, refl, sym, ap, ap₂, ◌∙◌, arith}
+use Rattle.std.proofs.Common.{◌≡◌, ℕ, ◌+◌, List, [], ◌∷◌, ◌++◌, Some, refl, sym, ap, ap₂, ◌∙◌, arith}
 use Rattle.std.specs.Prelude.{option_map, length}
 use Rattle.std.proofs.lemmas.List.{length-append}
 use Rattle.up_canon.specs.Names.{Name}
@@ -19,7 +19,7 @@ use Rattle.up_machine.proofs.Growing.{later_with}
 use Rattle.up_machine.proofs.Places.{nth_last}
 use Rattle.up_rows.specs.declared.root_row.RootRow.{RootRow}
 use Rattle.up_rows.specs.Tables.{each_value}
-use Rattle.up_rows.specs.StateRows.{root_row, root_rows, kept_rows}
+use Rattle.up_rows.specs.StateRows.{root_row, root_rows, kept_rows, retired_names}
 use Rattle.up_rows.specs.Changes.{new_root}
 use Rattle.up_rows.specs.Laws.{RootsAreAdded}
 use Rattle.up_rows.proofs.Numbered.{numbered_push}
@@ -62,4 +62,4 @@ roots_added k s at version keys rows sound has =
     let roots : root_rows k s ++ new_root rows ∷ [] ≡ root_rows k next = more_roots k s at version keys rows later has in
     let files : Some rows.files ≡ image_texts k next = sym has.files in
     let kept : (name : Name) → kept_rows k s name ≡ kept_rows k next name = λ name. sym (kept_stay k s next name sound later refl) in
-    λ i. record { founding = founding i; roots = roots i; images = s.images; files = files i; campaigns = s.campaigns; vehicles = each_value rows_of s.vehicles; kept = λ name. kept name i }
+    λ i. record { founding = founding i; roots = roots i; images = s.images; files = files i; campaigns = s.campaigns; vehicles = each_value rows_of s.vehicles; kept = λ name. kept name i; retired = retired_names s }

@@ -1,5 +1,5 @@
 -- The rows of a sound state tell the state, and the empty state has none.
-use Rattle.std.proofs.Common.{◌≡◌, ℕ, ◌+◌, ◌-◌, List, [], ◌∷◌, true, false, cond, Option, Some, None, map, refl, sym, ap, ap₂, ◌∙◌, arith}
+use Rattle.std.proofs.Common.{◌≡◌, ℕ, ◌+◌, ◌-◌, List, [], ◌∷◌, true, false, cond, Option, Some, None, map, refl, sym, ap, ◌∙◌, arith}
 use Rattle.std.specs.Prelude.{option_map, unwrap_or, length, slice_get, is_some, is_none, ◌==◌}
 use Rattle.std.specs.List.{enumerate_from}
 use Rattle.std.specs.FinMap as table
@@ -16,7 +16,7 @@ use Rattle.up_machine.specs.declared.vehicle.NewEcu.{NewEcu}
 use Rattle.up_machine.specs.State.{Entry, Vehicle, Root, State, empty_state, nth, root_at}
 use Rattle.up_machine.specs.Rows.{founding_row, ecu_row, rows_of, kept_row}
 use Rattle.up_rows.specs.Tables.{each_value}
-use Rattle.up_rows.specs.StateRows.{root_row, root_rows, kept_rows, root_of, ecu_of, entry_of, vehicle_of_rows}
+use Rattle.up_rows.specs.StateRows.{root_row, root_rows, kept_rows, retired_names, root_of, ecu_of, entry_of, vehicle_of_rows}
 use Rattle.up_rows.specs.Laws.{RowsTellTheState, NoRowsOfTheEmptyState, FoundedIsFound}
 use Rattle.up_rows.proofs.Tables.{get_changed}
 
@@ -32,18 +32,21 @@ entries_back : (k : Rules) (s : State) (name : Name) (n : ℕ) (entries : List E
 entries_back k s name n [] = refl
 entries_back k s name n (e ∷ entries) = ap (λ (es : List Entry). e ∷ es) (entries_back k s name (n + 1) entries)
 
-vehicle_back : (k : Rules) (s : State) (kept : Name → List Kept) (name : Name) (o : Option Vehicle)
+vehicle_back : (k : Rules) (s : State) (kept : Name → List Kept) (retired : Name → List Name) (name : Name) (o : Option Vehicle)
     → kept name ≡ unwrap_or (option_map (λ (v : Vehicle). map (λ (e : ℕ × Entry). kept_row k s name e.0 e.1) (enumerate_from 1 v.entries)) o) []
-    → option_map (vehicle_of_rows kept name) (option_map (rows_of name) o) ≡ o
-vehicle_back k s kept name None h = refl
-vehicle_back k s kept name (Some v) h =
-    ap₂ (λ (ecus : List NewEcu) (entries : List Entry). Some (record { primary = v.primary; ecus = ecus; entries = entries }))
-    (ecus_back v v.ecus) (ap (map entry_of) h ∙ entries_back k s name 1 v.entries)
+    → retired name ≡ unwrap_or (option_map (λ (v : Vehicle). v.retired) o) []
+    → option_map (vehicle_of_rows kept retired name) (option_map (rows_of name) o) ≡ o
+vehicle_back k s kept retired name None h names = refl
+vehicle_back k s kept retired name (Some v) h names =
+    let ecus : map ecu_of (map (ecu_row v) v.ecus) ≡ v.ecus = ecus_back v v.ecus in
+    let entries : map entry_of (kept name) ≡ v.entries = ap (map entry_of) h ∙ entries_back k s name 1 v.entries in
+    λ i. Some (record { primary = v.primary; ecus = ecus i; retired = names i; entries = entries i })
 
-vehicles_back : (k : Rules) (s : State) → each_value (vehicle_of_rows (kept_rows k s)) (each_value rows_of s.vehicles) ≡ s.vehicles
+vehicles_back : (k : Rules) (s : State) → each_value (vehicle_of_rows (kept_rows k s) (retired_names s)) (each_value rows_of s.vehicles) ≡ s.vehicles
 vehicles_back k s = same_map nat_list_cmp_total (slice_cmp-IsAntisymmetric nat_cmp-IsAntisymmetric) _ _ (λ name.
-    get_changed (vehicle_of_rows (kept_rows k s)) (each_value rows_of s.vehicles) name ∙ ap (option_map (vehicle_of_rows (kept_rows k s) name)) (get_changed rows_of s.vehicles name)
-    ∙ vehicle_back k s (kept_rows k s) name (table.get s.vehicles name) refl)
+    get_changed (vehicle_of_rows (kept_rows k s) (retired_names s)) (each_value rows_of s.vehicles) name
+    ∙ ap (option_map (vehicle_of_rows (kept_rows k s) (retired_names s) name)) (get_changed rows_of s.vehicles name)
+    ∙ vehicle_back k s (kept_rows k s) (retired_names s) name (table.get s.vehicles name) refl refl)
 
 -- ---- the last root
 
@@ -101,8 +104,12 @@ no_vehicles = same_map nat_list_cmp_total (slice_cmp-IsAntisymmetric nat_cmp-IsA
 none_kept : (k : Rules) (name : Name) → kept_rows k empty_state name ≡ []
 none_kept k name = ap (λ (o : Option Vehicle). unwrap_or (option_map (λ (v : Vehicle). map (λ (e : ℕ × Entry). kept_row k empty_state name e.0 e.1) (enumerate_from 1 v.entries)) o) []) (get-empty (slice_cmp nat_cmp) name)
 
+none_retired : (name : Name) → retired_names empty_state name ≡ []
+none_retired name = ap (λ (o : Option Vehicle). unwrap_or (option_map (λ (v : Vehicle). v.retired) o) []) (get-empty (slice_cmp nat_cmp) name)
+
 pub empty : NoRowsOfTheEmptyState
 empty k =
     let vehicles : each_value rows_of table.empty ≡ table.empty = no_vehicles in
     let kept : (name : Name) → kept_rows k empty_state name ≡ [] = none_kept k in
-    λ i. record { founding = None; roots = []; images = table.empty; files = None; campaigns = table.empty; vehicles = vehicles i; kept = λ name. kept name i }
+    let retired : (name : Name) → retired_names empty_state name ≡ [] = none_retired in
+    λ i. record { founding = None; roots = []; images = table.empty; files = None; campaigns = table.empty; vehicles = vehicles i; kept = λ name. kept name i; retired = λ name. retired name i }

@@ -1,5 +1,5 @@
 -- A vehicle, a campaign and an accepted manifest take the rows of a state to those of the next.
-use Rattle.std.proofs.Common.{◌≡◌, ℕ, ◌+◌, [], ◌∷◌, ◌++◌, Bool, true, false, cond, Option, Some, None, refl, sym, ap, ap₂, ◌∙◌, subst, arith}
+use Rattle.std.proofs.Common.{◌≡◌, ℕ, ◌+◌, List, [], ◌∷◌, ◌++◌, Bool, true, false, cond, Option, Some, None, refl, sym, ap, ap₂, ◌∙◌, subst, arith}
 use Rattle.std.specs.Prelude.{option_map, unwrap_or, length, bytes_eq, if◌then◌else◌}
 use Rattle.std.specs.Ordering.{nat_cmp, eq_by_cmp, is_eq}
 use Rattle.std.specs.Cmp.{both_ways, tied_itself}
@@ -11,7 +11,7 @@ use Rattle.up_canon.specs.Names.{Name, Table}
 use Rattle.up_sign.specs.Schemes.{Rules}
 use Rattle.up_machine.specs.declared.rows.VehicleRows.{VehicleRows}
 use Rattle.up_machine.specs.declared.rows.Kept.{Kept}
-use Rattle.up_machine.specs.State.{Entry, Vehicle, State, version}
+use Rattle.up_machine.specs.State.{Entry, Vehicle, State, added, version}
 use Rattle.up_machine.specs.Replies.{reply_text}
 use Rattle.up_machine.specs.Files.{image_texts}
 use Rattle.up_machine.specs.Inventory.{with_vehicle}
@@ -20,7 +20,7 @@ use Rattle.up_machine.specs.Rows.{founding_row, rows_of, kept_row}
 use Rattle.up_machine.specs.Vehicles.{NewVehicleData}
 use Rattle.up_machine.proofs.Tables.{one_name, get_new}
 use Rattle.up_rows.specs.Tables.{each_value}
-use Rattle.up_rows.specs.StateRows.{root_rows, kept_rows}
+use Rattle.up_rows.specs.StateRows.{root_rows, kept_rows, retired_names}
 use Rattle.up_rows.specs.Laws.{VehiclesAreAdded, CampaignsAreWritten, ManifestsAreAdded}
 use Rattle.up_rows.proofs.Tables.{get_changed}
 use Rattle.up_rows.proofs.Numbered.{numbered_push}
@@ -34,7 +34,7 @@ pub same_test : (a b : Name) → by_name b a ≡ bytes_eq a b
 same_test a b = both_ways _ _ (λ h. (bytes_decides a b).1 (sym (one_name b a h))) (λ h. subst (λ x. by_name x a ≡ true) ((bytes_decides a b).0 h) (ap is_eq (tied_itself nat_list_cmp_total a)))
 
 -- the rows of the vehicles after an insertion
-inserted : (t : Table Vehicle) (name : Name) (v : Vehicle) → table.insert (each_value rows_of t) name (rows_of name v) ≡ each_value rows_of (table.insert t name v)
+pub inserted : (t : Table Vehicle) (name : Name) (v : Vehicle) → table.insert (each_value rows_of t) name (rows_of name v) ≡ each_value rows_of (table.insert t name v)
 inserted t name v = same_map nat_list_cmp_total (slice_cmp-IsAntisymmetric nat_cmp-IsAntisymmetric) _ _ (λ q.
     get_new (each_value rows_of t) name q (rows_of name v) ∙ by_test q (by_name q name) refl
     ∙ sym (get_changed rows_of (table.insert t name v) q ∙ ap (option_map (rows_of q)) (get_new t name q v)))
@@ -43,8 +43,19 @@ inserted t name v = same_map nat_list_cmp_total (slice_cmp-IsAntisymmetric nat_c
     by_test q true is = ap (λ n. Some (rows_of n v)) (sym (one_name q name is))
     by_test q false is = get_changed rows_of t q
 
+-- what is read of a vehicle stays where it is the same of the one that goes in
+pub same_read : {X : Type 0} (f : Option Vehicle → X) (t : Table Vehicle) (name : Name) (v : Vehicle) → f (table.get t name) ≡ f (Some v) → (q : Name) → f (table.get t q) ≡ f (table.get (table.insert t name v) q)
+same_read f t name v same q = by_test (by_name q name) refl ∙ sym (ap f (get_new t name q v))
+  where
+    by_test : (b : Bool) → by_name q name ≡ b → f (table.get t q) ≡ f (cond b (Some v) (table.get t q))
+    by_test true is = ap (λ n. f (table.get t n)) (one_name q name is) ∙ same
+    by_test false is = refl
+
+abbrev pub names_of : Option Vehicle → List Name
+names_of o = unwrap_or (option_map (λ (v : Vehicle). v.retired) o) []
+
 -- kept rows don't read the vehicles of the state
-rows_alike : (k : Rules) (s : State) (vehicles : Table Vehicle) (name : Name) (o : Option Vehicle)
+pub rows_alike : (k : Rules) (s : State) (vehicles : Table Vehicle) (name : Name) (o : Option Vehicle)
     → unwrap_or (option_map (rows_for k (record s { vehicles = vehicles }) name) o) [] ≡ unwrap_or (option_map (rows_for k s name) o) []
 unfolding reply_text
 rows_alike k s vehicles name o = refl
@@ -53,23 +64,16 @@ rows_alike k s vehicles name o = refl
 
 added_kept : (k : Rules) (s : State) (new : NewVehicleData) → table.get s.vehicles new.vehicle ≡ None → (name : Name) → kept_rows k s name ≡ kept_rows k (with_vehicle s new) name
 added_kept k s new none name =
-    let v : Vehicle = record { primary = new.primary; ecus = new.ecus; entries = [] } in
-    by_test (by_name name new.vehicle) refl
-    ∙ sym (rows_alike k s (with_vehicle s new).vehicles name (table.get (with_vehicle s new).vehicles name)
-    ∙ ap (λ (o : Option Vehicle). unwrap_or (option_map (rows_for k s name) o) []) (get_new s.vehicles new.vehicle name v))
-  where
-    by_test : (t : Bool) → by_name name new.vehicle ≡ t
-        → unwrap_or (option_map (rows_for k s name) (table.get s.vehicles name)) []
-        ≡ unwrap_or (option_map (rows_for k s name) (cond t (Some (record { primary = new.primary; ecus = new.ecus; entries = [] })) (table.get s.vehicles name))) []
-    by_test true is = ap (λ (o : Option Vehicle). unwrap_or (option_map (rows_for k s name) o) []) (ap (table.get s.vehicles) (one_name name new.vehicle is) ∙ none)
-    by_test false is = refl
+    let rows : Option Vehicle → List Kept = λ o. unwrap_or (option_map (rows_for k s name) o) [] in
+    same_read rows s.vehicles new.vehicle (added new) (ap rows none) name
+    ∙ sym (rows_alike k s (with_vehicle s new).vehicles name (table.get (with_vehicle s new).vehicles name))
 
 pub vehicles_added : VehiclesAreAdded
 vehicles_added k s new none =
-    let v : Vehicle = record { primary = new.primary; ecus = new.ecus; entries = [] } in
-    let vehicles : table.insert (each_value rows_of s.vehicles) new.vehicle (rows_of new.vehicle v) ≡ each_value rows_of (with_vehicle s new).vehicles = inserted s.vehicles new.vehicle v in
+    let vehicles : table.insert (each_value rows_of s.vehicles) new.vehicle (rows_of new.vehicle (added new)) ≡ each_value rows_of (with_vehicle s new).vehicles = inserted s.vehicles new.vehicle (added new) in
     let kept : (name : Name) → kept_rows k s name ≡ kept_rows k (with_vehicle s new) name = added_kept k s new none in
-    λ i. record { founding = founding_row s; roots = root_rows k s; images = s.images; files = image_texts k s; campaigns = s.campaigns; vehicles = vehicles i; kept = λ name. kept name i }
+    let retired : (name : Name) → retired_names s name ≡ retired_names (with_vehicle s new) name = same_read names_of s.vehicles new.vehicle (added new) (ap names_of none) in
+    λ i. record { founding = founding_row s; roots = root_rows k s; images = s.images; files = image_texts k s; campaigns = s.campaigns; vehicles = vehicles i; kept = λ name. kept name i; retired = λ name. retired name i }
 
 -- ---- a campaign is opened or closed
 
@@ -107,4 +111,5 @@ manifests_added k s name v e rows found has =
     ap (λ (r : VehicleRows). table.insert (each_value rows_of s.vehicles) r.vehicle.vehicle r) has.vehicle ∙ inserted s.vehicles name more in
     let kept : (q : Name) → (if bytes_eq rows.kept.vehicle q then kept_rows k s q ++ rows.kept ∷ [] else kept_rows k s q) ≡ kept_rows k (with_entry s name v e) q =
     λ q. ap (λ (r : Kept). if bytes_eq r.vehicle q then kept_rows k s q ++ r ∷ [] else kept_rows k s q) has.kept ∙ accepted_kept k s name v e found q in
-    λ i. record { founding = founding_row s; roots = root_rows k s; images = s.images; files = image_texts k s; campaigns = s.campaigns; vehicles = vehicles i; kept = λ q. kept q i }
+    let retired : (q : Name) → retired_names s q ≡ retired_names (with_entry s name v e) q = same_read names_of s.vehicles name more (ap names_of found) in
+    λ i. record { founding = founding_row s; roots = root_rows k s; images = s.images; files = image_texts k s; campaigns = s.campaigns; vehicles = vehicles i; kept = λ q. kept q i; retired = λ q. retired q i }

@@ -1,13 +1,17 @@
 -- What each command that is done changes of the rows.
-use Rattle.std.specs.Prelude.{[], ◌∷◌, ◌++◌, Some, if◌then◌else◌, bytes_eq}
+use Rattle.std.specs.Prelude.{[], ◌∷◌, ◌++◌, Some, option_map, unwrap_or, map, if◌then◌else◌, bytes_eq}
 use Rattle.std.specs.FinMap as table
+use Rattle.up_canon.specs.Names.{Name}
 use Rattle.up_plan.specs.Campaigns.{CampaignData}
 use Rattle.up_plan.specs.Images.{ImageData}
 use Rattle.up_machine.specs.declared.decision.AcceptedRows.{AcceptedRows}
 use Rattle.up_machine.specs.declared.decision.RegisterRows.{RegisterRows}
 use Rattle.up_machine.specs.declared.decision.RootRows.{RootRows}
+use Rattle.up_machine.specs.declared.rows.EcuRow.{EcuRow}
 use Rattle.up_machine.specs.declared.rows.VehicleRows.{VehicleRows}
+use Rattle.up_machine.specs.declared.vehicle.Replacement.{Replacement}
 use Rattle.up_machine.specs.Files.{numbered_root_name}
+use Rattle.up_machine.specs.Rows.{new_row}
 use Rattle.up_rows.specs.declared.root_row.RootRow.{RootRow}
 use Rattle.up_rows.specs.StateRows.{StateRows}
 
@@ -36,6 +40,21 @@ with_image_rows old image rows =
 -- a vehicle is added
 abbrev pub with_vehicle_rows : StateRows → VehicleRows → StateRows
 with_vehicle_rows old rows = record old { vehicles = table.insert old.vehicles rows.vehicle.vehicle rows }
+
+-- an ECU's row after a replacement: the new one in place of the one of that name
+abbrev pub in_place_of_row : Name → EcuRow → EcuRow → EcuRow
+in_place_of_row old new row = if bytes_eq row.ecu old then new else row
+
+-- the new ECU, before its first report, stands in the old one's place
+abbrev pub replaced_rows : Replacement → VehicleRows → VehicleRows
+replaced_rows r rows = record rows { ecus = map (in_place_of_row r.old (new_row r.ecu)) rows.ecus }
+
+-- an ECU of a vehicle is replaced, and its identifier is retired; of an unknown vehicle no ECU is
+abbrev pub with_replaced_rows : StateRows → Replacement → StateRows
+with_replaced_rows old r = record old {
+  vehicles = unwrap_or (option_map (λ rows. table.insert old.vehicles r.vehicle (replaced_rows r rows)) (table.get old.vehicles r.vehicle)) old.vehicles;
+  retired = λ name. if bytes_eq r.vehicle name then old.retired name ++ r.old ∷ [] else old.retired name;
+}
 
 -- a campaign is opened or closed
 abbrev pub with_campaign_row : StateRows → CampaignData → StateRows

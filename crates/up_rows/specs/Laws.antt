@@ -1,6 +1,6 @@
 -- The laws of the rows of a state: they tell the state, what is looked up among them is the state's, and what a command changes of
 -- them makes the rows of the next state.
-use Rattle.std.specs.Prelude.{◌≡◌, ◌==◌, ℕ, [], Some, None, is_none, length}
+use Rattle.std.specs.Prelude.{◌≡◌, ◌==◌, ℕ, false, Some, None, is_some, is_none, length}
 use Rattle.std.specs.FinMap as table
 use Rattle.up_canon.specs.Names.{Name}
 use Rattle.up_sign.specs.Schemes.{Rules}
@@ -11,19 +11,20 @@ use Rattle.up_machine.specs.declared.decision.AcceptedRows.{AcceptedRows}
 use Rattle.up_machine.specs.declared.decision.RegisterRows.{RegisterRows}
 use Rattle.up_machine.specs.declared.decision.RootRows.{RootRows}
 use Rattle.up_machine.specs.declared.keys.KeySet.{KeySet}
+use Rattle.up_machine.specs.declared.vehicle.Replacement.{Replacement}
 use Rattle.up_machine.specs.Decisions.{HasRootRows, HasRegisterRows, HasAcceptedRows}
 use Rattle.up_machine.specs.Deliveries.{with_entry}
 use Rattle.up_machine.specs.Files.{file}
-use Rattle.up_machine.specs.Inventory.{with_vehicle, with_campaign}
+use Rattle.up_machine.specs.Inventory.{with_vehicle, with_replacement, with_campaign}
 use Rattle.up_machine.specs.Reads.{ecus_of, version_of, installed, assigned_to}
 use Rattle.up_machine.specs.Repositories.{stamped, with_root, with_image}
 use Rattle.up_machine.specs.Rows.{founding_row, rows_of, vehicle_rows, kept_at}
 use Rattle.up_machine.specs.Sound.{IsSound}
-use Rattle.up_machine.specs.State.{Entry, Vehicle, State, empty_state, is_recorded}
+use Rattle.up_machine.specs.State.{Entry, Vehicle, State, empty_state, added, is_taken}
 use Rattle.up_machine.specs.Vehicles.{NewVehicleData}
 use Rattle.up_rows.specs.StateRows.{no_rows, rows_of_state, state_of_rows}
-use Rattle.up_rows.specs.Lookups.{kept_with, has_ecu_row, text_held, version_told, ecus_told, installed_told, plan_told}
-use Rattle.up_rows.specs.Changes.{with_root_rows, with_register_rows, with_image_rows, with_vehicle_rows, with_campaign_row, with_accepted_rows}
+use Rattle.up_rows.specs.Lookups.{kept_with, owner_found, text_held, version_told, ecus_told, installed_told, plan_told}
+use Rattle.up_rows.specs.Changes.{with_root_rows, with_register_rows, with_image_rows, with_vehicle_rows, with_replaced_rows, with_campaign_row, with_accepted_rows}
 
 -- ---- the state
 
@@ -45,8 +46,9 @@ VehiclesAreFound = (k : Rules) (s : State) (name : Name) → table.get (rows_of_
 abbrev pub KeptAreFound : Type 0
 KeptAreFound = (k : Rules) (s : State) (name : Name) (counter : ℕ) → kept_with name counter (rows_of_state k s) ≡ kept_at k s name counter
 
-abbrev pub OwnersAreFound : Type 0
-OwnersAreFound = (k : Rules) (s : State) (ecu : Name) → has_ecu_row ecu (table.values (rows_of_state k s).vehicles) ≡ is_recorded s ecu
+-- a name is that of an ECU, or of one that was replaced, where an owner is found
+abbrev pub TakenAreFound : Type 0
+TakenAreFound = (k : Rules) (s : State) (ecu : Name) → is_some (owner_found ecu (rows_of_state k s)) ≡ is_taken s ecu
 
 abbrev pub FilesAreFound : Type 0
 FilesAreFound = (k : Rules) (s : State) (repository : Repository) (name : Name) → text_held (rows_of_state k s) repository name ≡ file k s repository name
@@ -87,7 +89,12 @@ ImagesAreAdded = (k : Rules) (s : State) (at version : ℕ) (image : ImageData) 
 -- a vehicle whose name is new
 abbrev pub VehiclesAreAdded : Type 0
 VehiclesAreAdded = (k : Rules) (s : State) (new : NewVehicleData) → table.get s.vehicles new.vehicle ≡ None
-    → with_vehicle_rows (rows_of_state k s) (rows_of new.vehicle (record { primary = new.primary; ecus = new.ecus; entries = [] })) ≡ rows_of_state k (with_vehicle s new)
+    → with_vehicle_rows (rows_of_state k s) (rows_of new.vehicle (added new)) ≡ rows_of_state k (with_vehicle s new)
+
+-- an ECU of a vehicle, by another one whose name no ECU has or had: no report of the new one was accepted
+abbrev pub EcusAreReplaced : Type 0
+EcusAreReplaced = (k : Rules) (s : State) (r : Replacement) (v : Vehicle) → IsSound k s → table.get s.vehicles r.vehicle ≡ Some v
+    → is_taken s r.ecu.ecu ≡ false → with_replaced_rows (rows_of_state k s) r ≡ rows_of_state k (with_replacement s r v)
 
 -- a campaign, opened or closed
 abbrev pub CampaignsAreWritten : Type 0

@@ -13,6 +13,7 @@ use Rattle.up_machine.specs.declared.rows.EcuRow.{EcuRow}
 use Rattle.up_machine.specs.declared.rows.Kept.{Kept}
 use Rattle.up_machine.specs.declared.rows.VehicleRows.{VehicleRows}
 use Rattle.up_machine.specs.Files.{texts_in}
+use Rattle.up_machine.specs.Vehicles.{is_among}
 use Rattle.up_rows.specs.declared.root_row.RootRow.{RootRow}
 use Rattle.up_rows.specs.StateRows.{StateRows}
 
@@ -32,13 +33,17 @@ latest_kept name rows = option_and_then (λ v. kept_with name v.vehicle.last row
 abbrev pub stands_among : Name → List EcuRow → Bool
 stands_among ecu rows = list_any (λ row. bytes_eq row.ecu ecu) rows
 
--- an ECU of the name stands in one of the vehicles
-abbrev pub has_ecu_row : Name → List VehicleRows → Bool
-has_ecu_row ecu vehicles = list_any (λ rows. stands_among ecu rows.ecus) vehicles
-
 -- the first of the vehicles in which the ECU stands
 abbrev pub owner_among : Name → List VehicleRows → Option VehicleRows
 owner_among ecu vehicles = find (λ rows. stands_among ecu rows.ecus) vehicles
+
+-- the first of the vehicles in which an ECU of the name was replaced
+abbrev pub last_owner : Name → StateRows → Option Name
+last_owner ecu rows = find (λ vehicle. is_among ecu (rows.retired vehicle)) (table.keys rows.vehicles)
+
+-- the vehicle in which the ECU stands, else the one in which it was replaced
+abbrev pub owner_found : Name → StateRows → Option Name
+owner_found ecu rows = option_or (option_map (λ v. v.vehicle.vehicle) (owner_among ecu (table.values rows.vehicles))) (last_owner ecu rows)
 
 -- the image in the first of these rows that is the ECU's
 abbrev pub installed_among : Name → List EcuRow → Option Installed

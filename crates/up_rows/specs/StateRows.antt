@@ -20,7 +20,8 @@ use Rattle.up_rows.specs.declared.root_row.RootRow.{RootRow}
 use Rattle.up_rows.specs.Tables.{each_value}
 
 -- the founding, the root versions in order, the registered images, the image repository's other files, the campaigns, the
--- vehicles with their ECUs, and for each vehicle a row for each accepted manifest in the order of acceptance
+-- vehicles with their ECUs, for each vehicle a row for each accepted manifest in the order of acceptance, and the identifiers of
+-- its replaced ECUs in the order of their replacement
 pub record StateRows : Type 0 where
   pub founding : Option Founding
   pub roots : List RootRow
@@ -29,10 +30,11 @@ pub record StateRows : Type 0 where
   pub campaigns : Table CampaignData
   pub vehicles : Table VehicleRows
   pub kept : Name → List Kept
+  pub retired : Name → List Name
 
 -- nothing is founded
 abbrev pub no_rows : StateRows
-no_rows = record { founding = None; roots = []; images = table.empty; files = None; campaigns = table.empty; vehicles = table.empty; kept = λ name. [] }
+no_rows = record { founding = None; roots = []; images = table.empty; files = None; campaigns = table.empty; vehicles = table.empty; kept = λ name. []; retired = λ name. [] }
 
 -- ---- the rows of a state
 
@@ -54,6 +56,10 @@ abbrev pub kept_rows : Rules → State → Name → List Kept
 kept_rows k s name =
     unwrap_or (option_map (λ v. map (λ e. kept_row k s name e.0 e.1) (enumerate_from 1 v.entries)) (table.get s.vehicles name)) []
 
+-- the identifiers of a vehicle's replaced ECUs; none of an unknown vehicle
+abbrev pub retired_names : State → Name → List Name
+retired_names s name = unwrap_or (option_map (λ v. v.retired) (table.get s.vehicles name)) []
+
 abbrev pub rows_of_state : Rules → State → StateRows
 rows_of_state k s = record {
   founding = founding_row s;
@@ -63,6 +69,7 @@ rows_of_state k s = record {
   campaigns = s.campaigns;
   vehicles = each_value rows_of s.vehicles;
   kept = kept_rows k s;
+  retired = retired_names s;
 }
 
 -- ---- the state of rows
@@ -76,8 +83,9 @@ ecu_of row = record { ecu = row.ecu; hardware = row.hardware; public = row.publi
 abbrev pub entry_of : Kept → Entry
 entry_of row = record { counter = row.counter; signed = row.signed; at = row.at; root = row.root; plan = row.plan }
 
-abbrev pub vehicle_of_rows : (Name → List Kept) → Name → VehicleRows → Vehicle
-vehicle_of_rows kept name rows = record { primary = rows.vehicle.primary; ecus = map ecu_of rows.ecus; entries = map entry_of (kept name) }
+abbrev pub vehicle_of_rows : (Name → List Kept) → (Name → List Name) → Name → VehicleRows → Vehicle
+vehicle_of_rows kept retired name rows =
+    record { primary = rows.vehicle.primary; ecus = map ecu_of rows.ecus; retired = retired name; entries = map entry_of (kept name) }
 
 abbrev pub state_of_rows : StateRows → State
 state_of_rows rows = record {
@@ -86,5 +94,5 @@ state_of_rows rows = record {
   image_version = unwrap_or (option_map (λ row. row.image_version) rows.founding) 0;
   stamp = unwrap_or (option_map (λ row. row.stamp) rows.founding) 0;
   campaigns = rows.campaigns;
-  vehicles = each_value (vehicle_of_rows rows.kept) rows.vehicles;
+  vehicles = each_value (vehicle_of_rows rows.kept rows.retired) rows.vehicles;
 }

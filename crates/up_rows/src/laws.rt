@@ -1,6 +1,6 @@
 //! The laws of the rows of a state.
-ghost use Rattle.up_rows.specs.Laws.{RowsTellTheState, NoRowsOfTheEmptyState, FoundedIsFound, VehiclesAreFound, KeptAreFound, OwnersAreFound, FilesAreFound, VersionsAreTold, EcusAreTold, InstalledIsTold, AssignedIsTold, RootsAreAdded, FilesAreReplaced, ImagesAreAdded, VehiclesAreAdded, CampaignsAreWritten, ManifestsAreAdded};
-ghost use Rattle.up_rows.specs.Fitting.{NewImagesAreNew, NewVehiclesAreNew, NewCampaignsAreNew};
+ghost use Rattle.up_rows.specs.Laws.{RowsTellTheState, NoRowsOfTheEmptyState, FoundedIsFound, VehiclesAreFound, KeptAreFound, TakenAreFound, FilesAreFound, VersionsAreTold, EcusAreTold, InstalledIsTold, AssignedIsTold, RootsAreAdded, FilesAreReplaced, ImagesAreAdded, VehiclesAreAdded, EcusAreReplaced, CampaignsAreWritten, ManifestsAreAdded};
+ghost use Rattle.up_rows.specs.Fitting.{NewImagesAreNew, NewVehiclesAreNew, ReplacementsFit, NewCampaignsAreNew};
 
 /// The rows of a sound state tell the state, and the empty state has none.
 pub fn rows_tell_the_state()
@@ -8,13 +8,13 @@ pub fn rows_tell_the_state()
     ensures empty { NoRowsOfTheEmptyState }
 {}
 
-/// What is looked up among the rows of a state is the state's: the founding, a vehicle, the row of a counter, whether an ECU stands in a
-/// vehicle, and the text of a file.
+/// What is looked up among the rows of a state is the state's: the founding, a vehicle, the row of a counter, whether an
+/// identifier is that of an ECU or of one that was replaced, and the text of a file.
 pub fn rows_are_found()
     ensures founded { FoundedIsFound }
     ensures vehicles { VehiclesAreFound }
     ensures kept { KeptAreFound }
-    ensures owners { OwnersAreFound }
+    ensures taken { TakenAreFound }
     ensures files { FilesAreFound }
 {}
 
@@ -43,6 +43,12 @@ pub fn images_are_added()
 pub fn vehicles_are_added()
     ensures vehicles { VehiclesAreAdded }
     ensures new { NewVehiclesAreNew }
+{}
+
+/// An ECU that replaces another one takes the rows of a sound state to those of the state with it.
+pub fn ecus_are_replaced()
+    ensures replaced { EcusAreReplaced }
+    ensures fits { ReplacementsFit }
 {}
 
 /// A campaign that is opened or closed takes the rows of a state to those of the state with it.

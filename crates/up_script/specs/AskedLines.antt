@@ -20,7 +20,7 @@ use Rattle.up_script.specs.declared.word.Word.TheVariants as word
 use Rattle.up_script.specs.Words.{word_in}
 use Rattle.up_script.specs.KeyLines.{key_set_in}
 use Rattle.up_script.specs.ImageLines.{image_in}
-use Rattle.up_script.specs.VehicleLines.{vehicle_in}
+use Rattle.up_script.specs.VehicleLines.{vehicle_in, replacement_in}
 use Rattle.up_script.specs.CampaignLines.{campaign_in}
 use Rattle.up_script.specs.BenchLines.{bench_in}
 
@@ -52,6 +52,7 @@ abbrev pub what_in : Rules → Word → Data → Result What Refusal
 what_in k word.Found d = calls command.Found (key_set_in d)
 what_in k word.Rotate d = calls command.Rotate (key_set_in d)
 what_in k word.AddVehicle d = calls command.AddVehicle (vehicle_in d)
+what_in k word.ReplaceEcu d = calls command.ReplaceEcu (replacement_in d)
 what_in k word.AddImage d = calls command.AddImage (image_in d)
 what_in k word.Refresh d = calls command.Refresh (count_in (codes "version") d)
 what_in k word.OpenCampaign d = calls command.OpenCampaign (campaign_in d)

@@ -6,7 +6,7 @@ use Rattle.up_canon.specs.Steps.{◌>>=◌, or_error}
 use Rattle.up_canon.specs.declared.refusal.Refusal.{Refusal}
 use Rattle.up_canon.specs.declared.refusal.Refusal.TheVariants.{BadShape}
 use Rattle.up_script.specs.declared.word.Word.{Word}
-use Rattle.up_script.specs.declared.word.Word.TheVariants.{Found, Rotate, AddVehicle, AddImage, Refresh, OpenCampaign, CloseCampaign, Deliver, Fetch, Bench, Show}
+use Rattle.up_script.specs.declared.word.Word.TheVariants.{Found, Rotate, AddVehicle, ReplaceEcu, AddImage, Refresh, OpenCampaign, CloseCampaign, Deliver, Fetch, Bench, Show}
 
 -- none of another text
 abbrev pub word_of : List ℕ → Option Word
@@ -14,6 +14,7 @@ word_of text =
     if bytes_eq text (codes "found") then Some Found
     else if bytes_eq text (codes "rotate") then Some Rotate
     else if bytes_eq text (codes "add_vehicle") then Some AddVehicle
+    else if bytes_eq text (codes "replace_ecu") then Some ReplaceEcu
     else if bytes_eq text (codes "add_image") then Some AddImage
     else if bytes_eq text (codes "refresh") then Some Refresh
     else if bytes_eq text (codes "open_campaign") then Some OpenCampaign

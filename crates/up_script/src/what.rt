@@ -9,7 +9,7 @@ use crate::bench_line::bench_at;
 use crate::campaign_line::campaign_at;
 use crate::image_line::image_at;
 use crate::key_line::key_set_at;
-use crate::vehicle_line::vehicle_at;
+use crate::vehicle_line::{replacement_at, vehicle_at};
 use crate::word::Word;
 use serde_json::{Map, Value};
 use std::alloc::Global;
@@ -36,6 +36,7 @@ pub(crate) fn what_at<K: Scheme>(
         Word::Found => Ok(What::Call(Command::Found(key_set_at(alloc, line)?))),
         Word::Rotate => Ok(What::Call(Command::Rotate(key_set_at(alloc, line)?))),
         Word::AddVehicle => Ok(What::Call(Command::AddVehicle(vehicle_at(alloc, line)?))),
+        Word::ReplaceEcu => Ok(What::Call(Command::ReplaceEcu(replacement_at(alloc, line)?))),
         Word::AddImage => Ok(What::Call(Command::AddImage(image_at(alloc, line)?))),
         Word::Refresh => Ok(What::Call(Command::Refresh(count_at(line, "version")?))),
         Word::OpenCampaign => Ok(What::Call(Command::OpenCampaign(campaign_at(alloc, line)?))),

@@ -15,6 +15,8 @@ pub enum Word {
     Rotate,
     /// `add_vehicle`
     AddVehicle,
+    /// `replace_ecu`
+    ReplaceEcu,
     /// `add_image`
     AddImage,
     /// `refresh`
@@ -50,6 +52,7 @@ fn word_of(text: &str) -> Option<Word>
         "found" => Some(Word::Found),
         "rotate" => Some(Word::Rotate),
         "add_vehicle" => Some(Word::AddVehicle),
+        "replace_ecu" => Some(Word::ReplaceEcu),
         "add_image" => Some(Word::AddImage),
         "refresh" => Some(Word::Refresh),
         "open_campaign" => Some(Word::OpenCampaign),

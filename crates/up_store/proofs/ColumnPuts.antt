@@ -68,6 +68,7 @@ typed_one rows image typed is = record {
   campaigns = typed.campaigns;
   vehicles = typed.vehicles;
   kept = typed.kept;
+  retired = typed.retired;
 }
 
 pub puts_image : {A : Type 0} (r : Result A StoreFault) (image : ImageData) (made : ImageRow) (before after : Connected) → IsImage made image → IsTypedImage image.file image

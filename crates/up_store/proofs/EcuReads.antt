@@ -15,9 +15,10 @@ use Rattle.up_canon.specs.Names.{Name, Table}
 use Rattle.up_manifest.specs.declared.report.Installed.{Installed}
 use Rattle.up_machine.specs.declared.rows.EcuRow.{EcuRow}
 use Rattle.up_machine.specs.declared.rows.VehicleRows.{VehicleRows}
+use Rattle.up_machine.specs.Vehicles.{is_among}
 use Rattle.up_machine.proofs.Lists.{each_weaker}
 use Rattle.up_machine.proofs.Values.{each_found}
-use Rattle.up_rows.specs.Lookups.{stands_among}
+use Rattle.up_rows.specs.Lookups.{stands_among, owner_among, last_owner}
 use Rattle.up_rows.specs.StateRows.{StateRows}
 use Rattle.up_rows.proofs.Vehicles.{same_test}
 use Rattle.up_tables.specs.declared.ecu.EcuRow.{EcuRow as EcuShown}
@@ -26,10 +27,10 @@ use Rattle.up_tables.specs.Ecus.{line, lines, owns}
 use Rattle.up_tables.specs.Lines.{EcuLine, ecu_row, AreInPlace}
 use Rattle.up_tables.specs.Rows.{has_text}
 use Rattle.up_tables.specs.Stands.{IsWithin, HasTables, Reads, Lists}
-use Rattle.up_tables.specs.Tables.{up_schema, ecu_table}
+use Rattle.up_tables.specs.Tables.{up_schema, ecu_table, retired_table}
 use Rattle.up_tables.proofs.EcuRows.{text_is}
-use Rattle.up_store.specs.Found.{ecus_found, owner_found}
-use Rattle.up_store.specs.Lines.{ecu_line, ecu_lines, ecus_lines}
+use Rattle.up_store.specs.Found.{ecus_found}
+use Rattle.up_store.specs.Lines.{ecu_line, ecu_lines, ecus_lines, retired_lines}
 use Rattle.up_store.specs.Listing.{ListsRows}
 use Rattle.up_store.specs.Shown.{ecu_read, installed_read}
 use Rattle.up_store.specs.Typed.{AreTyped}
@@ -105,6 +106,9 @@ ecus_in rows name before after found reads shows within =
 
 -- ---- the vehicle of an ECU
 
+abbrev pub owner_now : Name → StateRows → Option Name
+owner_now ecu rows = option_map (λ (v : VehicleRows). v.vehicle.vehicle) (owner_among ecu (table.values rows.vehicles))
+
 stands_is : (ecu name : Name) (place : ℕ) (rows : List EcuRow) → list_any (has_text 0 ecu) (map ecu_row (ecu_lines name place rows)) ≡ stands_among ecu rows
 stands_is ecu name place [] = refl
 stands_is ecu name place (row ∷ rows) = ap₂ (λ a b. a || b) (text_is row.ecu ecu) (stands_is ecu name (suc place) rows)
@@ -140,7 +144,7 @@ module _ (ecu : Name) (rows : StateRows) (typed : AreTyped rows) where
   there n None h = absurd (let e = h in cc)
   there n (Some v) h = (v, refl)
 
-  pub owner_told : (owner : Option (List ℕ)) → Told owner → owner ≡ owner_found ecu rows
+  pub owner_told : (owner : Option (List ℕ)) → Told owner → owner ≡ owner_now ecu rows
   owner_told None told = sym (ap (option_map (λ (v : VehicleRows). v.vehicle.vehicle)) (found_none stands (table.entries vehicles) (each_told None told)))
   owner_told (Some n) told =
       let own : bytes_eq n n ≡ true = (bytes_decides n n).1 refl in
@@ -150,8 +154,61 @@ module _ (ecu : Name) (rows : StateRows) (typed : AreTyped rows) where
 
 pub owner_in : (rows : StateRows) (ecu : Name) (before after : Connected) (owner : Option (List ℕ)) → (HasTables before → Reads before after)
     → ((rows_of : List ℕ → List Row) → HasTables before → Lists 2 rows_of (before.now.trees ecu_table.tree) → (vehicle : List ℕ) → list_any (has_text 0 ecu) (rows_of vehicle) ≡ owns owner vehicle)
-    → IsWithin up_schema (ListsRows rows) before → owner ≡ owner_found ecu rows
+    → IsWithin up_schema (ListsRows rows) before → owner ≡ owner_now ecu rows
 owner_in rows ecu before after owner reads shows within =
     let has : HasTables before = λ is_open. let here = within.here is_open in record { schema_is = here.schema_is; sound = here.sound; rows = tt } in
     let here = within.here (reads has).was_open in
     owner_told ecu rows here.rows.typed owner (shows (λ n. ecus_lines n (table.get rows.vehicles n)) has here.rows.tables.ecus)
+
+-- ---- the vehicle in which an ECU was replaced
+
+retired_is : (ecu name : Name) (ecus : List Name) → list_any (has_text 0 ecu) (retired_lines name ecus) ≡ is_among ecu ecus
+retired_is ecu name [] = refl
+retired_is ecu name (e ∷ ecus) = ap₂ (λ a b. a || b) (text_is e ecu) (retired_is ecu name ecus)
+
+-- where the test tells the name, the first name of which it holds is that one, if it is there
+key_at : {X : Type 0} (test : Name → Bool) (n : Name) (es : List (Name × X)) → ((m : Name) → test m ≡ bytes_eq n m)
+    → find test (map (λ (e : Name × X). e.0) es) ≡ option_map (λ (x : X). n) (entries.find (slice_cmp nat_cmp) n es)
+key_at {X} test n [] same = refl
+key_at {X} test n (e ∷ es) same = ap (λ b. cond b (Some e.0) (find test (map (λ (e : Name × X). e.0) es))) (same e.0)
+    ∙ by_test (bytes_eq n e.0) refl (key_at test n es same)
+    ∙ sym (ap (λ b. option_map (λ (x : X). n) (cond b (Some e.1) (entries.find (slice_cmp nat_cmp) n es))) (same_both n e.0))
+  where
+    by_test : (b : Bool) → bytes_eq n e.0 ≡ b → find test (map (λ (e : Name × X). e.0) es) ≡ option_map (λ (x : X). n) (entries.find (slice_cmp nat_cmp) n es)
+        → cond b (Some e.0) (find test (map (λ (e : Name × X). e.0) es)) ≡ option_map (λ (x : X). n) (cond b (Some e.1) (entries.find (slice_cmp nat_cmp) n es))
+    by_test true is rest = ap Some (sym ((bytes_decides n e.0).0 is))
+    by_test false is rest = rest
+
+no_key : (test : Name → Bool) (names : List Name) → ((m : Name) → test m ≡ false) → find test names ≡ None
+no_key test [] none = refl
+no_key test (n ∷ names) none = ap₂ (λ b o. cond b (Some n) o) (none n) (no_key test names none)
+
+module _ (ecu : Name) (rows : StateRows) (typed : AreTyped rows) where
+  abbrev ToldLast : Option (List ℕ) → Type 0
+  ToldLast owner = (name : List ℕ) → list_any (has_text 0 ecu) (retired_lines name (rows.retired name)) ≡ owns owner name
+
+  abbrev was_there : Name → Bool
+  was_there name = is_among ecu (rows.retired name)
+
+  each_was : (owner : Option (List ℕ)) → ToldLast owner → (name : Name) → was_there name ≡ owns owner name
+  each_was owner told name = sym (retired_is ecu name (rows.retired name)) ∙ told name
+
+  -- no ECU was replaced in a vehicle that isn't there
+  known : (n : Name) (o : Option VehicleRows) → table.get rows.vehicles n ≡ o → was_there n ≡ true → option_map (λ (v : VehicleRows). n) o ≡ Some n
+  known n None is was = absurd (let e = sym (ap (is_among ecu) (typed.retired n is)) ∙ was in cc)
+  known n (Some v) is was = refl
+
+  pub last_told : (owner : Option (List ℕ)) → ToldLast owner → owner ≡ last_owner ecu rows
+  last_told None told = sym (no_key was_there (table.keys rows.vehicles) (each_was None told))
+  last_told (Some n) told =
+      let own : bytes_eq n n ≡ true = (bytes_decides n n).1 refl in
+      sym (key_at was_there n (table.entries rows.vehicles) (each_was (Some n) told) ∙ ap (option_map (λ (v : VehicleRows). n)) (sym (table.get-entries rows.vehicles n))
+      ∙ known n (table.get rows.vehicles n) refl (each_was (Some n) told n ∙ own))
+
+pub last_in : (rows : StateRows) (ecu : Name) (before after : Connected) (owner : Option (List ℕ)) → (HasTables before → Reads before after)
+    → ((rows_of : List ℕ → List Row) → HasTables before → Lists 2 rows_of (before.now.trees retired_table.tree) → (vehicle : List ℕ) → list_any (has_text 0 ecu) (rows_of vehicle) ≡ owns owner vehicle)
+    → IsWithin up_schema (ListsRows rows) before → owner ≡ last_owner ecu rows
+last_in rows ecu before after owner reads shows within =
+    let has : HasTables before = λ is_open. let here = within.here is_open in record { schema_is = here.schema_is; sound = here.sound; rows = tt } in
+    let here = within.here (reads has).was_open in
+    last_told ecu rows here.rows.typed owner (shows (λ n. retired_lines n (rows.retired n)) has here.rows.tables.retired)

@@ -2,6 +2,7 @@ pub mod Alike
 pub mod TypedRows
 pub mod NewTables
 pub mod Created
+pub mod Raised
 pub mod Closed
 pub mod Written
 pub mod VehicleReads
@@ -14,6 +15,7 @@ pub mod RootPuts
 pub mod MadeRows
 pub mod RootFiles
 pub mod AcceptPuts
+pub mod ReplacePuts
 pub mod ColumnReads
 pub mod ColumnFound
 pub mod ColumnPuts

@@ -5,21 +5,18 @@ use Rattle.std.specs.Option.{option_or}
 use Rattle.std.specs.FinMap.{get-empty}
 use Rattle.std.specs.Ordering.{nat_cmp}
 use Rattle.std.specs.Cmp.Lexicographic.{slice_cmp}
-use Rattle.sqlite.specs.State.{State as Connected}
 use Rattle.sqlite.specs.Tree.{Trees}
 use Rattle.up_canon.specs.Names.{Name}
 use Rattle.up_roles.specs.declared.repository.Repository.{Repository}
 use Rattle.up_roles.specs.declared.repository.Repository.TheVariants.{Director, Image}
-use Rattle.up_rows.specs.StateRows.{StateRows, no_rows}
+use Rattle.up_rows.specs.StateRows.{no_rows}
 use Rattle.up_rows.specs.Lookups.{text_in, text_held}
 use Rattle.up_tables.specs.Lines.{AreNew}
-use Rattle.up_tables.specs.Ours.{ListsUs}
 use Rattle.up_tables.specs.Listed.{ListsTables, no_table_rows}
 use Rattle.up_tables.specs.Tables.{repo_file_table, image_table, campaign_table, vehicle_table, ecu_table}
 use Rattle.up_tables.proofs.ListedLemmas.{lists_none}
 use Rattle.up_store.specs.Lines.{repository_word, file_lines, image_lines, campaign_lines, vehicle_lines, ecus_lines}
-use Rattle.up_store.specs.Connections.{KeepsRows}
-use Rattle.up_store.specs.Listing.{ListsRows, files_lines, table_rows}
+use Rattle.up_store.specs.Listing.{ListsRows, files_lines}
 use Rattle.up_store.specs.Typed.{AreTyped}
 use Rattle.up_store.proofs.Alike.{lists_as, pairs_as}
 
@@ -52,6 +49,7 @@ typed_none = record {
   campaigns = λ name campaign found. absurd (let e = sym (get-empty (slice_cmp nat_cmp) name) ∙ found in cc);
   vehicles = λ name vehicle found. absurd (let e = sym (get-empty (slice_cmp nat_cmp) name) ∙ found in cc);
   kept = λ name. tt;
+  retired = λ name none. refl;
 }
 
 pub new_lists : (trees : Trees) → AreNew trees → ListsRows no_rows trees
@@ -70,15 +68,7 @@ new_lists trees new =
         vehicles = lists_as 1 _ _ (trees vehicle_table.tree) (λ name. sym (ap vehicle_lines (get-empty (slice_cmp nat_cmp) name))) none.vehicles;
         ecus = lists_as 2 _ _ (trees ecu_table.tree) (λ name. sym (ap (ecus_lines name) (get-empty (slice_cmp nat_cmp) name))) none.ecus;
         kept = none.kept;
+        retired = none.retired;
+        sha512s = none.sha512s;
       };
     }
-
--- tables that list rows of this product are its own
-pub lists_us : (rows : StateRows) (s : Connected) → KeepsRows rows s → ListsUs s
-lists_us rows s keeps = record {
-  tables = λ is_open. let here = keeps.here is_open in record { schema_is = here.schema_is; sound = here.sound; rows = tt };
-  root = (table_rows rows).root;
-  image_version = (table_rows rows).image_version;
-  stamp = (table_rows rows).stamp;
-  meta = λ is_open. (keeps.here is_open).rows.tables.meta;
-}

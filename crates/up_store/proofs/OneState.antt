@@ -34,7 +34,7 @@ use Rattle.up_rows.specs.Laws.{RowsTellTheState}
 use Rattle.up_rows.specs.StateRows.{StateRows, rows_of_state, root_of, ecu_of, entry_of, vehicle_of_rows}
 use Rattle.up_rows.proofs.Tables.{get_changed}
 use Rattle.up_tables.specs.Lines.{ecu_row, meta_row, yes_or_no}
-use Rattle.up_store.specs.Lines.{founding_number, image_lines, campaign_lines, vehicle_lines, ecu_lines, ecus_lines, kept_line}
+use Rattle.up_store.specs.Lines.{founding_number, image_lines, campaign_lines, vehicle_lines, ecu_lines, ecus_lines, kept_line, retired_lines}
 use Rattle.up_store.specs.Listing.{ListsRows, IsOfLastRoot}
 use Rattle.up_store.specs.Typed.{IsTypedImage, IsTypedCampaign, IsTypedKept}
 use Rattle.up_store.proofs.OneKeys.{one_keys}
@@ -146,18 +146,27 @@ one_kept law n (x ∷ xs) (y ∷ ys) tx ty h =
     let head : the_entry x.counter x.signed x.at x.root x.plan ≡ the_entry y.counter y.signed y.at y.root y.plan = rw (counter, signed, at, root, plan) refl in
     ap₂ (λ (e : Entry) (es : List Entry). e ∷ es) head (one_kept law n xs ys tx.1 ty.1 tail)
 
-abbrev the_vehicle : Name → List NewEcu → List Entry → Vehicle
-the_vehicle primary ecus entries = record { primary = primary; ecus = ecus; entries = entries }
+one_retired : (n : Name) (xs ys : List Name) → retired_lines n xs ≡ retired_lines n ys → xs ≡ ys
+one_retired n [] [] h = refl
+one_retired n [] (y ∷ ys) h = absurd (cc)
+one_retired n (x ∷ xs) [] h = absurd (cc)
+one_retired n (x ∷ xs) (y ∷ ys) h =
+    let head : x ≡ y = cc in
+    let tail : retired_lines n xs ≡ retired_lines n ys = cc in
+    ap₂ (λ (e : Name) (es : List Name). e ∷ es) head (one_retired n xs ys tail)
 
-one_vehicle : (n : Name) (kept last : Name → List Kept) (a b : Option VehicleRows) → map entry_of (kept n) ≡ map entry_of (last n) → vehicle_lines a ≡ vehicle_lines b → ecus_lines n a ≡ ecus_lines n b
-    → option_map (vehicle_of_rows kept n) a ≡ option_map (vehicle_of_rows last n) b
-one_vehicle n kept last None None entries h k = refl
-one_vehicle n kept last None (Some w) entries h k = absurd (cc)
-one_vehicle n kept last (Some v) None entries h k = absurd (cc)
-one_vehicle n kept last (Some v) (Some w) entries h k =
+abbrev the_vehicle : Name → List NewEcu → List Name → List Entry → Vehicle
+the_vehicle primary ecus retired entries = record { primary = primary; ecus = ecus; retired = retired; entries = entries }
+
+one_vehicle : (n : Name) (kept last : Name → List Kept) (gone left : Name → List Name) (a b : Option VehicleRows) → map entry_of (kept n) ≡ map entry_of (last n) → gone n ≡ left n → vehicle_lines a ≡ vehicle_lines b → ecus_lines n a ≡ ecus_lines n b
+    → option_map (vehicle_of_rows kept gone n) a ≡ option_map (vehicle_of_rows last left n) b
+one_vehicle n kept last gone left None None entries retired h k = refl
+one_vehicle n kept last gone left None (Some w) entries retired h k = absurd (cc)
+one_vehicle n kept last gone left (Some v) None entries retired h k = absurd (cc)
+one_vehicle n kept last gone left (Some v) (Some w) entries retired h k =
     let primary : v.vehicle.primary ≡ w.vehicle.primary = cc in
     let ecus = one_ecus n 0 v.ecus w.ecus k in
-    let same : the_vehicle v.vehicle.primary (map ecu_of v.ecus) (map entry_of (kept n)) ≡ the_vehicle w.vehicle.primary (map ecu_of w.ecus) (map entry_of (last n)) = rw (primary, ecus, entries) refl in
+    let same : the_vehicle v.vehicle.primary (map ecu_of v.ecus) (gone n) (map entry_of (kept n)) ≡ the_vehicle w.vehicle.primary (map ecu_of w.ecus) (left n) (map entry_of (last n)) = rw (primary, ecus, retired, entries) refl in
     ap Some same
 
 -- ---- the numbers of `meta`
@@ -213,13 +222,14 @@ module _ (law : CanonIsRead) (moments : MomentsAreRead) (tell : RowsTellTheState
   campaigns : s.campaigns ≡ t.campaigns
   campaigns = same_table s.campaigns t.campaigns (λ n. one_or_none campaign_lines (IsTypedCampaign n) no_campaign_lines (one_campaign law n) (table.get s.campaigns n) (table.get t.campaigns n) (one.typed.campaigns n) (two.typed.campaigns n) (sym (one.tables.campaigns.parts n) ∙ two.tables.campaigns.parts n))
 
-  vehicle_at : (n : Name) → option_map (vehicle_of_rows first.kept n) (table.get first.vehicles n) ≡ option_map (vehicle_of_rows second.kept n) (table.get second.vehicles n)
-  vehicle_at n = one_vehicle n first.kept second.kept (table.get first.vehicles n) (table.get second.vehicles n)
+  vehicle_at : (n : Name) → option_map (vehicle_of_rows first.kept first.retired n) (table.get first.vehicles n) ≡ option_map (vehicle_of_rows second.kept second.retired n) (table.get second.vehicles n)
+  vehicle_at n = one_vehicle n first.kept second.kept first.retired second.retired (table.get first.vehicles n) (table.get second.vehicles n)
       (one_kept law n (first.kept n) (second.kept n) (one.typed.kept n) (two.typed.kept n) (sym (one.tables.kept.parts n) ∙ two.tables.kept.parts n))
+      (one_retired n (first.retired n) (second.retired n) (sym (one.tables.retired.parts n) ∙ two.tables.retired.parts n))
       (sym (one.tables.vehicles.parts n) ∙ two.tables.vehicles.parts n) (sym (one.tables.ecus.parts n) ∙ two.tables.ecus.parts n)
 
-  told : (u : State) → IsSound k u → (n : Name) → table.get u.vehicles n ≡ option_map (vehicle_of_rows (rows_of_state k u).kept n) (table.get (rows_of_state k u).vehicles n)
-  told u is n = sym (ap (λ (x : State). table.get x.vehicles n) (tell k u is)) ∙ get_changed (vehicle_of_rows (rows_of_state k u).kept) (rows_of_state k u).vehicles n
+  told : (u : State) → IsSound k u → (n : Name) → table.get u.vehicles n ≡ option_map (vehicle_of_rows (rows_of_state k u).kept (rows_of_state k u).retired n) (table.get (rows_of_state k u).vehicles n)
+  told u is n = sym (ap (λ (x : State). table.get x.vehicles n) (tell k u is)) ∙ get_changed (vehicle_of_rows (rows_of_state k u).kept (rows_of_state k u).retired) (rows_of_state k u).vehicles n
 
   vehicles : s.vehicles ≡ t.vehicles
   vehicles = same_table s.vehicles t.vehicles (λ n. told s sound n ∙ vehicle_at n ∙ sym (told t also n))

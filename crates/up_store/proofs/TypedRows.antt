@@ -1,20 +1,24 @@
 -- Rows stay typed where typed ones are written.
-use Rattle.std.proofs.Common.{◌≡◌, [], ◌∷◌, ◌++◌, Bool, true, false, subst, refl}
-use Rattle.std.specs.Prelude.{if◌then◌else◌, bytes_eq}
+use Rattle.std.proofs.Common.{◌≡◌, [], ◌∷◌, ◌++◌, Bool, true, false, cond, Some, None, subst, refl, sym, ap, ◌∙◌}
+use Rattle.std.specs.Prelude.{option_map, unwrap_or, if◌then◌else◌, bytes_eq}
 use Rattle.std.specs.List.{AllByRecursion}
-use Rattle.std.specs.Cmp.Lexicographic.{bytes_decides}
-use Rattle.up_canon.specs.Names.{Name}
+use Rattle.std.specs.Cmp.Lexicographic.{slice_cmp, bytes_decides}
+use Rattle.std.specs.Ordering.{nat_cmp, eq_by_cmp}
+use Rattle.std.specs.FinMap as table
+use Rattle.up_canon.specs.Names.{Name, Table}
 use Rattle.up_plan.specs.Campaigns.{CampaignData}
 use Rattle.up_plan.specs.Images.{ImageData}
 use Rattle.up_machine.specs.declared.decision.AcceptedRows.{AcceptedRows}
 use Rattle.up_machine.specs.declared.decision.RegisterRows.{RegisterRows}
 use Rattle.up_machine.specs.declared.decision.RootRows.{RootRows}
 use Rattle.up_machine.specs.declared.rows.VehicleRows.{VehicleRows}
-use Rattle.up_machine.proofs.Tables.{get_after-insert}
+use Rattle.up_machine.specs.declared.vehicle.Replacement.{Replacement}
+use Rattle.up_machine.proofs.Tables.{get_new, get_same, get_after-insert}
 use Rattle.up_machine.proofs.Lists.{each_one_more}
 use Rattle.up_rows.specs.declared.root_row.RootRow.{RootRow}
-use Rattle.up_rows.specs.Changes.{new_root, with_root_rows, with_register_rows, with_image_rows, with_vehicle_rows, with_campaign_row, with_accepted_rows}
+use Rattle.up_rows.specs.Changes.{new_root, with_root_rows, with_register_rows, with_image_rows, with_vehicle_rows, replaced_rows, with_replaced_rows, with_campaign_row, with_accepted_rows}
 use Rattle.up_rows.specs.StateRows.{StateRows}
+use Rattle.up_store.specs.Fitting.{IsReplacement}
 use Rattle.up_store.specs.Typed.{AreTyped, EachHasKeys, IsTypedCampaign, IsTypedImage, IsTypedVehicle, IsTypedKept}
 
 -- ---- writes
@@ -26,10 +30,11 @@ typed_root rows new typed keys = record {
   campaigns = typed.campaigns;
   vehicles = typed.vehicles;
   kept = typed.kept;
+  retired = typed.retired;
 }
 
 pub typed_register : (rows : StateRows) (new : RegisterRows) → AreTyped rows → AreTyped (with_register_rows rows new)
-typed_register rows new typed = record { roots = typed.roots; images = typed.images; campaigns = typed.campaigns; vehicles = typed.vehicles; kept = typed.kept }
+typed_register rows new typed = record { roots = typed.roots; images = typed.images; campaigns = typed.campaigns; vehicles = typed.vehicles; kept = typed.kept; retired = typed.retired }
 
 pub typed_image : (rows : StateRows) (image : ImageData) (new : RegisterRows) → AreTyped rows → IsTypedImage image.file image → AreTyped (with_image_rows rows image new)
 typed_image rows image new typed is = record {
@@ -38,6 +43,7 @@ typed_image rows image new typed is = record {
   campaigns = typed.campaigns;
   vehicles = typed.vehicles;
   kept = typed.kept;
+  retired = typed.retired;
 }
 
 pub typed_campaign : (rows : StateRows) (new : CampaignData) → AreTyped rows → IsTypedCampaign new.name new → AreTyped (with_campaign_row rows new)
@@ -47,7 +53,16 @@ typed_campaign rows new typed is = record {
   campaigns = λ name other found. get_after-insert IsTypedCampaign rows.campaigns new.name name other new found is (typed.campaigns name other);
   vehicles = typed.vehicles;
   kept = typed.kept;
+  retired = typed.retired;
 }
+
+-- what is not there after an insertion wasn't there before
+none_before : {X : Type 0} (t : Table X) (n q : Name) (x : X) → table.get (table.insert t n x) q ≡ None → table.get t q ≡ None
+none_before t n q x none = by_test (eq_by_cmp (slice_cmp nat_cmp) q n) (sym (get_new t n q x) ∙ none)
+  where
+    by_test : (b : Bool) → cond b (Some x) (table.get t q) ≡ None → table.get t q ≡ None
+    by_test true h = cc
+    by_test false h = h
 
 pub typed_vehicle : (rows : StateRows) (new : VehicleRows) → AreTyped rows → AreTyped (with_vehicle_rows rows new)
 typed_vehicle rows new typed = record {
@@ -56,6 +71,7 @@ typed_vehicle rows new typed = record {
   campaigns = typed.campaigns;
   vehicles = λ name other found. get_after-insert IsTypedVehicle rows.vehicles new.vehicle.vehicle name other new found refl (typed.vehicles name other);
   kept = typed.kept;
+  retired = λ name none. typed.retired name (none_before rows.vehicles new.vehicle.vehicle name new none);
 }
 
 pub typed_accepted : (rows : StateRows) (new : AcceptedRows) → AreTyped rows → IsTypedKept new.kept.vehicle new.kept → AreTyped (with_accepted_rows rows new)
@@ -65,8 +81,35 @@ typed_accepted rows new typed is = record {
   campaigns = typed.campaigns;
   vehicles = λ name other found. get_after-insert IsTypedVehicle rows.vehicles new.vehicle.vehicle.vehicle name other new.vehicle found refl (typed.vehicles name other);
   kept = λ name. by_test name (bytes_eq new.kept.vehicle name) refl;
+  retired = λ name none. typed.retired name (none_before rows.vehicles new.vehicle.vehicle.vehicle name new.vehicle none);
 }
   where
     by_test : (name : Name) (b : Bool) → bytes_eq new.kept.vehicle name ≡ b → AllByRecursion (IsTypedKept name) (if b then rows.kept name ++ new.kept ∷ [] else rows.kept name)
     by_test name true same = each_one_more (IsTypedKept name) (rows.kept name) new.kept (typed.kept name) (subst (λ n. IsTypedKept n new.kept) ((bytes_decides new.kept.vehicle name).0 same) is)
     by_test name false same = typed.kept name
+
+-- the vehicles after a replacement in one that is there
+pub with_there : (rows : StateRows) (new : Replacement) (was : VehicleRows) → table.get rows.vehicles new.vehicle ≡ Some was
+    → (with_replaced_rows rows new).vehicles ≡ table.insert rows.vehicles new.vehicle (replaced_rows new was)
+with_there rows new was there = ap (λ o. unwrap_or (option_map (λ (v : VehicleRows). table.insert rows.vehicles new.vehicle (replaced_rows new v)) o) rows.vehicles) there
+
+pub typed_replaced : (rows : StateRows) (new : Replacement) → AreTyped rows → IsReplacement new rows → AreTyped (with_replaced_rows rows new)
+typed_replaced rows new typed fits = record {
+  roots = typed.roots;
+  images = typed.images;
+  campaigns = typed.campaigns;
+  vehicles = λ name other found. get_after-insert IsTypedVehicle rows.vehicles new.vehicle name other changed (sym (is name) ∙ found) (typed.vehicles new.vehicle fits.was fits.there) (typed.vehicles name other);
+  kept = typed.kept;
+  retired = λ name none. by_test name (sym (is name) ∙ none) (bytes_eq new.vehicle name) refl;
+}
+  where
+    changed : VehicleRows
+    changed = replaced_rows new fits.was
+
+    is : (name : Name) → table.get (with_replaced_rows rows new).vehicles name ≡ table.get (table.insert rows.vehicles new.vehicle changed) name
+    is name = ap (λ t. table.get t name) (with_there rows new fits.was fits.there)
+
+    by_test : (name : Name) → table.get (table.insert rows.vehicles new.vehicle changed) name ≡ None → (b : Bool) → bytes_eq new.vehicle name ≡ b
+        → (if b then rows.retired name ++ new.old ∷ [] else rows.retired name) ≡ []
+    by_test name none true same = absurd (let e = sym (get_same rows.vehicles new.vehicle changed) ∙ ap (table.get (table.insert rows.vehicles new.vehicle changed)) ((bytes_decides new.vehicle name).0 same) ∙ none in cc)
+    by_test name none false same = typed.retired name (none_before rows.vehicles new.vehicle name changed none)

@@ -1,5 +1,5 @@
 -- What rows that are written have to fit of those that are kept: decisions answer only such rows.
-use Rattle.std.specs.Prelude.{◌≡◌, ◌+◌, Some, None, length, map}
+use Rattle.std.specs.Prelude.{◌≡◌, ◌+◌, Some, None, IsTrue, length, map}
 use Rattle.std.specs.FinMap as table
 use Rattle.up_canon.specs.Names.{first_repeated}
 use Rattle.up_plan.specs.Campaigns.{CampaignData}
@@ -8,7 +8,9 @@ use Rattle.up_machine.specs.declared.decision.AcceptedRows.{AcceptedRows}
 use Rattle.up_machine.specs.declared.decision.RegisterRows.{RegisterRows}
 use Rattle.up_machine.specs.declared.decision.RootRows.{RootRows}
 use Rattle.up_machine.specs.declared.rows.VehicleRows.{VehicleRows}
+use Rattle.up_machine.specs.declared.vehicle.Replacement.{Replacement}
 use Rattle.up_machine.specs.Inventory.{closed}
+use Rattle.up_rows.specs.Lookups.{stands_among}
 use Rattle.up_rows.specs.StateRows.{StateRows, ecu_of}
 use Rattle.up_store.specs.Listing.{IsOfLastRoot}
 use Rattle.up_store.specs.Typed.{EachHasKeys}
@@ -30,6 +32,13 @@ pub record IsNewImage (image : ImageData) (new : RegisterRows) (rows : StateRows
 -- the name is new
 abbrev pub IsNewVehicle : VehicleRows → StateRows → Type 0
 IsNewVehicle new rows = table.get rows.vehicles new.vehicle.vehicle ≡ None
+
+-- the vehicle is there and has the old ECU, and none of its ECUs stands twice
+pub record IsReplacement (new : Replacement) (rows : StateRows) : Type 0 where
+  pub was : VehicleRows
+  pub there : table.get rows.vehicles new.vehicle ≡ Some was
+  pub has : IsTrue (stands_among new.old was.ecus)
+  pub once : first_repeated (map (λ row. row.ecu) was.ecus) ≡ None
 
 -- the name is new
 abbrev pub IsNewCampaign : CampaignData → StateRows → Type 0

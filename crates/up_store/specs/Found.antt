@@ -7,7 +7,6 @@ use Rattle.up_plan.specs.Planning.{reaches}
 use Rattle.up_machine.specs.declared.rows.EcuRow.{EcuRow}
 use Rattle.up_machine.specs.declared.rows.VehicleRow.{VehicleRow}
 use Rattle.up_rows.specs.StateRows.{StateRows}
-use Rattle.up_rows.specs.Lookups.{owner_among}
 
 -- none of an unknown vehicle
 abbrev pub vehicle_found : Name → StateRows → Option VehicleRow
@@ -16,10 +15,6 @@ vehicle_found vehicle rows = option_map (λ v. v.vehicle) (table.get rows.vehicl
 -- in inventory order; empty of an unknown vehicle
 abbrev pub ecus_found : Name → StateRows → List EcuRow
 ecus_found vehicle rows = unwrap_or (option_map (λ v. v.ecus) (table.get rows.vehicles vehicle)) []
-
--- the vehicle in which the ECU stands
-abbrev pub owner_found : Name → StateRows → Option Name
-owner_found ecu rows = option_map (λ v. v.vehicle.vehicle) (owner_among ecu (table.values rows.vehicles))
 
 -- the values of which the test holds, under their names
 abbrev pub values_where : {X : Type 0} → (X → Bool) → Table X → Table X

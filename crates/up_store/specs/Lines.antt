@@ -22,7 +22,7 @@ use Rattle.up_rows.specs.declared.root_row.RootRow.{RootRow}
 use Rattle.up_columns.specs.Columns.{names_column, needs_column}
 use Rattle.up_columns.specs.CampaignColumns.{reach_column, items_column}
 use Rattle.up_columns.specs.PlanColumns.{plan_column}
-use Rattle.up_tables.specs.Lines.{EcuLine, ecu_row, campaign_line, vehicle_line, yes_or_no}
+use Rattle.up_tables.specs.Lines.{EcuLine, ecu_row, campaign_line, vehicle_line, retired_line, yes_or_no}
 use Rattle.up_tables.specs.Rows.{with_only_at}
 
 -- ---- meta: the numbers of the founding; zeros before it
@@ -124,6 +124,11 @@ ecu_lines vehicle place (row ∷ rows) = ecu_line vehicle place row ∷ ecu_line
 abbrev pub ecus_lines : Name → Option VehicleRows → List Row
 ecus_lines name None = []
 ecus_lines name (Some v) = map ecu_row (ecu_lines name 0 v.ecus)
+
+-- ---- retired: the ECUs of a vehicle that were replaced, in the order of their replacement
+
+abbrev pub retired_lines : Name → List Name → List Row
+retired_lines vehicle ecus = map (λ ecu. retired_line ecu vehicle) ecus
 
 -- ---- kept: an accepted manifest
 

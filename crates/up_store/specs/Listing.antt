@@ -13,8 +13,11 @@ use Rattle.up_machine.specs.declared.rows.Founding.{Founding}
 use Rattle.up_rows.specs.declared.root_row.RootRow.{RootRow}
 use Rattle.up_rows.specs.StateRows.{StateRows, rows_of_state}
 use Rattle.up_rows.specs.Lookups.{text_held}
-use Rattle.up_tables.specs.Listed.{TableRows, ListsTables}
-use Rattle.up_store.specs.Lines.{founding_number, repository_word, roots_lines, file_lines, image_lines, campaign_lines, vehicle_lines, ecus_lines, kept_line}
+use Rattle.up_tables.specs.declared.open.SchemaVersion.{SchemaVersion}
+use Rattle.up_tables.specs.declared.open.SchemaVersion.TheVariants.{Three}
+use Rattle.up_tables.specs.Listed.{TableRows}
+use Rattle.up_tables.specs.Versions.{ListsAs}
+use Rattle.up_store.specs.Lines.{founding_number, repository_word, roots_lines, file_lines, image_lines, campaign_lines, vehicle_lines, ecus_lines, kept_line, retired_lines}
 use Rattle.up_store.specs.Typed.{AreTyped}
 
 -- the founding is of the last root version; before it there is none
@@ -35,7 +38,8 @@ files_lines rows word name =
 
 -- of the founding, the numbers; the keys of all root versions, in order; of each repository and filename the text that is
 -- served, or none; of each image, campaign and vehicle by its name one row, or none; of each vehicle its ECUs in inventory
--- order, and its accepted manifests in the order of acceptance. A root version's moment stands in its file's text alone.
+-- order, its accepted manifests in the order of acceptance, and its replaced ECUs in the order of their replacement. A root version's
+-- moment stands in its file's text alone.
 abbrev pub table_rows : StateRows → TableRows
 table_rows rows = record {
   root = founding_number (λ f. f.root) rows.founding;
@@ -48,14 +52,20 @@ table_rows rows = record {
   vehicles = λ name. vehicle_lines (table.get rows.vehicles name);
   ecus = λ name. ecus_lines name (table.get rows.vehicles name);
   kept = λ name. map kept_line (rows.kept name);
+  retired = λ name. retired_lines name (rows.retired name);
+  sha512s = λ name. [];
 }
 
--- the tables list the rows of a state
-pub record ListsRows (rows : StateRows) (trees : Trees) : Type 0 where
+-- the tables of a version of the schema list the rows of a state
+pub record ListsRowsAs (version : SchemaVersion) (rows : StateRows) (trees : Trees) : Type 0 where
   pub last : IsOfLastRoot rows.founding rows.roots
   pub numbered : AreNumbered rows.roots
   pub typed : AreTyped rows
-  pub tables : ListsTables (table_rows rows) trees
+  pub tables : ListsAs version (table_rows rows) trees
+
+-- so do those of this product's
+abbrev pub ListsRows : StateRows → Trees → Type 0
+ListsRows rows trees = ListsRowsAs Three rows trees
 
 -- the tables show the state: they list its rows
 abbrev pub ShowsState : Rules → State → Trees → Type 0

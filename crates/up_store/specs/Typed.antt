@@ -1,5 +1,6 @@
--- What the types of rows say of them: each stands under its own name, and what is kept as JSON can be read again.
-use Rattle.std.specs.Prelude.{◌≡◌, ◌≤◌, Some, true, length}
+-- What the types of rows say of them: each stands under its own name, what is kept as JSON can be read again, and an ECU was replaced in a
+-- vehicle that is there.
+use Rattle.std.specs.Prelude.{◌≡◌, ◌≤◌, [], Some, None, true, length}
 use Rattle.std.specs.List.{AllByRecursion, list_all}
 use Rattle.std.specs.FinMap as table
 use Rattle.up_canon.specs.Names.{Name, is_ident, is_file_name}
@@ -61,3 +62,4 @@ pub record AreTyped (rows : StateRows) : Type 0 where
   pub campaigns : (name : Name) (campaign : CampaignData) → table.get rows.campaigns name ≡ Some campaign → IsTypedCampaign name campaign
   pub vehicles : (name : Name) (vehicle : VehicleRows) → table.get rows.vehicles name ≡ Some vehicle → IsTypedVehicle name vehicle
   pub kept : (name : Name) → AllByRecursion (IsTypedKept name) (rows.kept name)
+  pub retired : (name : Name) → table.get rows.vehicles name ≡ None → rows.retired name ≡ []

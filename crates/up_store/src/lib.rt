@@ -12,6 +12,7 @@ mod keys;
 pub mod laws;
 mod manifests;
 mod reading;
+mod replaced;
 mod roots;
 pub mod stopping;
 pub mod store;

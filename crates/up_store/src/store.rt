@@ -6,12 +6,13 @@ ghost use Rattle.up_rows.specs.StateRows.{StateRows, no_rows};
 ghost use Rattle.up_tables.specs.Ours.{NamesUs, NamesOthers};
 ghost use Rattle.up_tables.specs.Stands.{IfClean, IsInside, IsAsCommitted, LeavesOnly, HasNoTables};
 ghost use Rattle.up_tables.specs.declared.open.OpenFault.TheVariants.{NotOurs};
-ghost use Rattle.up_store.specs.Connections.{KeepsRows, HoldsRows, MadeIn, Commits};
+ghost use Rattle.up_tables.specs.declared.open.SchemaVersion.{SchemaVersion};
+ghost use Rattle.up_store.specs.Connections.{KeepsAs, KeepsRows, HoldsRows, MadeIn, RaisedRows, Commits};
 
 use sqlite::{Alter, Connection, Transaction};
 use std::marker::Model;
 pub use up_tables::open::OpenFault;
-use up_tables::open::{create_tables, names_us};
+use up_tables::open::{create_tables, take_tables};
 pub use up_tables::values::StoreFault;
 use up_tables::values::fault_of;
 
@@ -66,23 +67,24 @@ impl<D: Alter> Store<D> {
         }
     }
 
-    /// Takes a database that this product left: `NotOurs` where the database refuses the query on `meta`, as one without such a
-    /// table does, or `meta` names another product or schema, and never of tables that list rows of this product. `Memory` for want of memory, and
-    /// `Store` where the disk failed or a limit on steps was met. What the tables show stays, and a fault hands the connection back with no
-    /// transaction under way.
+    /// Takes a database that this product left, and raises one of an older schema, in one transaction: no ECU of a database of schema 1 was replaced,
+    /// and no image of one of schema 1 or 2 has a second hash. `NotOurs` where the database refuses the query on `meta`, as one without such a
+    /// table does, or `meta` names another product or a schema but 1, 2 and 3, and never of tables that list rows of this product. `Memory` for
+    /// want of memory, and `Store` where the disk failed, a limit on steps was met, or a statement that raises the tables was refused. What the
+    /// tables show stays, and a fault hands the connection back as it was committed, with no transaction under way.
     pub fn adopt(mut conn: Connection<D>) -> Result<Store<D>, (Connection<D>, OpenFault)>
         requires { (state D.Store conn).in_transaction ≡ false }
         ensures ours { IfOk result (λ s. HasCleanDisk (state D.Store s) → NamesUs (state D.Store conn)) }
-        ensures kept { IfOk result (λ s. IfClean (IsAsCommitted (state D.Store conn)) (state D.Store s)) }
-        ensures crash { IfOk result (λ s. Survives (state D.Store conn) (state D.Store s) (λ _. ⊥)) }
+        ensures taken { IfOk result (λ s. (version : SchemaVersion) (rows : StateRows) → IfClean (KeepsAs version rows) (state D.Store conn) → IfClean (KeepsRows rows) (state D.Store s)) }
+        ensures crash { IfOk result (λ s. Survives (state D.Store conn) (state D.Store s) (RaisedRows (state D.Store conn))) }
         ensures open { IfOk result (λ s. HasCleanDisk (state D.Store s) → IsTrue (state D.Store conn).is_open) }
         ensures kept_err { IfErr result (λ e. IfClean (IsAsCommitted (state D.Store conn)) (state D.Store e.0)) }
         ensures others { IfErr result (λ e. e.1 ≡ NotOurs → HasCleanDisk (state D.Store e.0) → NamesOthers (state D.Store conn)) }
-        ensures never { IfErr result (λ e. HasCleanDisk (state D.Store e.0) → (rows : StateRows) → IfClean (KeepsRows rows) (state D.Store conn) → e.1 ≢ NotOurs) }
-        ensures crash_err { IfErr result (λ e. Survives (state D.Store conn) (state D.Store e.0) (λ _. ⊥)) }
+        ensures never { IfErr result (λ e. HasCleanDisk (state D.Store e.0) → (version : SchemaVersion) (rows : StateRows) → IfClean (KeepsAs version rows) (state D.Store conn) → e.1 ≢ NotOurs) }
+        ensures crash_err { IfErr result (λ e. Survives (state D.Store conn) (state D.Store e.0) (RaisedRows (state D.Store conn))) }
         ensures mode { IfErr result (λ e. (state D.Store e.0).in_transaction ≡ false) }
     {
-        match names_us(&mut conn) {
+        match take_tables(&mut conn) {
             Ok(true) => Ok(Store { conn }),
             Ok(false) => Err((conn, OpenFault::NotOurs)),
             Err(fault) => Err((conn, fault)),

@@ -5,7 +5,8 @@ ghost use Rattle.sqlite.specs.State.{HasCleanDisk, Survives};
 ghost use Rattle.up_rows.specs.Changes.{with_vehicle_rows};
 ghost use Rattle.up_store.specs.Fitting.{IsNewVehicle};
 ghost use Rattle.up_store.specs.Shown.{vehicle_read};
-ghost use Rattle.up_store.specs.Found.{vehicle_found, ecus_found, owner_found};
+ghost use Rattle.up_rows.specs.Lookups.{last_owner, owner_found};
+ghost use Rattle.up_store.specs.Found.{vehicle_found, ecus_found};
 ghost use Rattle.up_tables.specs.Stands.{IfClean, IsAsCommitted, IsInside, IsOpen, Steps};
 ghost use Rattle.up_tables.specs.Forms.{FitVehicle};
 ghost use Rattle.up_store.specs.Connections.{Answers, FindsRows, NeedsOpen, TakesRows, CommitsRows, SparesRows, PutsRows};
@@ -19,6 +20,7 @@ use up_canon::ident::Ident;
 use up_canon::listed::Listed;
 use up_machine::rows::{EcuRow, VehicleRow, VehicleRows};
 use up_tables::ecu::{ecu_owner as owner_shown, ecus as ecus_shown, insert_ecus};
+use up_tables::retired::retired_owner;
 use up_tables::vehicle::{VehicleRow as VehicleShown, insert_vehicle, vehicle as vehicle_shown};
 
 impl<D: Alter> Store<D> {
@@ -49,7 +51,7 @@ impl<D: Alter> Store<D> {
         find_ecus(&mut tx, alloc, vehicle)
     }
 
-    /// The vehicle in which the ECU stands, none of an unknown ECU.
+    /// The vehicle in which the ECU stands, else the one in which an ECU of the name was replaced; none of an unknown ECU.
     pub fn ecu_owner(&mut self, alloc: Global, ecu: &Ident) -> Result<Option<Ident>, StoreFault>
         ensures told { Answers (owner_found ecu.now) (state D.Store self.old) (state D.Store self.new) result }
         ensures kept { IfClean (IsAsCommitted (state D.Store self.old)) (state D.Store self.new) }
@@ -126,7 +128,7 @@ fn find_ecus<D: Alter>(
     }
 }
 
-/// The vehicle of an ECU.
+/// The vehicle of an ECU, or of one that was replaced.
 fn find_owner<D: Alter>(
     tx: &mut Transaction<'_, D>,
     ecu: &Ident,
@@ -138,6 +140,24 @@ fn find_owner<D: Alter>(
     ensures steps { Steps (state D.Store tx.old.conn.now) (state D.Store tx.new.conn.now) }
 {
     match owner_shown(tx, ecu.text()) {
+        Ok(Some(shown)) => read_owner(shown),
+        Ok(None) => find_retired(tx, ecu),
+        Err(fault) => Err(fault),
+    }
+}
+
+/// The vehicle in which an ECU of the name was replaced.
+fn find_retired<D: Alter>(
+    tx: &mut Transaction<'_, D>,
+    ecu: &Ident,
+) -> Result<Option<Ident>, StoreFault>
+    requires mode { IfClean IsInside (state D.Store tx.old.conn.now) }
+    ensures same_reference { tx.new.conn.ghost_name ≡ tx.old.conn.ghost_name }
+    ensures found { FindsRows (last_owner ecu.now) (state D.Store tx.old.conn.now) (state D.Store tx.new.conn.now) result }
+    ensures open { NeedsOpen (state D.Store tx.old.conn.now) (state D.Store tx.new.conn.now) result }
+    ensures steps { Steps (state D.Store tx.old.conn.now) (state D.Store tx.new.conn.now) }
+{
+    match retired_owner(tx, ecu.text()) {
         Ok(Some(shown)) => read_owner(shown),
         Ok(None) => Ok(None),
         Err(fault) => Err(fault),

@@ -15,6 +15,7 @@ pub mod StateLemmas
 pub mod CallLemmas
 pub mod ByNameLemmas
 pub mod ImageLemmas
+pub mod Sha512Lemmas
 pub mod VehicleLemmas
 pub mod ReturnLemmas
 pub mod KeyLemmas
@@ -28,6 +29,9 @@ pub mod MetaLemmas
 pub mod TransactionLemmas
 pub mod OursLemmas
 pub mod OursReads
+pub mod RaisedLemmas
+pub mod ReplaceLemmas
+pub mod RetiredLemmas
 pub mod CrashLemmas
 pub mod CampaignSteps
 pub mod KeptLemmas
@@ -39,3 +43,4 @@ pub mod FileLemmas
 pub mod MetaReads
 pub mod RoleKeyLemmas
 pub mod ListedLemmas
+pub mod RaiseLemmas

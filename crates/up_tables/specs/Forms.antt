@@ -3,11 +3,12 @@ use Rattle.std.specs.Prelude.{◌<◌, ◌^◌, ℕ, pos, List, [], ◌∷◌, s
 use Rattle.sqlite.specs.declared.types.Value.TheVariants.{Int, Text, Blob}
 use Rattle.sqlite.specs.Order.{Row}
 use Rattle.up_tables.specs.declared.image.ImageRow.{ImageRow}
+use Rattle.up_tables.specs.declared.image_sha512.Sha512Row.{Sha512Row}
 use Rattle.up_tables.specs.declared.kept.KeptRow.{KeptRow}
 use Rattle.up_tables.specs.declared.repo_file.FileRow.{FileRow}
 use Rattle.up_tables.specs.Rows.{with_only_at}
 use Rattle.up_tables.specs.declared.vehicle.VehicleRow.{VehicleRow}
-use Rattle.up_tables.specs.Lines.{meta_row, campaign_line, vehicle_line, yes_or_no}
+use Rattle.up_tables.specs.Lines.{meta_row, campaign_line, vehicle_line, sha512_line, yes_or_no}
 use Rattle.up_tables.specs.declared.meta.MetaRow.{MetaRow}
 use Rattle.up_tables.specs.declared.role_key.RoleKeyRow.{RoleKeyRow}
 use Rattle.up_tables.specs.declared.campaign.CampaignRow.{CampaignRow}
@@ -22,6 +23,13 @@ image_places = 0 ∷ 1 ∷ 2 ∷ 3 ∷ 4 ∷ 5 ∷ 6 ∷ []
 pub record FitImage (i : ImageRow) : Type 0 where
   pub length : i.length < 2 ^ 63
   pub release_count : i.release_count < 2 ^ 63
+
+-- the second hash of an image
+abbrev pub sha512_row : Sha512Row → Row
+sha512_row i = sha512_line (string_bytes i.file) i.sha512.items
+
+abbrev pub sha512_places : List ℕ
+sha512_places = 0 ∷ 1 ∷ []
 
 abbrev pub campaign_row : CampaignRow → Row
 campaign_row c = campaign_line (string_bytes c.name) (string_bytes c.reach) (string_bytes c.items) (yes_or_no c.running)

@@ -1,17 +1,20 @@
-//! Whose tables a database has: they are made in one that has none, and told by the row of `meta`.
+//! Whose tables a database has: they are made in one that has none, told by the row of `meta`, and raised where they are of an older version.
 
-ghost use Rattle.std.specs.Prelude.{◌≡◌, ◌≢◌, false, [], OnOk, OnErr, IfOk, IfErr, IsTrue, codes, pos};
+ghost use Rattle.std.specs.Prelude.{◌≡◌, ◌≢◌, false, [], OnOk, OnErr, None, Some, IfOk, IfErr, IfSome, IsTrue, codes, pos};
 ghost use Rattle.sqlite.specs.declared.types.Value.TheVariants.{Int, Text};
 ghost use Rattle.sqlite.specs.Order.{column};
 ghost use Rattle.sqlite.specs.Held.{state};
 ghost use Rattle.sqlite.specs.State.{HasCleanDisk, Survives, IsLive};
 ghost use Rattle.up_tables.specs.Tables.{no_schema, up_schema};
 ghost use Rattle.up_tables.specs.Lines.{AreNew};
-ghost use Rattle.up_tables.specs.Stands.{AreEmpty, IfClean, IsInside, IsOpen, LeavesOnly, Stands, Steps, AreWith, HasNoTables, IsAsCommitted};
-ghost use Rattle.up_tables.specs.Ours.{NamesUs, NamesOthers, ListsUs, IsOurs, is_refused};
+ghost use Rattle.up_tables.specs.Stands.{IfClean, IsInside, IsOpen, LeavesOnly, Stands, Steps, AreWith, HasNoTables, IsAsCommitted};
+ghost use Rattle.up_tables.specs.Listed.{TableRows, ListsTables};
+ghost use Rattle.up_tables.specs.Versions.{number_of, StandsAs};
+ghost use Rattle.up_tables.specs.Ours.{NamesUs, NamesVersion, NamesOthers, ListsUs, IsOurs, Raised, is_refused};
 ghost use Rattle.up_tables.specs.declared.open.OpenFault.TheVariants as OpenFault;
 
 use crate::create::make_all;
+use crate::raise::raise;
 use sqlite::{Alter, Connection, Error, ErrorCode, Row, Transaction};
 use sqlite_value::value::ValueRef;
 
@@ -22,8 +25,19 @@ pub enum OpenFault {
     Memory,
     /// The database refused, or has tables where they are to be made.
     Store,
-    /// The database refuses the query on `meta`, or `meta` names another product or schema.
+    /// The database refuses the query on `meta`, or `meta` names another product, or no version of its schema.
     NotOurs,
+}
+
+/// A version of the schema, which `meta` names by its number.
+#[derive(Clone, Copy, Debug, PartialEq, Eq)]
+pub enum SchemaVersion {
+    /// The eight tables that every version has.
+    One,
+    /// `retired`, too.
+    Two,
+    /// `image_sha512`, too: the version that is made, and to which the others are raised.
+    Three,
 }
 
 /// Whether the database has no table, index or view.
@@ -63,14 +77,41 @@ pub fn create_tables<S: Alter>(conn: &mut Connection<S>) -> Result<(), OpenFault
     }
 }
 
-/// Whether `meta` names this product and schema. It doesn't where the database refuses the query on it, as one without such a table does, or
-/// answers anything but the one row. `Memory` for want of memory; `Store` where the disk failed, or a limit on steps was met: that says nothing of
-/// whose tables they are.
-pub fn names_us<S: Alter>(conn: &mut Connection<S>) -> Result<bool, OpenFault>
+/// Takes tables of this product, whatever version of its schema `meta` names, and raises those of an older one in one transaction. `false` where `meta`
+/// doesn't name it: where the database refuses the query on it, as one without such a table does, or answers anything but the one row. `Memory` for want
+/// of memory; `Store` where the disk failed, a limit on steps was met, or a statement that raises was refused, as where a table that it makes is there
+/// already. Whatever it answers but `true`, the database is as it was committed. It looks at `meta` alone, not at which other tables there are.
+pub fn take_tables<S: Alter>(conn: &mut Connection<S>) -> Result<bool, OpenFault>
     requires { (state S.Store conn.old).in_transaction ≡ false }
     ensures ours { IfOk result (λ b. IsTrue b → HasCleanDisk (state S.Store conn.new) → NamesUs (state S.Store conn.old)) }
     ensures others { IfOk result (λ b. b ≡ false → HasCleanDisk (state S.Store conn.new) → NamesOthers (state S.Store conn.old)) }
-    ensures listed { IfOk result (λ b. HasCleanDisk (state S.Store conn.new) → ListsUs (state S.Store conn.old) → IsTrue b) }
+    ensures listed { IfOk result (λ b. HasCleanDisk (state S.Store conn.new) → (version : SchemaVersion) → ListsUs version (state S.Store conn.old) → IsTrue b) }
+    ensures taken { IfOk result (λ b. IsTrue b → HasCleanDisk (state S.Store conn.new) → (version : SchemaVersion) (rows : TableRows) → StandsAs version rows (state S.Store conn.old)
+        → Stands up_schema (ListsTables rows) (state S.Store conn.new)) }
+    ensures fault { IfErr result (λ e. e ≢ OpenFault.NotOurs) }
+    ensures kept { IfOk result (λ b. b ≡ false → IfClean (IsAsCommitted (state S.Store conn.old)) (state S.Store conn.new)) }
+    ensures kept_err { OnErr result (IfClean (IsAsCommitted (state S.Store conn.old)) (state S.Store conn.new)) }
+    ensures autocommit { (state S.Store conn.new).in_transaction ≡ false }
+    ensures crash { Survives (state S.Store conn.old) (state S.Store conn.new) (Raised (state S.Store conn.old)) }
+    ensures open { HasCleanDisk (state S.Store conn.new) → OnOk result (IsTrue (state S.Store conn.old).is_open) }
+{
+    match version_there(conn) {
+        Ok(None) => Ok(false),
+        Ok(Some(SchemaVersion::Three)) => Ok(true),
+        Ok(Some(version)) => match raise(conn, version) {
+            Ok(()) => Ok(true),
+            Err(fault) => Err(fault),
+        },
+        Err(fault) => Err(fault),
+    }
+}
+
+/// The version of this product's schema that `meta` names, none where it doesn't name one.
+fn version_there<S: Alter>(conn: &mut Connection<S>) -> Result<Option<SchemaVersion>, OpenFault>
+    requires { (state S.Store conn.old).in_transaction ≡ false }
+    ensures named { HasCleanDisk (state S.Store conn.new) → IfOk result (λ found. IfSome found (λ version. NamesVersion version (state S.Store conn.old))) }
+    ensures others { HasCleanDisk (state S.Store conn.new) → IfOk result (λ found. found ≡ None → NamesOthers (state S.Store conn.old)) }
+    ensures tells { HasCleanDisk (state S.Store conn.new) → IfOk result (λ found. (version : SchemaVersion) → ListsUs version (state S.Store conn.old) → found ≡ Some version) }
     ensures fault { IfErr result (λ e. e ≢ OpenFault.NotOurs) }
     ensures kept { IfClean (IsAsCommitted (state S.Store conn.old)) (state S.Store conn.new) }
     ensures autocommit { (state S.Store conn.new).in_transaction ≡ false }
@@ -79,7 +120,7 @@ pub fn names_us<S: Alter>(conn: &mut Connection<S>) -> Result<bool, OpenFault>
 {
     let mut tx = conn.transaction();
     match find_meta(&mut tx) {
-        Ok(rows) => Ok(is_ours(&rows)),
+        Ok(rows) => Ok(version_named(&rows)),
         Err(error) => not_ours(error),
     }
 }
@@ -88,8 +129,9 @@ pub fn names_us<S: Alter>(conn: &mut Connection<S>) -> Result<bool, OpenFault>
 fn find_meta<S: Alter>(tx: &mut Transaction<'_, S>) -> Result<Vec<Row>, Error>
     requires mode { IfClean IsInside (state S.Store tx.old.conn.now) }
     ensures same_reference { tx.new.conn.ghost_name ≡ tx.old.conn.ghost_name }
-    ensures found { HasCleanDisk (state S.Store tx.new.conn.now) → IfOk result (λ rows. IsOurs rows.items → NamesUs (state S.Store tx.old.conn.now)) }
-    ensures others { HasCleanDisk (state S.Store tx.new.conn.now) → IfOk result (λ rows. ¬ IsOurs rows.items → NamesOthers (state S.Store tx.old.conn.now)) }
+    ensures found { HasCleanDisk (state S.Store tx.new.conn.now) → IfOk result (λ rows. (version : SchemaVersion) → IsOurs version rows.items → NamesVersion version (state S.Store tx.old.conn.now)) }
+    ensures tells { HasCleanDisk (state S.Store tx.new.conn.now) → IfOk result (λ rows. (version : SchemaVersion) → ListsUs version (state S.Store tx.old.conn.now) → IsOurs version rows.items) }
+    ensures others { HasCleanDisk (state S.Store tx.new.conn.now) → IfOk result (λ rows. ((version : SchemaVersion) → ¬ IsOurs version rows.items) → NamesOthers (state S.Store tx.old.conn.now)) }
     ensures refused { HasCleanDisk (state S.Store tx.new.conn.now) → IfErr result (λ e. IsTrue (is_refused e) → NamesOthers (state S.Store tx.old.conn.now)) }
     ensures open { OnOk result (IfClean IsOpen (state S.Store tx.new.conn.now)) }
     ensures steps { Steps (state S.Store tx.old.conn.now) (state S.Store tx.new.conn.now) }
@@ -97,14 +139,20 @@ fn find_meta<S: Alter>(tx: &mut Transaction<'_, S>) -> Result<Vec<Row>, Error>
     tx.query_all("SELECT app, schema FROM meta WHERE id = 1", &[])
 }
 
-/// Whether there is one row, which names this product and schema.
-fn is_ours(rows: &[Row]) -> bool
-    ensures yes { IsTrue result → IsOurs rows.now }
-    ensures no { result ≡ false → ¬ IsOurs rows.now }
+/// The version of this product's schema that the rows name: one row, with the name and a number.
+fn version_named(rows: &[Row]) -> Option<SchemaVersion>
+    ensures some { IfSome result (λ version. IsOurs version rows.now) }
+    ensures none { result ≡ None → (version : SchemaVersion) → ¬ IsOurs version rows.now }
 {
     match rows {
-        [row] => has_our_name(row) && has_our_schema(row),
-        _ => false,
+        [row] => {
+            if has_our_name(row) {
+                version_of(row)
+            } else {
+                None
+            }
+        }
+        _ => None,
     }
 }
 
@@ -119,20 +167,36 @@ fn has_our_name(row: &Row) -> bool
     }
 }
 
-/// Whether the row names this schema.
-fn has_our_schema(row: &Row) -> bool
-    ensures yes { IsTrue result → column row.now 1 ≡ Int (pos 1) }
-    ensures no { result ≡ false → column row.now 1 ≢ Int (pos 1) }
+/// The version of the schema that the row names.
+fn version_of(row: &Row) -> Option<SchemaVersion>
+    ensures some { IfSome result (λ version. column row.now 1 ≡ Int (pos (number_of version))) }
+    ensures none { result ≡ None → (version : SchemaVersion) → column row.now 1 ≢ Int (pos (number_of version)) }
 {
     match row.get_ref(1) {
-        Ok(ValueRef::Int(schema)) => schema == 1,
-        _ => false,
+        Ok(ValueRef::Int(number)) => version_numbered(number),
+        _ => None,
+    }
+}
+
+/// The version of this number.
+fn version_numbered(number: i64) -> Option<SchemaVersion>
+    ensures some { IfSome result (λ version. number ≡ pos (number_of version)) }
+    ensures none { result ≡ None → (version : SchemaVersion) → number ≢ pos (number_of version) }
+{
+    if number == 1 {
+        Some(SchemaVersion::One)
+    } else if number == 2 {
+        Some(SchemaVersion::Two)
+    } else if number == 3 {
+        Some(SchemaVersion::Three)
+    } else {
+        None
     }
 }
 
 /// What is told of an error of the query on `meta`: the tables aren't ours where the database refuses the query.
-fn not_ours(error: Error) -> Result<bool, OpenFault>
-    ensures no { IfOk result (λ b. (b ≡ false) × IsTrue (is_refused error)) }
+fn not_ours(error: Error) -> Result<Option<SchemaVersion>, OpenFault>
+    ensures no { IfOk result (λ found. (found ≡ None) × IsTrue (is_refused error)) }
     ensures fault { IfErr result (λ e. (e ≢ OpenFault.NotOurs) × (is_refused error ≡ false)) }
 {
     match error {
@@ -145,12 +209,12 @@ fn not_ours(error: Error) -> Result<bool, OpenFault>
             | ErrorCode::TooBig
             | ErrorCode::Closed,
         ) => Err(OpenFault::Store),
-        _ => Ok(false),
+        _ => Ok(None),
     }
 }
 
 /// What is told of an error of the database where it is made.
-fn opening_fault(error: Error) -> OpenFault
+pub(crate) fn opening_fault(error: Error) -> OpenFault
     ensures { result ≢ OpenFault.NotOurs }
 {
     match error {

@@ -1,8 +1,8 @@
 //! Statements by their words.
 //!
-//! `make` makes the tables, `ours` asks whether they are this product's, and `sql TEXT` runs a statement of one's own. `put WHAT
+//! `make` makes the tables, `ours` takes them where they are this product's, and `sql TEXT` runs a statement of one's own. `put WHAT
 //! ROWS`, `set WHAT ROWS` and `close CAMPAIGN` write, in a transaction that is committed where nothing failed; all other words
-//! read, in a transaction that is dropped.
+//! read, in a transaction that is dropped, `ask TEXT` by a query of one's own.
 ghost use Rattle.std.specs.Prelude.{◌≡◌, false};
 ghost use Rattle.sqlite.specs.Held.{state};
 
@@ -12,7 +12,7 @@ use crate::words::first_of;
 use crate::writes::write;
 use sqlite::{Alter, Connection, Error};
 use std::alloc::{AllocError, Global};
-use up_tables::open::{OpenFault, create_tables, names_us};
+use up_tables::open::{OpenFault, create_tables, take_tables};
 use up_tables::values::{StoreFault, fault_of};
 use up_test_rows::calls::Calls;
 use up_test_rows::sections::told;
@@ -52,7 +52,7 @@ fn answer<S: Alter>(
     let (word, rest) = first_of(given);
     match word {
         "make" => opening_text(alloc, create_tables(conn)),
-        "ours" => ours_text(alloc, names_us(conn)),
+        "ours" => ours_text(alloc, take_tables(conn)),
         "sql" => ran_text(alloc, conn.execute(rest, &[])),
         "put" | "set" | "close" => written(alloc, conn, given),
         _ => was_read(alloc, conn, given),
@@ -111,8 +111,8 @@ fn opening_text(alloc: Global, done: Result<(), OpenFault>) -> Result<String, Al
     }
 }
 
-fn ours_text(alloc: Global, asked: Result<bool, OpenFault>) -> Result<String, AllocError> {
-    match asked {
+fn ours_text(alloc: Global, taken: Result<bool, OpenFault>) -> Result<String, AllocError> {
+    match taken {
         Ok(true) => "yes".to_string(alloc),
         Ok(false) => "no".to_string(alloc),
         Err(fault) => opening_fault_text(alloc, fault),

@@ -5,16 +5,18 @@ ghost use Rattle.up_tables.specs.Stands.{IfClean, IsInside};
 
 use crate::texts::{all, one};
 use crate::words::{first_of, number, word};
-use sqlite::{Alter, Transaction};
+use sqlite::{Alter, Error, Row, Transaction};
 use std::alloc::Global;
 use up_tables::campaign::{campaign, running_campaigns};
 use up_tables::ecu::{ecu_owner, ecus};
 use up_tables::image::{image, images};
+use up_tables::image_sha512::{image_sha512, image_sha512s};
 use up_tables::kept::kept;
 use up_tables::meta::meta;
 use up_tables::repo_file::file;
+use up_tables::retired::retired_owner;
 use up_tables::role_key::{role_keys, role_keys_of};
-use up_tables::values::StoreFault;
+use up_tables::values::{StoreFault, fault_of};
 use up_tables::vehicle::vehicle;
 
 /// What a statement reads.
@@ -62,6 +64,8 @@ fn read_image<S: Alter>(
         "images" => all(alloc, images(tx, alloc)),
         "campaign" => one(alloc, campaign(tx, given)),
         "running" => all(alloc, running_campaigns(tx, alloc)),
+        "sha512" => one(alloc, image_sha512(tx, given)),
+        "sha512s" => all(alloc, image_sha512s(tx, alloc)),
         _ => read_vehicle(tx, alloc, word, given),
     }
 }
@@ -79,7 +83,9 @@ fn read_vehicle<S: Alter>(
         "vehicle" => one(alloc, vehicle(tx, given)),
         "ecus" => all(alloc, ecus(tx, alloc, given)),
         "owner" => one(alloc, ecu_owner(tx, given)),
+        "retired" => one(alloc, retired_owner(tx, given)),
         "kept" => read_kept(tx, alloc, given),
+        "ask" => answered(alloc, tx.query_all(given, &[])),
         _ => Ok("no such statement".to_string(alloc)?),
     }
 }
@@ -93,4 +99,12 @@ fn read_kept<S: Alter>(
     ensures { tx.new.conn.ghost_name ≡ tx.old.conn.ghost_name }
 {
     one(alloc, kept(tx, word(given, 0), number(given, 1)))
+}
+
+/// The rows that a query of one's own answers.
+fn answered(alloc: Global, answer: Result<Vec<Row>, Error>) -> Result<String, StoreFault> {
+    match answer {
+        Ok(rows) => all(alloc, Ok(rows)),
+        Err(error) => Err(fault_of(error)),
+    }
 }

@@ -1,8 +1,10 @@
 //! Rows of tables as they are told: each column in the spelling of statements.
+use sqlite::Row;
 use std::alloc::{AllocError, Global};
 use up_tables::campaign::CampaignRow;
 use up_tables::ecu::{EcuRow, Installed};
 use up_tables::image::ImageRow;
+use up_tables::image_sha512::Sha512Row;
 use up_tables::kept::KeptRow;
 use up_tables::meta::MetaRow;
 use up_tables::repo_file::FileRow;
@@ -78,6 +80,13 @@ impl Shown for ImageRow {
     }
 }
 
+impl Shown for Sha512Row {
+    fn push(&self, alloc: Global, out: &mut String) -> Result<(), AllocError> {
+        push_word(out, self.file.as_str())?;
+        push_bytes(alloc, out, self.sha512.as_slice())
+    }
+}
+
 impl Shown for CampaignRow {
     fn push(&self, _: Global, out: &mut String) -> Result<(), AllocError> {
         push_word(out, self.name.as_str())?;
@@ -142,5 +151,30 @@ impl Shown for KeptRow {
         push_word(out, self.signed.as_str())?;
         push_word(out, self.plan_text.as_str())?;
         push_word(out, self.reply.as_str())
+    }
+}
+
+/// Each column that a query of one's own shows.
+impl Shown for Row {
+    fn push(&self, alloc: Global, out: &mut String) -> Result<(), AllocError> {
+        for at in 0..self.column_count() {
+            push_column(alloc, out, self, at)?;
+        }
+        Ok(())
+    }
+}
+
+/// Appends a number or a text, and a `-` for anything else.
+fn push_column(alloc: Global, out: &mut String, row: &Row, at: usize) -> Result<(), AllocError> {
+    match row.get::<u64>(at) {
+        Ok(number) => push_number(alloc, out, number),
+        Err(_) => push_text(out, row, at),
+    }
+}
+
+fn push_text(out: &mut String, row: &Row, at: usize) -> Result<(), AllocError> {
+    match row.get::<String>(at) {
+        Ok(text) => push_word(out, text.as_str()),
+        Err(_) => push_word(out, "-"),
     }
 }

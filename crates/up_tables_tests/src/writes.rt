@@ -1,21 +1,25 @@
 //! Statements that write.
 //!
-//! `put image`, `put campaign`, `put vehicle VEHICLE ; ECU ; ..`, `put root META ; KEY ; ..`, `set files META ; FILE ; ..` and `set
-//! manifest VEHICLE ; KEPT ; ECU ; ..`, which puts in the kept row and sets the others.
+//! `put image`, `put sha512 FILE HASH`, `put campaign`, `put vehicle VEHICLE ; ECU ; ..`, `put retired ECU VEHICLE`, `put root META ; KEY
+//! ; ..`, `set ecu OLD ECU HARDWARE KEY`, which puts an ECU in the place of the old one, `set files META ; FILE ; ..` and `set manifest
+//! VEHICLE ; KEPT ; ECU ; ..`, which puts in the kept row and sets the others.
 ghost use Rattle.std.specs.Prelude.{◌≡◌, OnOk};
 ghost use Rattle.sqlite.specs.Held.{state};
 ghost use Rattle.up_tables.specs.Stands.{IfClean, IsInside, IsOpen};
 
 use crate::spelled::{Spelled, each};
-use crate::words::{first_of, parts_of};
+use crate::words::{bytes, first_of, parts_of, word};
 use sqlite::{Alter, Transaction};
 use std::alloc::Global;
 use up_tables::campaign::{CampaignRow, close_campaign, insert_campaign};
 use up_tables::ecu::{EcuRow, insert_ecus, upsert_ecus};
 use up_tables::image::{ImageRow, insert_image};
+use up_tables::image_sha512::insert_image_sha512;
 use up_tables::kept::{KeptRow, insert_kept};
 use up_tables::meta::{MetaRow, update_meta};
+use up_tables::replace::replace_ecu;
 use up_tables::repo_file::{FileRow, upsert_files};
+use up_tables::retired::insert_retired;
 use up_tables::role_key::{RoleKeyRow, insert_role_keys};
 use up_tables::values::StoreFault;
 use up_tables::vehicle::{VehicleRow, insert_vehicle, upsert_vehicle};
@@ -58,6 +62,8 @@ fn put<S: Alter>(
         "campaign" => told(put_campaign(tx, alloc, rest)),
         "root" => told(put_root(tx, alloc, rest)),
         "vehicle" => told(put_vehicle(tx, alloc, rest)),
+        "sha512" => told(put_sha512(tx, alloc, rest)),
+        "retired" => told(put_retired(tx, rest)),
         _ => Ok("no such statement"),
     }
 }
@@ -74,6 +80,7 @@ fn set<S: Alter>(
     match word {
         "files" => told(set_files(tx, alloc, rest)),
         "manifest" => told(set_manifest(tx, alloc, rest)),
+        "ecu" => told(set_ecu(tx, alloc, rest)),
         _ => Ok("no such statement"),
     }
 }
@@ -88,6 +95,45 @@ fn put_image<S: Alter>(
 {
     match ImageRow::spelled(alloc, given) {
         Ok(row) => insert_image(tx, &row),
+        Err(_) => Err(StoreFault::Memory),
+    }
+}
+
+fn put_sha512<S: Alter>(
+    tx: &mut Transaction<'_, S>,
+    alloc: Global,
+    given: &str,
+) -> Result<(), StoreFault>
+    requires { IfClean IsInside (state S.Store tx.old.conn.now) }
+    ensures { tx.new.conn.ghost_name ≡ tx.old.conn.ghost_name }
+{
+    let (file, digits) = first_of(given);
+    match bytes(alloc, digits) {
+        Ok(hash) => insert_image_sha512(tx, file, hash.as_slice()),
+        Err(_) => Err(StoreFault::Memory),
+    }
+}
+
+fn put_retired<S: Alter>(tx: &mut Transaction<'_, S>, given: &str) -> Result<(), StoreFault>
+    requires { IfClean IsInside (state S.Store tx.old.conn.now) }
+    ensures { tx.new.conn.ghost_name ≡ tx.old.conn.ghost_name }
+{
+    let (ecu, vehicle) = first_of(given);
+    insert_retired(tx, ecu, vehicle)
+}
+
+/// Puts an ECU in the place of another one.
+fn set_ecu<S: Alter>(
+    tx: &mut Transaction<'_, S>,
+    alloc: Global,
+    given: &str,
+) -> Result<(), StoreFault>
+    requires { IfClean IsInside (state S.Store tx.old.conn.now) }
+    ensures { tx.new.conn.ghost_name ≡ tx.old.conn.ghost_name }
+{
+    let (old, new) = first_of(given);
+    match bytes(alloc, word(new, 2)) {
+        Ok(key) => replace_ecu(tx, old, word(new, 0), word(new, 1), key.as_slice()),
         Err(_) => Err(StoreFault::Memory),
     }
 }

@@ -9,6 +9,7 @@ use crate::images::{new_image, refresh};
 use crate::manifests::deliver;
 use crate::refused::unread;
 use crate::register::Register;
+use crate::replacements::replace_ecu;
 use crate::roots::{found, rotate};
 use crate::vehicles::add_vehicle;
 use std::alloc::{AllocError, Global};
@@ -60,6 +61,9 @@ fn command_answer<K: Scheme>(
         Command::AddImage(image) => new_image(alloc, scheme, at, register, image),
         Command::Refresh(version) => refresh(alloc, scheme, at, register, version),
         Command::AddVehicle(new) => add_vehicle(alloc, scheme, at, register, new),
+        Command::ReplaceEcu(replacement) => {
+            replace_ecu(alloc, scheme, at, register, replacement)
+        }
         Command::OpenCampaign(campaign) => open(alloc, at, register, campaign),
         Command::CloseCampaign(name) => close(alloc, at, register, name),
         Command::Deliver(body) => deliver(alloc, scheme, at, register, body),

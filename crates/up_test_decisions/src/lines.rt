@@ -35,6 +35,7 @@ fn meaning<K: Scheme>(alloc: Global, scheme: &K, word: &str) -> Result<String, A
     let words: Vec<&str> = word.split(' ').collect(alloc)?;
     match words.as_slice() {
         ["secret", byte] => secret(alloc, byte),
+        ["public", byte] => public(alloc, scheme, byte),
         ["role", byte] => role(alloc, byte),
         ["ecu", ecu, hardware, byte] => new_ecu(alloc, scheme, ecu, hardware, byte),
         ["report", ecu, byte, counter, file] => report(alloc, ecu, byte, counter, file),

@@ -20,6 +20,7 @@ mod plan_texts;
 mod plans;
 mod refused;
 mod register;
+mod replacements;
 mod roots;
 mod vehicles;
 

@@ -1,5 +1,6 @@
 //! The rows that decisions read and leave.
 use std::alloc::{AllocError, Global};
+use up_canon::ident::Ident;
 use up_canon::listed::Duplicate;
 use up_canon::table::Table;
 use up_canon::text::Text;
@@ -13,6 +14,8 @@ pub(crate) struct Register {
     pub(crate) founding: Option<Founding>,
     pub(crate) images: Table<Image>,
     pub(crate) vehicles: Table<VehicleRows>,
+    /// The identifiers of replaced ECUs.
+    pub(crate) retired: Vec<Ident>,
     pub(crate) campaigns: Table<Campaign>,
     pub(crate) kept: Vec<Kept>,
     /// The text of the file that is fetched.
@@ -30,6 +33,7 @@ impl Register {
             founding: None,
             images: Table::new(alloc),
             vehicles: Table::new(alloc),
+            retired: Vec::new(alloc),
             campaigns: Table::new(alloc),
             kept: Vec::new(alloc),
             text: None,

@@ -6,6 +6,7 @@ use crate::digests::digest_of;
 use crate::refused::refused;
 use crate::register::{Register, put_vehicle};
 use std::alloc::{AllocError, Global};
+use up_canon::ident::Ident;
 use up_canon::moment::Moment;
 use up_canon::refusal::Refusal;
 use up_canon::text::Text;
@@ -50,29 +51,33 @@ fn addition<K: Scheme>(
 ) -> Result<Decision<VehicleRows>, Refusal>
     requires { at ≤ last_command_moment }
 {
-    let vehicles = &register.vehicles;
-    let marks = marks(alloc, vehicles.values(), new)?;
+    let marks = marks(alloc, register, new)?;
     let name = &new.vehicle;
-    let old = vehicles.get(name.text());
+    let old = register.vehicles.get(name.text());
     let is_founded = register.founding.is_some();
     decide_vehicle(alloc, scheme, at, new, is_founded, old, marks.as_slice())
 }
 
-/// For each new ECU whether one of its name stands in a vehicle.
-fn marks(
-    alloc: Global,
-    vehicles: &[VehicleRows],
-    new: &NewVehicle,
-) -> Result<Vec<bool>, AllocError> {
+/// For each new ECU whether its name is taken.
+fn marks(alloc: Global, register: &Register, new: &NewVehicle) -> Result<Vec<bool>, AllocError> {
     let mut marks = Vec::new(alloc);
     for ecu in new.ecus.as_slice() {
-        marks.push(is_recorded(vehicles, ecu.ecu.text()))?;
+        marks.push(is_taken(register, ecu.ecu.text()))?;
     }
     Ok(marks)
 }
 
+/// Whether the name is that of an ECU, or of one that was replaced.
+pub(crate) fn is_taken(register: &Register, name: &str) -> bool {
+    is_recorded(register.vehicles.values(), name) || is_retired(register.retired.as_slice(), name)
+}
+
 fn is_recorded(vehicles: &[VehicleRows], name: &str) -> bool {
     vehicles.iter().any(|rows| has_ecu(rows, name))
+}
+
+fn is_retired(retired: &[Ident], name: &str) -> bool {
+    retired.iter().any(|ecu| ecu.text() == name)
 }
 
 fn has_ecu(rows: &VehicleRows, name: &str) -> bool {

@@ -11,11 +11,11 @@ pub(crate) fn new_files(alloc: Global) -> Files<Memory> {
     }
 }
 
-/// New files, of which the log and the database file take so many calls, and then fail until they are started again.
-pub(crate) fn failing_files(alloc: Global, log: u64, db: u64) -> Files<Fuse<Memory>> {
+/// The files, of which the log and the database file take so many more calls, and then fail until they are started again.
+pub(crate) fn failing_files(files: Files<Memory>, log: u64, db: u64) -> Files<Fuse<Memory>> {
     Files {
-        log: Fuse::new(Memory::new(alloc), log),
-        db: Fuse::new(Memory::new(alloc), db),
+        log: Fuse::new(files.log, log),
+        db: Fuse::new(files.db, db),
     }
 }
 

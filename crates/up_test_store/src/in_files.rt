@@ -2,7 +2,7 @@
 use crate::disks::{bytes_of, closed_and_opened, opened};
 use crate::fault::Fault;
 use crate::held::{Held, adopted, called};
-use crate::seen::{Reads, after_memory, after_store};
+use crate::seen::{Reads, after_memory, after_store, opens};
 use sqlite::{Connection, FileStore, Files};
 use sqlite_disk::Crash;
 use std::alloc::{AllocError, Global};
@@ -79,7 +79,11 @@ impl<D: Crash + Drop> InFiles<D> {
             return Err(Fault::Store);
         };
         let (held, answer) = after_store(alloc, held, &self.reads, given);
-        self.held = Some(tables_taken(held, given));
+        self.held = Some(if answer.is_ok() {
+            tables_taken(held, given)
+        } else {
+            held
+        });
         answer
     }
 
@@ -136,10 +140,10 @@ fn bare<D: Crash + Drop>(conn: Option<Connection<FileStore<D>>>) -> Option<Held<
     }
 }
 
-/// The tables of a connection on which a creation stands, though it was told as refused.
+/// The tables of a connection on which a creation or a raise stands, though it was told as refused.
 fn tables_taken<D: Crash + Drop>(held: Held<FileStore<D>>, given: &str) -> Held<FileStore<D>> {
     match held {
-        Held::Bare(conn) if given == "create" => adopted(conn).0,
+        Held::Bare(conn) if opens(given) => adopted(conn).0,
         other => other,
     }
 }

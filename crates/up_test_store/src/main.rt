@@ -2,9 +2,13 @@
 //! a database of its own.
 //!
 //! Each section is carried out over a database in memory and over files on disks that are memory, each time also in turns: before
-//! each call the store gives its connection back, the files are closed and opened again, and the store takes them again. The section
-//! `each disk call refused` is then carried out over disks of which one fails from its first call on, from its second, and so on, until
-//! none fails: what is told has to be the same. A section whose words end with `in files` is carried out over files alone.
+//! each call the store gives its connection back, the files are closed and opened again, and the store takes them again. A section
+//! whose words begin with `each disk call refused` is then carried out over disks of which one fails from its first call on, from its
+//! second, and so on, until none fails: what is told has to be the same. A section whose words end with `in files` is carried out
+//! over files alone.
+//!
+//! Where a call that makes or takes the tables is refused, they either answer all that was asked just before as they did, or the call
+//! stands whole, which the rows behind it tell.
 //!
 //! An argument has the sections carried out over one place, `memory` or `files`, so that its requests for memory can be refused in
 //! turn.
@@ -54,7 +58,7 @@ fn told(alloc: Global, words: &[String], section: &str) -> Result<String, AllocE
 
 fn told_all(alloc: Global, section: &str) -> Result<String, AllocError> {
     let ways = all_ways(alloc, section)?;
-    if !section.starts_with("each disk call refused\n") {
+    if !section.starts_with("each disk call refused") {
         return Ok(ways);
     }
     let sweeps = swept(alloc, section)?;

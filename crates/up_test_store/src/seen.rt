@@ -123,10 +123,15 @@ fn done(alloc: Global) -> Result<String, Fault> {
 
 /// Whether a call may change the tables.
 fn changes(given: &str) -> bool {
-    given == "create" || given.starts_with("write ")
+    opens(given) || given.starts_with("write ")
+}
+
+/// Whether a call makes the tables or takes them.
+pub(crate) fn opens(given: &str) -> bool {
+    given == "create" || given == "adopt"
 }
 
 /// Whether a call does anything but read.
 fn acts(given: &str) -> bool {
-    changes(given) || given == "adopt" || given == "release" || given.starts_with("run ")
+    changes(given) || given == "release" || given.starts_with("run ")
 }

@@ -1,7 +1,10 @@
 //! Sections over disks that fail.
-use crate::disks::failing_files;
+//!
+//! The statements at the beginning of a section, before it first asks anything, make the database. They are carried out on disks that
+//! never fail.
+use crate::disks::{failing_files, new_files};
 use crate::in_files::InFiles;
-use crate::ways::one_way;
+use crate::ways::words_of;
 use sqlite::Files;
 use sqlite_disk::{Disk, Fuse, Memory};
 use std::alloc::{AllocError, Global};
@@ -22,7 +25,7 @@ enum Failing {
 
 /// What is told of a section where the log fails from each of its calls on in turn, and then the database file.
 pub(crate) fn swept(alloc: Global, section: &str) -> Result<String, AllocError> {
-    let whole = one_way(alloc, "files", section)?;
+    let (whole, _) = carried_out(alloc, section, NEVER, NEVER)?;
     let logs = swept_over(alloc, section, Failing::Log, whole.as_str())?;
     let files = swept_over(alloc, section, Failing::Database, whole.as_str())?;
     format!(in alloc;
@@ -101,15 +104,42 @@ fn database_is_whole(files: Option<Files<Fuse<Memory>>>, calls: u64) -> bool {
     }
 }
 
-/// What is told of the section, and the files at its end.
+/// What is told of the section behind its first statements, and the files at its end.
 fn carried_out(
     alloc: Global,
     section: &str,
     log: u64,
     db: u64,
 ) -> Result<(String, Option<Files<Fuse<Memory>>>), AllocError> {
-    let mut files = InFiles::new(alloc, failing_files(alloc, log, db), false);
-    match told(alloc, &mut files, section) {
+    let (made, asked) = parted(section);
+    let Some(files) = files_made(alloc, made)? else {
+        return Ok(("no files".to_string(alloc)?, None));
+    };
+    let rows = format!(in alloc; "{}\nask {asked}", words_of(section))?;
+    told_over(alloc, failing_files(files, log, db), rows.as_str())
+}
+
+/// The words of a section and the statements that make its database, and what stands behind its first question's `ask`.
+fn parted(section: &str) -> (&str, &str) {
+    section.split_once("\nask ").unwrap_or((section, ""))
+}
+
+/// The files of the database that the statements make.
+fn files_made(alloc: Global, statements: &str) -> Result<Option<Files<Memory>>, AllocError> {
+    let mut files = InFiles::new(alloc, new_files(alloc), false);
+    match told(alloc, &mut files, statements) {
+        Ok(_) => Ok(files.into_files()),
+        Err(refused) => Err(refused),
+    }
+}
+
+fn told_over(
+    alloc: Global,
+    files: Files<Fuse<Memory>>,
+    rows: &str,
+) -> Result<(String, Option<Files<Fuse<Memory>>>), AllocError> {
+    let mut files = InFiles::new(alloc, files, false);
+    match told(alloc, &mut files, rows) {
         Ok(text) => Ok((text, files.into_files())),
         Err(refused) => Err(refused),
     }

@@ -1,5 +1,5 @@
 //! Vehicles, as rows spell them: `VEHICLE PRIMARY VERSION LAST`; and ECUs: `ECU HARDWARE PUBLIC_KEY INSTALLED COUNTER REPORT`, in which
-//! what is installed is `FILE:LENGTH:SHA256`, and a `-` stands for nothing.
+//! what is installed is `FILE:LENGTH:SHA256`, and a `-` stands for nothing. And replacements: `VEHICLE OLD ECU HARDWARE PUBLIC_KEY`.
 use crate::fault::Fault;
 use crate::words::{
     bytes, count, file_name, ident, number, parts_of, push_bytes, push_number, push_part,
@@ -9,6 +9,7 @@ use std::alloc::{AllocError, Global};
 use up_canon::listed::Listed;
 use up_canon::text::Text;
 use up_machine::rows::{EcuRow, VehicleRow, VehicleRows};
+use up_machine::vehicle::{NewEcu, Replacement};
 use up_manifest::report::Installed;
 
 /// `VEHICLE ; ECU ; ECU ..`
@@ -45,6 +46,18 @@ fn ecu(alloc: Global, given: &str) -> Result<EcuRow, Fault> {
         public: bytes(alloc, word(given, 2))?,
         installed: installed(alloc, word(given, 3))?,
         report: report(alloc, word(given, 5))?,
+    })
+}
+
+pub(crate) fn replacement(alloc: Global, given: &str) -> Result<Replacement, Fault> {
+    Ok(Replacement {
+        vehicle: ident(alloc, word(given, 0))?,
+        old: ident(alloc, word(given, 1))?,
+        ecu: NewEcu {
+            ecu: ident(alloc, word(given, 2))?,
+            hardware: ident(alloc, word(given, 3))?,
+            public: bytes(alloc, word(given, 4))?,
+        },
     })
 }
 

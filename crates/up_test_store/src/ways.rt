@@ -24,7 +24,7 @@ fn in_turns(alloc: Global, section: &str) -> Result<String, AllocError> {
 }
 
 /// The words of a section, which stand in its first line.
-fn words_of(section: &str) -> &str {
+pub(crate) fn words_of(section: &str) -> &str {
     section.split_once('\n').unwrap_or((section, "")).0
 }
 

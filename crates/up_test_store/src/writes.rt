@@ -1,16 +1,16 @@
-//! The eight writes by their words.
+//! The nine writes by their words.
 use crate::campaigns::campaign;
 use crate::fault::Fault;
 use crate::images::image;
 use crate::manifests::accepted_rows;
 use crate::roots::{register_rows, root_rows};
-use crate::vehicles::vehicle_rows;
+use crate::vehicles::{replacement, vehicle_rows};
 use crate::words::{first_of, parts_of};
 use sqlite::Alter;
 use std::alloc::Global;
 use up_store::store::{Store, StoreFault};
 
-/// Carries out a write: `found`, `rotate`, `refresh`, `image`, `vehicle`, `campaign`, `close` or `accept`, with its rows.
+/// Carries out a write: `found`, `rotate`, `refresh`, `image`, `vehicle`, `replace`, `campaign`, `close` or `accept`, with its rows.
 pub(crate) fn write<S: Alter>(
     alloc: Global,
     store: &mut Store<S>,
@@ -34,6 +34,7 @@ fn write_of_fleet<S: Alter>(
 ) -> Result<(), Fault> {
     match word {
         "vehicle" => write_vehicle(alloc, store, rest),
+        "replace" => write_replace(alloc, store, rest),
         "campaign" => write_campaign(alloc, store, rest),
         "close" => write_close(alloc, store, rest),
         "accept" => write_accept(alloc, store, rest),
@@ -82,6 +83,13 @@ fn write_image<S: Alter>(alloc: Global, store: &mut Store<S>, given: &str) -> Re
 fn write_vehicle<S: Alter>(alloc: Global, store: &mut Store<S>, given: &str) -> Result<(), Fault> {
     match vehicle_rows(alloc, given) {
         Ok(rows) => done(store.write_vehicle(alloc, &rows)),
+        Err(fault) => Err(fault),
+    }
+}
+
+fn write_replace<S: Alter>(alloc: Global, store: &mut Store<S>, given: &str) -> Result<(), Fault> {
+    match replacement(alloc, given) {
+        Ok(new) => done(store.write_replace(alloc, &new)),
         Err(fault) => Err(fault),
     }
 }

@@ -1,4 +1,5 @@
 //! Connections, served one after another.
+use crate::bounded::Bounded;
 use sqlite::Alter;
 use std::io;
 use std::io::Read;
@@ -10,8 +11,12 @@ use up_service::Fault;
 use up_service::stream::serve_stream;
 use up_sign::hmac_sha256::HmacSha256;
 
-/// How long a client is waited for that neither sends nor closes, in seconds.
-const SILENCE: u64 = 2;
+/// How long a client is waited for that neither sends nor takes anything, in seconds: all others wait too. A request that has
+/// begun stands still no longer where a network works, and a proxy sends it at once.
+const SILENCE: u64 = 30;
+
+/// How long a client is waited for after its last answer that neither sends nor closes, in seconds.
+const LAST_SILENCE: u64 = 2;
 
 /// How long what a client still sends is read after its last answer, in seconds.
 const PATIENCE: u64 = 10;
@@ -71,9 +76,37 @@ fn serve_one<D: Alter>(
     stream: &TcpStream,
 ) -> Result<(), Fault> {
     let at = seconds(rt);
-    match serve_stream(rt.alloc(), desk, at, &mut &*stream, &mut &*stream) {
+    let Ok(begun) = Instant::now(rt) else {
+        return Err(Fault::Read);
+    };
+    if limit_silence(stream).is_err() {
+        return Err(Fault::Read);
+    }
+    let mut reader = half(rt, begun, stream);
+    let mut writer = half(rt, begun, stream);
+    match serve_stream(rt.alloc(), desk, at, &mut reader, &mut writer) {
         Ok(_) => Ok(()),
         Err(fault) => Err(fault.cause),
+    }
+}
+
+/// From here on a read or a write fails that waits too long for the client.
+fn limit_silence(stream: &TcpStream) -> io::Result<()> {
+    let silence = Some(Duration::from_secs(SILENCE));
+    stream.set_read_timeout(silence)?;
+    stream.set_write_timeout(silence)
+}
+
+/// What is read from the connection, or written to it, in its whole time.
+fn half<'a>(
+    rt: &'a HostRuntime,
+    begun: Instant,
+    stream: &'a TcpStream,
+) -> Bounded<'a, HostRuntime, &'a TcpStream> {
+    Bounded {
+        clock: rt,
+        begun,
+        inner: stream,
     }
 }
 
@@ -99,7 +132,7 @@ fn told(cause: Fault) -> &'static str {
 /// Closes a connection in stages (RFC 9112, section 9.6): nothing more is written, and what the client still sends is read
 /// and dropped until it closes too. Where bytes stayed unread, the client could lose the last answers.
 fn close(rt: &HostRuntime, stream: &TcpStream) {
-    let patient = stream.set_read_timeout(Some(Duration::from_secs(SILENCE)));
+    let patient = stream.set_read_timeout(Some(Duration::from_secs(LAST_SILENCE)));
     if patient.is_err() || stream.shutdown(Shutdown::Write).is_err() {
         return;
     }

@@ -5,6 +5,7 @@ ghost use Rattle.sqlite.specs.Held.{state};
 use crate::connections::serve;
 use crate::scripts::answer_lines;
 use sqlite::{Alter, Connection, Unknown};
+use std::fs;
 use std::process::ExitCode;
 use up_desk::desk::Desk;
 use up_file::closing::close_file;
@@ -46,6 +47,9 @@ fn over_memory(rt: &HostRuntime, work: Work) -> ExitCode {
 /// At the end the database's log is copied into its file; where it can't be, the next run finds all that was committed in the
 /// log.
 fn over_file(rt: &HostRuntime, path: &str, work: Work) -> ExitCode {
+    if !is_usable(rt, path) {
+        return unopened(rt);
+    }
     let Ok(conn) = open_file(rt, path, Unknown) else {
         return unopened(rt);
     };
@@ -57,6 +61,21 @@ fn over_file(rt: &HostRuntime, path: &str, work: Work) -> ExitCode {
             status
         }
         Err(_) => unopened(rt),
+    }
+}
+
+/// Whether a database file and its log may stand at the path; else nothing is made there, and what is there stays. A file of
+/// one byte is left of some other file: SQLite takes it for an empty one, for the sake of a file system that can't lock those.
+fn is_usable(rt: &HostRuntime, path: &str) -> bool {
+    let Ok(log) = format!(in rt.alloc(); "{path}-wal") else {
+        return false;
+    };
+    if fs::exists(rt, log.as_str()).is_err() {
+        return false;
+    }
+    match fs::metadata(rt, path) {
+        Ok(told) => told.len() != 1,
+        Err(_) => true,
     }
 }
 

@@ -1,6 +1,7 @@
 //! The program: runs a script over the repositories, serves them over HTTP, or prints the length and the SHA-256 of a file.
 #![tactic(auto)]
 
+mod bounded;
 mod connections;
 mod databases;
 mod files;

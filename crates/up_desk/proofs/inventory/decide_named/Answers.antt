@@ -2,7 +2,7 @@ use Rattle.std.proofs.Common.{◌≡◌, List, [], ◌∷◌, Bool, refl, ap, ma
 use Rattle.up_machine.specs.Decisions.{GivesDecision}
 use Rattle.up_machine.specs.Inventory.{decide_vehicle, with_vehicle}
 use Rattle.up_machine.specs.Rows.{rows_of}
-use Rattle.up_machine.specs.State.{State, is_recorded}
+use Rattle.up_machine.specs.State.{State, added, is_taken}
 use Rattle.up_machine.specs.Vehicles.{NewVehicleData, ecu_names}
 use Rattle.up_machine.specs.declared.rows.VehicleRows.{VehicleRows}
 use Rattle.up_machine.specs.declared.vehicle.NewEcu.{NewEcu}
@@ -10,17 +10,17 @@ use Rattle.up_desk.proofs.Steps.{gives_or_lost, lost_told}
 use Rattle.up_desk.proofs.inventory.decide_named.Goals as goal
 
 -- the marks of ECUs are those of their names
-marks_of_names : (s : State) (ecus : List NewEcu) → map (λ (e : NewEcu). is_recorded s e.ecu) ecus ≡ map (is_recorded s) (ecu_names ecus)
+marks_of_names : (s : State) (ecus : List NewEcu) → map (λ (e : NewEcu). is_taken s e.ecu) ecus ≡ map (is_taken s) (ecu_names ecus)
 marks_of_names s [] = refl
-marks_of_names s (e ∷ ecus) = ap (λ (marks : List Bool). is_recorded s e.ecu ∷ marks) (marks_of_names s ecus)
+marks_of_names s (e ∷ ecus) = ap (λ (marks : List Bool). is_taken s e.ecu ∷ marks) (marks_of_names s ecus)
 
 pub returns-in-Ok-clause-decided : goal.returns-in-Ok-clause-decided
 returns-in-Ok-clause-decided g c clean = λ s sound founded old was.
     let k = g.K.Scheme.rules c.args.scheme.now in
     let given = c.args.new.now in
-    gives_or_lost (GivesDecision (λ (rows : VehicleRows). rows ≡ rows_of given.vehicle (record { primary = given.primary; ecus = given.ecus; entries = [] })) s (with_vehicle s given)) c.decide_vehicle.result (decide_vehicle k s c.args.at given) (λ r h. h)
+    gives_or_lost (GivesDecision (λ (rows : VehicleRows). rows ≡ rows_of given.vehicle (added given)) s (with_vehicle s given)) c.decide_vehicle.result (decide_vehicle k s c.args.at given) (λ r h. h)
     (c.decide_vehicle.ensures.decided s sound founded old
-    (c.as_slice-in-Ok.ensures.value ∙ c.in-Ok.ensures.told clean k s was ∙ ap (map (λ (e : NewEcu). is_recorded s e.ecu)) (c.as_slice.ensures ∙ ap (λ (d : NewVehicleData). d.ecus) c.new.view_is)
+    (c.as_slice-in-Ok.ensures.value ∙ c.in-Ok.ensures.told clean k s was ∙ ap (map (λ (e : NewEcu). is_taken s e.ecu)) (c.as_slice.ensures ∙ ap (λ (d : NewVehicleData). d.ecus) c.new.view_is)
     ∙ marks_of_names s given.ecus))
 
 pub returns-in-Err-clause-decided : goal.returns-in-Err-clause-decided

@@ -4,4 +4,4 @@ use Rattle.up_rows.proofs.Files as files
 use Rattle.up_rows.proofs.laws.rows_are_found.Goals as goal
 
 pub returns : goal.returns
-returns c = record { founded = told.founded; vehicles = found.vehicles_found; kept = found.kept_found; owners = found.owners_found; files = files.files_found }
+returns c = record { founded = told.founded; vehicles = found.vehicles_found; kept = found.kept_found; taken = found.taken_found; files = files.files_found }

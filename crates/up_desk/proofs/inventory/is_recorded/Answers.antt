@@ -1,9 +1,0 @@
-use Rattle.std.proofs.Common.{ap, ◌∙◌}
-use Rattle.std.specs.Prelude.{is_some}
-use Rattle.up_rows.specs.StateRows.{rows_of_state}
-use Rattle.up_desk.proofs.Told.{owner_known}
-use Rattle.up_desk.proofs.inventory.is_recorded.Goals as goal
-
-pub returns-in-Ok-clause-told : goal.returns-in-Ok-clause-told
-returns-in-Ok-clause-told g c clean = λ k s was.
-    c.is_some.ensures ∙ ap is_some (c.in-Ok.ensures.told clean (rows_of_state k s) was) ∙ owner_known k s c.args.ecu.now c.rows_are_found.ensures.owners

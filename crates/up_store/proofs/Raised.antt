@@ -1,0 +1,53 @@
+-- A database that is taken: from the rows of its tables to those of a state.
+use Rattle.std.proofs.Common.{inl, inr, IsTrue}
+use Rattle.sqlite.specs.State.{State as Connected, Survives}
+use Rattle.up_rows.specs.StateRows.{StateRows}
+use Rattle.up_tables.specs.declared.open.SchemaVersion.{SchemaVersion}
+use Rattle.up_tables.specs.Listed.{ListsTables}
+use Rattle.up_tables.specs.Ours.{Raised, ListsUs}
+use Rattle.up_tables.specs.Stands.{Stands}
+use Rattle.up_tables.specs.Tables.{up_schema}
+use Rattle.up_tables.specs.Versions.{StandsAs}
+use Rattle.up_tables.proofs.RaisedLemmas.{stands_us}
+use Rattle.up_store.specs.Connections.{KeepsAs, KeepsRows, RaisedRows}
+use Rattle.up_store.specs.Listing.{table_rows}
+
+-- the tables alone
+pub tables_of : (version : SchemaVersion) (rows : StateRows) (s : Connected) → KeepsAs version rows s → StandsAs version (table_rows rows) s
+tables_of version rows s keeps = record {
+  mode = keeps.mode;
+  here = λ is_open. let here = keeps.here is_open in record { schema_is = here.schema_is; sound = here.sound; rows = here.rows.tables };
+  committed = keeps.committed;
+}
+
+-- what is said of the rows beside the tables goes from one connection to another
+pub rows_again : (version : SchemaVersion) (rows : StateRows) (old new : Connected) → IsTrue old.is_open → KeepsAs version rows old → Stands up_schema (ListsTables (table_rows rows)) new → KeepsRows rows new
+rows_again version rows old new is_open was now =
+    let were = (was.here is_open).rows in record {
+      mode = now.mode;
+      here = λ open_now. let here = now.here open_now in record { schema_is = here.schema_is; sound = here.sound; rows = record { last = were.last; numbered = were.numbered; typed = were.typed; tables = here.rows } };
+      committed = now.committed;
+    }
+
+pub raised_rows : (old new : Connected) → Survives old new (Raised old) → Survives old new (RaisedRows old)
+raised_rows old new survives = record {
+  clean = survives.clean;
+  shield = survives.shield;
+  counts = survives.counts;
+  limit = survives.limit;
+  closes = survives.closes;
+  crash = λ clean db may. elim (survives.crash clean db may) [
+    | inl before ↦ inl before
+    | inr raised ↦ inr (
+      raised.1,
+      λ version rows was.
+          let told = raised.2 version (table_rows rows) (tables_of version rows old was) in
+          let were = (was.here raised.0).rows in
+          let held = told.1 in
+          (told.0, record { schema_is = held.schema_is; sound = held.sound; rows = record { last = were.last; numbered = were.numbered; typed = were.typed; tables = held.rows } }),
+    )
+  ];
+}
+
+pub ours : (version : SchemaVersion) (rows : StateRows) (s : Connected) → KeepsAs version rows s → ListsUs version s
+ours version rows s keeps = stands_us version (table_rows rows) s (tables_of version rows s keeps)

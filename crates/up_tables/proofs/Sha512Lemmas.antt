@@ -1,0 +1,88 @@
+-- The statements on second hashes of images.
+use Rattle.std.proofs.Common.{◌≡◌, ◌==◌, ℕ, pos, List, [], ◌∷◌, map, filter, Bool, true, false, length, Ok, Err, Result, OnOk, IfOk, Option, IsTrue, refl, sym, ap, ◌∙◌, codes, string_bytes, append-nil, bytes_eq}
+use Rattle.std.specs.Option.{option_to_list}
+use Rattle.std.specs.Result.{IsOkAnd}
+use Rattle.sqlite.specs.declared.types.Value.TheVariants.{Null, Text}
+use Rattle.sqlite.specs.declared.error.Error.{Error}
+use Rattle.sqlite.specs.Order.{Row, column, value_cmp}
+use Rattle.sqlite.specs.Term.{Term}
+use Rattle.sqlite.specs.Cast.{cast_row}
+use Rattle.sqlite.specs.Source.TheVariants.{Values}
+use Rattle.sqlite.specs.Command.TheVariants.{Insert}
+use Rattle.sqlite.specs.Listing.{understood}
+use Rattle.sqlite.specs.State.{State, HasCleanDisk, Survives, ExecutesInside, Shown}
+use Rattle.sqlite.proofs.Callers.{IsPlain, command_of}
+use Rattle.sqlite_tied.specs.Compute.{everything}
+use Rattle.up_tables.specs.Tables.{up_schema, image_sha512_table}
+use Rattle.up_tables.specs.Rows.{columns_at, with_row}
+use Rattle.up_tables.specs.Lines.{sha512_line}
+use Rattle.up_tables.specs.Forms.{sha512_row, sha512_places}
+use Rattle.up_tables.specs.Stands.{Lists, IfClean, IsInside, Alters, HasTables}
+use Rattle.up_tables.specs.declared.image_sha512.Sha512Row.{Sha512Row}
+use Rattle.up_tables.specs.declared.values.StoreFault.{StoreFault}
+use Rattle.up_tables.proofs.AnswerLemmas.{over, given, all_columns}
+use Rattle.up_tables.proofs.ByNameLemmas.{listed_in, named_in, all_in, filter_true}
+use Rattle.up_tables.proofs.Casts.{cast_null}
+use Rattle.up_tables.proofs.EcuRows.{text_is, column_after}
+use Rattle.up_tables.proofs.EcuUpsert.{equals}
+use Rattle.up_tables.proofs.InsertLemmas.{inserts_in}
+use Rattle.up_tables.proofs.ReadLemmas.{Asks, answers_all, by_rowid}
+use Rattle.up_tables.proofs.StateLemmas.{ok_then}
+
+-- ---- put in
+
+abbrev pub insert_sha512_text : List ℕ
+insert_sha512_text = codes "INSERT INTO image_sha512 (file, sha512) VALUES (?1, ?2)"
+
+insert_is : (command_of (understood up_schema insert_sha512_text) ≡ Insert 9 (Values (given 2) 3)) × IsPlain (understood up_schema insert_sha512_text)
+unfolding understood everything
+insert_is = (refl, (refl, refl))
+
+casts : (file sha512 : List ℕ) → cast_row image_sha512_table (Null ∷ sha512_line file sha512) ≡ Null ∷ sha512_line file sha512
+casts file sha512 = rw cast_null refl
+
+pub sha512_inserts : (r : Result ℕ Error) (old new : State) (file sha512 : List ℕ) → Survives old new (λ _. ⊥) → IfClean IsInside old
+    → (HasCleanDisk new → IsTrue old.in_transaction → ExecutesInside 0 insert_sha512_text (sha512_line file sha512) old new r)
+    → HasCleanDisk new → OnOk r ((rows_of : List ℕ → List Row) → HasTables old → Lists 1 rows_of (old.now.trees 19) → Alters image_sha512_table (Lists 1 (with_row file (sha512_line file sha512) rows_of)) old new)
+sha512_inserts r old new file sha512 survives inside ran clean =
+    listed_in image_sha512_table 1 file (sha512_line file sha512) old new r (λ x n. text_is file n)
+    (inserts_in insert_sha512_text 9 image_sha512_table (given 2) 3 (sha512_line file sha512) (sha512_line file sha512) insert_is.0 insert_is.1 refl refl (append-nil _) refl (casts file sha512) r old new survives inside ran clean)
+
+-- ---- read
+
+abbrev part : Row → Row
+part = columns_at sha512_places
+
+abbrev names : List (List ℕ)
+names = codes "file" ∷ codes "sha512" ∷ []
+
+shows : (params r : Row) → Rattle.sqlite.specs.Term.eval_all (all_columns 2) (params ∷ r ∷ []) ≡ part (Rattle.std.proofs.Common.drop 1 r)
+shows params r = rw (column_after r 0, column_after r 1) refl
+
+abbrev pub find_sha512_text : List ℕ
+find_sha512_text = codes "SELECT file, sha512 FROM image_sha512 WHERE file = ?1"
+
+pub find_is : Asks up_schema find_sha512_text (over 19 (equals 1 0 ∷ []) (all_columns 2) []) names
+unfolding understood everything
+find_is = (refl, refl, (refl, refl))
+
+pub finds_sha512 : {X : Type 0} (items : X → List Row) (answer : Result X Error) (r : Result (Option Sha512Row) StoreFault) (old new : State) (file : List ℕ)
+    → IfOk r (λ found. IsOkAnd answer (λ v. map part (items v) ≡ map sha512_row (option_to_list found))) → IfOk answer (λ v. Shown find_sha512_text (Text file ∷ []) old new (items v))
+    → IfOk r (λ found. (rows_of : List ℕ → List Row) → HasTables old → Lists 1 rows_of (old.now.trees 19) → map part (rows_of file) ≡ map sha512_row (option_to_list found))
+finds_sha512 items answer r old new file = named_in items image_sha512_table 0 find_sha512_text (all_columns 2) names part sha512_row file find_is (λ db. refl) (shows (Text file ∷ [])) (λ x. refl) answer r old new
+
+abbrev pub all_sha512s_text : List ℕ
+all_sha512s_text = codes "SELECT file, sha512 FROM image_sha512 ORDER BY rowid"
+
+pub all_is : Asks up_schema all_sha512s_text (over 19 [] (all_columns 2) by_rowid) names
+unfolding understood everything
+all_is = (refl, refl, (refl, refl))
+
+pub finds_sha512s : {X R : Type 0} (items : X → List Row) (list : R → List Sha512Row) (answer : Result X Error) (r : Result R StoreFault) (old new : State)
+    → IfOk r (λ found. IsOkAnd answer (λ v. map part (items v) ≡ map sha512_row (list found))) → IfOk answer (λ v. Shown all_sha512s_text [] old new (items v))
+    → IfOk r (λ found. (rows_of : List ℕ → List Row) → HasTables old → Lists 1 rows_of (old.now.trees 19)
+    → (name : List ℕ) → map part (rows_of name) ≡ map sha512_row (filter (λ i. bytes_eq (string_bytes i.file) name) (list found)))
+finds_sha512s items list answer r old new h ran =
+    ok_then _ _ r (λ found is rows_of has lists name. ap (map part) (sym (filter_true (rows_of name))) ∙ is rows_of has lists name)
+    (all_in items list image_sha512_table all_sha512s_text part sha512_row (λ i. string_bytes i.file) (λ _. true) (λ x. refl) (λ x n. refl) (λ x n. text_is (string_bytes x.file) n) answer r old new
+    (λ shown' has table. answers_all up_schema all_sha512s_text 19 [] (all_columns 2) names [] (λ _. true) part (λ x. refl) (shows []) (λ db. refl) all_is old new shown' has table) h ran)

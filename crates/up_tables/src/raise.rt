@@ -1,0 +1,102 @@
+//! Tables of an older version of the schema become those of the latest, in one transaction.
+
+ghost use Rattle.std.specs.Prelude.{◌≡◌, ◌≢◌, ◌∷◌, [], ℕ, false, OnOk, OnErr, IfErr, IsTrue};
+ghost use Rattle.sqlite.specs.Held.{state};
+ghost use Rattle.sqlite.specs.State.{HasCleanDisk, Survives};
+ghost use Rattle.up_tables.specs.Lines.{meta_row, meta_row_of};
+ghost use Rattle.up_tables.specs.Listed.{TableRows, ListsTables};
+ghost use Rattle.up_tables.specs.Ours.{IsOlder, RaisedFrom};
+ghost use Rattle.up_tables.specs.Stands.{Alters, GoesOn, HasTables, IfClean, IsAsCommitted, IsInside, IsWithin, Stands, Steps};
+ghost use Rattle.up_tables.specs.Tables.{first_schema, second_schema, up_schema, meta_table};
+ghost use Rattle.up_tables.specs.Versions.{ListsAs, StandsAs, schema_of};
+ghost use Rattle.up_tables.specs.declared.open.OpenFault.TheVariants as OpenFault;
+ghost use Rattle.up_tables.specs.declared.open.SchemaVersion.TheVariants.{One, Two};
+
+use crate::create::{make_image_sha512, make_retired};
+use crate::open::{OpenFault, SchemaVersion, opening_fault};
+use sqlite::{Alter, Connection, Error, Transaction};
+
+/// Says that the tables are of the latest version.
+fn set_schema<S: Alter>(tx: &mut Transaction<'_, S>) -> Result<usize, Error>
+    requires mode { IfClean IsInside (state S.Store tx.old.conn.now) }
+    ensures same_reference { tx.new.conn.ghost_name ≡ tx.old.conn.ghost_name }
+    ensures set { HasCleanDisk (state S.Store tx.new.conn.now) → OnOk result ((number : ℕ) (root : ℕ) (image_version : ℕ) (stamp : ℕ) → HasTables (state S.Store tx.old.conn.now)
+        → (state S.Store tx.old.conn.now).now.trees meta_table.tree ≡ meta_row_of number root image_version stamp ∷ []
+        → Alters meta_table (λ rows. rows ≡ meta_row root image_version stamp ∷ []) (state S.Store tx.old.conn.now) (state S.Store tx.new.conn.now)) }
+    ensures inside { OnOk result (IfClean IsInside (state S.Store tx.new.conn.now)) }
+    ensures steps { Steps (state S.Store tx.old.conn.now) (state S.Store tx.new.conn.now) }
+{
+    tx.execute("UPDATE meta SET schema = 3 WHERE id = 1", &[])
+}
+
+/// Tables of version 1 become those of version 3: no ECU was retired, and no image has a second hash.
+fn raise_first<S: Alter>(tx: &mut Transaction<'_, S>) -> Result<usize, Error>
+    requires mode { IfClean IsInside (state S.Store tx.old.conn.now) }
+    ensures same_reference { tx.new.conn.ghost_name ≡ tx.old.conn.ghost_name }
+    ensures raised { HasCleanDisk (state S.Store tx.new.conn.now) → OnOk result ((rows : TableRows) → IsWithin first_schema (ListsAs One rows) (state S.Store tx.old.conn.now)
+        → GoesOn up_schema (ListsTables rows) (state S.Store tx.new.conn.now)) }
+    ensures inside { OnOk result (IfClean IsInside (state S.Store tx.new.conn.now)) }
+    ensures steps { Steps (state S.Store tx.old.conn.now) (state S.Store tx.new.conn.now) }
+{
+    make_retired(tx)?;
+    make_image_sha512(tx)?;
+    set_schema(tx)
+}
+
+/// Tables of version 2 become those of version 3: no image has a second hash.
+fn raise_second<S: Alter>(tx: &mut Transaction<'_, S>) -> Result<usize, Error>
+    requires mode { IfClean IsInside (state S.Store tx.old.conn.now) }
+    ensures same_reference { tx.new.conn.ghost_name ≡ tx.old.conn.ghost_name }
+    ensures raised { HasCleanDisk (state S.Store tx.new.conn.now) → OnOk result ((rows : TableRows) → IsWithin second_schema (ListsAs Two rows) (state S.Store tx.old.conn.now)
+        → GoesOn up_schema (ListsTables rows) (state S.Store tx.new.conn.now)) }
+    ensures inside { OnOk result (IfClean IsInside (state S.Store tx.new.conn.now)) }
+    ensures steps { Steps (state S.Store tx.old.conn.now) (state S.Store tx.new.conn.now) }
+{
+    make_image_sha512(tx)?;
+    set_schema(tx)
+}
+
+/// Tables of an older version become those of version 3.
+fn raise_tables<S: Alter>(
+    tx: &mut Transaction<'_, S>,
+    version: SchemaVersion,
+) -> Result<usize, Error>
+    requires older { IsOlder version }
+    requires mode { IfClean IsInside (state S.Store tx.old.conn.now) }
+    ensures same_reference { tx.new.conn.ghost_name ≡ tx.old.conn.ghost_name }
+    ensures raised { HasCleanDisk (state S.Store tx.new.conn.now) → OnOk result ((rows : TableRows) → IsWithin (schema_of version) (ListsAs version rows) (state S.Store tx.old.conn.now)
+        → GoesOn up_schema (ListsTables rows) (state S.Store tx.new.conn.now)) }
+    ensures inside { OnOk result (IfClean IsInside (state S.Store tx.new.conn.now)) }
+    ensures steps { Steps (state S.Store tx.old.conn.now) (state S.Store tx.new.conn.now) }
+{
+    match version {
+        SchemaVersion::One => raise_first(tx),
+        SchemaVersion::Two => raise_second(tx),
+        SchemaVersion::Three => Ok(0),
+    }
+}
+
+/// Raises the tables of an older version in one transaction. A fault leaves the database as it was committed.
+pub(crate) fn raise<S: Alter>(
+    conn: &mut Connection<S>,
+    version: SchemaVersion,
+) -> Result<(), OpenFault>
+    requires older { IsOlder version }
+    requires mode { (state S.Store conn.old).in_transaction ≡ false }
+    ensures raised { HasCleanDisk (state S.Store conn.new) → OnOk result ((rows : TableRows) → StandsAs version rows (state S.Store conn.old) → Stands up_schema (ListsTables rows) (state S.Store conn.new)) }
+    ensures older { IsOlder version }
+    ensures kept { OnErr result (IfClean (IsAsCommitted (state S.Store conn.old)) (state S.Store conn.new)) }
+    ensures fault { IfErr result (λ e. e ≢ OpenFault.NotOurs) }
+    ensures autocommit { (state S.Store conn.new).in_transaction ≡ false }
+    ensures crash { Survives (state S.Store conn.old) (state S.Store conn.new) (RaisedFrom version (state S.Store conn.old)) }
+    ensures open { HasCleanDisk (state S.Store conn.new) → OnOk result (IsTrue (state S.Store conn.old).is_open) }
+{
+    let mut tx = conn.transaction();
+    if let Err(error) = raise_tables(&mut tx, version) {
+        return Err(opening_fault(error));
+    }
+    match tx.commit() {
+        Ok(()) => Ok(()),
+        Err(error) => Err(opening_fault(error)),
+    }
+}

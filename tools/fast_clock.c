@@ -1,0 +1,18 @@
+/* Loaded before a program (LD_PRELOAD), lets the clock that only counts on go FAST_CLOCK times as fast. The time of day stays,
+   and so does what the system itself waits for. */
+#define _GNU_SOURCE
+#include <stdlib.h>
+#include <sys/syscall.h>
+#include <time.h>
+#include <unistd.h>
+
+int clock_gettime(clockid_t clock, struct timespec *told) {
+    const char *times = getenv("FAST_CLOCK");
+    long status = syscall(SYS_clock_gettime, clock, told);
+    if (status == 0 && clock == CLOCK_MONOTONIC && times) {
+        long long nanos = (told->tv_sec * 1000000000LL + told->tv_nsec) * atoll(times);
+        told->tv_sec = nanos / 1000000000;
+        told->tv_nsec = nanos % 1000000000;
+    }
+    return (int)status;
+}
