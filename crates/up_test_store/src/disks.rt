@@ -58,9 +58,17 @@ fn opened_once<D: Disk + Drop>(
     if !files.log.may_be_used() || !files.db.may_be_used() {
         return Err(files);
     }
-    match Connection::open_files(alloc, files, Options::new(1)) {
+    match Connection::open_files(alloc, files, options()) {
         Ok(conn) => Ok(conn),
         Err((_, left)) => Err(left.into_files()),
+    }
+}
+
+/// A cache of few pages: each opening clears the whole of it, and these tables are small.
+fn options() -> Options {
+    Options {
+        cache_pages: 64,
+        ..Options::new(1)
     }
 }
 

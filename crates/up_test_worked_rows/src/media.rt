@@ -47,9 +47,17 @@ fn opened(alloc: Global, files: Files<Memory>) -> Result<Connection<FileStore<Me
     requires db { IsTrue (memory_is_usable files.db) }
     ensures { IfOk result (λ c. (file_state c).in_transaction ≡ false) }
 {
-    match Connection::open_files(alloc, files, Options::new(1)) {
+    match Connection::open_files(alloc, files, options()) {
         Ok(conn) => Ok(conn),
         Err(_) => Err(AllocError),
+    }
+}
+
+/// A cache of few pages: each opening clears the whole of it, and these tables are small.
+fn options() -> Options {
+    Options {
+        cache_pages: 64,
+        ..Options::new(1)
     }
 }
 
