@@ -10,7 +10,7 @@ from pathlib import Path
 
 sys.dont_write_bytecode = True
 from edits import lock
-from edits.check import is_shown, refusals
+from edits.check import is_of, is_shown, refusals
 from edits.edit import edits_in, functions_below, groups_of
 from edits.functions import Function, functions_in
 from edits.hashes import hashes
@@ -238,17 +238,27 @@ class Texts(OnATree):
         text = b"""
         impl<D: Fn(u8) -> u8> crate::held::Held<'_, D> where D: Copy { fn first() {} const fn second() {} }
         impl<T> From<Vec<T>> for Other { fn third() {} }
+        impl<K: Scheme, D> a::Interpret<b::Desk<K, D>> for Scripter { fn fourth() {} }
+        impl<'a> Shown for &'a [u8] { fn fifth() {} }
+        impl From<&'static str> for (u8, Held) { fn sixth() {} }
+        trait Counted { fn none(); fn seventh() {} }
         fn alone() {}
         """
-        owners = {it.name: it.owner for it in functions_in(text)}
-        self.assertEqual(owners, {"first": "Held", "second": "Held", "third": "Other", "alone": None})
+        owners = {it.name: (it.owner, it.is_own) for it in functions_in(text)}
+        own = {"first": ("Held", True), "second": ("Held", True)}
+        others = {"third": "OtherFromVec", "fourth": "ScripterInterpretDesk", "fifth": "RefSliceU8Shown", "sixth": "Tuple2U8HeldFromRefStr"}
+        others |= {"seventh": "Counted", "alone": None}
+        self.assertEqual(owners, own | {name: (owner, False) for name, owner in others.items()})
 
-    def test_an_owner_is_told_where_one_file_alone_has_its_method(self):
-        self.write("crates/low/src/more.rt", "impl Held { fn one() {} fn two() {} }\n")
-        self.write("crates/low/src/other.rt", "impl Held { fn two() {} }\n")
-        found = functions_below("crates/low")
-        self.assertEqual([(it.name, it.owner) for it in found["src/more.rt"]], [("one", "Held"), ("two", None)])
-        self.assertEqual([(it.name, it.owner) for it in found["src/other.rt"]], [("two", None)])
+    def test_a_method_is_named_by_the_module_of_its_type(self):
+        self.write("crates/low/src/held.rt", "pub struct Held;\nimpl Held { fn two() {} }\n")
+        self.write("crates/low/src/more.rt", "impl Held { fn one() {} fn two() {} }\nimpl Shown for Held { fn one() {} }\nfn three() {}\n")
+        self.write("crates/low/src/deep/other.rt", "enum Held { A }\nimpl Held { fn two() {} }\n")
+        modules = {path: [it.modules for it in found] for path, found in functions_below("crates/low").items()}
+        self.assertEqual(modules["src/held.rt"], [[("held",)]])
+        both = [("deep", "other"), ("held",)]
+        self.assertEqual([*map(sorted, modules["src/more.rt"])], [both, both, [("more",)], [("more",)]])
+        self.assertEqual(modules["src/deep/other.rt"], [[("deep", "other")]])
 
     def test_edits_of_something_else_than_one_body_are_bad(self):
         texts = {
@@ -302,11 +312,44 @@ class Texts(OnATree):
         self.assertTrue(is_shown("src/counts.rt", placed, *found[1][:2]))
         self.assertTrue(is_shown("src/counts.rt", reaches._replace(name="kept"), *found[2][:2]))
         # a method of a type that another file has
-        told = reaches._replace(name="told", owner="Held")
+        told = reaches._replace(name="told", owner="Held", is_own=True, modules=[("held",)])
         self.assertTrue(is_shown("src/counts.rt", told, *found[3][:2]))
+        self.assertFalse(is_shown("src/counts.rt", told._replace(modules=[("counts",)]), *found[3][:2]))
         self.assertFalse(is_shown("src/counts.rt", told._replace(owner=None), *found[3][:2]))
         self.assertFalse(is_shown("src/counts.rt", told._replace(owner="Other"), *found[3][:2]))
         self.assertFalse(is_shown("src/counts.rt", told._replace(name="kept"), *found[3][:2]))
+
+    def test_a_function_is_told_by_its_whole_path(self):
+        # (a module and a function of one name, and a goal of another function of that module, placed where a helper's lines are)
+        response = Function("response", (10, 20), 0, 0, None, False)
+        called = response._replace(name="called_response", lines=(22, 30))
+        place = [("src/response.rt", 15)]
+        self.assertTrue(is_shown("src/response.rt", response, "up::response::response", place))
+        self.assertFalse(is_shown("src/response.rt", response, "up::response::called_response", place))
+        self.assertFalse(is_shown("src/response.rt", called, "up::response::response", [("src/response.rt", 25)]))
+        # names that hold it elsewhere than at the end: an outer module, and a method, of another function
+        for name in ("up::response::called::Held::shown", "up::response::fn::called_response::response", "up::other::response"):
+            self.assertFalse(is_shown("src/response.rt", response, name, place), name)
+        # refused terms, which have no place
+        root = response._replace(name="response")
+        self.assertTrue(is_of("up::response", "src/lib.rt", root))
+        self.assertFalse(is_of("up::response::called_response", "src/lib.rt", root))
+        self.assertFalse(is_of("up::response::Held::response", "src/response.rt", response))
+        # what stands in it
+        self.assertTrue(is_shown("src/response.rt", response, "up::response::fn::response::any", place))
+        self.assertTrue(is_shown("src/response.rt", response, "up::response::fn::response::any+FnMut::call_mut", place))
+        self.assertFalse(is_shown("src/response.rt", response, "up::response::fn::response", place))
+
+    def test_a_method_is_told_by_its_type_and_trait(self):
+        compared = Function("cmp", (10, 20), 0, 0, None, False, "IdentOrd")
+        self.assertTrue(is_of("up::compared::IdentOrd::cmp", "src/compared.rt", compared))
+        for name in ("up::compared::NoteOrd::cmp", "up::compared::Ident::cmp", "up::ident::IdentOrd::cmp", "up::compared::cmp"):
+            self.assertFalse(is_of(name, "src/compared.rt", compared), name)
+        held = Function("any_is", (10, 20), 0, 0, None, False, "Held", True, [("held",)])
+        self.assertTrue(is_of("up::held::fn::Held::any_is::any", "src/more.rt", held))
+        self.assertTrue(is_of("up::more::fn::Held::any_is::inner", "src/more.rt", held))
+        self.assertFalse(is_of("up::held::fn::any_is::any", "src/more.rt", held))
+        self.assertFalse(is_of("up::more::Held::any_is", "src/more.rt", held))
 
 
 class Verdicts(OnATree):
