@@ -255,10 +255,10 @@ class Texts(OnATree):
         self.write("crates/low/src/more.rt", "impl Held { fn one() {} fn two() {} }\nimpl Shown for Held { fn one() {} }\nfn three() {}\n")
         self.write("crates/low/src/deep/other.rt", "enum Held { A }\nimpl Held { fn two() {} }\n")
         modules = {path: [it.modules for it in found] for path, found in functions_below("crates/low").items()}
-        self.assertEqual(modules["src/held.rt"], [[("held",)]])
-        both = [("deep", "other"), ("held",)]
-        self.assertEqual([*map(sorted, modules["src/more.rt"])], [both, both, [("more",)], [("more",)]])
-        self.assertEqual(modules["src/deep/other.rt"], [[("deep", "other")]])
+        self.assertEqual(modules["src/held.rt"], [(("held",),)])
+        both = (("deep", "other"), ("held",))
+        self.assertEqual([tuple(sorted(it)) for it in modules["src/more.rt"]], [both, both, (("more",),), (("more",),)])
+        self.assertEqual(modules["src/deep/other.rt"], [(("deep", "other"),)])
 
     def test_edits_of_something_else_than_one_body_are_bad(self):
         texts = {
@@ -312,9 +312,9 @@ class Texts(OnATree):
         self.assertTrue(is_shown("src/counts.rt", placed, *found[1][:2]))
         self.assertTrue(is_shown("src/counts.rt", reaches._replace(name="kept"), *found[2][:2]))
         # a method of a type that another file has
-        told = reaches._replace(name="told", owner="Held", is_own=True, modules=[("held",)])
+        told = reaches._replace(name="told", owner="Held", is_own=True, modules=(("held",),))
         self.assertTrue(is_shown("src/counts.rt", told, *found[3][:2]))
-        self.assertFalse(is_shown("src/counts.rt", told._replace(modules=[("counts",)]), *found[3][:2]))
+        self.assertFalse(is_shown("src/counts.rt", told._replace(modules=(("counts",),)), *found[3][:2]))
         self.assertFalse(is_shown("src/counts.rt", told._replace(owner=None), *found[3][:2]))
         self.assertFalse(is_shown("src/counts.rt", told._replace(owner="Other"), *found[3][:2]))
         self.assertFalse(is_shown("src/counts.rt", told._replace(name="kept"), *found[3][:2]))
@@ -345,7 +345,7 @@ class Texts(OnATree):
         self.assertTrue(is_of("up::compared::IdentOrd::cmp", "src/compared.rt", compared))
         for name in ("up::compared::NoteOrd::cmp", "up::compared::Ident::cmp", "up::ident::IdentOrd::cmp", "up::compared::cmp"):
             self.assertFalse(is_of(name, "src/compared.rt", compared), name)
-        held = Function("any_is", (10, 20), 0, 0, None, False, "Held", True, [("held",)])
+        held = Function("any_is", (10, 20), 0, 0, None, False, "Held", True, (("held",),))
         self.assertTrue(is_of("up::held::fn::Held::any_is::any", "src/more.rt", held))
         self.assertTrue(is_of("up::more::fn::Held::any_is::inner", "src/more.rt", held))
         self.assertFalse(is_of("up::held::fn::any_is::any", "src/more.rt", held))

@@ -190,7 +190,7 @@ def is_of(name, path, function):
     it: CRATE::MODULE::fn::NAME::PART, as a closure does."""
     words, here = name.split("::")[1:], module_of(path)
     own = [function.owner, function.name] if function.owner else [function.name]
-    modules = function.modules or [here]
+    modules = function.modules or (here,)
     # (a closure in a method is named by its type's module too, and a function there by that of its file)
     inside = [[*it, "fn", *own] for it in (*modules, here)]
     return words in [[*it, *own] for it in modules] or any(words[: len(it)] == it and len(words) > len(it) for it in inside)

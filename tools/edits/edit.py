@@ -50,8 +50,8 @@ def functions_below(folder):
     declared = {path: types_of(rows) for path, rows in found.items()}
 
     def modules(path, function):
-        elsewhere = [module_of(it) for it in declared if function.owner in declared[it]]
-        return [module_of(path)] if not function.is_own or function.owner in declared[path] else elsewhere
+        elsewhere = tuple(module_of(it) for it in declared if function.owner in declared[it])
+        return (module_of(path),) if not function.is_own or function.owner in declared[path] else elsewhere
 
     return {path: [it._replace(modules=modules(path, it)) for it in functions_of(rows)] for path, rows in found.items()}
 
