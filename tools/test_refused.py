@@ -207,6 +207,11 @@ class Hashes(OnATree):
         self.turn("crates/up/src/lib.rt", "2", "2 + 0")
         self.assertEqual(now(), ["up"])
 
+    def test_the_rows_that_an_edit_names_are_not_read(self):
+        now = self.changed()
+        self.turn("crates/low/refused/another-least.edit", "LEAST + 1;\n", "LEAST + 1;\nrows: rows are set\n")
+        self.assertEqual(now(), [])
+
     def test_owed_names_what_the_lock_lacks(self):
         lock.write(crates_here(), hashes(crates_here(), ["low", "up"]))
         self.assertEqual(self.tool("--owed"), (0, [], ""))
@@ -274,6 +279,29 @@ class Texts(OnATree):
             self.write(f"crates/low/refused/{name}.edit", text)
         bad = [it.label for it in edits_in("low", "crates/low") if it.why]
         self.assertEqual(bad, [f"low/{name}" for name in sorted(texts)])
+
+    def test_an_edit_of_a_text_of_sql_names_rows(self):
+        asked = 'pub fn asked() -> &\'static str {\n    let held = "SELECT a"; "UPDATE t SET a = 1 WHERE b = 2"\n}\npub fn named() -> &\'static str {\n    "a SELECT"\n}\n'
+        self.write("crates/low/src/asked.rt", asked)
+        self.write("crates/low_tests/stdin", "\n# rows are set\nset 1 => done\n")
+        of_text = edit("WHERE b = 2", "WHERE a = 2", "src/asked.rt")
+        texts = {
+            "no-rows": (of_text, True, "it turns a text of SQL alone"),
+            "other-rows": (of_text + "rows: rows are read\n", True, "it names the rows 'rows are read'"),
+            "shown": (of_text + "rows: rows are set\n", True, None),
+            "two-texts": (of_text + 'old: "SELECT a"\nnew: "SELECT b"\nrows: rows are set\n', True, None),
+            "text-and-code": (of_text + "old: let held\nnew: let mut held\n", False, None),
+            "another-text": (edit('"a SELECT"', '"b SELECT"', "src/asked.rt"), False, None),
+            "another-begins": (edit('"a SELECT"', '"SELECT"', "src/asked.rt"), False, None),
+        }
+        for name, (text, _, _) in texts.items():
+            self.write(f"crates/low/refused/{name}.edit", text)
+        found = {it.label.partition("/")[2]: it for it in edits_in("low", "crates/low")}
+        for name, (_, is_of_text, why) in texts.items():
+            with self.subTest(name):
+                self.assertEqual((found[name].is_of_text, (found[name].why or "")[: len(why or "")]), (is_of_text, why or ""))
+                self.assertEqual(found[name].why is None, why is None)
+        self.assertEqual(found["shown"].rows, ["rows are set"])
 
     def test_groups_have_different_functions(self):
         for name, body in (("less", "b < a"), ("more", "b > a"), ("always", "true")):

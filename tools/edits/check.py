@@ -106,7 +106,8 @@ class Bench:
         for it in group:
             shown = next((why for name, places, why in refused if is_shown(it.path, it.function, name, places)), None)
             if shown:
-                known.append((True, f"refused {it.label}: {shown[:160]}"))
+                beside = f" (a text of SQL alone, beside the rows of '{it.rows[0]}')" if it.is_of_text else ""
+                known.append((True, f"refused {it.label}: {shown[:160]}{beside}"))
             elif len(group) == 1:
                 known.append((False, _failure(it, said)))
             else:

@@ -5,21 +5,28 @@ from pathlib import Path
 
 from .functions import functions_in, functions_of, module_of, tokens_of, types_of, with_bodies
 from .kit import rt
+from .sql import rows_named, turns_a_text, unshown
 
 NAME = re.compile(r"[A-Za-z0-9_-][A-Za-z0-9_.-]*\.edit")
 
 
 class Edit:
-    """An edit of a crate: the file and the function that it turns and the body that it makes, or in `why` the reason that it is none."""
+    """An edit of a crate: the file and the function that it turns, the body that it makes, and whether it turns a text of SQL alone; or in `why` the
+    reason that it is none."""
 
     def __init__(self, crate, folder, file, functions):
         self.label = f"{crate}/{Path(file).stem}"
         self.path = self.function = self.body = texts = None
+        self.is_of_text, self.rows = False, []
         self.why = "its name is not of letters, digits, _, - and . with .edit at the end"
         if NAME.fullmatch(Path(file).name):
             texts, self.why = rt.read_edit(file, folder)
         if texts:
             self.why = self._read(folder, texts, functions)
+        if self.function and not self.why:
+            self.is_of_text = turns_a_text(Path(folder, self.path).read_bytes()[self.function.opens : self.function.closes], self.body)
+        if self.is_of_text:
+            self.rows, self.why = rows_named(file), unshown(folder, file)
 
     def _read(self, folder, texts, functions):
         self.path = min(texts)
