@@ -218,12 +218,11 @@ def check(path):
 
 
 def changed(path, to, statements):
-    """A copy of a file of the program's own in which SQLite carries out statements, with sums that fit."""
+    """A copy of a file of the program's own in which SQLite carries out statements."""
     trials.copied(path, to)
     with closing(sqlite3.connect(to, isolation_level=None)) as db:
         for statement in statements:
             db.execute(statement)
-    page_sums.main(to)
     return to
 
 
