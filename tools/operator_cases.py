@@ -240,9 +240,8 @@ def checked_files(program, own):
     for number in reference.LACKS:
         yield "one of schema %d" % number, check(schemas.written(path, own / ("written%d" % number), number)) == (0, [])
         yield "one of schema %d with sums" % number, check(schemas.lowered(path, own / ("lowered%d" % number), number)) == (0, [])
-    with http_cases.served(program, trials.copied(path, own / "served"), 1):
-        pass
-    yield "one with the log that a stop left", trials.log_of(own / "served").exists() and check(own / "served") == (0, [])
+    stopped = trials.copied(path, own / "stopped")
+    yield "one with the log that a stop left", stop_after(program, stopped, fleet.line("refresh", version=1000)) and check(stopped) == (0, [])
     anew = [(name, campaign_anew(old, new), said) for name, old, new, said in MADE_ANEW]
     for name, statements, said in CHANGED + anew:
         found = check(changed(path, own / "changed", statements))
@@ -251,6 +250,7 @@ def checked_files(program, own):
     # (the log alone has the change)
     other = trials.copied(path, own / "logged")
     with closing(sqlite3.connect(other, isolation_level=None)) as db:
+        db.execute("PRAGMA journal_mode = WAL").fetchall()
         db.execute("CREATE TABLE notes (note TEXT)")
         yield "one whose log has a table more", trials.log_of(other).stat().st_size > 0 and check_beside(other) == (1, ["table notes: it is too much"])
     for name, data in (("an empty file", b""), ("a text", b"no database\n"), ("half a file", path.read_bytes()[:2000])):
@@ -259,6 +259,16 @@ def checked_files(program, own):
         yield "%s is none" % name, found is not None and found[0] == 1 and found[1][0].startswith("it is no database of this product: ")
     ran = subprocess.run([sys.executable, TOOLS / "check_file.py", own / "none"], capture_output=True, check=False)
     yield "no file", (ran.returncode, ran.stdout) == (2, b"") and ran.stderr.count(b"\n") == 1 and not (own / "none").exists()
+
+
+def stop_after(program, path, line):
+    """Whether the program was killed once this line was done, and left a log."""
+    with subprocess.Popen([program, "run", path], stdin=subprocess.PIPE, stdout=subprocess.PIPE) as running:
+        running.stdin.write(line.encode() + b"\n")
+        running.stdin.flush()
+        told = running.stdout.readline()
+        running.kill()
+    return told == b"done\n" and trials.log_of(path).exists() and trials.log_of(path).stat().st_size > 0
 
 
 def begin(lines, wanted):
