@@ -292,7 +292,7 @@ def listed_as_listening(port):
 
 
 def loopback_alone(program, path):
-    """It listens on 127.0.0.1 alone: the kernel lists no other address, and a connection to another one of the machine is refused."""
+    """It listens on 127.0.0.1 alone, by the kernel's list too, and is refused at other addresses of the machine."""
     with served(program, path, 1) as running:
         well = not [it for it in other_addresses() if accepts(it, running.port)]
         if Path("/proc/net/tcp").exists():
@@ -318,8 +318,7 @@ def delivered(client, body):
 
 
 def clock_once(program, path):
-    """The clock is read once a connection: two manifests on one of them, more than a second apart, have one moment, and one on the next
-    connection has a later one."""
+    """Two manifests on one connection, more than a second apart, have one moment, and one on the next connection a later one."""
     begun = int(time.time())
     with served(program, path, 2) as running:
         with connected(running) as first:

@@ -261,6 +261,46 @@ def checked_files(program, own):
     yield "no file", (ran.returncode, ran.stdout) == (2, b"") and ran.stderr.count(b"\n") == 1 and not (own / "none").exists()
 
 
+# what someone does to a file, and which of the lines that follow are then lost; the others are answered as ever
+TAKEN = [
+    ("an index", ["CREATE INDEX by_hardware ON ecu (hardware)"], ()),
+    ("a view", ["CREATE VIEW seen AS SELECT vehicle FROM vehicle"], ()),
+    ("another table", ["CREATE TABLE notes (note TEXT)"], ()),
+    ("an added column", ["ALTER TABLE ecu ADD COLUMN note TEXT"], ()),
+    ("a column of another name", ["ALTER TABLE meta RENAME COLUMN stamp TO moment"], (1, 2, 3, 4)),
+    ("a dropped table", ["DROP TABLE kept"], (0, 1)),
+    ("another dropped table", ["DROP TABLE retired"], (3, 4)),
+    ("a trigger on a table", ["CREATE TRIGGER told AFTER INSERT ON campaign BEGIN DELETE FROM role_key; END"], (1,)),
+]
+REFUSED = [
+    ("a trigger on a table that refers to another", ["CREATE TRIGGER told AFTER INSERT ON kept BEGIN DELETE FROM campaign; END"]),
+    ("an index of some rows", ["CREATE INDEX some ON vehicle (version) WHERE version > 1"]),
+]
+ASKED = [
+    fleet.line("show", vehicle="V1"), http_cases.FIRST_PATH[-1], fleet.line("refresh", version=50),
+    fleet.line("add_vehicle", vehicle="V2", primary="P2", ecus=[{"ecu": it, "hardware": "HP", "key": fleet.key(2)} for it in ("P2", "S2")]),
+    fleet.line("replace_ecu", vehicle="V2", old="S2", ecu="S3", hardware="HP", key=fleet.key(3)),
+]
+
+
+def taken_changed(program, own):
+    """What a start makes of a file that someone changed, as the page on tables has it."""
+    path = own / "first"
+    trials.printed(program, path, http_cases.FIRST_PATH)
+    as_ever = trials.printed(program, trials.copied(path, own / "same"), ASKED)
+    yield "each line is answered", len(as_ever) == 5 and not any(it.startswith("refused") for it in as_ever)
+    for name, statements, lost in TAKEN + [(name, it, None) for name, it in REFUSED]:
+        other = changed(path, own / name.replace(" ", "-"), statements)
+        unwritten = trials.run(program, trials.copied(other, own / "unwritten"), ASKED)
+        yield "a file with %s is refused for its sums" % name, unwritten == (3, b"", trials.NO_DATABASE)
+        page_sums.main(other)
+        if lost is None:
+            yield "and with sums, where it is %s" % name, trials.run(program, other, ASKED) == (3, b"", trials.NO_DATABASE)
+        else:
+            wanted = ["refused 2 Store" if at in lost else it for at, it in enumerate(as_ever)]
+            yield "with sums it is taken, and %d lines are lost" % len(lost), trials.printed(program, other, ASKED) == wanted
+
+
 def stop_after(program, path, line):
     """Whether the program was killed once this line was done, and left a log."""
     with subprocess.Popen([program, "run", path], stdin=subprocess.PIPE, stdout=subprocess.PIPE) as running:
@@ -384,6 +424,8 @@ def cases(program):
     yield from checker()
     with trials.folder() as own:
         yield from checked_files(program, own)
+    with trials.folder() as own:
+        yield from taken_changed(program, own)
     with trials.folder() as own:
         yield from pages(program, own)
     with trials.folder() as own:
