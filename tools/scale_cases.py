@@ -287,7 +287,7 @@ def measure(program):
             print("| manifests a second, of %d ECUs | %d | %d | %.2f |" % (ecus, one, four, four / one), flush=True)
             for path in own.glob("of*"):
                 path.unlink()
-        kept = 40_000
+        kept = 20_000
         for many in (1, 4):
             paths = filled(program, own, many, 400, 4)
             for desk, path in enumerate(paths):
