@@ -63,6 +63,9 @@ def modes(program, own):
     path.write_bytes(b"S")
     told = trials.run(program, path, DAY[:1])
     yield "a file of one byte is refused, and stays", told == (3, b"", trials.NO_DATABASE) and path.read_bytes() == b"S"
+    path = own / "begun"
+    path.write_bytes(b"\0")
+    yield "what a stop may leave of a database that is made is taken", trials.printed(program, path, DAY[:1]) == ["done"]
     # a journal's name has eight bytes more, and a file system takes 255
     there = sorted(os.listdir(own))
     told = trials.run(program, own / (248 * "n"), DAY[:1])

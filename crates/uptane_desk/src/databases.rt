@@ -65,8 +65,8 @@ fn over_file(rt: &HostRuntime, path: &str, work: Work) -> ExitCode {
 }
 
 /// Whether a database file may stand at the path, and beside it its log and the journal that SQLite looks for, whose name is
-/// the longest; else nothing is made there, and what is there stays. A file of one byte is left of some other file: SQLite
-/// takes it for an empty one, for the sake of a file system that can't lock those.
+/// the longest; else nothing is made there, and what is there stays. A file of one byte is left of some other file, as of a
+/// database that was cut, unless that byte is 0: a stop while a new database is made may leave such a one.
 fn is_usable(rt: &HostRuntime, path: &str) -> bool {
     let Ok(journal) = format!(in rt.alloc(); "{path}-journal") else {
         return false;
@@ -75,8 +75,16 @@ fn is_usable(rt: &HostRuntime, path: &str) -> bool {
         return false;
     }
     match fs::metadata(rt, path) {
-        Ok(told) => told.len() != 1,
+        Ok(told) => told.len() != 1 || is_begun(rt, path),
         Err(_) => true,
+    }
+}
+
+/// Whether the bytes of a file are what the making of a database writes first.
+fn is_begun(rt: &HostRuntime, path: &str) -> bool {
+    match fs::read(rt, path) {
+        Ok(bytes) => bytes.as_slice() == [0].as_slice(),
+        Err(_) => false,
     }
 }
 
