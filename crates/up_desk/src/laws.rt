@@ -12,7 +12,7 @@ pub fn new_replies_commit()
 
 /// A delivery that the plain machine accepts acts once when it comes again before another manifest or a replacement of its
 /// vehicle, whether or not its call came through: the state then has exactly one entry for it, and the answer is that entry's
-/// reply. So it does after a crash at any moment of that call.
+/// reply. So it does after a crash behind that call, however it ended.
 pub fn deliveries_act_once<D: Alter>()
     ensures again { DeliveriesActOnce }
     ensures crash { CrashesActOnce D.Store }
