@@ -12,7 +12,7 @@ use up_canon::bytes::Bytes;
 use up_canon::each::each_of;
 use up_canon::fields::{count_at, list_at, object_at};
 use up_canon::file_name::FileName;
-use up_canon::hex_text::{hex_at, sha256_at};
+use up_canon::hex_text::{hex_at, plain_sha512_at, sha256_at, sha512_at};
 use up_canon::ident::Ident;
 use up_canon::limits::word_at;
 use up_canon::listed::{Duplicate, Listed};
@@ -61,6 +61,20 @@ pub(crate) fn sha256(alloc: Global, members: &Map<String, Value>) -> Result<Stri
     match sha256_at(members, "sha256") {
         Ok(hash) => hex_digits(alloc, &hash[..]),
         Err(name) => name.to_string(alloc),
+    }
+}
+
+/// A member `sha512`, and where its digits may be lower case alone.
+pub(crate) fn sha512(alloc: Global, members: &Map<String, Value>) -> Result<String, AllocError> {
+    let either = second_or_none(alloc, sha512_at(members))?;
+    let plain = second_or_none(alloc, plain_sha512_at(members))?;
+    format!(in alloc; "{either}, in lower case {plain}")
+}
+
+fn second_or_none(alloc: Global, hash: Option<[u8; 64]>) -> Result<String, AllocError> {
+    match hash {
+        Some(hash) => hex_digits(alloc, &hash[..]),
+        None => "none".to_string(alloc),
     }
 }
 
