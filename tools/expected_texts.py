@@ -113,9 +113,9 @@ def manifest(body):
 
 
 def member_hash(given):
-    """The second hash of an object, and where its digits may be lower case alone."""
-    told = [second_hash(json.loads(given), digits) or "none" for digits in (EITHER, LOWER)]
-    return "%s, in lower case %s" % tuple(told)
+    """The second hash of an object, where another member counts as none, and where it is a fault."""
+    hash = second_hash(json.loads(given), EITHER)
+    return "%s, wanted %s" % (hash or "none", hash or "sha512")
 
 
 def report_hash(text):
