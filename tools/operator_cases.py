@@ -71,8 +71,10 @@ def makers(program, own):
     yield "the program takes them", trials.printed(program, path, lines) == 6 * ["done"]
     with trials.read(path) as db:
         yield "thresholds", db.execute("SELECT root, threshold, count(*) FROM role_key WHERE repository = 'director' AND role = 'root' GROUP BY root").fetchall() == [(1, 1, 2), (2, 2, 2)]
-        hashed = db.execute("SELECT length, hex(sha256) FROM image WHERE file = 'a/2.bin'").fetchall()
-        yield "an image's hash", hashed == [(3, "BA7816BF8F01CFEA414140DE5DAE2223B00361A396177A9CB410FF61F20015AD")]
+        hashed = db.execute("SELECT length, hex(sha256), hex(sha512) FROM image JOIN image_sha512 USING (file) WHERE file = 'a/2.bin'").fetchall()
+        yield "an image's hashes", hashed == [(3, ABC_256.upper(), ABC_512.upper())]
+    words = ("add_image", own / "image.bin", "--hardware", "HP", "--release", 1, "--file", "one.bin", "--no-sha512", *at)
+    yield "an image with one hash", "sha512" not in made(*words)[1][0] and ABC_256 in made(*words)[1][0]
     stamp = trials.printed(program, path, [fleet.line("fetch", repository="image", file="timestamp.json")])[0]
     by_file = made("refresh", "-", *at, given=stamp.encode())
     with http_cases.served(program, path, 1) as running:
@@ -122,12 +124,19 @@ def refusals(own, keys, at):
 # ---- the checker of scripts
 
 
+# of `abc`, by FIPS 180-4
+ABC_256 = "ba7816bf8f01cfea414140de5dae2223b00361a396177a9cb410ff61f20015ad"
+ABC_512 = ("ddaf35a193617abacc417349ae20413112e6fa4e89a97ea20a9eeee64b55d39a"
+           "2192992a274fc1a836ba3c23a3feebbd454d4423643ce80e2a9ac94fa54ca49f")
 IMAGE = {"file": "a.bin", "length": 3, "sha256": 64 * "0", "hardware": ["HP"], "release": 1}
 KEYS = fleet.key_set(1)
 AMISS = [
     (fleet.line("add_image", NOW, **IMAGE, need=[]), "look: need: no such member; it is ignored; is it needs?"),
     (fleet.line("add_image", NOW, **IMAGE, needs=[{"hardware": "HP", "release": 1, "file": "x"}]), "look: file: no such member, in needs[0]; it is ignored"),
     (fleet.line("add_image", NOW, **IMAGE | {"file": 129 * "a"}), "fault: file: 1 to 128 bytes of A-Z a-z 0-9 . _ - /"),
+    (fleet.line("add_image", NOW, **IMAGE, sha512=127 * "0"), "fault: sha512: 128 hexadecimal digits"),
+    (fleet.line("add_image", NOW, **IMAGE, sha512=None), "fault: sha512: 128 hexadecimal digits"),
+    (fleet.line("add_image", NOW, **IMAGE, sha51=128 * "0"), "look: sha51: no such member; it is ignored; is it sha512?"),
     (fleet.line("add_image", NOW + 40 * 86400, **IMAGE), "look: at: 40.0 days after now; it is taken as it stands, and files expire by it"),
     (fleet.line("add_image", NOW * 1000, **IMAGE), "fault: at: past 2100-01-01T00:00:00Z; the moment is in seconds"),
     (fleet.line("add_images", NOW, **IMAGE), "fault: do: one of %s; is it add_image?" % ", ".join(check_script.WORDS)),

@@ -1,7 +1,7 @@
 #!/usr/bin/env python3
 """Measures the program: instructions a line, lines a second, and what a start takes. `docs/SPEED.md` has the figures.
 
-    speed.py PROGRAM fleets         instructions and compressions of SHA-256 a line, of scripts of four fleets
+    speed.py PROGRAM fleets         instructions and compressions of SHA-256 a line, of scripts of five fleets
     speed.py PROGRAM functions      the five functions that take most of them, in the fleet of `fleets` that is first
     speed.py PROGRAM commands       instructions and compressions of SHA-256 of a line of each kind
     speed.py PROGRAM lines          lines a second over a file, as a ratio to the same script over memory
@@ -38,6 +38,7 @@ FLEETS = {
     "100 of 4 ECUs": {"vehicles": 100, "ecus": 4},
     "1,000 of 1 ECU": {"vehicles": 1000, "ecus": 1, "rounds": 2},
     "10 of 32 ECUs": {"vehicles": 10, "ecus": 32},
+    "40 of 4 ECUs, images with two hashes": {"vehicles": 40, "ecus": 4, "second_hashes": 1},
 }
 COMPRESS = "block256::compress"
 MOST = 100_000
