@@ -1,18 +1,18 @@
 //! Reading reports and manifests.
-ghost use Rattle.std.specs.Prelude.{◌≡◌, ◌<◌, Err, length};
+ghost use Rattle.std.specs.Prelude.{◌≡◌, ◌<◌, Err, IfOk, length};
 ghost use Rattle.up_canon.specs.Members.{object_of_map};
 ghost use Rattle.up_canon.specs.Refusals.{Gives};
 ghost use Rattle.up_canon.specs.declared.refusal.Refusal.TheVariants.{TooLarge};
-ghost use Rattle.up_manifest.specs.Manifests.{largest_body, installed_in, report_in, reports_in, manifest_in, incoming_in};
+ghost use Rattle.up_manifest.specs.Manifests.{largest_body, installed_in, report_in, reports_in, manifest_in, incoming_in, report_sha512_of};
 
 use crate::body::LARGEST_BODY;
 use crate::manifest::{Incoming, Manifest};
 use crate::report::{Installed, Report, SignedReport};
 use serde_json::{Map, Value};
-use std::alloc::Global;
+use std::alloc::{AllocError, Global};
 use up_canon::each::{Reading, each_of};
 use up_canon::fields::{count_at, object_at};
-use up_canon::hex_text::sha256_at;
+use up_canon::hex_text::{sha256_at, sha512_at};
 use up_canon::json_text::value_within;
 use up_canon::limits::{list_within_at, moment_at, positive_at, word_at};
 use up_canon::listed::Listed;
@@ -105,10 +105,12 @@ fn installed_at(alloc: Global, image: &Map<String, Value>) -> Result<Installed, 
 {
     let file = file_name_at(alloc, image, "file")?;
     let length = count_at(image, "length")?;
-    let sha256 = sha256_at(object_at(image, "hashes")?, "sha256")?;
+    let hashes = object_at(image, "hashes")?;
+    let sha256 = sha256_at(hashes, "sha256")?;
     Ok(Installed {
         file,
         length,
         sha256,
+        sha512: sha512_at(hashes),
     })
 }
