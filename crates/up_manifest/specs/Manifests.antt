@@ -2,8 +2,9 @@
 use Rattle.std.specs.Prelude.{ℕ, List, Option, option_and_then, Result, Ok, codes}
 use Rattle.serde_json.specs.Data.{Data}
 use Rattle.serde_json.specs.Read.{read}
-use Rattle.up_canon.specs.Steps.{◌>>=◌, each, value_of}
+use Rattle.up_canon.specs.Steps.{◌>>=◌, each, or_error, value_of}
 use Rattle.up_canon.specs.declared.refusal.Refusal.{Refusal}
+use Rattle.up_canon.specs.declared.refusal.Refusal.TheVariants.{NotJson}
 use Rattle.up_canon.specs.HexText.{sha256_in, sha512_in}
 use Rattle.up_canon.specs.JsonText.{value_within}
 use Rattle.up_canon.specs.Members.{count_in, object_in}
@@ -81,9 +82,15 @@ incoming_in body = do
 unfoldable pub manifest_of : List ℕ → Option Manifest
 manifest_of signed = option_and_then (λ d. value_of (manifest_in d)) (read signed)
 
+-- the report that a signed text has in it, or its first fault
+unfoldable pub report_text_in : List ℕ → Result Report Refusal
+report_text_in signed = do
+  d ← or_error NotJson (read signed)
+  report_in d
+
 -- the report of a signed text
-unfoldable pub report_of : List ℕ → Option Report
-report_of signed = option_and_then (λ d. value_of (report_in d)) (read signed)
+abbrev pub report_of : List ℕ → Option Report
+report_of signed = value_of (report_text_in signed)
 
 -- the SHA-512 of the image that a signed text reports; none of a text that is no report, or that has none
 abbrev pub report_sha512_of : List ℕ → Option (List ℕ)
