@@ -192,7 +192,8 @@ def data_of(page):
 
 def pages(program, own):
     path = own / "fleet"
-    lines = list(fleet.script(vehicles=10, ecus=4, rounds=3))
+    lines = list(fleet.script(vehicles=10, ecus=4, rounds=3, second_hashes=0.7))
+    lines += unlike(lines)
     lines.append(fleet.line("add_vehicle", vehicle="new", primary="n", ecus=[{"ecu": "n", "hardware": "HP", "key": fleet.key(9)}]))
     attack = {"ecu": "n", "key": fleet.key(9), "counter": 1, "time": NOW, "attack": "</script><b>&", **fleet.FACTORY}
     yield "a fleet", trials.printed(program, path, lines) is not None
@@ -221,6 +222,15 @@ def pages(program, own):
     yield from other_schemas(path, own)
 
 
+def unlike(lines):
+    """One more manifest of each vehicle, whose ECUs report another second hash than the registered image's, or none that is one."""
+    told = [json.loads(line) for line in lines]
+    for at, last in enumerate({it["vehicle"]: it for it in told if it["do"] == "bench"}.values()):
+        hash = [fleet.second("another"), fleet.second("another").upper(), 128 * "x"][at % 3]
+        reports = [report | {"counter": report["counter"] + 9, "sha512": hash} for report in last["reports"]]
+        yield fleet.line("deliver", last["at"], body=fleet.body(last | {"counter": last["counter"] + 9, "reports": reports}))
+
+
 def page_of(path, now=NOW + 4 * 3600):
     ran = subprocess.run([sys.executable, TOOLS / "fleet_page.py", path, "--now", str(now)], capture_output=True, check=False)
     return ran.stdout.decode("ascii") if not ran.returncode and not ran.stderr else ""
@@ -236,7 +246,7 @@ def other_schemas(path, own):
         else:
             trials.copied(path, other)
             with closing(sqlite3.connect(other)) as db, db:
-                db.execute("INSERT INTO image_sha512 SELECT file, zeroblob(64) FROM image")
+                db.execute("INSERT OR REPLACE INTO image_sha512 SELECT file, zeroblob(64) FROM image")
         yield "a page of schema %d" % schema, schemas.schema_of(other) == schema and data_of(page_of(other)) == wanted
 
 
