@@ -132,8 +132,14 @@ fn image(alloc: Global, content: &str) -> Result<String, AllocError> {
     let (empty, abc) = (digest_of_nothing(), digest_of_abc());
     match content {
         "empty" => format!(in alloc; "'length':0,'sha256':'{empty}'"),
-        "both" => format!(in alloc; "'length':3,'sha256':'{abc}','sha512':'{}'", second_hash("abc")),
-        "unlike" => format!(in alloc; "'length':3,'sha256':'{abc}','sha512':'{}'", second_hash("empty")),
+        "both" => format!(in alloc;
+            "'length':3,'sha256':'{abc}','sha512':'{}'",
+            second_hash("abc")
+        ),
+        "unlike" => format!(in alloc;
+            "'length':3,'sha256':'{abc}','sha512':'{}'",
+            second_hash("empty")
+        ),
         _ => format!(in alloc; "'length':3,'sha256':'{abc}'"),
     }
 }

@@ -104,13 +104,11 @@ fn sha256(alloc: Global, digits: &str) -> Result<[u8; 32], Fault> {
 }
 
 /// The hashes of an image: a SHA-256, and behind a `+` a SHA-512 where it has one.
-pub(crate) fn hashes(
-    alloc: Global,
-    digits: &str,
-) -> Result<([u8; 32], Option<[u8; 64]>), Fault> {
+pub(crate) fn hashes(alloc: Global, digits: &str) -> Result<([u8; 32], Option<[u8; 64]>), Fault> {
     match digits.split_once('+') {
         Some((first, second)) => {
-            Ok((sha256(alloc, first)?, Some(sha512(alloc, second)?)))
+            let hash = sha256(alloc, first)?;
+            Ok((hash, Some(sha512(alloc, second)?)))
         }
         None => Ok((sha256(alloc, digits)?, None)),
     }
