@@ -1,6 +1,6 @@
 -- What a payload means is within the limits of its role.
-use Rattle.std.proofs.Common.{◌≡◌, ℕ, ◌≤◌, List, [], ◌∷◌, ◌++◌, Bool, true, false, Option, Some, None, length, refl, ap, sym, ◌∙◌, ◌==◌, arith}
-use Rattle.std.specs.Prelude.{bytes_eq, not, ◌&&◌, ◌||◌, codes}
+use Rattle.std.proofs.Common.{◌≡◌, ℕ, ◌*◌, ◌≤◌, List, [], ◌∷◌, ◌++◌, Bool, true, false, Option, Some, None, length, refl, ap, sym, ◌∙◌, ◌==◌, arith}
+use Rattle.std.specs.Prelude.{bytes_eq, nat_lt, not, ◌&&◌, ◌||◌, codes}
 use Rattle.std.specs.List.{AllByRecursion, list_all}
 use Rattle.std.specs.Cmp.Lexicographic.{bytes_decides}
 use Rattle.std.proofs.lemmas.Bool.Decides.{nat_tests}
@@ -8,7 +8,7 @@ use Rattle.hex.proofs.HexLemmas.{decode_of-ok}
 use Rattle.serde_json.specs.Data.{Data, string, Items, no_items, item}
 use Rattle.serde_json.specs.Find as json
 use Rattle.up_canon.specs.Canon.{max_count}
-use Rattle.up_canon.specs.Meaning.{EachMeans}
+use Rattle.up_canon.specs.Meaning.{EachMeans, MeansIfAny}
 use Rattle.up_canon.specs.Moments.{last_moment}
 use Rattle.up_canon.specs.Names.{Name, is_ident}
 use Rattle.up_canon.proofs.ByteTests.{bytes_tested}
@@ -17,8 +17,8 @@ use Rattle.up_canon.proofs.Members.{within_there}
 use Rattle.up_canon.proofs.Printable.{both}
 use Rattle.up_canon.proofs.Steps.{one_value}
 use Rattle.up_roles.specs.Laws.{MeantRootsFit, MeantTargetsFit, MeantSnapshotsFit, MeantTimestampsFit}
-use Rattle.up_roles.specs.Meaning.{HasPositive, HasName, HasSha256, MeansIdent, MeansTarget, ShowsKey}
-use Rattle.up_canon.specs.HexText.{is_hash}
+use Rattle.up_roles.specs.Meaning.{HasPositive, HasName, HasHash, HasSha512, MeansIdent, MeansTarget, ShowsKey}
+use Rattle.up_canon.specs.HexText.{is_second_hash}
 use Rattle.up_roles.specs.Payload.{version_fits, name_fits, is_named, is_moment}
 use Rattle.up_roles.specs.Root.{agree, keys_agree}
 use Rattle.up_roles.specs.Targets.{target_fits, target_is_typed}
