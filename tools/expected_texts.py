@@ -119,8 +119,9 @@ def member_hash(given):
 
 
 def report_hash(text):
-    """The second hash in a report's signed text."""
-    return second_hash(json.loads(text)["image"]["hashes"], EITHER) or "none"
+    """The second hash in a report's signed text, which is canonical."""
+    value = json.loads(text)
+    return canon(value) == text and second_hash(value["image"]["hashes"], EITHER) or "none"
 
 
 def built(scheme, given):
