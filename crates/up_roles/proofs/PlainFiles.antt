@@ -6,12 +6,12 @@ use Rattle.std.proofs.lemmas.Bool.{and_parts}
 use Rattle.std.proofs.lemmas.Bool.Decides.{nat_tests}
 use Rattle.std.proofs.lemmas.List.Folds.{list_all-append}
 use Rattle.serde_json.specs.Data.{Data, string}
-use Rattle.up_canon.specs.Build.{object_with, list_with, count_value, hex_value, hashes_value}
+use Rattle.up_canon.specs.Build.{object_with, list_with, count_value, hashes_value}
 use Rattle.up_canon.specs.Canon.{max_count, is_printable_text, has_canon}
 use Rattle.up_canon.specs.Moments.{last_moment, moment_text}
 use Rattle.up_canon.specs.Names.{Name, is_ident, is_file_name}
 use Rattle.up_canon.proofs.MomentTexts.{moments_are_plain}
-use Rattle.up_canon.specs.HexText.{is_hash}
+use Rattle.up_canon.specs.HexText.{is_hash, is_second_hash}
 use Rattle.up_roles.specs.Payload.{IsCanonical, payload, payload_members, repository_text, version_fits, is_named, is_moment}
 use Rattle.up_roles.specs.Root.{all_keys, key_member, role_value, roles_value, roles_members, root_more, root_payload, key_fits, role_fits, root_fits, root_is_typed}
 use Rattle.up_roles.specs.Snapshot.{snapshot_meta, snapshot_payload, snapshot_fits, snapshot_is_typed}
@@ -27,7 +27,8 @@ use Rattle.up_roles.specs.declared.targets.Target.{Target}
 use Rattle.up_roles.specs.declared.targets.TargetsFile.{TargetsFile}
 use Rattle.up_roles.specs.declared.timestamp.TimestampFile.{TimestampFile}
 use Rattle.up_canon.proofs.PlainValues.{IsPlain, AllMembers, AllItems, plain-object, plain-list, all-plain, plain-string, plain-count, deeper, plain-canon}
-use Rattle.up_canon.proofs.Printable.{ident_prints, file_name_prints, printable-hex}
+use Rattle.up_canon.proofs.Hashes.{hashes_depth, hashes_plain}
+use Rattle.up_canon.proofs.Printable.{ident_prints, file_name_prints}
 
 pub canon_is : (d : Data) → has_canon d ≡ true → IsCanonical d
 canon_is d h = rw h refl
@@ -75,8 +76,10 @@ plain-payload n kind r version expires (Some name) more hk hv he hn h =
       ),
     )
 
-plain-hashes : (hash : List ℕ) → is_hash hash ≡ true → IsPlain 1 (hashes_value hash)
-plain-hashes hash h = plain-object 0 ((codes "sha256", hex_value hash) ∷ []) (refl, plain-string _ (printable-hex hash (and_parts _ _ h).1), tt)
+plain-hashes : (sha256 : List ℕ) (sha512 : Option (List ℕ)) → is_hash sha256 ≡ true → is_second_hash sha512 ≡ true → IsPlain 1 (hashes_value sha256 sha512)
+plain-hashes sha256 sha512 h k =
+    let one = hashes_depth sha256 sha512 in
+    record { plain = hashes_plain sha256 sha512 (and_parts _ _ h).1 k; shallow = omega arith }
 
 -- ---- Snapshot
 
@@ -100,9 +103,9 @@ timestamp-canon file fits typed =
     let f = and_parts _ _ fits in
     let t = and_parts _ _ typed in
     let s = and_parts _ _ t.0 in
-    let entry : IsPlain 2 (object_with ((codes "hashes", hashes_value file.snapshot_sha256) ∷ (codes "version", count_value file.snapshot_version) ∷ [])) =
-    plain-object 1 ((codes "hashes", hashes_value file.snapshot_sha256) ∷ (codes "version", count_value file.snapshot_version) ∷ []) (refl, plain-hashes file.snapshot_sha256 t.1, (refl, deeper 0 1 _ (omega arith) (plain-version file.snapshot_version f.1), tt)) in
-    let meta : IsPlain 3 (timestamp_meta file) = plain-object 2 ((codes "snapshot.json", object_with ((codes "hashes", hashes_value file.snapshot_sha256) ∷ (codes "version", count_value file.snapshot_version) ∷ [])) ∷ []) (refl, entry, tt) in
+    let entry : IsPlain 2 (object_with ((codes "hashes", hashes_value file.snapshot_sha256 None) ∷ (codes "version", count_value file.snapshot_version) ∷ [])) =
+    plain-object 1 ((codes "hashes", hashes_value file.snapshot_sha256 None) ∷ (codes "version", count_value file.snapshot_version) ∷ []) (refl, plain-hashes file.snapshot_sha256 None t.1 refl, (refl, deeper 0 1 _ (omega arith) (plain-version file.snapshot_version f.1), tt)) in
+    let meta : IsPlain 3 (timestamp_meta file) = plain-object 2 ((codes "snapshot.json", object_with ((codes "hashes", hashes_value file.snapshot_sha256 None) ∷ (codes "version", count_value file.snapshot_version) ∷ [])) ∷ []) (refl, entry, tt) in
     plain-canon 4 (timestamp_payload file) (omega arith) (plain-payload 3 (codes "timestamp") file.repository file.version file.expires file.vehicle ((codes "meta", timestamp_meta file) ∷ []) refl (and_parts _ _ f.0).0 s.0 s.1 (refl, meta, tt))
 
 -- ---- Targets
@@ -115,7 +118,8 @@ plain-target : (target : Target) → target_is_typed target ≡ true → IsPlain
 plain-target target typed =
     let release = and_parts _ _ typed in
     let hardware = and_parts _ _ release.0 in
-    let hash = and_parts _ _ hardware.0 in
+    let second = and_parts _ _ hardware.0 in
+    let hash = and_parts _ _ second.0 in
     let size = and_parts _ _ hash.0 in
     let file = and_parts _ _ size.0 in
     plain-object 1 (target_members target) (
@@ -126,7 +130,7 @@ plain-target target typed =
         plain-list 0 (map string target.hardware) (all-plain 0 is_ident string target.hardware (λ name h. plain-string name (ident_prints name h)) hardware.1),
         (
           refl,
-          plain-hashes target.sha256 hash.1,
+          plain-hashes target.sha256 target.sha512 hash.1 second.1,
           (
             refl,
             deeper 0 1 _ (omega arith) (plain-count target.length size.1),
@@ -136,12 +140,12 @@ plain-target target typed =
       ),
     )
 
-pub target_typed : (target : Target) → is_named target.ecu ≡ true → is_file_name target.file ≡ true → target.length ≤ max_count → is_hash target.sha256 ≡ true
+pub target_typed : (target : Target) → is_named target.ecu ≡ true → is_file_name target.file ≡ true → target.length ≤ max_count → is_hash target.sha256 ≡ true → is_second_hash target.sha512 ≡ true
     → list_all is_ident target.hardware ≡ true → target.release ≤ max_count → target_is_typed target ≡ true
-target_typed target ecu file size hash hardware release =
+target_typed target ecu file size hash second hardware release =
     let size' : nat_le target.length max_count ≡ true = grind (arith, nat_tests) in
     let release' : nat_le target.release max_count ≡ true = grind (arith, nat_tests) in
-    rw (ecu, file, size', hash, hardware, release') refl
+    rw (ecu, file, size', hash, second, hardware, release') refl
 
 pub targets-canon : (file : TargetsFile) → targets_fits file ≡ true → targets_is_typed file ≡ true → has_canon (targets_payload file) ≡ true
 unfolding targets_payload
