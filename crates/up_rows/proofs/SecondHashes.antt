@@ -1,5 +1,5 @@
 -- The rows of a vehicle's ECUs tell the second hashes that the texts of their last reports have.
-use Rattle.std.proofs.Common.{◌≡◌, List, [], ◌∷◌, Option, Some, None, map, refl, sym, ap}
+use Rattle.std.proofs.Common.{◌≡◌, ℕ, List, [], ◌∷◌, Option, Some, None, map, refl, sym, ap}
 use Rattle.std.specs.Prelude.{option_map, option_and_then, bytes_eq}
 use Rattle.std.specs.List.{AllByRecursion}
 use Rattle.up_canon.specs.Names.{Name}

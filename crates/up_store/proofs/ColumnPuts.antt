@@ -1,5 +1,5 @@
 -- Images, campaigns and kept manifests are put into the tables.
-use Rattle.std.proofs.Common.{◌≡◌, ℕ, pos, List, [], ◌∷◌, ◌++◌, Bool, true, false, Option, Some, None, Result, Ok, Err, OnOk, IsTrue, refl, sym, ap, ◌∙◌, string_bytes, bytes_eq, append_nil}
+use Rattle.std.proofs.Common.{◌≡◌, ℕ, pos, List, [], ◌∷◌, ◌++◌, Bool, true, false, Option, Some, None, Result, Ok, Err, OnOk, IsTrue, refl, sym, ap, ◌∙◌, string_bytes, bytes_eq, append-nil}
 use Rattle.std.specs.Prelude.{if◌then◌else◌}
 use Rattle.std.specs.FinMap as table
 use Rattle.sqlite.specs.declared.types.Value.TheVariants.{Int, Text, Blob}
@@ -127,7 +127,7 @@ puts_no_sha512 image s is is_open rows within fits =
     }
   where
     by_test : (b : Bool) (lines : List Row) → lines ≡ (if b then lines ++ [] else lines)
-    by_test true lines = sym (append_nil lines)
+    by_test true lines = sym (append-nil lines)
     by_test false lines = refl
 
     same : (n : List ℕ) → rows.sha512s n ≡ changed_at image.file (λ were. were ++ sha512_lines image.file image.sha512) rows.sha512s n
