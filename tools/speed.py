@@ -116,13 +116,27 @@ def kinds_of_lines():
     yield "`add_vehicle`, of 4 ECUs", setup, [
         fleet.line("add_vehicle", vehicle="n%d" % at, primary="n%d-e0" % at, ecus=named("n%d" % at)) for at in few]
     yield "`add_image`, the 21st to the 30th", setup, [fleet.line("add_image", file="n%d" % at, **image) for at in few]
+    both = image | {"sha512": fleet.second("new")}
+    yield "the same with two hashes", setup, [fleet.line("add_image", file="n%d" % at, **both) for at in few]
     yield "`refresh`, with 20 images", setup, [fleet.line("refresh", version=100 + at) for at in few]
     yield "`open_campaign`, for all", setup, campaigns
     yield "`close_campaign`", setup + campaigns, [fleet.line("close_campaign", campaign="n%d" % at) for at in few]
     yield "a manifest of 4 ECUs", setup, manifests
     yield "its repeat", setup + manifests, manifests
+    for name, second in (("the next one", {}), ("the next one, of ECUs with two hashes", {"sha512": fleet.second("factory")})):
+        first, after = (list(numbered(desk, number, second)) for number in (1, 2))
+        yield name, setup + first, after
     yield "`fetch` of a Timestamp", setup, [fleet.line("fetch", repository="image", file="timestamp.json")] * 10
     yield "`show`, of 4 ECUs", setup + manifests, [fleet.line("show", vehicle="v%06d" % at) for at in few]
+
+
+def numbered(desk, number, second):
+    """A manifest of each vehicle, in which all ECUs report the factory's image, with a second hash or without."""
+    for name, ecus in desk.vehicles.items():
+        report = {"counter": number, "time": fleet.START, **fleet.FACTORY, **second}
+        reports = [report | {"ecu": ecu, "key": key} for ecu, _, key in ecus]
+        told = {"vehicle": name, "primary": ecus[0][0], "key": ecus[0][2], "counter": number, "reports": reports}
+        yield fleet.line("deliver", body=fleet.body(told))
 
 
 def commands(program, own):
