@@ -32,7 +32,7 @@ hashes_plain sha256 (Some hash) h k = rw (printable-hex sha256 h, printable-hex 
 -- ---- what they mean
 
 -- the digits of so many bytes
-pub spelled_hash : (size : ℕ) (d : Data) (name hash : List ℕ) → json.get name d ≡ Some (hex_value hash) → length hash ≡ size → list_all (λ x. nat_lt x 256) hash ≡ true → HasHex (2 * size) (2 * size) d name hash
+unfoldable pub spelled_hash : (size : ℕ) (d : Data) (name hash : List ℕ) → json.get name d ≡ Some (hex_value hash) → length hash ≡ size → list_all (λ x. nat_lt x 256) hash ≡ true → HasHex (2 * size) (2 * size) d name hash
 spelled_hash size d name hash has whole bytes =
     let digits = length-encode_with lower_digits hash in
     record {

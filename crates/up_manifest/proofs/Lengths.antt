@@ -87,23 +87,29 @@ envelope-length e n one h small =
 
 -- ---- reports
 
--- hexadecimal digits have no backslash before them
-needs_none : ℕ → Bool
+-- hexadecimal digits need no backslash before them
+abbrev needs_none : ℕ → Bool
 needs_none x = not ((x == 34) || (x == 92))
 
 unescaped : (t : List ℕ) → list_all needs_none t ≡ true → length (flat_map escaped t) ≡ length t
 unescaped [] h = refl
-unescaped (x ∷ t) h = by_test ((x == 34) || (x == 92)) refl
+unescaped (x ∷ t) h =
+    let p = and_parts (needs_none x) _ h in
+    let one = by_test ((x == 34) || (x == 92)) p.0 in
+    omega (arith, length-append (escaped x) (flat_map escaped t), one, unescaped t p.1)
   where
-    by_test : (b : Bool) → ((x == 34) || (x == 92)) ≡ b → length (flat_map escaped (x ∷ t)) ≡ suc (length t)
-    by_test true e = let p = and_parts (needs_none x) _ h in cc
-    by_test false e = let rest = unescaped t (and_parts (needs_none x) _ h).1 in rw (e) (ap suc rest)
+    by_test : (b : Bool) → not b ≡ true → length (cond b (92 ∷ x ∷ []) (x ∷ [])) ≡ 1
+    by_test true e = cc
+    by_test false e = refl
 
 hash-length : (xs : List ℕ) → list_all (λ x. nat_lt x 256) xs ≡ true → length (quoted (encode_lower xs)) ≡ 2 * length xs + 2
 hash-length xs h =
     let size = length-encode_with lower_digits xs in
     let plain = unescaped (encode_lower xs) (all-hex needs_none refl xs h) in
     omega (arith, length-append (flat_map escaped (encode_lower xs)) (34 ∷ []), plain, size)
+
+sum-nested : (a b c d e : List ℕ) → length (a ++ (b ++ (c ++ (d ++ e)))) ≡ length a + (length b + (length c + (length d + length e)))
+sum-nested a b c d e = simp length-append
 
 hashes-length : (xs : List ℕ) (o : Option (List ℕ)) → length xs ≡ 32 → list_all (λ x. nat_lt x 256) xs ≡ true → is_second_hash o ≡ true → length (text (hashes_value xs o)) ≤ 220
 hashes-length xs None size bytes h =
@@ -115,7 +121,7 @@ hashes-length xs (Some ys) size bytes h =
     let whole = sha512_size ys h in
     let second = hash-length ys (and_parts (length ys == 64) _ h).1 in
     let spelled : text (hashes_value xs (Some ys)) ≡ codes "{\"sha256\":" ++ (quoted (encode_lower xs) ++ (codes ",\"sha512\":" ++ (quoted (encode_lower ys) ++ codes "}"))) = refl in
-    omega (arith, ap length spelled ∙ sum-five (codes "{\"sha256\":") (quoted (encode_lower xs)) (codes ",\"sha512\":") (quoted (encode_lower ys)) (codes "}"), first, second)
+    omega (arith, ap length spelled ∙ sum-nested (codes "{\"sha256\":") (quoted (encode_lower xs)) (codes ",\"sha512\":") (quoted (encode_lower ys)) (codes "}"), first, second)
 
 installed-spelled : (r : Report) → text (installed_value r.image) ≡ codes "{\"file\":" ++ (quoted r.image.file ++ (codes ",\"hashes\":" ++ (text (hashes_value r.image.sha256 r.image.sha512) ++ (codes ",\"length\":" ++ (decimal r.image.length ++ codes "}")))))
 installed-spelled r = refl

@@ -5,3 +5,4 @@ pub mod Laws
 pub mod Values
 pub mod Lengths
 pub mod Built
+mod NoReport

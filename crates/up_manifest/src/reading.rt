@@ -86,9 +86,9 @@ fn report_of_text(alloc: Global, signed: &str) -> Result<Report, Refusal>
 fn report_of_value(alloc: Global, value: &Value) -> Result<Report, Refusal>
     ensures { Gives result (report_in (view value.now)) }
 {
-    match value {
-        Value::Object(members) => report_at(alloc, members),
-        _ => Err("type".into()),
+    match value.as_object() {
+        Some(members) => report_at(alloc, members),
+        None => Err("type".into()),
     }
 }
 
