@@ -12,7 +12,7 @@ import row_texts
 TOP = Path(__file__).resolve().parent.parent
 EXAMPLE = {"README.md", "script", "printed"}
 PRIMARY = {"primary.py", "envelopes.py", "verify.py", "director-secrets.json", "manifest-input.json", "manifest.json", "reply.json", "vehicle.json"}
-SERVICE = {"README.md", "nginx.conf", "haproxy.cfg", "uptane-desk.service", "uptane-desk-refresh.service", "uptane-desk-refresh.timer", "refresh.sh"}
+SERVICE = {"README.md", "nginx.conf", "haproxy.cfg", "uptane-desk.service", "uptane-desk-refresh.service", "uptane-desk-refresh.timer", "refresh.sh", "several"}
 ROW = {"script", "printed"}
 
 
