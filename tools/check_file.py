@@ -142,8 +142,9 @@ def amiss(path):
     """A line for each thing that is too much, missing or different in a file."""
     if not path.is_file():
         raise OSError("%s is no file" % path)
-    if not path.stat().st_size and not Path(str(path) + LOGS[0]).exists():
-        raise Other("it is empty")
+    with path.open("rb") as file:
+        if not file.read(1) and not Path(str(path) + LOGS[0]).exists():
+            raise Other("it is empty")
     with opened(path) as db:
         here = listed(db)
         number, found = named(db, here)

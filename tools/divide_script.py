@@ -78,7 +78,7 @@ class Division:
 
     def __init__(self, before, desks):
         self.desks, self.ecus = range(1, desks + 1), dict(before["ecus"])
-        self.vehicles, self.campaigns = dict(before["vehicles"]), dict(before["campaigns"])
+        self.vehicles, self.campaigns, self.taken = dict(before["vehicles"]), dict(before["campaigns"]), before["campaigns"]
         self.load = Counter({desk: 0 for desk in self.desks})
         self.load.update(self.vehicles.values())
         self.scripts = {desk: [] for desk in self.desks}
@@ -100,7 +100,7 @@ class Division:
 
     def parted(self, asked, line):
         """The line of each desk that gets one, and what is taken once it is done."""
-        word = asked.get("do")
+        word = asked.get("do") if isinstance(asked.get("do"), str) else None
         if word in FOR_ALL:
             return dict.fromkeys(self.desks, line), {"every": word != "fetch"}
         if word == "open_campaign":
@@ -143,6 +143,7 @@ class Division:
             return {1: line}, {}
         whole, before = canonical({"items": asked.get("items"), "vehicles": named}), self.campaigns.get(name)
         if before and before[1] != whole:
+            need(name in self.taken, "the campaign %s stands twice, with other members", name)
             # the name is taken: one desk that has it says so
             return {(before[0] or [1])[0]: line}, {}
         if named == "all":

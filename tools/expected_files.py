@@ -13,6 +13,7 @@ TOP = Path(__file__).resolve().parent.parent
 EXAMPLE = {"README.md", "script", "printed"}
 PRIMARY = {"primary.py", "envelopes.py", "verify.py", "director-secrets.json", "manifest-input.json", "manifest.json", "reply.json", "vehicle.json"}
 SERVICE = {"README.md", "nginx.conf", "haproxy.cfg", "uptane-desk.service", "uptane-desk-refresh.service", "uptane-desk-refresh.timer", "refresh.sh", "several"}
+SEVERAL = {"nginx.conf", "haproxy.cfg", "uptane-desk@.service"}
 ROW = {"script", "printed"}
 
 
@@ -69,6 +70,7 @@ def gaps():
     yield from apart("examples", listed(examples / "README.md"), folders(examples))
     for name in sorted(folders(examples)):
         yield from apart("examples/" + name, {"primary": PRIMARY, "service": SERVICE}.get(name, EXAMPLE), names(examples / name))
+    yield from apart("examples/service/several", SEVERAL, names(examples / "service" / "several"))
     yield from apart("rows", listed(rows / "README.md") | set(row_texts.REPLIES) | set(row_texts.FILES), folders(rows))
     for name in sorted(folders(rows)):
         yield from row_gaps(rows / name)

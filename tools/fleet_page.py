@@ -191,7 +191,7 @@ def bar(done, number):
 
 def campaign_rows(campaigns):
     for it in campaigns:
-        whom = "all %s" % many(it["vehicles"], "vehicle") if it["all"] else many(it["vehicles"], "vehicle")
+        whom = "all vehicles (%s)" % format(it["vehicles"], ",") if it["all"] else many(it["vehicles"], "vehicle")
         way = '<a href="#vehicles" data-filter="withheld">%s withheld</a>' % many(it["withheld"], "vehicle") if it["running"] and it["withheld"] else ""
         files = "<br>".join("<code>%s</code>" % html.escape(file) for file in it["files"])
         state = "" if it["running"] else ' <span class="tag">closed</span>'
@@ -223,7 +223,7 @@ def tiles(vehicles, now):
     """The numbers at the top, each with the filter that it sets."""
     silent = lambda it: it["seen"] is not None and it["seen"] < now - WEEK
     numbers = [
-        ("all", "vehicles", len(vehicles)),
+        ("all", "vehicle" if len(vehicles) == 1 else "vehicles", len(vehicles)),
         ("open", "with an open assignment", sum(any(e["assigned"] for e in it["ecus"]) for it in vehicles)),
         ("withheld", "withheld", sum(bool(it["withheld"]) for it in vehicles)),
         ("attack", "report an attack", sum(any(e["attack"] for e in it["ecus"]) for it in vehicles)),

@@ -1,6 +1,6 @@
 #!/usr/bin/env python3
-"""Tries what operators use beside the program: the makers of lines, the checker of scripts, the page of the fleet, and the
-queries and idioms of `docs/OPERATING.md`.
+"""Tries what operators use beside the program: the makers of lines, the checkers of scripts and of files, the page of the fleet,
+and the queries and idioms of `docs/OPERATING.md`.
 
     operator_cases.py PROGRAM
 """
@@ -19,6 +19,7 @@ import each_line
 import fleet
 import fleet_page
 import http_cases
+import page_sums
 import reference
 import schemas
 import trials
@@ -183,6 +184,113 @@ def checker():
         yield "the checker on %s" % script.parent.name, [it for it in found if "earlier" not in it] == []
 
 
+# ---- the checker of files
+
+
+# what someone does to a file of the latest schema, and what the checker has to say of it
+CHANGED = [
+    ("an index", ["CREATE INDEX by_hardware ON ecu (hardware)"], ["index by_hardware on ecu: it is too much"]),
+    ("an index of one rule more", ["CREATE UNIQUE INDEX Once ON image (sha256)"], ["index once on image: it is too much"]),
+    ("a trigger", ["CREATE TRIGGER told AFTER INSERT ON kept BEGIN DELETE FROM campaign; END"], ["trigger told on kept: it is too much"]),
+    ("a view", ["CREATE VIEW seen AS SELECT vehicle FROM vehicle"], ["view seen: it is too much"]),
+    ("a dropped table", ["DROP TABLE image_sha512"], ["table image_sha512: it is missing"]),
+    ("another table", ["CREATE TABLE notes (note TEXT)"], ["table notes: it is too much"]),
+    ("an added column", ["ALTER TABLE ecu ADD COLUMN note TEXT"], ["table ecu: the column note is too much"]),
+    ("a column of another name", ["ALTER TABLE meta RENAME COLUMN stamp TO moment"], ["table meta: the column stamp is missing", "table meta: the column moment is too much"]),
+    ("a column of another name, and back", ["ALTER TABLE meta RENAME COLUMN stamp TO moment", "ALTER TABLE meta RENAME COLUMN moment TO stamp"], []),
+    ("statistics", ["ANALYZE"], ["table sqlite_stat1: it is too much"]),
+    ("a number set back", ["UPDATE meta SET schema = 1"], ["table image_sha512: it is too much", "table retired: it is too much"]),
+    ("a number set forward", ["UPDATE meta SET schema = 4"], ["it is no database of this product: its schema is 4, and not one of 1, 2, 3"]),
+    ("another product", ["UPDATE meta SET app = 'desk'"], ["it is no database of this product: meta names 'desk' and not uptane_desk"]),
+    ("an empty meta", ["DELETE FROM meta"], ["meta: it has 0 rows and not one"]),
+    ("two rows in meta", ["INSERT INTO meta SELECT 2, app, schema, root, image_version, stamp FROM meta"], ["meta: it has 2 rows and not one"]),
+    ("no meta", ["DROP TABLE meta", "DROP TABLE retired", "DROP TABLE image_sha512"], ["table meta: it is missing"]),
+    ("no tables", ["DROP TABLE " + table for table in reversed(trials.TABLES)], ["it is no database of this product: it has no tables"]),
+]
+# the same columns, but another rule for one of them, another key or reference, or no strictness
+MADE_ANEW = [
+    ("a rule of a column", "running INTEGER NOT NULL", "running INTEGER NOT NULL CHECK (running < 2)", "table campaign: it is made by other words: create table campaign"),
+    ("a table that isn't strict", ") STRICT", ")", "table campaign: it is made by other words: create table campaign"),
+    ("a column of another kind", "items TEXT NOT NULL", "items BLOB NOT NULL", "table campaign: the column items is another"),
+    ("a column that may be null", "items TEXT NOT NULL", "items TEXT", "table campaign: the column items is another"),
+    ("one key more", "running INTEGER NOT NULL", "running INTEGER NOT NULL, UNIQUE (reach)", "table campaign: the key reach is too much"),
+    ("a reference", "items TEXT NOT NULL", "items TEXT NOT NULL REFERENCES image (file)", "table campaign: the reference items to image is too much"),
+]
+
+
+def check(path):
+    """The status and the lines of the checker of files; none where it says something on standard error, or changes what is there."""
+    before = {it.name: it.read_bytes() for it in path.parent.iterdir() if it.is_file()}
+    ran = subprocess.run([sys.executable, TOOLS / "check_file.py", path], capture_output=True, check=False)
+    after = {it.name: it.read_bytes() for it in path.parent.iterdir() if it.is_file()}
+    return (ran.returncode, ran.stdout.decode("ascii").splitlines()) if after == before and not ran.stderr else None
+
+
+def changed(path, to, statements):
+    """A copy of a file of the program's own in which SQLite carries out statements."""
+    trials.copied(path, to)
+    with closing(sqlite3.connect(to, isolation_level=None)) as db:
+        for statement in statements:
+            db.execute(statement)
+    return to
+
+
+def campaign_anew(old, new):
+    made = next(it for it in reference.schema() if reference.table_of(it) == "campaign")
+    assert made.count(old) == 1
+    return ["DROP TABLE campaign", made.replace(old, new)]
+
+
+def checked_files(program, own):
+    path = own / "first"
+    lines = (trials.TOP / "examples" / "fleet_day" / "script").read_text(encoding="ascii").split("\n")[:-1]
+    trials.printed(program, path, lines)
+    yield "a file of the program's own is as it has to be", check(path) == (0, [])
+    for number in reference.LACKS:
+        yield "one of schema %d" % number, check(schemas.written(path, own / ("written%d" % number), number)) == (0, [])
+        yield "one of schema %d with sums" % number, check(schemas.lowered(path, own / ("lowered%d" % number), number)) == (0, [])
+    stopped = trials.copied(path, own / "stopped")
+    yield "one with the log that a stop left", stop_after(program, stopped, fleet.line("refresh", version=1000)) and check(stopped) == (0, [])
+    anew = [(name, campaign_anew(old, new), said) for name, old, new, said in MADE_ANEW]
+    for name, statements, said in CHANGED + anew:
+        found = check(changed(path, own / "changed", statements))
+        wanted = said if isinstance(said, list) else [said]
+        yield "one with " + name, found is not None and found[0] == bool(wanted) and begin(found[1], wanted)
+    # (the log alone has the change)
+    other = trials.copied(path, own / "logged")
+    with closing(sqlite3.connect(other, isolation_level=None)) as db:
+        db.execute("PRAGMA journal_mode = WAL").fetchall()
+        db.execute("CREATE TABLE notes (note TEXT)")
+        yield "one whose log has a table more", trials.log_of(other).stat().st_size > 0 and check_beside(other) == (1, ["table notes: it is too much"])
+    for name, data in (("an empty file", b""), ("a text", b"no database\n"), ("half a file", path.read_bytes()[:2000])):
+        (own / "other").write_bytes(data)
+        found = check(own / "other")
+        yield "%s is none" % name, found is not None and found[0] == 1 and found[1][0].startswith("it is no database of this product: ")
+    ran = subprocess.run([sys.executable, TOOLS / "check_file.py", own / "none"], capture_output=True, check=False)
+    yield "no file", (ran.returncode, ran.stdout) == (2, b"") and ran.stderr.count(b"\n") == 1 and not (own / "none").exists()
+
+
+def stop_after(program, path, line):
+    """Whether the program was killed once this line was done, and left a log."""
+    with subprocess.Popen([program, "run", path], stdin=subprocess.PIPE, stdout=subprocess.PIPE) as running:
+        running.stdin.write(line.encode() + b"\n")
+        running.stdin.flush()
+        told = running.stdout.readline()
+        running.kill()
+    return told == b"done\n" and trials.log_of(path).exists() and trials.log_of(path).stat().st_size > 0
+
+
+def begin(lines, wanted):
+    """Whether the lines are as many as the wanted ones and begin like them."""
+    return len(lines) == len(wanted) and all(line.startswith(it) for line, it in zip(lines, wanted))
+
+
+def check_beside(path):
+    """The same of a file that a connection has open, whose index of the log may change."""
+    ran = subprocess.run([sys.executable, TOOLS / "check_file.py", path], capture_output=True, check=False)
+    return ran.returncode, ran.stdout.decode("ascii").splitlines()
+
+
 # ---- the page
 
 
@@ -293,6 +401,8 @@ def cases(program):
     with trials.folder() as own:
         yield from makers(program, own)
     yield from checker()
+    with trials.folder() as own:
+        yield from checked_files(program, own)
     with trials.folder() as own:
         yield from pages(program, own)
     with trials.folder() as own:

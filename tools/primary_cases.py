@@ -4,12 +4,15 @@
     primary_cases.py PROGRAM
 
 A vehicle of three ECUs goes its rounds over HTTP: nothing to install, an update of which one image comes late, a reply that is
-lost before the keys are rotated, one that has expired, a service that isn't there. Then each check of its verification is
-given metadata that breaks it alone, signed anew by the right keys.
+lost before the keys are rotated, one that has expired, an ECU that is replaced, a service that isn't there. The commands of the page's
+section on rounds are carried out as they stand. Then each check of its verification is given metadata that breaks it alone, signed
+anew by the right keys.
 """
 import copy
 import hashlib
 import json
+import os
+import re
 import sqlite3
 import subprocess
 import sys
@@ -162,6 +165,35 @@ def rounds(program, own):
     vehicle.file.write_text(json.dumps(vehicle.told() | {"counter": 1}), encoding="ascii")
     yield "a counter that was lost", with_service(program, path, vehicle)[:2] == (0, ["verified: version 8, targets 0"])
     yield "each round is a manifest", trials.rows(path)["vehicle"] == [("VIN-1", "gw", 8, 8)]
+    yield from replaced(program, path, vehicle)
+
+
+def replaced(program, path, vehicle):
+    """A workshop puts a new ECU in the place of one: the old one's reports are refused, and the new one gets the image that is due."""
+    line = fleet.line("replace_ecu", NOW, vehicle="VIN-1", old="left", ecu="left-2", hardware="BR", key=ecu_key(9))
+    yield "an ECU is replaced", trials.printed(program, path, [line]) == ["done"]
+    refused = 1, [], 'primary: 409 {"error":14,"text":"UnknownEcu left"}\n'
+    yield "a round with the old ECU", with_service(program, path, vehicle) == refused
+    told = vehicle.told()
+    new = told["ecus"][1] | {"ecu": "left-2", "secret": ecu_key(9), "counter": 0, "installed": vehicle_of({})["ecus"][1]["installed"]}
+    vehicle.file.write_text(json.dumps(told | {"ecus": [told["ecus"][0], new, told["ecus"][2]]}), encoding="ascii")
+    wanted = 0, ["left-2 installed brake-2.bin", "verified: version 9, targets 1"], ""
+    yield "a round with the new one", with_service(program, path, vehicle) == wanted and vehicle.releases() == [2, 2, 2]
+
+
+def by_the_page(program, own):
+    """The commands of the page's section on rounds, in an empty folder."""
+    page = (trials.TOP / "docs" / "PRIMARY.md").read_text(encoding="utf-8").split("\n## Rounds of a vehicle\n")[1].split("\n## ")[0]
+    (own / "bin").mkdir()
+    (own / "bin" / "uptane_desk").symlink_to(program)
+    (own / "empty").mkdir()
+    commands = "".join(re.findall(r"^    (.*\n)", page, re.MULTILINE)).replace("8080", str(http_cases.free_port())).replace("sleep 1", "sleep 3")
+    found = os.environ | {"PATH": "%s:%s" % (own / "bin", os.environ["PATH"]), "REPO": str(trials.TOP)}
+    ran = subprocess.run(["bash", "-c", commands], cwd=own / "empty", env=found, capture_output=True, check=False, timeout=120)
+    told = [line for line in ran.stdout.decode("ascii").splitlines() if not line.startswith("listening")]
+    first = ["done", "done", "reply V1 version 1 targets 0", "trusted: root version 1 of both repositories", "verified: version 2, targets 0"]
+    second = ["done", "done", "P1 installed gateway-1.bin", "verified: version 3, targets 1", "done"]
+    yield "the page's commands", told == first + second and b"Traceback" not in ran.stderr
 
 
 # ---- each check by itself
@@ -254,6 +286,7 @@ CHANGES = {
     "two images for an ECU": lambda it: it.resealed("targets", target(ecu="left")),
     "an image for other hardware": lambda it: it.ecus["gw"].update(hardware="GW-9"),
     "a release that is lower": lambda it: it.ecus["gw"]["installed"].update(release=3),
+    "an Image repository that has expired": lambda it: put(it, now=NOW + 2 * DAY),
     "an Image repository that goes back": lambda it: it.trust["image"]["versions"].update(targets=9),
     "a Root that has expired": lambda it: put(it, now=NOW + 366 * DAY),
     "a Root that the old keys didn't sign": lambda it: it.files.update({"director/2.root.json": resealed(it.second, key_of("director", "root", SECOND), lambda _: None)}),
@@ -320,6 +353,8 @@ def words():
 def cases(program):
     with trials.folder() as own:
         yield from rounds(program, own)
+    with trials.folder() as own:
+        yield from by_the_page(program, own)
     yield from checks()
     yield from words()
 

@@ -113,15 +113,18 @@ def campaign(name, vehicles):
 def afterwards(program, own, desks, lines):
     """Names that are taken at another desk, and what is no line on a vehicle, are answered as by one."""
     first, second = "v000000", "v000001"
-    told = [vehicle("new", "a1", second + "-e0"), vehicle("new", "a1", "a2"), vehicle(first, "b1"), "nope", "[]", '{"do":"show","at":1}',
-            fleet.line("show", vehicle="nobody"), fleet.line("deliver", body="{}"), campaign("few", [first]), campaign("few", [second]),
-            campaign("few", [first]), campaign("few", "all"), campaign("every", "all"), campaign("every", [second]),
-            fleet.line("close_campaign", campaign="few"), fleet.line("close_campaign", campaign="few"), fleet.line("close_campaign", campaign="none"),
-            fleet.line("close_campaign", campaign="every"), campaign("few", [first]), lines[0]]
+    told = [vehicle("new", "a1", second + "-e0"), vehicle("new", "a1", "a2"), vehicle(first, "b1"), "nope", "[]", '{"do":"show","at":1}', '{"do":{}}',
+            fleet.line("show", vehicle="nobody"), fleet.line("deliver", body="{}"), campaign("few", [first]), campaign("few", [first]),
+            campaign("every", "all"), fleet.line("close_campaign", campaign="none")]
     wanted = trials.printed(program, own / "one", told)
-    yield "names that are taken at another desk", desks.ran(told, MORE) == wanted and len(set(wanted)) > 8
+    yield "names that are taken at another desk", desks.ran(told, MORE) == wanted and len(set(wanted)) > 6
+    told = [campaign("few", [second]), campaign("few", "all"), campaign("every", [second]), fleet.line("close_campaign", campaign="few"),
+            fleet.line("close_campaign", campaign="few"), fleet.line("close_campaign", campaign="every"), campaign("few", [first]), lines[0]]
+    wanted = trials.printed(program, own / "one", told)
+    yield "and campaigns", desks.ran(told, MORE) == wanted and len(set(wanted)) == 4
     before = {path.name: path.read_bytes() for path in desks.folder.iterdir()}
-    cannot = [([campaign("x", ["nobody"])], MORE, "line 1: nobody is at no desk"), (["nope", campaign("x", ["nobody"])], MORE, "line 2: nobody is at no desk"),
+    cannot = [([campaign("x", [first]), campaign("x", [second])], MORE, "line 2: the campaign x stands twice, with other members"),
+              ([campaign("x", ["nobody"])], MORE, "line 1: nobody is at no desk"), (["nope", campaign("x", ["nobody"])], MORE, "line 2: nobody is at no desk"),
               ([fleet.line("replace_ecu", vehicle=first, old=first + "-e1", ecu=second + "-e0", hardware="HP", key=fleet.key(9))], MORE,
                "line 1: %s-e0 is an ECU's name at desk 2" % second), ([], DESKS, "4 desks: there were 6, and 64 are the most")]
     yield "what can't be divided", all(desks.split(script, number) == (1, [], "divide_script: %s\n" % words) for script, number, words in cannot)

@@ -6,6 +6,7 @@
     primary.py send URL < manifest-input.json     posts it to the Director at http://HOST:PORT, and prints the reply
     primary.py check SECRETS < reply.json         looks at a reply's signatures alone: SECRETS is a file with the Director's
                                                   secrets of each role, which verify as they sign
+    primary.py trust URL VEHICLE                  puts the first Root of each repository into VEHICLE, as where it is built
     primary.py round URL VEHICLE [IMAGES]         one round of a vehicle: a new manifest, the metadata of both repositories,
                                                   and what is to be installed, from the folder IMAGES
 
@@ -19,7 +20,8 @@ A report may have `"sha512": HEX` too.
 VEHICLE is a file that holds what the vehicle knows, `vehicle.json` for one; it is written anew in each round. It holds secrets: the
 ECUs' and those of the repositories' roles. In a vehicle each ECU signs its own report with its own key and hands the envelope to
 the Primary, and checks the metadata once more; here one program holds all keys. Images aren't served by the repositories: a round
-takes them from a folder, by their filenames, and leaves out those that aren't there yet.
+takes them from a folder, by their filenames, and leaves out those that aren't there yet. What `trust` fetches is believed as it
+comes: so that is done once, in the factory, and over a connection that nobody else can change.
 
 The status is 0 where all went well, 1 with a message where it didn't, and 2 where the words are wrong.
 """
@@ -154,16 +156,17 @@ def install(told, due, folder):
             print("%s installed %s" % (ecu["ecu"], target["file"]))
 
 
+def write(path, told):
+    """Writes the file whole or not at all, for its owner alone."""
+    new = path.with_name(path.name + ".new")
+    with open(os.open(new, os.O_WRONLY | os.O_CREAT | os.O_TRUNC, 0o600), "w", encoding="ascii") as file:
+        file.write(json.dumps(told, indent=1) + "\n")
+    os.replace(new, path)
+
+
 def go_round(url, path, images):
     told = json.loads(path.read_text(encoding="ascii"))
-
-    def save():
-        """Writes the file whole or not at all, for its owner alone."""
-        new = path.with_name(path.name + ".new")
-        with open(os.open(new, os.O_WRONLY | os.O_CREAT | os.O_TRUNC, 0o600), "w", encoding="ascii") as file:
-            file.write(json.dumps(told, indent=1) + "\n")
-        os.replace(new, path)
-
+    save = lambda: write(path, told)
     try:
         due, trusted = answered(told, url, save)
         told |= trusted | {"pending": None}
@@ -172,6 +175,16 @@ def go_round(url, path, images):
         print("verified: version %d, targets %d" % (told["director"]["versions"]["targets"], len(due)))
     finally:
         save()
+
+
+def trust(url, path):
+    """What a vehicle trusts from the beginning: root version 1 of both repositories, and no file yet."""
+    told, fetch = json.loads(path.read_text(encoding="ascii")), fetcher(url)
+    for repository in ("director", "image"):
+        root = fetch(repository + "/1.root.json")
+        verify.expect(root is not None, "%s has no 1.root.json", repository)
+        told[repository] = {"root": root, "versions": {}}
+    write(path, told)
 
 
 # ---- words
@@ -208,6 +221,9 @@ def carried_out(words):
     elif len(words) == 2 and words[0] == "check":
         check(sys.stdin.read(), json.loads(Path(words[1]).read_text(encoding="ascii")))
         print("the reply is signed as it must be")
+    elif len(words) == 3 and words[0] == "trust":
+        trust(words[1].rstrip("/"), Path(words[2]))
+        print("trusted: root version 1 of both repositories")
     elif len(words) in (3, 4) and words[0] == "round":
         go_round(words[1].rstrip("/"), Path(words[2]), Path(words[3]) if len(words) == 4 else None)
     else:

@@ -18,7 +18,7 @@ class Refused(Exception):
 
 
 class Old(Refused):
-    """The metadata was good once. A new manifest brings new metadata."""
+    """The Director's metadata was good once. A new manifest brings new metadata."""
 
 
 def expect(holds, words, *given, kind=Refused):
@@ -67,7 +67,7 @@ def check_files(trust, files, secrets, repository, now, vehicle=None):
         check_signed(files[role], root, role, secrets, what)
         expect((told["type"], told["repository"], told.get("vehicle")) == (role, repository, vehicle), "%s is another file", what)
         expect(told["version"] >= versions.get(role, 0), "%s goes back to version %d", what, told["version"])
-        expect(seconds(told["expires"]) > now, "%s has expired", what, kind=Old)
+        expect(seconds(told["expires"]) > now, "%s has expired", what, kind=Old if repository == "director" else Refused)
     named = files["timestamp"]["signed"]["meta"]["snapshot.json"]
     digest = hashlib.sha256(canonical(files["snapshot"]).encode("ascii")).hexdigest()
     expect(named["hashes"]["sha256"] == digest, "the %s Timestamp names another Snapshot", repository)
