@@ -14,7 +14,7 @@ use up_test_rows::sections::told;
 const NEVER: u64 = 1 << 40;
 
 /// A sweep of fewer calls is told: it would say too little.
-const FEW: u64 = 10;
+const FEW: u64 = 8;
 
 /// Which of the two disks fails.
 #[derive(Clone, Copy, Debug)]
