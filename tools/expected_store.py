@@ -390,6 +390,15 @@ def second_hashes():
     return section("second hashes", SECOND_HASHES, SECOND_HASHES_REFUSED, SECOND_HASH_READS) + "\n".join(rows) + "\n"
 
 
+def of_both(write):
+    """The write with a second hash, where it puts in an image or a report."""
+    if write[0] == "image":
+        return write[:1] + (write[1].replace(FIVE, f"{FIVE}+{ONE_HASH}"), *write[2:])
+    if write[0] == "accept":
+        return (*write[:-1], [told("b-v", "090009", "x/y.bin", FIVE, 7, member(ONE_HASH.upper()), ONE_HASH), *write[-1][1:]])
+    return write
+
+
 def damaged():
     """A second hash that no call of this product writes."""
     state = State()
@@ -418,13 +427,12 @@ def older_reports(name, schema):
 
 def computed():
     once = {write[0]: write for write in reversed(WRITES) if write[-1] != "some v,w hw:x/y.bin,hv:a.bin runs"}
-    in_order = [write for write in WRITES if write in once.values()]
+    in_order = [of_both(write) for write in WRITES if write in once.values()]
     return [
         section("all nine writes", [*WRITES, REPLACEMENT], REFUSED, READS),
         section("each disk call refused", [*in_order, REPLACEMENT], [], ONE_OF_EACH),
         second_hashes(),
         damaged(),
-        section("each disk call refused, with second hashes", SECOND_HASHES[:4], [], ["image c.bin", "images", "ecus v"]),
         older("a raise of schema 1 in files", 1, WRITES, FURTHER[:1], FEW_READS),
         older("a raise of schema 2 in files", 2, WRITES, FURTHER[:1], FEW_READS),
         older("a database of schema 1 in files", 1, WRITES, FURTHER, READS),
