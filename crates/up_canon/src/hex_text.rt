@@ -93,9 +93,9 @@ pub fn sha512_of(value: &Value, name: &'static str) -> Result<[u8; 64], &'static
         (λ fault. IsFault (hex_of_value 128 128 name.now (view value.now)) name.now fault.now) }
 {
     let text = text_of(value, name)?;
-    let mut hash = [0; 64];
-    match hex::decode_to_slice(text.as_bytes(), &mut hash[..]) {
-        Ok(()) => Ok(hash),
+    let mut bytes = [0; 64];
+    match hex::decode_to_slice(text.as_bytes(), &mut bytes[..]) {
+        Ok(()) => Ok(bytes),
         Err(_) => Err(name),
     }
 }
@@ -127,9 +127,9 @@ fn digits_of(alloc: Global, hash: &[u8; 32]) -> Result<String, AllocError>
     hex::encode(alloc, *hash)
 }
 
-fn more_digits_of(alloc: Global, hash: &[u8; 64]) -> Result<String, AllocError>
-    ensures value { IfOk result (λ t. string_bytes t ≡ encode_lower hash.now) }
-    ensures typed { is_sha512 hash.now ≡ true }
+fn more_digits_of(alloc: Global, second: &[u8; 64]) -> Result<String, AllocError>
+    ensures value { IfOk result (λ t. string_bytes t ≡ encode_lower second.now) }
+    ensures typed { is_sha512 second.now ≡ true }
 {
-    hex::encode(alloc, *hash)
+    hex::encode(alloc, *second)
 }

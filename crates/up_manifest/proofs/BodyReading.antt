@@ -44,7 +44,7 @@ installed_there d i h =
     ∙ bind-ok _ _ _ (sha256_there (codes "sha256") h.hashes i.sha256 h.sha256)
     ∙ ap (λ (o : Option (List ℕ)). Ok (record { file = i.file; length = i.length; sha256 = i.sha256; sha512 = o })) (sha512_there h.hashes i.sha512 h.sha512)
 
-report_read : (d : Data) (r : Report) → report_in d ≡ Ok r → MeansReport d r
+pub report_read : (d : Data) (r : Report) → report_in d ≡ Ok r → MeansReport d r
 unfolding report_in
 report_read d r h =
     first_ok _ _ _ _ h (λ x a h. first_ok _ _ _ _ h (λ ecu b h. first_ok _ _ _ _ h (λ counter c h. first_ok _ _ _ _ h (λ time e h.

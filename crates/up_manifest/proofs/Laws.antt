@@ -4,12 +4,14 @@ use Rattle.std.specs.Prelude.{MatchResult, option_and_then}
 use Rattle.std.specs.List.{AllByRecursion}
 use Rattle.serde_json.specs.Data.{Data, Items, no_items, item}
 use Rattle.serde_json.specs.Read.{read}
+use Rattle.std.specs.Cmp.Lexicographic.{bytes_decides}
 use Rattle.up_canon.specs.Canon.{CanonIsRead}
+use Rattle.up_canon.specs.Refusals.{canonical_text}
 use Rattle.up_canon.specs.Meaning.{EachMeans}
 use Rattle.up_canon.specs.Steps.{or_error, value_of}
-use Rattle.up_canon.proofs.Steps.{bind-ok, value_of_some}
+use Rattle.up_canon.proofs.Steps.{bind-ok, unless_there, value_of_some}
 use Rattle.up_canon.specs.declared.refusal.Refusal.{Refusal}
-use Rattle.up_canon.specs.declared.refusal.Refusal.TheVariants.{NotJson}
+use Rattle.up_canon.specs.declared.refusal.Refusal.TheVariants.{NotJson, NotCanonical}
 use Rattle.up_sign.specs.Laws.{IsTextFault}
 use Rattle.up_manifest.specs.Manifests.{incoming_in, manifest_in, manifest_of, report_text_in, report_of}
 use Rattle.up_manifest.specs.Meaning.{MeansBody, MeansSignedReport}
@@ -42,9 +44,14 @@ signed_texts_mean read_again body i h =
 -- of one report, and of each of a list
 
 report_text_means : CanonIsRead → (d : Data) (r : SignedReport) → MeansSignedReport d r → report_of r.envelope.signed ≡ Some r.report
-unfolding report_text_in
+unfolding report_text_in canonical_text
 report_text_means read_again d r m =
-    ap value_of (bind-ok _ _ m.payload (ap (or_error NotJson) (read_again m.payload r.envelope.signed m.envelope.signed.0)) ∙ report_there m.payload r.report m.report)
+    let is = m.envelope.signed.0 in
+    ap value_of (
+    bind-ok _ _ m.payload (ap (or_error NotJson) (read_again m.payload r.envelope.signed is))
+    ∙ bind-ok _ _ r.envelope.signed (ap (or_error NotCanonical) is)
+    ∙ bind-ok _ _ tt (unless_there _ _ ((bytes_decides r.envelope.signed r.envelope.signed).1 refl))
+    ∙ report_there m.payload r.report m.report)
 
 each_text_means : CanonIsRead → (listed : Items) (rs : List SignedReport) → EachMeans MeansSignedReport listed rs → AllByRecursion (λ r. report_of r.envelope.signed ≡ Some r.report) rs
 each_text_means read_again no_items [] h = tt

@@ -5,4 +5,5 @@ pub mod Laws
 pub mod Values
 pub mod Lengths
 pub mod Built
-mod NoReport
+pub mod Parts
+pub mod NoReport

@@ -1,10 +1,11 @@
 -- What a manifest's body means, or the first fault of it.
-use Rattle.std.specs.Prelude.{ℕ, List, Option, option_and_then, Result, Ok, codes}
+use Rattle.std.specs.Prelude.{ℕ, List, bytes_eq, Option, option_and_then, Result, Ok, codes}
 use Rattle.serde_json.specs.Data.{Data}
 use Rattle.serde_json.specs.Read.{read}
-use Rattle.up_canon.specs.Steps.{◌>>=◌, each, or_error, value_of}
+use Rattle.up_canon.specs.Steps.{◌>>=◌, each, or_error, unless, value_of}
 use Rattle.up_canon.specs.declared.refusal.Refusal.{Refusal}
-use Rattle.up_canon.specs.declared.refusal.Refusal.TheVariants.{NotJson}
+use Rattle.up_canon.specs.declared.refusal.Refusal.TheVariants.{NotJson, NotCanonical}
+use Rattle.up_canon.specs.Refusals.{canonical_text}
 use Rattle.up_canon.specs.HexText.{sha256_in, sha512_in}
 use Rattle.up_canon.specs.JsonText.{value_within}
 use Rattle.up_canon.specs.Members.{count_in, object_in}
@@ -82,10 +83,12 @@ incoming_in body = do
 unfoldable pub manifest_of : List ℕ → Option Manifest
 manifest_of signed = option_and_then (λ d. value_of (manifest_in d)) (read signed)
 
--- the report that a signed text has in it, or its first fault
+-- the report whose canonical text it is, which its ECU signs, or the first fault
 unfoldable pub report_text_in : List ℕ → Result Report Refusal
 report_text_in signed = do
   d ← or_error NotJson (read signed)
+  written ← canonical_text d
+  is_canonical ← unless (bytes_eq written signed) NotCanonical
   report_in d
 
 -- the report of a signed text

@@ -1,5 +1,5 @@
 //! Reading reports and manifests.
-ghost use Rattle.std.specs.Prelude.{◌≡◌, ◌<◌, Err, IfOk, length};
+ghost use Rattle.std.specs.Prelude.{◌≡◌, ◌<◌, false, None, Err, IfOk, length};
 ghost use Rattle.serde_json.specs.View.{view};
 ghost use Rattle.up_canon.specs.Members.{object_of_map};
 ghost use Rattle.up_canon.specs.Refusals.{Gives};
@@ -11,6 +11,7 @@ use crate::manifest::{Incoming, Manifest};
 use crate::report::{Installed, Report, SignedReport};
 use serde_json::{Map, Value};
 use std::alloc::{AllocError, Global};
+use up_canon::canonical::canonical;
 use up_canon::each::{Reading, each_of};
 use up_canon::fields::{count_at, object_at};
 use up_canon::hex_text::{sha256_at, sha512_at};
@@ -68,6 +69,9 @@ fn reports_at(alloc: Global, payload: &Map<String, Value>) -> Result<Listed<Sign
 pub fn report_sha512(alloc: Global, signed: &str) -> Result<Option<[u8; 64]>, AllocError>
     ensures { IfOk result (λ hash. hash ≡ report_sha512_of signed.now) }
 {
+    if !may_have_second_hash(signed) {
+        return Ok(None);
+    }
     match report_of_text(alloc, signed) {
         Ok(report) => Ok(report.image.sha512),
         Err(Refusal::Memory) => Err(AllocError),
@@ -75,11 +79,22 @@ pub fn report_sha512(alloc: Global, signed: &str) -> Result<Option<[u8; 64]>, Al
     }
 }
 
+/// Whether the text may have a second hash, told without reading it: in a canonical text its name stands as it is.
+fn may_have_second_hash(signed: &str) -> bool
+    ensures { result ≡ false → report_sha512_of signed.now ≡ None }
+{
+    signed.contains("sha512")
+}
+
+/// The report whose canonical text it is.
 #[tactic(auto, unfolding(crate::specs::Manifests::report_text_in, up_canon::specs::Steps::and_then))]
 fn report_of_text(alloc: Global, signed: &str) -> Result<Report, Refusal>
     ensures { Gives result (report_text_in signed.now) }
 {
     let value = value_of_text(alloc, signed)?;
+    if canonical(alloc, &value)?.as_str() != signed {
+        return Err(Refusal::NotCanonical);
+    }
     report_of_value(alloc, &value)
 }
 

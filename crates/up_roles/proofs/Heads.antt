@@ -1,26 +1,23 @@
 -- The members of a payload that was written, and what they mean.
-use Rattle.std.proofs.Common.{◌≡◌, ℕ, ◌*◌, List, [], ◌∷◌, Bool, true, Option, Some, None, Result, Ok, length, map, refl, sym, ap, ◌∙◌, arith}
-use Rattle.std.specs.Prelude.{codes, nat_le, nat_lt, ◌==◌, ◌&&◌}
+use Rattle.std.proofs.Common.{◌≡◌, ℕ, List, [], ◌∷◌, Bool, true, Option, Some, None, Result, Ok, length, map, refl, sym, ap, ◌∙◌, arith}
+use Rattle.std.specs.Prelude.{codes, nat_le, ◌==◌, ◌&&◌}
 use Rattle.std.specs.List.{list_all}
 use Rattle.std.proofs.lemmas.Bool.{and_parts}
 use Rattle.std.proofs.lemmas.Bool.Decides.{nat_tests}
-use Rattle.hex.specs.Hex.{encode_lower, lower_digits}
-use Rattle.hex.proofs.HexLemmas.{length-encode_with, decode_of-encode_lower}
-use Rattle.serde_json.specs.Data.{Data, string, object, Members}
+use Rattle.serde_json.specs.Data.{Data, object}
 use Rattle.serde_json.specs.Find as json
 use Rattle.serde_json.specs.View.{items_of}
-use Rattle.up_canon.specs.Build.{count_value, hex_value, hashes_value}
+use Rattle.up_canon.specs.Build.{count_value, hashes_value}
 use Rattle.up_canon.specs.Canon.{max_count}
 use Rattle.up_canon.specs.Meaning.{HasText, HasCount, MeansIfAny, EachMeans}
 use Rattle.up_canon.specs.Moments.{moment_text}
 use Rattle.up_canon.specs.Names.{Name}
 use Rattle.up_canon.specs.Steps.{each}
 use Rattle.up_canon.specs.declared.refusal.Refusal.{Refusal}
-use Rattle.up_canon.proofs.ByteTests.{bytes_placed}
-use Rattle.up_canon.proofs.Hashes.{first_hash, sha512_size}
+use Rattle.up_canon.proofs.Hashes.{first_hash, spelled_hash, sha512_size}
 use Rattle.up_canon.proofs.Printable.{both, all-hex}
-use Rattle.up_canon.proofs.Steps.{bind-ok, one_value}
-use Rattle.up_roles.specs.Meaning.{HasPositive, HasName, HasHash, HasSha256, HasSha512, MeansHead}
+use Rattle.up_canon.proofs.Steps.{bind-ok}
+use Rattle.up_roles.specs.Meaning.{HasPositive, HasName, HasSha256, HasSha512, MeansHead}
 use Rattle.up_roles.specs.Parts.{is_lower_digit}
 use Rattle.up_canon.specs.HexText.{is_hash, is_second_hash}
 use Rattle.up_roles.specs.Payload.{repository_text, version_fits, name_fits, is_named, is_moment}
@@ -49,38 +46,36 @@ name_means Director d name None fits h has = cc
 name_means Image d name (Some t) fits h has = cc
 name_means Image d name None fits h has = tt
 
--- the lower case digits of so many bytes
-hash_means : (size : ℕ) (d : Data) (ms : Members) (name hash : List ℕ) → json.get (codes "hashes") d ≡ Some (object ms) → json.get name (object ms) ≡ Some (hex_value hash)
-    → length hash ≡ size → list_all (λ x. nat_lt x 256) hash ≡ true → HasHash (2 * size) name d hash
-hash_means size d ms name hash has has_hash whole bytes =
-    let digits = length-encode_with lower_digits hash in
+pub sha256_means : (d : Data) (hash : List ℕ) (second : Option (List ℕ)) → json.get (codes "hashes") d ≡ Some (hashes_value hash second) → is_hash hash ≡ true → HasSha256 d hash
+unfolding spelled_hash
+sha256_means d hash second has h =
+    let p = and_parts (length hash == 32) _ h in
+    let whole = p.0 in
+    let size : length hash ≡ 32 = grind (arith, nat_tests) in
     record {
-      hashes = object ms;
-      has_hashes = (ms, has, refl);
-      spelled = record {
-        digits = encode_lower hash;
-        has_digits = has_hash;
-        at_least = omega arith;
-        at_most = omega arith;
-        decoded = decode_of-encode_lower hash (bytes_placed hash bytes);
-      };
-      lower = all-hex is_lower_digit refl hash bytes;
+      hashes = hashes_value hash second;
+      has_hashes = (_, has, refl);
+      spelled = spelled_hash 32 (hashes_value hash second) (codes "sha256") hash (first_hash hash second) size p.1;
+      lower = all-hex is_lower_digit refl hash p.1;
     }
 
-pub sha256_means : (d : Data) (sha256 : List ℕ) (sha512 : Option (List ℕ)) → json.get (codes "hashes") d ≡ Some (hashes_value sha256 sha512) → is_hash sha256 ≡ true → HasSha256 d sha256
-sha256_means d sha256 sha512 has h =
-    let p = and_parts (length sha256 == 32) _ h in
-    let whole = p.0 in
-    let size : length sha256 ≡ 32 = grind (arith, nat_tests) in
-    hash_means 32 d _ (codes "sha256") sha256 has (first_hash sha256 sha512) size p.1
-
--- where no second hash is written, none is read
-pub sha512_means : (d : Data) (sha256 : List ℕ) (sha512 : Option (List ℕ)) → json.get (codes "hashes") d ≡ Some (hashes_value sha256 sha512) → is_second_hash sha512 ≡ true → MeansIfAny (HasSha512 d) sha512
-sha512_means d sha256 None has h = λ hash m.
-    let same : object m.has_hashes.0 ≡ hashes_value sha256 None = one_value (json.get (codes "hashes") d) (object m.has_hashes.0) (hashes_value sha256 None) m.has_hashes.1 has in
-    let there : json.get (codes "sha512") (hashes_value sha256 None) ≡ Some (string m.spelled.digits) = ap (json.get (codes "sha512")) (sym (m.has_hashes.2 ∙ same)) ∙ m.spelled.has_digits in
+pub sha512_means : (d : Data) (first : List ℕ) (o : Option (List ℕ)) → json.get (codes "hashes") d ≡ Some (hashes_value first o) → is_second_hash o ≡ true → MeansIfAny (HasSha512 d) o
+unfolding spelled_hash
+sha512_means d first None has h = λ hash m.
+    let members = m.has_hashes.0 in
+    let one : Some (hashes_value first None) ≡ Some (object members) = sym has ∙ m.has_hashes.1 in
+    let same : hashes_value first None ≡ object members = cc in
+    let none : None ≡ json.get (codes "sha512") m.hashes = ap (json.get (codes "sha512")) (same ∙ sym m.has_hashes.2) in
+    let there = m.spelled.has_digits in
     cc
-sha512_means d sha256 (Some hash) has h = hash_means 64 d _ (codes "sha512") hash has refl (sha512_size hash h) (and_parts (length hash == 64) _ h).1
+sha512_means d first (Some hash) has h =
+    let p = and_parts (length hash == 64) _ h in
+    record {
+      hashes = hashes_value first (Some hash);
+      has_hashes = (_, has, refl);
+      spelled = spelled_hash 64 (hashes_value first (Some hash)) (codes "sha512") hash refl (sha512_size hash h) p.1;
+      lower = all-hex is_lower_digit refl hash p.1;
+    }
 
 -- ---- what each payload says of itself
 

@@ -33,7 +33,7 @@ use Rattle.up_roles.specs.declared.snapshot.SnapshotFile.{SnapshotFile}
 use Rattle.up_roles.specs.declared.targets.Target.{Target}
 use Rattle.up_roles.specs.declared.targets.TargetsFile.{TargetsFile}
 use Rattle.up_roles.specs.declared.timestamp.TimestampFile.{TimestampFile}
-use Rattle.up_roles.proofs.MeantParts.{Moments, count_part_read, count_part_there, positive_part_read, positive_part_there, object_part_read, object_part_there, ident_part_read, ident_part_there, file_name_part_read, file_name_part_there, few_part_read, few_part_there, hash_part_read, hash_part_there, sha512_part_read, sha512_part_there, head_read, head_there, vehicle_read, vehicle_there, count_part_fails, positive_part_fails, object_part_fails, ident_of_fails, ident_part_fails, file_name_part_fails, few_part_fails, hash_part_fails, head_fails, vehicle_fails}
+use Rattle.up_roles.proofs.MeantParts.{Moments, count_part_read, count_part_there, positive_part_read, positive_part_there, object_part_read, object_part_there, ident_part_read, ident_part_there, file_name_part_read, file_name_part_there, few_part_read, few_part_there, sha256_part_read, sha256_part_there, sha512_part_read, sha512_part_there, head_read, head_there, vehicle_read, vehicle_there, count_part_fails, positive_part_fails, object_part_fails, ident_of_fails, ident_part_fails, file_name_part_fails, few_part_fails, sha256_part_fails, head_fails, vehicle_fails}
 
 shapes : AllowsShapes IsTextFault
 shapes = record { shape = λ name. tt }
@@ -107,7 +107,7 @@ timestamp_read moments d file h =
       entry = entry;
       listing = listing_read moments (codes "timestamp") (codes "snapshot.json") d meta entry head vehicle a b g c;
       snapshot_version = positive_part_read (codes "meta") (codes "version") entry version e;
-      snapshot_sha256 = hash_part_read 32 (codes "meta") (codes "sha256") entry hash f;
+      snapshot_sha256 = sha256_part_read (codes "meta") entry hash f;
     })))))))
 
 timestamp_there : Moments → (d : Data) (file : TimestampFile) → MeansTimestamp d file → timestamp_of d ≡ Ok file
@@ -116,7 +116,7 @@ timestamp_there moments d file h =
     heading_there moments (codes "timestamp") d file.repository file.version file.expires file.vehicle _ h.listing.head h.listing.vehicle
     ∙ bind-ok _ _ h.entry (bind-ok _ _ h.listing.meta (object_there (codes "meta") d h.listing.meta h.listing.has_meta) ∙ object_part_there (codes "meta") (codes "snapshot.json") h.listing.meta h.entry h.listing.has_entry)
     ∙ bind-ok _ _ file.snapshot_version (positive_part_there (codes "meta") (codes "version") h.entry file.snapshot_version h.snapshot_version)
-    ∙ bind-ok _ _ file.snapshot_sha256 (hash_part_there 32 (codes "meta") (codes "sha256") h.entry file.snapshot_sha256 h.snapshot_sha256)
+    ∙ bind-ok _ _ file.snapshot_sha256 (sha256_part_there (codes "meta") h.entry file.snapshot_sha256 h.snapshot_sha256)
 
 timestamp_fails : (d : Data) → Fails IsTextFault (timestamp_of d)
 unfolding timestamp_of timestamp_entry_in
@@ -124,7 +124,7 @@ timestamp_fails d =
     heading_fails (codes "timestamp") d _ (λ head vehicle.
     then_fails _ _ (then_fails _ _ (object_fails shapes (codes "meta") d) (λ meta. object_part_fails shapes (codes "meta") (codes "snapshot.json") meta)) (λ entry.
     then_fails _ _ (positive_part_fails shapes (codes "meta") (codes "version") entry) (λ version.
-    then_fails _ _ (hash_part_fails shapes 32 (codes "meta") (codes "sha256") entry) (λ hash. ok_fails _))))
+    then_fails _ _ (sha256_part_fails shapes (codes "meta") entry) (λ hash. ok_fails _))))
 
 pub timestamps_read : Moments → ReadsAs timestamp_of MeansTimestamp
 timestamps_read moments = record { read = timestamp_read moments; there = λ d file plain h. timestamp_there moments d file h; fails = timestamp_fails }
@@ -207,7 +207,7 @@ target_read r value target h =
       has_hardware = kinds.has_hardware;
       hardware = kinds.each_kind;
       some_distinct = rw (kinds.number, kinds.distinct) refl;
-      sha256 = hash_part_read 32 (codes "targets") (codes "sha256") d sha256 e;
+      sha256 = sha256_part_read (codes "targets") d sha256 e;
       sha512 = sha512_part_read d;
       size = count_part_read (codes "targets") (codes "length") d size f;
       release = count_part_read (codes "targets") (codes "release") d release g;
@@ -221,7 +221,7 @@ target_there r d target h =
     ∙ bind-ok _ _ target.ecu (ecu_there r d target.ecu h.ecu)
     ∙ bind-ok _ _ target.file (file_name_part_there (codes "targets") (codes "file") d target.file h.file h.file_fits)
     ∙ bind-ok _ _ target.hardware (hardware_there d target.hardware (record { kinds = h.kinds; has_hardware = h.has_hardware; each_kind = h.hardware; number = few.0; distinct = few.1 }))
-    ∙ bind-ok _ _ target.sha256 (hash_part_there 32 (codes "targets") (codes "sha256") d target.sha256 h.sha256)
+    ∙ bind-ok _ _ target.sha256 (sha256_part_there (codes "targets") d target.sha256 h.sha256)
     ∙ bind-ok _ _ target.length (count_part_there (codes "targets") (codes "length") d target.length h.size)
     ∙ bind-ok _ _ target.release (count_part_there (codes "targets") (codes "release") d target.release h.release)
     ∙ ap (λ (o : Option (List ℕ)). Ok (record { ecu = target.ecu; file = target.file; length = target.length; sha256 = target.sha256; sha512 = o; hardware = target.hardware; release = target.release })) (sha512_part_there d target.sha512 h.sha512)
@@ -233,7 +233,7 @@ target_fails r value =
     then_fails _ _ (ecu_fails r d) (λ ecu.
     then_fails _ _ (file_name_part_fails shapes (codes "targets") (codes "file") d) (λ file.
     then_fails _ _ (hardware_fails d) (λ hardware.
-    then_fails _ _ (hash_part_fails shapes 32 (codes "targets") (codes "sha256") d) (λ sha256.
+    then_fails _ _ (sha256_part_fails shapes (codes "targets") d) (λ sha256.
     then_fails _ _ (count_part_fails shapes (codes "targets") (codes "length") d) (λ size.
     then_fails _ _ (count_part_fails shapes (codes "targets") (codes "release") d) (λ release. ok_fails _)))))))
 

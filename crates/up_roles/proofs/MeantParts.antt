@@ -20,8 +20,8 @@ use Rattle.up_canon.specs.declared.refusal.Refusal.TheVariants.{BadShape}
 use Rattle.up_canon.proofs.Faults.{Fails, AllowsShapes, then_fails, ok_fails, or_error_fails, fitting_fails, self_fails, text_fails, word_fails, positive_fails, ident_fails}
 use Rattle.up_canon.proofs.Members.{is_text, is_number, is_list, is_some_object, text_read, text_there, ident_read, ident_there, word_read, word_there, positive_read, positive_there, fits_read, fits_there, if_any_read, if_any_there}
 use Rattle.up_canon.proofs.Steps.{first_ok, bind-ok, same_ok, or_error_ok, value_of_some}
-use Rattle.up_roles.specs.Meaning.{HasPositive, HasName, HasHash, HasSha512, MeansHead}
-use Rattle.up_roles.specs.Parts.{part_in, object_part, few_part, text_part, count_part, positive_part, ident_part, file_name_part, is_lower_digit, digits_part, hash_part, sha512_part}
+use Rattle.up_roles.specs.Meaning.{HasPositive, HasName, HasHash, HasSha256, HasSha512, MeansHead}
+use Rattle.up_roles.specs.Parts.{part_in, object_part, few_part, text_part, count_part, positive_part, ident_part, file_name_part, is_lower_digit, digits_part, hash_part, sha256_part, sha512_part}
 use Rattle.up_roles.specs.Payload.{repository_text, repository_of, repository_in, expires_in, head_in, vehicle_in}
 use Rattle.up_roles.specs.declared.payload.Head.{Head}
 use Rattle.up_roles.specs.declared.repository.Repository.{Repository}
@@ -118,65 +118,49 @@ few_part_there least most fault name d items has few =
     ∙ bind-ok _ _ (items_list items) refl
     ∙ fits_there (λ vs. is_from_to least most (length vs)) fault (items_list items) few
 
--- a text of lower case digits among the hashes
-record HasDigits (name : List ℕ) (d : Data) (digits : List ℕ) : Type 0 where
-  hashes : Data
-  has_hashes : HasObject d (codes "hashes") hashes
-  has_digits : HasText hashes name digits
-  lower : list_all is_lower_digit digits ≡ true
-
-digits_part_read : (fault name : List ℕ) (d : Data) (digits : List ℕ) → digits_part fault name d ≡ Ok digits → HasDigits name d digits
-unfolding digits_part
-digits_part_read fault name d digits h = first_ok _ _ _ _ h (λ hashes a h. first_ok _ _ _ _ h (λ t b h.
-    let p = fits_read (list_all is_lower_digit) fault t digits h in
-    record {
-      hashes = hashes;
-      has_hashes = object_part_read fault (codes "hashes") d hashes a;
-      has_digits = subst (HasText hashes name) p.1 (text_part_read fault name hashes t b);
-      lower = p.0;
-    }))
-
-digits_part_there : (fault name : List ℕ) (d : Data) (digits : List ℕ) → HasDigits name d digits → digits_part fault name d ≡ Ok digits
-unfolding digits_part
-digits_part_there fault name d digits h =
-    bind-ok _ _ h.hashes (object_part_there fault (codes "hashes") d h.hashes h.has_hashes)
-    ∙ bind-ok _ _ digits (text_part_there fault name h.hashes digits h.has_digits)
-    ∙ fits_there (list_all is_lower_digit) fault digits h.lower
-
-pub hash_part_read : (size : ℕ) (fault name : List ℕ) (d : Data) (hash : List ℕ) → hash_part size fault name d ≡ Ok hash → HasHash (2 * size) name d hash
-unfolding hash_part
-hash_part_read size fault name d hash h = first_ok _ _ _ _ h (λ digits a h.
-    let has = digits_part_read fault name d digits a in
+hash_part_read : (size : ℕ) (fault name : List ℕ) (d : Data) (hash : List ℕ) → hash_part size fault name d ≡ Ok hash → HasHash (2 * size) name d hash
+unfolding hash_part digits_part
+hash_part_read size fault name d hash h = first_ok _ _ _ _ h (λ digits a h. first_ok _ _ _ _ a (λ hashes b a. first_ok _ _ _ _ a (λ given c a.
+    let p = fits_read (list_all is_lower_digit) fault given digits a in
     let decoded = value_of_some (decode_sized digits size) hash (or_error_ok _ _ hash h) in
     let whole = decode_sized-ok digits size hash decoded in
     record {
-      hashes = has.hashes;
-      has_hashes = has.has_hashes;
+      hashes = hashes;
+      has_hashes = object_part_read fault (codes "hashes") d hashes b;
       spelled = record {
         digits = digits;
-        has_digits = has.has_digits;
+        has_digits = subst (HasText hashes name) p.1 (text_part_read fault name hashes given c);
         at_least = omega arith;
         at_most = omega arith;
         decoded = sym (decode_sized-twice digits size whole) ∙ decoded;
       };
-      lower = has.lower;
-    })
+      lower = p.0;
+    })))
 
-pub hash_part_there : (size : ℕ) (fault name : List ℕ) (d : Data) (hash : List ℕ) → HasHash (2 * size) name d hash → hash_part size fault name d ≡ Ok hash
-unfolding hash_part
+hash_part_there : (size : ℕ) (fault name : List ℕ) (d : Data) (hash : List ℕ) → HasHash (2 * size) name d hash → hash_part size fault name d ≡ Ok hash
+unfolding hash_part digits_part
 hash_part_there size fault name d hash h =
     let low = h.spelled.at_least in
     let high = h.spelled.at_most in
-    bind-ok _ _ h.spelled.digits (digits_part_there fault name d h.spelled.digits (record { hashes = h.hashes; has_hashes = h.has_hashes; has_digits = h.spelled.has_digits; lower = h.lower }))
+    bind-ok _ _ h.spelled.digits (
+    bind-ok _ _ h.hashes (object_part_there fault (codes "hashes") d h.hashes h.has_hashes)
+    ∙ bind-ok _ _ h.spelled.digits (text_part_there fault name h.hashes h.spelled.digits h.spelled.has_digits)
+    ∙ fits_there (list_all is_lower_digit) fault h.spelled.digits h.lower)
     ∙ ap (λ r. or_error (BadShape fault) (value_of r)) (decode_sized-twice h.spelled.digits size (omega arith) ∙ h.spelled.decoded)
+
+pub sha256_part_read : (fault : List ℕ) (d : Data) (hash : List ℕ) → sha256_part fault d ≡ Ok hash → HasSha256 d hash
+sha256_part_read fault = hash_part_read 32 fault (codes "sha256")
+
+pub sha256_part_there : (fault : List ℕ) (d : Data) (hash : List ℕ) → HasSha256 d hash → sha256_part fault d ≡ Ok hash
+sha256_part_there fault = hash_part_there 32 fault (codes "sha256")
 
 pub sha512_part_read : (d : Data) → MeansIfAny (HasSha512 d) (sha512_part d)
 sha512_part_read d =
-    if_any_read _ (hash_part 64 (codes "hashes") (codes "sha512") d) (hash_part_read 64 (codes "hashes") (codes "sha512") d) (hash_part_there 64 (codes "hashes") (codes "sha512") d)
+    if_any_read (HasSha512 d) (hash_part 64 (codes "hashes") (codes "sha512") d) (hash_part_read 64 (codes "hashes") (codes "sha512") d) (hash_part_there 64 (codes "hashes") (codes "sha512") d)
 
 pub sha512_part_there : (d : Data) (hash : Option (List ℕ)) → MeansIfAny (HasSha512 d) hash → sha512_part d ≡ hash
 sha512_part_there d hash =
-    if_any_there _ (hash_part 64 (codes "hashes") (codes "sha512") d) hash (hash_part_read 64 (codes "hashes") (codes "sha512") d) (hash_part_there 64 (codes "hashes") (codes "sha512") d)
+    if_any_there (HasSha512 d) (hash_part 64 (codes "hashes") (codes "sha512") d) hash (hash_part_read 64 (codes "hashes") (codes "sha512") d) (hash_part_there 64 (codes "hashes") (codes "sha512") d)
 
 -- ---- their faults
 
@@ -219,15 +203,13 @@ module _ {F : Refusal → Type 0} (law : AllowsShapes F) where
   file_name_part_fails fault name d =
       then_fails _ _ (part_fails fault name d) (λ v. then_fails _ _ (or_error_fails (BadShape fault) _ (law.shape fault)) (λ t. fitting_fails law is_file_name fault t))
 
-  digits_part_fails : (fault name : List ℕ) (d : Data) → Fails F (digits_part fault name d)
-  unfolding digits_part
-  digits_part_fails fault name d =
+  pub sha256_part_fails : (fault : List ℕ) (d : Data) → Fails F (sha256_part fault d)
+  unfolding hash_part digits_part
+  sha256_part_fails fault d =
+      then_fails _ _ (
       then_fails _ _ (object_part_fails fault (codes "hashes") d) (λ hashes.
-      then_fails _ _ (text_part_fails fault name hashes) (λ digits. fitting_fails law (list_all is_lower_digit) fault digits))
-
-  pub hash_part_fails : (size : ℕ) (fault name : List ℕ) (d : Data) → Fails F (hash_part size fault name d)
-  unfolding hash_part
-  hash_part_fails size fault name d = then_fails _ _ (digits_part_fails fault name d) (λ digits. or_error_fails (BadShape fault) _ (law.shape fault))
+      then_fails _ _ (text_part_fails fault (codes "sha256") hashes) (λ digits. fitting_fails law (list_all is_lower_digit) fault digits))) (λ digits.
+      or_error_fails (BadShape fault) _ (law.shape fault))
 
 -- ---- what each payload says of itself
 

@@ -1,12 +1,12 @@
 -- The payloads of files within the limits have canonical texts.
 use Rattle.std.proofs.Common.{◌≡◌, ℕ, suc, ◌≤◌, List, [], ◌∷◌, ◌++◌, true, Option, Some, None, length, map, refl, arith}
-use Rattle.std.specs.Prelude.{nat_le, codes, option_map, option_to_list}
+use Rattle.std.specs.Prelude.{◌==◌, ◌&&◌, nat_le, nat_lt, codes, option_map, option_to_list}
 use Rattle.std.specs.List.{list_all}
 use Rattle.std.proofs.lemmas.Bool.{and_parts}
 use Rattle.std.proofs.lemmas.Bool.Decides.{nat_tests}
 use Rattle.std.proofs.lemmas.List.Folds.{list_all-append}
 use Rattle.serde_json.specs.Data.{Data, string}
-use Rattle.up_canon.specs.Build.{object_with, list_with, count_value, hashes_value}
+use Rattle.up_canon.specs.Build.{object_with, list_with, count_value, hex_value, hashes_value}
 use Rattle.up_canon.specs.Canon.{max_count, is_printable_text, has_canon}
 use Rattle.up_canon.specs.Moments.{last_moment, moment_text}
 use Rattle.up_canon.specs.Names.{Name, is_ident, is_file_name}
@@ -27,8 +27,7 @@ use Rattle.up_roles.specs.declared.targets.Target.{Target}
 use Rattle.up_roles.specs.declared.targets.TargetsFile.{TargetsFile}
 use Rattle.up_roles.specs.declared.timestamp.TimestampFile.{TimestampFile}
 use Rattle.up_canon.proofs.PlainValues.{IsPlain, AllMembers, AllItems, plain-object, plain-list, all-plain, plain-string, plain-count, deeper, plain-canon}
-use Rattle.up_canon.proofs.Hashes.{hashes_depth, hashes_plain}
-use Rattle.up_canon.proofs.Printable.{ident_prints, file_name_prints}
+use Rattle.up_canon.proofs.Printable.{ident_prints, file_name_prints, printable-hex}
 
 pub canon_is : (d : Data) → has_canon d ≡ true → IsCanonical d
 canon_is d h = rw h refl
@@ -76,10 +75,13 @@ plain-payload n kind r version expires (Some name) more hk hv he hn h =
       ),
     )
 
-plain-hashes : (sha256 : List ℕ) (sha512 : Option (List ℕ)) → is_hash sha256 ≡ true → is_second_hash sha512 ≡ true → IsPlain 1 (hashes_value sha256 sha512)
-plain-hashes sha256 sha512 h k =
-    let one = hashes_depth sha256 sha512 in
-    record { plain = hashes_plain sha256 sha512 (and_parts _ _ h).1 k; shallow = omega arith }
+plain-hash : (hash : List ℕ) (size : ℕ) → ((length hash == size) && list_all (λ x. nat_lt x 256) hash) ≡ true → IsPlain 0 (hex_value hash)
+plain-hash hash size h = plain-string _ (printable-hex hash (and_parts (length hash == size) _ h).1)
+
+plain-hashes : (hash : List ℕ) (o : Option (List ℕ)) → is_hash hash ≡ true → is_second_hash o ≡ true → IsPlain 1 (hashes_value hash o)
+plain-hashes hash None h k = plain-object 0 ((codes "sha256", hex_value hash) ∷ []) (refl, plain-hash hash 32 h, tt)
+plain-hashes hash (Some second) h k =
+    plain-object 0 ((codes "sha256", hex_value hash) ∷ (codes "sha512", hex_value second) ∷ []) (refl, plain-hash hash 32 h, (refl, plain-hash second 64 k, tt))
 
 -- ---- Snapshot
 
@@ -140,8 +142,8 @@ plain-target target typed =
       ),
     )
 
-pub target_typed : (target : Target) → is_named target.ecu ≡ true → is_file_name target.file ≡ true → target.length ≤ max_count → is_hash target.sha256 ≡ true → is_second_hash target.sha512 ≡ true
-    → list_all is_ident target.hardware ≡ true → target.release ≤ max_count → target_is_typed target ≡ true
+pub target_typed : (target : Target) → is_named target.ecu ≡ true → is_file_name target.file ≡ true → target.length ≤ max_count → is_hash target.sha256 ≡ true
+    → is_second_hash target.sha512 ≡ true → list_all is_ident target.hardware ≡ true → target.release ≤ max_count → target_is_typed target ≡ true
 target_typed target ecu file size hash second hardware release =
     let size' : nat_le target.length max_count ≡ true = grind (arith, nat_tests) in
     let release' : nat_le target.release max_count ≡ true = grind (arith, nat_tests) in

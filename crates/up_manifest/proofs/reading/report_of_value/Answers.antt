@@ -4,4 +4,4 @@ use Rattle.up_manifest.proofs.NoReport.{no_report}
 use Rattle.up_manifest.proofs.reading.report_of_value.Goals as goal
 
 pub returns-in-None : goal.returns-in-None
-returns-in-None c = rw (c.into.ensures) (no_report (view c.args.value.now) (sym (c.in-None.ensures tt)))
+returns-in-None c = rw (c.into.ensures) (no_report (view c.args.value.now) (sym c.in-None.ensures))
