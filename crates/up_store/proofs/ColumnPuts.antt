@@ -87,16 +87,16 @@ puts_image (Ok done) image made before after is puts was_open = λ rows within f
     goes_on image_table _ (ListsTables (with_image_line image rows)) before after now (lists_images rows images before after here.rows now)
 
 -- its second hash
-pub puts_sha512 : {A : Type 0} (r : Result A StoreFault) (image : ImageData) (hash : List ℕ) (before after : Connected) → image.sha512 ≡ Some hash
-    → OnOk r ((rows_of : List ℕ → List Row) → HasTables before → Lists 1 rows_of (before.now.trees image_sha512_table.tree) → Alters image_sha512_table (Lists 1 (with_row image.file (sha512_line image.file hash) rows_of)) before after)
+pub puts_sha512 : {A : Type 0} (r : Result A StoreFault) (image : ImageData) (file hash : List ℕ) (before after : Connected) → file ≡ image.file → image.sha512 ≡ Some hash
+    → OnOk r ((rows_of : List ℕ → List Row) → HasTables before → Lists 1 rows_of (before.now.trees image_sha512_table.tree) → Alters image_sha512_table (Lists 1 (with_row file (sha512_line file hash) rows_of)) before after)
     → OnOk r (IsTrue before.is_open) → OnOk r ((rows : TableRows) → IsWithin up_schema (ListsTables rows) before → Unit {0} → GoesOn up_schema (ListsTables (with_sha512_line image rows)) after)
-puts_sha512 (Err e) image hash before after is puts was_open = tt
-puts_sha512 (Ok done) image hash before after is puts was_open = λ rows within fits.
+puts_sha512 (Err e) image file hash before after same is puts was_open = tt
+puts_sha512 (Ok done) image file hash before after same is puts was_open = λ rows within fits.
     let here = within.here was_open in
     let hashes : List ℕ → List Row = changed_at image.file (λ were. were ++ sha512_lines image.file image.sha512) rows.sha512s in
     let put = puts rows.sha512s (λ _. record { schema_is = here.schema_is; sound = here.sound; rows = tt }) here.rows.sha512s in
-    let named : (n : List ℕ) → with_row image.file (sha512_line image.file hash) rows.sha512s n ≡ hashes n =
-    λ n. ap (λ (o : Option (List ℕ)). changed_at image.file (λ were. were ++ sha512_lines image.file o) rows.sha512s n) (sym is) in
+    let named : (n : List ℕ) → with_row file (sha512_line file hash) rows.sha512s n ≡ hashes n =
+    λ n. ap (λ (name : List ℕ). with_row name (sha512_line name hash) rows.sha512s n) same ∙ ap (λ (o : Option (List ℕ)). changed_at image.file (λ were. were ++ sha512_lines image.file o) rows.sha512s n) (sym is) in
     let now : Alters image_sha512_table (Lists 1 hashes) before after = alters_as image_sha512_table _ _ (λ trees. lists_as 1 _ _ trees named) before after put in
     goes_on image_sha512_table _ (ListsTables (with_sha512_line image rows)) before after now (lists_sha512s rows hashes before after here.rows now)
 
