@@ -27,7 +27,7 @@ from pathlib import Path
 sys.dont_write_bytecode = True
 
 import reference
-from reference import COUNT, FILE, HASH, IDENT, KEY, LAST_AT, LAST_MOMENT, LIST, NOTE, OBJECT, REPOSITORIES, ROLES, is_count
+from reference import COUNT, FILE, HASH, IDENT, KEY, LAST_AT, LAST_MOMENT, LIST, NOTE, OBJECT, REPOSITORIES, ROLES, SECOND_HASH, is_count
 
 PAGE = Path(__file__).resolve().parent.parent / "docs" / "FORMATS.md"
 LONGEST, MOST_LINES, DAY = 2_097_152, 100_000, 86400
@@ -55,7 +55,7 @@ KINDS = {
     "release": (COUNT, A_COUNT),
     "version": (COUNT, A_COUNT),
     "sha256": (HASH, "64 hexadecimal digits"),
-    "sha512": (reference.text(r"[0-9A-Fa-f]{128}"), "128 hexadecimal digits"),
+    "sha512": (SECOND_HASH, "128 hexadecimal digits"),
     "hardware": (IDENT, A_NAME),
     "hardware of add_image": (lambda v: sized(IDENT, 1, 16)(v) and distinct(v), "a list of 1 to 16 names, none twice, each of " + A_NAME),
     "needs": (sized(OBJECT, 0, 16), 'a list of 0 to 16 {"hardware","release"}'),

@@ -44,8 +44,10 @@ def three(s, repo, keys, version, at, targets, vehicle=None):
     sn = seal(s, ks["snapshot"][0], {"expires": time(at + b * DAY), "meta": {"targets.json": {"version": version}}, "repository": repo, "type": "snapshot", "version": version, **v})
     ts = seal(s, ks["timestamp"][0], {"expires": time(at + c * DAY), "meta": {"snapshot.json": {"hashes": {"sha256": H(sn.encode())}, "version": version}}, "repository": repo, "type": "timestamp", "version": version, **v})
     return t, sn, ts
-def target(file, content, hardware, release, ecu=None):
-    return {"file": file, "hardware": hardware, "hashes": {"sha256": H(content.encode())}, "length": len(content), "release": release, **({"ecu": ecu} if ecu else {})}
+SECOND = lambda text: {"sha512": hashlib.sha512(text.encode()).hexdigest()}
+def target(file, content, hardware, release, ecu=None, second={}):
+    hashes = {"sha256": H(content.encode()), **second}
+    return {"file": file, "hardware": hardware, "hashes": hashes, "length": len(content), "release": release, **({"ecu": ecu} if ecu else {})}
 def reply(s, keys, rootn, vehicle, version, at, targets):
     t, sn, ts = three(s, "director", keys, version, at, targets, vehicle)
     return '{"root":%d,"snapshot":%s,"targets":%s,"timestamp":%s,"vehicle":"%s","version":%d}' % (rootn, sn, t, ts, vehicle, version)
@@ -59,19 +61,24 @@ def registered(s, version, at, images):
     """A new image, or a refresh: the row, and a digest of the image repository's three files."""
     images = sorted(images, key=lambda t: t["file"])
     return f"root 1 version {version} at {at} {digest(*three(s, 'image', keyset(1), version, at, images))}"
-def report(s, ecu, byte, counter, file):
-    return {"attack": "", "counter": counter, "ecu": ecu, "image": {"file": file, "hashes": {"sha256": H(b"")}, "length": 0}, "time": time(T0), "type": "report"}
+# what an ECU may report: a text, and its hashes
+CONTENTS = {"empty": ("", {}), "abc": ("abc", {}), "both": ("abc", SECOND("abc")), "unlike": ("abc", SECOND(""))}
+def report(s, ecu, byte, counter, file, content="empty"):
+    text, second = CONTENTS[content]
+    image = {"file": file, "hashes": {"sha256": H(text.encode()), **second}, "length": len(text)}
+    return {"attack": "", "counter": counter, "ecu": ecu, "image": image, "time": time(T0), "type": "report"}
 def vehicle(s, name, number, last, ecus):
     """A vehicle's row, and a digest of those of its ECUs (name, hardware, key), each with its last report (counter, file) where there is one."""
-    def line(e, h, b, counter=None, file="none"):
-        return f"{e} {h} {s.public(K(b)).hex()} {counter or 0} {file} {'none' if counter is None else canon(report(s, e, b, counter, file))}\n"
+    def line(e, h, b, counter=None, file="none", content="empty"):
+        installed = "+".join([file, *CONTENTS[content][1].values()])
+        return f"{e} {h} {s.public(K(b)).hex()} {counter or 0} {installed} {'none' if counter is None else canon(report(s, e, b, counter, file, content))}\n"
     return f"{name} of {ecus[0][0]} version {number} last {last} {digest(''.join(line(*e) for e in ecus))}"
-def accepted(s, name, n, at, ecus, plan):
+def accepted(s, name, n, at, ecus, plan, image=("a7.bin", "abc", ["HS"], 7, {})):
     """The vehicle after its n-th manifest, which has the counter n, by these reports of its ECUs, and the kept row."""
-    reports = [json.loads(seal(s, [K(b)], report(s, e, b, counter, file))) for e, h, b, counter, file in ecus]
+    reports = [json.loads(seal(s, [K(b)], report(s, e, b, *told))) for e, h, b, *told in ecus]
     signed = canon({"counter": n, "primary": ecus[0][0], "reports": reports, "type": "manifest", "vehicle": name})
-    text = reply(s, keyset(1), 1, name, n, at, [target("a7.bin", "abc", ["HS"], 7, e) for e in plan])
-    kept = f"; kept {n} as {n} at {at} under 1 {digest(signed, text)}" + "".join(f" {e}=a7.bin" for e in plan)
+    text = reply(s, keyset(1), 1, name, n, at, [target(*image[:4], e, image[4]) for e in plan])
+    kept = f"; kept {n} as {n} at {at} under 1 {digest(signed, text)}" + "".join(f" {e}={image[0]}" for e in plan)
     return vehicle(s, name, n, n, ecus) + kept
 
 V1, V2 = [("P1", "HP", 17)], [("P2", "HP", 68), ("S2", "HS", 51)]
@@ -80,6 +87,10 @@ V2_AFTER = [("P2", "HP", 68, 1, "factory.bin"), ("S3", "HS", 119), ("S5", "HS", 
 V2_REPORTED = [V2_AFTER[0], ("S3", "HS", 119, 0, "factory.bin"), V2_AFTER[2]]
 factory = lambda ecus: [(*e, 1, "factory.bin") for e in ecus]
 IMAGES = [target("z.bin", "", ["HS"], 1), target("b.bin", "abc", ["HS"], 7), target("a.bin", "abc", ["HS"], 2), target("m.bin", "", ["HP"], 3)]
+A_BOTH, Z_ONE = target("a.bin", "abc", ["HS"], 2, second=SECOND("abc")), target("z.bin", "", ["HS"], 1)
+def by_second_hash(s, n, report, plan):
+    """The n-th manifest of V2, by this report of its Secondary, where the image `a.bin` has both hashes."""
+    return accepted(s, "V2", n, T0, [factory(V2)[0], (*V2[1], n, *report)], plan, ("a.bin", "abc", ["HS"], 2, SECOND("abc")))
 def one_role(keys, threshold):
     some = keyset(1)
     some["image"]["snapshot"] = ([K(b) for b in keys], threshold)
@@ -111,6 +122,13 @@ EXPECTED = {
     "manifest1": lambda s: accepted(s, "V2", 1, T0, factory(V2), ["S2"]),
     "manifest2": lambda s: accepted(s, "V2", 2, T0 + DAY, factory(V2), ["S2"]),
     "next_manifest": lambda s: accepted(s, "V2", 2, T0, [("P2", "HP", 68, 2, "a"), ("S2", "HS", 51, 1, "factory.bin")], ["S2"]),
+    "second_hash": lambda s: registered(s, 2, T0, [A_BOTH]),
+    "second_hash_and_none": lambda s: registered(s, 3, T0, [A_BOTH, Z_ONE]),
+    "second_hash_refreshed": lambda s: registered(s, 9, T0 + 3600, [A_BOTH, Z_ONE]),
+    "second_hash_wanted": lambda s: by_second_hash(s, 1, ["factory.bin"], ["S2"]),
+    "second_hash_unlike": lambda s: by_second_hash(s, 2, ["a.bin", "unlike"], ["S2"]),
+    "second_hash_alike": lambda s: by_second_hash(s, 3, ["a.bin", "both"], []),
+    "second_hash_unreported": lambda s: by_second_hash(s, 4, ["a.bin", "abc"], []),
     "manifest_of_32": lambda s: accepted(s, "V32", 1, T0, factory(V32), [e for e, h, b in V32[1:]]),
 }
 def both(name):

@@ -113,6 +113,63 @@ FURTHER = [
     REPLACEMENT,
 ]
 
+# ---- second hashes
+
+ONE_HASH, OTHER_HASH = "5c" * 64, "c5" * 32 + "0a" * 32
+
+
+def report(ecu, counter, file, sha256, second=""):
+    """The signed text of an ECU's report. In the file's hashes stands `second` behind the first one."""
+    image = f'{{"file":"{file}","hashes":{{"sha256":"{sha256}"{second}}},"length":5}}'
+    return f'{{"attack":"","counter":{counter},"ecu":"{ecu}","image":{image},"time":"2026-01-01T00:00:00Z","type":"report"}}'
+
+
+def member(digits):
+    return f',"sha512":"{digits}"'
+
+
+def told(ecu, key, file, sha256, counter, second, hash=None):
+    """An ECU's row after a report: the second hash is the one that the report's text has, in lower case."""
+    hashes = sha256 + ("+" + hash if hash else "")
+    return f"{ecu} hw {key} {file}:5:{hashes} {counter} {report(ecu, counter, file, sha256, second)}"
+
+
+# the images are put in, and stand in the table of second hashes, in other orders than that of their names
+IMAGES_OF_BOTH = [
+    ("image", f"c.bin 5 {FIVE}+{ONE_HASH} hw 6 hw:4 -", 1, 2, 3000, "targets-2 snapshot-2 timestamp-2"),
+    ("image", f"a.bin 5 {FIVE} hw 7 - -", 1, 3, 3000, "targets-3 snapshot-3 timestamp-3"),
+    ("image", f"d.bin 5 {FIVE}+{OTHER_HASH} hw 8 - c.bin", 1, 4, 3000, "targets-4 snapshot-4 timestamp-4"),
+    ("image", f"b.bin 9007199254740991 {NINE}+{ONE_HASH} hw,hv 0 - -", 1, 5, 3000, "targets-5 snapshot-5 timestamp-5"),
+]
+BOTH_REPORTED = [
+    told("b-v", "090009", "c.bin", FIVE, 7, member(ONE_HASH.upper()), ONE_HASH),
+    told("a-v", "ff", "a.bin", FIVE, 1, ""),
+]
+BOTH_AGAIN = [
+    told("b-v", "090009", "d.bin", NINE, 8, member(OTHER_HASH[:-1])),
+    told("a-v", "ff", "d.bin", TWO, 2, member(OTHER_HASH), OTHER_HASH),
+]
+UNKNOWN_MEMBERS = [
+    told("b-v", "090009", "c.bin", FIVE, 9, ',"sha384":"00"' + member("g" + ONE_HASH[1:])),
+    told("a-x", "0c0c", "c.bin", FIVE, 3, ',"sha512":7').replace("a-x hw", "a-x hz"),
+]
+SECOND_HASHES = [
+    WRITES[0],
+    IMAGES_OF_BOTH[0],
+    WRITES[5],
+    ("accept", 'v 3 1 4000 1 {"m":3} -!- {"r":3}', "v b-v 1 3", BOTH_REPORTED),
+    *IMAGES_OF_BOTH[1:],
+    ("accept", 'v 5 2 4001 1 {"m":5} -!- {"r":5}', "v b-v 2 5", BOTH_AGAIN),
+    ("replace", "v a-v a-x hz 0c0c"),
+    ("accept", 'v 6 3 4002 1 {"m":6} -!- {"r":6}', "v b-v 3 6", UNKNOWN_MEMBERS),
+]
+SECOND_HASHES_REFUSED = [
+    ("image", f"c.bin 5 {FIVE}+{OTHER_HASH} hw 6 hw:4 -", 1, 6, 3000, "targets-6 snapshot-6 timestamp-6"),
+    ("image", f"a.bin 5 {FIVE}+{ONE_HASH} hw 7 - -", 1, 6, 3000, "targets-6 snapshot-6 timestamp-6"),
+    ("accept", 'v 6 4 4002 1 {"m":6} -!- {"r":6}', "v b-v 4 6", UNKNOWN_MEMBERS),
+]
+SECOND_HASH_READS = ["image a.bin", "image b.bin", "image c.bin", "image d.bin", "images", "ecus v"]
+
 # after a fault: few calls, since each is made to fail in turn
 FEW_READS = ["founding", "image x/y.bin", "ecus v", "kept v 3", "latest v"]
 
@@ -201,6 +258,12 @@ class State:
             return self.files.get(rest, "none")
         return {"image": self.images, "campaign": self.campaigns, "vehicle": self.vehicles}[word].get(rest[0], "none")
 
+    def second_hashes(self):
+        """The images that have one, in the order in which they were put in, each with it."""
+        for file, row in self.images.items():
+            if "+" in row:
+                yield file, row.split()[2].split("+")[1]
+
     def inserts(self, schema):
         """The statements that put these rows into tables of a schema."""
         root, version, stamp = self.founding.split()[:3] if self.founding != "none" else (0, 0, 0)
@@ -211,6 +274,7 @@ class State:
             "image": [image_columns(*row.split()) for row in self.images.values()],
             "campaign": [campaign_columns(*row.split()) for row in self.campaigns.values()],
             "vehicle": [vehicle_columns(*row.split()) for row in self.vehicles.values()],
+            "image_sha512": [f"'{file}', x'{hash}'" for file, hash in self.second_hashes()] if schema > 2 else [],
             "ecu": [ecu_columns(name, place, *row.split()) for name, ecus in self.ecus.items() for place, row in enumerate(ecus)],
             "kept": [kept_columns(*row.split()) for row in self.kept.values()],
         }
@@ -238,7 +302,7 @@ def role_keys(root):
 
 def image_columns(file, length, sha256, hardware, release, needs, conflicts):
     needs = [dict(zip(("hardware", "release"), (need.split(":")[0], int(need.split(":")[1])))) for need in listed(needs)]
-    return f"'{file}', {length}, x'{sha256}', {text_of(listed(hardware))}, {release}, {text_of(needs)}, {text_of(listed(conflicts))}"
+    return f"'{file}', {length}, x'{sha256.split('+')[0]}', {text_of(listed(hardware))}, {release}, {text_of(needs)}, {text_of(listed(conflicts))}"
 
 
 def campaign_columns(name, reach, items, state):
@@ -253,7 +317,7 @@ def vehicle_columns(vehicle, primary, version, last):
 
 def ecu_columns(vehicle, place, ecu, hardware, public, installed, counter, report):
     file, length, sha256 = installed.split(":") if installed != "-" else (None, "NULL", None)
-    file, sha256 = (f"'{file}'", f"x'{sha256}'") if file else ("NULL", "NULL")
+    file, sha256 = (f"'{file}'", f"x'{sha256.split('+')[0]}'") if file else ("NULL", "NULL")
     report = "NULL" if report == "-" else f"'{report}'"
     return f"'{ecu}', '{vehicle}', {place}, '{hardware}', x'{public}', {file}, {length}, {sha256}, {counter}, {report}"
 
@@ -291,7 +355,7 @@ def asked(state, schema):
         f"ask SELECT name FROM sqlite_schema WHERE type = 'table' => {rows_text([(name,) for name in NAMES_OF[schema]])}",
         f"ask SELECT vehicle, counter, signed, reply FROM kept => {rows_text([(row[0], row[1], row[5], row[7]) for row in kept])}",
     ] + ([f"ask SELECT ecu, vehicle FROM retired => {rows_text(state.retired.items())}"] if schema > 1 else []) + (
-        ["ask SELECT file, sha512 FROM image_sha512 => rows"] if schema > 2 else []
+        [f"ask SELECT file, sha512 FROM image_sha512 => {rows_text(state.second_hashes())}"] if schema > 2 else []
     )
 
 
@@ -316,16 +380,65 @@ def older(name, schema, writes, further, reads):
     return name + "\n" + "\n".join(rows) + "\n"
 
 
+def second_hashes():
+    """Images and reports with a second hash and without, and what the database has of them."""
+    state = State()
+    for write in SECOND_HASHES:
+        state.write(*write)
+    rows = ["release => done"] + asked(state, 3) + ["adopt => done"]
+    rows += [f"{read} => {state.read(*read.split())}" for read in SECOND_HASH_READS]
+    return section("second hashes", SECOND_HASHES, SECOND_HASHES_REFUSED, SECOND_HASH_READS) + "\n".join(rows) + "\n"
+
+
+def of_both(write):
+    """The write with a second hash, where it puts in an image or a report."""
+    if write[0] == "image":
+        return write[:1] + (write[1].replace(FIVE, f"{FIVE}+{ONE_HASH}"), *write[2:])
+    if write[0] == "accept":
+        return (*write[:-1], [told("b-v", "090009", "x/y.bin", FIVE, 7, member(ONE_HASH.upper()), ONE_HASH), *write[-1][1:]])
+    return write
+
+
+def damaged():
+    """A second hash that no call of this product writes."""
+    state = State()
+    rows = ["create => done"]
+    for write in (WRITES[0], *IMAGES_OF_BOTH):
+        state.write(*write)
+        rows.append(f"{spelled(write)} => done")
+    for bytes_ in (63, 65, 0):
+        hash = "0a" * bytes_
+        rows += ["release => done", f"run UPDATE image_sha512 SET sha512 = x'{hash}' WHERE file = 'c.bin' => done", "adopt => done"]
+        rows += ["image c.bin => store", "images => store"]
+        rows += [f"{read} => {state.read(*read.split())}" for read in ("image a.bin", "image b.bin", "image d.bin")]
+    rows += ["release => done", "run DELETE FROM image_sha512 WHERE file = 'c.bin' => done", "adopt => done"]
+    state.images["c.bin"] = state.images["c.bin"].replace("+" + ONE_HASH, "")
+    rows += [f"{read} => {state.read(*read.split())}" for read in SECOND_HASH_READS[:-1]]
+    return "damaged second hashes\n" + "\n".join(rows) + "\n"
+
+
+def older_reports(name, schema):
+    """A database of an older schema with reports whose texts have second hashes, which that schema knew nothing of."""
+    without = [write[:1] + (write[1].replace("+" + ONE_HASH, "").replace("+" + OTHER_HASH, ""), *write[2:]) for write in IMAGES_OF_BOTH[:2]]
+    writes = [WRITES[0], *without, WRITES[5], WRITES[6], SECOND_HASHES[3], ("accept", 'v 5 2 4001 1 {"m":5} -!- {"r":5}', "v b-v 2 5", BOTH_AGAIN)]
+    further = [IMAGES_OF_BOTH[2], ("accept", 'v 6 3 4002 1 {"m":6} -!- {"r":6}', "v b-v 3 6", BOTH_REPORTED), ("replace", "v a-v a-x hz 0c0c")]
+    return older(name, schema, writes, further, ["image a.bin", "image c.bin", "image d.bin", "images", "ecus v", "ecus w", "kept v 3", "latest v"])
+
+
 def computed():
     once = {write[0]: write for write in reversed(WRITES) if write[-1] != "some v,w hw:x/y.bin,hv:a.bin runs"}
-    in_order = [write for write in WRITES if write in once.values()]
+    in_order = [of_both(write) for write in WRITES if write in once.values()]
     return [
         section("all nine writes", [*WRITES, REPLACEMENT], REFUSED, READS),
         section("each disk call refused", [*in_order, REPLACEMENT], [], ONE_OF_EACH),
+        second_hashes(),
+        damaged(),
         older("a raise of schema 1 in files", 1, WRITES, FURTHER[:1], FEW_READS),
         older("a raise of schema 2 in files", 2, WRITES, FURTHER[:1], FEW_READS),
         older("a database of schema 1 in files", 1, WRITES, FURTHER, READS),
         older("a database of schema 2 in files", 2, WRITES, FURTHER, READS),
+        older_reports("second hashes in reports of schema 1 in files", 1),
+        older_reports("second hashes in reports of schema 2 in files", 2),
         older("a new database of schema 1 in files", 1, [], WRITES[:1], READS),
         older("a new database of schema 2 in files", 2, [], WRITES[:1], READS),
     ]

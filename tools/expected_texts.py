@@ -49,9 +49,30 @@ def accepted(scheme, publics, threshold, envelope):
     return sum(any(signed(public, s) for s in envelope["signatures"]) for public in publics) >= threshold
 
 
+LOWER, EITHER = r"[0-9a-f]{128}", r"[0-9A-Fa-f]{128}"
+
+
+def second_hash(hashes, digits):
+    """The second hash among the hashes, none where it hasn't 128 such digits."""
+    hash = hashes.get("sha512")
+    return hash.lower() if isinstance(hash, str) and re.fullmatch(digits, hash) else None
+
+
+def hash_words(hashes, digits):
+    second = second_hash(hashes, digits)
+    return hashes["sha256"].lower() + ("+" + second if second else "")
+
+
+def known_target(target):
+    """The members of a target that its format has, and the hashes that are hashes."""
+    second = second_hash(target["hashes"], LOWER)
+    return target | {"hashes": {"sha256": target["hashes"]["sha256"]} | ({"sha512": second} if second else {})}
+
+
 def known(v):
     """The members of a payload that its format has."""
     v = {name: value for name, value in v.items() if name != "more"}
+    v.update({"targets": [known_target(t) for t in v["targets"]]} if "targets" in v else {})
     if v["repository"] == "image":
         v.pop("vehicle", None)
         v.update({"targets": [{n: x for n, x in t.items() if n != "ecu"} for t in v["targets"]]} if "targets" in v else {})
@@ -65,7 +86,7 @@ def file_fields(v):
         keys = ["%s by %s [%s]" % (k, v["keys"][k]["method"], v["keys"][k]["public"]) for k in v["roles"][role]["keyids"]]
         out += "; " + " ".join(["%d of" % v["roles"][role]["threshold"], *keys])
     for t in v.get("targets", ()):
-        told = [t["ecu"] if director else "none", t["file"], str(t["length"]), t["hashes"]["sha256"], str(t["release"]), *t["hardware"]]
+        told = [t["ecu"] if director else "none", t["file"], str(t["length"]), hash_words(t["hashes"], LOWER), str(t["release"]), *t["hardware"]]
         out += "; " + " ".join(told)
     for below in v.get("meta", {}).values():
         out += "; " + " ".join([str(below["version"]), *below.get("hashes", {}).values()])
@@ -86,9 +107,21 @@ def manifest(body):
     out = "%s %s %d" % (v["vehicle"], v["primary"], v["counter"])
     for r in (envelope["signed"] for envelope in v["reports"]):
         image = r["image"]
-        told = (r["ecu"], r["counter"], second(r["time"]), r["attack"], image["file"], image["length"], image["hashes"]["sha256"].lower())
+        told = (r["ecu"], r["counter"], second(r["time"]), r["attack"], image["file"], image["length"], hash_words(image["hashes"], EITHER))
         out += "; %s %d %d [%s] %s %d %s" % told
     return out
+
+
+def member_hash(given):
+    """The second hash of an object, where another member counts as none, and where it is a fault."""
+    hash = second_hash(json.loads(given), EITHER)
+    return "%s, wanted %s" % (hash or "none", hash or "sha512")
+
+
+def report_hash(text):
+    """The second hash in a report's signed text, which is canonical."""
+    value = json.loads(text)
+    return canon(value) == text and second_hash(value["image"]["hashes"], EITHER) or "none"
 
 
 def built(scheme, given):
@@ -127,6 +160,7 @@ def envelope_fields(given):
 CALLS = {
     "moment text": lambda g: time(int(g)), "moment read": lambda g: str(second(g)), "moment a week later": lambda g: str(int(g) + 7 * 86400),
     "canonical": lambda g: canon(json.loads(g)), "sha256": lambda g: hashlib.sha256(g.encode()).hexdigest(),
+    "sha512": lambda g: hashlib.sha512(g.encode()).hexdigest(), "sha512 of a member": member_hash, "second hash of a report": report_hash,
     "hmac": lambda g: by_hmac(*(bytes.fromhex(json.loads(g)[name]) for name in ("key", "message"))),
     "key identifier": lambda g: "{0}, as text {0}".format(keyid(bytes.fromhex(json.loads(g)))), "envelope": envelope_fields,
     "manifest": manifest, "signed text of a manifest": lambda g: canon(json.loads(g)["signed"]),

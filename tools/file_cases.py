@@ -173,7 +173,7 @@ def operated(program, own):
 
 def killed_day():
     """A fleet's day with some ECUs replaced, two refreshes, two rotations and two campaigns that are closed, between its manifests."""
-    day = list(fleet.script(vehicles=8, ecus=3, rounds=3, images=6, campaigns=2, seed=4, replaced=0.3))
+    day = list(fleet.script(vehicles=8, ecus=3, rounds=3, images=6, campaigns=2, seed=4, replaced=0.3, second_hashes=0.7))
     sent = [at for at, line in enumerate(day) if '"do":"bench"' in line]
     for number in (2, 1):
         more = [fleet.line("refresh", version=100 * number), fleet.line("rotate", **fleet.key_set(32 * number))]

@@ -2,11 +2,12 @@
 """Prints a script of a fleet: the same for the same words.
 
     fleet.py [--vehicles N] [--ecus N] [--rounds N] [--images N] [--campaigns N] [--seed N] [--repeats SHARE]
-             [--replaced SHARE] [--deliver] [--from-round N]
+             [--replaced SHARE] [--second-hashes SHARE] [--deliver] [--from-round N]
 
 It founds, adds vehicles and images, opens campaigns, and goes so many rounds of manifests over all vehicles, each
 round in another order, a share of them sent again: half of these the one just before, half any earlier one. Before
-each round but the first an ECU of a share of the vehicles (none) is replaced. At the end it shows some vehicles and
+each round but the first an ECU of a share of the vehicles (none) is replaced. A share of the images (none) has a
+SHA-512 too, and so have the reports of these. At the end it shows some vehicles and
 fetches files. `--deliver` prints bodies that are built here in place of `bench`
 lines, so that the program builds and signs no manifest itself. `--from-round R` leaves out what comes before round
 R, for a database that has it already.
@@ -44,7 +45,9 @@ def key_set(first):
 
 
 def report_text(told):
-    image = {"file": told["file"], "hashes": {"sha256": told["sha256"]}, "length": told["length"]}
+    """The report as it was told: a second hash, or what stands in its place, isn't looked at."""
+    hashes = {name: told[name] for name in ("sha256", "sha512") if name in told}
+    image = {"file": told["file"], "hashes": hashes, "length": told["length"]}
     payload = {"attack": told.get("attack", ""), "counter": told["counter"], "ecu": told["ecu"], "image": image}
     payload |= {"time": moment(told["time"]), "type": "report"}
     return sealed([bytes.fromhex(told["key"])], canonical(payload))
@@ -61,9 +64,18 @@ def digest(words):
     return hashlib.sha256(words.encode()).hexdigest()
 
 
+def second(words):
+    return hashlib.sha512(words.encode()).hexdigest()
+
+
+def content(image):
+    """What a report has of an image."""
+    return {name: image[name] for name in ("file", "length", "sha256", "sha512") if name in image}
+
+
 class Fleet:
-    def __init__(self, vehicles, ecus, images, campaigns, seed):
-        self.seed, self.rng = seed, random.Random(seed)
+    def __init__(self, vehicles, ecus, images, campaigns, seed, second_hashes=0):
+        self.seed, self.rng, self.second_hashes = seed, random.Random(seed), second_hashes
         self.hardware = ["HP"] + ["HS%d" % i for i in range(1, min(ecus, 6))]
         self.vehicles = {"v%06d" % number: self.ecus_of("v%06d" % number, ecus) for number in range(vehicles)}
         self.images = self.new_images(images)
@@ -86,6 +98,8 @@ class Fleet:
             releases[kind] += rng.randint(1, 3)
             image = {"file": "%s/image-%04d.bin" % (kind.lower(), i), "length": rng.randint(1, 2**30)}
             image |= {"sha256": digest("image %d %d" % (self.seed, i)), "hardware": [kind], "release": releases[kind]}
+            if int(digest("second %d %d" % (self.seed, i))[:8], 16) < self.second_hashes * 2**32:
+                image["sha512"] = second("image %d %d" % (self.seed, i))
             other = rng.choice(self.hardware)
             if i % 5 == 4 and other != kind and releases[other]:
                 image["needs"] = [{"hardware": other, "release": 1}]
@@ -131,7 +145,7 @@ class Fleet:
             return self.last[ecu]
         offer = self.offers.get((vehicle, kind))
         if number > 1 and offer and rng.random() < 0.5:
-            self.installed[ecu] = {k: offer[k] for k in ("file", "length", "sha256")}
+            self.installed[ecu] = content(offer)
         self.last[ecu] = {"ecu": ecu, "key": secret, "counter": number, "time": START + 3600 * number}
         self.last[ecu] |= self.installed.get(ecu, FACTORY)
         if rng.random() < 0.02:
@@ -182,10 +196,10 @@ class Fleet:
             yield line("fetch", repository="image", file=file)
 
 
-def script(vehicles=100, ecus=4, rounds=5, images=20, campaigns=5, seed=1, repeats=0.2, replaced=0, deliver=False,
-           from_round=0):
+def script(vehicles=100, ecus=4, rounds=5, images=20, campaigns=5, seed=1, repeats=0.2, replaced=0, second_hashes=0,
+           deliver=False, from_round=0):
     """The lines of the script."""
-    fleet, history = Fleet(vehicles, ecus, images, campaigns, seed), []
+    fleet, history = Fleet(vehicles, ecus, images, campaigns, seed, second_hashes), []
     setup = list(fleet.setup())
     yield from setup if from_round < 2 else []
     for number in range(1, rounds + 1):
@@ -201,6 +215,7 @@ def main():
         parser.add_argument("--" + name, type=int, default=usual)
     parser.add_argument("--repeats", type=float, default=0.2)
     parser.add_argument("--replaced", type=float, default=0)
+    parser.add_argument("--second-hashes", type=float, default=0)
     parser.add_argument("--deliver", action="store_true")
     for text in script(**vars(parser.parse_args())):
         print(text)

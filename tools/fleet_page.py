@@ -14,6 +14,7 @@ SECONDS. The status is 1, with a message, where the file isn't a database of thi
 import argparse
 import html
 import json
+import re
 import shutil
 import sqlite3
 import sys
@@ -75,7 +76,7 @@ def registered(db, schema):
 def second_hash(report):
     """The SHA-512 that a report gives of its image, if it does."""
     found = json.loads(report)["image"]["hashes"].get("sha512") if report else None
-    return found.lower() if isinstance(found, str) and len(found) == 128 else None
+    return found.lower() if isinstance(found, str) and re.fullmatch("[0-9A-Fa-f]{128}", found) else None
 
 
 def release_of(images, ecu, schema):

@@ -27,7 +27,7 @@ class Script:
     """The lines of one seed. It follows roughly what they do, so that most of them are carried out."""
 
     def __init__(self, seed):
-        self.rng, self.lines, self.counters, self.reported, self.images = random.Random(seed), [], {}, {}, []
+        self.rng, self.lines, self.counters, self.last, self.images = random.Random(seed), [], {}, {}, []
         self.at, self.present, self.retired, self.sent = START, {}, [], []
 
     def some(self, share):
@@ -102,8 +102,49 @@ class Script:
             image["needs"] = [{"hardware": KINDS[(number + 1) % 3], "release": number // 4}]
         if number % 7 > 4:
             image["conflicts"] = ["i/%d.bin" % ((number + 1) % 12), "factory.bin"][: number % 3]
-        self.images.append({k: image[k] for k in ("file", "length", "sha256")})
+        if (number % 3 > 0) != self.some(0.05):
+            image["sha512"] = self.spelled(fleet.second(words))
+        self.images.append(image)
         self.add("add_image", **image)
+
+    # -- second hashes
+
+    def spelled(self, hash):
+        """A second hash as a line may have it: of either case, now and then none."""
+        if self.some(0.03):
+            return self.malformed(hash)
+        return hash.upper() if self.some(0.1) else hash
+
+    def malformed(self, hash):
+        """What is no second hash: too short, too long, of other digits, of another kind."""
+        return self.rng.choice([hash[:-1], hash + "0", hash[1:] + "g", hash[:64], "", "x", None, 7, True, [hash], {"sha512": hash}])
+
+    def second_hash(self):
+        """A campaign for an image that has a second hash, and a manifest whose ECUs report that image in several spellings."""
+        images = [it for it in self.images if isinstance(it.get("sha512"), str)]
+        if not images:
+            return self.add_image()
+        image, number = self.rng.choice(images), self.rng.choice([1, 2, 3])
+        items = [{"hardware": kind, "file": image["file"]} for kind in image["hardware"]]
+        self.add("open_campaign", campaign="H%d" % len(self.lines), vehicles="all", items=items)
+        told, kinds = self.manifest(number), {it["ecu"]: it["hardware"] for it in self.ecus(number)}
+        for report in told["reports"]:
+            if kinds.get(report["ecu"]) in image["hardware"]:
+                hash = self.rng.choice(2 * [image["sha512"]] + [fleet.second("another"), self.malformed(image["sha512"])])
+                told_so = hash.upper() if isinstance(hash, str) and self.some(0.5) else hash
+                report |= fleet.content(image) | {"sha512": told_so}
+        self.lines.append(fleet.line("deliver", self.at, body=fleet.body(told)).encode())
+
+    def reported(self, image):
+        """An image as an ECU reports it: with a second hash, with that of another image, or without."""
+        told, how = fleet.content(image), self.rng.random()
+        if how < 0.25:
+            told.pop("sha512", None)
+        elif how < 0.5:
+            told["sha512"] = fleet.second("another %d" % self.rng.randrange(3))
+        if isinstance(told.get("sha512"), str) and self.some(0.3):
+            told["sha512"] = self.rng.choice([told["sha512"].lower(), told["sha512"].upper()])
+        return told
 
     def open_campaign(self):
         rng, number = self.rng, self.rng.randrange(8)
@@ -119,16 +160,18 @@ class Script:
 
     def report(self, ecu):
         rng, name = self.rng, ecu["ecu"]
-        if name in self.reported and self.some(0.2):
-            return self.reported[name]
-        image = rng.choice(self.images) if self.images and self.some(0.6) else fleet.FACTORY
-        last = self.reported.get(name, {"counter": 0})["counter"]
+        if name in self.last and self.some(0.2):
+            return self.last[name]
+        fitting = [it for it in self.images if ecu["hardware"] in it["hardware"]]
+        image = rng.choice(fitting or self.images) if self.images and self.some(0.7) else fleet.FACTORY
+        image = self.reported(image if self.some(0.95) else rng.choice([fleet.FACTORY, *self.images]))
+        last = self.last.get(name, {"counter": 0})["counter"]
         step = rng.choice([0, -1]) if self.some(0.05) else rng.choice([1, 1, 5])
         told = {"ecu": name, "key": ecu["key"], "counter": max(0, last + step), **image}
         told["time"] = self.at - START + rng.choice([0, 1, 253402300799 - self.at])
         if self.some(0.1):
             told["attack"] = rng.choice(['"low" \\', 256 * "~", ""])
-        self.reported[name] = told
+        self.last[name] = told
         return told
 
     def manifest(self, number=None):
@@ -168,7 +211,11 @@ class Script:
 
     def deliver(self):
         """A body as it is signed, or with another spelling, other signatures, or damage."""
-        rng, body = self.rng, fleet.body(self.manifest())
+        rng, told = self.rng, self.manifest()
+        if self.some(0.3):
+            reports = [report | {"sha512": self.malformed(fleet.second("malformed"))} for report in told["reports"]]
+            told = told | {"reports": reports}
+        body = fleet.body(told)
         how = rng.choice(["as it is"] * 4 + ["spelled", "signatures", "members", "damaged", "word"])
         if how in ("spelled", "signatures", "members"):
             value = json.loads(body)
@@ -195,8 +242,8 @@ class Script:
     def refresh(self):
         self.add("refresh", version=self.rng.choice([1, 5, 40, 80, MOST] if self.some(0.05) else [5, 20, 40]))
 
-    WEIGHTS = {"add_vehicle": 8, "replace_ecu": 5, "add_image": 8, "open_campaign": 6, "close_campaign": 1, "bench": 30,
-               "deliver": 16, "fetch": 5, "show": 6, "refresh": 1}
+    WEIGHTS = {"add_vehicle": 8, "replace_ecu": 5, "add_image": 8, "second_hash": 4, "open_campaign": 6, "close_campaign": 1,
+               "bench": 30, "deliver": 16, "fetch": 5, "show": 6, "refresh": 1}
 
     def step(self):
         rng = self.rng

@@ -34,7 +34,8 @@ AN_ANSWER = 1000
 def day(number):
     """The lines that fill a file, and the bodies that are delivered over it, in order."""
     vehicles, ecus = 40, 3
-    lines = list(fleet.script(vehicles, ecus, -(-number // vehicles), images=12, campaigns=4, seed=5, deliver=True))
+    words = {"images": 12, "campaigns": 4, "seed": 5, "second_hashes": 0.7, "deliver": True}
+    lines = list(fleet.script(vehicles, ecus, -(-number // vehicles), **words))
     bodies = [json.loads(line)["body"].encode() for line in lines if '"do":"deliver"' in line]
     return [line for line in lines if '"do":"deliver"' not in line and '"do":"show"' not in line], bodies
 

@@ -4,6 +4,7 @@
     make_lines.py found KEYS [--threshold ROLE=N ..]        the line that founds both repositories
     make_lines.py rotate KEYS [--threshold ROLE=N ..]       the line that gives both new keys
     make_lines.py add_image IMAGE --hardware H .. --release N [--file NAME] [--needs H=N ..] [--conflicts NAME ..]
+                            [--no-sha512]
     make_lines.py add_vehicle TABLE                         a line for each vehicle of a CSV
     make_lines.py replace_ecu VEHICLE OLD ECU --hardware H --key FILE
     make_lines.py refresh FROM                              the line that makes the Image repository's files anew
@@ -15,7 +16,8 @@ KEYS is a folder with a file for each key, `director-root-1.key`, `director-root
 hexadecimal digits, as `openssl rand -hex 32` prints them. Each of the eight roles has 1 to 4. A role's threshold is the number
 of its keys; `--threshold director-root=1` names another. What this prints for `found` and `rotate` holds the secrets: pipe it.
 
-IMAGE is the image itself: its length and SHA-256 are computed. Its filename in the repository is the file's own name, or NAME.
+IMAGE is the image itself: its length, SHA-256 and SHA-512 are computed. Its filename in the repository is the file's own name, or
+NAME. `--no-sha512` leaves the SHA-512 out; an image doesn't get one later.
 
 TABLE is a CSV whose first line is `vehicle,ecu,hardware,primary,key`, with a row for each ECU: `primary` is `yes` for the
 Primary and empty for the others, `key` has 64 hexadecimal digits, or the column is called `keyfile` and names a file that has
@@ -104,9 +106,9 @@ def new_keys(folder, asked):
 # ---- images, vehicles, versions
 
 
-def hashes_of(path):
-    """The length and the hashes of an image, by the names of the line's members. A further hash gets its row here."""
-    made, length = {"sha256": hashlib.sha256()}, 0
+def hashes_of(path, names):
+    """The length and these hashes of an image, by the names of the line's members."""
+    made, length = {name: hashlib.new(name) for name in names}, 0
     with open(path, "rb") as file:
         while part := file.read(1 << 20):
             length += len(part)
@@ -125,7 +127,8 @@ def new_image(given):
     need(all(0 <= it <= MOST for it in [given.release, *(one["release"] for one in needs)]), "a release is 0 to 2^53-1")
     need(len(needs) <= 16 and len(given.conflicts) <= 16, "there are at most 16 needs and 16 conflicts")
     need(all(map(FILE, given.conflicts)) and name not in given.conflicts, "a conflict is another image's filename")
-    made = {"file": name, "hardware": given.hardware, "release": given.release, **hashes_of(given.image)}
+    hashes = hashes_of(given.image, ["sha256"] if given.no_sha512 else ["sha256", "sha512"])
+    made = {"file": name, "hardware": given.hardware, "release": given.release, **hashes}
     return made | ({"needs": needs} if needs else {}) | ({"conflicts": given.conflicts} if given.conflicts else {})
 
 
@@ -232,6 +235,7 @@ def parser():
     image.add_argument("--file")
     image.add_argument("--needs", nargs="+", type=pair, default=[])
     image.add_argument("--conflicts", nargs="+", default=[])
+    image.add_argument("--no-sha512", action="store_true")
     made["add_vehicle"].add_argument("table", type=Path)
     for name in ("vehicle", "old", "ecu"):
         made["replace_ecu"].add_argument(name)

@@ -72,8 +72,10 @@ def makers(program, own):
     yield "the program takes them", trials.printed(program, path, lines) == 6 * ["done"]
     with trials.read(path) as db:
         yield "thresholds", db.execute("SELECT root, threshold, count(*) FROM role_key WHERE repository = 'director' AND role = 'root' GROUP BY root").fetchall() == [(1, 1, 2), (2, 2, 2)]
-        hashed = db.execute("SELECT length, hex(sha256) FROM image WHERE file = 'a/2.bin'").fetchall()
-        yield "an image's hash", hashed == [(3, "BA7816BF8F01CFEA414140DE5DAE2223B00361A396177A9CB410FF61F20015AD")]
+        hashed = db.execute("SELECT length, hex(sha256), hex(sha512) FROM image JOIN image_sha512 USING (file) WHERE file = 'a/2.bin'").fetchall()
+        yield "an image's hashes", hashed == [(3, ABC_256.upper(), ABC_512.upper())]
+    words = ("add_image", own / "image.bin", "--hardware", "HP", "--release", 1, "--file", "one.bin", "--no-sha512", *at)
+    yield "an image with one hash", "sha512" not in made(*words)[1][0] and ABC_256 in made(*words)[1][0]
     stamp = trials.printed(program, path, [fleet.line("fetch", repository="image", file="timestamp.json")])[0]
     by_file = made("refresh", "-", *at, given=stamp.encode())
     with http_cases.served(program, path, 1) as running:
@@ -123,12 +125,19 @@ def refusals(own, keys, at):
 # ---- the checker of scripts
 
 
+# of `abc`, by FIPS 180-4
+ABC_256 = "ba7816bf8f01cfea414140de5dae2223b00361a396177a9cb410ff61f20015ad"
+ABC_512 = ("ddaf35a193617abacc417349ae20413112e6fa4e89a97ea20a9eeee64b55d39a"
+           "2192992a274fc1a836ba3c23a3feebbd454d4423643ce80e2a9ac94fa54ca49f")
 IMAGE = {"file": "a.bin", "length": 3, "sha256": 64 * "0", "hardware": ["HP"], "release": 1}
 KEYS = fleet.key_set(1)
 AMISS = [
     (fleet.line("add_image", NOW, **IMAGE, need=[]), "look: need: no such member; it is ignored; is it needs?"),
     (fleet.line("add_image", NOW, **IMAGE, needs=[{"hardware": "HP", "release": 1, "file": "x"}]), "look: file: no such member, in needs[0]; it is ignored"),
     (fleet.line("add_image", NOW, **IMAGE | {"file": 129 * "a"}), "fault: file: 1 to 128 bytes of A-Z a-z 0-9 . _ - /"),
+    (fleet.line("add_image", NOW, **IMAGE, sha512=127 * "0"), "fault: sha512: 128 hexadecimal digits"),
+    (fleet.line("add_image", NOW, **IMAGE, sha512=None), "fault: sha512: 128 hexadecimal digits"),
+    (fleet.line("add_image", NOW, **IMAGE, sha51=128 * "0"), "look: sha51: no such member; it is ignored; is it sha512?"),
     (fleet.line("add_image", NOW + 40 * 86400, **IMAGE), "look: at: 40.0 days after now; it is taken as it stands, and files expire by it"),
     (fleet.line("add_image", NOW * 1000, **IMAGE), "fault: at: past 2100-01-01T00:00:00Z; the moment is in seconds"),
     (fleet.line("add_images", NOW, **IMAGE), "fault: do: one of %s; is it add_image?" % ", ".join(check_script.WORDS)),
@@ -331,7 +340,8 @@ def data_of(page):
 
 def pages(program, own):
     path = own / "fleet"
-    lines = list(fleet.script(vehicles=10, ecus=4, rounds=3))
+    lines = list(fleet.script(vehicles=10, ecus=4, rounds=3, second_hashes=0.7))
+    lines += unlike(lines)
     lines.append(fleet.line("add_vehicle", vehicle="new", primary="n", ecus=[{"ecu": "n", "hardware": "HP", "key": fleet.key(9)}]))
     attack = {"ecu": "n", "key": fleet.key(9), "counter": 1, "time": NOW, "attack": "</script><b>&", **fleet.FACTORY}
     yield "a fleet", trials.printed(program, path, lines) is not None
@@ -360,6 +370,15 @@ def pages(program, own):
     yield from other_schemas(path, own)
 
 
+def unlike(lines):
+    """One more manifest of each vehicle, whose ECUs report another second hash than the registered image's, or none that is one."""
+    told = [json.loads(line) for line in lines]
+    for at, last in enumerate({it["vehicle"]: it for it in told if it["do"] == "bench"}.values()):
+        hash = [fleet.second("another"), fleet.second("another").upper(), 128 * "x"][at % 3]
+        reports = [report | {"counter": report["counter"] + 9, "sha512": hash} for report in last["reports"]]
+        yield fleet.line("deliver", last["at"], body=fleet.body(last | {"counter": last["counter"] + 9, "reports": reports}))
+
+
 def page_of(path, now=NOW + 4 * 3600):
     ran = subprocess.run([sys.executable, TOOLS / "fleet_page.py", path, "--now", str(now)], capture_output=True, check=False)
     return ran.stdout.decode("ascii") if not ran.returncode and not ran.stderr else ""
@@ -375,7 +394,7 @@ def other_schemas(path, own):
         else:
             trials.copied(path, other)
             with closing(sqlite3.connect(other)) as db, db:
-                db.execute("INSERT INTO image_sha512 SELECT file, zeroblob(64) FROM image")
+                db.execute("INSERT OR REPLACE INTO image_sha512 SELECT file, zeroblob(64) FROM image")
         yield "a page of schema %d" % schema, schemas.schema_of(other) == schema and data_of(page_of(other)) == wanted
 
 

@@ -59,9 +59,15 @@ def ecu_key(number):
     return fleet.key(200 + number)
 
 
+def hashes(name):
+    """The hashes of an image: those of the gateway have two."""
+    first = {"sha256": hashlib.sha256(CONTENT[name]).hexdigest()}
+    return first | ({"sha512": hashlib.sha512(CONTENT[name]).hexdigest()} if name.startswith("gateway") else {})
+
+
 def image(name, at):
     kind, release = name.split("-")
-    told = {"length": len(CONTENT[name]), "sha256": hashlib.sha256(CONTENT[name]).hexdigest()}
+    told = {"length": len(CONTENT[name]), **hashes(name)}
     return fleet.line("add_image", at, file=name, hardware=["GW" if kind == "gateway" else "BR"], release=int(release[0]), **told)
 
 
@@ -81,7 +87,7 @@ def vehicle_of(roots):
     ecus = []
     for i, (ecu, kind) in enumerate(ECUS):
         name = "gateway-1.bin" if kind == "GW" else "brake-1.bin"
-        has = {"file": name, "length": len(CONTENT[name]), "sha256": hashlib.sha256(CONTENT[name]).hexdigest(), "release": 1}
+        has = {"file": name, "length": len(CONTENT[name]), **hashes(name), "release": 1}
         ecus.append({"ecu": ecu, "hardware": kind, "secret": ecu_key(i), "counter": 0, "installed": has})
     told = {"vehicle": "VIN-1", "primary": "gw", "counter": 0, "ecus": ecus, "role_secrets": secrets(FIRST) + secrets(SECOND)}
     return told | {repository: {"root": root, "versions": {}} for repository, root in roots.items()}
@@ -271,7 +277,9 @@ CHANGES = {
     "a Snapshot of other Targets": lambda it: it.resealed("targets", lambda signed: signed.update(version=3)),
     "an image that the Image repository hasn't": lambda it: it.resealed("targets", target(file="gateway-9.bin")),
     "another length": lambda it: it.resealed("targets", target(length=1)),
-    "another hash": lambda it: it.resealed("targets", target(hashes={"sha256": 64 * "0"})),
+    "another hash": lambda it: it.resealed("targets", target(hashes=hashes("gateway-2.bin") | {"sha256": 64 * "0"})),
+    "another second hash": lambda it: it.resealed("targets", target(hashes=hashes("gateway-2.bin") | {"sha512": 128 * "0"})),
+    "no second hash": lambda it: it.resealed("targets", target(hashes={"sha256": hashes("gateway-2.bin")["sha256"]})),
     "another release": lambda it: it.resealed("targets", target(release=3)),
     "other hardware": lambda it: it.resealed("targets", target(hardware=["GW", "BR"])),
     "an ECU of another vehicle": lambda it: it.resealed("targets", target(ecu="other")),
@@ -315,11 +323,21 @@ def checks():
         except verify.Refused:
             wrong += 1
     yield "another image's bytes", wrong == 2 and verify.check_image(due, CONTENT["gateway-2.bin"]) is None
+    yield "an image of another second hash", is_refused(due | {"hashes": due["hashes"] | {"sha512": 128 * "0"}}, CONTENT["gateway-2.bin"])
+    yield "an image of one hash", not is_refused(due | {"hashes": {"sha256": due["hashes"]["sha256"]}}, CONTENT["gateway-2.bin"])
     forgotten = copy.deepcopy(whole)
     forgotten.files["director/2.root.json"] = forgotten.second
     forgotten.trust["director"]["versions"] = {"timestamp": 9, "snapshot": 9, "targets": 9}
     trusted = verify.latest_root(forgotten.trust["director"], forgotten.files.get, forgotten.secrets, "director", NOW)
     yield "versions are forgotten with their keys", trusted["versions"] == {"timestamp": 0, "snapshot": 0, "targets": 9}
+
+
+def is_refused(target, content):
+    try:
+        verify.check_image(target, content)
+        return False
+    except verify.Refused:
+        return True
 
 
 def words():

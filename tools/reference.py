@@ -136,7 +136,7 @@ def text(pattern):
 
 
 IDENT, FILE = text(r"[A-Za-z0-9._-]{1,64}"), text(r"[A-Za-z0-9._/-]{1,128}")
-NOTE, HASH = text(r"[ -~]{0,256}"), text(r"[0-9A-Fa-f]{64}")
+NOTE, HASH, SECOND_HASH = text(r"[ -~]{0,256}"), text(r"[0-9A-Fa-f]{64}"), text(r"[0-9A-Fa-f]{128}")
 KEY, SIG = text(r"([0-9A-Fa-f]{2}){1,256}"), text(r"([0-9A-Fa-f]{2}){1,512}")
 KEYID, METHODS = text(r"[ -~]{1,128}"), text(r"[ -~]{1,64}")
 COUNT, LIST, OBJECT = is_count, lambda v: isinstance(v, list), lambda v: isinstance(v, dict)
@@ -157,6 +157,21 @@ def names(value, name, holds, least, most):
 
 def hash_of(value):
     return bytes.fromhex(member(value, "sha256", HASH))
+
+
+def second_hash_of(value):
+    """A second hash, none where it was left out: what stands there otherwise is a fault."""
+    return bytes.fromhex(member(value, "sha512", SECOND_HASH)) if "sha512" in value else None
+
+
+def second_hash_in(hashes):
+    """The second hash among hashes that were reported: a member that is none is one of those that nobody knows."""
+    return bytes.fromhex(hashes["sha512"]) if SECOND_HASH(hashes.get("sha512")) else None
+
+
+def hashes(told):
+    """The hashes that are written for an image: the second one where it has one."""
+    return {name: told[name].hex() for name in ("sha256", "sha512") if told[name]}
 
 
 # ---- signatures
@@ -214,7 +229,8 @@ def read_report(value):
     member(signed, "attack", NOTE)
     image = member(signed, "image", OBJECT)
     told |= {"file": member(image, "file", FILE), "length": member(image, "length", COUNT)}
-    told["sha256"] = hash_of(member(image, "hashes", OBJECT))
+    among = member(image, "hashes", OBJECT)
+    told |= {"sha256": hash_of(among), "sha512": second_hash_in(among)}
     return told | {"envelope": value, "text": canonical(signed)}
 
 
@@ -268,7 +284,7 @@ def read_need(value):
 
 def read_image(line):
     image = {"file": member(line, "file", FILE), "length": member(line, "length", COUNT)}
-    image["sha256"] = hash_of(line)
+    image |= {"sha256": hash_of(line), "sha512": second_hash_of(line)}
     image["hardware"], few = names(line, "hardware", IDENT, 1, 16)
     image["release"] = member(line, "release", COUNT)
     image["needs"] = list(each(member({"needs": []} | line, "needs", LIST), "needs", read_need))
@@ -312,7 +328,7 @@ def bench_report(value):
     told["time"] = moment(member(value, "time", lambda v: is_count(v, 0, LAST_MOMENT)))
     told["attack"] = member({"attack": ""} | value, "attack", NOTE)
     image = {"file": member(value, "file", FILE), "length": member(value, "length", COUNT)}
-    image["hashes"] = {"sha256": hash_of(value).hex()}
+    image["hashes"] = hashes({"sha256": hash_of(value), "sha512": second_hash_of(value)})
     return sealed([key], canonical(told | {"image": image, "type": "report"}))
 
 
@@ -332,7 +348,9 @@ def level(image, ecu):
     """The registered image of what the ECU reported, if there is one for its hardware."""
     it = image.get(ecu["file"])
     same = it and (it["length"], it["sha256"]) == (ecu["length"], ecu["sha256"])
-    return it if same and ecu["hardware"] in it["hardware"] else None
+    both = it and it["sha512"] and ecu["sha512"]
+    agree = same and (not both or it["sha512"] == ecu["sha512"])
+    return it if agree and ecu["hardware"] in it["hardware"] else None
 
 
 def wanted(images, items, ecu):
@@ -361,7 +379,7 @@ def plan(images, items, ecus):
 
 
 def target(image, more):
-    told = {"file": image["file"], "hardware": image["hardware"], "hashes": {"sha256": image["sha256"].hex()}}
+    told = {"file": image["file"], "hardware": image["hardware"], "hashes": hashes(image)}
     return told | {"length": image["length"], "release": image["release"]} | more
 
 
@@ -410,9 +428,9 @@ class Desk:
 
     def images(self):
         found = {}
-        for row in self.all("SELECT * FROM image"):
+        for row in self.all("SELECT * FROM image LEFT JOIN image_sha512 USING (file)"):
             told = {k: json.loads(row[k]) for k in ("hardware", "needs", "conflicts")}
-            told |= {k: row[k] for k in ("file", "length", "sha256")}
+            told |= {k: row[k] for k in ("file", "length", "sha256", "sha512")}
             found[row["file"]] = told | {"release": row["release_count"]}
         return found
 
@@ -515,6 +533,8 @@ class Desk:
         lists = {k: canonical(image[k]) for k in ("hardware", "needs", "conflicts")}
         sql = "INSERT INTO image VALUES (:file, :length, :sha256, :hardware, :release, :needs, :conflicts)"
         self.db.execute(sql, image | lists)
+        if image["sha512"]:
+            self.db.execute("INSERT INTO image_sha512 VALUES (:file, :sha512)", image)
         self.put_image_files(line["at"], meta["image_version"] + 1)
         return "done"
 

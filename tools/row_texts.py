@@ -21,6 +21,7 @@ DAYS = {
 }
 NOTHING = hashlib.sha256(b"").hexdigest()
 ABC = hashlib.sha256(b"abc").hexdigest()
+BOTH = {"sha256": ABC, "sha512": hashlib.sha512(b"abc").hexdigest()}
 Z = {"file": "z.bin", "hardware": ["HS"], "hashes": {"sha256": NOTHING}, "length": 0, "release": 1}
 A = {"file": "a.bin", "hardware": ["HS"], "hashes": {"sha256": ABC}, "length": 3, "release": 2}
 A7 = A | {"file": "a7.bin", "release": 7}
@@ -30,6 +31,8 @@ A_FOR_S3 = A | {"ecu": "S3"}
 A_FOR_S4 = A | {"ecu": "S4"}
 S_FOR_S2 = A_FOR_S2 | {"file": "s.bin", "release": 3}
 P_FOR_P2 = A | {"ecu": "P2", "file": "p.bin", "hardware": ["HP"], "release": 5}
+A_OF_BOTH = A | {"hashes": BOTH}
+BOTH_FOR_S2 = A_OF_BOTH | {"ecu": "S2"}
 A7_FOR_31 = [A7 | {"ecu": "E%d" % number} for number in range(1, 32)]
 
 # each reply of a row: the vehicle, its version, the root version, and the targets
@@ -58,6 +61,9 @@ REPLIES = {
     "replaced_ecu": [("V2", 1, 1, []), ("V2", 2, 1, []), ("V2", 1, 1, [])],
     "replaced_ecu_under_a_second_scheme": [("V2", 1, 1, []), ("V2", 2, 1, []), ("V2", 1, 1, [])],
     "replaced_ecu_of_a_campaign": [("V2", 1, 1, [A_FOR_S2]), ("V2", 2, 1, [A_FOR_S3]), ("V2", 1, 1, [A_FOR_S2]), ("V2", 3, 1, [A_FOR_S4])],
+    "second_hash": [("V2", 1, 1, [BOTH_FOR_S2]), ("V2", 2, 1, [BOTH_FOR_S2]), ("V2", 3, 1, []), ("V2", 4, 1, []), ("V2", 1, 1, [BOTH_FOR_S2])],
+    "second_hash_under_a_second_scheme": [("V2", 1, 1, [BOTH_FOR_S2]), ("V2", 2, 1, [BOTH_FOR_S2]), ("V2", 3, 1, []), ("V2", 4, 1, []), ("V2", 1, 1, [BOTH_FOR_S2])],
+    "second_hash_in_other_spellings": [("V2", version, 1, [BOTH_FOR_S2] if version in (2, 11, 12) else []) for version in [*range(1, 15), 13]],
     "vehicle_of_32_ecus": 2 * [("V32", 1, 1, A7_FOR_31)],
     "vehicle_of_32_ecus_under_a_second_scheme": 2 * [("V32", 1, 1, A7_FOR_31)],
 }
@@ -67,6 +73,7 @@ REPLIES = {
 FILES = {
     "files_of_the_image_repository": [(role, 1, 0, 2, [Z]) for role in ROLES[1:]] + [("image", 1, 0)],
     "root_signed_by_the_old_key_too": [("director", 2, 0)],
+    "second_hash_in_the_files": [(role, 1, 0, 3, [A_OF_BOTH, Z]) for role in ROLES[1:]],
     "each_command_under_a_second_scheme": [(role, 1, 1, 9, [A, Z]) for role in ROLES[1:]]
     + [("director", 2, 2), ("image", 2, 2)]
     + [(role, 2, 2, 10, [A, Z]) for role in ROLES[1:]],

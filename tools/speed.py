@@ -1,7 +1,7 @@
 #!/usr/bin/env python3
 """Measures the program: instructions a line, lines a second, and what a start takes. `docs/SPEED.md` has the figures.
 
-    speed.py PROGRAM fleets         instructions and compressions of SHA-256 a line, of scripts of four fleets
+    speed.py PROGRAM fleets         instructions and compressions of SHA-256 a line, of scripts of five fleets
     speed.py PROGRAM functions      the five functions that take most of them, in the fleet of `fleets` that is first
     speed.py PROGRAM commands       instructions and compressions of SHA-256 of a line of each kind
     speed.py PROGRAM lines          lines a second over a file, as a ratio to the same script over memory
@@ -38,6 +38,7 @@ FLEETS = {
     "100 of 4 ECUs": {"vehicles": 100, "ecus": 4},
     "1,000 of 1 ECU": {"vehicles": 1000, "ecus": 1, "rounds": 2},
     "10 of 32 ECUs": {"vehicles": 10, "ecus": 32},
+    "40 of 4 ECUs, images with two hashes": {"vehicles": 40, "ecus": 4, "second_hashes": 1},
 }
 COMPRESS = "block256::compress"
 MOST = 100_000
@@ -115,13 +116,27 @@ def kinds_of_lines():
     yield "`add_vehicle`, of 4 ECUs", setup, [
         fleet.line("add_vehicle", vehicle="n%d" % at, primary="n%d-e0" % at, ecus=named("n%d" % at)) for at in few]
     yield "`add_image`, the 21st to the 30th", setup, [fleet.line("add_image", file="n%d" % at, **image) for at in few]
+    both = image | {"sha512": fleet.second("new")}
+    yield "the same with two hashes", setup, [fleet.line("add_image", file="n%d" % at, **both) for at in few]
     yield "`refresh`, with 20 images", setup, [fleet.line("refresh", version=100 + at) for at in few]
     yield "`open_campaign`, for all", setup, campaigns
     yield "`close_campaign`", setup + campaigns, [fleet.line("close_campaign", campaign="n%d" % at) for at in few]
     yield "a manifest of 4 ECUs", setup, manifests
     yield "its repeat", setup + manifests, manifests
+    for name, second in (("the next one", {}), ("the next one, of ECUs with two hashes", {"sha512": fleet.second("factory")})):
+        first, after = (list(numbered(desk, number, second)) for number in (1, 2))
+        yield name, setup + first, after
     yield "`fetch` of a Timestamp", setup, [fleet.line("fetch", repository="image", file="timestamp.json")] * 10
     yield "`show`, of 4 ECUs", setup + manifests, [fleet.line("show", vehicle="v%06d" % at) for at in few]
+
+
+def numbered(desk, number, second):
+    """A manifest of each vehicle, in which all ECUs report the factory's image, with a second hash or without."""
+    for name, ecus in desk.vehicles.items():
+        report = {"counter": number, "time": fleet.START, **fleet.FACTORY, **second}
+        reports = [report | {"ecu": ecu, "key": key} for ecu, _, key in ecus]
+        told = {"vehicle": name, "primary": ecus[0][0], "key": ecus[0][2], "counter": number, "reports": reports}
+        yield fleet.line("deliver", body=fleet.body(told))
 
 
 def commands(program, own):

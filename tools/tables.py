@@ -3,7 +3,7 @@
 
     tables.py PROGRAM
 
-A fleet's day is carried out over a file. SQLite has to find the file whole, with the tables of `docs/TABLES.md`
+A fleet's day, of images with second hashes and without, is carried out over a file. SQLite has to find the file whole, with the tables of `docs/TABLES.md`
 and the rows that `tools/reference.py` makes of the same day. A file that SQLite wrote, with the same rows, is
 adopted and answers alike, and so are copies. The page's queries have to tell what the day's answers told. Files of
 older schemas, which SQLite makes of the rows of worked rows, are raised and answer as before, with the same kept
@@ -26,8 +26,11 @@ import reference
 import schemas
 import trials
 
-DAY = list(fleet.script(vehicles=9, ecus=4, rounds=3, images=14, campaigns=4, seed=13))
+FLEET = {"vehicles": 9, "ecus": 4, "rounds": 3, "images": 14, "campaigns": 4, "seed": 13}
+DAY = list(fleet.script(**FLEET, second_hashes=0.5))
 HALF = len(DAY) // 2
+# what an older program may have done
+OLD_DAY = list(fleet.script(**FLEET))
 SHOWS = [fleet.line("show", vehicle="v%06d" % number) for number in range(9)]
 
 
@@ -126,17 +129,31 @@ def worked():
     for name in WORKED:
         text = (trials.TOP / "rows" / name / "script").read_text(encoding="ascii")
         yield name, [line for line in text.split("\n") if line]
-    yield "half a day", DAY[:HALF]
+    yield "half a day", OLD_DAY[:HALF]
+    yield "reports with second hashes", list(second_hashes_reported())
+
+
+def second_hashes_reported():
+    """An older program took reports that have one, and kept them, but registered no image with one."""
+    yield fleet.line("found", **fleet.key_set(1))
+    yield from (vehicle("V1", "P1", "S1"), image("a"), campaign("mine", ["V1"], "HP", "a"))
+    for counter, hash in enumerate((fleet.second("a"), fleet.second("b").upper(), fleet.second("a")[1:], None, ""), 1):
+        yield delivered("V1", counter, "P1", "S1", file="a", second=hash)
+
+
+BOTH = {"file": "both.bin", "length": 1, "sha256": fleet.digest("both"), "sha512": fleet.second("both"), "hardware": ["HS"], "release": 99}
 
 
 def asked_again(lines):
     """After a script: its vehicles are shown, files fetched, its lines given again, each vehicle sends one more manifest, and an ECU
-    of it is replaced, after which its last manifests come again and the new one reports."""
+    of it is replaced, after which its last manifests come again and the new one reports, at last an image with a second hash."""
     told = [json.loads(line) for line in lines]
     names = [it["vehicle"] for it in told if it["do"] == "add_vehicle"]
     yield from (fleet.line("show", vehicle=name) for name in names)
     yield from (fleet.line("fetch", repository=repository, file=file) for repository, file in FILES)
     yield from lines
+    yield fleet.line("add_image", **BOTH)
+    yield campaign("both", "all", "HS", BOTH["file"])
     for last in {it["vehicle"]: it for it in told if it["do"] == "bench"}.values():
         reports = [report | {"counter": report["counter"] + 50} for report in last["reports"]]
         yield json.dumps(last | {"counter": last["counter"] + 50, "reports": reports})
@@ -147,6 +164,10 @@ def asked_again(lines):
         yield json.dumps(last)
         yield json.dumps(last | {"counter": last["counter"] + 51, "reports": reports})
         yield json.dumps(last | {"counter": last["counter"] + 51, "reports": [*reports[:-1], old | new]})
+        of_both = old | new | fleet.content(BOTH)
+        for step, hash in ((52, fleet.second("another")), (53, BOTH["sha512"].upper())):
+            told = of_both | {"counter": old["counter"] + step, "sha512": hash}
+            yield json.dumps(last | {"counter": last["counter"] + step, "reports": [*reports[:-1], told]})
     yield from (fleet.line("show", vehicle=name) for name in names)
 
 
@@ -160,7 +181,7 @@ def raised(program, path, asked, wanted, rules):
     after = trials.rows(path)
     yield "has the rows of the rules", after == rules
     yield "keeps each reply, byte for byte", before["kept"] != [] and set(before["kept"]) <= set(after["kept"])
-    yield "has no second hash", after["image_sha512"] == []
+    yield "had no second hash, and has one now", before["image_sha512"] == [] != after["image_sha512"]
     yield "is whole", trials.faults(path) == []
 
 
@@ -216,10 +237,12 @@ def replaced(vehicle, old, ecu, at=fleet.START):
     return fleet.line("replace_ecu", at, vehicle=vehicle, old=old, ecu=ecu, hardware="HP", key=fleet.key(7))
 
 
-def delivered(name, counter, *ecus, primary="P1", key=7, report_key=7, of=0, file=None):
-    """A manifest with a report of each ECU, at the counter of the manifest or at another; of the factory's image or of a file."""
+def delivered(name, counter, *ecus, primary="P1", key=7, report_key=7, of=0, file=None, **second):
+    """A manifest with a report of each ECU, at the counter of the manifest or at another; of the factory's image or of a file, and
+    with what stands in the place of a `second` hash."""
     had = {"file": file, "length": 1, "sha256": fleet.digest(file)} if file else fleet.FACTORY
     report = {"counter": of or counter, "key": fleet.key(report_key), "time": fleet.START, **had}
+    report |= {"sha512": hash for hash in second.values()}
     told = {"vehicle": name, "primary": primary, "key": fleet.key(key), "counter": counter}
     return fleet.line("deliver", body=fleet.body(told | {"reports": [report | {"ecu": ecu} for ecu in ecus]}))
 
@@ -298,6 +321,23 @@ def others_damaged():
     yield delivered("V1", 4, "P1", "S1", of=2), "refused 18 ReportReplayed P1"
 
 
+def second_hashes_damaged():
+    """Those for which an image's second hash is read, where all of them are damaged, and refusals before that."""
+    yield image("a"), LOST
+    yield image("c"), LOST
+    yield fleet.line("refresh", version=99), LOST
+    yield fleet.line("refresh", version=3), "refused 28 VersionNotGreater"
+    yield fleet.line("rotate", **fleet.key_set(9)), LOST
+    yield campaign("new", "all", "HP", "a"), LOST
+    yield campaign("new", "all", "HP", "none"), "refused 26 UnknownImage"
+    yield campaign("new", ["V9"], "HP", "a"), "refused 10 UnknownVehicle"
+    yield delivered("V1", 4, "P1", "S1"), LOST
+    yield delivered("V1", 1, "P1", "S1"), "reply V1 version 1 targets 2"
+    yield delivered("V1", 2, "P1", "S1"), "refused 13 Stale 3"
+    yield delivered("V1", 4, "P1"), "refused 16 MissingEcu S1"
+    yield close("over"), "already"
+
+
 def unfounded():
     """Before the founding, over an image that no call of the product leaves."""
     yield fleet.line("rotate", **fleet.key_set(9)), "refused 8 NotFounded"
@@ -318,6 +358,7 @@ def read(program, own):
     made = {
         "all": (founded(), [DAMAGED_IMAGES, DAMAGED_CAMPAIGNS], all_damaged()),
         "others": (founded(), [OTHER_IMAGES, OTHER_CAMPAIGNS], others_damaged()),
+        "second hashes": (founded(), ["INSERT INTO image_sha512 SELECT file, x'00' FROM image"], second_hashes_damaged()),
         "unfounded": ([], [strange], unfounded()),
         "64 roots": ([*founded(), *rotated], [DAMAGED_IMAGES], [(rotate, "refused 30 RootFull")]),
         "the greatest version": ([*founded(), greatest], [DAMAGED_IMAGES], [(rotate, "refused 21 VersionLimit")]),
@@ -393,7 +434,7 @@ def replacing(lines):
 
 def replaced_day():
     """The day with replacements between its rounds and, of some vehicles, at its end."""
-    day = list(fleet.script(vehicles=9, ecus=4, rounds=3, images=14, campaigns=4, seed=13, replaced=0.3))
+    day = list(fleet.script(**FLEET, replaced=0.3, second_hashes=0.5))
     present, _, kinds = replacing([json.loads(line) for line in day])
     for vehicle in sorted(present)[::2]:
         for old in present[vehicle][1:3]:
@@ -445,9 +486,31 @@ def asked(program, own):
             yield "the history of " + vehicle, [(row[0], row[4]) for row in past] == wanted
 
 
+def by_second_hashes(program, own):
+    """What the queries tell of ECUs that report an image with its second hash, with another, without one, and with none that is one."""
+    path, hash = own / "second", fleet.second("a")
+    lines = [fleet.line("found", **fleet.key_set(1)), vehicle("V1", "E1", "E2", "E3", "E4"), fleet.line("add_image", **BOTH | {"hardware": ["HP"]})]
+    reports = [{"ecu": ecu, "key": fleet.key(7), "counter": 1, "time": fleet.START, **fleet.content(BOTH)} for ecu in ("E1", "E2", "E3", "E4")]
+    reports[0]["sha512"] = reports[0]["sha512"].upper()
+    reports[1]["sha512"] = hash
+    del reports[2]["sha512"]
+    reports[3]["sha512"] = hash[1:] + "g"
+    told = {"vehicle": "V1", "primary": "E1", "key": fleet.key(7), "counter": 1, "reports": reports}
+    lines += [campaign("mine", "all", "HP", BOTH["file"]), fleet.line("deliver", body=fleet.body(told))]
+    answers = trials.printed(program, path, lines)
+    yield "an ECU with another second hash is assigned the image", answers == 4 * ["done"] + ["reply V1 version 1 targets 1"]
+    with trials.read(path) as db:
+        assigned, run, _, _, left, *_ = queries()
+        yield "and it alone", db.execute(assigned).fetchall() == [("V1", "E2", BOTH["file"])]
+        had = [(BOTH["file"], None if ecu == "E2" else 99, "V1", ecu) for ecu in ("E1", "E2", "E3", "E4")]
+        yield "the others run it", db.execute(run).fetchall() == had
+        yield "it is left", db.execute(left).fetchall() == [("mine", 1)]
+
+
 def cases(program):
     with trials.folder() as own:
         yield from asked(program, own)
+        yield from by_second_hashes(program, own)
         yield from copies(program, own)
         yield from foreign(program, own)
         yield from older(program, own)

@@ -50,13 +50,18 @@ def is_signed_by(envelope, secret):
     )
 
 
+def hashes(given):
+    """The hashes of an image: SHA-256, and SHA-512 where the image has one."""
+    return {name: given[name] for name in ("sha256", "sha512") if name in given}
+
+
 def report(given):
     """An ECU version report, signed by the ECU."""
     payload = {
         "attack": given.get("attack", ""),
         "counter": given["counter"],
         "ecu": given["ecu"],
-        "image": {"file": given["file"], "hashes": {"sha256": given["sha256"]}, "length": given["length"]},
+        "image": {"file": given["file"], "hashes": hashes(given), "length": given["length"]},
         "time": moment(given["time"]),
         "type": "report",
     }

@@ -15,6 +15,8 @@ Nothing but Python's standard library is used. The input of `build` is one JSON 
     {"vehicle": .., "primary": .., "key": HEX, "counter": N,
      "reports": [{"ecu": .., "key": HEX, "counter": N, "time": SECONDS, "attack": .., "file": .., "length": N, "sha256": HEX}, ..]}
 
+A report may have `"sha512": HEX` too.
+
 VEHICLE is a file that holds what the vehicle knows, `vehicle.json` for one; it is written anew in each round. It holds secrets: the
 ECUs' and those of the repositories' roles. In a vehicle each ECU signs its own report with its own key and hands the envelope to
 the Primary, and checks the metadata once more; here one program holds all keys. Images aren't served by the repositories: a round
@@ -36,7 +38,7 @@ from pathlib import Path
 sys.dont_write_bytecode = True
 
 import verify
-from envelopes import canonical, key_identifier, manifest
+from envelopes import canonical, hashes, key_identifier, manifest
 
 # seconds: what an answer may take, and the waits between tries, each half as long again at random so that a fleet doesn't come at once
 PATIENCE = 20
@@ -95,7 +97,7 @@ def new_manifest(told, now):
     for ecu in told["ecus"]:
         ecu["counter"] += 1
         secrets[ecu["ecu"]] = ecu["secret"]
-        has = {name: ecu["installed"][name] for name in ("file", "length", "sha256")}
+        has = {name: ecu["installed"][name] for name in ("file", "length", "sha256", "sha512") if name in ecu["installed"]}
         reports.append({"ecu": ecu["ecu"], "key": ecu["secret"], "counter": ecu["counter"], "time": now, "attack": ecu.get("attack", "")} | has)
     made = {"vehicle": told["vehicle"], "primary": told["primary"], "key": secrets[told["primary"]]}
     return manifest(made | {"counter": told["counter"], "reports": reports})
@@ -149,7 +151,7 @@ def install(told, due, folder):
             print("%s is to install %s, which isn't here yet" % (ecu["ecu"], target["file"]))
         elif target:
             verify.check_image(target, path.read_bytes())
-            has = {"file": target["file"], "length": target["length"], "sha256": target["hashes"]["sha256"], "release": target["release"]}
+            has = {"file": target["file"], "length": target["length"], **hashes(target["hashes"]), "release": target["release"]}
             ecu["installed"] = has
             print("%s installed %s" % (ecu["ecu"], target["file"]))
 

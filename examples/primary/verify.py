@@ -105,6 +105,8 @@ def check_targets(director, image, ecus):
 
 
 def check_image(target, content):
-    """That the bytes are the image that was meant."""
+    """That the bytes are the image that was meant, by each hash that the target has."""
     expect(len(content) == target["length"], "%s has another length", target["file"])
     expect(hashlib.sha256(content).hexdigest() == target["hashes"]["sha256"], "%s has another SHA-256", target["file"])
+    if "sha512" in target["hashes"]:
+        expect(hashlib.sha512(content).hexdigest() == target["hashes"]["sha512"], "%s has another SHA-512", target["file"])

@@ -5,7 +5,7 @@ use Rattle.std.specs.List.{list_all}
 use Rattle.std.proofs.lemmas.Bool.{and_parts}
 use Rattle.std.proofs.lemmas.Bool.Decides.{nat_tests}
 use Rattle.hex.specs.Hex.{IsBytes}
-use Rattle.up_canon.specs.HexText.{is_hash}
+use Rattle.up_canon.specs.HexText.{is_hash, is_sha512}
 use Rattle.up_canon.proofs.Printable.{both}
 
 pub bytes_placed : (xs : List ℕ) → list_all (λ x. nat_lt x 256) xs ≡ true → IsBytes xs
@@ -23,4 +23,9 @@ bytes_tested (x ∷ xs) h =
 pub hash_typed : (hash : List ℕ) → length hash ≡ 32 → IsBytes hash → is_hash hash ≡ true
 hash_typed hash size h =
     let whole : (length hash == 32) ≡ true = grind (arith, nat_tests) in
+    ap₂ (λ (a b : Bool). a && b) whole (bytes_tested hash h)
+
+pub sha512_typed : (hash : List ℕ) → length hash ≡ 64 → IsBytes hash → is_sha512 hash ≡ true
+sha512_typed hash size h =
+    let whole : (length hash == 64) ≡ true = grind (arith, nat_tests) in
     ap₂ (λ (a b : Bool). a && b) whole (bytes_tested hash h)

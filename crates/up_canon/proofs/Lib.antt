@@ -19,3 +19,4 @@ pub mod Steps
 pub mod Members
 pub mod Faults
 pub mod ByteTests
+pub mod Hashes

@@ -1,6 +1,6 @@
 -- A reader of a member answers exactly the member of its name.
-use Rattle.std.proofs.Common.{◌≡◌, ℕ, ◌≤◌, List, Bool, true, false, cond, Some, None, Ok, length, refl, ap, ◌∙◌, subst, sym, arith}
-use Rattle.std.specs.Prelude.{option_and_then, option_map, nat_le}
+use Rattle.std.proofs.Common.{◌≡◌, ℕ, ◌≤◌, List, Bool, true, false, cond, Option, Some, None, Result, Ok, Err, length, refl, ap, ◌∙◌, subst, sym, arith}
+use Rattle.std.specs.Prelude.{option_and_then, option_map, nat_le, codes}
 use Rattle.std.specs.Cmp.Lexicographic.{bytes_decides}
 use Rattle.std.proofs.lemmas.Bool.{and_parts}
 use Rattle.std.proofs.lemmas.Bool.Decides.{nat_tests}
@@ -9,12 +9,12 @@ use Rattle.serde_json.specs.Find as json
 use Rattle.up_canon.specs.Canon.{max_count}
 use Rattle.up_canon.specs.Names.{Name, is_from_to, is_ident, is_file_name, is_note, is_short_text}
 use Rattle.up_canon.specs.Moments.{read_moment}
-use Rattle.up_canon.specs.HexText.{hex_of, hex_in, sha256_in}
+use Rattle.up_canon.specs.HexText.{hex_of, hex_in, sha256_in, sha512_in}
 use Rattle.up_canon.specs.Members.{items_list, text_of, count_of, list_of, object_of, member_in, text_in, count_in, list_in, object_in}
 use Rattle.up_canon.specs.Readers.{fitting, ident_of, file_name_of, note_of, ident_in, file_name_in, note_in, word_in, short_text_in, positive_in, list_within, moment_in}
 use Rattle.up_canon.specs.Steps.{◌>>=◌, or_error, if_passes, value_of}
 use Rattle.up_canon.specs.declared.refusal.Refusal.TheVariants.{BadShape}
-use Rattle.up_canon.specs.Meaning.{HasText, HasCount, HasObject, HasHex}
+use Rattle.up_canon.specs.Meaning.{HasText, HasCount, HasObject, HasHex, MeansIfAny}
 use Rattle.up_canon.proofs.Steps.{first_ok, bind-ok, or_error_ok, unless_ok, value_of_some, passed}
 
 -- ---- what a value is
@@ -236,6 +236,24 @@ sha256_read name d bytes h = first_ok _ _ _ _ h (λ v has h. hex_of_read 64 64 n
 pub sha256_there : (name : List ℕ) (d : Data) (bytes : List ℕ) → HasHex 64 64 d name bytes → sha256_in name d ≡ Ok bytes
 unfolding sha256_in member_in
 sha256_there name d bytes h = bind-ok _ _ (string h.digits) (ap (or_error (BadShape name)) h.has_digits) ∙ hex_of_there 64 64 name d bytes h
+
+-- what is read is the value of which M holds, or there is none such: decided by a reading that is that value exactly where M holds of it
+pub if_any_read : {A E : Type 0} (M : A → Type 0) (r : Result A E) → ((x : A) → r ≡ Ok x → M x) → ((x : A) → M x → r ≡ Ok x) → MeansIfAny M (value_of r)
+if_any_read M (Ok x) read there = read x refl
+if_any_read M (Err e) read there = λ x m. let same = there x m in cc
+
+pub if_any_there : {A E : Type 0} (M : A → Type 0) (r : Result A E) (o : Option A) → ((x : A) → r ≡ Ok x → M x) → ((x : A) → M x → r ≡ Ok x) → MeansIfAny M o → value_of r ≡ o
+if_any_there M r (Some x) read there m = ap value_of (there x m)
+if_any_there M (Ok x) None read there none = absurd (none x (read x refl))
+if_any_there M (Err e) None read there none = refl
+
+pub sha512_read : (hashes : Data) → MeansIfAny (HasHex 128 128 hashes (codes "sha512")) (sha512_in hashes)
+unfolding sha512_in
+sha512_read hashes = if_any_read _ (hex_in 128 128 (codes "sha512") hashes) (hex_read 128 128 (codes "sha512") hashes) (hex_there 128 128 (codes "sha512") hashes)
+
+pub sha512_there : (hashes : Data) (hash : Option (List ℕ)) → MeansIfAny (HasHex 128 128 hashes (codes "sha512")) hash → sha512_in hashes ≡ hash
+unfolding sha512_in
+sha512_there hashes hash = if_any_there _ (hex_in 128 128 (codes "sha512") hashes) hash (hex_read 128 128 (codes "sha512") hashes) (hex_there 128 128 (codes "sha512") hashes)
 
 pub moment_read : (name : List ℕ) (d : Data) (m : ℕ) → moment_in name d ≡ Ok m → (t : List ℕ) × HasText d name t × (read_moment t ≡ Some m)
 unfolding moment_in

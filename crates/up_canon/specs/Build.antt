@@ -1,5 +1,5 @@
 -- JSON values made of their parts.
-use Rattle.std.specs.Prelude.{ℕ, List, [], ◌∷◌, codes}
+use Rattle.std.specs.Prelude.{ℕ, List, [], ◌∷◌, Option, option_map, option_to_list, codes}
 use Rattle.hex.specs.Hex.{encode_lower}
 use Rattle.serde_json.specs.Data.{unsigned, Data, number, string, array, object, Members, no_members, put}
 use Rattle.serde_json.specs.View.{items_of}
@@ -25,6 +25,6 @@ count_value n = number (unsigned n)
 abbrev pub hex_value : List ℕ → Data
 hex_value bytes = string (encode_lower bytes)
 
--- a SHA-256 under the name of the hash function
-abbrev pub hashes_value : List ℕ → Data
-hashes_value hash = object_with ((codes "sha256", hex_value hash) ∷ [])
+-- a SHA-256 and, where there is one, a SHA-512, each under the name of its hash function
+abbrev pub hashes_value : List ℕ → Option (List ℕ) → Data
+hashes_value sha256 sha512 = object_with ((codes "sha256", hex_value sha256) ∷ option_to_list (option_map (λ hash. (codes "sha512", hex_value hash)) sha512))

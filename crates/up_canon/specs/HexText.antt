@@ -1,5 +1,5 @@
 -- Bytes that JSON holds as hexadecimal text (base 16 of RFC 4648).
-use Rattle.std.specs.Prelude.{ℕ, ◌&&◌, ◌==◌, List, Bool, nat_lt, length, Result}
+use Rattle.std.specs.Prelude.{ℕ, ◌&&◌, ◌==◌, List, Bool, true, nat_lt, length, codes, Option, Some, None, Result}
 use Rattle.std.specs.List.{list_all}
 use Rattle.hex.specs.Hex.{decode_of}
 use Rattle.serde_json.specs.Data.{Data}
@@ -13,6 +13,15 @@ use Rattle.up_canon.specs.declared.refusal.Refusal.TheVariants.{BadShape}
 -- a SHA-256 (FIPS 180-4): 32 bytes
 abbrev pub is_hash : List ℕ → Bool
 is_hash hash = (length hash == 32) && list_all (λ x. nat_lt x 256) hash
+
+-- a SHA-512 (FIPS 180-4): 64 bytes
+abbrev pub is_sha512 : List ℕ → Bool
+is_sha512 hash = (length hash == 64) && list_all (λ x. nat_lt x 256) hash
+
+-- a second hash, which may be left out, is a SHA-512
+abbrev pub is_second_hash : Option (List ℕ) → Bool
+is_second_hash None = true
+is_second_hash (Some hash) = is_sha512 hash
 
 -- the bytes of so many digits, of either case
 unfoldable pub hex_of : ℕ → ℕ → List ℕ → Data → Result (List ℕ) Refusal
@@ -32,3 +41,7 @@ unfoldable pub sha256_in : List ℕ → Data → Result (List ℕ) Refusal
 sha256_in name d = do
   value ← member_in name d
   hex_of 64 64 name value
+
+-- the 64 bytes of a member `sha512` of 128 digits, of either case; any other member counts as none, so that no fault comes of it
+unfoldable pub sha512_in : Data → Option (List ℕ)
+sha512_in hashes = value_of (hex_in 128 128 (codes "sha512") hashes)

@@ -1,5 +1,5 @@
 -- What the members of a JSON value mean, as relations: which member of a name it has.
-use Rattle.std.specs.Prelude.{◌≡◌, ℕ, ◌≤◌, List, [], ◌∷◌, length, Some, Ok, ⊤, IsUtf8}
+use Rattle.std.specs.Prelude.{◌≡◌, ℕ, ◌≤◌, List, [], ◌∷◌, length, Option, Some, None, Ok, ⊤, IsUtf8}
 use Rattle.hex.specs.Hex.{decode_of}
 use Rattle.serde_json.specs.Data.{unsigned, Data, number, string, object, Items, no_items, item, Members}
 use Rattle.serde_json.specs.Find as json
@@ -31,6 +31,11 @@ pub record HasHex (least most : ℕ) (d : Data) (name bytes : List ℕ) : Type 0
   pub at_least : least ≤ length digits
   pub at_most : length digits ≤ most
   pub decoded : decode_of digits ≡ Ok bytes
+
+-- the value of which M holds, or none where M holds of no value
+abbrev pub MeansIfAny : {A : Type 0} → (A → Type 0) → Option A → Type 0
+MeansIfAny M (Some x) = M x
+MeansIfAny {A = A} M None = (x : A) → M x → ⊥
 
 -- each item of the list means the value at its place
 abbrev pub EachMeans : {A : Type 0} → (Data → A → Type 0) → Items → List A → Type 0

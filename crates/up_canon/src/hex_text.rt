@@ -1,14 +1,14 @@
 //! Bytes that JSON holds as hexadecimal text.
-ghost use Rattle.std.specs.Prelude.{◌≡◌, Ok, IfOk, MatchResult, string_bytes, true};
+ghost use Rattle.std.specs.Prelude.{◌≡◌, Ok, IfOk, MatchResult, OnOk, string_bytes, true};
 ghost use Rattle.hex.specs.Hex.{encode_lower};
 ghost use Rattle.serde_json.specs.View.{view};
 ghost use Rattle.up_canon.specs.Build.{hashes_value as hashes_value_of};
-ghost use Rattle.up_canon.specs.HexText.{hex_of as hex_of_value, hex_in, is_hash, sha256_in};
+ghost use Rattle.up_canon.specs.HexText.{hex_of as hex_of_value, hex_in, is_hash, is_sha512, is_second_hash, sha256_in, sha512_in};
 ghost use Rattle.up_canon.specs.Members.{IsFault, object_of_map};
 ghost use Rattle.up_canon.specs.Refusals.{Gives};
 
 use crate::bytes::Bytes;
-use crate::fields::member_at;
+use crate::fields::{find, member_at};
 use crate::kinds::text_of;
 use crate::refusal::Refusal;
 use hex::FromHexError;
@@ -76,13 +76,48 @@ pub fn sha256_of(value: &Value, name: &'static str) -> Result<[u8; 32], &'static
     }
 }
 
-/// A SHA-256 under the name of the hash function, in lower case digits.
-pub fn hashes_value(alloc: Global, hash: &[u8; 32]) -> Result<Value, AllocError>
-    ensures value { IfOk result (λ v. view v ≡ hashes_value_of hash.now) }
-    ensures typed { is_hash hash.now ≡ true }
+/// The SHA-512 of the member `sha512`, where it is 128 hexadecimal digits of either case. Any other member counts as none.
+/// It takes no memory.
+#[tactic(auto, unfolding(crate::specs::HexText::sha512_in, crate::specs::HexText::hex_in, crate::specs::Members::member_in, crate::specs::Steps::and_then))]
+pub fn sha512_at(hashes: &Map<String, Value>) -> Option<[u8; 64]>
+    ensures { result ≡ sha512_in (object_of_map hashes.now.entries) }
 {
-    let digits = digits_of(alloc, hash)?;
-    json!(in alloc; {"sha256": digits})
+    sha512_of(find(hashes, "sha512")?, "sha512").ok()
+}
+
+/// The 64 bytes of a text of 128 hexadecimal digits, of either case, or the name.
+#[tactic(auto, unfolding(crate::specs::HexText::hex_of, crate::specs::Steps::and_then))]
+pub fn sha512_of(value: &Value, name: &'static str) -> Result<[u8; 64], &'static str>
+    ensures { MatchResult result
+        (λ hash. hex_of_value 128 128 name.now (view value.now) ≡ Ok hash)
+        (λ fault. IsFault (hex_of_value 128 128 name.now (view value.now)) name.now fault.now) }
+{
+    let text = text_of(value, name)?;
+    let mut bytes = [0; 64];
+    match hex::decode_to_slice(text.as_bytes(), &mut bytes[..]) {
+        Ok(()) => Ok(bytes),
+        Err(_) => Err(name),
+    }
+}
+
+/// A SHA-256 and, where there is one, a SHA-512, each under the name of its hash function, in lower case digits.
+pub fn hashes_value(
+    alloc: Global,
+    sha256: &[u8; 32],
+    sha512: &Option<[u8; 64]>,
+) -> Result<Value, AllocError>
+    ensures value { IfOk result (λ v. view v ≡ hashes_value_of sha256.now sha512.now) }
+    ensures typed { is_hash sha256.now ≡ true }
+    ensures typed_second { OnOk result (is_second_hash sha512.now ≡ true) }
+{
+    let first = digits_of(alloc, sha256)?;
+    match sha512 {
+        Some(hash) => {
+            let second = more_digits_of(alloc, hash)?;
+            json!(in alloc; {"sha256": first, "sha512": second})
+        }
+        None => json!(in alloc; {"sha256": first}),
+    }
 }
 
 fn digits_of(alloc: Global, hash: &[u8; 32]) -> Result<String, AllocError>
@@ -90,4 +125,11 @@ fn digits_of(alloc: Global, hash: &[u8; 32]) -> Result<String, AllocError>
     ensures typed { is_hash hash.now ≡ true }
 {
     hex::encode(alloc, *hash)
+}
+
+fn more_digits_of(alloc: Global, second: &[u8; 64]) -> Result<String, AllocError>
+    ensures value { IfOk result (λ t. string_bytes t ≡ encode_lower second.now) }
+    ensures typed { is_sha512 second.now ≡ true }
+{
+    hex::encode(alloc, *second)
 }

@@ -1,6 +1,7 @@
 //! Reading JSON from bytes.
 ghost use Rattle.std.specs.Prelude.{◌≡◌, ◌<◌, ◌⊎◌, Err, length};
 ghost use Rattle.serde_json.specs.Errors.{IsMemory};
+ghost use Rattle.serde_json.specs.Read.{read};
 ghost use Rattle.serde_json.specs.View.{view};
 ghost use Rattle.up_canon.specs.JsonText.{value_in, value_within as value_within_of};
 ghost use Rattle.up_canon.specs.Refusals.{GivesAs};
@@ -22,6 +23,16 @@ pub fn value_within(alloc: Global, bytes: &[u8], most: usize) -> Result<Value, R
         return Err(Refusal::TooLarge);
     }
     value_of(alloc, bytes)
+}
+
+/// The value that a text reads as: `NotJson` where it is no JSON (RFC 8259), `Memory` where it was refused.
+pub fn value_of_text(alloc: Global, text: &str) -> Result<Value, Refusal>
+    ensures { GivesAs view result (or_error NotJson (read text.now)) }
+{
+    match Value::from_str(alloc, text) {
+        Ok(value) => Ok(value),
+        Err(error) => Err(fault_of(&error)),
+    }
 }
 
 fn value_of(alloc: Global, bytes: &[u8]) -> Result<Value, Refusal>

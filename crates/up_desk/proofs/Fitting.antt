@@ -1,7 +1,7 @@
 -- What is decided fits the rows that are kept, and takes them to those of the next state.
 use Rattle.std.proofs.Common.{◌≡◌, ℕ, zero, suc, ◌+◌, ◌-◌, List, [], ◌∷◌, ◌++◌, Bool, true, false, cond, Option, Some, None, Result, Ok, refl, sym, ap, ◌∙◌, subst, map, length}
 use Rattle.std.specs.Prelude.{◌==◌, option_map, nat_le, is_none, slice_get}
-use Rattle.std.specs.List.{enumerate_from, list_all}
+use Rattle.std.specs.List.{AllByRecursion, enumerate_from, list_all}
 use Rattle.std.specs.FinMap as table
 use Rattle.std.proofs.lemmas.List.{length-append}
 use Rattle.std.proofs.lemmas.Bool.{leb-true}
@@ -38,9 +38,10 @@ use Rattle.up_machine.proofs.Lists.{and_left, and_right}
 use Rattle.up_machine.proofs.ReplacedRows.{rows_have}
 use Rattle.up_machine.proofs.SoundRows.{row_names}
 use Rattle.up_machine.proofs.Places.{nth_last}
+use Rattle.up_rows.specs.SecondHashes.{TellsItsHash}
 use Rattle.up_rows.specs.StateRows.{rows_of_state, root_row, ecu_of}
 use Rattle.up_rows.specs.Changes.{with_root_rows, with_register_rows, with_image_rows, with_vehicle_rows, with_replaced_rows, with_campaign_row, with_accepted_rows}
-use Rattle.up_rows.specs.Laws.{VehiclesAreFound, RootsAreAdded, FilesAreReplaced, ImagesAreAdded, VehiclesAreAdded, EcusAreReplaced, CampaignsAreWritten, ManifestsAreAdded}
+use Rattle.up_rows.specs.Laws.{VehiclesAreFound, EcusTellTheirHash, RootsAreAdded, FilesAreReplaced, ImagesAreAdded, VehiclesAreAdded, EcusAreReplaced, CampaignsAreWritten, ManifestsAreAdded}
 use Rattle.up_rows.specs.Fitting.{NewImagesAreNew, NewVehiclesAreNew, ReplacementsFit, NewCampaignsAreNew}
 use Rattle.up_rows.proofs.Told.{ecus_back}
 use Rattle.up_store.specs.Fitting.{IsNextRoot, IsSameRoot, IsNewImage, IsNewVehicle, IsReplacement, IsClosing, IsNewCampaign, IsRecorded}
@@ -183,15 +184,18 @@ rotation_fits k s at keys new sound added it = record {
 
 -- ---- vehicles
 
-pub vehicle_fits : (k : Rules) (s : State) (at : ℕ) (new : NewVehicleData) (row : VehicleRows) → VehiclesAreFound → VehiclesAreAdded → NewVehiclesAreNew
+pub vehicle_fits : (k : Rules) (s : State) (at : ℕ) (new : NewVehicleData) (row : VehicleRows) → VehiclesAreFound → VehiclesAreAdded → NewVehiclesAreNew → EcusTellTheirHash
     → IsDone (λ r. r ≡ rows_of new.vehicle (added new)) (with_vehicle s new) row (decide_vehicle k s at new)
     → WillWrite k s (IsNewVehicle row) (λ rows. with_vehicle_rows rows row) Done (decide_vehicle k s at new)
-vehicle_fits k s at new row found added fresh it =
+vehicle_fits k s at new row found written fresh tell it =
     let none = (fresh k s at new it.0).none in record {
       next = with_vehicle s new;
       computed_is = it.0;
-      fit = ap (λ (r : VehicleRows). table.get (rows_of_state k s).vehicles r.vehicle.vehicle) it.1 ∙ found k s new.vehicle ∙ ap (option_map (rows_of new.vehicle)) none;
-      rows = ap (with_vehicle_rows (rows_of_state k s)) it.1 ∙ added k s new none;
+      fit = record {
+        none = ap (λ (r : VehicleRows). table.get (rows_of_state k s).vehicles r.vehicle.vehicle) it.1 ∙ found k s new.vehicle ∙ ap (option_map (rows_of new.vehicle)) none;
+        tell = subst (λ (r : VehicleRows). AllByRecursion TellsItsHash r.ecus) (sym it.1) (tell new.vehicle (added new));
+      };
+      rows = ap (with_vehicle_rows (rows_of_state k s)) it.1 ∙ written k s new none;
     }
 
 pub replacement_fits : (k : Rules) (s : State) (at : ℕ) (new : Replacement) → IsSound k s → VehiclesAreFound → EcusAreReplaced → ReplacementsFit
@@ -211,22 +215,23 @@ replacement_fits k s at new sound found replaced fit it =
       rows = replaced k s new v sound it.1 fits.free;
     }
 
-recorded : (k : Rules) (s : State) (name : Name) (v : Vehicle) (e : Entry) (new : AcceptedRows) → IsSound k s → VehiclesAreFound → table.get s.vehicles name ≡ Some v → HasAcceptedRows k s name v e new
+recorded : (k : Rules) (s : State) (name : Name) (v : Vehicle) (e : Entry) (new : AcceptedRows) → IsSound k s → VehiclesAreFound → EcusTellTheirHash → table.get s.vehicles name ≡ Some v → HasAcceptedRows k s name v e new
     → IsRecorded new (rows_of_state k s)
-recorded k s name v e new sound found there has =
+recorded k s name v e new sound found tell there has =
     let next : Vehicle = record v { entries = v.entries ++ e ∷ [] } in record {
       was = rows_of name v;
       there = ap (λ (r : VehicleRows). table.get (rows_of_state k s).vehicles r.vehicle.vehicle) has.vehicle ∙ found k s name ∙ ap (option_map (rows_of name)) there;
       primary = ap (λ (r : VehicleRows). r.vehicle.primary) has.vehicle;
       ecus = ap (λ (r : VehicleRows). map ecu_of r.ecus) has.vehicle ∙ ecus_back next v.ecus ∙ sym (ecus_back v v.ecus);
       once = ap (λ (r : VehicleRows). first_repeated (map (λ (row : EcuRow). row.ecu) r.ecus)) has.vehicle ∙ ap first_repeated (row_names next v.ecus) ∙ (sound.vehicles name v there).once;
+      tell = subst (λ (r : VehicleRows). AllByRecursion TellsItsHash r.ecus) (sym has.vehicle) (tell name next);
     }
 
-pub accepting_fits : (k : Rules) (s : State) (name : Name) (new : AcceptedRows) (computed : Result Outcome Refusal) → IsSound k s → VehiclesAreFound → ManifestsAreAdded → IsAccepted k s name new computed
+pub accepting_fits : (k : Rules) (s : State) (name : Name) (new : AcceptedRows) (computed : Result Outcome Refusal) → IsSound k s → VehiclesAreFound → ManifestsAreAdded → EcusTellTheirHash → IsAccepted k s name new computed
     → WillWrite k s (IsRecorded new) (λ rows. with_accepted_rows rows new) (Replied (reply_kept new.kept)) computed
-accepting_fits k s name new computed sound found added it = record {
+accepting_fits k s name new computed sound found added tell it = record {
   next = with_entry s name it.vehicle it.entry;
   computed_is = it.decided;
-  fit = recorded k s name it.vehicle it.entry new sound found it.found it.has;
+  fit = recorded k s name it.vehicle it.entry new sound found tell it.found it.has;
   rows = added k s name it.vehicle it.entry new it.found it.has;
 }

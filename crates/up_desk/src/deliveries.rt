@@ -38,7 +38,7 @@ use up_manifest::manifest::{Incoming, Manifest};
 use up_manifest::reading::read_manifest;
 use up_plan::campaign::Campaign;
 use up_plan::image::Image;
-use up_rows::laws::{manifests_are_added, rows_are_found};
+use up_rows::laws::{ecus_tell_their_hash, manifests_are_added, rows_are_found};
 use up_sign::scheme::Scheme;
 use up_store::store::{Store, StoreFault};
 
@@ -95,6 +95,7 @@ fn accept<D: Alter>(
 {
     rows_are_found();
     manifests_are_added();
+    ecus_tell_their_hash();
     match targets_in(&rows.kept) {
         Ok(targets) => {
             let written = store.write_accept(alloc, &rows);

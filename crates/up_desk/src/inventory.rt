@@ -29,7 +29,7 @@ use up_machine::decision::Decision;
 use up_machine::public_keys::publics_fit;
 use up_machine::rows::VehicleRows;
 use up_machine::vehicle::{NewEcu, NewVehicle};
-use up_rows::laws::{rows_are_found, vehicles_are_added};
+use up_rows::laws::{ecus_tell_their_hash, rows_are_found, vehicles_are_added};
 use up_sign::scheme::Scheme;
 use up_store::store::{Store, StoreFault};
 
@@ -67,6 +67,7 @@ fn add_fitting<K: Scheme, D: Alter>(
 {
     rows_are_found();
     vehicles_are_added();
+    ecus_tell_their_hash();
     match decide(store, alloc, scheme, at, new) {
         Ok(Decision::Already) => Ok(Answer::Already),
         Ok(Decision::New(rows)) => done_of(store.write_vehicle(alloc, &rows)),

@@ -69,8 +69,17 @@ root_text k repository number root before = root_text_of k (root_signers reposit
 
 -- ---- Targets, Snapshot and Timestamp files, which are made together
 
+-- the target of an image, with both of its hashes
 abbrev pub target_of : Option Name → ImageData → Target
-target_of ecu image = record { ecu = ecu; file = image.file; length = image.length; sha256 = image.sha256; hardware = image.hardware; release = image.release }
+target_of ecu image = record {
+  ecu = ecu;
+  file = image.file;
+  length = image.length;
+  sha256 = image.sha256;
+  sha512 = image.sha512;
+  hardware = image.hardware;
+  release = image.release;
+}
 
 -- what the three files are made of: repository, keys, vehicle in the Director's, their version, the moment, and the targets
 pub record Making : Type 0 where

@@ -1,5 +1,5 @@
 -- The decisions on both repositories' roots and on the register of images. Each check carries the name of its refusal, in the order of refusals.
-use Rattle.std.specs.Prelude.{ℕ, ◌+◌, ◌==◌, ◌&&◌, ◌++◌, [], ◌∷◌, Bool, not, nat_le, length, bytes_eq, Result, Ok}
+use Rattle.std.specs.Prelude.{ℕ, ◌+◌, ◌==◌, ◌&&◌, ◌++◌, List, [], ◌∷◌, Bool, true, false, not, nat_le, length, bytes_eq, Option, Some, None, Result, Ok}
 use Rattle.std.specs.Cmp.Lexicographic.{pointwise}
 use Rattle.std.specs.FinMap as table
 use Rattle.up_canon.specs.Names.{Name}
@@ -35,10 +35,17 @@ with_image s image = record s { images = table.insert s.images image.file image 
 abbrev pub same_need : Need → Need → Bool
 same_need a b = bytes_eq a.hardware b.hardware && (a.release == b.release)
 
+-- both without a second hash, or both with the same one
+abbrev pub same_hash : Option (List ℕ) → Option (List ℕ) → Bool
+same_hash None None = true
+same_hash (Some a) (Some b) = bytes_eq a b
+same_hash _ _ = false
+
 abbrev pub same_image : ImageData → ImageData → Bool
 same_image a b =
-    bytes_eq a.file b.file && (a.length == b.length) && bytes_eq a.sha256 b.sha256 && pointwise bytes_eq a.hardware b.hardware
-    && (a.release == b.release) && pointwise same_need a.needs b.needs && pointwise bytes_eq a.conflicts b.conflicts
+    bytes_eq a.file b.file && (a.length == b.length) && bytes_eq a.sha256 b.sha256 && same_hash a.sha512 b.sha512
+    && pointwise bytes_eq a.hardware b.hardware && (a.release == b.release) && pointwise same_need a.needs b.needs
+    && pointwise bytes_eq a.conflicts b.conflicts
 
 -- ---- decisions
 

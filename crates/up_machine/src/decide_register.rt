@@ -30,8 +30,8 @@ use up_sign::scheme::Scheme;
 const MAX_IMAGES: usize = 1024;
 
 /// Decides on an image, at a command's moment, given the one that is registered under its filename: `NotFounded`;
-/// `Already` where that one is equal; `ImageTaken` where it is another one. Where there is none the founding's row is
-/// handed back, for `decide_new_image`.
+/// `Already` where that one is equal; `ImageTaken` where it is another one, also where just one of the two has a SHA-512: no
+/// image gains one later. Where there is none the founding's row is handed back, for `decide_new_image`.
 pub fn decide_image(
     at: Moment,
     image: &Image,

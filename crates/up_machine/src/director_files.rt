@@ -57,6 +57,7 @@ fn target(alloc: Global, ecu: &Ident, image: &Image) -> Result<Target, AllocErro
         file: image.file.copy(alloc)?,
         length: image.length,
         sha256: image.sha256,
+        sha512: image.sha512,
         hardware: image.hardware.copy(alloc)?,
         release: image.release,
     })

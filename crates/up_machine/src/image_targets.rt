@@ -49,6 +49,7 @@ fn image_target(alloc: Global, image: &Image) -> Result<Target, AllocError>
         file: image.file.copy(alloc)?,
         length: image.length,
         sha256: image.sha256,
+        sha512: image.sha512,
         hardware: image.hardware.copy(alloc)?,
         release: image.release,
     })

@@ -1,5 +1,5 @@
 -- What is read of a body is what it means.
-use Rattle.std.proofs.Common.{◌≡◌, ◌≤◌, ℕ, List, Some, Ok, length, ap, ◌∙◌, subst, sym, arith}
+use Rattle.std.proofs.Common.{◌≡◌, ◌≤◌, ℕ, List, Option, Some, Ok, length, ap, ◌∙◌, subst, sym, arith}
 use Rattle.std.specs.Prelude.{codes}
 use Rattle.serde_json.specs.Data.{Data, array, Items}
 use Rattle.serde_json.specs.Find as json
@@ -16,7 +16,7 @@ use Rattle.up_manifest.specs.declared.manifest.Incoming.{Incoming}
 use Rattle.up_canon.proofs.JsonTexts.{value_read, value_there}
 use Rattle.up_sign.proofs.Meaning.{opened_read, opened_there}
 use Rattle.up_canon.proofs.Steps.{first_ok, bind-ok, same_ok, each_read, each_there, each_size}
-use Rattle.up_canon.proofs.Members.{count_read, count_there, object_read, object_there, ident_read, ident_there, file_name_read, file_name_there, note_read, note_there, word_read, word_there, positive_read, positive_there, list_within_read, list_within_there, sha256_read, sha256_there, moment_read, moment_there}
+use Rattle.up_canon.proofs.Members.{count_read, count_there, object_read, object_there, ident_read, ident_there, file_name_read, file_name_there, note_read, note_there, word_read, word_there, positive_read, positive_there, list_within_read, list_within_there, sha256_read, sha256_there, sha512_read, sha512_there, moment_read, moment_there}
 
 -- ---- reports
 
@@ -32,6 +32,7 @@ installed_read d i h =
       hashes = hashes;
       has_hashes = object_read (codes "hashes") d hashes c;
       sha256 = sha256_read (codes "sha256") hashes sha256 e;
+      sha512 = sha512_read hashes;
     })))))
 
 pub installed_there : (d : Data) (i : Installed) → MeansInstalled d i → installed_in d ≡ Ok i
@@ -41,8 +42,9 @@ installed_there d i h =
     ∙ bind-ok _ _ _ (count_there (codes "length") d i.length h.size)
     ∙ bind-ok _ _ _ (object_there (codes "hashes") d h.hashes h.has_hashes)
     ∙ bind-ok _ _ _ (sha256_there (codes "sha256") h.hashes i.sha256 h.sha256)
+    ∙ ap (λ (o : Option (List ℕ)). Ok (record { file = i.file; length = i.length; sha256 = i.sha256; sha512 = o })) (sha512_there h.hashes i.sha512 h.sha512)
 
-report_read : (d : Data) (r : Report) → report_in d ≡ Ok r → MeansReport d r
+pub report_read : (d : Data) (r : Report) → report_in d ≡ Ok r → MeansReport d r
 unfolding report_in
 report_read d r h =
     first_ok _ _ _ _ h (λ x a h. first_ok _ _ _ _ h (λ ecu b h. first_ok _ _ _ _ h (λ counter c h. first_ok _ _ _ _ h (λ time e h.
@@ -65,7 +67,7 @@ report_read d r h =
       image = installed_read image installed i;
     }))))))))
 
-report_there : (d : Data) (r : Report) → MeansReport d r → report_in d ≡ Ok r
+pub report_there : (d : Data) (r : Report) → MeansReport d r → report_in d ≡ Ok r
 unfolding report_in
 report_there d r h =
     bind-ok _ _ tt (word_there (codes "report") (codes "type") d h.kind)
@@ -118,7 +120,7 @@ reports_there d rs h =
     bind-ok _ (each (signed_report_in (codes "reports"))) (items_list h.listed) (list_within_there 0 most_reports (codes "reports") d h.listed h.has_reports (omega arith) (omega arith))
     ∙ each_there (signed_report_in (codes "reports")) MeansSignedReport (signed_report_there (codes "reports")) h.listed rs h.each_means
 
-manifest_read : (d : Data) (m : Manifest) → manifest_in d ≡ Ok m → MeansManifest d m
+pub manifest_read : (d : Data) (m : Manifest) → manifest_in d ≡ Ok m → MeansManifest d m
 unfolding manifest_in
 manifest_read d m h =
     first_ok _ _ _ _ h (λ x a h. first_ok _ _ _ _ h (λ vehicle b h. first_ok _ _ _ _ h (λ primary c h. first_ok _ _ _ _ h (λ counter e h.

@@ -1,6 +1,6 @@
 -- How long the texts of envelopes, reports and manifests are at most.
-use Rattle.std.proofs.Common.{◌≡◌, ℕ, lit<, lit≤, ◌+◌, ◌*◌, ◌≤◌, List, [], ◌∷◌, ◌++◌, Bool, true, false, cond, length, map, refl, ap, ◌∙◌, arith, append_assoc, length-append}
-use Rattle.std.specs.Prelude.{◌||◌, ◌==◌, codes, decimal, flat_map}
+use Rattle.std.proofs.Common.{◌≡◌, ℕ, lit<, lit≤, ◌+◌, ◌*◌, ◌≤◌, List, [], ◌∷◌, ◌++◌, Bool, true, false, cond, Option, Some, None, length, map, refl, ap, ◌∙◌, arith, append_assoc, length-append}
+use Rattle.std.specs.Prelude.{◌||◌, ◌==◌, not, nat_lt, codes, decimal, flat_map}
 use Rattle.std.specs.List.{list_all, join_with_byte}
 use Rattle.std.proofs.lemmas.Bool.{and_parts}
 use Rattle.std.proofs.lemmas.Fmt.{length-decimal-le}
@@ -10,7 +10,10 @@ use Rattle.up_canon.specs.Build.{list_with, hashes_value}
 use Rattle.up_canon.specs.Canon.{max_count, text, quoted, escaped}
 use Rattle.up_canon.specs.Moments.{moment_text, MomentTextIsPlain}
 use Rattle.up_canon.specs.Names.{is_from_to, is_short_text, is_ident}
+use Rattle.up_canon.specs.HexText.{is_second_hash}
+use Rattle.up_canon.proofs.Hashes.{sha512_size}
 use Rattle.up_canon.proofs.Members.{within}
+use Rattle.up_canon.proofs.Printable.{all-hex}
 use Rattle.up_sign.specs.Formats.{signature_fits, envelope_fits, signature_value, envelope_text}
 use Rattle.up_sign.specs.declared.envelope.Signature.{Signature}
 use Rattle.up_sign.specs.declared.envelope.Envelope.{Envelope}
@@ -84,22 +87,52 @@ envelope-length e n one h small =
 
 -- ---- reports
 
-hashes-length : (xs : List ℕ) → length xs ≡ 32 → length (text (hashes_value xs)) ≤ 150
-hashes-length xs size =
-    let hash = hex-length xs 32 (omega arith) in
-    let spelled : text (hashes_value xs) ≡ codes "{\"sha256\":" ++ (quoted (encode_lower xs) ++ codes "}") = refl in
-    omega (arith, ap length spelled, length-append (codes "{\"sha256\":") (quoted (encode_lower xs) ++ codes "}"), length-append (quoted (encode_lower xs)) (codes "}"), hash)
+-- hexadecimal digits need no backslash before them
+abbrev needs_none : ℕ → Bool
+needs_none x = not ((x == 34) || (x == 92))
 
-installed-spelled : (r : Report) → text (installed_value r.image) ≡ codes "{\"file\":" ++ (quoted r.image.file ++ (codes ",\"hashes\":" ++ (text (hashes_value r.image.sha256) ++ (codes ",\"length\":" ++ (decimal r.image.length ++ codes "}")))))
+unescaped : (t : List ℕ) → list_all needs_none t ≡ true → length (flat_map escaped t) ≡ length t
+unescaped [] h = refl
+unescaped (x ∷ t) h =
+    let p = and_parts (needs_none x) _ h in
+    let one = by_test ((x == 34) || (x == 92)) p.0 in
+    omega (arith, length-append (escaped x) (flat_map escaped t), one, unescaped t p.1)
+  where
+    by_test : (b : Bool) → not b ≡ true → length (cond b (92 ∷ x ∷ []) (x ∷ [])) ≡ 1
+    by_test true e = cc
+    by_test false e = refl
+
+hash-length : (xs : List ℕ) → list_all (λ x. nat_lt x 256) xs ≡ true → length (quoted (encode_lower xs)) ≡ 2 * length xs + 2
+hash-length xs h =
+    let size = length-encode_with lower_digits xs in
+    let plain = unescaped (encode_lower xs) (all-hex needs_none refl xs h) in
+    omega (arith, length-append (flat_map escaped (encode_lower xs)) (34 ∷ []), plain, size)
+
+sum-nested : (a b c d e : List ℕ) → length (a ++ (b ++ (c ++ (d ++ e)))) ≡ length a + (length b + (length c + (length d + length e)))
+sum-nested a b c d e = simp length-append
+
+hashes-length : (xs : List ℕ) (o : Option (List ℕ)) → length xs ≡ 32 → list_all (λ x. nat_lt x 256) xs ≡ true → is_second_hash o ≡ true → length (text (hashes_value xs o)) ≤ 220
+hashes-length xs None size bytes h =
+    let hash = hash-length xs bytes in
+    let spelled : text (hashes_value xs None) ≡ codes "{\"sha256\":" ++ (quoted (encode_lower xs) ++ codes "}") = refl in
+    omega (arith, ap length spelled, length-append (codes "{\"sha256\":") (quoted (encode_lower xs) ++ codes "}"), length-append (quoted (encode_lower xs)) (codes "}"), hash)
+hashes-length xs (Some ys) size bytes h =
+    let first = hash-length xs bytes in
+    let whole = sha512_size ys h in
+    let second = hash-length ys (and_parts (length ys == 64) _ h).1 in
+    let spelled : text (hashes_value xs (Some ys)) ≡ codes "{\"sha256\":" ++ (quoted (encode_lower xs) ++ (codes ",\"sha512\":" ++ (quoted (encode_lower ys) ++ codes "}"))) = refl in
+    omega (arith, ap length spelled ∙ sum-nested (codes "{\"sha256\":") (quoted (encode_lower xs)) (codes ",\"sha512\":") (quoted (encode_lower ys)) (codes "}"), first, second)
+
+installed-spelled : (r : Report) → text (installed_value r.image) ≡ codes "{\"file\":" ++ (quoted r.image.file ++ (codes ",\"hashes\":" ++ (text (hashes_value r.image.sha256 r.image.sha512) ++ (codes ",\"length\":" ++ (decimal r.image.length ++ codes "}")))))
 installed-spelled r = refl
 
-installed-length : (r : Report) → ReportFits r → length (text (installed_value r.image)) ≤ 470
+installed-length : (r : Report) → ReportFits r → length (text (installed_value r.image)) ≤ 540
 installed-length r h =
     let size = h.sha256 in
     let file = quoted-length r.image.file 128 (within 1 128 (length r.image.file) (and_parts (is_from_to 1 128 (length r.image.file)) _ h.file).0).1 in
-    let hash = hashes-length r.image.sha256 size in
+    let hash = hashes-length r.image.sha256 r.image.sha512 size h.bytes h.sha512 in
     let number = count-length r.image.length h.size in
-    let sum = ap length (installed-spelled r) ∙ sum-seven (codes "{\"file\":") (quoted r.image.file) (codes ",\"hashes\":") (text (hashes_value r.image.sha256)) (codes ",\"length\":") (decimal r.image.length) (codes "}") in
+    let sum = ap length (installed-spelled r) ∙ sum-seven (codes "{\"file\":") (quoted r.image.file) (codes ",\"hashes\":") (text (hashes_value r.image.sha256 r.image.sha512)) (codes ",\"length\":") (decimal r.image.length) (codes "}") in
     omega (arith, sum, file, hash, number)
 
 report-spelled : (r : Report) → report_text r ≡ codes "{\"attack\":" ++ (quoted r.attack ++ (codes ",\"counter\":" ++ (decimal r.counter ++ (codes ",\"ecu\":" ++ (quoted r.ecu ++ (codes ",\"image\":" ++
@@ -111,7 +144,7 @@ sum-eleven : (a b c d e f g h i j k : List ℕ) → length (a ++ (b ++ (c ++ (d 
     ≡ length a + (length b + (length c + (length d + (length e + (length f + (length g + (length h + (length i + (length j + length k)))))))))
 sum-eleven a b c d e f g h i j k = simp length-append
 
-pub report-length : MomentTextIsPlain → (r : Report) → ReportFits r → length (report_text r) ≤ 1280
+pub report-length : MomentTextIsPlain → (r : Report) → ReportFits r → length (report_text r) ≤ 1350
 report-length law r h =
     let attack = quoted-length r.attack 256 (within 0 256 (length r.attack) (and_parts (is_from_to 0 256 (length r.attack)) _ h.attack).0).1 in
     let number = count-length r.counter h.counter in
@@ -123,14 +156,14 @@ report-length law r h =
 
 -- ---- manifests
 
-report_envelope-length : MomentTextIsPlain → (e : Envelope) (r : Report) → IsReportEnvelope e r → length (envelope_text e) ≤ 3815
+report_envelope-length : MomentTextIsPlain → (e : Envelope) (r : Report) → IsReportEnvelope e r → length (envelope_text e) ≤ 3885
 report_envelope-length law e r h =
     let size = ap length h.signed in
     let small = report-length law r h.fits in
-    let whole = envelope-length e 1280 h.one h.limits (omega arith) in
+    let whole = envelope-length e 1350 h.one h.limits (omega arith) in
     omega (arith, whole)
 
-joined-length : MomentTextIsPlain → (es : List Envelope) (rs : List Report) → AreReportEnvelopes es rs → length (join_with_byte 44 (map envelope_text es)) ≤ 3816 * length es
+joined-length : MomentTextIsPlain → (es : List Envelope) (rs : List Report) → AreReportEnvelopes es rs → length (join_with_byte 44 (map envelope_text es)) ≤ 3886 * length es
 joined-length law [] rs h = omega arith
 joined-length law (e ∷ es) [] h = absurd h
 joined-length law (e ∷ []) (r ∷ rs) h = omega (arith, report_envelope-length law e r h.0)
@@ -147,7 +180,7 @@ manifest-length law vehicle primary counter es rs h v p n few =
     let name = quoted-length vehicle 64 (within 1 64 (length vehicle) (and_parts (is_from_to 1 64 (length vehicle)) _ v).0).1 in
     let other = quoted-length primary 64 (within 1 64 (length primary) (and_parts (is_from_to 1 64 (length primary)) _ p).0).1 in
     let number = count-length counter n in
-    let reports = listed-length (map envelope_text es) (3816 * length es) (joined-length law es rs h) in
+    let reports = listed-length (map envelope_text es) (3886 * length es) (joined-length law es rs h) in
     let sum = sum-nine (codes "{\"counter\":") (decimal counter) (codes ",\"primary\":") (quoted primary) (codes ",\"reports\":") (listed (map envelope_text es)) (codes ",\"type\":\"manifest\",\"vehicle\":") (quoted vehicle) (codes "}") in
     omega (arith, sum, name, other, number, reports)
   where

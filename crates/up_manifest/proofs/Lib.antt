@@ -5,3 +5,5 @@ pub mod Laws
 pub mod Values
 pub mod Lengths
 pub mod Built
+pub mod Parts
+pub mod NoReport

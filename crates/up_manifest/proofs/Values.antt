@@ -3,8 +3,6 @@ use Rattle.std.proofs.Common.{◌≡◌, ℕ, suc, lit≤, ◌≤◌, List, [], 
 use Rattle.std.specs.Prelude.{◌&&◌, IsTrue, nat_le, codes, decimal}
 use Rattle.std.specs.List.{list_all, join_with_byte}
 use Rattle.std.proofs.lemmas.Bool.Decides.{nat_tests}
-use Rattle.hex.specs.Hex.{encode_lower, lower_digits}
-use Rattle.hex.proofs.HexLemmas.{length-encode_with, decode_of-encode_lower}
 use Rattle.serde_json.specs.Data.{Data, string, depth, items_depth}
 use Rattle.serde_json.specs.View.{items_of}
 use Rattle.up_canon.specs.Build.{object_with, list_with, count_value, hashes_value}
@@ -23,9 +21,9 @@ use Rattle.up_manifest.specs.declared.report.Report.{Report}
 use Rattle.up_manifest.specs.declared.manifest.Manifest.{Manifest}
 use Rattle.up_sign.proofs.Meaning.{opened_read}
 use Rattle.up_sign.proofs.Texts.{envelope_value-text, envelope_plain, envelope_depth}
-use Rattle.up_canon.proofs.ByteTests.{bytes_placed}
+use Rattle.up_canon.proofs.Hashes.{first_hash, second_hash, hashes_depth, hashes_plain, spelled_hash}
 use Rattle.up_canon.proofs.Joined.{listed_text}
-use Rattle.up_canon.proofs.Printable.{ident_prints, file_name_prints, note_prints, printable-hex}
+use Rattle.up_canon.proofs.Printable.{ident_prints, file_name_prints, note_prints}
 
 -- ---- canonical text
 
@@ -59,7 +57,7 @@ envelope_means texts e payload h b signed = opened_read [] (envelope_value e pay
 
 installed_plain : (r : Report) → ReportFits r → is_plain (installed_value r.image) ≡ true
 installed_plain r h =
-    and_three _ _ _ (file_name_prints r.image.file h.file) (ap (λ b. b && true) (printable-hex r.image.sha256 h.bytes)) (count_test r.image.length h.size)
+    and_three _ _ _ (file_name_prints r.image.file h.file) (hashes_plain r.image.sha256 r.image.sha512 h.bytes h.sha512) (count_test r.image.length h.size)
 
 report_plain : MomentTextIsPlain → (r : Report) → ReportFits r → is_plain (report_value r) ≡ true
 report_plain law r h =
@@ -67,7 +65,7 @@ report_plain law r h =
     (installed_plain r h) (law r.time h.time).1
 
 report_depth : (r : Report) → depth (report_value r) ≡ 3
-report_depth r = refl
+report_depth r = rw (hashes_depth r.image.sha256 r.image.sha512) refl
 
 pub report_has_canon : MomentTextIsPlain → (r : Report) → ReportFits r → has_canon (report_value r) ≡ true
 report_has_canon law r h = has_canon_of (report_value r) (report_plain law r h) (omega (arith, report_depth r))
@@ -78,15 +76,14 @@ report_canon law r h = canon_of (report_value r) (report_plain law r h) (omega (
 
 installed_means : (r : Report) → ReportFits r → MeansInstalled (installed_value r.image) r.image
 installed_means r h =
-    let size = length-encode_with lower_digits r.image.sha256 in
-    let whole = h.sha256 in
     record {
       file = refl;
       file_fits = h.file;
       size = (refl, h.size);
-      hashes = hashes_value r.image.sha256;
+      hashes = hashes_value r.image.sha256 r.image.sha512;
       has_hashes = (_, refl, refl);
-      sha256 = record { digits = encode_lower r.image.sha256; has_digits = refl; at_least = omega arith; at_most = omega arith; decoded = decode_of-encode_lower r.image.sha256 (bytes_placed r.image.sha256 h.bytes) };
+      sha256 = spelled_hash 32 _ (codes "sha256") r.image.sha256 (first_hash r.image.sha256 r.image.sha512) h.sha256 h.bytes;
+      sha512 = second_hash r.image.sha256 r.image.sha512 h.sha512;
     }
 
 report_means : MomentsAreRead → (r : Report) → ReportFits r → MeansReport (report_value r) r

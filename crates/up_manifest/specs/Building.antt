@@ -4,6 +4,7 @@ use Rattle.std.specs.List.{list_all, join_with_byte}
 use Rattle.serde_json.specs.Data.{Data, string}
 use Rattle.up_canon.specs.Build.{object_with, count_value, hashes_value}
 use Rattle.up_canon.specs.Canon.{max_count, text, quoted}
+use Rattle.up_canon.specs.HexText.{is_second_hash}
 use Rattle.up_canon.specs.Moments.{last_moment, moment_text}
 use Rattle.up_canon.specs.Names.{is_ident, is_file_name, is_note}
 use Rattle.up_sign.specs.Envelopes.{sealed}
@@ -18,7 +19,7 @@ use Rattle.up_manifest.specs.declared.manifest.Incoming.{Incoming}
 -- ---- reports
 
 abbrev pub installed_value : Installed → Data
-installed_value i = object_with ((codes "file", string i.file) ∷ (codes "hashes", hashes_value i.sha256) ∷ (codes "length", count_value i.length) ∷ [])
+installed_value i = object_with ((codes "file", string i.file) ∷ (codes "hashes", hashes_value i.sha256 i.sha512) ∷ (codes "length", count_value i.length) ∷ [])
 
 abbrev pub report_value : Report → Data
 report_value r = object_with (
@@ -39,6 +40,7 @@ pub record ReportFits (r : Report) : Type 0 where
   pub size : r.image.length ≤ max_count
   pub sha256 : length r.image.sha256 ≡ 32
   pub bytes : IsTrue (list_all is_byte r.image.sha256)
+  pub sha512 : IsTrue (is_second_hash r.image.sha512)
 
 -- an envelope with one signature over a report's text
 pub record IsReportEnvelope (e : Envelope) (r : Report) : Type 0 where

@@ -1,10 +1,12 @@
 -- What a manifest's body means, or the first fault of it.
-use Rattle.std.specs.Prelude.{ℕ, List, Option, option_and_then, Result, Ok, codes}
+use Rattle.std.specs.Prelude.{ℕ, List, bytes_eq, Option, option_and_then, Result, Ok, codes}
 use Rattle.serde_json.specs.Data.{Data}
 use Rattle.serde_json.specs.Read.{read}
-use Rattle.up_canon.specs.Steps.{◌>>=◌, each, value_of}
+use Rattle.up_canon.specs.Steps.{◌>>=◌, each, or_error, unless, value_of}
 use Rattle.up_canon.specs.declared.refusal.Refusal.{Refusal}
-use Rattle.up_canon.specs.HexText.{sha256_in}
+use Rattle.up_canon.specs.declared.refusal.Refusal.TheVariants.{NotJson, NotCanonical}
+use Rattle.up_canon.specs.Refusals.{canonical_text}
+use Rattle.up_canon.specs.HexText.{sha256_in, sha512_in}
 use Rattle.up_canon.specs.JsonText.{value_within}
 use Rattle.up_canon.specs.Members.{count_in, object_in}
 use Rattle.up_canon.specs.Readers.{ident_in, file_name_in, note_in, word_in, positive_in, list_within, moment_in}
@@ -31,7 +33,7 @@ installed_in d = do
   size ← count_in (codes "length") d
   hashes ← object_in (codes "hashes") d
   sha256 ← sha256_in (codes "sha256") hashes
-  Ok (record { file = file; length = size; sha256 = sha256 })
+  Ok (record { file = file; length = size; sha256 = sha256; sha512 = sha512_in hashes })
 
 unfoldable pub report_in : Data → Result Report Refusal
 report_in payload = do
@@ -80,3 +82,19 @@ incoming_in body = do
 -- the manifest of a signed text
 unfoldable pub manifest_of : List ℕ → Option Manifest
 manifest_of signed = option_and_then (λ d. value_of (manifest_in d)) (read signed)
+
+-- the report whose canonical text it is, which its ECU signs, or the first fault
+unfoldable pub report_text_in : List ℕ → Result Report Refusal
+report_text_in signed = do
+  d ← or_error NotJson (read signed)
+  written ← canonical_text d
+  is_canonical ← unless (bytes_eq written signed) NotCanonical
+  report_in d
+
+-- the report of a signed text
+abbrev pub report_of : List ℕ → Option Report
+report_of signed = value_of (report_text_in signed)
+
+-- the SHA-512 of the image that a signed text reports; none of a text that is no report, or that has none
+abbrev pub report_sha512_of : List ℕ → Option (List ℕ)
+report_sha512_of signed = option_and_then (λ r. r.image.sha512) (report_of signed)

@@ -4,7 +4,7 @@ use Rattle.serde_json.specs.Data.{Data, array, Items}
 use Rattle.serde_json.specs.Find as json
 use Rattle.up_canon.specs.Names.{is_ident, is_file_name, is_note}
 use Rattle.up_canon.specs.Moments.{read_moment}
-use Rattle.up_canon.specs.Meaning.{MeansValue, HasText, HasCount, HasObject, HasHex, EachMeans}
+use Rattle.up_canon.specs.Meaning.{MeansValue, HasText, HasCount, HasObject, HasHex, MeansIfAny, EachMeans}
 use Rattle.up_sign.specs.Meaning.{MeansEnvelope}
 use Rattle.up_manifest.specs.Manifests.{largest_body, most_reports}
 use Rattle.up_manifest.specs.declared.report.Installed.{Installed}
@@ -15,7 +15,7 @@ use Rattle.up_manifest.specs.declared.manifest.Incoming.{Incoming}
 
 -- ---- reports (Uptane Standard 2.1.0: the ECU version report)
 
--- the installed image: its filename, its length in bytes and its SHA-256
+-- the installed image: its filename, its length in bytes, its SHA-256, and its SHA-512 where a member of 128 digits is there
 pub record MeansInstalled (d : Data) (i : Installed) : Type 0 where
   pub file : HasText d (codes "file") i.file
   pub file_fits : IsTrue (is_file_name i.file)
@@ -23,6 +23,7 @@ pub record MeansInstalled (d : Data) (i : Installed) : Type 0 where
   pub hashes : Data
   pub has_hashes : HasObject d (codes "hashes") hashes
   pub sha256 : HasHex 64 64 hashes (codes "sha256") i.sha256
+  pub sha512 : MeansIfAny (HasHex 128 128 hashes (codes "sha512")) i.sha512
 
 -- one ECU's report
 pub record MeansReport (d : Data) (r : Report) : Type 0 where

@@ -8,17 +8,18 @@ pub mod reading;
 pub mod report;
 mod writing;
 
-ghost use Rattle.up_manifest.specs.Laws.{BodiesAreRead, BodiesMeanOneOrFail, SignedTextsMean};
+ghost use Rattle.up_manifest.specs.Laws.{BodiesAreRead, BodiesMeanOneOrFail, ReportTextsMean, SignedTextsMean};
 
 use up_canon::canonical_laws;
 use up_sign::laws::envelope_laws;
 
 /// A body means one manifest with its envelope, or nothing and then it has one first fault; and the text that the
-/// Primary signed has the whole manifest in it.
+/// Primary signed has the whole manifest in it, as the text that an ECU signed has its whole report.
 pub fn body_laws()
     ensures read { BodiesAreRead }
     ensures one { BodiesMeanOneOrFail }
     ensures signed { SignedTextsMean }
+    ensures reports { ReportTextsMean }
 {
     canonical_laws();
     envelope_laws();

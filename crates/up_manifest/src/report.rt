@@ -9,12 +9,13 @@ use up_canon::named::Named;
 use up_canon::note::Note;
 use up_sign::envelope::Envelope;
 
-/// The image that an ECU reports: its filename, its length in bytes and its SHA-256.
+/// The image that an ECU reports: its filename, its length in bytes, its SHA-256 and, where the report has one, its SHA-512.
 #[derive(Debug, Drop)]
 pub struct Installed {
     pub file: FileName,
     pub length: Count,
     pub sha256: [u8; 32],
+    pub sha512: Option<[u8; 64]>,
 }
 
 impl Duplicate for Installed {
@@ -23,6 +24,7 @@ impl Duplicate for Installed {
             file: self.file.copy(alloc)?,
             length: self.length,
             sha256: self.sha256,
+            sha512: self.sha512,
         })
     }
 }

@@ -2,6 +2,7 @@
 ghost use Rattle.std.specs.Prelude.{◌≡◌, ◌++◌, IsTrue, IfOk, length, string_bytes, map};
 ghost use Rattle.std.specs.List.{list_all};
 ghost use Rattle.serde_json.specs.View.{view};
+ghost use Rattle.up_canon.specs.HexText.{is_second_hash};
 ghost use Rattle.up_sign.specs.Formats.{envelope_fits, envelope_text};
 ghost use Rattle.up_sign.specs.Schemes.{is_byte};
 ghost use Rattle.up_manifest.specs.Building.{ReportFits, installed_value as installed_value_of, report_value as report_value_of, primary_text, listed, report_text as report_text_of, manifest_text as manifest_text_of};
@@ -45,7 +46,7 @@ fn report_value(alloc: Global, report: &Report) -> Result<Value, AllocError>
 fn installed_value(alloc: Global, image: &Installed) -> Result<Value, AllocError>
     ensures { IfOk result (λ v. view v ≡ installed_value_of image.now) }
 {
-    let hashes = hashes_value(alloc, &image.sha256)?;
+    let hashes = hashes_value(alloc, &image.sha256, &image.sha512)?;
     json!(in alloc; {"file": image.file.text(), "hashes": hashes, "length": image.length.get()})
 }
 
@@ -113,6 +114,7 @@ pub(crate) fn keeps_limits(report: &Report)
     report.image.file.text();
     report.image.length.get();
     keeps_bytes(&report.image.sha256);
+    keeps_second(&report.image.sha512);
 }
 
 fn keeps_bytes(hash: &[u8; 32])
@@ -120,6 +122,14 @@ fn keeps_bytes(hash: &[u8; 32])
     ensures bytes { IsTrue (list_all is_byte hash.now) }
 {
     are_bytes(&hash[..]);
+}
+
+fn keeps_second(sha512: &Option<[u8; 64]>)
+    ensures { IsTrue (is_second_hash sha512.now) }
+{
+    if let Some(hash) = sha512 {
+        are_bytes(&hash[..]);
+    }
 }
 
 fn are_bytes(hash: &[u8])

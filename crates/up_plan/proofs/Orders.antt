@@ -6,7 +6,7 @@ use Rattle.std.proofs.lemmas.List.Elements.{filter-append}
 use Rattle.up_canon.specs.Names.{Name}
 use Rattle.up_plan.specs.Campaigns.{CampaignData}
 use Rattle.up_plan.specs.Images.{ImageData}
-use Rattle.up_plan.specs.Planning.{greatest, is_for, is_offered, is_reported, items_for, reaches, registered, resulting, wanted, with_wanted}
+use Rattle.up_plan.specs.Planning.{agrees, greatest, is_for, is_offered, is_reported, items_for, reaches, registered, resulting, wanted, with_wanted}
 use Rattle.up_manifest.specs.declared.report.Installed.{Installed}
 use Rattle.up_plan.specs.declared.assigned.Fitted.{Fitted}
 use Rattle.up_plan.specs.declared.campaign.Item.{Item}
@@ -73,7 +73,8 @@ module _ {A : Type 0} (p : A → Bool) where
 
 pub file_of : (hardware : Name) (installed : Installed) (x : ImageData) → is_reported hardware installed x ≡ true → bytes_eq x.file installed.file ≡ true
 file_of hardware installed x h =
-    let first = both_of (bytes_eq x.file installed.file && (x.length == installed.length) && bytes_eq x.sha256 installed.sha256) (is_for hardware x) h in
+    let hashes = both_of (bytes_eq x.file installed.file && (x.length == installed.length) && bytes_eq x.sha256 installed.sha256 && agrees x.sha512 installed.sha512) (is_for hardware x) h in
+    let first = both_of (bytes_eq x.file installed.file && (x.length == installed.length) && bytes_eq x.sha256 installed.sha256) (agrees x.sha512 installed.sha512) hashes.0 in
     let second = both_of (bytes_eq x.file installed.file && (x.length == installed.length)) (bytes_eq x.sha256 installed.sha256) first.0 in
     (both_of (bytes_eq x.file installed.file) (x.length == installed.length) second.0).0
 

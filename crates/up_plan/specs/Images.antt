@@ -9,6 +9,7 @@ pub record ImageData : Type 0 where
   pub file : Name
   pub length : ℕ
   pub sha256 : List ℕ
+  pub sha512 : Option (List ℕ)
   pub hardware : List Name
   pub release : ℕ
   pub needs : List Need

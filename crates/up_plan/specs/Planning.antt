@@ -24,10 +24,17 @@ use Rattle.up_plan.specs.Images.{ImageData}
 abbrev pub is_for : Name → ImageData → Bool
 is_for hardware image = list_any (bytes_eq hardware) image.hardware
 
--- the registered image is the one reported, and is for the hardware
+-- second hashes disagree only where both are there
+abbrev pub agrees : Option (List ℕ) → Option (List ℕ) → Bool
+agrees None b = true
+agrees (Some a) None = true
+agrees (Some a) (Some b) = bytes_eq a b
+
+-- the registered image is the one reported, by its filename, its length and its hashes, and is for the hardware
 abbrev pub is_reported : Name → Installed → ImageData → Bool
 is_reported hardware installed image =
-    bytes_eq image.file installed.file && (image.length == installed.length) && bytes_eq image.sha256 installed.sha256 && is_for hardware image
+    bytes_eq image.file installed.file && (image.length == installed.length) && bytes_eq image.sha256 installed.sha256
+    && agrees image.sha512 installed.sha512 && is_for hardware image
 
 -- the registered image of what the ECU reports
 abbrev pub registered : List ImageData → Fitted → Option ImageData

@@ -29,13 +29,14 @@ impl Duplicate for Need {
 /// How many needs, and how many conflicts, an image may have.
 const MAX_DEMANDS: usize = 16;
 
-/// A registered image: filename, length in bytes, SHA-256, the hardware that it is for (1 to 16, distinct), its release
-/// counter, and its needs and conflicts (0 to 16 each; its own filename is no conflict).
+/// A registered image: filename, length in bytes, SHA-256, SHA-512 where it has one, the hardware that it is for (1 to 16,
+/// distinct), its release counter, and its needs and conflicts (0 to 16 each; its own filename is no conflict).
 #[derive(Debug, Drop)]
 pub struct Image {
     pub file: FileName,
     pub length: Count,
     pub sha256: [u8; 32],
+    pub sha512: Option<[u8; 64]>,
     pub hardware: Listed<Ident>,
     pub release: Count,
     pub needs: Listed<Need>,
@@ -48,9 +49,9 @@ impl Model for Image {
 
     ghost Value = { ImageData };
 
-    ghost view = { λ a. record { file = a.file; length = a.length; sha256 = a.sha256; hardware = a.hardware; release = a.release; needs = a.needs; conflicts = a.conflicts } };
+    ghost view = { λ a. record { file = a.file; length = a.length; sha256 = a.sha256; sha512 = a.sha512; hardware = a.hardware; release = a.release; needs = a.needs; conflicts = a.conflicts } };
 
-    ghost invariant = { λ a. image_fits (record { file = a.file; length = a.length; sha256 = a.sha256; hardware = a.hardware; release = a.release; needs = a.needs; conflicts = a.conflicts }) ≡ true };
+    ghost invariant = { λ a. image_fits (record { file = a.file; length = a.length; sha256 = a.sha256; sha512 = a.sha512; hardware = a.hardware; release = a.release; needs = a.needs; conflicts = a.conflicts }) ≡ true };
 }
 
 impl Image {
@@ -62,12 +63,13 @@ impl Image {
         file: FileName,
         length: Count,
         sha256: [u8; 32],
+        sha512: Option<[u8; 64]>,
         hardware: Vec<Ident>,
         release: Count,
         needs: Vec<Need>,
         conflicts: Vec<FileName>,
     ) -> Result<Image, &'static str>
-        ensures { let given : ImageData = record { file = file; length = length; sha256 = sha256; hardware = hardware.items; release = release; needs = needs.items; conflicts = conflicts.items } in
+        ensures { let given : ImageData = record { file = file; length = length; sha256 = sha256; sha512 = sha512; hardware = hardware.items; release = release; needs = needs.items; conflicts = conflicts.items } in
             MatchResult result (λ image. (image_fits given ≡ true) × (image ≡ given)) (λ fault. image_fault given ≡ Some fault.now) }
     {
         if !hardware_fits(hardware.as_slice()) {
@@ -83,6 +85,7 @@ impl Image {
             file,
             length,
             sha256,
+            sha512,
             hardware: Listed::new(hardware),
             release,
             needs: Listed::new(needs),
@@ -97,6 +100,7 @@ impl Duplicate for Image {
             file: self.file.copy(alloc)?,
             length: self.length,
             sha256: self.sha256,
+            sha512: self.sha512,
             hardware: self.hardware.copy(alloc)?,
             release: self.release,
             needs: self.needs.copy(alloc)?,

@@ -2,7 +2,7 @@
 ghost use Rattle.std.specs.Prelude.{◌≡◌, ◌++◌, map, nat_lt, option_copied, option_map, unwrap_or, IfOk};
 ghost use Rattle.up_canon.specs.Steps.{if_passes};
 ghost use Rattle.up_plan.specs.Offers.{greatest_offer};
-ghost use Rattle.up_plan.specs.Planning.{is_reported as is_reported_as, items_for as items_of, level as level_of, registered as registered_image};
+ghost use Rattle.up_plan.specs.Planning.{agrees as agrees_as, is_reported as is_reported_as, items_for as items_of, level as level_of, registered as registered_image};
 
 use crate::assigned::Fitted;
 use crate::campaign::{Campaign, Item};
@@ -25,7 +25,18 @@ fn is_reported(image: &Image, e: &Fitted) -> bool
     image.file.text() == e.image.file.text()
         && image.length.get() == e.image.length.get()
         && image.sha256 == e.image.sha256
+        && agrees(&image.sha512, &e.image.sha512)
         && has_name(image.hardware.as_slice(), e.hardware.text())
+}
+
+/// Whether second hashes are equal, or one of them isn't there.
+fn agrees(registered: &Option<[u8; 64]>, reported: &Option<[u8; 64]>) -> bool
+    ensures { result ≡ agrees_as registered.now reported.now }
+{
+    match (registered, reported) {
+        (Some(a), Some(b)) => a == b,
+        _ => true,
+    }
 }
 
 /// The release counter of the image, 0 where there is none.

@@ -1,27 +1,25 @@
 -- The members of a payload that was written, and what they mean.
-use Rattle.std.proofs.Common.{◌≡◌, ℕ, List, [], ◌∷◌, Bool, true, Option, Some, None, Result, Ok, length, map, refl, ◌∙◌, arith}
+use Rattle.std.proofs.Common.{◌≡◌, ℕ, List, [], ◌∷◌, Bool, true, Option, Some, None, Result, Ok, length, map, refl, sym, ap, ◌∙◌, arith}
 use Rattle.std.specs.Prelude.{codes, nat_le, ◌==◌, ◌&&◌}
 use Rattle.std.specs.List.{list_all}
 use Rattle.std.proofs.lemmas.Bool.{and_parts}
 use Rattle.std.proofs.lemmas.Bool.Decides.{nat_tests}
-use Rattle.hex.specs.Hex.{encode_lower, lower_digits}
-use Rattle.hex.proofs.HexLemmas.{length-encode_with, decode_of-encode_lower}
-use Rattle.serde_json.specs.Data.{Data}
+use Rattle.serde_json.specs.Data.{Data, object}
 use Rattle.serde_json.specs.Find as json
 use Rattle.serde_json.specs.View.{items_of}
 use Rattle.up_canon.specs.Build.{count_value, hashes_value}
 use Rattle.up_canon.specs.Canon.{max_count}
-use Rattle.up_canon.specs.Meaning.{HasText, HasCount, EachMeans}
+use Rattle.up_canon.specs.Meaning.{HasText, HasCount, MeansIfAny, EachMeans}
 use Rattle.up_canon.specs.Moments.{moment_text}
 use Rattle.up_canon.specs.Names.{Name}
 use Rattle.up_canon.specs.Steps.{each}
 use Rattle.up_canon.specs.declared.refusal.Refusal.{Refusal}
-use Rattle.up_canon.proofs.ByteTests.{bytes_placed}
+use Rattle.up_canon.proofs.Hashes.{first_hash, spelled_hash, sha512_size}
 use Rattle.up_canon.proofs.Printable.{both, all-hex}
 use Rattle.up_canon.proofs.Steps.{bind-ok}
-use Rattle.up_roles.specs.Meaning.{HasPositive, HasName, HasSha256, MeansHead}
+use Rattle.up_roles.specs.Meaning.{HasPositive, HasName, HasSha256, HasSha512, MeansHead}
 use Rattle.up_roles.specs.Parts.{is_lower_digit}
-use Rattle.up_canon.specs.HexText.{is_hash}
+use Rattle.up_canon.specs.HexText.{is_hash, is_second_hash}
 use Rattle.up_roles.specs.Payload.{repository_text, version_fits, name_fits, is_named, is_moment}
 use Rattle.up_roles.specs.declared.repository.Repository.{Repository}
 use Rattle.up_roles.specs.declared.repository.Repository.TheVariants.{Director, Image}
@@ -48,22 +46,34 @@ name_means Director d name None fits h has = cc
 name_means Image d name (Some t) fits h has = cc
 name_means Image d name None fits h has = tt
 
-pub sha256_means : (d : Data) (hash : List ℕ) → json.get (codes "hashes") d ≡ Some (hashes_value hash) → is_hash hash ≡ true → HasSha256 d hash
-sha256_means d hash has h =
+pub sha256_means : (d : Data) (hash : List ℕ) (second : Option (List ℕ)) → json.get (codes "hashes") d ≡ Some (hashes_value hash second) → is_hash hash ≡ true → HasSha256 d hash
+unfolding spelled_hash
+sha256_means d hash second has h =
     let p = and_parts (length hash == 32) _ h in
     let whole = p.0 in
     let size : length hash ≡ 32 = grind (arith, nat_tests) in
-    let digits = length-encode_with lower_digits hash in
     record {
-      hashes = hashes_value hash;
+      hashes = hashes_value hash second;
       has_hashes = (_, has, refl);
-      sha256 = record {
-        digits = encode_lower hash;
-        has_digits = refl;
-        at_least = omega arith;
-        at_most = omega arith;
-        decoded = decode_of-encode_lower hash (bytes_placed hash p.1);
-      };
+      spelled = spelled_hash 32 (hashes_value hash second) (codes "sha256") hash (first_hash hash second) size p.1;
+      lower = all-hex is_lower_digit refl hash p.1;
+    }
+
+pub sha512_means : (d : Data) (first : List ℕ) (o : Option (List ℕ)) → json.get (codes "hashes") d ≡ Some (hashes_value first o) → is_second_hash o ≡ true → MeansIfAny (HasSha512 d) o
+unfolding spelled_hash
+sha512_means d first None has h = λ hash m.
+    let members = m.has_hashes.0 in
+    let one : Some (hashes_value first None) ≡ Some (object members) = sym has ∙ m.has_hashes.1 in
+    let same : hashes_value first None ≡ object members = cc in
+    let none : None ≡ json.get (codes "sha512") m.hashes = ap (json.get (codes "sha512")) (same ∙ sym m.has_hashes.2) in
+    let there = m.spelled.has_digits in
+    cc
+sha512_means d first (Some hash) has h =
+    let p = and_parts (length hash == 64) _ h in
+    record {
+      hashes = hashes_value first (Some hash);
+      has_hashes = (_, has, refl);
+      spelled = spelled_hash 64 (hashes_value first (Some hash)) (codes "sha512") hash refl (sha512_size hash h) p.1;
       lower = all-hex is_lower_digit refl hash p.1;
     }
 

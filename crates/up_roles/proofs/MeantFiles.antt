@@ -33,7 +33,7 @@ use Rattle.up_roles.specs.declared.snapshot.SnapshotFile.{SnapshotFile}
 use Rattle.up_roles.specs.declared.targets.Target.{Target}
 use Rattle.up_roles.specs.declared.targets.TargetsFile.{TargetsFile}
 use Rattle.up_roles.specs.declared.timestamp.TimestampFile.{TimestampFile}
-use Rattle.up_roles.proofs.MeantParts.{Moments, count_part_read, count_part_there, positive_part_read, positive_part_there, object_part_read, object_part_there, ident_part_read, ident_part_there, file_name_part_read, file_name_part_there, few_part_read, few_part_there, sha256_part_read, sha256_part_there, head_read, head_there, vehicle_read, vehicle_there, count_part_fails, positive_part_fails, object_part_fails, ident_of_fails, ident_part_fails, file_name_part_fails, few_part_fails, sha256_part_fails, head_fails, vehicle_fails}
+use Rattle.up_roles.proofs.MeantParts.{Moments, count_part_read, count_part_there, positive_part_read, positive_part_there, object_part_read, object_part_there, ident_part_read, ident_part_there, file_name_part_read, file_name_part_there, few_part_read, few_part_there, sha256_part_read, sha256_part_there, sha512_part_read, sha512_part_there, head_read, head_there, vehicle_read, vehicle_there, count_part_fails, positive_part_fails, object_part_fails, ident_of_fails, ident_part_fails, file_name_part_fails, few_part_fails, sha256_part_fails, head_fails, vehicle_fails}
 
 shapes : AllowsShapes IsTextFault
 shapes = record { shape = λ name. tt }
@@ -208,6 +208,7 @@ target_read r value target h =
       hardware = kinds.each_kind;
       some_distinct = rw (kinds.number, kinds.distinct) refl;
       sha256 = sha256_part_read (codes "targets") d sha256 e;
+      sha512 = sha512_part_read d;
       size = count_part_read (codes "targets") (codes "length") d size f;
       release = count_part_read (codes "targets") (codes "release") d release g;
     })))))))))
@@ -223,6 +224,7 @@ target_there r d target h =
     ∙ bind-ok _ _ target.sha256 (sha256_part_there (codes "targets") d target.sha256 h.sha256)
     ∙ bind-ok _ _ target.length (count_part_there (codes "targets") (codes "length") d target.length h.size)
     ∙ bind-ok _ _ target.release (count_part_there (codes "targets") (codes "release") d target.release h.release)
+    ∙ ap (λ (o : Option (List ℕ)). Ok (record { ecu = target.ecu; file = target.file; length = target.length; sha256 = target.sha256; sha512 = o; hardware = target.hardware; release = target.release })) (sha512_part_there d target.sha512 h.sha512)
 
 target_fails : (r : Repository) (d : Data) → Fails IsTextFault (target_of r d)
 unfolding target_of

@@ -1,6 +1,6 @@
 -- What a payload means is within the limits of its role.
-use Rattle.std.proofs.Common.{◌≡◌, ℕ, ◌≤◌, List, [], ◌∷◌, ◌++◌, Bool, true, false, Option, Some, None, length, refl, ap, sym, ◌∙◌, ◌==◌, arith}
-use Rattle.std.specs.Prelude.{bytes_eq, not, ◌&&◌, ◌||◌, codes}
+use Rattle.std.proofs.Common.{◌≡◌, ℕ, ◌*◌, ◌≤◌, List, [], ◌∷◌, ◌++◌, Bool, true, false, Option, Some, None, length, refl, ap, sym, ◌∙◌, ◌==◌, arith}
+use Rattle.std.specs.Prelude.{bytes_eq, nat_lt, not, ◌&&◌, ◌||◌, codes}
 use Rattle.std.specs.List.{AllByRecursion, list_all}
 use Rattle.std.specs.Cmp.Lexicographic.{bytes_decides}
 use Rattle.std.proofs.lemmas.Bool.Decides.{nat_tests}
@@ -8,7 +8,7 @@ use Rattle.hex.proofs.HexLemmas.{decode_of-ok}
 use Rattle.serde_json.specs.Data.{Data, string, Items, no_items, item}
 use Rattle.serde_json.specs.Find as json
 use Rattle.up_canon.specs.Canon.{max_count}
-use Rattle.up_canon.specs.Meaning.{EachMeans}
+use Rattle.up_canon.specs.Meaning.{EachMeans, MeansIfAny}
 use Rattle.up_canon.specs.Moments.{last_moment}
 use Rattle.up_canon.specs.Names.{Name, is_ident}
 use Rattle.up_canon.proofs.ByteTests.{bytes_tested}
@@ -17,8 +17,8 @@ use Rattle.up_canon.proofs.Members.{within_there}
 use Rattle.up_canon.proofs.Printable.{both}
 use Rattle.up_canon.proofs.Steps.{one_value}
 use Rattle.up_roles.specs.Laws.{MeantRootsFit, MeantTargetsFit, MeantSnapshotsFit, MeantTimestampsFit}
-use Rattle.up_roles.specs.Meaning.{HasPositive, HasName, HasSha256, MeansIdent, MeansTarget, ShowsKey}
-use Rattle.up_canon.specs.HexText.{is_hash}
+use Rattle.up_roles.specs.Meaning.{HasPositive, HasName, HasHash, HasSha512, MeansIdent, MeansTarget, ShowsKey}
+use Rattle.up_canon.specs.HexText.{is_second_hash}
 use Rattle.up_roles.specs.Payload.{version_fits, name_fits, is_named, is_moment}
 use Rattle.up_roles.specs.Root.{agree, keys_agree}
 use Rattle.up_roles.specs.Targets.{target_fits, target_is_typed}
@@ -42,15 +42,19 @@ name_fitting Director d name None h = absurd h
 name_fitting Image d name (Some t) h = absurd h
 name_fitting Image d name None h = (refl, refl)
 
-hash_fitting : (d : Data) (hash : List ℕ) → HasSha256 d hash → is_hash hash ≡ true
-hash_fitting d hash h =
-    let ok = decode_of-ok h.sha256.digits hash h.sha256.decoded in
-    let size = ok.2 in
-    let low = h.sha256.at_least in
-    let high = h.sha256.at_most in
-    let whole : length hash ≡ 32 = omega arith in
-    let test : (length hash == 32) ≡ true = grind (arith, nat_tests) in
+hash_fitting : (size : ℕ) (name : List ℕ) (d : Data) (hash : List ℕ) → HasHash (2 * size) name d hash → ((length hash == size) && list_all (λ x. nat_lt x 256) hash) ≡ true
+hash_fitting size name d hash h =
+    let ok = decode_of-ok h.spelled.digits hash h.spelled.decoded in
+    let twice = ok.2 in
+    let low = h.spelled.at_least in
+    let high = h.spelled.at_most in
+    let whole : length hash ≡ size = omega arith in
+    let test : (length hash == size) ≡ true = grind (arith, nat_tests) in
     both _ _ test (bytes_tested hash ok.3)
+
+second_fitting : (d : Data) (o : Option (List ℕ)) → MeansIfAny (HasSha512 d) o → is_second_hash o ≡ true
+second_fitting d None h = refl
+second_fitting d (Some hash) h = hash_fitting 64 (codes "sha512") d hash h
 
 -- ---- Snapshot and Timestamp
 
@@ -65,7 +69,7 @@ pub timestamps_fit : MeantTimestampsFit
 timestamps_fit d file h =
     let name = name_fitting file.repository d (codes "vehicle") file.vehicle h.listing.vehicle in (
       both _ _ (both _ _ (version_fitting d (codes "version") file.version h.listing.head.has_version) name.0) (version_fitting h.entry (codes "version") file.snapshot_version h.snapshot_version),
-      both _ _ (both _ _ (moment_fitting file.expires h.listing.head.in_time) name.1) (hash_fitting h.entry file.snapshot_sha256 h.snapshot_sha256),
+      both _ _ (both _ _ (moment_fitting file.expires h.listing.head.in_time) name.1) (hash_fitting 32 (codes "sha256") h.entry file.snapshot_sha256 h.snapshot_sha256),
     )
 
 -- ---- Targets
@@ -80,7 +84,7 @@ target_fitting : (r : Repository) (d : Data) (target : Target) → MeansTarget r
 target_fitting r d target h =
     let name = name_fitting r d (codes "ecu") target.ecu h.ecu in (
       both _ _ name.0 h.some_distinct,
-      target_typed target name.1 h.file_fits h.size.1 (hash_fitting d target.sha256 h.sha256) (kinds_fit h.kinds target.hardware h.hardware) h.release.1,
+      target_typed target name.1 h.file_fits h.size.1 (hash_fitting 32 (codes "sha256") d target.sha256 h.sha256) (second_fitting d target.sha512 h.sha512) (kinds_fit h.kinds target.hardware h.hardware) h.release.1,
     )
 
 targets_fitting : (r : Repository) (ds : Items) (targets : List Target) → EachMeans (MeansTarget r) ds targets → (list_all (target_fits r) targets ≡ true) × (list_all target_is_typed targets ≡ true)

@@ -1,6 +1,7 @@
 -- What is read of parts of a payload is what they mean.
-use Rattle.std.proofs.Common.{◌≡◌, ℕ, List, Bool, true, false, Option, Some, None, Ok, Err, length, refl, ap, sym, subst, ◌∙◌, arith}
+use Rattle.std.proofs.Common.{◌≡◌, ℕ, ◌*◌, List, Bool, true, false, Option, Some, None, Ok, Err, length, refl, ap, sym, subst, ◌∙◌, arith}
 use Rattle.std.specs.Prelude.{codes, bytes_eq, nat_le, if◌then◌else◌}
+use Rattle.std.specs.List.{list_all}
 use Rattle.std.specs.Cmp.Lexicographic.{bytes_decides}
 use Rattle.std.proofs.lemmas.Bool.Decides.{nat_tests}
 use Rattle.hex.specs.Hex.{decode_sized}
@@ -8,7 +9,7 @@ use Rattle.hex.proofs.HexLemmas.{decode_sized-ok, decode_sized-twice}
 use Rattle.serde_json.specs.Data.{unsigned, Data, number, string, array, object, Items}
 use Rattle.serde_json.specs.Find as json
 use Rattle.up_canon.specs.Canon.{max_count}
-use Rattle.up_canon.specs.Meaning.{HasText, HasCount, HasObject}
+use Rattle.up_canon.specs.Meaning.{HasText, HasCount, HasObject, MeansIfAny}
 use Rattle.up_canon.specs.Members.{items_list, text_of, count_of, list_of, object_of}
 use Rattle.up_canon.specs.Moments.{moment_text, MomentsAreRead, OnlyTextsAreRead}
 use Rattle.up_canon.specs.Names.{Name, is_from_to, is_ident, is_file_name}
@@ -16,11 +17,11 @@ use Rattle.up_canon.specs.Readers.{ident_of, file_name_of, fitting}
 use Rattle.up_canon.specs.Steps.{◌>>=◌, or_error, value_of}
 use Rattle.up_canon.specs.declared.refusal.Refusal.{Refusal}
 use Rattle.up_canon.specs.declared.refusal.Refusal.TheVariants.{BadShape}
-use Rattle.up_canon.proofs.Faults.{Fails, AllowsShapes, then_fails, ok_fails, or_error_fails, unless_fails, fitting_fails, self_fails, text_fails, word_fails, positive_fails, ident_fails}
-use Rattle.up_canon.proofs.Members.{is_text, is_number, is_list, is_some_object, text_read, text_there, ident_read, ident_there, word_read, word_there, positive_read, positive_there, fits_read, fits_there}
-use Rattle.up_canon.proofs.Steps.{first_ok, bind-ok, same_ok, or_error_ok, unless_ok, unless_there, value_of_some}
-use Rattle.up_roles.specs.Meaning.{HasPositive, HasName, HasSha256, MeansHead}
-use Rattle.up_roles.specs.Parts.{part_in, object_part, few_part, text_part, count_part, positive_part, ident_part, file_name_part, sha256_part}
+use Rattle.up_canon.proofs.Faults.{Fails, AllowsShapes, then_fails, ok_fails, or_error_fails, fitting_fails, self_fails, text_fails, word_fails, positive_fails, ident_fails}
+use Rattle.up_canon.proofs.Members.{is_text, is_number, is_list, is_some_object, text_read, text_there, ident_read, ident_there, word_read, word_there, positive_read, positive_there, fits_read, fits_there, if_any_read, if_any_there}
+use Rattle.up_canon.proofs.Steps.{first_ok, bind-ok, same_ok, or_error_ok, value_of_some}
+use Rattle.up_roles.specs.Meaning.{HasPositive, HasName, HasHash, HasSha256, HasSha512, MeansHead}
+use Rattle.up_roles.specs.Parts.{part_in, object_part, few_part, text_part, count_part, positive_part, ident_part, file_name_part, is_lower_digit, digits_part, hash_part, sha256_part, sha512_part}
 use Rattle.up_roles.specs.Payload.{repository_text, repository_of, repository_in, expires_in, head_in, vehicle_in}
 use Rattle.up_roles.specs.declared.payload.Head.{Head}
 use Rattle.up_roles.specs.declared.repository.Repository.{Repository}
@@ -117,33 +118,49 @@ few_part_there least most fault name d items has few =
     ∙ bind-ok _ _ (items_list items) refl
     ∙ fits_there (λ vs. is_from_to least most (length vs)) fault (items_list items) few
 
-pub sha256_part_read : (fault : List ℕ) (d : Data) (hash : List ℕ) → sha256_part fault d ≡ Ok hash → HasSha256 d hash
-unfolding sha256_part
-sha256_part_read fault d hash h = first_ok _ _ _ _ h (λ hashes a h. first_ok _ _ _ _ h (λ digits b h. first_ok _ _ _ _ h (λ x c h.
-    let decoded = value_of_some (decode_sized digits 32) hash (or_error_ok _ _ hash h) in
-    let size = decode_sized-ok digits 32 hash decoded in
+hash_part_read : (size : ℕ) (fault name : List ℕ) (d : Data) (hash : List ℕ) → hash_part size fault name d ≡ Ok hash → HasHash (2 * size) name d hash
+unfolding hash_part digits_part
+hash_part_read size fault name d hash h = first_ok _ _ _ _ h (λ digits a h. first_ok _ _ _ _ a (λ hashes b a. first_ok _ _ _ _ a (λ given c a.
+    let p = fits_read (list_all is_lower_digit) fault given digits a in
+    let decoded = value_of_some (decode_sized digits size) hash (or_error_ok _ _ hash h) in
+    let whole = decode_sized-ok digits size hash decoded in
     record {
       hashes = hashes;
-      has_hashes = object_part_read fault (codes "hashes") d hashes a;
-      sha256 = record {
+      has_hashes = object_part_read fault (codes "hashes") d hashes b;
+      spelled = record {
         digits = digits;
-        has_digits = text_part_read fault (codes "sha256") hashes digits b;
+        has_digits = subst (HasText hashes name) p.1 (text_part_read fault name hashes given c);
         at_least = omega arith;
         at_most = omega arith;
-        decoded = sym (decode_sized-twice digits 32 size) ∙ decoded;
+        decoded = sym (decode_sized-twice digits size whole) ∙ decoded;
       };
-      lower = unless_ok _ _ x c;
+      lower = p.0;
     })))
 
-pub sha256_part_there : (fault : List ℕ) (d : Data) (hash : List ℕ) → HasSha256 d hash → sha256_part fault d ≡ Ok hash
-unfolding sha256_part
-sha256_part_there fault d hash h =
-    let low = h.sha256.at_least in
-    let high = h.sha256.at_most in
+hash_part_there : (size : ℕ) (fault name : List ℕ) (d : Data) (hash : List ℕ) → HasHash (2 * size) name d hash → hash_part size fault name d ≡ Ok hash
+unfolding hash_part digits_part
+hash_part_there size fault name d hash h =
+    let low = h.spelled.at_least in
+    let high = h.spelled.at_most in
+    bind-ok _ _ h.spelled.digits (
     bind-ok _ _ h.hashes (object_part_there fault (codes "hashes") d h.hashes h.has_hashes)
-    ∙ bind-ok _ _ h.sha256.digits (text_part_there fault (codes "sha256") h.hashes h.sha256.digits h.sha256.has_digits)
-    ∙ bind-ok _ _ tt (unless_there _ _ h.lower)
-    ∙ ap (λ r. or_error (BadShape fault) (value_of r)) (decode_sized-twice h.sha256.digits 32 (omega arith) ∙ h.sha256.decoded)
+    ∙ bind-ok _ _ h.spelled.digits (text_part_there fault name h.hashes h.spelled.digits h.spelled.has_digits)
+    ∙ fits_there (list_all is_lower_digit) fault h.spelled.digits h.lower)
+    ∙ ap (λ r. or_error (BadShape fault) (value_of r)) (decode_sized-twice h.spelled.digits size (omega arith) ∙ h.spelled.decoded)
+
+pub sha256_part_read : (fault : List ℕ) (d : Data) (hash : List ℕ) → sha256_part fault d ≡ Ok hash → HasSha256 d hash
+sha256_part_read fault = hash_part_read 32 fault (codes "sha256")
+
+pub sha256_part_there : (fault : List ℕ) (d : Data) (hash : List ℕ) → HasSha256 d hash → sha256_part fault d ≡ Ok hash
+sha256_part_there fault = hash_part_there 32 fault (codes "sha256")
+
+pub sha512_part_read : (d : Data) → MeansIfAny (HasSha512 d) (sha512_part d)
+sha512_part_read d =
+    if_any_read (HasSha512 d) (hash_part 64 (codes "hashes") (codes "sha512") d) (hash_part_read 64 (codes "hashes") (codes "sha512") d) (hash_part_there 64 (codes "hashes") (codes "sha512") d)
+
+pub sha512_part_there : (d : Data) (hash : Option (List ℕ)) → MeansIfAny (HasSha512 d) hash → sha512_part d ≡ hash
+sha512_part_there d hash =
+    if_any_there (HasSha512 d) (hash_part 64 (codes "hashes") (codes "sha512") d) hash (hash_part_read 64 (codes "hashes") (codes "sha512") d) (hash_part_there 64 (codes "hashes") (codes "sha512") d)
 
 -- ---- their faults
 
@@ -187,11 +204,12 @@ module _ {F : Refusal → Type 0} (law : AllowsShapes F) where
       then_fails _ _ (part_fails fault name d) (λ v. then_fails _ _ (or_error_fails (BadShape fault) _ (law.shape fault)) (λ t. fitting_fails law is_file_name fault t))
 
   pub sha256_part_fails : (fault : List ℕ) (d : Data) → Fails F (sha256_part fault d)
-  unfolding sha256_part
+  unfolding hash_part digits_part
   sha256_part_fails fault d =
+      then_fails _ _ (
       then_fails _ _ (object_part_fails fault (codes "hashes") d) (λ hashes.
-      then_fails _ _ (text_part_fails fault (codes "sha256") hashes) (λ digits.
-      then_fails _ _ (unless_fails _ (BadShape fault) (law.shape fault)) (λ a. or_error_fails (BadShape fault) _ (law.shape fault))))
+      then_fails _ _ (text_part_fails fault (codes "sha256") hashes) (λ digits. fitting_fails law (list_all is_lower_digit) fault digits))) (λ digits.
+      or_error_fails (BadShape fault) _ (law.shape fault))
 
 -- ---- what each payload says of itself
 

@@ -1,6 +1,6 @@
 -- The payloads of files within the limits have canonical texts.
 use Rattle.std.proofs.Common.{◌≡◌, ℕ, suc, ◌≤◌, List, [], ◌∷◌, ◌++◌, true, Option, Some, None, length, map, refl, arith}
-use Rattle.std.specs.Prelude.{nat_le, codes, option_map, option_to_list}
+use Rattle.std.specs.Prelude.{◌==◌, ◌&&◌, nat_le, nat_lt, codes, option_map, option_to_list}
 use Rattle.std.specs.List.{list_all}
 use Rattle.std.proofs.lemmas.Bool.{and_parts}
 use Rattle.std.proofs.lemmas.Bool.Decides.{nat_tests}
@@ -11,7 +11,7 @@ use Rattle.up_canon.specs.Canon.{max_count, is_printable_text, has_canon}
 use Rattle.up_canon.specs.Moments.{last_moment, moment_text}
 use Rattle.up_canon.specs.Names.{Name, is_ident, is_file_name}
 use Rattle.up_canon.proofs.MomentTexts.{moments_are_plain}
-use Rattle.up_canon.specs.HexText.{is_hash}
+use Rattle.up_canon.specs.HexText.{is_hash, is_second_hash}
 use Rattle.up_roles.specs.Payload.{IsCanonical, payload, payload_members, repository_text, version_fits, is_named, is_moment}
 use Rattle.up_roles.specs.Root.{all_keys, key_member, role_value, roles_value, roles_members, root_more, root_payload, key_fits, role_fits, root_fits, root_is_typed}
 use Rattle.up_roles.specs.Snapshot.{snapshot_meta, snapshot_payload, snapshot_fits, snapshot_is_typed}
@@ -75,8 +75,13 @@ plain-payload n kind r version expires (Some name) more hk hv he hn h =
       ),
     )
 
-plain-hashes : (hash : List ℕ) → is_hash hash ≡ true → IsPlain 1 (hashes_value hash)
-plain-hashes hash h = plain-object 0 ((codes "sha256", hex_value hash) ∷ []) (refl, plain-string _ (printable-hex hash (and_parts _ _ h).1), tt)
+plain-hash : (hash : List ℕ) (size : ℕ) → ((length hash == size) && list_all (λ x. nat_lt x 256) hash) ≡ true → IsPlain 0 (hex_value hash)
+plain-hash hash size h = plain-string _ (printable-hex hash (and_parts (length hash == size) _ h).1)
+
+plain-hashes : (hash : List ℕ) (o : Option (List ℕ)) → is_hash hash ≡ true → is_second_hash o ≡ true → IsPlain 1 (hashes_value hash o)
+plain-hashes hash None h k = plain-object 0 ((codes "sha256", hex_value hash) ∷ []) (refl, plain-hash hash 32 h, tt)
+plain-hashes hash (Some second) h k =
+    plain-object 0 ((codes "sha256", hex_value hash) ∷ (codes "sha512", hex_value second) ∷ []) (refl, plain-hash hash 32 h, (refl, plain-hash second 64 k, tt))
 
 -- ---- Snapshot
 
@@ -100,9 +105,9 @@ timestamp-canon file fits typed =
     let f = and_parts _ _ fits in
     let t = and_parts _ _ typed in
     let s = and_parts _ _ t.0 in
-    let entry : IsPlain 2 (object_with ((codes "hashes", hashes_value file.snapshot_sha256) ∷ (codes "version", count_value file.snapshot_version) ∷ [])) =
-    plain-object 1 ((codes "hashes", hashes_value file.snapshot_sha256) ∷ (codes "version", count_value file.snapshot_version) ∷ []) (refl, plain-hashes file.snapshot_sha256 t.1, (refl, deeper 0 1 _ (omega arith) (plain-version file.snapshot_version f.1), tt)) in
-    let meta : IsPlain 3 (timestamp_meta file) = plain-object 2 ((codes "snapshot.json", object_with ((codes "hashes", hashes_value file.snapshot_sha256) ∷ (codes "version", count_value file.snapshot_version) ∷ [])) ∷ []) (refl, entry, tt) in
+    let entry : IsPlain 2 (object_with ((codes "hashes", hashes_value file.snapshot_sha256 None) ∷ (codes "version", count_value file.snapshot_version) ∷ [])) =
+    plain-object 1 ((codes "hashes", hashes_value file.snapshot_sha256 None) ∷ (codes "version", count_value file.snapshot_version) ∷ []) (refl, plain-hashes file.snapshot_sha256 None t.1 refl, (refl, deeper 0 1 _ (omega arith) (plain-version file.snapshot_version f.1), tt)) in
+    let meta : IsPlain 3 (timestamp_meta file) = plain-object 2 ((codes "snapshot.json", object_with ((codes "hashes", hashes_value file.snapshot_sha256 None) ∷ (codes "version", count_value file.snapshot_version) ∷ [])) ∷ []) (refl, entry, tt) in
     plain-canon 4 (timestamp_payload file) (omega arith) (plain-payload 3 (codes "timestamp") file.repository file.version file.expires file.vehicle ((codes "meta", timestamp_meta file) ∷ []) refl (and_parts _ _ f.0).0 s.0 s.1 (refl, meta, tt))
 
 -- ---- Targets
@@ -115,7 +120,8 @@ plain-target : (target : Target) → target_is_typed target ≡ true → IsPlain
 plain-target target typed =
     let release = and_parts _ _ typed in
     let hardware = and_parts _ _ release.0 in
-    let hash = and_parts _ _ hardware.0 in
+    let second = and_parts _ _ hardware.0 in
+    let hash = and_parts _ _ second.0 in
     let size = and_parts _ _ hash.0 in
     let file = and_parts _ _ size.0 in
     plain-object 1 (target_members target) (
@@ -126,7 +132,7 @@ plain-target target typed =
         plain-list 0 (map string target.hardware) (all-plain 0 is_ident string target.hardware (λ name h. plain-string name (ident_prints name h)) hardware.1),
         (
           refl,
-          plain-hashes target.sha256 hash.1,
+          plain-hashes target.sha256 target.sha512 hash.1 second.1,
           (
             refl,
             deeper 0 1 _ (omega arith) (plain-count target.length size.1),
@@ -137,11 +143,11 @@ plain-target target typed =
     )
 
 pub target_typed : (target : Target) → is_named target.ecu ≡ true → is_file_name target.file ≡ true → target.length ≤ max_count → is_hash target.sha256 ≡ true
-    → list_all is_ident target.hardware ≡ true → target.release ≤ max_count → target_is_typed target ≡ true
-target_typed target ecu file size hash hardware release =
+    → is_second_hash target.sha512 ≡ true → list_all is_ident target.hardware ≡ true → target.release ≤ max_count → target_is_typed target ≡ true
+target_typed target ecu file size hash second hardware release =
     let size' : nat_le target.length max_count ≡ true = grind (arith, nat_tests) in
     let release' : nat_le target.release max_count ≡ true = grind (arith, nat_tests) in
-    rw (ecu, file, size', hash, hardware, release') refl
+    rw (ecu, file, size', hash, second, hardware, release') refl
 
 pub targets-canon : (file : TargetsFile) → targets_fits file ≡ true → targets_is_typed file ≡ true → has_canon (targets_payload file) ≡ true
 unfolding targets_payload

@@ -51,7 +51,7 @@ all_three a b c h =
 -- ---- Timestamp
 
 abbrev timestamp_entry : TimestampFile → Data
-timestamp_entry file = object_with ((codes "hashes", hashes_value file.snapshot_sha256) ∷ (codes "version", count_value file.snapshot_version) ∷ [])
+timestamp_entry file = object_with ((codes "hashes", hashes_value file.snapshot_sha256 None) ∷ (codes "version", count_value file.snapshot_version) ∷ [])
 
 pub timestamp_means : (file : TimestampFile) → timestamp_fits file ≡ true → timestamp_is_typed file ≡ true → MeansTimestamp (timestamp_payload file) file
 unfolding timestamp_payload
@@ -62,7 +62,7 @@ timestamp_means file fits typed =
       entry = timestamp_entry file;
       listing = listing_means (codes "timestamp") (codes "snapshot.json") file.repository file.version file.expires file.vehicle ((codes "snapshot.json", timestamp_entry file) ∷ []) (timestamp_entry file) (_, refl, refl) f.0 f.1 t.0 t.1;
       snapshot_version = positive_means (timestamp_entry file) (codes "version") file.snapshot_version refl f.2;
-      snapshot_sha256 = sha256_means (timestamp_entry file) file.snapshot_sha256 refl t.2;
+      snapshot_sha256 = sha256_means (timestamp_entry file) file.snapshot_sha256 None refl t.2;
     }
 
 -- ---- Snapshot

@@ -14,7 +14,7 @@ use Rattle.up_roles.specs.Targets.{target_value, target_fits, target_is_typed, t
 use Rattle.up_roles.specs.declared.repository.Repository.{Repository}
 use Rattle.up_roles.specs.declared.targets.Target.{Target}
 use Rattle.up_roles.specs.declared.targets.TargetsFile.{TargetsFile}
-use Rattle.up_roles.proofs.Heads.{HasHead, HasNamed, head_means, name_means, count_means, sha256_means, each_means, all_both}
+use Rattle.up_roles.proofs.Heads.{HasHead, HasNamed, head_means, name_means, count_means, sha256_means, sha512_means, each_means, all_both}
 
 -- ---- one target
 
@@ -22,17 +22,17 @@ record HasTarget (target : Target) (d : Data) : Type 0 where
   ecu_is : HasNamed (codes "ecu") target.ecu d
   file_is : HasText d (codes "file") target.file
   hardware_is : json.get (codes "hardware") d ≡ Some (list_with (map string target.hardware))
-  hashes_is : json.get (codes "hashes") d ≡ Some (hashes_value target.sha256)
+  hashes_is : json.get (codes "hashes") d ≡ Some (hashes_value target.sha256 target.sha512)
   length_is : json.get (codes "length") d ≡ Some (count_value target.length)
   release_is : json.get (codes "release") d ≡ Some (count_value target.release)
 
-abbrev made : Option Name → Name → ℕ → List ℕ → List Name → ℕ → Target
-made ecu file size sha256 hardware release = record { ecu = ecu; file = file; length = size; sha256 = sha256; hardware = hardware; release = release }
+abbrev made : Option Name → Name → ℕ → List ℕ → Option (List ℕ) → List Name → ℕ → Target
+made ecu file size sha256 sha512 hardware release = record { ecu = ecu; file = file; length = size; sha256 = sha256; sha512 = sha512; hardware = hardware; release = release }
 
-has_target : (ecu : Option Name) (file : Name) (size : ℕ) (sha256 : List ℕ) (hardware : List Name) (release : ℕ)
-    → HasTarget (made ecu file size sha256 hardware release) (target_value (made ecu file size sha256 hardware release))
-has_target None file size sha256 hardware release = record { ecu_is = tt; file_is = refl; hardware_is = refl; hashes_is = refl; length_is = refl; release_is = refl }
-has_target (Some name) file size sha256 hardware release = record { ecu_is = refl; file_is = refl; hardware_is = refl; hashes_is = refl; length_is = refl; release_is = refl }
+has_target : (ecu : Option Name) (file : Name) (size : ℕ) (sha256 : List ℕ) (sha512 : Option (List ℕ)) (hardware : List Name) (release : ℕ)
+    → HasTarget (made ecu file size sha256 sha512 hardware release) (target_value (made ecu file size sha256 sha512 hardware release))
+has_target None file size sha256 sha512 hardware release = record { ecu_is = tt; file_is = refl; hardware_is = refl; hashes_is = refl; length_is = refl; release_is = refl }
+has_target (Some name) file size sha256 sha512 hardware release = record { ecu_is = refl; file_is = refl; hardware_is = refl; hashes_is = refl; length_is = refl; release_is = refl }
 
 target_means : (r : Repository) (target : Target) → (target_fits r target && target_is_typed target) ≡ true → MeansTarget r (target_value target) target
 target_means r target h =
@@ -40,11 +40,12 @@ target_means r target h =
     let f = and_parts (name_fits r target.ecu) _ both.0 in
     let release = and_parts _ _ both.1 in
     let hardware = and_parts _ _ release.0 in
-    let hash = and_parts _ _ hardware.0 in
+    let second = and_parts _ _ hardware.0 in
+    let hash = and_parts _ _ second.0 in
     let size = and_parts _ _ hash.0 in
     let file = and_parts _ _ size.0 in
     let d = target_value target in
-    let has : HasTarget target d = has_target target.ecu target.file target.length target.sha256 target.hardware target.release in
+    let has : HasTarget target d = has_target target.ecu target.file target.length target.sha256 target.sha512 target.hardware target.release in
     record {
       ecu = name_means r d (codes "ecu") target.ecu f.0 file.0 has.ecu_is;
       file = has.file_is;
@@ -53,7 +54,8 @@ target_means r target h =
       has_hardware = has.hardware_is;
       hardware = each_means MeansIdent string is_ident (λ name fits. (refl, fits)) target.hardware hardware.1;
       some_distinct = f.1;
-      sha256 = sha256_means d target.sha256 has.hashes_is hash.1;
+      sha256 = sha256_means d target.sha256 target.sha512 has.hashes_is hash.1;
+      sha512 = sha512_means d target.sha256 target.sha512 has.hashes_is second.1;
       size = count_means d (codes "length") target.length has.length_is size.1;
       release = count_means d (codes "release") target.release has.release_is release.1;
     }

@@ -1,10 +1,10 @@
 -- What the bytes of a role file mean, as relations: which members its payload has (Uptane Standard 2.1.0 says what each role's metadata
 -- contain, and leaves the encoding open; this is the one used here). Members that none of these names are left aside.
-use Rattle.std.specs.Prelude.{◌≡◌, ℕ, ◌≤◌, List, IsTrue, bytes_eq, length, Option, Some, None, codes, ⊤}
+use Rattle.std.specs.Prelude.{◌≡◌, ℕ, ◌≤◌, List, IsTrue, bytes_eq, Option, Some, None, codes, ⊤}
 use Rattle.std.specs.List.{AllByRecursion, list_all, list_any}
 use Rattle.serde_json.specs.Data.{Data, string, array, Items}
 use Rattle.serde_json.specs.Find as json
-use Rattle.up_canon.specs.Meaning.{MeansValue, HasText, HasCount, HasObject, HasHex, EachMeans}
+use Rattle.up_canon.specs.Meaning.{MeansValue, HasText, HasCount, HasObject, HasHex, MeansIfAny, EachMeans}
 use Rattle.up_canon.specs.Moments.{last_moment, moment_text}
 use Rattle.up_canon.specs.Names.{Name, is_ident, is_file_name, are_distinct, hardware_fits}
 use Rattle.up_sign.specs.Meaning.{MeansEnvelope}
@@ -36,12 +36,20 @@ HasName Director d name None = ⊥
 HasName Image d name (Some ident) = ⊥
 HasName Image d name None = ⊤
 
--- the SHA-256 under the name of the hash function, as 64 lower case hexadecimal digits
-pub record HasSha256 (d : Data) (hash : List ℕ) : Type 0 where
+-- a hash under the name of its hash function, as so many lower case hexadecimal digits
+pub record HasHash (digits : ℕ) (name : List ℕ) (d : Data) (hash : List ℕ) : Type 0 where
   pub hashes : Data
   pub has_hashes : HasObject d (codes "hashes") hashes
-  pub sha256 : HasHex 64 64 hashes (codes "sha256") hash
-  pub lower : IsTrue (list_all is_lower_digit sha256.digits)
+  pub spelled : HasHex digits digits hashes name hash
+  pub lower : IsTrue (list_all is_lower_digit spelled.digits)
+
+-- the SHA-256
+abbrev pub HasSha256 : Data → List ℕ → Type 0
+HasSha256 d hash = HasHash 64 (codes "sha256") d hash
+
+-- the SHA-512
+abbrev pub HasSha512 : Data → List ℕ → Type 0
+HasSha512 d hash = HasHash 128 (codes "sha512") d hash
 
 -- the role, the repository, a version from 1, and the moment of expiry
 pub record MeansHead (kind : List ℕ) (d : Data) (repository : Repository) (version expires : ℕ) : Type 0 where
@@ -90,6 +98,7 @@ pub record MeansTarget (repository : Repository) (d : Data) (target : Target) : 
   pub hardware : EachMeans MeansIdent kinds target.hardware
   pub some_distinct : IsTrue (hardware_fits target.hardware)
   pub sha256 : HasSha256 d target.sha256
+  pub sha512 : MeansIfAny (HasSha512 d) target.sha512
   pub size : HasCount d (codes "length") target.length
   pub release : HasCount d (codes "release") target.release
 

@@ -1,5 +1,5 @@
 -- Parts of a member, whose faults go by that member's name.
-use Rattle.std.specs.Prelude.{ℕ, ◌||◌, List, Bool, nat_le, length, codes, Result}
+use Rattle.std.specs.Prelude.{ℕ, ◌||◌, List, Bool, nat_le, length, codes, Option, Result}
 use Rattle.std.specs.List.{list_all}
 use Rattle.hex.specs.Hex.{decode_sized}
 use Rattle.serde_json.specs.Data.{Data}
@@ -7,7 +7,7 @@ use Rattle.serde_json.specs.Find as json
 use Rattle.up_canon.specs.Members.{text_of, count_of, list_of, object_of}
 use Rattle.up_canon.specs.Names.{Name, is_from_to}
 use Rattle.up_canon.specs.Readers.{ident_of, file_name_of, fitting}
-use Rattle.up_canon.specs.Steps.{◌>>=◌, or_error, unless, value_of}
+use Rattle.up_canon.specs.Steps.{◌>>=◌, or_error, value_of}
 use Rattle.up_canon.specs.declared.refusal.Refusal.{Refusal}
 use Rattle.up_canon.specs.declared.refusal.Refusal.TheVariants.{BadShape}
 
@@ -53,10 +53,23 @@ file_name_part = part_as file_name_of
 abbrev pub is_lower_digit : ℕ → Bool
 is_lower_digit x = is_from_to 48 57 x || is_from_to 97 102 x
 
--- the SHA-256 among the hashes, as 64 lower case hexadecimal digits
-unfoldable pub sha256_part : List ℕ → Data → Result (List ℕ) Refusal
-sha256_part fault d = do
+-- the text of that name among the hashes, of lower case hexadecimal digits
+unfoldable pub digits_part : List ℕ → List ℕ → Data → Result (List ℕ) Refusal
+digits_part fault name d = do
   hashes ← object_part fault (codes "hashes") d
-  digits ← text_part fault (codes "sha256") hashes
-  are_lower ← unless (list_all is_lower_digit digits) (BadShape fault)
-  or_error (BadShape fault) (value_of (decode_sized digits 32))
+  digits ← text_part fault name hashes
+  fitting (list_all is_lower_digit) fault digits
+
+-- the hash of so many bytes of that name among the hashes
+unfoldable pub hash_part : ℕ → List ℕ → List ℕ → Data → Result (List ℕ) Refusal
+hash_part size fault name d = do
+  digits ← digits_part fault name d
+  or_error (BadShape fault) (value_of (decode_sized digits size))
+
+-- the SHA-256
+abbrev pub sha256_part : List ℕ → Data → Result (List ℕ) Refusal
+sha256_part fault d = hash_part 32 fault (codes "sha256") d
+
+-- the SHA-512, of 128 lower case digits; any other member counts as none, so that no fault comes of it
+abbrev pub sha512_part : Data → Option (List ℕ)
+sha512_part d = value_of (hash_part 64 (codes "hashes") (codes "sha512") d)

@@ -13,9 +13,9 @@ use Rattle.up_canon.specs.Steps.{◌>>=◌, each}
 use Rattle.up_canon.specs.declared.refusal.Refusal.{Refusal}
 use Rattle.up_sign.specs.Schemes.{Rules}
 use Rattle.up_sign.specs.declared.envelope.Envelope.{Envelope}
-use Rattle.up_roles.specs.Parts.{few_part, ident_part, file_name_part, count_part, sha256_part}
+use Rattle.up_roles.specs.Parts.{few_part, ident_part, file_name_part, count_part, sha256_part, sha512_part}
 use Rattle.up_canon.specs.Build.{object_with, list_with, count_value, hashes_value}
-use Rattle.up_canon.specs.HexText.{is_hash}
+use Rattle.up_canon.specs.HexText.{is_hash, is_second_hash}
 use Rattle.up_roles.specs.Payload.{payload, sealed_text, version_fits, name_fits, is_moment, is_named, head_in, vehicle_in, file_in}
 use Rattle.up_roles.specs.declared.repository.Repository.{Repository}
 use Rattle.up_roles.specs.declared.repository.Repository.TheVariants.{Director, Image}
@@ -28,7 +28,7 @@ use denote.Ref.{Bor}
 abbrev pub target_members : Target → List (List ℕ × Data)
 target_members target =
     (codes "file", string target.file) ∷ (codes "hardware", list_with (map string target.hardware))
-    ∷ (codes "hashes", hashes_value target.sha256) ∷ (codes "length", count_value target.length) ∷ (codes "release", count_value target.release)
+    ∷ (codes "hashes", hashes_value target.sha256 target.sha512) ∷ (codes "length", count_value target.length) ∷ (codes "release", count_value target.release)
     ∷ option_to_list (option_map (λ name. (codes "ecu", string name)) target.ecu)
 
 abbrev pub target_value : Target → Data
@@ -67,7 +67,7 @@ targets_fits file =
 -- what the types of the fields keep
 abbrev pub target_is_typed : Target → Bool
 target_is_typed target =
-    is_named target.ecu && is_file_name target.file && nat_le target.length max_count && is_hash target.sha256
+    is_named target.ecu && is_file_name target.file && nat_le target.length max_count && is_hash target.sha256 && is_second_hash target.sha512
     && list_all is_ident target.hardware && nat_le target.release max_count
 
 abbrev pub targets_is_typed : TargetsFile → Bool
@@ -97,7 +97,7 @@ target_of repository value = do
   sha256 ← sha256_part (codes "targets") d
   size ← count_part (codes "targets") (codes "length") d
   release ← count_part (codes "targets") (codes "release") d
-  Ok (record { ecu = ecu; file = file; length = size; sha256 = sha256; hardware = hardware; release = release })
+  Ok (record { ecu = ecu; file = file; length = size; sha256 = sha256; sha512 = sha512_part d; hardware = hardware; release = release })
 
 unfoldable pub target_list_in : Repository → Data → Result (List Target) Refusal
 target_list_in repository d = do

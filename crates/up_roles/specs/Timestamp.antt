@@ -1,5 +1,5 @@
 -- Timestamp files: the version and the hash of the Snapshot file.
-use Rattle.std.specs.Prelude.{ℕ, ◌&&◌, List, [], ◌∷◌, Bool, codes, Result, Ok}
+use Rattle.std.specs.Prelude.{ℕ, ◌&&◌, List, [], ◌∷◌, Bool, None, codes, Result, Ok}
 use Rattle.serde_json.specs.Data.{Data}
 use Rattle.up_canon.specs.Members.{object_in}
 use Rattle.up_canon.specs.Steps.{◌>>=◌}
@@ -20,7 +20,7 @@ meta_of hashes version =
     object_with ((codes "snapshot.json", object_with ((codes "hashes", hashes) ∷ (codes "version", count_value version) ∷ [])) ∷ [])
 
 abbrev pub timestamp_meta : TimestampFile → Data
-timestamp_meta file = meta_of (hashes_value file.snapshot_sha256) file.snapshot_version
+timestamp_meta file = meta_of (hashes_value file.snapshot_sha256 None) file.snapshot_version
 
 unfoldable pub timestamp_payload : TimestampFile → Data
 timestamp_payload file = payload (codes "timestamp") file.repository file.version file.expires file.vehicle ((codes "meta", timestamp_meta file) ∷ [])

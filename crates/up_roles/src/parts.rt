@@ -4,7 +4,7 @@ ghost use Rattle.std.specs.List.{list_all};
 ghost use Rattle.serde_json.specs.View.{view};
 ghost use Rattle.up_canon.specs.Members.{IsFault, object_of_map, values_of};
 ghost use Rattle.up_canon.specs.Refusals.{Gives};
-ghost use Rattle.up_roles.specs.Parts.{part_in, object_part as object_part_of, few_part as few_part_of, text_part as text_part_of, count_part as count_part_of, positive_part as positive_part_of, ident_part as ident_part_of, file_name_part as file_name_part_of, sha256_part as sha256_part_of, is_lower_digit as is_lower_digit_of};
+ghost use Rattle.up_roles.specs.Parts.{part_in, object_part as object_part_of, few_part as few_part_of, text_part as text_part_of, count_part as count_part_of, positive_part as positive_part_of, ident_part as ident_part_of, file_name_part as file_name_part_of, digits_part as digits_part_of, sha256_part as sha256_part_of, sha512_part as sha512_part_of, is_lower_digit as is_lower_digit_of};
 
 use hex::FromHex;
 use serde_json::{Map, Value};
@@ -139,7 +139,7 @@ pub(crate) fn file_name_part(
 }
 
 /// The SHA-256 among the hashes, of 64 lower case hexadecimal digits.
-#[tactic(auto, unfolding(crate::specs::Parts::sha256_part, up_canon::specs::Steps::and_then))]
+#[tactic(auto, unfolding(crate::specs::Parts::hash_part, up_canon::specs::Steps::and_then))]
 pub(crate) fn sha256_part(
     map: &Map<String, Value>,
     fault: &'static str,
@@ -148,14 +148,37 @@ pub(crate) fn sha256_part(
         (λ hash. sha256_part_of fault.now (object_of_map map.now.entries) ≡ Ok hash)
         (λ f. IsFault (sha256_part_of fault.now (object_of_map map.now.entries)) fault.now f.now) }
 {
-    let hashes = object_part(map, "hashes", fault)?;
-    let digits = text_part(hashes, "sha256", fault)?;
-    if !has_lower_digits(digits.as_bytes()) {
-        return Err(fault);
-    }
-    match <[u8; 32] as FromHex>::from_hex(digits) {
+    match <[u8; 32] as FromHex>::from_hex(digits_part(map, "sha256", fault)?) {
         Ok(hash) => Ok(hash),
         Err(_) => Err(fault),
+    }
+}
+
+/// The SHA-512 among the hashes, where it is 128 lower case hexadecimal digits. Any other member counts as none.
+#[tactic(auto, unfolding(crate::specs::Parts::hash_part, up_canon::specs::Steps::and_then))]
+pub(crate) fn sha512_part(map: &Map<String, Value>) -> Option<[u8; 64]>
+    ensures { result ≡ sha512_part_of (object_of_map map.now.entries) }
+{
+    let digits = digits_part(map, "sha512", "hashes").ok()?;
+    <[u8; 64] as FromHex>::from_hex(digits).ok()
+}
+
+/// A text among the hashes, of lower case hexadecimal digits.
+#[tactic(auto, unfolding(crate::specs::Parts::digits_part, up_canon::specs::Steps::and_then))]
+fn digits_part<'a>(
+    map: &'a Map<String, Value>,
+    name: &str,
+    fault: &'static str,
+) -> Result<&'a str, &'static str>
+    ensures { MatchResult result
+        (λ digits. digits_part_of fault.now name.now (object_of_map map.now.entries) ≡ Ok digits.now)
+        (λ f. IsFault (digits_part_of fault.now name.now (object_of_map map.now.entries)) fault.now f.now) }
+{
+    let digits = text_part(object_part(map, "hashes", fault)?, name, fault)?;
+    if has_lower_digits(digits.as_bytes()) {
+        Ok(digits)
+    } else {
+        Err(fault)
     }
 }
 

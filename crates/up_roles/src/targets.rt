@@ -11,7 +11,7 @@ ghost use Rattle.up_roles.specs.Payload.{largest_file};
 ghost use Rattle.up_roles.specs.Targets.{targets_in, targets_of, target_list_in, target_of, ecu_of, hardware_of, ecus_of, repeats_ecu, IsSeen};
 
 use crate::file::{RoleFile, read_file};
-use crate::parts::{count_part, few_part, file_name_part, ident_part, sha256_part};
+use crate::parts::{count_part, few_part, file_name_part, ident_part, sha256_part, sha512_part};
 use crate::payload::{head_at, vehicle_at};
 use crate::repository::Repository;
 use serde_json::{Map, Value};
@@ -29,14 +29,15 @@ use up_canon::readers::ident_of;
 use up_canon::refusal::Refusal;
 use up_sign::envelope::Envelope;
 
-/// An image: its filename, length in bytes, SHA-256, the hardware that it is for and its release counter. The Director's
-/// names the ECU that installs it. The type keeps no limits; `TargetsFile::fits` tells.
+/// An image: its filename, length in bytes, SHA-256, SHA-512 where it has one, the hardware that it is for and its release
+/// counter. The Director's names the ECU that installs it. The type keeps no limits; `TargetsFile::fits` tells.
 #[derive(Debug, Drop)]
 pub struct Target {
     pub ecu: Option<Ident>,
     pub file: FileName,
     pub length: Count,
     pub sha256: [u8; 32],
+    pub sha512: Option<[u8; 64]>,
     pub hardware: Listed<Ident>,
     pub release: Count,
 }
@@ -48,6 +49,7 @@ impl Duplicate for Target {
             file: self.file.copy(alloc)?,
             length: self.length,
             sha256: self.sha256,
+            sha512: self.sha512,
             hardware: self.hardware.copy(alloc)?,
             release: self.release,
         })
@@ -161,6 +163,7 @@ fn target_at(alloc: Global, repository: Repository, value: &Value) -> Result<Tar
         file,
         length,
         sha256,
+        sha512: sha512_part(map),
         hardware,
         release: count_part(map, "release", "targets")?,
     })

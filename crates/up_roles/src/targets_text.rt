@@ -92,7 +92,7 @@ fn target_value(alloc: Global, target: &Target) -> Result<Value, AllocError>
 {
     let mut members = ecu_members(alloc, &target.ecu)?;
     let hardware = names_value(alloc, target.hardware.as_slice())?;
-    let hashes = hashes_value(alloc, &target.sha256)?;
+    let hashes = hashes_value(alloc, &target.sha256, &target.sha512)?;
     let file = Value::try_from_str(alloc, target.file.text())?;
     put(
         &mut members,

@@ -153,7 +153,7 @@ fn timestamp_value(alloc: Global, file: &TimestampFile) -> Result<Value, AllocEr
         version: file.version,
         expires: file.expires,
     };
-    let hashes = hashes_value(alloc, &file.snapshot_sha256)?;
+    let hashes = hashes_value(alloc, &file.snapshot_sha256, &None)?;
     let more = timestamp_members(alloc, file.snapshot_version, hashes)?;
     payload_value(alloc, "timestamp", &head, &file.vehicle, more)
 }

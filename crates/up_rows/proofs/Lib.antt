@@ -9,3 +9,4 @@ mod Registers
 pub mod Vehicles
 mod Replacements
 mod Fitting
+mod SecondHashes

@@ -1,6 +1,7 @@
 -- The laws of the rows of a state: they tell the state, what is looked up among them is the state's, and what a command changes of
 -- them makes the rows of the next state.
 use Rattle.std.specs.Prelude.{◌≡◌, ◌==◌, ℕ, false, Some, None, is_some, is_none, length}
+use Rattle.std.specs.List.{AllByRecursion}
 use Rattle.std.specs.FinMap as table
 use Rattle.up_canon.specs.Names.{Name}
 use Rattle.up_sign.specs.Schemes.{Rules}
@@ -23,6 +24,7 @@ use Rattle.up_machine.specs.Sound.{IsSound}
 use Rattle.up_machine.specs.State.{Entry, Vehicle, State, empty_state, added, is_taken}
 use Rattle.up_machine.specs.Vehicles.{NewVehicleData}
 use Rattle.up_rows.specs.StateRows.{no_rows, rows_of_state, state_of_rows}
+use Rattle.up_rows.specs.SecondHashes.{TellsItsHash}
 use Rattle.up_rows.specs.Lookups.{kept_with, owner_found, text_held, version_told, ecus_told, installed_told, plan_told}
 use Rattle.up_rows.specs.Changes.{with_root_rows, with_register_rows, with_image_rows, with_vehicle_rows, with_replaced_rows, with_campaign_row, with_accepted_rows}
 
@@ -66,6 +68,10 @@ InstalledIsTold = (k : Rules) (s : State) (ecu : Name) → installed_told (rows_
 
 abbrev pub AssignedIsTold : Type 0
 AssignedIsTold = (k : Rules) (s : State) (vehicle : Name) → plan_told (rows_of_state k s) vehicle ≡ assigned_to s vehicle
+
+-- the row of each ECU, of any vehicle, tells the second hash that the text of its last report has
+abbrev pub EcusTellTheirHash : Type 0
+EcusTellTheirHash = (name : Name) (v : Vehicle) → AllByRecursion TellsItsHash (rows_of name v).ecus
 
 -- ---- what commands change
 

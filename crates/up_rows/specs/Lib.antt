@@ -1,5 +1,6 @@
 pub mod Tables
 pub mod StateRows
+pub mod SecondHashes
 pub mod Lookups
 pub mod Changes
 pub mod Laws

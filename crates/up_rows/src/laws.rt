@@ -1,6 +1,8 @@
 //! The laws of the rows of a state.
-ghost use Rattle.up_rows.specs.Laws.{RowsTellTheState, NoRowsOfTheEmptyState, FoundedIsFound, VehiclesAreFound, KeptAreFound, TakenAreFound, FilesAreFound, VersionsAreTold, EcusAreTold, InstalledIsTold, AssignedIsTold, RootsAreAdded, FilesAreReplaced, ImagesAreAdded, VehiclesAreAdded, EcusAreReplaced, CampaignsAreWritten, ManifestsAreAdded};
+ghost use Rattle.up_rows.specs.Laws.{RowsTellTheState, NoRowsOfTheEmptyState, FoundedIsFound, VehiclesAreFound, KeptAreFound, TakenAreFound, FilesAreFound, VersionsAreTold, EcusAreTold, InstalledIsTold, AssignedIsTold, EcusTellTheirHash, RootsAreAdded, FilesAreReplaced, ImagesAreAdded, VehiclesAreAdded, EcusAreReplaced, CampaignsAreWritten, ManifestsAreAdded};
 ghost use Rattle.up_rows.specs.Fitting.{NewImagesAreNew, NewVehiclesAreNew, ReplacementsFit, NewCampaignsAreNew};
+
+use up_manifest::body_laws;
 
 /// The rows of a sound state tell the state, and the empty state has none.
 pub fn rows_tell_the_state()
@@ -26,6 +28,13 @@ pub fn views_are_told()
     ensures installed { InstalledIsTold }
     ensures assigned { AssignedIsTold }
 {}
+
+/// The row of each ECU tells the second hash that the text of its last report has, so that no column has to keep it.
+pub fn ecus_tell_their_hash()
+    ensures { EcusTellTheirHash }
+{
+    body_laws();
+}
 
 /// One more root version takes the rows of a sound state to those of the state with it.
 pub fn roots_are_added()

@@ -16,6 +16,7 @@ use Rattle.up_sign.specs.declared.envelope.Envelope.{Envelope}
 use Rattle.up_manifest.specs.Building.{report_text, sealed_manifest}
 use Rattle.up_manifest.specs.Manifests.{most_reports}
 use Rattle.up_manifest.specs.declared.report.Installed.{Installed}
+use Rattle.up_script.specs.ImageLines.{optional_sha512_in}
 
 -- a secret key, 1 to 256 bytes that the scheme takes
 unfoldable pub secret_in : Rules → Data → Result (List ℕ) Refusal
@@ -42,7 +43,8 @@ reported_in d = do
   file ← file_name_in (codes "file") d
   size ← count_in (codes "length") d
   sha256 ← sha256_in (codes "sha256") d
-  Ok (record { file = file; length = size; sha256 = sha256 })
+  sha512 ← optional_sha512_in d
+  Ok (record { file = file; length = size; sha256 = sha256; sha512 = sha512 })
 
 -- a report in the envelope that its ECU's key signs
 unfoldable pub report_of : Rules → List ℕ → Data → Result Envelope Refusal

@@ -3,7 +3,7 @@ use Rattle.std.specs.Prelude.{ℕ, List, [], Option, Some, None, Result, Ok, Err
 use Rattle.serde_json.specs.Data.{Data}
 use Rattle.serde_json.specs.Find as json
 use Rattle.up_canon.specs.Members.{count_in, list_in, list_of}
-use Rattle.up_canon.specs.HexText.{sha256_in}
+use Rattle.up_canon.specs.HexText.{hex_of, sha256_in}
 use Rattle.up_canon.specs.Readers.{file_name_in, ident_of, file_name_of}
 use Rattle.up_canon.specs.Steps.{◌>>=◌, each}
 use Rattle.up_canon.specs.declared.refusal.Refusal.{Refusal}
@@ -19,6 +19,16 @@ list_or_empty name (Some value) = list_of name value
 unfoldable pub optional_list_in : List ℕ → Data → Result (List Data) Refusal
 optional_list_in name d = list_or_empty name (json.get name d)
 
+-- a SHA-512 that may be left out: 128 hexadecimal digits, of either case
+abbrev pub sha512_or_none : Option Data → Result (Option (List ℕ)) Refusal
+sha512_or_none None = Ok None
+sha512_or_none (Some value) = do
+  hash ← hex_of 128 128 (codes "sha512") value
+  Ok (Some hash)
+
+unfoldable pub optional_sha512_in : Data → Result (Option (List ℕ)) Refusal
+optional_sha512_in d = sha512_or_none (json.get (codes "sha512") d)
+
 -- what is made of members that were all read, within the limits
 abbrev pub within : {A : Type 0} → Option (List ℕ) → A → Result A Refusal
 within None x = Ok x
@@ -33,6 +43,7 @@ image_in d = do
   file ← file_name_in (codes "file") d
   size ← count_in (codes "length") d
   sha256 ← sha256_in (codes "sha256") d
+  sha512 ← optional_sha512_in d
   hardware_values ← list_in (codes "hardware") d
   hardware ← each (ident_of (codes "hardware")) hardware_values
   release ← count_in (codes "release") d
@@ -40,4 +51,4 @@ image_in d = do
   needs ← each (need_of (codes "needs")) need_values
   conflict_values ← optional_list_in (codes "conflicts") d
   conflicts ← each (file_name_of (codes "conflicts")) conflict_values
-  checked image_fault (record { file = file; length = size; sha256 = sha256; hardware = hardware; release = release; needs = needs; conflicts = conflicts })
+  checked image_fault (record { file = file; length = size; sha256 = sha256; sha512 = sha512; hardware = hardware; release = release; needs = needs; conflicts = conflicts })

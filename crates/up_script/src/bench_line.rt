@@ -8,6 +8,7 @@ ghost use Rattle.up_canon.specs.Steps.{each};
 ghost use Rattle.up_sign.specs.Formats.{envelope_fits};
 ghost use Rattle.up_script.specs.BenchLines.{secret_in, time_in, attack_in, reported_in, report_of, bench_in};
 
+use crate::optional::optional_sha512_at;
 use serde_json::{Map, Value};
 use std::alloc::Global;
 use up_canon::bytes::Bytes;
@@ -140,9 +141,11 @@ fn reported_at(alloc: Global, members: &Map<String, Value>) -> Result<Installed,
     let file = file_name_at(alloc, members, "file")?;
     let length = count_at(members, "length")?;
     let sha256 = sha256_at(members, "sha256")?;
+    let sha512 = optional_sha512_at(members)?;
     Ok(Installed {
         file,
         length,
         sha256,
+        sha512,
     })
 }

@@ -3,7 +3,7 @@ ghost use Rattle.up_canon.specs.Members.{object_of_map};
 ghost use Rattle.up_canon.specs.Refusals.{Gives};
 ghost use Rattle.up_script.specs.ImageLines.{image_in};
 
-use crate::optional::optional_list_at;
+use crate::optional::{optional_list_at, optional_sha512_at};
 use serde_json::{Map, Value};
 use std::alloc::Global;
 use up_canon::each::each_of;
@@ -23,6 +23,7 @@ pub fn image_at(alloc: Global, line: &Map<String, Value>) -> Result<Image, Refus
     let file = file_name_at(alloc, line, "file")?;
     let length = count_at(line, "length")?;
     let sha256 = sha256_at(line, "sha256")?;
+    let sha512 = optional_sha512_at(line)?;
     let hardware = each_of::<IdentReading>(
         alloc,
         list_at(line, "hardware")?.as_slice(),
@@ -39,6 +40,7 @@ pub fn image_at(alloc: Global, line: &Map<String, Value>) -> Result<Image, Refus
         file,
         length,
         sha256,
+        sha512,
         hardware.into_vec(),
         release,
         needs.into_vec(),

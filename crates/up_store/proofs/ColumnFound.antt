@@ -24,16 +24,17 @@ use Rattle.up_rows.specs.StateRows.{StateRows}
 use Rattle.up_rows.specs.Lookups.{kept_with, latest_kept}
 use Rattle.up_tables.specs.declared.campaign.CampaignRow.{CampaignRow}
 use Rattle.up_tables.specs.declared.image.ImageRow.{ImageRow}
+use Rattle.up_tables.specs.declared.image_sha512.Sha512Row.{Sha512Row}
 use Rattle.up_tables.specs.declared.kept.KeptRow.{KeptRow}
 use Rattle.up_tables.specs.declared.vehicle.VehicleRow.{VehicleRow as VehicleShown}
-use Rattle.up_tables.specs.Forms.{image_places, image_row, campaign_places, campaign_row, vehicle_places, vehicle_row, kept_places, kept_row}
+use Rattle.up_tables.specs.Forms.{image_places, image_row, sha512_places, sha512_row, campaign_places, campaign_row, vehicle_places, vehicle_row, kept_places, kept_row}
 use Rattle.up_tables.specs.Lines.{yes_or_no}
 use Rattle.up_tables.specs.Rows.{columns_at, has_number}
 use Rattle.up_tables.specs.Stands.{IsWith, IsWithin, HasTables, Reads, Lists}
-use Rattle.up_tables.specs.Tables.{up_schema, image_table, campaign_table, vehicle_table, kept_table}
-use Rattle.up_store.specs.ColumnRows.{IsImage, IsCampaign, IsKept, AreImages, AreRunning, last_found}
+use Rattle.up_tables.specs.Tables.{up_schema, image_table, image_sha512_table, campaign_table, vehicle_table, kept_table}
+use Rattle.up_store.specs.ColumnRows.{IsImage, IsCampaign, IsKept, AreImages, AreSha512s, AreRunning, last_found}
 use Rattle.up_store.specs.Found.{vehicle_found}
-use Rattle.up_store.specs.Lines.{image_lines, campaign_lines, kept_line}
+use Rattle.up_store.specs.Lines.{image_lines, second_hash, sha512_lines, campaign_lines, kept_line}
 use Rattle.up_store.specs.Listing.{ListsRows}
 use Rattle.up_store.specs.Shown.{vehicle_read}
 use Rattle.up_store.specs.Typed.{IsTypedImage, IsTypedCampaign, IsTypedKept}
@@ -102,6 +103,15 @@ module _ {X R : Type 0} (t : NamedRows X R) where
       let here = within.here (reads (has_tables rows before within)).was_open in
       let f = some (table.get (t.values rows) name) shown (rows_are rows name before after found reads shows within ∙ ap (λ o. map t.row_of (option_to_list o)) is) in
       read name f.value (t.typed rows before.now.trees here.rows name f.value f.there) f.same ∙ sym f.there
+
+  -- the same of a row that is read together with another table's
+  pub joined_found : {E : Type 0} (r : Result (Option X) E) (name : Name) (before mid : Connected) (found : Option R) (shown : R) → found ≡ Some shown
+      → IfOk r (λ read. (rows : StateRows) → IsWithin up_schema (ListsRows rows) mid → (x : X) → table.get (t.values rows) name ≡ Some x → t.IsRow shown x → read ≡ Some x)
+      → (HasTables before → Reads before mid) → Shows name found before → IfOk r (λ read. (rows : StateRows) → IsWithin up_schema (ListsRows rows) before → read ≡ table.get (t.values rows) name)
+  joined_found (Err e) name before mid found shown is read reads shows = tt
+  joined_found (Ok x) name before mid found shown is read reads shows = λ rows within.
+      let f = some (table.get (t.values rows) name) shown (rows_are rows name before mid found reads shows within ∙ ap (λ o. map t.row_of (option_to_list o)) is) in
+      read rows (within_read rows before mid reads within) f.value f.there f.same ∙ sym f.there
 
   pub none_found : (rows : StateRows) (name : Name) (before after : Connected) (found : Option R) → found ≡ None → (HasTables before → Reads before after) → Shows name found before
       → IsWithin up_schema (ListsRows rows) before → None ≡ table.get (t.values rows) name
@@ -188,6 +198,38 @@ are_images rows before after found reads shows within =
       typed = here.rows.typed.images;
       each = λ name. sym (columns_are (table.get rows.images name)) ∙ shows (λ n. image_lines (table.get rows.images n)) has here.rows.tables.images name;
     }
+
+-- the row that is found has the second hash of the name's image
+hash_is : (file : Name) (o : Option (List ℕ)) (found : Option Sha512Row) → map (columns_at sha512_places) (sha512_lines file o) ≡ map sha512_row (option_to_list found) → option_map (λ (r : Sha512Row). r.sha512.items) found ≡ o
+hash_is file None None h = refl
+hash_is file None (Some r) h = cc
+hash_is file (Some hash) None h = cc
+hash_is file (Some hash) (Some r) h = let same : r.sha512.items ≡ hash = cc in ap Some same
+
+abbrev hash_lines_of : StateRows → Name → List Row
+hash_lines_of rows n = sha512_lines n (second_hash (table.get rows.images n))
+
+pub hash_found : (rows : StateRows) (file : Name) (before after : Connected) (found : Option Sha512Row) → (HasTables before → Reads before after)
+    → ((rows_of : List ℕ → List Row) → HasTables before → Lists 1 rows_of (before.now.trees image_sha512_table.tree) → map (columns_at sha512_places) (rows_of file) ≡ map sha512_row (option_to_list found))
+    → IsWithin up_schema (ListsRows rows) before → option_map (λ (r : Sha512Row). r.sha512.items) found ≡ second_hash (table.get rows.images file)
+hash_found rows file before after found reads shows within =
+    let has = has_tables rows before within in
+    let here = within.here (reads has).was_open in
+    hash_is file (second_hash (table.get rows.images file)) found (shows (hash_lines_of rows) has here.rows.tables.sha512s)
+
+hash_columns : (file : Name) (o : Option (List ℕ)) → map (columns_at sha512_places) (sha512_lines file o) ≡ sha512_lines file o
+hash_columns file None = refl
+hash_columns file (Some hash) = refl
+
+-- the rows that are found are those of the images' second hashes
+pub are_hashes : (rows : StateRows) (before after : Connected) (found : List Sha512Row) → (HasTables before → Reads before after)
+    → ((rows_of : List ℕ → List Row) → HasTables before → Lists 1 rows_of (before.now.trees image_sha512_table.tree)
+    → (name : List ℕ) → map (columns_at sha512_places) (rows_of name) ≡ map sha512_row (filter (λ (i : Sha512Row). bytes_eq (string_bytes i.file) name) found))
+    → IsWithin up_schema (ListsRows rows) before → AreSha512s found rows.images
+are_hashes rows before after found reads shows within name =
+    let has = has_tables rows before within in
+    let here = within.here (reads has).was_open in
+    sym (hash_columns name (second_hash (table.get rows.images name))) ∙ shows (hash_lines_of rows) has here.rows.tables.sha512s name
 
 abbrev row_with : CampaignData → Bool → Row
 row_with c b = Text c.name ∷ Text (reach_column c.reach) ∷ Text (items_column c.items) ∷ Int (yes_or_no b) ∷ []

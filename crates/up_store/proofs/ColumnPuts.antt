@@ -1,5 +1,6 @@
 -- Images, campaigns and kept manifests are put into the tables.
-use Rattle.std.proofs.Common.{◌≡◌, ℕ, pos, List, [], ◌∷◌, Option, Some, None, Result, Ok, Err, OnOk, IsTrue, refl, sym, ap, ◌∙◌, string_bytes}
+use Rattle.std.proofs.Common.{◌≡◌, ℕ, pos, List, [], ◌∷◌, ◌++◌, Bool, true, false, Option, Some, None, Result, Ok, Err, OnOk, IsTrue, refl, sym, ap, ◌∙◌, string_bytes, bytes_eq, append-nil}
+use Rattle.std.specs.Prelude.{if◌then◌else◌}
 use Rattle.std.specs.FinMap as table
 use Rattle.sqlite.specs.declared.types.Value.TheVariants.{Int, Text, Blob}
 use Rattle.sqlite.specs.Order.{Row}
@@ -18,20 +19,21 @@ use Rattle.up_tables.specs.declared.image.ImageRow.{ImageRow}
 use Rattle.up_tables.specs.declared.kept.KeptRow.{KeptRow}
 use Rattle.up_tables.specs.declared.values.StoreFault.{StoreFault}
 use Rattle.up_tables.specs.Forms.{image_row, campaign_row, kept_row}
-use Rattle.up_tables.specs.Lines.{yes_or_no}
+use Rattle.up_tables.specs.Lines.{sha512_line, yes_or_no}
 use Rattle.up_tables.specs.Listed.{TableRows, ListsTables}
-use Rattle.up_tables.specs.Rows.{with_row}
+use Rattle.up_tables.specs.Rows.{changed_at, with_row}
 use Rattle.up_tables.specs.Stands.{IsWithin, GoesOn, HasTables, Alters, Lists}
-use Rattle.up_tables.specs.Tables.{up_schema, image_table, campaign_table, kept_table}
-use Rattle.up_tables.proofs.ListedLemmas.{goes_on, lists_images, lists_campaigns, lists_kept}
+use Rattle.up_tables.specs.Tables.{up_schema, image_table, image_sha512_table, campaign_table, kept_table}
+use Rattle.up_tables.proofs.ListedLemmas.{goes_on, lists_images, lists_sha512s, lists_campaigns, lists_kept}
 use Rattle.up_store.specs.ColumnRows.{IsImage, IsCampaign, IsKept, with_image, with_kept}
 use Rattle.up_store.specs.Fitting.{IsNewCampaign, IsNewImage, IsSameRoot}
-use Rattle.up_store.specs.Lines.{image_lines, campaign_lines, kept_line}
+use Rattle.up_store.specs.Lines.{image_lines, second_hash, sha512_lines, campaign_lines, kept_line}
 use Rattle.up_store.specs.Listing.{ListsRows, table_rows}
+use Rattle.up_store.specs.Puts.{with_image_line, with_sha512_line}
 use Rattle.up_store.specs.Typed.{AreTyped, IsTypedImage, IsTypedCampaign}
 use Rattle.up_store.proofs.Alike.{lists_as, alters_as}
-use Rattle.up_store.proofs.Inserted.{row_inserted}
-use Rattle.up_store.proofs.RootPuts.{within_goes}
+use Rattle.up_store.proofs.Inserted.{changed_inserted, row_inserted}
+use Rattle.up_store.proofs.RootPuts.{within_goes, goes_as, tables_within}
 use Rattle.up_store.proofs.TypedRows.{typed_campaign}
 
 -- ---- a row of a new name, in a table of one row a name
@@ -71,13 +73,98 @@ typed_one rows image typed is = record {
   retired = typed.retired;
 }
 
-pub puts_image : {A : Type 0} (r : Result A StoreFault) (image : ImageData) (made : ImageRow) (before after : Connected) → IsImage made image → IsTypedImage image.file image
+pub puts_image : {A : Type 0} (r : Result A StoreFault) (image : ImageData) (made : ImageRow) (before after : Connected) → IsImage made image
     → OnOk r ((rows_of : List ℕ → List Row) → HasTables before → Lists 1 rows_of (before.now.trees image_table.tree) → Alters image_table (Lists 1 (with_row (string_bytes made.file) (image_row made) rows_of)) before after)
-    → OnOk r (IsTrue before.is_open) → OnOk r ((rows : StateRows) → IsWithin up_schema (ListsRows rows) before → table.get rows.images image.file ≡ None → GoesOn up_schema (ListsRows (with_image rows image)) after)
-puts_image r image made before after is typed puts was_open =
-    puts_named r image_table image_lines (λ rows. rows.images) image.file image (string_bytes made.file) (image_row made) (λ rows. table.get rows.images image.file ≡ None) (λ rows. with_image rows image) before after
-    (λ rows new. new) refl (sym (image_is made image is)) is.file (λ rows lists. lists.tables.images)
-    (λ rows lists now. record { last = lists.last; numbered = lists.numbered; typed = typed_one rows image lists.typed typed; tables = lists_images (table_rows rows) _ before after lists.tables now }) puts was_open
+    → OnOk r (IsTrue before.is_open) → OnOk r ((rows : TableRows) → IsWithin up_schema (ListsTables rows) before → Unit {0} → GoesOn up_schema (ListsTables (with_image_line image rows)) after)
+puts_image (Err e) image made before after is puts was_open = tt
+puts_image (Ok done) image made before after is puts was_open = λ rows within fits.
+    let here = within.here was_open in
+    let images : List ℕ → List Row = changed_at image.file (λ were. were ++ image_lines (Some image)) rows.images in
+    let put = puts rows.images (λ _. record { schema_is = here.schema_is; sound = here.sound; rows = tt }) here.rows.images in
+    let named : (n : List ℕ) → with_row (string_bytes made.file) (image_row made) rows.images n ≡ images n =
+    λ n. ap (λ m. with_row m (image_row made) rows.images n) is.file ∙ ap (λ (more : List Row). changed_at image.file (λ were. were ++ more) rows.images n) (image_is made image is) in
+    let now : Alters image_table (Lists 1 images) before after = alters_as image_table _ _ (λ trees. lists_as 1 _ _ trees named) before after put in
+    goes_on image_table _ (ListsTables (with_image_line image rows)) before after now (lists_images rows images before after here.rows now)
+
+-- its second hash
+pub puts_sha512 : {A : Type 0} (r : Result A StoreFault) (image : ImageData) (file hash : List ℕ) (before after : Connected) → file ≡ image.file → image.sha512 ≡ Some hash
+    → OnOk r ((rows_of : List ℕ → List Row) → HasTables before → Lists 1 rows_of (before.now.trees image_sha512_table.tree) → Alters image_sha512_table (Lists 1 (with_row file (sha512_line file hash) rows_of)) before after)
+    → OnOk r (IsTrue before.is_open) → OnOk r ((rows : TableRows) → IsWithin up_schema (ListsTables rows) before → Unit {0} → GoesOn up_schema (ListsTables (with_sha512_line image rows)) after)
+puts_sha512 (Err e) image file hash before after same is puts was_open = tt
+puts_sha512 (Ok done) image file hash before after same is puts was_open = λ rows within fits.
+    let here = within.here was_open in
+    let hashes : List ℕ → List Row = changed_at image.file (λ were. were ++ sha512_lines image.file image.sha512) rows.sha512s in
+    let put = puts rows.sha512s (λ _. record { schema_is = here.schema_is; sound = here.sound; rows = tt }) here.rows.sha512s in
+    let named : (n : List ℕ) → with_row file (sha512_line file hash) rows.sha512s n ≡ hashes n =
+    λ n. ap (λ (name : List ℕ). with_row name (sha512_line name hash) rows.sha512s n) same ∙ ap (λ (o : Option (List ℕ)). changed_at image.file (λ were. were ++ sha512_lines image.file o) rows.sha512s n) (sym is) in
+    let now : Alters image_sha512_table (Lists 1 hashes) before after = alters_as image_sha512_table _ _ (λ trees. lists_as 1 _ _ trees named) before after put in
+    goes_on image_sha512_table _ (ListsTables (with_sha512_line image rows)) before after now (lists_sha512s rows hashes before after here.rows now)
+
+-- an image without one has no row of it
+pub puts_no_sha512 : (image : ImageData) (s : Connected) → image.sha512 ≡ None → IsTrue s.is_open → (rows : TableRows) → IsWithin up_schema (ListsTables rows) s → Unit {0} → GoesOn up_schema (ListsTables (with_sha512_line image rows)) s
+puts_no_sha512 image s is is_open rows within fits =
+    let here = within.here is_open in
+    let t = here.rows in
+    record {
+      mode = within.mode;
+      is_open = is_open;
+      here = record {
+        schema_is = here.schema_is;
+        sound = here.sound;
+        rows = record {
+          meta = t.meta;
+          role_keys = t.role_keys;
+          files = t.files;
+          images = t.images;
+          campaigns = t.campaigns;
+          vehicles = t.vehicles;
+          ecus = t.ecus;
+          kept = t.kept;
+          retired = t.retired;
+          sha512s = lists_as 1 rows.sha512s (changed_at image.file (λ were. were ++ sha512_lines image.file image.sha512) rows.sha512s) (s.now.trees image_sha512_table.tree) same t.sha512s;
+        };
+      };
+    }
+  where
+    by_test : (b : Bool) (lines : List Row) → lines ≡ (if b then lines ++ [] else lines)
+    by_test true lines = sym (append-nil lines)
+    by_test false lines = refl
+
+    same : (n : List ℕ) → rows.sha512s n ≡ changed_at image.file (λ were. were ++ sha512_lines image.file image.sha512) rows.sha512s n
+    same n = by_test (bytes_eq image.file n) (rows.sha512s n) ∙ ap (λ (o : Option (List ℕ)). changed_at image.file (λ were. were ++ sha512_lines image.file o) rows.sha512s n) (sym is)
+
+-- both rows of an image
+pub puts_image_rows : {A : Type 0} (r : Result A StoreFault) (image : ImageData) (before mid after : Connected)
+    → ((rows : TableRows) → IsWithin up_schema (ListsTables rows) before → Unit {0} → GoesOn up_schema (ListsTables (with_image_line image rows)) mid)
+    → OnOk r ((rows : TableRows) → IsWithin up_schema (ListsTables rows) mid → Unit {0} → GoesOn up_schema (ListsTables (with_sha512_line image rows)) after) → IsTypedImage image.file image → IsTrue before.is_open
+    → OnOk r ((rows : StateRows) → IsWithin up_schema (ListsRows rows) before → table.get rows.images image.file ≡ None → GoesOn up_schema (ListsRows (with_image rows image)) after)
+puts_image_rows (Err e) image before mid after first second typed was_open = tt
+puts_image_rows (Ok done) image before mid after first second typed was_open = λ rows within new.
+    let here = within.here was_open in
+    let one = first (table_rows rows) (tables_within rows before within) tt in
+    let two = second (with_image_line image (table_rows rows)) (within_goes (ListsTables (with_image_line image (table_rows rows))) mid one) tt in
+    let t = two.here.rows in
+    let next = with_image rows image in
+    goes_as two (record {
+      last = here.rows.last;
+      numbered = here.rows.numbered;
+      typed = typed_one rows image here.rows.typed typed;
+      tables = record {
+        meta = t.meta;
+        role_keys = t.role_keys;
+        files = t.files;
+        images = lists_as 1 _ (λ n. image_lines (table.get next.images n)) (after.now.trees image_table.tree)
+            (changed_inserted rows.images image.file image (λ m o. image_lines o) (λ were. were ++ image_lines (Some image)) (ap (λ o. image_lines o ++ image_lines (Some image)) new)) t.images;
+        campaigns = t.campaigns;
+        vehicles = t.vehicles;
+        ecus = t.ecus;
+        kept = t.kept;
+        retired = t.retired;
+        sha512s = lists_as 1 _ (λ n. sha512_lines n (second_hash (table.get next.images n))) (after.now.trees image_sha512_table.tree)
+            (changed_inserted rows.images image.file image (λ m o. sha512_lines m (second_hash o)) (λ were. were ++ sha512_lines image.file image.sha512)
+            (ap (λ o. sha512_lines image.file (second_hash o) ++ sha512_lines image.file image.sha512) new)) t.sha512s;
+      };
+    })
 
 -- an image's row, and then the files
 pub puts_both : {A : Type 0} (r : Result A StoreFault) (image : ImageData) (new : RegisterRows) (before mid after : Connected)

@@ -1,5 +1,5 @@
 -- Values of rows with columns, part by part.
-use Rattle.std.proofs.Common.{◌≡◌, ℕ, List, Bool}
+use Rattle.std.proofs.Common.{◌≡◌, ℕ, List, Bool, Option}
 use Rattle.up_canon.specs.Names.{Name}
 use Rattle.up_plan.specs.Campaigns.{CampaignData}
 use Rattle.up_plan.specs.Images.{ImageData}
@@ -7,14 +7,14 @@ use Rattle.up_plan.specs.declared.campaign.Item.{Item}
 use Rattle.up_plan.specs.declared.campaign.Reach.{Reach}
 use Rattle.up_plan.specs.declared.image.Need.{Need}
 
-abbrev pub image_made : Name → ℕ → List ℕ → List Name → ℕ → List Need → List Name → ImageData
-image_made file size sha256 hardware release needs conflicts =
-    record { file = file; length = size; sha256 = sha256; hardware = hardware; release = release; needs = needs; conflicts = conflicts }
+abbrev pub image_made : Name → ℕ → List ℕ → Option (List ℕ) → List Name → ℕ → List Need → List Name → ImageData
+image_made file size sha256 sha512 hardware release needs conflicts =
+    record { file = file; length = size; sha256 = sha256; sha512 = sha512; hardware = hardware; release = release; needs = needs; conflicts = conflicts }
 
-pub same_image : (image : ImageData) (file : Name) (size : ℕ) (sha256 : List ℕ) (hardware : List Name) (release : ℕ) (needs : List Need) (conflicts : List Name)
-    → file ≡ image.file → size ≡ image.length → sha256 ≡ image.sha256 → hardware ≡ image.hardware → release ≡ image.release → needs ≡ image.needs → conflicts ≡ image.conflicts
-    → image_made file size sha256 hardware release needs conflicts ≡ image
-same_image image file size sha256 hardware release needs conflicts a b c d e f g = λ i. image_made (a i) (b i) (c i) (d i) (e i) (f i) (g i)
+pub same_image : (image : ImageData) (file : Name) (size : ℕ) (sha256 : List ℕ) (sha512 : Option (List ℕ)) (hardware : List Name) (release : ℕ) (needs : List Need) (conflicts : List Name)
+    → file ≡ image.file → size ≡ image.length → sha256 ≡ image.sha256 → sha512 ≡ image.sha512 → hardware ≡ image.hardware → release ≡ image.release → needs ≡ image.needs → conflicts ≡ image.conflicts
+    → image_made file size sha256 sha512 hardware release needs conflicts ≡ image
+same_image image file size sha256 sha512 hardware release needs conflicts a b c d e f g h = λ i. image_made (a i) (b i) (c i) (d i) (e i) (f i) (g i) (h i)
 
 abbrev pub campaign_made : Name → Reach → List Item → Bool → CampaignData
 campaign_made name reach items running = record { name = name; reach = reach; items = items; running = running }

@@ -1,6 +1,6 @@
 -- What is read of the table of ECUs.
 use Rattle.std.proofs.Common.{◌≡◌, ℕ, suc, pos, List, [], ◌∷◌, Bool, true, false, cond, ◌||◌, Option, Some, None, map, refl, sym, ap, ap₂, ◌∙◌, string_bytes, bytes_eq}
-use Rattle.std.specs.Prelude.{option_map, unwrap_or, find}
+use Rattle.std.specs.Prelude.{option_and_then, option_map, unwrap_or, find}
 use Rattle.std.specs.List.{AllByRecursion, list_any}
 use Rattle.std.specs.Ordering.{nat_cmp, eq_by_cmp}
 use Rattle.std.specs.Cmp.{both_ways}
@@ -19,6 +19,7 @@ use Rattle.up_machine.specs.Vehicles.{is_among}
 use Rattle.up_machine.proofs.Lists.{each_weaker}
 use Rattle.up_machine.proofs.Values.{each_found}
 use Rattle.up_rows.specs.Lookups.{stands_among, owner_among, last_owner}
+use Rattle.up_rows.specs.SecondHashes.{TellsItsHash}
 use Rattle.up_rows.specs.StateRows.{StateRows}
 use Rattle.up_rows.proofs.Vehicles.{same_test}
 use Rattle.up_tables.specs.declared.ecu.EcuRow.{EcuRow as EcuShown}
@@ -32,22 +33,22 @@ use Rattle.up_tables.proofs.EcuRows.{text_is}
 use Rattle.up_store.specs.Found.{ecus_found}
 use Rattle.up_store.specs.Lines.{ecu_line, ecu_lines, ecus_lines, retired_lines}
 use Rattle.up_store.specs.Listing.{ListsRows}
-use Rattle.up_store.specs.Shown.{ecu_read, installed_read}
+use Rattle.up_store.specs.Shown.{ecu_read, installed_read, reported_sha512}
 use Rattle.up_store.specs.Typed.{AreTyped}
 
 -- ---- the ECUs of a vehicle
 
-same_installed : (o : Option Installed) (p : Option InstalledShown) → or_null (λ (i : Installed). Text i.file) o ≡ or_null (λ (s : InstalledShown). Text (string_bytes s.file)) p
+same_installed : (hash : Option (List ℕ)) (o : Option Installed) (p : Option InstalledShown) → option_and_then (λ (i : Installed). i.sha512) o ≡ hash → or_null (λ (i : Installed). Text i.file) o ≡ or_null (λ (s : InstalledShown). Text (string_bytes s.file)) p
     → or_null (λ (i : Installed). Int (pos i.length)) o ≡ or_null (λ (s : InstalledShown). Int (pos s.length)) p
-    → or_null (λ (i : Installed). Blob i.sha256) o ≡ or_null (λ (s : InstalledShown). Blob s.sha256.items) p → option_map installed_read p ≡ o
-same_installed None None a b c = refl
-same_installed None (Some s) a b c = cc
-same_installed (Some i) None a b c = cc
-same_installed (Some i) (Some s) a b c =
+    → or_null (λ (i : Installed). Blob i.sha256) o ≡ or_null (λ (s : InstalledShown). Blob s.sha256.items) p → option_map (installed_read hash) p ≡ o
+same_installed hash None None second a b c = refl
+same_installed hash None (Some s) second a b c = cc
+same_installed hash (Some i) None second a b c = cc
+same_installed hash (Some i) (Some s) second a b c =
     let file : string_bytes s.file ≡ i.file = cc in
     let size : s.length ≡ i.length = cc in
-    let hash : s.sha256.items ≡ i.sha256 = cc in
-    λ k. Some (record { file = file k; length = size k; sha256 = hash k })
+    let first : s.sha256.items ≡ i.sha256 = cc in
+    λ k. Some (record { file = file k; length = size k; sha256 = first k; sha512 = sym second k })
 
 same_report : {S : Type 0} (text : S → List ℕ) (o : Option (List ℕ)) (p : Option S) → or_null (λ (t : List ℕ). Text t) o ≡ or_null (λ (s : S). Text (text s)) p → option_map text p ≡ o
 same_report text None None h = refl
@@ -55,8 +56,8 @@ same_report text None (Some s) h = cc
 same_report text (Some t) None h = cc
 same_report text (Some t) (Some s) h = let same : text s ≡ t = cc in ap Some same
 
-same_ecu : (vehicle : Name) (place : ℕ) (row : EcuRow) (shown : EcuShown) → ecu_row (ecu_line vehicle place row) ≡ ecu_row (line vehicle place shown) → ecu_read shown ≡ row
-same_ecu vehicle place row shown h =
+same_ecu : (vehicle : Name) (place : ℕ) (row : EcuRow) (shown : EcuShown) → ecu_row (ecu_line vehicle place row) ≡ ecu_row (line vehicle place shown) → TellsItsHash row → ecu_read shown ≡ row
+same_ecu vehicle place row shown h tells =
     let ecu : string_bytes shown.ecu ≡ row.ecu = cc in
     let hardware : string_bytes shown.hardware ≡ row.hardware = cc in
     let public : shown.public_key.items ≡ row.public = cc in
@@ -64,19 +65,21 @@ same_ecu vehicle place row shown h =
     let file : or_null (λ (i : Installed). Text i.file) row.installed ≡ or_null (λ (s : InstalledShown). Text (string_bytes s.file)) shown.installed = cc in
     let size : or_null (λ (i : Installed). Int (pos i.length)) row.installed ≡ or_null (λ (s : InstalledShown). Int (pos s.length)) shown.installed = cc in
     let hash : or_null (λ (i : Installed). Blob i.sha256) row.installed ≡ or_null (λ (s : InstalledShown). Blob s.sha256.items) shown.installed = cc in
-    let installed : option_map installed_read shown.installed ≡ row.installed = same_installed row.installed shown.installed file size hash in
     let text : or_null (λ (t : List ℕ). Text t) row.report ≡ or_null (λ s. Text (string_bytes s)) shown.report = cc in
     let report : option_map string_bytes shown.report ≡ row.report = same_report string_bytes row.report shown.report text in
+    let told : Option (List ℕ) = reported_sha512 (option_map string_bytes shown.report) in
+    let second : option_and_then (λ (i : Installed). i.sha512) row.installed ≡ told = tells ∙ sym (ap reported_sha512 report) in
+    let installed : option_map (installed_read told) shown.installed ≡ row.installed = same_installed told row.installed shown.installed second file size hash in
     λ k. record { ecu = ecu k; hardware = hardware k; public = public k; installed = installed k; counter = counter k; report = report k }
 
-same_ecus : (vehicle : Name) (place : ℕ) (rows : List EcuRow) (found : List EcuShown) → map ecu_row (ecu_lines vehicle place rows) ≡ map ecu_row (lines vehicle place found) → map ecu_read found ≡ rows
-same_ecus vehicle place [] [] h = refl
-same_ecus vehicle place [] (f ∷ found) h = cc
-same_ecus vehicle place (row ∷ rows) [] h = cc
-same_ecus vehicle place (row ∷ rows) (f ∷ found) h =
+same_ecus : (vehicle : Name) (place : ℕ) (rows : List EcuRow) (found : List EcuShown) → map ecu_row (ecu_lines vehicle place rows) ≡ map ecu_row (lines vehicle place found) → AllByRecursion TellsItsHash rows → map ecu_read found ≡ rows
+same_ecus vehicle place [] [] h tell = refl
+same_ecus vehicle place [] (f ∷ found) h tell = cc
+same_ecus vehicle place (row ∷ rows) [] h tell = cc
+same_ecus vehicle place (row ∷ rows) (f ∷ found) h tell =
     let first : ecu_row (ecu_line vehicle place row) ≡ ecu_row (line vehicle place f) = cc in
     let rest : map ecu_row (ecu_lines vehicle (suc place) rows) ≡ map ecu_row (lines vehicle (suc place) found) = cc in
-    ap₂ (λ (x : EcuRow) (xs : List EcuRow). x ∷ xs) (same_ecu vehicle place row f first) (same_ecus vehicle (suc place) rows found rest)
+    ap₂ (λ (x : EcuRow) (xs : List EcuRow). x ∷ xs) (same_ecu vehicle place row f first tell.0) (same_ecus vehicle (suc place) rows found rest tell.1)
 
 in_place : (vehicle : Name) (place : ℕ) (rows : List EcuRow) → AreInPlace vehicle place (ecu_lines vehicle place rows)
 in_place vehicle place [] = tt
@@ -92,17 +95,17 @@ pub ecus_in : (rows : StateRows) (name : Name) (before after : Connected) (found
 ecus_in rows name before after found reads shows within =
     let has : HasTables before = λ is_open. let here = within.here is_open in record { schema_is = here.schema_is; sound = here.sound; rows = tt } in
     let here = within.here (reads has).was_open in
-    go (table.get rows.vehicles name) refl (shows (λ n. ecus_lines n (table.get rows.vehicles n))) has here.rows.tables.ecus
+    go (table.get rows.vehicles name) refl (λ v is. (here.rows.typed.vehicles name v is).tell) (shows (λ n. ecus_lines n (table.get rows.vehicles n))) has here.rows.tables.ecus
   where
-    go : (o : Option VehicleRows) → table.get rows.vehicles name ≡ o
+    go : (o : Option VehicleRows) → table.get rows.vehicles name ≡ o → ((v : VehicleRows) → table.get rows.vehicles name ≡ Some v → AllByRecursion TellsItsHash v.ecus)
         → ((es : List EcuLine) → HasTables before → Lists 2 (shown_ecus rows) (before.now.trees ecu_table.tree) → shown_ecus rows name ≡ map ecu_row es → AreInPlace name 0 es → shown_ecus rows name ≡ map ecu_row (lines name 0 found))
         → HasTables before → Lists 2 (shown_ecus rows) (before.now.trees ecu_table.tree) → map ecu_read found ≡ ecus_found name rows
-    go None is shown has lists =
+    go None is tell shown has lists =
         let same = ap (ecus_lines name) is in
-        same_ecus name 0 [] found (sym same ∙ shown [] has lists same tt) ∙ sym (ap (λ (o : Option VehicleRows). unwrap_or (option_map (λ (v : VehicleRows). v.ecus) o) []) is)
-    go (Some v) is shown has lists =
+        same_ecus name 0 [] found (sym same ∙ shown [] has lists same tt) tt ∙ sym (ap (λ (o : Option VehicleRows). unwrap_or (option_map (λ (v : VehicleRows). v.ecus) o) []) is)
+    go (Some v) is tell shown has lists =
         let same = ap (ecus_lines name) is in
-        same_ecus name 0 v.ecus found (sym same ∙ shown (ecu_lines name 0 v.ecus) has lists same (in_place name 0 v.ecus)) ∙ sym (ap (λ (o : Option VehicleRows). unwrap_or (option_map (λ (v : VehicleRows). v.ecus) o) []) is)
+        same_ecus name 0 v.ecus found (sym same ∙ shown (ecu_lines name 0 v.ecus) has lists same (in_place name 0 v.ecus)) (tell v is) ∙ sym (ap (λ (o : Option VehicleRows). unwrap_or (option_map (λ (v : VehicleRows). v.ecus) o) []) is)
 
 -- ---- the vehicle of an ECU
 
@@ -150,7 +153,7 @@ module _ (ecu : Name) (rows : StateRows) (typed : AreTyped rows) where
       let own : bytes_eq n n ≡ true = (bytes_decides n n).1 refl in
       let is = there n (table.get vehicles n) (told n ∙ own) in
       let found : find stands (table.values vehicles) ≡ Some is.0 = found_at stands n (table.entries vehicles) (each_told (Some n) told) ∙ sym (table.get-entries vehicles n) ∙ is.1 in
-      ap Some (sym (typed.vehicles n is.0 is.1)) ∙ sym (ap (option_map (λ (v : VehicleRows). v.vehicle.vehicle)) found)
+      ap Some (sym (typed.vehicles n is.0 is.1).named) ∙ sym (ap (option_map (λ (v : VehicleRows). v.vehicle.vehicle)) found)
 
 pub owner_in : (rows : StateRows) (ecu : Name) (before after : Connected) (owner : Option (List ℕ)) → (HasTables before → Reads before after)
     → ((rows_of : List ℕ → List Row) → HasTables before → Lists 2 rows_of (before.now.trees ecu_table.tree) → (vehicle : List ℕ) → list_any (has_text 0 ecu) (rows_of vehicle) ≡ owns owner vehicle)

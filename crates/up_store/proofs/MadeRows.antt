@@ -1,5 +1,6 @@
 -- A loop that makes rows one after another.
 use Rattle.std.proofs.Common.{◌≡◌, ◌+◌, ℕ, zero, suc, List, [], ◌∷◌, ◌++◌, All, Some, map, drop, slice_get, sym, ap, subst, ◌∙◌, arith, append_assoc}
+use Rattle.std.specs.List.{AllByRecursion}
 use Rattle.std.proofs.lemmas.List.{map-append}
 use Rattle.std.proofs.lemmas.List.Elements.{All-append, All-cons}
 
@@ -16,6 +17,12 @@ pub next_made : {X Y : Type 0} (f : Y → X) (rows : List X) (made more : List Y
 next_made {X} f rows made more i row y so_far there same is =
     so_far ∙ ap (λ (l : List X). map f made ++ l) (dropped rows i row there ∙ ap (λ (x : X). x ∷ drop (i + 1) rows) (sym same))
     ∙ sym (append_assoc (map f made) (f y ∷ []) (drop (i + 1) rows)) ∙ ap (λ (l : List X). l ++ drop (i + 1) rows) (sym (map-append f made (y ∷ []))) ∙ ap (λ l. map f l ++ drop (i + 1) rows) (sym is)
+
+-- what holds of all rows holds of the one at a place
+pub each_at : {X : Type 0} (P : X → Type 0) (rows : List X) (i : ℕ) (row : X) → AllByRecursion P rows → slice_get rows i ≡ Some row → P row
+each_at P [] i row all h = absurd (let e = h in cc)
+each_at P (x ∷ xs) zero row all h = let same : x ≡ row = cc in subst P same all.0
+each_at P (x ∷ xs) (suc i) row all h = each_at P xs i row all.1 h
 
 pub all_made : {Y : Type 0} (P : Y → Type 0) (made more : List Y) (y : Y) → All P made → P y → more ≡ made ++ y ∷ [] → All P more
 all_made P made more y so_far new is = subst (All P) (sym is) (All-append P made (y ∷ []) so_far (All-cons P y [] new (λ k d h. absurd (omega (arith, h)))))

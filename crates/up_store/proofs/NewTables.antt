@@ -13,9 +13,9 @@ use Rattle.up_rows.specs.StateRows.{no_rows}
 use Rattle.up_rows.specs.Lookups.{text_in, text_held}
 use Rattle.up_tables.specs.Lines.{AreNew}
 use Rattle.up_tables.specs.Listed.{ListsTables, no_table_rows}
-use Rattle.up_tables.specs.Tables.{repo_file_table, image_table, campaign_table, vehicle_table, ecu_table}
+use Rattle.up_tables.specs.Tables.{repo_file_table, image_table, campaign_table, vehicle_table, ecu_table, image_sha512_table}
 use Rattle.up_tables.proofs.ListedLemmas.{lists_none}
-use Rattle.up_store.specs.Lines.{repository_word, file_lines, image_lines, campaign_lines, vehicle_lines, ecus_lines}
+use Rattle.up_store.specs.Lines.{repository_word, file_lines, image_lines, campaign_lines, vehicle_lines, ecus_lines, second_hash, sha512_lines}
 use Rattle.up_store.specs.Listing.{ListsRows, files_lines}
 use Rattle.up_store.specs.Typed.{AreTyped}
 use Rattle.up_store.proofs.Alike.{lists_as, pairs_as}
@@ -69,6 +69,6 @@ new_lists trees new =
         ecus = lists_as 2 _ _ (trees ecu_table.tree) (λ name. sym (ap (ecus_lines name) (get-empty (slice_cmp nat_cmp) name))) none.ecus;
         kept = none.kept;
         retired = none.retired;
-        sha512s = none.sha512s;
+        sha512s = lists_as 1 _ _ (trees image_sha512_table.tree) (λ name. sym (ap (λ o. sha512_lines name (second_hash o)) (get-empty (slice_cmp nat_cmp) name))) none.sha512s;
       };
     }

@@ -1,5 +1,5 @@
 -- Tables that show two sound states show one.
-use Rattle.std.proofs.Common.{◌≡◌, ◌+◌, ◌≤◌, ◌^◌, ℕ, suc, List, [], ◌∷◌, Bool, true, false, Option, Some, None, map, length, refl, sym, ap, ap₂, ◌∙◌, arith, codes}
+use Rattle.std.proofs.Common.{◌≡◌, ◌+◌, ◌≤◌, ◌^◌, ℕ, suc, List, [], ◌∷◌, ◌++◌, Bool, true, false, Option, Some, None, map, length, refl, sym, ap, ap₂, ◌∙◌, arith, codes}
 use Rattle.std.specs.Prelude.{option_map}
 use Rattle.std.specs.List.{AllByRecursion, list_all}
 use Rattle.std.specs.FinMap as table
@@ -34,7 +34,7 @@ use Rattle.up_rows.specs.Laws.{RowsTellTheState}
 use Rattle.up_rows.specs.StateRows.{StateRows, rows_of_state, root_of, ecu_of, entry_of, vehicle_of_rows}
 use Rattle.up_rows.proofs.Tables.{get_changed}
 use Rattle.up_tables.specs.Lines.{ecu_row, meta_row, yes_or_no}
-use Rattle.up_store.specs.Lines.{founding_number, image_lines, campaign_lines, vehicle_lines, ecu_lines, ecus_lines, kept_line, retired_lines}
+use Rattle.up_store.specs.Lines.{founding_number, image_lines, campaign_lines, vehicle_lines, ecu_lines, ecus_lines, kept_line, retired_lines, second_hash, sha512_lines}
 use Rattle.up_store.specs.Listing.{ListsRows, IsOfLastRoot}
 use Rattle.up_store.specs.Typed.{IsTypedImage, IsTypedCampaign, IsTypedKept}
 use Rattle.up_store.proofs.OneKeys.{one_keys}
@@ -69,11 +69,23 @@ one_or_none lines IsTyped apart one (Some x) (Some y) ta tb h = ap Some (one x y
 
 -- ---- an image
 
-one_image : CanonIsRead → (n : Name) (i j : ImageData) → IsTypedImage n i → IsTypedImage n j → image_lines (Some i) ≡ image_lines (Some j) → i ≡ j
+-- the rows of an image: its own, and that of its second hash
+abbrev both_lines : Name → Option ImageData → List Row
+both_lines n image = image_lines image ++ sha512_lines n (second_hash image)
+
+one_hash : (n : Name) (a b : Option (List ℕ)) → sha512_lines n a ≡ sha512_lines n b → a ≡ b
+one_hash n None None h = refl
+one_hash n None (Some y) h = absurd (cc)
+one_hash n (Some x) None h = absurd (cc)
+one_hash n (Some x) (Some y) h = let same : x ≡ y = cc in ap Some same
+
+one_image : CanonIsRead → (n : Name) (i j : ImageData) → IsTypedImage n i → IsTypedImage n j → both_lines n (Some i) ≡ both_lines n (Some j) → i ≡ j
 one_image law n i j ti tj h =
     let file : i.file ≡ j.file = cc in
     let size : i.length ≡ j.length = cc in
     let hash : i.sha256 ≡ j.sha256 = cc in
+    let more : sha512_lines n i.sha512 ≡ sha512_lines n j.sha512 = cc in
+    let second : i.sha512 ≡ j.sha512 = one_hash n i.sha512 j.sha512 more in
     let hardware_text : names_column i.hardware ≡ names_column j.hardware = cc in
     let release : i.release ≡ j.release = cc in
     let needs_text : needs_column i.needs ≡ needs_column j.needs = cc in
@@ -81,12 +93,12 @@ one_image law n i j ti tj h =
     let hardware : i.hardware ≡ j.hardware = one_names law i.hardware j.hardware ti.hardware tj.hardware hardware_text in
     let needs : i.needs ≡ j.needs = one_needs law i.needs j.needs ti.needs tj.needs needs_text in
     let conflicts : i.conflicts ≡ j.conflicts = one_files law i.conflicts j.conflicts ti.conflicts tj.conflicts conflicts_text in
-    let same : image_made i.file i.length i.sha256 i.hardware i.release i.needs i.conflicts ≡ image_made j.file j.length j.sha256 j.hardware j.release j.needs j.conflicts =
-    rw (file, size, hash, hardware, release, needs, conflicts) refl in
+    let same : image_made i.file i.length i.sha256 i.sha512 i.hardware i.release i.needs i.conflicts ≡ image_made j.file j.length j.sha256 j.sha512 j.hardware j.release j.needs j.conflicts =
+    rw (file, size, hash, second, hardware, release, needs, conflicts) refl in
     same
 
-no_image_lines : (image : ImageData) → image_lines None ≡ image_lines (Some image) → ⊥
-no_image_lines image h = cc
+no_image_lines : (n : Name) (image : ImageData) → both_lines n None ≡ both_lines n (Some image) → ⊥
+no_image_lines n image h = cc
 
 -- ---- a campaign
 
@@ -217,7 +229,8 @@ module _ (law : CanonIsRead) (moments : MomentsAreRead) (tell : RowsTellTheState
   roots = one_roots moments k s t 1 s.roots t.roots sound.repositories.each_root also.repositories.each_root (sym (keys_told s sound) ∙ keys ∙ keys_told t also) texts
 
   images : s.images ≡ t.images
-  images = same_table s.images t.images (λ n. one_or_none image_lines (IsTypedImage n) no_image_lines (one_image law n) (table.get s.images n) (table.get t.images n) (one.typed.images n) (two.typed.images n) (sym (one.tables.images.parts n) ∙ two.tables.images.parts n))
+  images = same_table s.images t.images (λ n. one_or_none (both_lines n) (IsTypedImage n) (no_image_lines n) (one_image law n) (table.get s.images n) (table.get t.images n) (one.typed.images n) (two.typed.images n)
+      (ap₂ (λ (a b : List Row). a ++ b) (sym (one.tables.images.parts n) ∙ two.tables.images.parts n) (sym (one.tables.sha512s.parts n) ∙ two.tables.sha512s.parts n)))
 
   campaigns : s.campaigns ≡ t.campaigns
   campaigns = same_table s.campaigns t.campaigns (λ n. one_or_none campaign_lines (IsTypedCampaign n) no_campaign_lines (one_campaign law n) (table.get s.campaigns n) (table.get t.campaigns n) (one.typed.campaigns n) (two.typed.campaigns n) (sym (one.tables.campaigns.parts n) ∙ two.tables.campaigns.parts n))

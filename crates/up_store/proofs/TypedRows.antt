@@ -1,5 +1,5 @@
 -- Rows stay typed where typed ones are written.
-use Rattle.std.proofs.Common.{◌≡◌, [], ◌∷◌, ◌++◌, Bool, true, false, cond, Some, None, subst, refl, sym, ap, ◌∙◌}
+use Rattle.std.proofs.Common.{◌≡◌, List, [], ◌∷◌, ◌++◌, Bool, true, false, cond, Some, None, map, subst, refl, sym, ap, ◌∙◌}
 use Rattle.std.specs.Prelude.{option_map, unwrap_or, if◌then◌else◌, bytes_eq}
 use Rattle.std.specs.List.{AllByRecursion}
 use Rattle.std.specs.Cmp.Lexicographic.{slice_cmp, bytes_decides}
@@ -11,12 +11,16 @@ use Rattle.up_plan.specs.Images.{ImageData}
 use Rattle.up_machine.specs.declared.decision.AcceptedRows.{AcceptedRows}
 use Rattle.up_machine.specs.declared.decision.RegisterRows.{RegisterRows}
 use Rattle.up_machine.specs.declared.decision.RootRows.{RootRows}
+use Rattle.up_machine.specs.declared.rows.EcuRow.{EcuRow}
 use Rattle.up_machine.specs.declared.rows.VehicleRows.{VehicleRows}
+use Rattle.up_machine.specs.declared.vehicle.NewEcu.{NewEcu}
 use Rattle.up_machine.specs.declared.vehicle.Replacement.{Replacement}
+use Rattle.up_machine.specs.Rows.{new_row}
 use Rattle.up_machine.proofs.Tables.{get_new, get_same, get_after-insert}
 use Rattle.up_machine.proofs.Lists.{each_one_more}
 use Rattle.up_rows.specs.declared.root_row.RootRow.{RootRow}
-use Rattle.up_rows.specs.Changes.{new_root, with_root_rows, with_register_rows, with_image_rows, with_vehicle_rows, replaced_rows, with_replaced_rows, with_campaign_row, with_accepted_rows}
+use Rattle.up_rows.specs.Changes.{new_root, with_root_rows, with_register_rows, with_image_rows, with_vehicle_rows, in_place_of_row, replaced_rows, with_replaced_rows, with_campaign_row, with_accepted_rows}
+use Rattle.up_rows.specs.SecondHashes.{TellsItsHash}
 use Rattle.up_rows.specs.StateRows.{StateRows}
 use Rattle.up_store.specs.Fitting.{IsReplacement}
 use Rattle.up_store.specs.Typed.{AreTyped, EachHasKeys, IsTypedCampaign, IsTypedImage, IsTypedVehicle, IsTypedKept}
@@ -64,22 +68,22 @@ none_before t n q x none = by_test (eq_by_cmp (slice_cmp nat_cmp) q n) (sym (get
     by_test true h = cc
     by_test false h = h
 
-pub typed_vehicle : (rows : StateRows) (new : VehicleRows) → AreTyped rows → AreTyped (with_vehicle_rows rows new)
-typed_vehicle rows new typed = record {
+pub typed_vehicle : (rows : StateRows) (new : VehicleRows) → AreTyped rows → AllByRecursion TellsItsHash new.ecus → AreTyped (with_vehicle_rows rows new)
+typed_vehicle rows new typed tell = record {
   roots = typed.roots;
   images = typed.images;
   campaigns = typed.campaigns;
-  vehicles = λ name other found. get_after-insert IsTypedVehicle rows.vehicles new.vehicle.vehicle name other new found refl (typed.vehicles name other);
+  vehicles = λ name other found. get_after-insert IsTypedVehicle rows.vehicles new.vehicle.vehicle name other new found (record { named = refl; tell = tell }) (typed.vehicles name other);
   kept = typed.kept;
   retired = λ name none. typed.retired name (none_before rows.vehicles new.vehicle.vehicle name new none);
 }
 
-pub typed_accepted : (rows : StateRows) (new : AcceptedRows) → AreTyped rows → IsTypedKept new.kept.vehicle new.kept → AreTyped (with_accepted_rows rows new)
-typed_accepted rows new typed is = record {
+pub typed_accepted : (rows : StateRows) (new : AcceptedRows) → AreTyped rows → IsTypedKept new.kept.vehicle new.kept → AllByRecursion TellsItsHash new.vehicle.ecus → AreTyped (with_accepted_rows rows new)
+typed_accepted rows new typed is tell = record {
   roots = typed.roots;
   images = typed.images;
   campaigns = typed.campaigns;
-  vehicles = λ name other found. get_after-insert IsTypedVehicle rows.vehicles new.vehicle.vehicle.vehicle name other new.vehicle found refl (typed.vehicles name other);
+  vehicles = λ name other found. get_after-insert IsTypedVehicle rows.vehicles new.vehicle.vehicle.vehicle name other new.vehicle found (record { named = refl; tell = tell }) (typed.vehicles name other);
   kept = λ name. by_test name (bytes_eq new.kept.vehicle name) refl;
   retired = λ name none. typed.retired name (none_before rows.vehicles new.vehicle.vehicle.vehicle name new.vehicle none);
 }
@@ -87,6 +91,15 @@ typed_accepted rows new typed is = record {
     by_test : (name : Name) (b : Bool) → bytes_eq new.kept.vehicle name ≡ b → AllByRecursion (IsTypedKept name) (if b then rows.kept name ++ new.kept ∷ [] else rows.kept name)
     by_test name true same = each_one_more (IsTypedKept name) (rows.kept name) new.kept (typed.kept name) (subst (λ n. IsTypedKept n new.kept) ((bytes_decides new.kept.vehicle name).0 same) is)
     by_test name false same = typed.kept name
+
+-- a new ECU has no report, and the others' rows stay
+replaced_tell : (old : Name) (new : NewEcu) (rows : List EcuRow) → AllByRecursion TellsItsHash rows → AllByRecursion TellsItsHash (map (in_place_of_row old (new_row new)) rows)
+replaced_tell old new [] tell = tt
+replaced_tell old new (row ∷ rows) tell = (by_test (bytes_eq row.ecu old), replaced_tell old new rows tell.1)
+  where
+    by_test : (b : Bool) → TellsItsHash (if b then new_row new else row)
+    by_test true = refl
+    by_test false = tell.0
 
 -- the vehicles after a replacement in one that is there
 pub with_there : (rows : StateRows) (new : Replacement) (was : VehicleRows) → table.get rows.vehicles new.vehicle ≡ Some was
@@ -98,13 +111,16 @@ typed_replaced rows new typed fits = record {
   roots = typed.roots;
   images = typed.images;
   campaigns = typed.campaigns;
-  vehicles = λ name other found. get_after-insert IsTypedVehicle rows.vehicles new.vehicle name other changed (sym (is name) ∙ found) (typed.vehicles new.vehicle fits.was fits.there) (typed.vehicles name other);
+  vehicles = λ name other found. get_after-insert IsTypedVehicle rows.vehicles new.vehicle name other changed (sym (is name) ∙ found) own (typed.vehicles name other);
   kept = typed.kept;
   retired = λ name none. by_test name (sym (is name) ∙ none) (bytes_eq new.vehicle name) refl;
 }
   where
     changed : VehicleRows
     changed = replaced_rows new fits.was
+
+    own : IsTypedVehicle new.vehicle changed
+    own = let was = typed.vehicles new.vehicle fits.was fits.there in record { named = was.named; tell = replaced_tell new.old new.ecu fits.was.ecus was.tell }
 
     is : (name : Name) → table.get (with_replaced_rows rows new).vehicles name ≡ table.get (table.insert rows.vehicles new.vehicle changed) name
     is name = ap (λ t. table.get t name) (with_there rows new fits.was fits.there)

@@ -1,6 +1,7 @@
 -- A vehicle is put into the tables, with its ECUs.
 use Rattle.std.proofs.Common.{◌≡◌, ℕ, suc, pos, List, [], ◌∷◌, ◌++◌, Option, Some, None, Result, Ok, Err, OnOk, IsTrue, map, refl, sym, ap, ap₂, ◌∙◌, string_bytes}
 use Rattle.std.specs.Prelude.{option_map}
+use Rattle.std.specs.List.{AllByRecursion}
 use Rattle.std.specs.FinMap as table
 use Rattle.sqlite.specs.Values.{or_null}
 use Rattle.sqlite.specs.declared.types.Value.TheVariants.{Int, Text, Blob}
@@ -11,6 +12,7 @@ use Rattle.up_manifest.specs.declared.report.Installed.{Installed}
 use Rattle.up_machine.specs.declared.rows.VehicleRow.{VehicleRow}
 use Rattle.up_machine.specs.declared.rows.VehicleRows.{VehicleRows}
 use Rattle.up_rows.specs.Changes.{with_vehicle_rows}
+use Rattle.up_rows.specs.SecondHashes.{TellsItsHash}
 use Rattle.up_rows.specs.StateRows.{StateRows}
 use Rattle.up_tables.specs.declared.ecu.EcuRow.{EcuRow as EcuShown}
 use Rattle.up_tables.specs.declared.ecu.Installed.{Installed as InstalledShown}
@@ -26,24 +28,24 @@ use Rattle.up_tables.proofs.ListedLemmas.{goes_on, lists_vehicles, lists_ecus}
 use Rattle.up_store.specs.Fitting.{IsNewVehicle}
 use Rattle.up_store.specs.Lines.{vehicle_lines, ecu_line, ecu_lines, ecus_lines}
 use Rattle.up_store.specs.Listing.{ListsRows, table_rows}
-use Rattle.up_store.specs.Shown.{vehicle_read, ecu_read, installed_read}
+use Rattle.up_store.specs.Shown.{vehicle_read, ecu_read, installed_read, reported_sha512}
 use Rattle.up_store.proofs.Alike.{lists_as, alters_as}
 use Rattle.up_store.proofs.Inserted.{changed_inserted, row_inserted}
 use Rattle.up_store.proofs.TypedRows.{typed_vehicle}
 
 -- ---- rows that are made
 
-file_is : (o : Option InstalledShown) → or_null (λ (i : Installed). Text i.file) (option_map installed_read o) ≡ or_null (λ (s : InstalledShown). Text (string_bytes s.file)) o
-file_is None = refl
-file_is (Some s) = refl
+file_is : (hash : Option (List ℕ)) (o : Option InstalledShown) → or_null (λ (i : Installed). Text i.file) (option_map (installed_read hash) o) ≡ or_null (λ (s : InstalledShown). Text (string_bytes s.file)) o
+file_is hash None = refl
+file_is hash (Some s) = refl
 
-size_is : (o : Option InstalledShown) → or_null (λ (i : Installed). Int (pos i.length)) (option_map installed_read o) ≡ or_null (λ (s : InstalledShown). Int (pos s.length)) o
-size_is None = refl
-size_is (Some s) = refl
+size_is : (hash : Option (List ℕ)) (o : Option InstalledShown) → or_null (λ (i : Installed). Int (pos i.length)) (option_map (installed_read hash) o) ≡ or_null (λ (s : InstalledShown). Int (pos s.length)) o
+size_is hash None = refl
+size_is hash (Some s) = refl
 
-hash_is : (o : Option InstalledShown) → or_null (λ (i : Installed). Blob i.sha256) (option_map installed_read o) ≡ or_null (λ (s : InstalledShown). Blob s.sha256.items) o
-hash_is None = refl
-hash_is (Some s) = refl
+hash_is : (hash : Option (List ℕ)) (o : Option InstalledShown) → or_null (λ (i : Installed). Blob i.sha256) (option_map (installed_read hash) o) ≡ or_null (λ (s : InstalledShown). Blob s.sha256.items) o
+hash_is hash None = refl
+hash_is hash (Some s) = refl
 
 report_is : {S : Type 0} (text : S → List ℕ) (o : Option S) → or_null (λ (t : List ℕ). Text t) (option_map text o) ≡ or_null (λ (s : S). Text (text s)) o
 report_is text None = refl
@@ -56,9 +58,9 @@ line_is vehicle place row = λ k. record {
   place = pos place;
   hardware = string_bytes row.hardware;
   public_key = row.public_key.items;
-  file = file_is row.installed k;
-  size = size_is row.installed k;
-  hash = hash_is row.installed k;
+  file = file_is (reported_sha512 (option_map string_bytes row.report)) row.installed k;
+  size = size_is (reported_sha512 (option_map string_bytes row.report)) row.installed k;
+  hash = hash_is (reported_sha512 (option_map string_bytes row.report)) row.installed k;
   counter = pos row.counter;
   report = report_is string_bytes row.report k;
 }
@@ -72,7 +74,7 @@ vehicle_is made row same = ap (λ (r : VehicleRow). vehicle_line r.vehicle r.pri
 
 -- ---- what is put in
 
-pub puts_vehicle : {A : Type 0} (r : Result A StoreFault) (new : VehicleRows) (vehicle : VehicleShown) (ecus : List EcuShown) (before mid after : Connected) → vehicle_read vehicle ≡ new.vehicle → map ecu_read ecus ≡ new.ecus
+pub puts_vehicle : {A : Type 0} (r : Result A StoreFault) (new : VehicleRows) (vehicle : VehicleShown) (ecus : List EcuShown) (before mid after : Connected) → vehicle_read vehicle ≡ new.vehicle → (AllByRecursion TellsItsHash new.ecus → map ecu_read ecus ≡ new.ecus)
     → ((rows_of : List ℕ → List Row) → HasTables before → Lists 1 rows_of (before.now.trees vehicle_table.tree) → Alters vehicle_table (Lists 1 (with_row (string_bytes vehicle.vehicle) (vehicle_row vehicle) rows_of)) before mid)
     → OnOk r ((rows_of : List ℕ → List Row) → HasTables mid → Lists 2 rows_of (mid.now.trees ecu_table.tree)
     → Alters ecu_table (Lists 2 (changed_at new.vehicle.vehicle (λ were. were ++ map ecu_row (lines new.vehicle.vehicle 0 ecus)) rows_of)) mid after)
@@ -87,17 +89,17 @@ puts_vehicle (Ok done) new vehicle ecus before mid after same each first second 
     let put = first (λ n. vehicle_lines (table.get rows.vehicles n)) (λ _. record { schema_is = here.schema_is; sound = here.sound; rows = tt }) here.rows.tables.vehicles in
     let row_is : vehicle_lines (Some new) ≡ vehicle_row vehicle ∷ [] = ap (λ row. row ∷ []) (sym (vehicle_is vehicle new.vehicle same)) in
     let named : (n : List ℕ) → with_row (string_bytes vehicle.vehicle) (vehicle_row vehicle) (λ m. vehicle_lines (table.get rows.vehicles m)) n ≡ vehicles n =
-    λ n. ap (λ m. with_row m (vehicle_row vehicle) (λ k. vehicle_lines (table.get rows.vehicles k)) n) own ∙ row_inserted rows.vehicles name new vehicle_lines (vehicle_row vehicle) fits refl row_is n in
+    λ n. ap (λ m. with_row m (vehicle_row vehicle) (λ k. vehicle_lines (table.get rows.vehicles k)) n) own ∙ row_inserted rows.vehicles name new vehicle_lines (vehicle_row vehicle) fits.none refl row_is n in
     let one : Alters vehicle_table (Lists 1 vehicles) before mid = alters_as vehicle_table _ _ (λ trees. lists_as 1 _ _ trees named) before mid put in
     let lists = lists_vehicles (table_rows rows) vehicles before mid here.rows.tables one in
     let more = second (λ n. ecus_lines n (table.get rows.vehicles n)) (λ _. record { schema_is = one.schema_is; sound = one.sound; rows = tt }) lists.ecus in
-    let its : map ecu_row (lines name 0 ecus) ≡ ecus_lines name (Some new) = ap (map ecu_row) (sym (lines_are name 0 ecus) ∙ ap (ecu_lines name 0) each) in
+    let its : map ecu_row (lines name 0 ecus) ≡ ecus_lines name (Some new) = ap (map ecu_row) (sym (lines_are name 0 ecus) ∙ ap (ecu_lines name 0) (each fits.tell)) in
     let ecus_are : (n : List ℕ) → changed_at name (λ were. were ++ map ecu_row (lines name 0 ecus)) (λ m. ecus_lines m (table.get rows.vehicles m)) n ≡ ecu_rows n =
-    changed_inserted rows.vehicles name new ecus_lines (λ were. were ++ map ecu_row (lines name 0 ecus)) (ap (λ o. ecus_lines name o ++ map ecu_row (lines name 0 ecus)) fits ∙ its) in
+    changed_inserted rows.vehicles name new ecus_lines (λ were. were ++ map ecu_row (lines name 0 ecus)) (ap (λ o. ecus_lines name o ++ map ecu_row (lines name 0 ecus)) fits.none ∙ its) in
     let two : Alters ecu_table (Lists 2 ecu_rows) mid after = alters_as ecu_table _ _ (λ trees. lists_as 2 _ _ trees ecus_are) mid after more in
     goes_on ecu_table _ (ListsRows (with_vehicle_rows rows new)) mid after two (record {
       last = here.rows.last;
       numbered = here.rows.numbered;
-      typed = typed_vehicle rows new here.rows.typed;
+      typed = typed_vehicle rows new here.rows.typed fits.tell;
       tables = lists_ecus (record (table_rows rows) { vehicles = vehicles }) ecu_rows mid after lists two;
     })

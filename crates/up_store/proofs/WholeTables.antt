@@ -19,19 +19,19 @@ use Rattle.up_store.proofs.Closed.{got}
 pub same_table : {X : Type 0} (s t : Table X) → ((n : Name) → table.get s n ≡ table.get t n) → s ≡ t
 same_table s t same = same_map nat_list_cmp_total (slice_cmp-IsAntisymmetric nat_cmp-IsAntisymmetric) s t same
 
-module _ {X R : Type 0} (key : R → Name) (row_of : R → Row) (lines : Option X → List Row) (line : X → Row) (none : lines None ≡ []) (some : (x : X) → lines (Some x) ≡ line x ∷ []) (keep : X → Bool) where
+module _ {X R : Type 0} (key : R → Name) (row_of : R → Row) (lines : Name → Option X → List Row) (line : Name → X → Row) (none : (n : Name) → lines n None ≡ []) (some : (n : Name) (x : X) → lines n (Some x) ≡ line n x ∷ []) (keep : X → Bool) where
   abbrev pub is_named : Name → R → Bool
   is_named n r = bytes_eq (key r) n
 
   -- of each name the rows are those of its value, or none
   abbrev pub Each : (Name → Option X) → List R → Type 0
-  Each values rows = (n : Name) → lines (values n) ≡ map row_of (filter (is_named n) rows)
+  Each values rows = (n : Name) → lines n (values n) ≡ map row_of (filter (is_named n) rows)
 
   -- the row is that of the value of its name
   pub record RowIs (values : Name → Option X) (r : R) : Type 0 where
     pub value : X
     pub there : values (key r) ≡ Some value
-    pub same : lines (Some value) ≡ row_of r ∷ []
+    pub same : lines (key r) (Some value) ≡ row_of r ∷ []
 
   never : (a b : List R) (r : R) → [] ≡ map row_of (a ++ r ∷ b) → ⊥
   never [] b r h = cc
@@ -63,10 +63,10 @@ module _ {X R : Type 0} (key : R → Name) (row_of : R → Row) (lines : Option 
   row_is values rows i r h at each = by_value (values (key r)) refl
     where
       by_value : (o : Option X) → values (key r) ≡ o → RowIs values r
-      by_value None is = absurd (never (before rows i r) (behind rows i r) r (sym none ∙ ap lines (sym is) ∙ each (key r) ∙ ap (map row_of) (among rows i r h at)))
+      by_value None is = absurd (never (before rows i r) (behind rows i r) r (sym (none (key r)) ∙ ap (lines (key r)) (sym is) ∙ each (key r) ∙ ap (map row_of) (among rows i r h at)))
       by_value (Some x) is =
-          let one = alone (before rows i r) (behind rows i r) r (line x) (sym (some x) ∙ ap lines (sym is) ∙ each (key r) ∙ ap (map row_of) (among rows i r h at)) in
-          record { value = x; there = is; same = some x ∙ ap (λ y. y ∷ []) one }
+          let one = alone (before rows i r) (behind rows i r) r (line (key r) x) (sym (some (key r) x) ∙ ap (lines (key r)) (sym is) ∙ each (key r) ∙ ap (map row_of) (among rows i r h at)) in
+          record { value = x; there = is; same = some (key r) x ∙ ap (λ y. y ∷ []) one }
 
   -- ---- one row after another
 
@@ -111,13 +111,13 @@ module _ {X R : Type 0} (key : R → Name) (row_of : R → Row) (lines : Option 
       by_test true h rest = cc
       by_test false h rest = rest h
 
-  no_lines : (o : Option X) → lines o ≡ [] → o ≡ None
-  no_lines None h = refl
-  no_lines (Some x) h = let one = some x in cc
+  no_lines : (n : Name) (o : Option X) → lines n o ≡ [] → o ≡ None
+  no_lines n None h = refl
+  no_lines n (Some x) h = let one = some n x in cc
 
   pub ended : (values : Name → Option X) (rows : List R) (t : Table X) → Each values rows → IsSofar values rows t → (n : Name) → table.get t n ≡ if_passes keep (values n)
   ended values rows t each so n = so n ∙ by_any (list_any (is_named n) rows) refl
     where
       by_any : (b : Bool) → list_any (is_named n) rows ≡ b → (if b then if_passes keep (values n) else None) ≡ if_passes keep (values n)
       by_any true is = refl
-      by_any false is = sym (ap (if_passes keep) (no_lines (values n) (each n ∙ ap (map row_of) (unnamed (is_named n) rows is))))
+      by_any false is = sym (ap (if_passes keep) (no_lines n (values n) (each n ∙ ap (map row_of) (unnamed (is_named n) rows is))))

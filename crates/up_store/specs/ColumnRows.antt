@@ -14,13 +14,14 @@ use Rattle.up_columns.specs.CampaignColumns.{reach_column, items_column}
 use Rattle.up_columns.specs.PlanColumns.{plan_column}
 use Rattle.up_tables.specs.declared.campaign.CampaignRow.{CampaignRow}
 use Rattle.up_tables.specs.declared.image.ImageRow.{ImageRow}
+use Rattle.up_tables.specs.declared.image_sha512.Sha512Row.{Sha512Row}
 use Rattle.up_tables.specs.declared.kept.KeptRow.{KeptRow}
 use Rattle.up_tables.specs.declared.values.StoreFault.{StoreFault}
 use Rattle.up_tables.specs.declared.values.StoreFault.TheVariants.{Memory, Store}
-use Rattle.up_tables.specs.Forms.{image_row, campaign_row}
+use Rattle.up_tables.specs.Forms.{image_row, sha512_row, campaign_row}
 use Rattle.up_tables.specs.Listed.{TableRows}
 use Rattle.up_tables.specs.Rows.{with_row}
-use Rattle.up_store.specs.Lines.{image_lines, campaign_lines, kept_line}
+use Rattle.up_store.specs.Lines.{image_lines, second_hash, sha512_lines, campaign_lines, kept_line}
 use Rattle.up_store.specs.Typed.{IsTypedImage, IsTypedCampaign}
 
 -- want of memory by itself, every fault of a column alike
@@ -30,6 +31,7 @@ column_fault _ = Store
 
 -- ---- one row
 
+-- all but its second hash, which stands in a table of its own
 pub record IsImage (shown : ImageRow) (image : ImageData) : Type 0 where
   pub file : string_bytes shown.file ≡ image.file
   pub length : shown.length ≡ image.length
@@ -61,6 +63,14 @@ pub record IsKept (shown : KeptRow) (row : Kept) : Type 0 where
 pub record AreImages (shown : List ImageRow) (images : Table ImageData) : Type 0 where
   pub typed : (file : Name) (image : ImageData) → table.get images file ≡ Some image → IsTypedImage file image
   pub each : (name : Name) → image_lines (table.get images name) ≡ map image_row (filter (λ i. bytes_eq (string_bytes i.file) name) shown)
+
+-- of each name the row of its image's second hash, or none
+abbrev pub AreSha512s : List Sha512Row → Table ImageData → Type 0
+AreSha512s shown images = (name : Name) → sha512_lines name (second_hash (table.get images name)) ≡ map sha512_row (filter (λ i. bytes_eq (string_bytes i.file) name) shown)
+
+-- of each name its image's second hash, or none
+abbrev pub AreHashesOf : Table (List ℕ) → Table ImageData → Type 0
+AreHashesOf hashes images = (name : Name) → table.get hashes name ≡ second_hash (table.get images name)
 
 -- of each name the row of the campaign where it runs, or none
 pub record AreRunning (shown : List CampaignRow) (campaigns : Table CampaignData) : Type 0 where

@@ -1,5 +1,6 @@
 -- What rows that are written have to fit of those that are kept: decisions answer only such rows.
 use Rattle.std.specs.Prelude.{◌≡◌, ◌+◌, Some, None, IsTrue, length, map}
+use Rattle.std.specs.List.{AllByRecursion}
 use Rattle.std.specs.FinMap as table
 use Rattle.up_canon.specs.Names.{first_repeated}
 use Rattle.up_plan.specs.Campaigns.{CampaignData}
@@ -11,6 +12,7 @@ use Rattle.up_machine.specs.declared.rows.VehicleRows.{VehicleRows}
 use Rattle.up_machine.specs.declared.vehicle.Replacement.{Replacement}
 use Rattle.up_machine.specs.Inventory.{closed}
 use Rattle.up_rows.specs.Lookups.{stands_among}
+use Rattle.up_rows.specs.SecondHashes.{TellsItsHash}
 use Rattle.up_rows.specs.StateRows.{StateRows, ecu_of}
 use Rattle.up_store.specs.Listing.{IsOfLastRoot}
 use Rattle.up_store.specs.Typed.{EachHasKeys}
@@ -29,9 +31,10 @@ pub record IsNewImage (image : ImageData) (new : RegisterRows) (rows : StateRows
   pub none : table.get rows.images image.file ≡ None
   pub root : IsSameRoot new rows
 
--- the name is new
-abbrev pub IsNewVehicle : VehicleRows → StateRows → Type 0
-IsNewVehicle new rows = table.get rows.vehicles new.vehicle.vehicle ≡ None
+-- the name is new, and the report of each ECU tells the second hash of the installed image
+pub record IsNewVehicle (new : VehicleRows) (rows : StateRows) : Type 0 where
+  pub none : table.get rows.vehicles new.vehicle.vehicle ≡ None
+  pub tell : AllByRecursion TellsItsHash new.ecus
 
 -- the vehicle is there and has the old ECU, and none of its ECUs stands twice
 pub record IsReplacement (new : Replacement) (rows : StateRows) : Type 0 where
@@ -50,10 +53,12 @@ pub record IsClosing (new : CampaignData) (rows : StateRows) : Type 0 where
   pub there : table.get rows.campaigns new.name ≡ Some was
   pub is : new ≡ closed was
 
--- the vehicle is there, with the same Primary and the same ECUs, none twice
+-- the vehicle is there, with the same Primary and the same ECUs, none twice, and the report of each tells the second hash of the installed
+-- image
 pub record IsRecorded (new : AcceptedRows) (rows : StateRows) : Type 0 where
   pub was : VehicleRows
   pub there : table.get rows.vehicles new.vehicle.vehicle.vehicle ≡ Some was
   pub primary : new.vehicle.vehicle.primary ≡ was.vehicle.primary
   pub ecus : map ecu_of new.vehicle.ecus ≡ map ecu_of was.ecus
   pub once : first_repeated (map (λ row. row.ecu) new.vehicle.ecus) ≡ None
+  pub tell : AllByRecursion TellsItsHash new.vehicle.ecus

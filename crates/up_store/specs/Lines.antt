@@ -1,5 +1,5 @@
 -- Rows of the tables, column by column, as they are kept of a state.
-use Rattle.std.specs.Prelude.{ℕ, suc, pos, List, [], ◌∷◌, ◌++◌, Option, Some, None, option_map, unwrap_or, map, flat_map, codes}
+use Rattle.std.specs.Prelude.{ℕ, suc, pos, List, [], ◌∷◌, ◌++◌, Option, Some, None, option_map, option_and_then, unwrap_or, map, flat_map, codes}
 use Rattle.std.specs.List.{enumerate_from}
 use Rattle.sqlite.specs.Values.{or_null}
 use Rattle.sqlite.specs.declared.types.Value.TheVariants.{Int, Text, Blob}
@@ -22,7 +22,7 @@ use Rattle.up_rows.specs.declared.root_row.RootRow.{RootRow}
 use Rattle.up_columns.specs.Columns.{names_column, needs_column}
 use Rattle.up_columns.specs.CampaignColumns.{reach_column, items_column}
 use Rattle.up_columns.specs.PlanColumns.{plan_column}
-use Rattle.up_tables.specs.Lines.{EcuLine, ecu_row, campaign_line, vehicle_line, retired_line, yes_or_no}
+use Rattle.up_tables.specs.Lines.{EcuLine, ecu_row, campaign_line, vehicle_line, retired_line, sha512_line, yes_or_no}
 use Rattle.up_tables.specs.Rows.{with_only_at}
 
 -- ---- meta: the numbers of the founding; zeros before it
@@ -100,6 +100,15 @@ campaign_lines (Some c) = campaign_line c.name (reach_column c.reach) (items_col
 abbrev pub vehicle_lines : Option VehicleRows → List Row
 vehicle_lines None = []
 vehicle_lines (Some v) = vehicle_line v.vehicle.vehicle v.vehicle.primary v.vehicle.version v.vehicle.last ∷ []
+
+-- ---- image_sha512: the second hash of an image, or none
+
+abbrev pub second_hash : Option ImageData → Option (List ℕ)
+second_hash image = option_and_then (λ i. i.sha512) image
+
+abbrev pub sha512_lines : Name → Option (List ℕ) → List Row
+sha512_lines file None = []
+sha512_lines file (Some hash) = sha512_line file hash ∷ []
 
 -- ---- ecu: the ECUs of a vehicle in inventory order, the places counted from 0
 

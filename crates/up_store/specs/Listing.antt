@@ -17,7 +17,7 @@ use Rattle.up_tables.specs.declared.open.SchemaVersion.{SchemaVersion}
 use Rattle.up_tables.specs.declared.open.SchemaVersion.TheVariants.{Three}
 use Rattle.up_tables.specs.Listed.{TableRows}
 use Rattle.up_tables.specs.Versions.{ListsAs}
-use Rattle.up_store.specs.Lines.{founding_number, repository_word, roots_lines, file_lines, image_lines, campaign_lines, vehicle_lines, ecus_lines, kept_line, retired_lines}
+use Rattle.up_store.specs.Lines.{founding_number, repository_word, roots_lines, file_lines, image_lines, campaign_lines, vehicle_lines, ecus_lines, kept_line, retired_lines, second_hash, sha512_lines}
 use Rattle.up_store.specs.Typed.{AreTyped}
 
 -- the founding is of the last root version; before it there is none
@@ -37,7 +37,7 @@ files_lines rows word name =
     else []
 
 -- of the founding, the numbers; the keys of all root versions, in order; of each repository and filename the text that is
--- served, or none; of each image, campaign and vehicle by its name one row, or none; of each vehicle its ECUs in inventory
+-- served, or none; of each image, campaign and vehicle by its name one row, or none; of each image's second hash one row, or none; of each vehicle its ECUs in inventory
 -- order, its accepted manifests in the order of acceptance, and its replaced ECUs in the order of their replacement. A root version's
 -- moment stands in its file's text alone.
 abbrev pub table_rows : StateRows → TableRows
@@ -53,7 +53,7 @@ table_rows rows = record {
   ecus = λ name. ecus_lines name (table.get rows.vehicles name);
   kept = λ name. map kept_line (rows.kept name);
   retired = λ name. retired_lines name (rows.retired name);
-  sha512s = λ name. [];
+  sha512s = λ name. sha512_lines name (second_hash (table.get rows.images name));
 }
 
 -- the tables of a version of the schema list the rows of a state

@@ -1,13 +1,16 @@
 -- What the parts of a write change of the rows of the tables.
-use Rattle.std.specs.Prelude.{◌≡◌, ℕ, ◌≤◌, ◌++◌, List, [], ◌∷◌, length, map}
+use Rattle.std.specs.Prelude.{◌≡◌, ℕ, ◌≤◌, ◌++◌, List, [], ◌∷◌, Some, length, map}
+use Rattle.std.specs.List.{AllByRecursion}
 use Rattle.up_canon.specs.Names.{Name}
+use Rattle.up_plan.specs.Images.{ImageData}
 use Rattle.up_machine.specs.declared.rows.Founding.{Founding}
 use Rattle.up_machine.specs.declared.rows.VehicleRows.{VehicleRows}
+use Rattle.up_rows.specs.SecondHashes.{TellsItsHash}
 use Rattle.up_tables.specs.Lines.{EcuLine, ecu_row, vehicle_line, AreSameEcus, AreDistinct, set_ecus}
 use Rattle.up_tables.specs.Listed.{TableRows}
-use Rattle.up_tables.specs.Rows.{with_only}
+use Rattle.up_tables.specs.Rows.{changed_at, with_only}
 use Rattle.up_roles.specs.declared.repository.Repository.TheVariants.{Director, Image}
-use Rattle.up_store.specs.Lines.{FileLine, repository_lines, set_lines, ecu_lines}
+use Rattle.up_store.specs.Lines.{FileLine, repository_lines, set_lines, image_lines, sha512_lines, ecu_lines}
 
 -- the founding's numbers
 abbrev pub with_founding : Founding → TableRows → TableRows
@@ -25,7 +28,15 @@ HasFilesOnce rows = (repository name : List ℕ) → length (rows.files reposito
 abbrev pub with_files : List FileLine → TableRows → TableRows
 with_files files rows = record rows { files = set_lines files rows.files }
 
--- the vehicle is there, with the same ECUs, none twice
+-- one more image
+abbrev pub with_image_line : ImageData → TableRows → TableRows
+with_image_line image rows = record rows { images = changed_at image.file (λ were. were ++ image_lines (Some image)) rows.images }
+
+-- its second hash, where it has one
+abbrev pub with_sha512_line : ImageData → TableRows → TableRows
+with_sha512_line image rows = record rows { sha512s = changed_at image.file (λ were. were ++ sha512_lines image.file image.sha512) rows.sha512s }
+
+-- the vehicle is there, with the same ECUs, none twice, and the report of each tells the second hash of the installed image
 pub record IsReported (new : VehicleRows) (rows : TableRows) : Type 0 where
   pub primary : Name
   pub version : ℕ
@@ -35,6 +46,7 @@ pub record IsReported (new : VehicleRows) (rows : TableRows) : Type 0 where
   pub there : rows.ecus new.vehicle.vehicle ≡ map ecu_row olds
   pub same : AreSameEcus olds (ecu_lines new.vehicle.vehicle 0 new.ecus)
   pub distinct : AreDistinct (ecu_lines new.vehicle.vehicle 0 new.ecus)
+  pub tell : AllByRecursion TellsItsHash new.ecus
 
 -- the rows of a vehicle that is there, and of its ECUs
 abbrev pub with_reported : VehicleRows → TableRows → TableRows

@@ -1,5 +1,6 @@
 -- What rows of tables are read as.
-use Rattle.std.specs.Prelude.{◌≡◌, ℕ, ◌&&◌, Bool, List, Option, Some, map, filter, find, option_map, bytes_eq, codes, string_bytes}
+use Rattle.std.specs.Prelude.{◌≡◌, ℕ, ◌&&◌, Bool, List, Option, Some, map, filter, find, option_map, option_and_then, bytes_eq, codes, string_bytes}
+use Rattle.up_manifest.specs.Manifests.{report_sha512_of}
 use Rattle.up_manifest.specs.declared.report.Installed.{Installed}
 use Rattle.up_machine.specs.declared.keys.RoleSecrets.{RoleSecrets}
 use Rattle.up_machine.specs.declared.keys.RepoKeys.{RepoKeys}
@@ -19,15 +20,20 @@ use Rattle.up_store.specs.Lines.{FileLine, founding_number}
 abbrev pub vehicle_read : VehicleShown → VehicleRow
 vehicle_read shown = record { vehicle = string_bytes shown.vehicle; primary = string_bytes shown.primary_ecu; version = shown.version; last = shown.last_counter }
 
-abbrev pub installed_read : InstalledShown → Installed
-installed_read shown = record { file = string_bytes shown.file; length = shown.length; sha256 = shown.sha256.items }
+-- the second hash has no column of its own
+abbrev pub installed_read : Option (List ℕ) → InstalledShown → Installed
+installed_read sha512 shown = record { file = string_bytes shown.file; length = shown.length; sha256 = shown.sha256.items; sha512 = sha512 }
+
+-- the second hash that the text of a report has
+abbrev pub reported_sha512 : Option (List ℕ) → Option (List ℕ)
+reported_sha512 report = option_and_then report_sha512_of report
 
 abbrev pub ecu_read : EcuShown → EcuRow
 ecu_read shown = record {
   ecu = string_bytes shown.ecu;
   hardware = string_bytes shown.hardware;
   public = shown.public_key.items;
-  installed = option_map installed_read shown.installed;
+  installed = option_map (installed_read (reported_sha512 (option_map string_bytes shown.report))) shown.installed;
   counter = shown.counter;
   report = option_map string_bytes shown.report;
 }

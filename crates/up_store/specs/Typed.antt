@@ -1,5 +1,5 @@
--- What the types of rows say of them: each stands under its own name, what is kept as JSON can be read again, and an ECU was replaced in a
--- vehicle that is there.
+-- What the types of rows say of them: each stands under its own name, what is kept as JSON can be read again, the text of an ECU's last
+-- report has the second hash of the installed image, and an ECU was replaced in a vehicle that is there.
 use Rattle.std.specs.Prelude.{◌≡◌, ◌≤◌, [], Some, None, true, length}
 use Rattle.std.specs.List.{AllByRecursion, list_all}
 use Rattle.std.specs.FinMap as table
@@ -11,6 +11,7 @@ use Rattle.up_machine.specs.declared.keys.RepoKeys.{RepoKeys}
 use Rattle.up_machine.specs.declared.keys.KeySet.{KeySet}
 use Rattle.up_machine.specs.declared.rows.VehicleRows.{VehicleRows}
 use Rattle.up_machine.specs.declared.rows.Kept.{Kept}
+use Rattle.up_rows.specs.SecondHashes.{TellsItsHash}
 use Rattle.up_rows.specs.StateRows.{StateRows}
 use Rattle.up_columns.specs.Typed.{is_typed_need, is_typed_item, is_typed_reach, is_typed_plan}
 
@@ -45,9 +46,10 @@ pub record IsTypedCampaign (name : Name) (campaign : CampaignData) : Type 0 wher
   pub reach : is_typed_reach campaign.reach ≡ true
   pub items : list_all is_typed_item campaign.items ≡ true
 
--- under its own name
-abbrev pub IsTypedVehicle : Name → VehicleRows → Type 0
-IsTypedVehicle name rows = rows.vehicle.vehicle ≡ name
+-- under its own name; no column keeps the second hash of an installed image, so that its ECU's report tells it
+pub record IsTypedVehicle (name : Name) (rows : VehicleRows) : Type 0 where
+  pub named : rows.vehicle.vehicle ≡ name
+  pub tell : AllByRecursion TellsItsHash rows.ecus
 
 -- the kept row of a vehicle: its plan is of names and filenames
 pub record IsTypedKept (vehicle : Name) (row : Kept) : Type 0 where

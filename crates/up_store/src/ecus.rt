@@ -1,7 +1,9 @@
 //! The rows of a vehicle's ECUs, read and made.
-ghost use Rattle.std.specs.Prelude.{◌≡◌, ◌<◌, ◌^◌, All, IfOk, map, option_map, string_bytes};
+ghost use Rattle.std.specs.Prelude.{◌≡◌, ◌<◌, ◌^◌, ℕ, All, IfOk, List, Option, map, option_and_then, option_map, string_bytes};
+ghost use Rattle.std.specs.List.{AllByRecursion};
+ghost use Rattle.up_rows.specs.SecondHashes.{TellsItsHash};
 ghost use Rattle.up_tables.specs.Ecus.{FitEcu};
-ghost use Rattle.up_store.specs.Shown.{ecu_read, installed_read};
+ghost use Rattle.up_store.specs.Shown.{ecu_read, installed_read, reported_sha512};
 
 use crate::reading::{count_in, file_name_in, ident_in, sha256_in};
 use crate::store::StoreFault;
@@ -10,6 +12,7 @@ use up_canon::bytes::Bytes;
 use up_canon::listed::Listed;
 use up_canon::text::Text;
 use up_machine::rows::EcuRow;
+use up_manifest::reading::report_sha512;
 use up_manifest::report::Installed;
 use up_tables::ecu::{EcuRow as EcuShown, Installed as InstalledShown};
 
@@ -19,42 +22,57 @@ pub fn read_ecus(alloc: Global, shown: Vec<EcuShown>) -> Result<Listed<EcuRow>, 
 {
     let mut read = Vec::with_capacity(alloc, shown.len())?;
     for row in shown {
-        read.push(read_ecu(row)?)?;
+        read.push(read_ecu(alloc, row)?)?;
     }
     Ok(Listed::new(read))
 }
 
 /// A row as it stands in the table, read.
-fn read_ecu(shown: EcuShown) -> Result<EcuRow, StoreFault>
+fn read_ecu(alloc: Global, shown: EcuShown) -> Result<EcuRow, StoreFault>
     ensures { IfOk result (λ read. read ≡ ecu_read shown) }
 {
+    let sha512 = told_sha512(alloc, &shown.report)?;
     Ok(EcuRow {
         ecu: ident_in(shown.ecu)?,
         hardware: ident_in(shown.hardware)?,
         public: Bytes::new(shown.public_key),
-        installed: read_installed(shown.installed)?,
+        installed: read_installed(shown.installed, sha512)?,
         counter: count_in(shown.counter)?,
         report: shown.report.map(Text::new),
     })
 }
 
-/// What is installed, read.
-fn read_installed(shown: Option<InstalledShown>) -> Result<Option<Installed>, StoreFault>
-    ensures { IfOk result (λ read. read ≡ option_map installed_read shown) }
+/// The second hash that the text of a report has.
+fn told_sha512(alloc: Global, report: &Option<String>) -> Result<Option<[u8; 64]>, AllocError>
+    ensures { IfOk result (λ hash. hash ≡ reported_sha512 (option_map string_bytes report.now)) }
+{
+    match report {
+        Some(text) => report_sha512(alloc, text.as_str()),
+        None => Ok(None),
+    }
+}
+
+/// What is installed, read, with its second hash.
+fn read_installed(
+    shown: Option<InstalledShown>,
+    sha512: Option<[u8; 64]>,
+) -> Result<Option<Installed>, StoreFault>
+    ensures { IfOk result (λ read. read ≡ option_map (installed_read sha512) shown) }
 {
     match shown {
         Some(image) => Ok(Some(Installed {
             file: file_name_in(image.file)?,
             length: count_in(image.length)?,
             sha256: sha256_in(image.sha256.as_slice())?,
+            sha512,
         })),
         None => Ok(None),
     }
 }
 
-/// The rows of ECUs as they stand in the table.
+/// The rows of ECUs as they stand in the table. They are read as the same where each tells its second hash.
 pub fn make_ecus(alloc: Global, rows: &[EcuRow]) -> Result<Vec<EcuShown>, AllocError>
-    ensures same { IfOk result (λ made. map ecu_read made.items ≡ rows.now) }
+    ensures same { IfOk result (λ made. AllByRecursion TellsItsHash rows.now → map ecu_read made.items ≡ rows.now) }
     ensures fit { IfOk result (λ made. All FitEcu made.items) }
 {
     let mut made = Vec::with_capacity(alloc, rows.len())?;
@@ -66,7 +84,7 @@ pub fn make_ecus(alloc: Global, rows: &[EcuRow]) -> Result<Vec<EcuShown>, AllocE
 
 /// The row of an ECU as it stands in the table.
 fn make_ecu(alloc: Global, row: &EcuRow) -> Result<EcuShown, AllocError>
-    ensures same { IfOk result (λ made. ecu_read made ≡ row.now) }
+    ensures same { IfOk result (λ made. TellsItsHash row.now → ecu_read made ≡ row.now) }
     ensures fit { IfOk result FitEcu }
 {
     Ok(EcuShown {
@@ -84,7 +102,7 @@ fn make_installed(
     alloc: Global,
     installed: &Option<Installed>,
 ) -> Result<Option<InstalledShown>, AllocError>
-    ensures same { IfOk result (λ made. option_map installed_read made ≡ installed.now) }
+    ensures same { IfOk result (λ made. (hash : Option (List ℕ)) → option_and_then (λ i. i.sha512) installed.now ≡ hash → option_map (installed_read hash) made ≡ installed.now) }
     ensures fit { IfOk result (λ made. Rattle.std.specs.Prelude.IfSome made (λ image. image.length < 2 ^ 63)) }
 {
     match installed {

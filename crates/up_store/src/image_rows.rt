@@ -1,9 +1,9 @@
 //! The rows of images, read and made.
-ghost use Rattle.std.specs.Prelude.{◌≡◌, IfOk, OnOk};
+ghost use Rattle.std.specs.Prelude.{◌≡◌, IfOk, OnOk, option_map};
 ghost use Rattle.up_canon.specs.Names.{Name, Table as Named};
 ghost use Rattle.up_plan.specs.Images.{ImageData};
 ghost use Rattle.up_tables.specs.Forms.{FitImage};
-ghost use Rattle.up_store.specs.ColumnRows.{IsImage, AreImages};
+ghost use Rattle.up_store.specs.ColumnRows.{IsImage, AreImages, AreHashesOf};
 ghost use Rattle.up_store.specs.Typed.{IsTypedImage};
 ghost use Rattle.std.specs.FinMap as table;
 
@@ -44,9 +44,13 @@ fn read_lists(alloc: Global, shown: &ImageRow) -> Result<ImageLists, StoreFault>
     })
 }
 
-/// A row as it stands in the table, read.
-pub fn read_image(alloc: Global, shown: ImageRow) -> Result<Image, StoreFault>
-    ensures { IfOk result (λ read. (file : Name) (image : ImageData) → IsTypedImage file image → IsImage shown image → read ≡ image) }
+/// A row as it stands in the table, read, with the image's second hash.
+pub fn read_image(
+    alloc: Global,
+    shown: ImageRow,
+    sha512: Option<[u8; 64]>,
+) -> Result<Image, StoreFault>
+    ensures { IfOk result (λ read. (file : Name) (image : ImageData) → IsTypedImage file image → IsImage shown image → sha512 ≡ image.sha512 → read ≡ image) }
 {
     let sha256 = sha256_in(shown.sha256.as_slice())?;
     let length = count_in(shown.length)?;
@@ -56,31 +60,50 @@ pub fn read_image(alloc: Global, shown: ImageRow) -> Result<Image, StoreFault>
     let hardware = lists.hardware.into_vec();
     let needs = lists.needs.into_vec();
     let conflicts = lists.conflicts.into_vec();
-    match Image::new(file, length, sha256, hardware, release, needs, conflicts) {
+    match Image::new(
+        file, length, sha256, sha512, hardware, release, needs, conflicts,
+    ) {
         Ok(image) => Ok(image),
         Err(_) => Err(StoreFault::Store),
     }
 }
 
-/// The rows of all images as they stand in the table, read.
-pub fn read_images(alloc: Global, shown: Vec<ImageRow>) -> Result<Table<Image>, StoreFault>
-    ensures { IfOk result (λ read. (images : Named ImageData) → AreImages shown.items images → read ≡ images) }
+/// The rows of all images as they stand in the table, read, each with the second hash of its name.
+pub fn read_images(
+    alloc: Global,
+    shown: Vec<ImageRow>,
+    hashes: &Table<[u8; 64]>,
+) -> Result<Table<Image>, StoreFault>
+    ensures { IfOk result (λ read. (images : Named ImageData) → AreImages shown.items images → AreHashesOf hashes.now images → read ≡ images) }
 {
     let mut images = Table::new(alloc);
     for row in shown {
-        add_image(&mut images, alloc, row)?;
+        add_image(&mut images, alloc, row, hashes)?;
     }
     Ok(images)
 }
 
 /// Reads a row as it stands in the table, and puts the image under its name.
-fn add_image(images: &mut Table<Image>, alloc: Global, shown: ImageRow) -> Result<(), StoreFault>
-    ensures { OnOk result ((file : Name) (image : ImageData) → IsTypedImage file image → IsImage shown image → images.new ≡ table.insert images.old image.file image) }
+fn add_image(
+    images: &mut Table<Image>,
+    alloc: Global,
+    shown: ImageRow,
+    hashes: &Table<[u8; 64]>,
+) -> Result<(), StoreFault>
+    ensures { OnOk result ((file : Name) (image : ImageData) → IsTypedImage file image → IsImage shown image → table.get hashes.now image.file ≡ image.sha512 → images.new ≡ table.insert images.old image.file image) }
 {
-    let image = read_image(alloc, shown)?;
+    let sha512 = hash_named(hashes, shown.file.as_str());
+    let image = read_image(alloc, shown, sha512)?;
     let name = name_of(alloc, image.file.text())?;
     images.insert(name, image)?;
     Ok(())
+}
+
+/// The second hash of this name, none where there is none.
+fn hash_named(hashes: &Table<[u8; 64]>, name: &str) -> Option<[u8; 64]>
+    ensures { result ≡ table.get hashes.now name.now }
+{
+    hashes.get(name).copied()
 }
 
 /// The name as the key of a table.
@@ -90,7 +113,7 @@ pub(crate) fn name_of(alloc: Global, name: &str) -> Result<Text, AllocError>
     Ok(Text::new(name.to_string(alloc)?))
 }
 
-/// The row of an image as it stands in the table.
+/// The row of an image as it stands in the table, without its second hash.
 pub fn make_image(alloc: Global, image: &Image) -> Result<ImageRow, AllocError>
     ensures same { IfOk result (λ made. IsImage made image.now) }
     ensures fit { IfOk result FitImage }

@@ -1,5 +1,5 @@
 //! Registered images.
-ghost use Rattle.std.specs.Prelude.{◌≡◌, None, Some, IfOk, OnErr, OnOk};
+ghost use Rattle.std.specs.Prelude.{◌≡◌, None, Some, ⊤, IfOk, OnErr, OnOk};
 ghost use Rattle.sqlite.specs.Held.{state};
 ghost use Rattle.sqlite.specs.State.{HasCleanDisk, Survives};
 ghost use Rattle.std.specs.FinMap as table;
@@ -7,13 +7,18 @@ ghost use Rattle.up_canon.specs.Names.{Name};
 ghost use Rattle.up_plan.specs.Images.{ImageData};
 ghost use Rattle.up_rows.specs.Changes.{with_image_rows};
 ghost use Rattle.up_store.specs.Fitting.{IsNewImage};
-ghost use Rattle.up_tables.specs.Stands.{IfClean, IsAsCommitted, IsInside, IsOpen, Steps};
-ghost use Rattle.up_store.specs.ColumnRows.{IsImage, with_image};
-ghost use Rattle.up_store.specs.Connections.{Answers, FindsRows, NeedsOpen, PutsRows, TakesRows, CommitsRows, SparesRows};
+ghost use Rattle.up_rows.specs.StateRows.{StateRows};
+ghost use Rattle.up_tables.specs.Stands.{IfClean, IsAsCommitted, IsInside, IsOpen, IsWithin, Steps};
+ghost use Rattle.up_tables.specs.Tables.{up_schema};
+ghost use Rattle.up_store.specs.ColumnRows.{IsImage, AreImages, with_image};
+ghost use Rattle.up_store.specs.Connections.{Answers, FindsRows, NeedsOpen, PutsRows, PutsTables, TakesRows, CommitsRows, SparesRows};
+ghost use Rattle.up_store.specs.Listing.{ListsRows};
+ghost use Rattle.up_store.specs.Puts.{with_image_line};
 ghost use Rattle.up_store.specs.Typed.{IsTypedImage};
 
 use crate::image_rows::{make_image, read_image, read_images};
 use crate::roots::put_register;
+use crate::second_hashes::{find_sha512, find_sha512s, put_sha512};
 use crate::store::{Store, StoreFault, commit};
 use sqlite::{Alter, Transaction};
 use std::alloc::Global;
@@ -46,7 +51,7 @@ impl<D: Alter> Store<D> {
         find_images(&mut tx, alloc)
     }
 
-    /// Writes an image whose filename is new, with new files of the image repository.
+    /// Writes an image whose filename is new, its second hash where it has one, and new files of the image repository.
     pub fn write_image(
         &mut self,
         alloc: Global,
@@ -81,17 +86,41 @@ fn find_image<D: Alter>(
     ensures steps { Steps (state D.Store tx.old.conn.now) (state D.Store tx.new.conn.now) }
 {
     match image_shown(tx, file.text()) {
-        Ok(Some(shown)) => some_image(alloc, shown),
+        Ok(Some(shown)) => find_with_sha512(tx, alloc, file, shown),
         Ok(None) => Ok(None),
         Err(fault) => Err(fault),
     }
 }
 
-/// A row as it stands in the table, read.
-fn some_image(alloc: Global, shown: ImageRow) -> Result<Option<Image>, StoreFault>
-    ensures { IfOk result (λ read. (file : Name) (image : ImageData) → IsTypedImage file image → IsImage shown image → read ≡ Some image) }
+/// The image of this row, with its second hash.
+fn find_with_sha512<D: Alter>(
+    tx: &mut Transaction<'_, D>,
+    alloc: Global,
+    file: &FileName,
+    shown: ImageRow,
+) -> Result<Option<Image>, StoreFault>
+    requires mode { IfClean IsInside (state D.Store tx.old.conn.now) }
+    ensures same_reference { tx.new.conn.ghost_name ≡ tx.old.conn.ghost_name }
+    ensures found { HasCleanDisk (state D.Store tx.new.conn.now) → IfOk result (λ read. (rows : StateRows) → IsWithin up_schema (ListsRows rows) (state D.Store tx.old.conn.now)
+        → (image : ImageData) → table.get rows.images file.now ≡ Some image → IsImage shown image → read ≡ Some image) }
+    ensures open { NeedsOpen (state D.Store tx.old.conn.now) (state D.Store tx.new.conn.now) result }
+    ensures steps { Steps (state D.Store tx.old.conn.now) (state D.Store tx.new.conn.now) }
 {
-    match read_image(alloc, shown) {
+    match find_sha512(tx, file) {
+        Ok(hash) => some_image(alloc, shown, hash),
+        Err(fault) => Err(fault),
+    }
+}
+
+/// A row as it stands in the table, read, with the image's second hash.
+fn some_image(
+    alloc: Global,
+    shown: ImageRow,
+    sha512: Option<[u8; 64]>,
+) -> Result<Option<Image>, StoreFault>
+    ensures { IfOk result (λ read. (file : Name) (image : ImageData) → IsTypedImage file image → IsImage shown image → sha512 ≡ image.sha512 → read ≡ Some image) }
+{
+    match read_image(alloc, shown, sha512) {
         Ok(image) => Ok(Some(image)),
         Err(fault) => Err(fault),
     }
@@ -109,7 +138,26 @@ fn find_images<D: Alter>(
     ensures steps { Steps (state D.Store tx.old.conn.now) (state D.Store tx.new.conn.now) }
 {
     match images_shown(tx, alloc) {
-        Ok(shown) => read_images(alloc, shown),
+        Ok(shown) => find_with_sha512s(tx, alloc, shown),
+        Err(fault) => Err(fault),
+    }
+}
+
+/// The images of these rows, each with its second hash.
+fn find_with_sha512s<D: Alter>(
+    tx: &mut Transaction<'_, D>,
+    alloc: Global,
+    shown: Vec<ImageRow>,
+) -> Result<Table<Image>, StoreFault>
+    requires mode { IfClean IsInside (state D.Store tx.old.conn.now) }
+    ensures same_reference { tx.new.conn.ghost_name ≡ tx.old.conn.ghost_name }
+    ensures found { HasCleanDisk (state D.Store tx.new.conn.now) → IfOk result (λ read. (rows : StateRows) → IsWithin up_schema (ListsRows rows) (state D.Store tx.old.conn.now)
+        → AreImages shown.items rows.images → read ≡ rows.images) }
+    ensures open { NeedsOpen (state D.Store tx.old.conn.now) (state D.Store tx.new.conn.now) result }
+    ensures steps { Steps (state D.Store tx.old.conn.now) (state D.Store tx.new.conn.now) }
+{
+    match find_sha512s(tx, alloc) {
+        Ok(hashes) => read_images(alloc, shown, &hashes),
         Err(fault) => Err(fault),
     }
 }
@@ -128,10 +176,29 @@ fn put_image<D: Alter>(
     ensures open { OnOk result (IfClean IsOpen (state D.Store tx.new.conn.now)) }
     ensures steps { Steps (state D.Store tx.old.conn.now) (state D.Store tx.new.conn.now) }
 {
-    if let Err(fault) = put_image_row(tx, alloc, image) {
+    if let Err(fault) = put_image_rows(tx, alloc, image) {
         return Err(fault);
     }
     put_register(tx, alloc, new)
+}
+
+/// Puts in the row of an image, and that of its second hash where it has one.
+fn put_image_rows<D: Alter>(
+    tx: &mut Transaction<'_, D>,
+    alloc: Global,
+    image: &Image,
+) -> Result<(), StoreFault>
+    requires mode { IfClean IsInside (state D.Store tx.old.conn.now) }
+    ensures same_reference { tx.new.conn.ghost_name ≡ tx.old.conn.ghost_name }
+    ensures put { PutsRows (λ rows. table.get rows.images image.now.file ≡ None) (λ rows. with_image rows image.now) (state D.Store tx.old.conn.now) (state D.Store tx.new.conn.now) result }
+    ensures inside { OnOk result (IfClean IsInside (state D.Store tx.new.conn.now)) }
+    ensures open { OnOk result (IfClean IsOpen (state D.Store tx.new.conn.now)) }
+    ensures steps { Steps (state D.Store tx.old.conn.now) (state D.Store tx.new.conn.now) }
+{
+    if let Err(fault) = put_image_row(tx, alloc, image) {
+        return Err(fault);
+    }
+    put_sha512(tx, image)
 }
 
 /// Puts in the row of an image.
@@ -142,7 +209,8 @@ fn put_image_row<D: Alter>(
 ) -> Result<(), StoreFault>
     requires mode { IfClean IsInside (state D.Store tx.old.conn.now) }
     ensures same_reference { tx.new.conn.ghost_name ≡ tx.old.conn.ghost_name }
-    ensures put { PutsRows (λ rows. table.get rows.images image.now.file ≡ None) (λ rows. with_image rows image.now) (state D.Store tx.old.conn.now) (state D.Store tx.new.conn.now) result }
+    ensures put { PutsTables (λ _. ⊤) (with_image_line image.now) (state D.Store tx.old.conn.now) (state D.Store tx.new.conn.now) result }
+    ensures typed { OnOk result (IsTypedImage image.now.file image.now) }
     ensures inside { OnOk result (IfClean IsInside (state D.Store tx.new.conn.now)) }
     ensures open { OnOk result (IfClean IsOpen (state D.Store tx.new.conn.now)) }
     ensures steps { Steps (state D.Store tx.old.conn.now) (state D.Store tx.new.conn.now) }

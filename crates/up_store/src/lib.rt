@@ -14,6 +14,7 @@ mod manifests;
 mod reading;
 mod replaced;
 mod roots;
+mod second_hashes;
 pub mod stopping;
 pub mod store;
 mod vehicles;

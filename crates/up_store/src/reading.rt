@@ -70,6 +70,16 @@ pub fn sha256_in(bytes: &[u8]) -> Result<[u8; 32], StoreFault>
     }
 }
 
+/// The bytes as a SHA-512.
+pub fn sha512_in(bytes: &[u8]) -> Result<[u8; 64], StoreFault>
+    ensures { IfOk result (λ hash. hash ≡ bytes.now) }
+{
+    match <[u8; 64]>::try_from(bytes) {
+        Ok(hash) => Ok(hash),
+        Err(_) => Err(StoreFault::Store),
+    }
+}
+
 /// What was read of a column that is JSON; `Store` where it isn't what a call writes.
 pub fn read_column<T: Drop>(read: Result<T, Refusal>) -> Result<T, StoreFault>
     ensures ok { IfOk result (λ x. read ≡ Ok x) }

@@ -1,5 +1,5 @@
 //! ECUs of a vehicle: `ECU HARDWARE FILE CONTENT` of each, with `;` between.
-use sha2::{Digest, Sha256};
+use sha2::{Digest, Sha256, Sha512};
 use std::alloc::{AllocError, Global};
 use up_canon::count::Count;
 use up_canon::file_name::FileName;
@@ -55,13 +55,15 @@ fn ecu_of(
     }
 }
 
-/// An image of that content: `empty`, `abc`, or one of them with the other's length.
+/// An image of that content: `empty`, `abc`, or one of them with the other's length; `both`, which is `abc` with a second hash; or
+/// `unlike`, which is `abc` with that of the empty text.
 fn installed(file: Option<FileName>, content: &str) -> Option<Installed> {
     let (length, text) = match content {
         "empty" => (0, ""),
         "abc" => (3, "abc"),
         "longer" => (1, ""),
         "other" => (0, "abc"),
+        "both" | "unlike" => (3, "abc"),
         _ => return None,
     };
     match (file, Count::new(length)) {
@@ -69,7 +71,16 @@ fn installed(file: Option<FileName>, content: &str) -> Option<Installed> {
             file,
             length,
             sha256: Sha256::digest(text.as_bytes()),
+            sha512: second_hash(content),
         }),
+        _ => None,
+    }
+}
+
+fn second_hash(content: &str) -> Option<[u8; 64]> {
+    match content {
+        "both" => Some(Sha512::digest("abc".as_bytes())),
+        "unlike" => Some(Sha512::digest("".as_bytes())),
         _ => None,
     }
 }

@@ -38,9 +38,13 @@ fn meaning<K: Scheme>(alloc: Global, scheme: &K, word: &str) -> Result<String, A
         ["public", byte] => public(alloc, scheme, byte),
         ["role", byte] => role(alloc, byte),
         ["ecu", ecu, hardware, byte] => new_ecu(alloc, scheme, ecu, hardware, byte),
-        ["report", ecu, byte, counter, file] => report(alloc, ecu, byte, counter, file),
+        ["report", ecu, byte, counter, file] => report(alloc, ecu, byte, counter, file, "empty"),
+        ["report", ecu, byte, counter, file, content] => {
+            report(alloc, ecu, byte, counter, file, content)
+        }
         ["empty"] => digest_of_nothing().to_string(alloc),
         ["abc"] => digest_of_abc().to_string(alloc),
+        ["second", content] => second_hash(content).to_string(alloc),
         _ => format!(in alloc; "no word {word}"),
     }
 }
@@ -53,6 +57,18 @@ fn digest_of_nothing() -> &'static str {
 /// The SHA-256 of `abc`, of FIPS 180-4.
 fn digest_of_abc() -> &'static str {
     "ba7816bf8f01cfea414140de5dae2223b00361a396177a9cb410ff61f20015ad"
+}
+
+/// The SHA-512 of no bytes, or of `abc`, of FIPS 180-4.
+fn second_hash(content: &str) -> &'static str {
+    match content {
+        "empty" => {
+            "cf83e1357eefb8bdf1542850d66d8007d620e4050b5715dc83f4a921d36ce9ce47d0d13c5d85f2b0ff8318d2877eec2f63b931bd47417a81a538327af927da3e"
+        }
+        _ => {
+            "ddaf35a193617abacc417349ae20413112e6fa4e89a97ea20a9eeee64b55d39a2192992a274fc1a836ba3c23a3feebbd454d4423643ce80e2a9ac94fa54ca49f"
+        }
+    }
 }
 
 /// A key of 32 times the byte, in hex; no hex where it is no byte.
@@ -94,17 +110,36 @@ fn new_ecu<K: Scheme>(
     format!(in alloc; "{{'ecu':'{ecu}','hardware':'{hardware}','key':'{public}'}}")
 }
 
-/// A report of an empty image.
+/// A report of an image of that content: `empty` or `abc`; `both`, which is `abc` with a second hash; or `unlike`, which is `abc`
+/// with that of the empty text.
 fn report(
     alloc: Global,
     ecu: &str,
     byte: &str,
     counter: &str,
     file: &str,
+    content: &str,
 ) -> Result<String, AllocError> {
     let secret = secret(alloc, byte)?;
-    let sha256 = digest_of_nothing();
+    let image = image(alloc, content)?;
     format!(in alloc;
-        "{{'counter':{counter},'ecu':'{ecu}','file':'{file}','key':'{secret}','length':0,'sha256':'{sha256}','time':1767225600}}"
+        "{{'counter':{counter},'ecu':'{ecu}','file':'{file}','key':'{secret}',{image},'time':1767225600}}"
     )
+}
+
+/// The length and the hashes of a content.
+fn image(alloc: Global, content: &str) -> Result<String, AllocError> {
+    let (empty, abc) = (digest_of_nothing(), digest_of_abc());
+    match content {
+        "empty" => format!(in alloc; "'length':0,'sha256':'{empty}'"),
+        "both" => format!(in alloc;
+            "'length':3,'sha256':'{abc}','sha512':'{}'",
+            second_hash("abc")
+        ),
+        "unlike" => format!(in alloc;
+            "'length':3,'sha256':'{abc}','sha512':'{}'",
+            second_hash("empty")
+        ),
+        _ => format!(in alloc; "'length':3,'sha256':'{abc}'"),
+    }
 }

@@ -14,6 +14,7 @@ use up_machine::decide_vehicle::decide_vehicle;
 use up_machine::decision::Decision;
 use up_machine::rows::{EcuRow, VehicleRows};
 use up_machine::vehicle::NewVehicle;
+use up_manifest::report::Installed;
 use up_sign::scheme::Scheme;
 
 /// The answer to a new vehicle.
@@ -117,15 +118,28 @@ fn ecus_text(alloc: Global, rows: &[EcuRow]) -> Result<Text, AllocError> {
 fn ecu_text(alloc: Global, row: &EcuRow) -> Result<String, AllocError> {
     let public = hex::encode(alloc, row.public.as_slice())?;
     let (ecu, hardware, counter) = (row.ecu.text(), row.hardware.text(), row.counter.get());
-    let (file, report) = (installed_text(row), report_text(row));
-    format!(in alloc; "{ecu} {hardware} {public} {counter} {file} {report}\n")
+    let (image, report) = (installed_text(alloc, row)?, report_text(row));
+    format!(in alloc; "{ecu} {hardware} {public} {counter} {image} {report}\n")
 }
 
-fn installed_text(row: &EcuRow) -> &str {
+/// The filename, and behind a `+` the second hash where there is one.
+fn installed_text(alloc: Global, row: &EcuRow) -> Result<String, AllocError> {
     match &row.installed {
-        Some(image) => image.file.text(),
-        None => "none",
+        Some(image) => image_text(alloc, image),
+        None => "none".to_string(alloc),
     }
+}
+
+fn image_text(alloc: Global, image: &Installed) -> Result<String, AllocError> {
+    match &image.sha512 {
+        Some(hash) => with_hash(alloc, image.file.text(), &hash[..]),
+        None => image.file.text().to_string(alloc),
+    }
+}
+
+fn with_hash(alloc: Global, file: &str, hash: &[u8]) -> Result<String, AllocError> {
+    let digits = hex::encode(alloc, hash)?;
+    format!(in alloc; "{file}+{digits}")
 }
 
 fn report_text(row: &EcuRow) -> &str {

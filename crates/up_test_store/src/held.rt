@@ -187,9 +187,15 @@ fn push_column(alloc: Global, out: &mut String, row: &Row, at: usize) -> Result<
             Ok(text) => out.push_str(text),
             Err(_) => out.push_str("no text"),
         },
+        Ok(ValueRef::Blob(bytes)) => push_digits(alloc, out, bytes),
         Ok(ValueRef::Null) => out.push_str("null"),
         _ => out.push_str("other"),
     }
+}
+
+fn push_digits(alloc: Global, out: &mut String, bytes: &[u8]) -> Result<(), AllocError> {
+    let digits = hex::encode(alloc, bytes)?;
+    out.push_str(digits.as_str())
 }
 
 fn push_int(alloc: Global, out: &mut String, number: i64) -> Result<(), AllocError> {

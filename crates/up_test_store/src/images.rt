@@ -1,17 +1,20 @@
-//! Images, as rows spell them: `FILE LENGTH SHA256 HARDWARE RELEASE NEEDS CONFLICTS`, each of NEEDS a `HARDWARE:RELEASE`.
+//! Images, as rows spell them: `FILE LENGTH SHA256 HARDWARE RELEASE NEEDS CONFLICTS`, each of NEEDS a `HARDWARE:RELEASE`, and
+//! the SHA-256 with a `+` and a SHA-512 behind it where the image has one.
 use crate::fault::Fault;
 use crate::words::{
-    count, file_name, file_names, ident, idents, push_bytes, push_file_names, push_idents,
-    push_item, push_list, push_number, push_part, push_word, sha256, word,
+    count, file_name, file_names, hashes, hashes_digits, ident, idents, push_file_names,
+    push_idents, push_item, push_list, push_number, push_part, push_word, word,
 };
 use std::alloc::{AllocError, Global};
 use up_plan::image::{Image, Need};
 
 pub(crate) fn image(alloc: Global, given: &str) -> Result<Image, Fault> {
+    let (sha256, sha512) = hashes(alloc, word(given, 2))?;
     let made = Image::new(
         file_name(alloc, word(given, 0))?,
         count(word(given, 1))?,
-        sha256(alloc, word(given, 2))?,
+        sha256,
+        sha512,
         idents(alloc, word(given, 3))?,
         count(word(given, 4))?,
         needs(alloc, word(given, 5))?,
@@ -60,11 +63,16 @@ pub(crate) fn image_text(alloc: Global, image: &Image) -> Result<String, AllocEr
 fn push_image(alloc: Global, out: &mut String, image: &Image) -> Result<(), AllocError> {
     push_word(out, image.file.text())?;
     push_number(alloc, out, image.length.get())?;
-    push_bytes(alloc, out, &image.sha256)?;
+    push_hashes(alloc, out, image)?;
     push_idents(alloc, out, image.hardware.as_slice())?;
     push_number(alloc, out, image.release.get())?;
     push_needs(alloc, out, image.needs.as_slice())?;
     push_file_names(alloc, out, image.conflicts.as_slice())
+}
+
+fn push_hashes(alloc: Global, out: &mut String, image: &Image) -> Result<(), AllocError> {
+    let digits = hashes_digits(alloc, &image.sha256, &image.sha512)?;
+    push_word(out, digits.as_str())
 }
 
 fn push_needs(alloc: Global, out: &mut String, needs: &[Need]) -> Result<(), AllocError> {

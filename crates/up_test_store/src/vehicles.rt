@@ -1,9 +1,9 @@
 //! Vehicles, as rows spell them: `VEHICLE PRIMARY VERSION LAST`; and ECUs: `ECU HARDWARE PUBLIC_KEY INSTALLED COUNTER REPORT`, in which
-//! what is installed is `FILE:LENGTH:SHA256`, and a `-` stands for nothing. And replacements: `VEHICLE OLD ECU HARDWARE PUBLIC_KEY`.
+//! what is installed is `FILE:LENGTH:SHA256` or `FILE:LENGTH:SHA256+SHA512`, and a `-` stands for nothing. And replacements: `VEHICLE OLD ECU HARDWARE PUBLIC_KEY`.
 use crate::fault::Fault;
 use crate::words::{
-    bytes, count, file_name, ident, number, parts_of, push_bytes, push_number, push_part,
-    push_word, sha256, text, word,
+    bytes, count, file_name, hashes, hashes_digits, ident, number, parts_of, push_bytes,
+    push_number, push_part, push_word, text, word,
 };
 use std::alloc::{AllocError, Global};
 use up_canon::listed::Listed;
@@ -70,9 +70,11 @@ fn installed(alloc: Global, word: &str) -> Result<Option<Installed>, Fault> {
 
 fn image(alloc: Global, file: &str, rest: &str) -> Result<Installed, Fault> {
     let (length, digits) = rest.split_once(':').unwrap_or((rest, ""));
+    let (sha256, sha512) = hashes(alloc, digits)?;
     Ok(Installed {
         length: count(length)?,
-        sha256: sha256(alloc, digits)?,
+        sha256,
+        sha512,
         file: file_name(alloc, file)?,
     })
 }
@@ -126,7 +128,7 @@ fn push_installed(
 
 fn push_image(alloc: Global, out: &mut String, image: &Installed) -> Result<(), AllocError> {
     let (file, length) = (image.file.text(), image.length.get());
-    let digits = hex::encode(alloc, &image.sha256)?;
+    let digits = hashes_digits(alloc, &image.sha256, &image.sha512)?;
     let words = format!(in alloc; "{file}:{length}:{digits}")?;
     push_word(out, words.as_str())
 }

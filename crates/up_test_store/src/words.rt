@@ -95,12 +95,50 @@ pub(crate) fn bytes(alloc: Global, digits: &str) -> Result<Bytes, Fault> {
 }
 
 /// The SHA-256 of 64 hex digits.
-pub(crate) fn sha256(alloc: Global, digits: &str) -> Result<[u8; 32], Fault> {
+fn sha256(alloc: Global, digits: &str) -> Result<[u8; 32], Fault> {
     let bytes = bytes(alloc, digits)?;
     match <[u8; 32]>::try_from(bytes.as_slice()) {
         Ok(hash) => Ok(hash),
         Err(_) => Err(Fault::Misspelled),
     }
+}
+
+/// The hashes of an image: a SHA-256, and behind a `+` a SHA-512 where it has one.
+pub(crate) fn hashes(alloc: Global, digits: &str) -> Result<([u8; 32], Option<[u8; 64]>), Fault> {
+    match digits.split_once('+') {
+        Some((first, second)) => {
+            let hash = sha256(alloc, first)?;
+            Ok((hash, Some(sha512(alloc, second)?)))
+        }
+        None => Ok((sha256(alloc, digits)?, None)),
+    }
+}
+
+/// The SHA-512 of 128 hex digits.
+fn sha512(alloc: Global, digits: &str) -> Result<[u8; 64], Fault> {
+    let bytes = bytes(alloc, digits)?;
+    match <[u8; 64]>::try_from(bytes.as_slice()) {
+        Ok(hash) => Ok(hash),
+        Err(_) => Err(Fault::Misspelled),
+    }
+}
+
+/// The hashes of an image as they are told.
+pub(crate) fn hashes_digits(
+    alloc: Global,
+    sha256: &[u8; 32],
+    sha512: &Option<[u8; 64]>,
+) -> Result<String, AllocError> {
+    let first = hex::encode(alloc, &sha256[..])?;
+    match sha512 {
+        Some(hash) => with_second(alloc, first.as_str(), hash),
+        None => Ok(first),
+    }
+}
+
+fn with_second(alloc: Global, first: &str, hash: &[u8; 64]) -> Result<String, AllocError> {
+    let second = hex::encode(alloc, &hash[..])?;
+    format!(in alloc; "{first}+{second}")
 }
 
 /// Appends a word, behind a space where any stands before it.

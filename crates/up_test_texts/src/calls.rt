@@ -1,8 +1,10 @@
 //! The calls by their words.
 use crate::envelopes::{envelope_of, key_identifier, opened};
 use crate::fits::{root_fits, snapshot_fits, targets_fit, timestamp_fits};
-use crate::manifests::{manifest, manifest_of_bytes, prefixes, signed_text};
-use crate::members::{count, ecu, ecus, file, files, note, object, sha256, signature, vehicle};
+use crate::manifests::{manifest, manifest_of_bytes, prefixes, second_hash, signed_text};
+use crate::members::{
+    count, ecu, ecus, file, files, note, object, sha256, sha512, signature, vehicle,
+};
 use crate::moments::{moment_later, moment_read, moment_text};
 use crate::refusals::refusal;
 use crate::role_files::lifetimes;
@@ -10,7 +12,7 @@ use crate::schemes::under;
 use crate::tables::table;
 use crate::values::{
     canonical_text, count_written, hex_written, hmac_of, order_of_names, quoted, sha256_of_text,
-    value_of_bytes,
+    sha512_of_text, value_of_bytes,
 };
 use serde_json::{Map, Value};
 use std::alloc::{AllocError, Global};
@@ -44,6 +46,8 @@ fn of_text(alloc: Global, call: &str, given: &str) -> Result<String, AllocError>
         "table" => table(alloc, given),
         "quoted" => quoted(alloc, given),
         "sha256" => sha256_of_text(alloc, given),
+        "sha512" => sha512_of_text(alloc, given),
+        "second hash of a report" => second_hash(alloc, given),
         "lifetimes" => lifetimes(alloc, given),
         "manifest" => manifest(alloc, given),
         "prefixes of a manifest" => prefixes(alloc, given),
@@ -104,6 +108,7 @@ fn of_members(
         "attack" => note(alloc, members),
         "sig" => signature(alloc, members),
         "sha256 of a member" => sha256(alloc, members),
+        "sha512 of a member" => sha512(alloc, members),
         "ecus" => ecus(alloc, members),
         "files" => files(alloc, members),
         "vehicle" => vehicle(alloc, members),

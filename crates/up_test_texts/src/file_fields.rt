@@ -1,5 +1,5 @@
 //! The fields of role files, as texts.
-use crate::values::hex_digits;
+use crate::values::{hashes_digits, hex_digits};
 use std::alloc::{AllocError, Global};
 use up_canon::ident::Ident;
 use up_canon::moment::Moment;
@@ -69,8 +69,8 @@ pub(crate) fn targets_fields(alloc: Global, file: &TargetsFile) -> Result<String
 fn push_target(alloc: Global, out: &mut String, target: &Target) -> Result<(), AllocError> {
     let (ecu, file) = (name_or_none(&target.ecu), target.file.text());
     let (length, release) = (target.length.get(), target.release.get());
-    let sha256 = hex_digits(alloc, &target.sha256[..])?;
-    let text = format!(in alloc; "; {ecu} {file} {length} {sha256} {release}")?;
+    let hashes = hashes_digits(alloc, &target.sha256, &target.sha512)?;
+    let text = format!(in alloc; "; {ecu} {file} {length} {hashes} {release}")?;
     out.push_str(text.as_str())?;
     push_names(out, target.hardware.as_slice())
 }

@@ -3,7 +3,7 @@ ghost use Rattle.std.specs.Prelude.{IsNone, IsTrue, map};
 ghost use Rattle.up_canon.specs.Names.{first_repeated};
 ghost use Rattle.up_sign.specs.Hmac.{key_id as key_id_of};
 
-use crate::values::hex_digits;
+use crate::values::{hashes_digits, hex_digits};
 use serde_json::Value;
 use std::alloc::{AllocError, Global};
 use up_canon::bytes::Bytes;
@@ -11,7 +11,7 @@ use up_canon::hex_text::hex_of;
 use up_canon::listed::Duplicate;
 use up_manifest::building::{build_manifest, build_report};
 use up_manifest::manifest::{Incoming, Manifest};
-use up_manifest::reading::read_manifest;
+use up_manifest::reading::{read_manifest, report_sha512};
 use up_manifest::report::Report;
 use up_sign::scheme::Scheme;
 use up_sign::threshold::accepts;
@@ -55,10 +55,10 @@ fn fields(alloc: Global, manifest: &Manifest) -> Result<String, AllocError> {
 
 fn push_report(alloc: Global, out: &mut String, report: &Report) -> Result<(), AllocError> {
     let image = &report.image;
-    let sha256 = hex_digits(alloc, &image.sha256[..])?;
+    let hashes = hashes_digits(alloc, &image.sha256, &image.sha512)?;
     let (ecu, counter, time) = (report.ecu.text(), report.counter.get(), report.time.get());
     let (attack, file, length) = (report.attack.text(), image.file.text(), image.length.get());
-    let text = format!(in alloc; "; {ecu} {counter} {time} [{attack}] {file} {length} {sha256}")?;
+    let text = format!(in alloc; "; {ecu} {counter} {time} [{attack}] {file} {length} {hashes}")?;
     out.push_str(text.as_str())
 }
 
@@ -78,6 +78,14 @@ pub(crate) fn signed_text(alloc: Global, body: &str) -> Result<String, AllocErro
     match read_manifest(alloc, body.as_bytes()) {
         Ok(incoming) => incoming.envelope.signed.as_str().to_string(alloc),
         Err(refusal) => refusal.text(alloc),
+    }
+}
+
+/// The second hash of the image in a report's signed text.
+pub(crate) fn second_hash(alloc: Global, text: &str) -> Result<String, AllocError> {
+    match report_sha512(alloc, text)? {
+        Some(hash) => hex_digits(alloc, &hash[..]),
+        None => "none".to_string(alloc),
     }
 }
 

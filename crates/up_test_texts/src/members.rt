@@ -10,9 +10,9 @@ use serde_json::{Map, Value};
 use std::alloc::{AllocError, Global};
 use up_canon::bytes::Bytes;
 use up_canon::each::each_of;
-use up_canon::fields::{count_at, list_at, object_at};
+use up_canon::fields::{count_at, list_at, member_at, object_at};
 use up_canon::file_name::FileName;
-use up_canon::hex_text::{hex_at, sha256_at};
+use up_canon::hex_text::{hex_at, sha256_at, sha512_at, sha512_of};
 use up_canon::ident::Ident;
 use up_canon::limits::word_at;
 use up_canon::listed::{Duplicate, Listed};
@@ -59,6 +59,34 @@ fn copied_digits(alloc: Global, bytes: &Bytes) -> Result<String, AllocError> {
 /// A member `sha256`.
 pub(crate) fn sha256(alloc: Global, members: &Map<String, Value>) -> Result<String, AllocError> {
     match sha256_at(members, "sha256") {
+        Ok(hash) => hex_digits(alloc, &hash[..]),
+        Err(name) => name.to_string(alloc),
+    }
+}
+
+/// A member `sha512`, where any other than a SHA-512 counts as none, and where it is a fault.
+pub(crate) fn sha512(alloc: Global, members: &Map<String, Value>) -> Result<String, AllocError> {
+    let counted = sha512_or_none(alloc, members)?;
+    let wanted = sha512_or_name(alloc, members)?;
+    format!(in alloc; "{counted}, wanted {wanted}")
+}
+
+fn sha512_or_none(alloc: Global, members: &Map<String, Value>) -> Result<String, AllocError> {
+    match sha512_at(members) {
+        Some(hash) => hex_digits(alloc, &hash[..]),
+        None => "none".to_string(alloc),
+    }
+}
+
+fn sha512_or_name(alloc: Global, members: &Map<String, Value>) -> Result<String, AllocError> {
+    match member_at(members, "sha512") {
+        Ok(value) => sha512_in(alloc, value),
+        Err(name) => name.to_string(alloc),
+    }
+}
+
+fn sha512_in(alloc: Global, value: &Value) -> Result<String, AllocError> {
+    match sha512_of(value, "sha512") {
         Ok(hash) => hex_digits(alloc, &hash[..]),
         Err(name) => name.to_string(alloc),
     }

@@ -1,6 +1,6 @@
 //! Values, names and what is written of them; hashes.
 use serde_json::{Map, Value};
-use sha2::{Digest, Sha256};
+use sha2::{Digest, Sha256, Sha512};
 use std::alloc::{AllocError, Global};
 use up_canon::canonical::canonical;
 use up_canon::count::Count;
@@ -81,6 +81,24 @@ pub(crate) fn hex_digits(alloc: Global, bytes: &[u8]) -> Result<String, AllocErr
     hex::encode(alloc, bytes)
 }
 
+/// The hashes of an image in lower case hex, with `+` before a second one.
+pub(crate) fn hashes_digits(
+    alloc: Global,
+    sha256: &[u8; 32],
+    sha512: &Option<[u8; 64]>,
+) -> Result<String, AllocError> {
+    let first = hex_digits(alloc, &sha256[..])?;
+    match sha512 {
+        Some(hash) => with_second(alloc, first.as_str(), hash),
+        None => Ok(first),
+    }
+}
+
+fn with_second(alloc: Global, first: &str, hash: &[u8; 64]) -> Result<String, AllocError> {
+    let second = hex_digits(alloc, &hash[..])?;
+    format!(in alloc; "{first}+{second}")
+}
+
 /// How two identifiers stand to each other.
 pub(crate) fn order_of_names(alloc: Global, value: &Value) -> Result<String, AllocError> {
     match value.as_array() {
@@ -116,6 +134,11 @@ fn order(first: &Ident, second: &Ident) -> &'static str {
 /// The SHA-256 of a text (FIPS 180-4).
 pub(crate) fn sha256_of_text(alloc: Global, text: &str) -> Result<String, AllocError> {
     hex_digits(alloc, &Sha256::digest(text.as_bytes())[..])
+}
+
+/// The SHA-512 of a text (FIPS 180-4).
+pub(crate) fn sha512_of_text(alloc: Global, text: &str) -> Result<String, AllocError> {
+    hex_digits(alloc, &Sha512::digest(text.as_bytes())[..])
 }
 
 /// The HMAC of a key and a message, which are given in hex (RFC 2104).

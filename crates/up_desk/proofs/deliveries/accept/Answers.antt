@@ -18,7 +18,7 @@ returns-in-Ok g c = λ k s name computed sound was gives.
     subst (λ r. Serves k s old new r computed) (sym c.replied.ensures)
     (written k s old old new (Replied c.reply_in.result) c.write_accept-written.result (IsRecorded rows) (λ r. with_accepted_rows r rows) computed refl was (reads_none old)
     (λ clean. subst (λ r. WillWrite k s (IsRecorded rows) (λ q. with_accepted_rows q rows) (Replied r) computed) (sym c.reply_in.ensures)
-    (accepting_fits k s name rows computed sound c.rows_are_found.ensures.vehicles c.manifests_are_added.ensures
+    (accepting_fits k s name rows computed sound c.rows_are_found.ensures.vehicles c.manifests_are_added.ensures c.ecus_tell_their_hash.ensures
     (when_accepted k s name (Accepted rows) rows computed refl (gives clean))))
     c.write_accept-written.ensures.written c.write_accept-written.ensures.durable c.write_accept-written.ensures.kept c.write_accept-written.ensures.crash c.write_accept-written.ensures.clean)
 

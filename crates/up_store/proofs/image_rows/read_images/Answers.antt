@@ -6,18 +6,18 @@ use Rattle.up_store.proofs.ColumnTables.{AreSofar, images_begun, images_more, im
 use Rattle.up_store.proofs.image_rows.read_images.Goals as goal
 
 pub loop-row-preserved : goal.loop-row-preserved
-loop-row-preserved c = λ images are.
+loop-row-preserved c = λ images are told.
     let all = c.args.shown.items in
     let turn = YieldsList-turn (YieldsList-from_vec all (cc) (cc)) c.loop-row.yielded _ c.loop-row.yielded_by _ c.next.new.self c.in-Some.row c.in-Some.is c.next.ensures.steps in
     subst (λ n. AreSofar (take n all) images c.add_image.new.images) (sym (length_push c.loop-row.yielded c.in-Some.row))
-    (images_more images all (length c.loop-row.yielded) c.in-Some.row c.loop-row.images c.add_image.new.images turn.0 turn.1 are c.in_ok-add_image.ensures (c.loop-row.invariant images are))
+    (images_more images c.args.hashes.now all (length c.loop-row.yielded) c.in-Some.row c.loop-row.images c.add_image.new.images turn.0 turn.1 are told c.in_ok-add_image.ensures (c.loop-row.invariant images are told))
 
 pub loop-row-init : goal.loop-row-init
-loop-row-init c = λ images are. subst (AreSofar [] images) (sym c.new-images.ensures) (images_begun images)
+loop-row-init c = λ images are told. subst (AreSofar [] images) (sym c.new-images.ensures) (images_begun images)
 
 pub returns : goal.returns
-returns c = λ images are.
+returns c = λ images are told.
     let all = c.args.shown.items in
     let each = YieldsList-from_vec all (cc) (cc) in
     let whole = sym (YieldsList-so_far each c.loop-row.yielded _ c.loop-row.yielded_by) ∙ (YieldsList-end each c.loop-row.yielded _ c.loop-row.yielded_by _ c.next.new.self c.in-None.is c.next.ensures.steps).0 in
-    images_ended images all c.loop-row.images are (subst (λ rows. AreSofar rows images c.loop-row.images) whole (c.loop-row.invariant images are))
+    images_ended images all c.loop-row.images are (subst (λ rows. AreSofar rows images c.loop-row.images) whole (c.loop-row.invariant images are told))

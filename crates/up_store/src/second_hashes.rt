@@ -1,0 +1,100 @@
+//! The second hashes of images: found, read and put in.
+ghost use Rattle.std.specs.Prelude.{◌≡◌, ⊤, IfOk, OnOk, option_map};
+ghost use Rattle.std.specs.FinMap as table;
+ghost use Rattle.sqlite.specs.Held.{state};
+ghost use Rattle.sqlite.specs.State.{HasCleanDisk};
+ghost use Rattle.up_canon.specs.Names.{Table as Named};
+ghost use Rattle.up_plan.specs.Images.{ImageData};
+ghost use Rattle.up_rows.specs.StateRows.{StateRows};
+ghost use Rattle.up_tables.specs.Stands.{IfClean, IsInside, IsOpen, IsWithin, Steps};
+ghost use Rattle.up_tables.specs.Tables.{up_schema};
+ghost use Rattle.up_store.specs.ColumnRows.{AreHashesOf, AreSha512s};
+ghost use Rattle.up_store.specs.Connections.{FindsRows, NeedsOpen, PutsTables};
+ghost use Rattle.up_store.specs.Lines.{second_hash};
+ghost use Rattle.up_store.specs.Listing.{ListsRows};
+ghost use Rattle.up_store.specs.Puts.{with_sha512_line};
+
+use crate::reading::sha512_in;
+use crate::store::StoreFault;
+use sqlite::{Alter, Transaction};
+use std::alloc::Global;
+use up_canon::file_name::FileName;
+use up_canon::table::Table;
+use up_canon::text::Text;
+use up_plan::image::Image;
+use up_tables::image_sha512::{Sha512Row, image_sha512, image_sha512s, insert_image_sha512};
+
+/// The second hash of the image of this filename, none where there is none.
+pub(crate) fn find_sha512<D: Alter>(
+    tx: &mut Transaction<'_, D>,
+    file: &FileName,
+) -> Result<Option<[u8; 64]>, StoreFault>
+    requires mode { IfClean IsInside (state D.Store tx.old.conn.now) }
+    ensures same_reference { tx.new.conn.ghost_name ≡ tx.old.conn.ghost_name }
+    ensures found { FindsRows (λ rows. second_hash (table.get rows.images file.now)) (state D.Store tx.old.conn.now) (state D.Store tx.new.conn.now) result }
+    ensures open { NeedsOpen (state D.Store tx.old.conn.now) (state D.Store tx.new.conn.now) result }
+    ensures steps { Steps (state D.Store tx.old.conn.now) (state D.Store tx.new.conn.now) }
+{
+    match image_sha512(tx, file.text()) {
+        Ok(shown) => read_sha512(shown),
+        Err(fault) => Err(fault),
+    }
+}
+
+/// A row as it stands in the table, read.
+fn read_sha512(shown: Option<Sha512Row>) -> Result<Option<[u8; 64]>, StoreFault>
+    ensures { IfOk result (λ read. read ≡ option_map (λ row. row.sha512.items) shown) }
+{
+    match shown {
+        Some(row) => Ok(Some(sha512_in(row.sha512.as_slice())?)),
+        None => Ok(None),
+    }
+}
+
+/// All second hashes by the filenames of their images.
+pub(crate) fn find_sha512s<D: Alter>(
+    tx: &mut Transaction<'_, D>,
+    alloc: Global,
+) -> Result<Table<[u8; 64]>, StoreFault>
+    requires mode { IfClean IsInside (state D.Store tx.old.conn.now) }
+    ensures same_reference { tx.new.conn.ghost_name ≡ tx.old.conn.ghost_name }
+    ensures found { HasCleanDisk (state D.Store tx.new.conn.now) → IfOk result (λ read. (rows : StateRows) → IsWithin up_schema (ListsRows rows) (state D.Store tx.old.conn.now) → AreHashesOf read rows.images) }
+    ensures open { NeedsOpen (state D.Store tx.old.conn.now) (state D.Store tx.new.conn.now) result }
+    ensures steps { Steps (state D.Store tx.old.conn.now) (state D.Store tx.new.conn.now) }
+{
+    match image_sha512s(tx, alloc) {
+        Ok(shown) => read_sha512s(alloc, shown),
+        Err(fault) => Err(fault),
+    }
+}
+
+/// Rows as they stand in the table, read.
+fn read_sha512s(alloc: Global, shown: Vec<Sha512Row>) -> Result<Table<[u8; 64]>, StoreFault>
+    ensures { IfOk result (λ read. (images : Named ImageData) → AreSha512s shown.items images → AreHashesOf read images) }
+{
+    let mut hashes = Table::new(alloc);
+    for row in shown {
+        let hash = sha512_in(row.sha512.as_slice())?;
+        hashes.insert(Text::new(row.file), hash)?;
+    }
+    Ok(hashes)
+}
+
+/// Puts in the row of an image's second hash, where it has one.
+pub(crate) fn put_sha512<D: Alter>(
+    tx: &mut Transaction<'_, D>,
+    image: &Image,
+) -> Result<(), StoreFault>
+    requires mode { IfClean IsInside (state D.Store tx.old.conn.now) }
+    requires open { IfClean IsOpen (state D.Store tx.old.conn.now) }
+    ensures same_reference { tx.new.conn.ghost_name ≡ tx.old.conn.ghost_name }
+    ensures put { PutsTables (λ _. ⊤) (with_sha512_line image.now) (state D.Store tx.old.conn.now) (state D.Store tx.new.conn.now) result }
+    ensures inside { OnOk result (IfClean IsInside (state D.Store tx.new.conn.now)) }
+    ensures open { OnOk result (IfClean IsOpen (state D.Store tx.new.conn.now)) }
+    ensures steps { Steps (state D.Store tx.old.conn.now) (state D.Store tx.new.conn.now) }
+{
+    match &image.sha512 {
+        Some(hash) => insert_image_sha512(tx, image.file.text(), &hash[..]),
+        None => Ok(()),
+    }
+}
