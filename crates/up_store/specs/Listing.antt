@@ -37,9 +37,9 @@ files_lines rows word name =
     else []
 
 -- of the founding, the numbers; the keys of all root versions, in order; of each repository and filename the text that is
--- served, or none; of each image, campaign and vehicle by its name one row, or none; of each image's second hash one row, or none; of each vehicle its ECUs in inventory
--- order, its accepted manifests in the order of acceptance, and its replaced ECUs in the order of their replacement. A root version's
--- moment stands in its file's text alone.
+-- served, or none; of each image, campaign and vehicle by its name one row, or none; of each image's second hash one row, or none; of
+-- each vehicle its ECUs in inventory order, its accepted manifests in the order of acceptance, and its replaced ECUs in the order of
+-- their replacement. A root version's moment stands in its file's text alone.
 abbrev pub table_rows : StateRows → TableRows
 table_rows rows = record {
   root = founding_number (λ f. f.root) rows.founding;
