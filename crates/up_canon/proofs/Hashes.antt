@@ -1,6 +1,6 @@
 -- The hashes of an image as they are written, and what they mean.
-use Rattle.std.proofs.Common.{◌≡◌, ℕ, ◌*◌, List, Bool, true, Option, Some, None, length, refl, arith}
-use Rattle.std.specs.Prelude.{◌==◌, ◌&&◌, nat_lt, codes, option_map}
+use Rattle.std.proofs.Common.{◌≡◌, ℕ, ◌*◌, List, true, Option, Some, None, length, refl, arith}
+use Rattle.std.specs.Prelude.{◌==◌, nat_lt, codes}
 use Rattle.std.specs.List.{list_all}
 use Rattle.std.proofs.lemmas.Bool.{and_parts}
 use Rattle.std.proofs.lemmas.Bool.Decides.{nat_tests}

@@ -1,5 +1,5 @@
 -- A body means one manifest, or it has one first fault.
-use Rattle.std.proofs.Common.{◌≡◌, ℕ, List, [], ◌∷◌, Option, Some, None, Ok, Err, Result, refl, sym, ◌∙◌, ap}
+use Rattle.std.proofs.Common.{◌≡◌, List, [], ◌∷◌, Option, Some, None, Ok, Err, Result, refl, sym, ◌∙◌, ap}
 use Rattle.std.specs.Prelude.{MatchResult, option_and_then}
 use Rattle.std.specs.List.{AllByRecursion}
 use Rattle.serde_json.specs.Data.{Data, Items, no_items, item}
@@ -18,7 +18,6 @@ use Rattle.up_manifest.specs.Meaning.{MeansBody, MeansSignedReport}
 use Rattle.up_manifest.specs.Laws.{BodiesAreRead, BodiesMeanOneOrFail, SignedTextsMean, ReportTextsMean}
 use Rattle.up_manifest.specs.declared.report.SignedReport.{SignedReport}
 use Rattle.up_manifest.specs.declared.manifest.Incoming.{Incoming}
-use Rattle.up_manifest.specs.declared.manifest.Manifest.{Manifest}
 use Rattle.up_manifest.proofs.Faults.{body_fails}
 use Rattle.up_manifest.proofs.BodyReading.{body_read, body_there, manifest_read, manifest_there, report_there}
 

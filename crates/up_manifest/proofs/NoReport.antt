@@ -1,11 +1,11 @@
 -- Texts that are no report, or that have no second hash.
-use Rattle.std.proofs.Common.{◌≡◌, ℕ, ◌≤◌, List, [], ◌∷◌, Bool, true, false, Option, Some, None, Ok, Err, length, refl, sym, ap, subst, ◌∙◌}
+use Rattle.std.proofs.Common.{◌≡◌, ℕ, ◌≤◌, List, [], ◌∷◌, Bool, true, false, Option, Some, None, Err, length, refl, sym, ap, subst, ◌∙◌}
 use Rattle.std.specs.Prelude.{codes, if◌then◌else◌, option_and_then}
 use Rattle.std.specs.Cmp.Lexicographic.{bytes_decides}
 use Rattle.std.specs.Str.Pattern.{LacksTextAt}
 use Rattle.serde_json.specs.Data.{Data, null, boolean, number, string, array, object}
 use Rattle.serde_json.specs.Find as json
-use Rattle.up_canon.specs.Canon.{has_canon, canon, text, quoted}
+use Rattle.up_canon.specs.Canon.{has_canon, text, quoted}
 use Rattle.up_canon.specs.Meaning.{HasObject, HasHex, MeansIfAny}
 use Rattle.up_canon.specs.Members.{text_in, member_in}
 use Rattle.up_canon.specs.Readers.{word_in}

@@ -3,8 +3,6 @@ use Rattle.std.proofs.Common.{◌≡◌, ℕ, suc, lit≤, ◌≤◌, List, [], 
 use Rattle.std.specs.Prelude.{◌&&◌, IsTrue, nat_le, codes, decimal}
 use Rattle.std.specs.List.{list_all, join_with_byte}
 use Rattle.std.proofs.lemmas.Bool.Decides.{nat_tests}
-use Rattle.hex.specs.Hex.{encode_lower, lower_digits}
-use Rattle.hex.proofs.HexLemmas.{length-encode_with, decode_of-encode_lower}
 use Rattle.serde_json.specs.Data.{Data, string, depth, items_depth}
 use Rattle.serde_json.specs.View.{items_of}
 use Rattle.up_canon.specs.Build.{object_with, list_with, count_value, hashes_value}
@@ -23,10 +21,9 @@ use Rattle.up_manifest.specs.declared.report.Report.{Report}
 use Rattle.up_manifest.specs.declared.manifest.Manifest.{Manifest}
 use Rattle.up_sign.proofs.Meaning.{opened_read}
 use Rattle.up_sign.proofs.Texts.{envelope_value-text, envelope_plain, envelope_depth}
-use Rattle.up_canon.proofs.ByteTests.{bytes_placed}
 use Rattle.up_canon.proofs.Hashes.{first_hash, second_hash, hashes_depth, hashes_plain, spelled_hash}
 use Rattle.up_canon.proofs.Joined.{listed_text}
-use Rattle.up_canon.proofs.Printable.{ident_prints, file_name_prints, note_prints, printable-hex}
+use Rattle.up_canon.proofs.Printable.{ident_prints, file_name_prints, note_prints}
 
 -- ---- canonical text
 

@@ -1,6 +1,6 @@
 -- What the bytes of a role file mean, as relations: which members its payload has (Uptane Standard 2.1.0 says what each role's metadata
 -- contain, and leaves the encoding open; this is the one used here). Members that none of these names are left aside.
-use Rattle.std.specs.Prelude.{◌≡◌, ℕ, ◌≤◌, List, IsTrue, bytes_eq, length, Option, Some, None, codes, ⊤}
+use Rattle.std.specs.Prelude.{◌≡◌, ℕ, ◌≤◌, List, IsTrue, bytes_eq, Option, Some, None, codes, ⊤}
 use Rattle.std.specs.List.{AllByRecursion, list_all, list_any}
 use Rattle.serde_json.specs.Data.{Data, string, array, Items}
 use Rattle.serde_json.specs.Find as json
