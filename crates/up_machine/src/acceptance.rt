@@ -3,11 +3,13 @@ ghost use Rattle.std.specs.Prelude.{◌≡◌, ◌<◌, ◌≤◌, ◌+◌, None
 ghost use Rattle.up_canon.specs.Canon.{max_count};
 ghost use Rattle.up_canon.specs.Moments.{last_command_moment};
 ghost use Rattle.up_canon.specs.Names.{first_repeated};
+ghost use Rattle.up_machine.specs.Keys.{hashed_roles};
 ghost use Rattle.up_machine.specs.RowsFit.{roles_can_sign};
 ghost use Rattle.up_machine.specs.ManifestRows.{accepted_row as accepted_row_of, accepted_rows as accepted_rows_of, kept_of, plan_by_rows};
 
 use crate::decision::AcceptedRows;
 use crate::director_files::{reply_text, targets_for};
+use crate::hashed_keys::HashedRoleKeys;
 use crate::reported::{fitted_ecus, reported_rows};
 use crate::rows::{Founding, Kept, VehicleRow, VehicleRows};
 use std::alloc::{AllocError, Global};
@@ -24,18 +26,20 @@ use up_plan::plan::plan;
 use up_sign::scheme::Scheme;
 
 /// The rows of the manifest's vehicle with one version more, and the row that is kept for the manifest: the plan of this
-/// moment, and the reply with the Director's files for it.
+/// moment, and the reply with the Director's files for it, signed with keys that are hashed already.
 pub(crate) fn accepted_rows<K: Scheme>(
     alloc: Global,
     scheme: &K,
     at: Moment,
     incoming: &Incoming,
     founding: &Founding,
+    hashed: &HashedRoleKeys,
     rows: &VehicleRows,
     images: &Table<Image>,
     campaigns: &[Campaign],
 ) -> Result<AcceptedRows, AllocError>
     requires keys { IsTrue (roles_can_sign (K.rules scheme.now) founding.now.keys.director) }
+    requires hashed { hashed.now ≡ hashed_roles (K.rules scheme.now) founding.now.keys.director }
     requires version { rows.now.vehicle.version < max_count }
     requires moment { at ≤ last_command_moment }
     requires once { first_repeated (map (λ row. row.ecu) rows.now.ecus) ≡ None }
@@ -49,6 +53,7 @@ pub(crate) fn accepted_rows<K: Scheme>(
         at,
         incoming,
         founding,
+        hashed,
         &rows.vehicle,
         images,
         plan,
@@ -87,18 +92,20 @@ fn kept_row<K: Scheme>(
     at: Moment,
     incoming: &Incoming,
     founding: &Founding,
+    hashed: &HashedRoleKeys,
     row: &VehicleRow,
     images: &Table<Image>,
     plan: Plan,
 ) -> Result<Kept, AllocError>
     requires keys { IsTrue (roles_can_sign (K.rules scheme.now) founding.now.keys.director) }
+    requires hashed { hashed.now ≡ hashed_roles (K.rules scheme.now) founding.now.keys.director }
     requires version { row.now.version < max_count }
     requires moment { at ≤ last_command_moment }
     requires once { first_repeated (map (λ a. a.ecu) plan.assigned) ≡ None }
     ensures { IfOk result (λ kept. kept ≡ kept_of (K.rules scheme.now) founding.now row.now at incoming.now images.now plan) }
 {
     let targets = targets_for(alloc, images, plan.assigned.as_slice())?;
-    let reply = reply_text(alloc, scheme, at, founding, row, targets)?;
+    let reply = reply_text(alloc, scheme, at, founding, hashed, row, targets)?;
     Ok(Kept {
         vehicle: row.vehicle.copy(alloc)?,
         counter: incoming.manifest.counter,
