@@ -10,13 +10,14 @@ use crate::fault::{ScriptCause, ScriptFault};
 use crate::interpret::Interpret;
 use crate::limits::{MOST_BYTES, PIECE_BYTES};
 use crate::progress::Progress;
+use crate::sink::Sink;
+use crate::source::Source;
 use crate::taking::take_byte;
 use std::alloc::Global;
 use std::io;
-use std::io::{Read, Write};
 
 /// Takes the bytes of a piece.
-fn take_piece<S, I: Interpret<S>, W: Write>(
+fn take_piece<S, I: Interpret<S>, W: Sink>(
     alloc: Global,
     interpreter: &I,
     state: &mut S,
@@ -24,10 +25,12 @@ fn take_piece<S, I: Interpret<S>, W: Write>(
     progress: &mut Progress,
     piece: &[u8],
 ) -> Result<(), ScriptCause>
+    requires { W.can_write writer.old }
     ensures ok { OnOk result (Takes I.gives piece.now progress.old state.old (W.contents writer.old)
         progress.new state.new (W.contents writer.new)) }
     ensures err { IfErr result (λ cause. Stops I.gives cause false piece.now
         progress.old state.old (W.contents writer.old) progress.new state.new (W.contents writer.new)) }
+    ensures goes_on { OnOk result (W.can_write writer.new) }
 {
     for byte in piece {
         take_byte(alloc, interpreter, state, writer, progress, *byte)?;
@@ -36,33 +39,37 @@ fn take_piece<S, I: Interpret<S>, W: Write>(
 }
 
 /// Reads a piece of at most so many bytes to the buffer's front, and tells how many they are: none only at the reader's end,
-/// or where there is room for none. A fault takes nothing from the reader.
-pub fn read_piece<R: Read>(reader: &mut R, buffer: &mut [u8], most: u64) -> io::Result<usize>
+/// or where there is room for none. A fault takes nothing from the reader. Only where some came may the reader be read again.
+pub fn read_piece<R: Source>(reader: &mut R, buffer: &mut [u8], most: u64) -> io::Result<usize>
+    requires { R.can_read reader.old }
     ensures count { IfOk result (λ n. (n ≤ length buffer.new) × (n ≤ most)) }
     ensures bytes { IfOk result (λ n. Consumes (R.remaining reader.old) (R.remaining reader.new) (take n buffer.new)) }
     ensures end { IfOk result (λ n. n ≡ 0 → 0 < most → 0 < length buffer.old → IsAtEnd (R.remaining reader.new)) }
     ensures err { OnErr result (Keeps (R.remaining reader.old) (R.remaining reader.new)) }
+    ensures goes_on { IfOk result (λ n. 0 < n → R.can_read reader.new) }
 {
     let room = if most < buffer.len() as u64 {
         most as usize
     } else {
         buffer.len()
     };
-    reader.read(&mut buffer[..room])
+    reader.read_some(&mut buffer[..room])
 }
 
 /// Ends the line that the input's end ends, if one is begun.
-fn finish<S, I: Interpret<S>, W: Write>(
+fn finish<S, I: Interpret<S>, W: Sink>(
     alloc: Global,
     interpreter: &I,
     state: &mut S,
     writer: &mut W,
     progress: &mut Progress,
 ) -> Result<(), ScriptCause>
+    requires { W.can_write writer.old }
     ensures ok { OnOk result (Completes I.gives progress.old state.old (W.contents writer.old)
         progress.new state.new (W.contents writer.new)) }
     ensures err { IfErr result (λ cause. Stops I.gives cause true [] progress.old state.old (W.contents writer.old)
         progress.new state.new (W.contents writer.new)) }
+    ensures goes_on { OnOk result (W.can_write writer.new) }
 {
     if progress.line.is_empty() {
         return Ok(());
@@ -71,7 +78,7 @@ fn finish<S, I: Interpret<S>, W: Write>(
 }
 
 /// Reads and takes the bytes, to the input's end.
-fn read_lines<S, I: Interpret<S>, R: Read, W: Write>(
+fn read_lines<S, I: Interpret<S>, R: Source, W: Sink>(
     alloc: Global,
     interpreter: &I,
     state: &mut S,
@@ -79,9 +86,12 @@ fn read_lines<S, I: Interpret<S>, R: Read, W: Write>(
     writer: &mut W,
     progress: &mut Progress,
 ) -> Result<(), ScriptCause>
-    requires { IsFresh progress.old }
-    ensures { Ran I.gives state.old state.new (R.remaining reader.old) (R.remaining reader.new)
+    requires fresh { IsFresh progress.old }
+    requires can_read { R.can_read reader.old }
+    requires can_write { W.can_write writer.old }
+    ensures ran { Ran I.gives state.old state.new (R.remaining reader.old) (R.remaining reader.new)
         (W.contents writer.old) (W.contents writer.new) (told result progress.new.answered) }
+    ensures goes_on { OnOk result (W.can_write writer.new) }
 {
     let mut buffer = vec![in alloc; 0; PIECE_BYTES]?;
     let mut most = MOST_BYTES;
@@ -103,15 +113,18 @@ fn read_lines<S, I: Interpret<S>, R: Read, W: Write>(
 /// A line ends with a newline (byte 10), or with the input where any byte stands behind the last newline.
 /// An empty line is counted and not answered. The number is that of the lines answered. There are at most 100,000 lines, of at
 /// most 2,097,152 bytes each without the newline; past that comes `TooLong`. Of a reader whose bytes are known at most
-/// 209,715,300,001 are read: so many lines of so many bytes, their newlines, and one byte more. Nothing is tried twice.
+/// 209,715,300,001 are read: so many lines of so many bytes, their newlines, and one byte more. Nothing is tried twice: after
+/// a read that failed or gave no byte the reader isn't read, nor is the writer written after a write that failed or took none.
 /// A fault tells how many answers were written whole; lines that were answered before it stay answered.
-pub fn run<S, I: Interpret<S>, R: Read, W: Write>(
+pub fn run<S, I: Interpret<S>, R: Source, W: Sink>(
     alloc: Global,
     interpreter: &I,
     state: &mut S,
     reader: &mut R,
     writer: &mut W,
 ) -> Result<u32, ScriptFault>
+    requires can_read { R.can_read reader.old }
+    requires can_write { W.can_write writer.old }
     // For any reader and writer: the bytes that came, what was answered of them, and what was written.
     ensures ran { Ran I.gives state.old state.new (R.remaining reader.old) (R.remaining reader.new)
         (W.contents writer.old) (W.contents writer.new) result }
@@ -124,6 +137,9 @@ pub fn run<S, I: Interpret<S>, R: Read, W: Write>(
     ensures prefix { IfErr result (λ fault. IfSome (R.remaining reader.old) (λ input.
         AnswersFirst I.gives state.old (W.contents writer.old) (asked (lines_of true input)) fault.lines
         state.new (W.contents writer.new))) }
+
+    // Nothing was tried twice: where it ended well the writer may be written again.
+    ensures goes_on { OnOk result (W.can_write writer.new) }
 {
     let mut progress = Progress {
         line: Vec::new(alloc),
