@@ -4,8 +4,8 @@ ghost use Rattle.sha2.specs.Sha256.{sha256};
 ghost use Rattle.up_service.specs.Digests.{Digested, most_bytes};
 
 use sha2::{Digest, Sha256};
-use std::io::Read;
 use up_lines::read_piece;
+use up_lines::source::Source;
 
 /// One more than a file may have, in bytes.
 const PAST_BYTES: u64 = 1_073_741_825;
@@ -23,8 +23,9 @@ pub enum DigestFault {
 }
 
 /// The number of bytes that the reader gives, and their SHA-256. `TooLong` past 1,073,741,824 bytes. Of a reader whose bytes are
-/// known at most one more than these is read. Takes no memory.
-pub fn digest_stream<R: Read>(reader: &mut R) -> Result<(u64, [u8; 32]), DigestFault>
+/// known at most one more than these is read, and none after a read that failed. Takes no memory.
+pub fn digest_stream<R: Source>(reader: &mut R) -> Result<(u64, [u8; 32]), DigestFault>
+    requires { R.can_read reader.old }
     // For any reader: the bytes that came, and what is said of them.
     ensures digested { Digested (R.remaining reader.old) (R.remaining reader.new) result }
 

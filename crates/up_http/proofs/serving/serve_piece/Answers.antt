@@ -16,7 +16,7 @@ pub returns-in-Err-answer_counted-clause-err : goal.returns-in-Err-answer_counte
 returns-in-Err-answer_counted-clause-err g c first empty came so =
     let goes_on : c.args.progress.now.feeder.ended ≡ false = sym c.args.progress.now.ends ∙ c.requires in
     let gives : Gives c.args.progress.now.feeder c.args.piece.now c.in-Ok.step.taken (Some c.in-Some.next) c.feed.new.self = subst (λ o. Gives c.args.progress.now.feeder c.args.piece.now c.in-Ok.step.taken o c.feed.new.self) c.in-Some.is (c.in-Ok.ensures.ok.going_on goes_on) in
-    subst (λ l. Stopped (g.A.Respond.gives c.args.responder.now) c.in-Err-answer_counted.cause first empty (came ++ l) false c.answer_counted.new.progress.called c.answer_counted.new.progress.answered c.answer_counted.new.state (g.W.Write.contents c.answer_counted.new.writer))
+    subst (λ l. Stopped (g.A.Respond.gives c.args.responder.now) c.in-Err-answer_counted.cause first empty (came ++ l) false c.answer_counted.new.progress.called c.answer_counted.new.progress.answered c.answer_counted.new.state (g.W.Sink.contents c.answer_counted.new.writer))
     (take-append-drop c.in-Ok.step.taken c.args.piece.now)
     (stops_next (g.A.Respond.gives c.args.responder.now) c.in-Err-answer_counted.cause c.args.progress.now _ _ (take c.in-Ok.step.taken c.args.piece.now) (drop c.in-Ok.step.taken c.args.piece.now) c.in-Some.next _ _ _ _ goes_on gives.3 gives.5 c.in-Err-answer_counted.ensures.err c.in-Err-answer_counted.ensures.called c.in-Err-answer_counted.ensures.answered first empty came so)
 

@@ -26,10 +26,10 @@ loop-progress-preserved-in-Ok g c = let (came, read, so, budget, inside, within,
     let few : n ≤ length piece = c.in-Ok.ensures.taken.0 in
     let some : length (take n piece) ≡ n = length-take-le n piece few in (
       came ++ take n piece,
-      subst (Consumes (g.R.Read.remaining c.args.reader.now) (g.R.Read.remaining c.loop-progress.reader))
+      subst (Consumes (g.R.Source.remaining c.args.reader.now) (g.R.Source.remaining c.loop-progress.reader))
           (ap (λ l. came ++ l) (sym (piece_left c.loop-progress.buffer c.loop-progress.at c.loop-progress.filled n (omega arith)))
           ∙ sym (append_assoc came (take n piece) (take (c.loop-progress.filled - (c.loop-progress.at + n)) (drop (c.loop-progress.at + n) c.loop-progress.buffer)))) read,
-      c.in-Ok.ensures.ok c.args.state.now (g.W.Write.contents c.args.writer.now) came so,
+      c.in-Ok.ensures.ok c.args.state.now (g.W.Sink.contents c.args.writer.now) came so,
       omega (arith, budget, some, few, long, length-append came (take n piece)),
       omega (arith, few, long),
       within,
@@ -46,10 +46,10 @@ pub returns-in-Ok-eq0 : goal.returns-in-Ok-eq0
 returns-in-Ok-eq0 g c = let (came, read, so, budget, inside, within, room) = c.loop-progress.invariant in
     let none : c.loop-progress.filled - c.loop-progress.at ≡ 0 = omega (arith, c.if-at-filled.false) in
     let goes_on : c.loop-progress.progress.feeder.ended ≡ false = sym c.loop-progress.progress.ends ∙ c.loop-progress-test.true in
-    let below = room_left (g.A.Respond.gives c.args.responder.now) c.args.state.now (g.W.Write.contents c.args.writer.now) came c.loop-progress.progress c.loop-progress.state (g.W.Write.contents c.loop-progress.writer) so goes_on in
-    ran_end (g.A.Respond.gives c.args.responder.now) c.finish.result c.args.state.now c.finish.new.state (g.R.Read.remaining c.args.reader.now) (g.R.Read.remaining c.read_piece.new.reader) (g.W.Write.contents c.args.writer.now) (g.W.Write.contents c.finish.new.writer)
-    came c.loop-progress.progress c.loop-progress.state (g.W.Write.contents c.loop-progress.writer) c.finish.new.progress
-    (consumed_none _ (g.R.Read.remaining c.loop-progress.reader) _ came (drop c.loop-progress.at c.loop-progress.buffer) c.read_piece.new.buffer (c.loop-progress.filled - c.loop-progress.at) c.in-Ok-eq0.field-0 none c.in-Ok-eq0.field-0-test read c.in-Ok-eq0.ensures.bytes)
+    let below = room_left (g.A.Respond.gives c.args.responder.now) c.args.state.now (g.W.Sink.contents c.args.writer.now) came c.loop-progress.progress c.loop-progress.state (g.W.Sink.contents c.loop-progress.writer) so goes_on in
+    ran_end (g.A.Respond.gives c.args.responder.now) c.finish.result c.args.state.now c.finish.new.state (g.R.Source.remaining c.args.reader.now) (g.R.Source.remaining c.read_piece.new.reader) (g.W.Sink.contents c.args.writer.now) (g.W.Sink.contents c.finish.new.writer)
+    came c.loop-progress.progress c.loop-progress.state (g.W.Sink.contents c.loop-progress.writer) c.finish.new.progress
+    (consumed_none _ (g.R.Source.remaining c.loop-progress.reader) _ came (drop c.loop-progress.at c.loop-progress.buffer) c.read_piece.new.buffer (c.loop-progress.filled - c.loop-progress.at) c.in-Ok-eq0.field-0 none c.in-Ok-eq0.field-0-test read c.in-Ok-eq0.ensures.bytes)
     (omega (arith, below)) (c.in-Ok-eq0.ensures.end c.in-Ok-eq0.field-0-test (omega (arith, below, budget, none)) room) so c.finish.ensures.ok c.finish.ensures.err
 
 pub returns-in-Err : goal.returns-in-Err

@@ -5,8 +5,8 @@ use Rattle.up_http.proofs.serving.serve_reads.Given as goal
 
 -- the bytes that were taken, and those of the piece that weren't yet
 abbrev pub invariant-loop-progress : goal.invariant-loop-progress
-invariant-loop-progress g l = (came : List ℕ) × Consumes (g.R.Read.remaining l.fn.reader) (g.R.Read.remaining l.reader) (came ++ take (l.filled - l.at) (drop l.at l.buffer))
-    × Sofar (g.A.Respond.gives l.responder) l.fn.state (g.W.Write.contents l.fn.writer) came l.progress l.state (g.W.Write.contents l.writer)
+invariant-loop-progress g l = (came : List ℕ) × Consumes (g.R.Source.remaining l.fn.reader) (g.R.Source.remaining l.reader) (came ++ take (l.filled - l.at) (drop l.at l.buffer))
+    × Sofar (g.A.Respond.gives l.responder) l.fn.state (g.W.Sink.contents l.fn.writer) came l.progress l.state (g.W.Sink.contents l.writer)
     × (length came + (l.filled - l.at) + l.most ≡ most_bytes) × (l.at ≤ l.filled) × (l.filled ≤ length l.buffer) × (0 < length l.buffer)
 
 -- each turn takes bytes, gives a request, or reads

@@ -5,7 +5,7 @@ use Rattle.up_service.proofs.digest.digest_stream.Given as goal
 
 -- the bytes that came are hashed, and so many more may come
 abbrev pub invariant-loop-most : goal.invariant-loop-most
-invariant-loop-most g l = (came : List ℕ) × Consumes (g.R.Read.remaining l.fn.reader) (g.R.Read.remaining l.reader) came
+invariant-loop-most g l = (came : List ℕ) × Consumes (g.R.Source.remaining l.fn.reader) (g.R.Source.remaining l.reader) came
     × Holds256 l.hasher came × (length came + l.most ≡ 1073741825) × (0 < length l.buffer)
 
 abbrev pub decreases-loop-most : goal.decreases-loop-most
