@@ -2,7 +2,8 @@
 ghost use Rattle.std.specs.Prelude.{◌≡◌, ◌≤◌, ◌<◌, ◌+◌, [], ◌∷◌, ℕ, List, if◌then◌else◌, is_ok, IfOk, IfErr, IfSome, IsTrue, OnOk, false, true, take};
 ghost use Rattle.std.specs.Io.KnownBytes.{Appends};
 ghost use Rattle.up_http.specs.Requests.{asks_running, most_requests};
-ghost use Rattle.up_http.specs.Serving.{Ran, Finished, AnswersFirst, Unanswered, Takes, Stops, Moves, Completes, IsFresh, calls, told};
+ghost use Rattle.up_http.specs.Serving.{RanRequests, FinishedRequests, AnswersFirst, calls};
+ghost use Rattle.up_http.specs.Steps.{Unanswered, Takes, Stops, Moves, Completes, IsFresh, told};
 
 use crate::asked::{Next, Step, What};
 use crate::fault::{Fault, ServeFault};
@@ -33,7 +34,8 @@ fn answer_next<S, A: Respond<S>, W: Sink>(
     requires can_write { W.can_write writer.old }
     ensures ok { OnOk result ((text : List ℕ) × A.gives responder.now state.old next.now text state.new
         × Appends (W.contents writer.old) (W.contents writer.new) text) }
-    ensures err { IfErr result (λ cause. Unanswered (A.gives responder.now) cause state.old next.now state.new (W.contents writer.old) (W.contents writer.new)) }
+    ensures err { IfErr result (λ cause. Unanswered (A.gives responder.now) cause next.now (record { state = state.old; held = W.contents writer.old })
+        (record { state = state.new; held = W.contents writer.new })) }
     ensures goes_on { OnOk result (W.can_write writer.new) }
 {
     let text = responder.respond(alloc, state, next)?;
@@ -73,7 +75,8 @@ fn answer_counted<S, A: Respond<S>, W: Sink>(
     ensures answered { progress.new.answered ≡ (if is_ok result then progress.old.answered + 1 else progress.old.answered) }
     ensures ok { OnOk result ((text : List ℕ) × A.gives responder.now state.old next text state.new
         × Appends (W.contents writer.old) (W.contents writer.new) text) }
-    ensures err { IfErr result (λ cause. Unanswered (A.gives responder.now) cause state.old next state.new (W.contents writer.old) (W.contents writer.new)) }
+    ensures err { IfErr result (λ cause. Unanswered (A.gives responder.now) cause next (record { state = state.old; held = W.contents writer.old })
+        (record { state = state.new; held = W.contents writer.new })) }
     ensures goes_on { OnOk result (W.can_write writer.new) }
 {
     progress.called = count_call(progress.called, &next);
@@ -94,10 +97,11 @@ fn serve_piece<S, A: Respond<S>, W: Sink>(
     requires goes_on { progress.old.over ≡ false }
     requires can_write { W.can_write writer.old }
     ensures taken { IfOk result (λ n. Moves n piece.now progress.old progress.new) }
-    ensures ok { IfOk result (λ n. Takes (A.gives responder.now) (take n piece.now) progress.old state.old (W.contents writer.old)
-        progress.new state.new (W.contents writer.new)) }
+    ensures ok { IfOk result (λ n. Takes (A.gives responder.now) (take n piece.now) progress.old (record { state = state.old; held = W.contents writer.old })
+        progress.new (record { state = state.new; held = W.contents writer.new })) }
     ensures err { IfErr result (λ cause. Stops (A.gives responder.now) cause false piece.now
-        progress.old state.old (W.contents writer.old) progress.new state.new (W.contents writer.new)) }
+        progress.old (record { state = state.old; held = W.contents writer.old })
+        progress.new (record { state = state.new; held = W.contents writer.new })) }
     ensures goes_on { OnOk result (W.can_write writer.new) }
 {
     let Step { taken, next } = match progress.feeder.feed(piece) {
@@ -126,10 +130,11 @@ fn finish<S, A: Respond<S>, W: Sink>(
 ) -> Result<(), Fault>
     requires goes_on { progress.old.over ≡ false }
     requires can_write { W.can_write writer.old }
-    ensures ok { OnOk result (Completes (A.gives responder.now) progress.old state.old (W.contents writer.old)
-        progress.new state.new (W.contents writer.new)) }
-    ensures err { IfErr result (λ cause. Stops (A.gives responder.now) cause true [] progress.old state.old (W.contents writer.old)
-        progress.new state.new (W.contents writer.new)) }
+    ensures ok { OnOk result (Completes (A.gives responder.now) progress.old (record { state = state.old; held = W.contents writer.old })
+        progress.new (record { state = state.new; held = W.contents writer.new })) }
+    ensures err { IfErr result (λ cause. Stops (A.gives responder.now) cause true []
+        progress.old (record { state = state.old; held = W.contents writer.old })
+        progress.new (record { state = state.new; held = W.contents writer.new })) }
     ensures goes_on { OnOk result (W.can_write writer.new) }
 {
     match progress.feeder.end() {
@@ -159,8 +164,9 @@ fn serve_reads<S, A: Respond<S>, R: Source, W: Sink>(
     requires fresh { IsFresh progress.old }
     requires can_read { R.can_read reader.old }
     requires can_write { W.can_write writer.old }
-    ensures ran { Ran (A.gives responder.now) state.old state.new (R.remaining reader.old) (R.remaining reader.new)
-        (W.contents writer.old) (W.contents writer.new) (told result progress.new) }
+    ensures ran { RanRequests (A.gives responder.now) (R.remaining reader.old) (R.remaining reader.new)
+        (record { state = state.old; held = W.contents writer.old })
+        (record { state = state.new; held = W.contents writer.new }) (told result progress.new) }
     ensures goes_on { OnOk result (W.can_write writer.new) }
 {
     let mut buffer = [0; PIECE_BYTES];
@@ -212,14 +218,17 @@ pub fn serve<S, A: Respond<S>, R: Source, W: Sink>(
     requires can_write { W.can_write writer.old }
 
     // For any reader and writer: the bytes that came, what was answered of them, and what was written.
-    ensures ran { Ran (A.gives responder.now) state.old state.new (R.remaining reader.old) (R.remaining reader.new)
-        (W.contents writer.old) (W.contents writer.new) result }
+    ensures ran { RanRequests (A.gives responder.now) (R.remaining reader.old) (R.remaining reader.new)
+        (record { state = state.old; held = W.contents writer.old })
+        (record { state = state.new; held = W.contents writer.new }) result }
 
     // Where it is known what the reader has, by its requests.
     ensures whole { IfOk result (λ served. IfSome (R.remaining reader.old) (λ input.
-        Finished (A.gives responder.now) state.old (W.contents writer.old) input served.requests state.new (W.contents writer.new))) }
+        FinishedRequests (A.gives responder.now) input served.requests (record { state = state.old; held = W.contents writer.old })
+        (record { state = state.new; held = W.contents writer.new }))) }
     ensures prefix { IfErr result (λ fault. IfSome (R.remaining reader.old) (λ input.
-        AnswersFirst (A.gives responder.now) state.old (W.contents writer.old) input fault state.new (W.contents writer.new))) }
+        AnswersFirst (A.gives responder.now) input fault (record { state = state.old; held = W.contents writer.old })
+        (record { state = state.new; held = W.contents writer.new }))) }
 
     // Nothing was tried twice: where it ended well the writer may be written again.
     ensures goes_on { OnOk result (W.can_write writer.new) }

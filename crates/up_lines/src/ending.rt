@@ -20,10 +20,10 @@ pub(crate) fn end_line<S, I: Interpret<S>, W: Sink>(
 ) -> Result<(), ScriptCause>
     requires few { progress.old.counted < most_lines }
     requires can_write { W.can_write writer.old }
-    ensures ok { OnOk result (Closes I.gives progress.old state.old (W.contents writer.old)
-        progress.new state.new (W.contents writer.new)) }
-    ensures err { IfErr result (λ cause. Fails I.gives cause progress.old state.old (W.contents writer.old)
-        progress.new state.new (W.contents writer.new)) }
+    ensures ok { OnOk result (Closes I.gives progress.old (record { state = state.old; held = W.contents writer.old })
+        progress.new (record { state = state.new; held = W.contents writer.new })) }
+    ensures err { IfErr result (λ cause. Fails I.gives cause progress.old (record { state = state.old; held = W.contents writer.old })
+        progress.new (record { state = state.new; held = W.contents writer.new })) }
     ensures goes_on { OnOk result (W.can_write writer.new) }
 {
     if progress.line.is_empty() {

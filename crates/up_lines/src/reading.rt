@@ -1,8 +1,8 @@
 //! Lines cut from a reader, and their answers written to a writer.
 ghost use Rattle.std.specs.Prelude.{◌≡◌, ◌<◌, ◌≤◌, ℕ, List, Option, [], IfOk, IfErr, IfSome, OnErr, OnOk, false, true, length, take};
 ghost use Rattle.std.specs.Io.KnownBytes.{Consumes, IsAtEnd, Keeps};
-ghost use Rattle.up_lines.specs.Lines.{lines_of, fits, asked};
-ghost use Rattle.up_lines.specs.Runs.{Ran, Finished, AnswersFirst};
+ghost use Rattle.up_lines.specs.Lines.{lines_of, fits};
+ghost use Rattle.up_lines.specs.LineRuns.{RanLines, FinishedLines, AnswersFirst};
 ghost use Rattle.up_lines.specs.Progress.{Takes, Stops, Completes, IsFresh, told};
 
 use crate::ending::end_line;
@@ -26,10 +26,11 @@ fn take_piece<S, I: Interpret<S>, W: Sink>(
     piece: &[u8],
 ) -> Result<(), ScriptCause>
     requires { W.can_write writer.old }
-    ensures ok { OnOk result (Takes I.gives piece.now progress.old state.old (W.contents writer.old)
-        progress.new state.new (W.contents writer.new)) }
+    ensures ok { OnOk result (Takes I.gives piece.now progress.old (record { state = state.old; held = W.contents writer.old })
+        progress.new (record { state = state.new; held = W.contents writer.new })) }
     ensures err { IfErr result (λ cause. Stops I.gives cause false piece.now
-        progress.old state.old (W.contents writer.old) progress.new state.new (W.contents writer.new)) }
+        progress.old (record { state = state.old; held = W.contents writer.old })
+        progress.new (record { state = state.new; held = W.contents writer.new })) }
     ensures goes_on { OnOk result (W.can_write writer.new) }
 {
     for byte in piece {
@@ -65,10 +66,11 @@ fn finish<S, I: Interpret<S>, W: Sink>(
     progress: &mut Progress,
 ) -> Result<(), ScriptCause>
     requires { W.can_write writer.old }
-    ensures ok { OnOk result (Completes I.gives progress.old state.old (W.contents writer.old)
-        progress.new state.new (W.contents writer.new)) }
-    ensures err { IfErr result (λ cause. Stops I.gives cause true [] progress.old state.old (W.contents writer.old)
-        progress.new state.new (W.contents writer.new)) }
+    ensures ok { OnOk result (Completes I.gives progress.old (record { state = state.old; held = W.contents writer.old })
+        progress.new (record { state = state.new; held = W.contents writer.new })) }
+    ensures err { IfErr result (λ cause. Stops I.gives cause true []
+        progress.old (record { state = state.old; held = W.contents writer.old })
+        progress.new (record { state = state.new; held = W.contents writer.new })) }
     ensures goes_on { OnOk result (W.can_write writer.new) }
 {
     if progress.line.is_empty() {
@@ -89,8 +91,9 @@ fn read_lines<S, I: Interpret<S>, R: Source, W: Sink>(
     requires fresh { IsFresh progress.old }
     requires can_read { R.can_read reader.old }
     requires can_write { W.can_write writer.old }
-    ensures ran { Ran I.gives state.old state.new (R.remaining reader.old) (R.remaining reader.new)
-        (W.contents writer.old) (W.contents writer.new) (told result progress.new.answered) }
+    ensures ran { RanLines I.gives (R.remaining reader.old) (R.remaining reader.new)
+        (record { state = state.old; held = W.contents writer.old })
+        (record { state = state.new; held = W.contents writer.new }) (told result progress.new.answered) }
     ensures goes_on { OnOk result (W.can_write writer.new) }
 {
     let mut buffer = vec![in alloc; 0; PIECE_BYTES]?;
@@ -126,17 +129,19 @@ pub fn run<S, I: Interpret<S>, R: Source, W: Sink>(
     requires can_read { R.can_read reader.old }
     requires can_write { W.can_write writer.old }
     // For any reader and writer: the bytes that came, what was answered of them, and what was written.
-    ensures ran { Ran I.gives state.old state.new (R.remaining reader.old) (R.remaining reader.new)
-        (W.contents writer.old) (W.contents writer.new) result }
+    ensures ran { RanLines I.gives (R.remaining reader.old) (R.remaining reader.new)
+        (record { state = state.old; held = W.contents writer.old })
+        (record { state = state.new; held = W.contents writer.new }) result }
 
     // Where it is known what the reader has, by its lines.
     ensures whole { IfOk result (λ answered. IfSome (R.remaining reader.old) (λ input.
-        Finished I.gives state.old (W.contents writer.old) input answered state.new (W.contents writer.new))) }
+        FinishedLines I.gives input answered (record { state = state.old; held = W.contents writer.old })
+        (record { state = state.new; held = W.contents writer.new }))) }
     ensures too_long { IfErr result (λ fault. fault.cause ≡ ScriptCause.TooLong → IfSome (R.remaining reader.old) (λ input.
         fits (lines_of true input) ≡ false)) }
     ensures prefix { IfErr result (λ fault. IfSome (R.remaining reader.old) (λ input.
-        AnswersFirst I.gives state.old (W.contents writer.old) (asked (lines_of true input)) fault.lines
-        state.new (W.contents writer.new))) }
+        AnswersFirst I.gives input fault (record { state = state.old; held = W.contents writer.old })
+        (record { state = state.new; held = W.contents writer.new }))) }
 
     // Nothing was tried twice: where it ended well the writer may be written again.
     ensures goes_on { OnOk result (W.can_write writer.new) }

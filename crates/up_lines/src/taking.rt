@@ -20,10 +20,11 @@ pub(crate) fn take_byte<S, I: Interpret<S>, W: Sink>(
     byte: u8,
 ) -> Result<(), ScriptCause>
     requires { W.can_write writer.old }
-    ensures ok { OnOk result (Takes I.gives (byte ∷ []) progress.old state.old (W.contents writer.old)
-        progress.new state.new (W.contents writer.new)) }
+    ensures ok { OnOk result (Takes I.gives (byte ∷ []) progress.old (record { state = state.old; held = W.contents writer.old })
+        progress.new (record { state = state.new; held = W.contents writer.new })) }
     ensures err { IfErr result (λ cause. (more : List ℕ) → Stops I.gives cause false (byte ∷ more)
-        progress.old state.old (W.contents writer.old) progress.new state.new (W.contents writer.new)) }
+        progress.old (record { state = state.old; held = W.contents writer.old })
+        progress.new (record { state = state.new; held = W.contents writer.new })) }
     ensures goes_on { OnOk result (W.can_write writer.new) }
 {
     if progress.counted == MOST_LINES {

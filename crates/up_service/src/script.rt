@@ -1,7 +1,7 @@
 //! Scripts: lines that are read, carried out at a desk, and answered.
 ghost use Rattle.std.specs.Prelude.{◌≡◌, IfOk, IfErr, IfSome, OnOk, true, false};
-ghost use Rattle.up_lines.specs.Lines.{lines_of, fits, asked};
-ghost use Rattle.up_lines.specs.Runs.{Ran, Finished, AnswersFirst};
+ghost use Rattle.up_lines.specs.LineRuns.{RanLines, FinishedLines, AnswersFirst};
+ghost use Rattle.up_lines.specs.Lines.{lines_of, fits};
 ghost use Rattle.up_service.specs.LineAnswers.{Lines};
 
 use crate::line_answer::Scripter;
@@ -29,17 +29,19 @@ pub fn run_script<K: Scheme, D: Alter, R: Source, W: Sink>(
     requires can_write { W.can_write writer.old }
 
     // For any reader and writer: the bytes that came, what was answered of them, and what was written.
-    ensures ran { Ran (Lines (K.rules) D.Store) desk.old desk.new (R.remaining reader.old) (R.remaining reader.new)
-        (W.contents writer.old) (W.contents writer.new) result }
+    ensures ran { RanLines (Lines (K.rules) D.Store) (R.remaining reader.old) (R.remaining reader.new)
+        (record { state = desk.old; held = W.contents writer.old })
+        (record { state = desk.new; held = W.contents writer.new }) result }
 
     // Where it is known what the reader has, by its lines.
     ensures whole { IfOk result (λ answered. IfSome (R.remaining reader.old) (λ input.
-        Finished (Lines (K.rules) D.Store) desk.old (W.contents writer.old) input answered desk.new (W.contents writer.new))) }
+        FinishedLines (Lines (K.rules) D.Store) input answered (record { state = desk.old; held = W.contents writer.old })
+        (record { state = desk.new; held = W.contents writer.new }))) }
     ensures too_long { IfErr result (λ fault. fault.cause ≡ ScriptCause.TooLong → IfSome (R.remaining reader.old) (λ input.
         fits (lines_of true input) ≡ false)) }
     ensures prefix { IfErr result (λ fault. IfSome (R.remaining reader.old) (λ input.
-        AnswersFirst (Lines (K.rules) D.Store) desk.old (W.contents writer.old) (asked (lines_of true input)) fault.lines
-        desk.new (W.contents writer.new))) }
+        AnswersFirst (Lines (K.rules) D.Store) input fault (record { state = desk.old; held = W.contents writer.old })
+        (record { state = desk.new; held = W.contents writer.new }))) }
 
     // Nothing was tried twice: where it ended well the writer may be written again.
     ensures goes_on { OnOk result (W.can_write writer.new) }

@@ -1,6 +1,6 @@
 //! Streams of HTTP requests: read, carried out at a desk, and answered.
 ghost use Rattle.std.specs.Prelude.{◌≡◌, IfOk, IfErr, IfSome, OnOk};
-ghost use Rattle.up_http.specs.Serving.{Ran, Finished, AnswersFirst};
+ghost use Rattle.up_http.specs.Serving.{RanRequests, FinishedRequests, AnswersFirst};
 ghost use Rattle.up_service.specs.Responses.{Responses};
 
 use crate::response::Responder;
@@ -32,14 +32,17 @@ pub fn serve_stream<K: Scheme, D: Alter, R: Source, W: Sink>(
     requires can_write { W.can_write writer.old }
 
     // For any reader and writer: the bytes that came, what was answered of them, and what was written.
-    ensures ran { Ran (Responses (K.rules) D.Store at) desk.old desk.new (R.remaining reader.old) (R.remaining reader.new)
-        (W.contents writer.old) (W.contents writer.new) result }
+    ensures ran { RanRequests (Responses (K.rules) D.Store at) (R.remaining reader.old) (R.remaining reader.new)
+        (record { state = desk.old; held = W.contents writer.old })
+        (record { state = desk.new; held = W.contents writer.new }) result }
 
     // Where it is known what the reader has, by its requests.
     ensures whole { IfOk result (λ served. IfSome (R.remaining reader.old) (λ input.
-        Finished (Responses (K.rules) D.Store at) desk.old (W.contents writer.old) input served.requests desk.new (W.contents writer.new))) }
+        FinishedRequests (Responses (K.rules) D.Store at) input served.requests (record { state = desk.old; held = W.contents writer.old })
+        (record { state = desk.new; held = W.contents writer.new }))) }
     ensures prefix { IfErr result (λ fault. IfSome (R.remaining reader.old) (λ input.
-        AnswersFirst (Responses (K.rules) D.Store at) desk.old (W.contents writer.old) input fault desk.new (W.contents writer.new))) }
+        AnswersFirst (Responses (K.rules) D.Store at) input fault (record { state = desk.old; held = W.contents writer.old })
+        (record { state = desk.new; held = W.contents writer.new }))) }
 
     // Nothing was tried twice: where it ended well the writer may be written again.
     ensures goes_on { OnOk result (W.can_write writer.new) }
