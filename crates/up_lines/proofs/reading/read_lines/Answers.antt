@@ -15,10 +15,9 @@ pub loop-most-init : goal.loop-most-init
 loop-most-init g c = ([], Consumes-nil _, fresh g.I.Interpret.gives _ c.args.progress.now c.requires.fresh, refl, grind (arith, common_steps, c.in_ok-buffer.ensures.len), c.requires.can_read, c.requires.can_write)
 
 pub returns-in_err-buffer-clause-ran : goal.returns-in_err-buffer-clause-ran
-returns-in_err-buffer-clause-ran g c = let at = (record { state = c.args.state.now; held = g.W.Sink.contents c.args.writer.now }) in
-    let h = fresh g.I.Interpret.gives at c.args.progress.now c.requires.fresh in
-    ran_stop g.I.Interpret.gives c.from_residual.result _ at at _ _ [] c.args.progress.now.answered c.from_residual.ensures.1 (Consumes-nil _) (omega arith)
-    (stops_memory g.I.Interpret.gives c.args.progress.now c.args.progress.now [] at refl at [] h)
+returns-in_err-buffer-clause-ran g c =
+    ran_stop g.I.Interpret.gives c.from_residual.result _ _ _ _ _ [] c.args.progress.now.answered c.from_residual.ensures.1 (Consumes-nil _) (omega arith)
+    (stops_memory g.I.Interpret.gives c.args.progress.now c.args.progress.now [] _ refl _ [] (fresh g.I.Interpret.gives _ c.args.progress.now c.requires.fresh))
 
 -- the buffer keeps its length
 kept : (new old : List ℕ) (len : ℕ) → length new ≡ length old → length old ≡ len → length new ≡ len
