@@ -20,7 +20,7 @@ LIMIT = 300
 TRIED = [("file_cases.py",), ("fuzz.py", "1", "50"), ("fuzz.py", "51", "50"), ("http_fleet.py",), ("fuzz_http.py", "1", "50"),
          ("fuzz_http.py", "51", "50"), ("http_cases.py",), ("proxy_cases.py",), ("each_line.py",), ("tables.py",)]
 # what operators and integrators use
-TRIED += [("copy_cases.py", "2"), ("primary_cases.py",), ("operator_cases.py",)]
+TRIED += [("copy_cases.py", "2"), ("primary_cases.py",), ("operator_cases.py",), ("scale_cases.py",)]
 # every so manieth call of a kind
 SWEPT = {"memory": "997", "disk": "31", "http": "199"}
 

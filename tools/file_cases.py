@@ -63,11 +63,10 @@ def modes(program, own):
     path.write_bytes(b"S")
     told = trials.run(program, path, DAY[:1])
     yield "a file of one byte is refused, and stays", told == (3, b"", trials.NO_DATABASE) and path.read_bytes() == b"S"
-    # the log's name has four bytes more, and a file system takes 255
+    # a journal's name has eight bytes more, and a file system takes 255
     there = sorted(os.listdir(own))
-    told = trials.run(program, own / (252 * "n"), DAY[:1])
-    yield "a name too long for its log is refused, and no file is left", told == (3, b"", trials.NO_DATABASE) and sorted(os.listdir(own)) == there
-    # a journal of SQLite's is looked for too, whose name has eight bytes more
+    told = trials.run(program, own / (248 * "n"), DAY[:1])
+    yield "a name too long for its journal is refused, and no file is left", told == (3, b"", trials.NO_DATABASE) and sorted(os.listdir(own)) == there
     yield "the longest that fits is taken", trials.printed(program, own / (247 * "n"), DAY[:1]) == ["done"]
 
 

@@ -200,7 +200,7 @@ def campaign_rows(campaigns):
 def file_rows(files, now):
     for it in files:
         left = it["expires"] - now
-        state = ("bad", "expired %s ago" % span(left)) if left <= 0 else ("soon" if 4 * left < it["life"] else "well", "in %s" % span(left))
+        state = ("bad", "expired %s ago" % span(left)) if left <= 0 else ("soon" if 4 * left < it["life"] else "well", span(left))
         mark = '<span class="tag %s">%s</span>' % state
         yield "<code>%s</code>" % it["file"], it["version"], date(it["expires"]), mark, ("<code>%s</code>" % it["by"] if state[0] != "well" else "")
 

@@ -8,6 +8,7 @@ are known beforehand. Clients that hold the connection are tried all at once, be
 those that send or take a byte now and then, the program's clock is made to go thirty times as fast, which needs a C compiler.
 `whole` tries these alone, by the clock as it is, which takes six minutes.
 """
+import calendar
 import contextlib
 import http.client
 import json
@@ -258,6 +259,93 @@ def second_program(program, path):
         return refused and told(running, NO_FILE) == OPEN and ended(running)
 
 
+# ---- what no contract says: where it listens, when it reads the clock, and when it answers
+
+
+def other_addresses():
+    """Addresses of this machine other than 127.0.0.1: another of the same network, that of the name of the machine, and those by which
+    it would send to others, for which nothing is sent."""
+    found = {"127.0.0.2", "::1"}
+    with contextlib.suppress(OSError):
+        found.add(socket.gethostbyname(socket.gethostname()))
+    for family, other in ((socket.AF_INET, "192.0.2.1"), (socket.AF_INET6, "2001:db8::1")):
+        with contextlib.suppress(OSError), socket.socket(family, socket.SOCK_DGRAM) as asked:
+            asked.connect((other, 9))
+            found.add(asked.getsockname()[0])
+    return sorted(found - {"127.0.0.1"})
+
+
+def accepts(address, port):
+    """Whether a connection to this address and port is accepted."""
+    with contextlib.suppress(OSError), socket.create_connection((address, port), timeout=PATIENCE):
+        return True
+    return False
+
+
+def listed_as_listening(port):
+    """The addresses at which the kernel lists this port as listening, as it writes them."""
+    found = []
+    for file in map(Path, ("/proc/net/tcp", "/proc/net/tcp6")):
+        rows = [line.split() for line in file.read_text(encoding="ascii").splitlines()[1:]] if file.exists() else []
+        found += [row[1].split(":")[0] for row in rows if row[3] == "0A" and int(row[1].split(":")[1], 16) == port]
+    return found
+
+
+def loopback_alone(program, path):
+    """It listens on 127.0.0.1 alone: the kernel lists no other address, and a connection to another one of the machine is refused."""
+    with served(program, path, 1) as running:
+        well = not [it for it in other_addresses() if accepts(it, running.port)]
+        if Path("/proc/net/tcp").exists():
+            # (an address of the kernel's list is a number in the machine's own order of bytes)
+            well = well and listed_as_listening(running.port) == ["%08X" % struct.unpack("=I", socket.inet_aton("127.0.0.1"))]
+        return well and told(running, NO_FILE) == OPEN and ended(running)
+
+
+def next_manifest(counter):
+    """The body of the small Primary's manifest of this counter."""
+    given = json.loads(GIVEN)
+    given["counter"] = given["reports"][0]["counter"] = counter
+    return primary(None, "build", given=json.dumps(given).encode())[1]
+
+
+def delivered(client, body):
+    """The moment at which a manifest was answered on this connection, by the reply's Timestamp, which expires seven days later."""
+    client.sendall(POST % len(body) + body)
+    came = http.client.HTTPResponse(client)
+    came.begin()
+    expires = json.loads(came.read())["timestamp"]["signed"]["expires"]
+    return calendar.timegm(time.strptime(expires, "%Y-%m-%dT%H:%M:%SZ")) - 7 * 86400
+
+
+def clock_once(program, path):
+    """The clock is read once a connection: two manifests on one of them, more than a second apart, have one moment, and one on the next
+    connection has a later one."""
+    begun = int(time.time())
+    with served(program, path, 2) as running:
+        with connected(running) as first:
+            moments = [delivered(first, next_manifest(2))]
+            time.sleep(1.2)
+            moments.append(delivered(first, next_manifest(3)))
+        with connected(running) as second:
+            moments.append(delivered(second, next_manifest(4)))
+        well = ended(running)
+    with trials.read(path) as db:
+        kept = [row[0] for row in db.execute("SELECT moment FROM kept WHERE version > 1 ORDER BY version")]
+    return well and kept == moments and begun <= moments[0] == moments[1] < moments[2] <= time.time()
+
+
+def once_whole(program, path):
+    """Each request is answered as soon as it is whole, while the next one is still cut."""
+    half, silence = len(MANIFEST) // 2, 1
+    with served(program, path, 1) as running, connected(running, SILENCE // 2) as client:
+        client.sendall(NO_FILE + POST % len(MANIFEST) + MANIFEST[:half])
+        well = client.recv(len(OPEN), socket.MSG_WAITALL) == OPEN and not select.select([client], [], [], silence)[0]
+        client.sendall(MANIFEST[half:] + NO_FILE[:1])
+        well = well and client.recv(len(KEPT), socket.MSG_WAITALL) == KEPT and not select.select([client], [], [], silence)[0]
+        client.sendall(NO_FILE[1:])
+        return well and client.recv(len(OPEN), socket.MSG_WAITALL) == OPEN
+
+
 # ---- clients that hold the connection
 
 OTHERS = 3
@@ -422,7 +510,7 @@ def exchanges(program, path):
 
 
 CLIENTS = [library, before_founding, half_closed, silent, held_open, unread, behind_the_last, half_a_head, half_a_body, reset,
-           gone, hundredth, byte_by_byte, no_listener, second_program, small_primary]
+           gone, hundredth, byte_by_byte, no_listener, second_program, small_primary, loopback_alone, clock_once, once_whole]
 
 
 def goes_well(case, *given):

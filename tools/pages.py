@@ -4,10 +4,12 @@ Primary's page. Tests are functions, or sections of the rows that a crate or a t
 public call of the program's libraries is named by the page of proofs, each refusal and each message of the program by the page
 for operators.
 
-    pages.py        tells what isn't there
+    pages.py          tells what isn't there
+    pages.py write    writes, for each promise of the page of proofs, the files of its contract; then the same
 """
 import re
 import sys
+import textwrap
 from pathlib import Path
 
 TOP = Path(__file__).resolve().parent.parent
@@ -93,6 +95,86 @@ def promises():
             yield "%s: %s" % (page, name), any(words <= there[label] for label in labels.split(", "))
 
 
+# ---- the files of contracts
+
+BULLET = re.compile(r"^- \*\*.*?(?=^- \*\*|^## |\Z)", re.MULTILINE | re.DOTALL)
+CONTRACT = re.compile(r"^  \*Contract\*.*?\n(?=  \*|- |\n|#|\Z)", re.MULTILINE | re.DOTALL)
+FILES = re.compile(r"^  \*Files?\*:.*?\n(?=  \*|- |\n|#|\Z)", re.MULTILINE | re.DOTALL)
+
+
+def crates_in(text):
+    return [name for name in re.findall(r"`(up_\w+|uptane_desk)`", text) if not re.search(r"_tests$|^up_test", name)]
+
+
+def sources(crates):
+    return {path: path.read_text(encoding="utf-8") for crate in crates for path in sorted((TOP / "crates" / crate / "src").glob("**/*.rt"))}
+
+
+def declaring(name, code):
+    """The files that declare a function or a type, `Type::function` where both stand in one; else the module of that name."""
+    *within, last = name.split("::")
+    kinds = r"\b(?:fn|struct|enum|trait) %s\b" % last
+    owner = r"\b(?:impl|struct|enum|trait)\b[^\n{;]*\b%s\b" % within[0] if within else ""
+    there = [path for path, text in code.items() if re.search(kinds, text) and re.search(owner, text)]
+    return there or [path for path in code if path.stem == name]
+
+
+def contract_files(contract, code):
+    """The files in which a contract's names are declared. One that several files have is that of a file which another of the names
+    has alone, if there is one; a clause's name is that of the files which have such a clause, where there is no other."""
+    names = [name for name in re.findall(r"`([^`]+)`", re.sub(r"\([^)]*\)", "", contract)) if re.fullmatch(r"[\w:]+", name)]
+    found = {name: declaring(name, code) for name in names}
+    alone = {paths[0] for paths in found.values() if len(paths) == 1}
+    made = set(alone)
+    for name, paths in found.items():
+        made |= set(paths) & alone if set(paths) & alone and not name.endswith("copy") else set(paths)
+    return sorted(made or {path for path, text in code.items() for name in names if re.search(r"\bensures %s\b" % name, text)})
+
+
+def files_of(bullet, crates):
+    """The line of a promise that names the files of its contract."""
+    contract = CONTRACT.search(bullet)
+    for tried in (crates, crates_in(bullet[: contract.start()])):
+        paths = contract_files(contract.group(0), sources(tried))
+        if paths:
+            break
+    names = ["`%s`" % (path.name if tried == crates and len(crates) == 1 else path.relative_to(TOP / "crates")) for path in paths]
+    line = "*File%s*: %s." % ("s" * (len(names) > 1), ", ".join(names))
+    return textwrap.fill(line, 100, initial_indent="  ", subsequent_indent="  ", break_on_hyphens=False) + "\n" if names else ""
+
+
+def with_files(text):
+    """The page of proofs with these lines. A contract that is `the same` as the one before stands in the same files."""
+    def named(crates):
+        last = ""
+
+        def replaced(found):
+            nonlocal last
+            bullet = FILES.sub("", found.group(0))
+            contract = CONTRACT.search(bullet)
+            if contract and not re.search(r"\bthe same(?: \([^)]*\))?\.\s*$", contract.group(0)):
+                last = files_of(bullet, crates)
+            return CONTRACT.sub(lambda it: it.group(0) + last, bullet, count=1)
+
+        return replaced
+
+    made = re.split(r"(?m)^(?=## )", text)
+    for at, part in enumerate(made):
+        head = re.search(r"^Crates? .*?(?=\n\n)", part, re.MULTILINE | re.DOTALL)
+        if head:
+            made[at] = BULLET.sub(named(crates_in(head.group(0).split(".")[0])), part)
+    return "".join(made)
+
+
+def located():
+    """Whether each promise of the page of proofs names the files of its contract."""
+    page = (TOP / "docs" / "PROOFS.md").read_text(encoding="utf-8")
+    here, wanted = (BULLET.findall(text) for text in (page, with_files(page)))
+    for bullet, other in zip(here, wanted, strict=True):
+        named = not CONTRACT.search(other) or FILES.search(other)
+        yield "docs/PROOFS.md: the files of: %s" % " ".join(bullet.split("**")[1].split()), bullet == other and bool(named)
+
+
 def calls():
     """The public calls of the program's libraries, and whether the page of proofs names them."""
     proofs = (TOP / "docs" / "PROOFS.md").read_text(encoding="utf-8")
@@ -141,13 +223,16 @@ def messages():
 
 def cases():
     """Each of the names that lead nowhere, and what the pages show."""
-    found = [*links(), *files(), *promises(), *calls(), *refusals(), *messages()]
+    found = [*links(), *files(), *promises(), *located(), *calls(), *refusals(), *messages()]
     yield "%d links and names of the pages" % len(found), all(well for _, well in found)
     yield from ((name, well) for name, well in found if not well)
     yield from primary()
 
 
 if __name__ == "__main__":
+    if sys.argv[1:] == ["write"]:
+        proofs = TOP / "docs" / "PROOFS.md"
+        proofs.write_text(with_files(proofs.read_text(encoding="utf-8")), encoding="utf-8")
     other = [name for name, well in cases() if not well]
     print("\n".join(other) or "nothing is missing")
     sys.exit(bool(other))

@@ -43,6 +43,19 @@ def words(program):
         yield "serve over " + path, answers(program, ["serve", path, "80", "1"], b"", 3, b"", NO_DATABASE)
 
 
+def names(program):
+    """Names of files at their limit: a journal's has eight bytes more, and a file system takes 255."""
+    with tempfile.TemporaryDirectory() as folder:
+        for length in (248, 251, 252, 255, 256):
+            path = str(Path(folder) / (length * "n"))
+            yield "run over a name of %d bytes" % length, answers(program, ["run", path], b"nope\n", 3, b"", NO_DATABASE)
+            yield "serve over a name of %d bytes" % length, answers(program, ["serve", path, "80", "1"], b"", 3, b"", NO_DATABASE)
+        yield "and no file is left", os.listdir(folder) == []
+        longest = 247 * "n"
+        yield "run over the longest name", answers(program, ["run", str(Path(folder) / longest)], b"nope\n", 0, NOT_JSON, b"")
+        yield "and it is there", longest in os.listdir(folder)
+
+
 def scripts(program):
     yield "a script without lines", answers(program, RUN, b"\n\n", 0, b"", b"")
     yield "a refused line", answers(program, RUN, b"nope\n", 0, NOT_JSON, b"")
@@ -98,5 +111,6 @@ def digests(program):
 def cases(program):
     """Each case with whether the program does as the page says."""
     yield from words(program)
+    yield from names(program)
     yield from scripts(program)
     yield from digests(program)

@@ -10,7 +10,7 @@ from pathlib import Path
 
 sys.dont_write_bytecode = True
 from edits import lock
-from edits.check import is_shown, refusals
+from edits.check import is_of, is_shown, refusals
 from edits.edit import edits_in, functions_below, groups_of
 from edits.functions import Function, functions_in
 from edits.hashes import hashes
@@ -207,6 +207,11 @@ class Hashes(OnATree):
         self.turn("crates/up/src/lib.rt", "2", "2 + 0")
         self.assertEqual(now(), ["up"])
 
+    def test_the_rows_that_an_edit_names_are_not_read(self):
+        now = self.changed()
+        self.turn("crates/low/refused/another-least.edit", "LEAST + 1;\n", "LEAST + 1;\nrows: rows are set\n")
+        self.assertEqual(now(), [])
+
     def test_owed_names_what_the_lock_lacks(self):
         lock.write(crates_here(), hashes(crates_here(), ["low", "up"]))
         self.assertEqual(self.tool("--owed"), (0, [], ""))
@@ -238,17 +243,27 @@ class Texts(OnATree):
         text = b"""
         impl<D: Fn(u8) -> u8> crate::held::Held<'_, D> where D: Copy { fn first() {} const fn second() {} }
         impl<T> From<Vec<T>> for Other { fn third() {} }
+        impl<K: Scheme, D> a::Interpret<b::Desk<K, D>> for Scripter { fn fourth() {} }
+        impl<'a> Shown for &'a [u8] { fn fifth() {} }
+        impl From<&'static str> for (u8, Held) { fn sixth() {} }
+        trait Counted { fn none(); fn seventh() {} }
         fn alone() {}
         """
-        owners = {it.name: it.owner for it in functions_in(text)}
-        self.assertEqual(owners, {"first": "Held", "second": "Held", "third": "Other", "alone": None})
+        owners = {it.name: (it.owner, it.is_own) for it in functions_in(text)}
+        own = {"first": ("Held", True), "second": ("Held", True)}
+        others = {"third": "OtherFromVec", "fourth": "ScripterInterpretDesk", "fifth": "RefSliceU8Shown", "sixth": "Tuple2U8HeldFromRefStr"}
+        others |= {"seventh": "Counted", "alone": None}
+        self.assertEqual(owners, own | {name: (owner, False) for name, owner in others.items()})
 
-    def test_an_owner_is_told_where_one_file_alone_has_its_method(self):
-        self.write("crates/low/src/more.rt", "impl Held { fn one() {} fn two() {} }\n")
-        self.write("crates/low/src/other.rt", "impl Held { fn two() {} }\n")
-        found = functions_below("crates/low")
-        self.assertEqual([(it.name, it.owner) for it in found["src/more.rt"]], [("one", "Held"), ("two", None)])
-        self.assertEqual([(it.name, it.owner) for it in found["src/other.rt"]], [("two", None)])
+    def test_a_method_is_named_by_the_module_of_its_type(self):
+        self.write("crates/low/src/held.rt", "pub struct Held;\nimpl Held { fn two() {} }\n")
+        self.write("crates/low/src/more.rt", "impl Held { fn one() {} fn two() {} }\nimpl Shown for Held { fn one() {} }\nfn three() {}\n")
+        self.write("crates/low/src/deep/other.rt", "enum Held { A }\nimpl Held { fn two() {} }\n")
+        modules = {path: [it.modules for it in found] for path, found in functions_below("crates/low").items()}
+        self.assertEqual(modules["src/held.rt"], [(("held",),)])
+        both = (("deep", "other"), ("held",))
+        self.assertEqual([tuple(sorted(it)) for it in modules["src/more.rt"]], [both, both, (("more",),), (("more",),)])
+        self.assertEqual(modules["src/deep/other.rt"], [(("deep", "other"),)])
 
     def test_edits_of_something_else_than_one_body_are_bad(self):
         texts = {
@@ -264,6 +279,29 @@ class Texts(OnATree):
             self.write(f"crates/low/refused/{name}.edit", text)
         bad = [it.label for it in edits_in("low", "crates/low") if it.why]
         self.assertEqual(bad, [f"low/{name}" for name in sorted(texts)])
+
+    def test_an_edit_of_a_text_of_sql_names_rows(self):
+        asked = 'pub fn asked() -> &\'static str {\n    let held = "SELECT a"; "UPDATE t SET a = 1 WHERE b = 2"\n}\npub fn named() -> &\'static str {\n    "a SELECT"\n}\n'
+        self.write("crates/low/src/asked.rt", asked)
+        self.write("crates/low_tests/stdin", "\n# rows are set\nset 1 => done\n")
+        of_text = edit("WHERE b = 2", "WHERE a = 2", "src/asked.rt")
+        texts = {
+            "no-rows": (of_text, True, "it turns a text of SQL alone"),
+            "other-rows": (of_text + "rows: rows are read\n", True, "it names the rows 'rows are read'"),
+            "shown": (of_text + "rows: rows are set\n", True, None),
+            "two-texts": (of_text + 'old: "SELECT a"\nnew: "SELECT b"\nrows: rows are set\n', True, None),
+            "text-and-code": (of_text + "old: let held\nnew: let mut held\n", False, None),
+            "another-text": (edit('"a SELECT"', '"b SELECT"', "src/asked.rt"), False, None),
+            "another-begins": (edit('"a SELECT"', '"SELECT"', "src/asked.rt"), False, None),
+        }
+        for name, (text, _, _) in texts.items():
+            self.write(f"crates/low/refused/{name}.edit", text)
+        found = {it.label.partition("/")[2]: it for it in edits_in("low", "crates/low")}
+        for name, (_, is_of_text, why) in texts.items():
+            with self.subTest(name):
+                self.assertEqual((found[name].is_of_text, (found[name].why or "")[: len(why or "")]), (is_of_text, why or ""))
+                self.assertEqual(found[name].why is None, why is None)
+        self.assertEqual(found["shown"].rows, ["rows are set"])
 
     def test_groups_have_different_functions(self):
         for name, body in (("less", "b < a"), ("more", "b > a"), ("always", "true")):
@@ -302,11 +340,44 @@ class Texts(OnATree):
         self.assertTrue(is_shown("src/counts.rt", placed, *found[1][:2]))
         self.assertTrue(is_shown("src/counts.rt", reaches._replace(name="kept"), *found[2][:2]))
         # a method of a type that another file has
-        told = reaches._replace(name="told", owner="Held")
+        told = reaches._replace(name="told", owner="Held", is_own=True, modules=(("held",),))
         self.assertTrue(is_shown("src/counts.rt", told, *found[3][:2]))
+        self.assertFalse(is_shown("src/counts.rt", told._replace(modules=(("counts",),)), *found[3][:2]))
         self.assertFalse(is_shown("src/counts.rt", told._replace(owner=None), *found[3][:2]))
         self.assertFalse(is_shown("src/counts.rt", told._replace(owner="Other"), *found[3][:2]))
         self.assertFalse(is_shown("src/counts.rt", told._replace(name="kept"), *found[3][:2]))
+
+    def test_a_function_is_told_by_its_whole_path(self):
+        # (a module and a function of one name, and a goal of another function of that module, placed where a helper's lines are)
+        response = Function("response", (10, 20), 0, 0, None, False)
+        called = response._replace(name="called_response", lines=(22, 30))
+        place = [("src/response.rt", 15)]
+        self.assertTrue(is_shown("src/response.rt", response, "up::response::response", place))
+        self.assertFalse(is_shown("src/response.rt", response, "up::response::called_response", place))
+        self.assertFalse(is_shown("src/response.rt", called, "up::response::response", [("src/response.rt", 25)]))
+        # names that hold it elsewhere than at the end: an outer module, and a method, of another function
+        for name in ("up::response::called::Held::shown", "up::response::fn::called_response::response", "up::other::response"):
+            self.assertFalse(is_shown("src/response.rt", response, name, place), name)
+        # refused terms, which have no place
+        root = response._replace(name="response")
+        self.assertTrue(is_of("up::response", "src/lib.rt", root))
+        self.assertFalse(is_of("up::response::called_response", "src/lib.rt", root))
+        self.assertFalse(is_of("up::response::Held::response", "src/response.rt", response))
+        # what stands in it
+        self.assertTrue(is_shown("src/response.rt", response, "up::response::fn::response::any", place))
+        self.assertTrue(is_shown("src/response.rt", response, "up::response::fn::response::any+FnMut::call_mut", place))
+        self.assertFalse(is_shown("src/response.rt", response, "up::response::fn::response", place))
+
+    def test_a_method_is_told_by_its_type_and_trait(self):
+        compared = Function("cmp", (10, 20), 0, 0, None, False, "IdentOrd")
+        self.assertTrue(is_of("up::compared::IdentOrd::cmp", "src/compared.rt", compared))
+        for name in ("up::compared::NoteOrd::cmp", "up::compared::Ident::cmp", "up::ident::IdentOrd::cmp", "up::compared::cmp"):
+            self.assertFalse(is_of(name, "src/compared.rt", compared), name)
+        held = Function("any_is", (10, 20), 0, 0, None, False, "Held", True, (("held",),))
+        self.assertTrue(is_of("up::held::fn::Held::any_is::any", "src/more.rt", held))
+        self.assertTrue(is_of("up::more::fn::Held::any_is::inner", "src/more.rt", held))
+        self.assertFalse(is_of("up::held::fn::any_is::any", "src/more.rt", held))
+        self.assertFalse(is_of("up::more::Held::any_is", "src/more.rt", held))
 
 
 class Verdicts(OnATree):

@@ -9,7 +9,7 @@ import threading
 from pathlib import Path
 
 from .edit import functions_below, texts_with
-from .functions import with_bodies
+from .functions import module_of, with_bodies
 from .kit import rt, rtlib
 
 # A note that places a goal which stays open: its file, its line and its name.
@@ -61,13 +61,13 @@ class Bench:
         the others. Returns why no edit of them can be judged on it, or None."""
         os.mkdir(self.kept)
         self._leave_out_all_but(functions)
-        modules = sorted({"::".join(_module(path)) for path, _ in functions})
+        modules = sorted({"::".join(module_of(path)) for path, _ in functions})
         # (the crate's root has no name, so it is checked whole)
         self.only = [word for it in modules for word in ("--only", it)] if all(modules) else []
         said = self.check({}, self.kept, jobs, "as it stands, without the other bodies")
         lines, refused = [it for it in map(FUNCTION.fullmatch, said.lines) if it], [*refusals(said.lines)]
         for path, function in functions:
-            mine = [it[2] for it in lines if _is_of(it[1], path, function)]
+            mine = [it[2] for it in lines if is_of(it[1], path, function)]
             is_refused = any(is_shown(path, function, name, places) for name, places, _ in refused)
             if not mine or is_refused or not all(it.startswith("proved") or WAITS.fullmatch(it) for it in mine):
                 return f"{path}, {function.name} is not proved as it stands: {said.why or ' | '.join(mine)[:200] or 'no line tells of it'}"
@@ -106,7 +106,8 @@ class Bench:
         for it in group:
             shown = next((why for name, places, why in refused if is_shown(it.path, it.function, name, places)), None)
             if shown:
-                known.append((True, f"refused {it.label}: {shown[:160]}"))
+                beside = f" (a text of SQL alone, beside the rows of '{it.rows[0]}')" if it.is_of_text else ""
+                known.append((True, f"refused {it.label}: {shown[:160]}{beside}"))
             elif len(group) == 1:
                 known.append((False, _failure(it, said)))
             else:
@@ -182,22 +183,18 @@ def is_shown(path, function, name, places):
     """Returns whether what rattle names so, with open goals at these places or else a refused term, is this function of this file."""
     first, last = function.lines
     is_inside = any(file == path and first <= line <= last for file, line in places)
-    return is_inside and function.name in name.split("::") or not places and _is_of(name, path, function)
+    return (is_inside or not places) and is_of(name, path, function)
 
 
-def _is_of(name, path, function):
-    """Returns whether what rattle names so is this function or stands in it: CRATE::MODULE::NAME, or TYPE::NAME behind the module, which for
-    a method of a type that another file has is that file's."""
-    module, words = _module(path), name.split("::")[1:]
-    here, rest = words[: len(module)], words[len(module) :]
-    if function.owner and words[-2:] == [function.owner, function.name]:
-        return True
-    return here == module and (rest[:1] == [function.name] or rest[1:2] == [function.name] and not rest[0].islower())
-
-
-def _module(path):
-    """Returns the names of the module that this file is, none of the crate's root."""
-    return [it for it in re.sub(r"^src/|(/mod)?\.rt$", "", path).split("/") if it not in ("lib", "main")]
+def is_of(name, path, function):
+    """Returns whether what rattle names so is this function, told by its whole path CRATE::MODULE::NAME or CRATE::MODULE::OWNER::NAME, or stands in
+    it: CRATE::MODULE::fn::NAME::PART, as a closure does."""
+    words, here = name.split("::")[1:], module_of(path)
+    own = [function.owner, function.name] if function.owner else [function.name]
+    modules = function.modules or (here,)
+    # (a closure in a method is named by its type's module too, and a function there by that of its file)
+    inside = [[*it, "fn", *own] for it in (*modules, here)]
+    return words in [[*it, *own] for it in modules] or any(words[: len(it)] == it and len(words) > len(it) for it in inside)
 
 
 def _failure(edit, said):

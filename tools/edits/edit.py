@@ -3,23 +3,30 @@ import collections
 import re
 from pathlib import Path
 
-from .functions import functions_in, functions_of, tokens_of, with_bodies
+from .functions import functions_in, functions_of, module_of, tokens_of, types_of, with_bodies
 from .kit import rt
+from .sql import rows_named, turns_a_text, unshown
 
 NAME = re.compile(r"[A-Za-z0-9_-][A-Za-z0-9_.-]*\.edit")
 
 
 class Edit:
-    """An edit of a crate: the file and the function that it turns and the body that it makes, or in `why` the reason that it is none."""
+    """An edit of a crate: the file and the function that it turns, the body that it makes, and whether it turns a text of SQL alone; or in `why` the
+    reason that it is none."""
 
     def __init__(self, crate, folder, file, functions):
         self.label = f"{crate}/{Path(file).stem}"
         self.path = self.function = self.body = texts = None
+        self.is_of_text, self.rows = False, []
         self.why = "its name is not of letters, digits, _, - and . with .edit at the end"
         if NAME.fullmatch(Path(file).name):
             texts, self.why = rt.read_edit(file, folder)
         if texts:
             self.why = self._read(folder, texts, functions)
+        if self.function and not self.why:
+            self.is_of_text = turns_a_text(Path(folder, self.path).read_bytes()[self.function.opens : self.function.closes], self.body)
+        if self.is_of_text:
+            self.rows, self.why = rows_named(file), unshown(folder, file)
 
     def _read(self, folder, texts, functions):
         self.path = min(texts)
@@ -44,12 +51,16 @@ class Edit:
 
 def functions_below(folder):
     """Returns the functions of each file in src/ of a crate's folder, by the file's path in it, or nothing where one is no text of Rattle.
-    A method's owner is told only where no method of another file has that name and owner, so that the two together say which it is."""
+    Each has the modules that it may stand in: of a type's own method those that declare the type, which rattle names it by; its file's else."""
     files = sorted(Path(folder, "src").rglob("*.rt"))
-    tokens = tokens_of(files)
-    found = {str(file.relative_to(folder)): functions_of(rows) for file, rows in zip(files, tokens or [])}
-    times = collections.Counter(method for here in found.values() for method in {(it.owner, it.name) for it in here})
-    return {path: [it if times[it.owner, it.name] == 1 else it._replace(owner=None) for it in here] for path, here in found.items()}
+    found = dict(zip([str(it.relative_to(folder)) for it in files], tokens_of(files) or []))
+    declared = {path: types_of(rows) for path, rows in found.items()}
+
+    def modules(path, function):
+        elsewhere = tuple(module_of(it) for it in declared if function.owner in declared[it])
+        return (module_of(path),) if not function.is_own or function.owner in declared[path] else elsewhere
+
+    return {path: [it._replace(modules=modules(path, it)) for it in functions_of(rows)] for path, rows in found.items()}
 
 
 def edit_files(folder):

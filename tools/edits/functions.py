@@ -10,9 +10,11 @@ from .kit import rtlib
 Token = collections.namedtuple("Token", "line start end kind word")
 
 # An outermost function with a body, which lies between the bytes `opens` and `closes`. `lines` are its first and last, `cycle` is the cycle of calls
-# that it is in, or None, `is_read_above` says that a crate above may read its body: that of a `const fn` or of a trait's default, and `owner` is the
-# name of the type in whose `impl` it stands, or None.
-Function = collections.namedtuple("Function", "name lines opens closes cycle is_read_above owner", defaults=[None])
+# that it is in, or None, and `is_read_above` says that a crate above may read its body: that of a `const fn` or of a trait's default. `owner` is the
+# word that rattle puts before its name, or None: the name of its trait or of the type whose own `impl` it stands in; of a trait's `impl`, the names
+# of type and trait in one, as in `RefusalFromRefStr`. `is_own` says that it stands in a type's own `impl`: rattle names it by that type's module.
+# `modules` are the modules that it may stand in, each a tuple of names, or None where they aren't known yet.
+Function = collections.namedtuple("Function", "name lines opens closes cycle is_read_above owner is_own modules", defaults=[None, False, None])
 
 ROW = re.compile(r'(?m)^(\d+) (\d+) (\d+) (\w+) "(.*)"$')
 CYCLE = re.compile(r"# \[ cycle \( (\w+) \)")
@@ -41,7 +43,7 @@ def functions_in(text):
 def functions_of(tokens):
     """Returns the functions among a text's tokens. What macros hold is passed over, and stays as it is."""
     code, found, at, start, trait_ends = [it for it in tokens if it.kind == "Code"], [], 0, 0, 0
-    owner, owner_ends = None, 0
+    owner, is_own, owner_ends = None, False, 0
     words = [it.word for it in code]
     while at < len(words):
         if words[at] == "fn" and re.fullmatch(r"\w+", "".join(words[at + 1 : at + 2])):
@@ -50,8 +52,8 @@ def functions_of(tokens):
             if closes < len(words):
                 cycle = CYCLE.search(" ".join(words[start:at]))
                 lines, is_read = (code[start].line, code[closes].line), at < trait_ends or "const" in words[start:at]
-                mine = owner if at < owner_ends else None
-                found.append(Function(name, lines, code[opens].end, code[closes].start, cycle and cycle[1], is_read, mine))
+                mine = (owner, is_own) if at < owner_ends else (None, False)
+                found.append(Function(name, lines, code[opens].end, code[closes].start, cycle and cycle[1], is_read, *mine))
                 opens = closes
             at = start = opens + 1
         elif words[at] == "!" and at and re.fullmatch(r"\w+", words[at - 1]):
@@ -61,25 +63,65 @@ def functions_of(tokens):
             if words[at] == "trait":
                 opens = _next(words, at, "{;")
                 trait_ends = max(trait_ends, _closing(words, opens) if words[opens : opens + 1] == ["{"] else 0)
+                owner, is_own, owner_ends = "".join(words[at + 1 : at + 2]), False, trait_ends
             if words[at] == "impl" and at >= owner_ends:
                 opens = _next(words, at, "{;")
-                owner, owner_ends = _owner(words[at + 1 : opens]), _closing(words, opens)
+                (owner, is_own), owner_ends = owner_of(words[at + 1 : opens]), _closing(words, opens)
             at += 1
             start = at if words[at - 1] in "{};" else start
     return found
 
 
-def _owner(words):
-    """Returns the name of the type of an `impl`, from the words before its brace, or None where it is no path."""
-    depth, found = 0, None
-    for before, word in zip(["", *words], words):
-        depth += (word in "<([") - (word in ">)]" and before != "-")
+def module_of(path):
+    """Returns the names of the module that this file is, none of the crate's root."""
+    return tuple(it for it in re.sub(r"^src/|(/mod)?\.rt$", "", path).split("/") if it not in ("lib", "main"))
+
+
+def types_of(tokens):
+    """Returns the names of the types that a text's tokens declare."""
+    words = [it.word for it in tokens if it.kind == "Code"]
+    return {name for word, name in zip(words, words[1:]) if word in ("struct", "enum", "union", "type")}
+
+
+def owner_of(words):
+    """Returns the word that rattle puts before a name in the `impl` that has these words before its brace, and whether it is a type's own."""
+    parameters, parts, depth = set(), [[]], 0
+    for at, (before, word) in enumerate(zip(["", *words], words)):
+        depth += (word in "<([") - (word in ")]" or word == ">" and before != "-")
+        is_parameter = parts == [[]] and words[0] == "<" and (depth or word == ">")
         if depth == 0 and word == "where":
             break
         if depth == 0 and word == "for":
-            found = None
-        elif depth == 0 and re.fullmatch(r"\w+", word):
-            found = word
+            parts.append([])
+        elif is_parameter and depth == 1 and before in ("<", ",", "const"):
+            parameters.add(word)
+        elif not is_parameter:
+            parts[-1].append(word)
+    return "".join(_spelled(it, parameters) for it in parts[::-1]), len(parts) == 1
+
+
+def _spelled(words, parameters):
+    """Returns how rattle spells a type or a trait inside a name: its words run together, without paths, lifetimes and parameters."""
+    said = ""
+    for at, (word, after) in enumerate(zip(words, [*words[1:], ""])):
+        if word == "&":
+            said += "Ref"
+        elif word == "[":
+            said += "Slice"
+        elif word == "(":
+            inside = " ".join(words[at + 1 : _closing(words, at)])
+            said += f"Tuple{1 + _commas(inside.split())}"
+        elif re.fullmatch(r"\w+", word) and after != ":" and word not in parameters:
+            said += word[0].upper() + word[1:]
+    return said
+
+
+def _commas(words):
+    """Returns how many commas stand among these words outside parentheses, brackets and angles."""
+    depth, found = 0, 0
+    for word in words:
+        depth += (word in "<([") - (word in ">)]")
+        found += word == "," and depth == 0
     return found
 
 

@@ -64,13 +64,14 @@ fn over_file(rt: &HostRuntime, path: &str, work: Work) -> ExitCode {
     }
 }
 
-/// Whether a database file and its log may stand at the path; else nothing is made there, and what is there stays. A file of
-/// one byte is left of some other file: SQLite takes it for an empty one, for the sake of a file system that can't lock those.
+/// Whether a database file may stand at the path, and beside it its log and the journal that SQLite looks for, whose name is
+/// the longest; else nothing is made there, and what is there stays. A file of one byte is left of some other file: SQLite
+/// takes it for an empty one, for the sake of a file system that can't lock those.
 fn is_usable(rt: &HostRuntime, path: &str) -> bool {
-    let Ok(log) = format!(in rt.alloc(); "{path}-wal") else {
+    let Ok(journal) = format!(in rt.alloc(); "{path}-journal") else {
         return false;
     };
-    if fs::exists(rt, log.as_str()).is_err() {
+    if fs::exists(rt, journal.as_str()).is_err() {
         return false;
     }
     match fs::metadata(rt, path) {
