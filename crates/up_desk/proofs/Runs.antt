@@ -96,15 +96,15 @@ snoc_ends (b ∷ xs) (d ∷ ys) x y h =
     let tails : xs ++ x ∷ [] ≡ ys ++ y ∷ [] = cc in
     let heads : b ≡ d = cc in
     let rest = snoc_ends xs ys x y tails in
-    (ap₂ (λ z (zs : List _). z ∷ zs) heads rest.0, rest.1)
+    (λ i. heads i ∷ rest.0 i, rest.1)
 
 last_of : {A : Type 0} (zs : List A) → (zs ≡ []) ⊎ ((ys : List A) × (y : A) × (zs ≡ ys ++ y ∷ []))
 last_of [] = inl refl
-last_of (z ∷ zs) = by_rest (last_of zs)
+last_of {A} (z ∷ zs) = by_rest (last_of zs)
   where
-    by_rest : (zs ≡ []) ⊎ ((ys : List _) × (y : _) × (zs ≡ ys ++ y ∷ [])) → (z ∷ zs ≡ []) ⊎ ((ys : List _) × (y : _) × (z ∷ zs ≡ ys ++ y ∷ []))
-    by_rest (inl none) = inr ([], z, ap (λ (l : List _). z ∷ l) none)
-    by_rest (inr (ys, y, is)) = inr (z ∷ ys, y, ap (λ (l : List _). z ∷ l) is)
+    by_rest : (zs ≡ []) ⊎ ((ys : List A) × (y : A) × (zs ≡ ys ++ y ∷ [])) → (z ∷ zs ≡ []) ⊎ ((ys : List A) × (y : A) × (z ∷ zs ≡ ys ++ y ∷ []))
+    by_rest (inl none) = inr ([], z, ap (λ (l : List A). z ∷ l) none)
+    by_rest (inr (ys, y, is)) = inr (z ∷ ys, y, ap (λ (l : List A). z ∷ l) is)
 
 all_split : {A : Type 0} (P : A → Type 0) (ys : List A) (y : A) → AllByRecursion P (ys ++ y ∷ []) → AllByRecursion P ys × P y
 all_split P [] y all = (tt, all.0)
@@ -121,18 +121,19 @@ after_append : (k : Rules) (s : State) (ms ns : List Sent) → after k s (ms ++ 
 after_append k s [] ns = refl
 after_append k s (m ∷ ms) ns = after_append k (meet k s m).next ms ns
 
--- the state after one command, which was lost or not
-met_by : (k : Rules) (s next : State) (m : Sent) (lost : Bool) → m.lost ≡ lost → MatchBool lost (s ≡ next) ((serve k s m.item.at m.item.command).next ≡ next) → (meet k s m).next ≡ next
-met_by k s next m lost is = by_lost lost (ap (λ b. met b) is)
-  where
-    met : Bool → Met
-    met b = if b then record { sent = m; is_repeat = false; answer = None; next = s } else
+-- what a command meets that is told to be lost or not
+abbrev met : Rules → State → Sent → Bool → Met
+met k s m b = if b then record { sent = m; is_repeat = false; answer = None; next = s } else
     let o = serve k s m.item.at m.item.command in
     record { sent = m; is_repeat = is_some (repeat_of k s m.item.at m.item.command); answer = Some o.answer; next = o.next }
 
-    by_lost : (b : Bool) → met m.lost ≡ met b → MatchBool b (s ≡ next) ((serve k s m.item.at m.item.command).next ≡ next) → (met m.lost).next ≡ next
-    by_lost true same h = ap (λ r. r.next) same ∙ h
-    by_lost false same h = ap (λ r. r.next) same ∙ h
+-- the state after one command, which was lost or not
+met_by : (k : Rules) (s next : State) (m : Sent) (lost : Bool) → m.lost ≡ lost → MatchBool lost (s ≡ next) ((serve k s m.item.at m.item.command).next ≡ next) → (meet k s m).next ≡ next
+met_by k s next m lost is = by_lost lost (ap (met k s m) is)
+  where
+    by_lost : (b : Bool) → met k s m m.lost ≡ met k s m b → MatchBool b (s ≡ next) ((serve k s m.item.at m.item.command).next ≡ next) → (met k s m m.lost).next ≡ next
+    by_lost true same h = ap (λ (r : Met). r.next) same ∙ h
+    by_lost false same h = ap (λ (r : Met). r.next) same ∙ h
 
 met_unchanged : (k : Rules) (s : State) (m : Sent) → (serve k s m.item.at m.item.command).next ≡ s → (meet k s m).next ≡ s
 met_unchanged k s m h = met_by k s s m m.lost refl (by_lost m.lost)
@@ -184,10 +185,10 @@ spares_next k old mid new cs c answers a far runs due clean spares = λ s sound 
     let more : sent (cs ++ c ∷ []) (answers ++ a ∷ []) ≡ sent cs answers ++ x ∷ [] = sent_next k cs answers c a due in
     survives_then old mid new (λ trees. (at : State) × ComesTo k s (sent cs answers) at × HoldsState k at trees) (HoldsState k (serve k b.at c.0 c.1).next)
     (λ trees. (at : State) × ComesTo k s (sent (cs ++ c ∷ []) (answers ++ a ∷ [])) at × HoldsState k at trees)
-    (λ now trees (at, (before, rest, m, list, is), holds). (
-      at,
-      (before, rest ++ x ∷ [], m, more ∙ ap (λ (l : List Sent). l ++ x ∷ []) list ∙ append_assoc before (m ∷ rest) (x ∷ []), is),
-      holds,
+    (λ now trees h. (
+      h.0,
+      (h.1.0, h.1.1 ++ x ∷ [], h.1.2, more ∙ ap (λ (l : List Sent). l ++ x ∷ []) h.1.3 ∙ append_assoc h.1.0 (h.1.2 ∷ h.1.1) (x ∷ []), h.1.4),
+      h.2,
     ))
     (λ now trees holds. (
       (serve k b.at c.0 c.1).next,

@@ -2,4 +2,4 @@ use Rattle.std.specs.Io.KnownBytes.{Keeps}
 use Rattle.uptane_desk.proofs.bounded.BoundedWrite.write.Given as goal
 
 abbrev pub invariant-loop : goal.invariant-loop
-invariant-loop g l = Keeps (g.W.Sink.contents l.fn.self.inner) (g.W.Sink.contents l.self.inner)
+invariant-loop g l = Keeps (g.W.Write.contents l.fn.self.inner) (g.W.Write.contents l.self.inner)
