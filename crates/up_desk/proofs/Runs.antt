@@ -14,7 +14,7 @@ use Rattle.up_machine.specs.declared.answer.Answer.{Answer}
 use Rattle.up_machine.specs.declared.answer.Answer.TheVariants.{Refused}
 use Rattle.up_machine.specs.Commands.{is_command}
 use Rattle.up_machine.specs.State.{State}
-use Rattle.up_machine.specs.Machine.{Timed, run}
+use Rattle.up_machine.specs.Machine.{run}
 use Rattle.up_machine.specs.Repeats.{Sent, Met, meet, repeat_of, serve, after, thinned, expected}
 use Rattle.up_machine.specs.Sound.{IsSound}
 use Rattle.up_machine.specs.RepeatLaws.{AreCommands, RepeatsChangeNothing, ServedIsThinned}

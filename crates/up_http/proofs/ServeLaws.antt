@@ -8,7 +8,7 @@ use Rattle.std.proofs.Math.Seq.{take-take, drop-drop, take-add}
 use Rattle.up_http.specs.Requests.{First, Firsts, most_requests, most_request}
 use Rattle.up_http.specs.Feeding.{Waits}
 use Rattle.up_lines.specs.Runs.{At, BreaksOff, HasRead, Run, listed, written}
-use Rattle.up_lines.specs.declared.fault.ScriptCause.TheVariants as cause
+use Rattle.up_lines.specs.declared.fault.ScriptCause.TheVariants as why
 use Rattle.up_http.specs.Serving.{Gives, plain, is_call, calls, cause_of, IsBegun, AreFirst, Tells, Stopped, FinishedRequests, RanRequests, AnswersFirst, most_bytes}
 use Rattle.up_http.specs.Steps.{Sofar, Takes, Stops, Unanswered, Completes, told, fault_at}
 use Rattle.up_http.specs.declared.asked.Next.{Next}
@@ -137,7 +137,12 @@ module _ {S : Type 0} (gives : Gives S) where
   tells_unanswered : (cause : Fault) (next : Next) (before after : At S) (bytes : List ℕ) (ended : Bool) (done : List Next) → Unanswered gives cause next before after → Tells cause bytes ended done
   tells_unanswered Memory next before after bytes ended done broke = tt
   tells_unanswered Write next before after bytes ended done broke = tt
-  tells_unanswered Read next before after bytes ended done (prefix, (text, gave, cut), wrote) = absurd cut
+  tells_unanswered Read next before after bytes ended done broke = absurd broke
+
+  broke_off : (cause : Fault) (next : Next) (before after : At S) → Unanswered gives cause next before after → BreaksOff gives plain (cause_of cause) (Some next) before after
+  broke_off Memory next before after broke = broke
+  broke_off Write next before after broke = broke
+  broke_off Read next before after broke = absurd broke
 
   -- a request that isn't answered whole
   pub stops_next : (cause : Fault) (old new : Progress) (bytes others : List ℕ) (next : Next) (before after : At S) → old.feeder.ended ≡ false
@@ -163,10 +168,10 @@ module _ {S : Type 0} (gives : Gives S) where
             (subst (λ l. Firsts 0 (came ++ (bytes ++ others)) so.done old.feeder.ended l) behind (so.firsts (bytes ++ others))),
         begun,
       )
-      (tells_unanswered cause next before after (came ++ (bytes ++ others)) false so.done broke) called answered broke
+      (tells_unanswered cause next before after (came ++ (bytes ++ others)) false so.done broke) called answered (broke_off cause next before after broke)
 
   -- nothing is handed on
-  breaks_none : (fault : Fault) (now : At S) → (cause_of fault ≡ cause.Write → ⊥) → BreaksOff gives plain (cause_of fault) None now now
+  breaks_none : (fault : Fault) (now : At S) → (cause_of fault ≡ why.Write → ⊥) → BreaksOff gives plain (cause_of fault) None now now
   breaks_none fault now other = ([], (other, refl, refl), Appends-nil now.held)
 
   -- memory was refused before a request was whole
@@ -231,7 +236,7 @@ module _ {S : Type 0} (gives : Gives S) where
       } in
       stopped came old (came ++ []) true (Some next) (fault_at cause new) first before after so
       (old.feeder.rest, subst (λ l. Firsts 0 l so.done false old.feeder.rest) (sym (append-nil came)) (at_end first came old before so goes_on), begun)
-      (tells_unanswered cause next before after (came ++ []) true so.done broke) called answered broke
+      (tells_unanswered cause next before after (came ++ []) true so.done broke) called answered (broke_off cause next before after broke)
 
   -- ---- a run over a reader
 

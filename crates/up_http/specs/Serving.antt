@@ -2,7 +2,7 @@
 use Rattle.std.specs.Prelude.{◌≡◌, ℕ, ◌*◌, ◌<◌, Bool, true, false, ⊤, Option, Some, None, List, [], ◌∷◌, ◌++◌, length, filter, Result}
 use Rattle.up_lines.specs.Runs.{At, AnswersUpTo, Finished, Ran, listed}
 use Rattle.up_lines.specs.declared.fault.ScriptCause.{ScriptCause}
-use Rattle.up_lines.specs.declared.fault.ScriptCause.TheVariants as cause
+use Rattle.up_lines.specs.declared.fault.ScriptCause.TheVariants as why
 use Rattle.up_http.specs.Requests.{First, Firsts, Requests, most_requests, most_request}
 use Rattle.up_http.specs.Feeding.{Waits}
 use Rattle.up_http.specs.declared.asked.What.{What}
@@ -36,9 +36,9 @@ calls nexts = length (filter (λ next. is_call next.what) nexts)
 
 -- what ended a run, as runs over any items have it
 abbrev pub cause_of : Fault → ScriptCause
-cause_of Memory = cause.Memory
-cause_of Read = cause.Read
-cause_of Write = cause.Write
+cause_of Memory = why.Memory
+cause_of Read = why.Read
+cause_of Write = why.Write
 
 -- the request that was begun: whatever follows, it is the next of these bytes
 pub record IsBegun (given : ℕ) (bytes : List ℕ) (ended : Bool) (next : Next) : Type 0 where

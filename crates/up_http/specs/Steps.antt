@@ -4,10 +4,12 @@ use Rattle.std.specs.Io.KnownBytes.{Appends}
 use Rattle.up_lines.specs.Runs.{At, Run, BreaksOff, written}
 use Rattle.up_http.specs.Requests.{Firsts, most_requests, most_request}
 use Rattle.up_http.specs.Feeding.{Waits}
-use Rattle.up_http.specs.Serving.{Gives, plain, calls, cause_of, Stopped, FinishedRequests}
+use Rattle.up_http.specs.Serving.{Gives, plain, calls, Stopped, FinishedRequests}
 use Rattle.up_http.specs.declared.asked.Next.{Next}
 use Rattle.up_http.specs.declared.progress.Progress.{Progress}
 use Rattle.up_http.specs.declared.fault.Fault.{Fault}
+use Rattle.up_http.specs.declared.fault.Fault.TheVariants.{Memory, Read, Write}
+use Rattle.up_lines.specs.declared.fault.ScriptCause.TheVariants as why
 use Rattle.up_http.specs.declared.fault.ServeFault.{ServeFault}
 use Rattle.up_http.specs.declared.served.Served.{Served}
 
@@ -43,9 +45,11 @@ abbrev pub Stops : {S : Type 0} → Gives S → Fault → Bool → List ℕ → 
 Stops {S} gives cause ended bytes old before new after = (first : At S) (came : List ℕ) → Sofar gives first came old before
     → Stopped gives (came ++ bytes) ended (fault_at cause new) first after
 
--- a request isn't answered whole
+-- a request isn't answered whole: without memory nothing of its answer is written, and where the writer failed a part is
 abbrev pub Unanswered : {S : Type 0} → Gives S → Fault → Next → At S → At S → Type 0
-Unanswered gives cause next old new = BreaksOff gives plain (cause_of cause) (Some next) old new
+Unanswered gives Memory next old new = BreaksOff gives plain why.Memory (Some next) old new
+Unanswered gives Write next old new = BreaksOff gives plain why.Write (Some next) old new
+Unanswered gives Read next old new = ⊥
 
 -- a step takes bytes, all of the piece or those up to the end of a request
 abbrev pub Moves : ℕ → List ℕ → Progress → Progress → Type 0
