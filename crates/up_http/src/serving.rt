@@ -80,7 +80,10 @@ fn answer_counted<S, A: Respond<S>, W: Sink>(
     ensures goes_on { OnOk result (W.can_write writer.new) }
 {
     progress.called = count_call(progress.called, &next);
-    answer_next(alloc, responder, state, writer, &next)?;
+    let told = answer_next(alloc, responder, state, writer, &next);
+    // Dropped in one place: a proof goes through the request's drop at each way out.
+    drop(next);
+    told?;
     progress.answered += 1;
     Ok(())
 }
