@@ -19,7 +19,7 @@ returns-in-Ok-clause-ok g c =
 pub returns-in-Err-clause-err : goal.returns-in-Err-clause-err
 returns-in-Err-clause-err g c =
     let ends : Ends c.args.progress.now.feeder (Some c.in-Some.next) c.end.new.self = subst (λ o. Ends c.args.progress.now.feeder o c.end.new.self) c.in-Some.is c.end.ensures in
-    stops_end (g.A.Respond.gives c.args.responder.now) c.in-Err.cause c.args.progress.now _ c.in-Some.next _ _ ends.0 ends.2 ends.3 c.in-Err.ensures.err c.in-Err.ensures.called c.in-Err.ensures.answered
+    stops_end (g.A.Respond.gives c.args.responder.now) c.in-Err.cause c.args.progress.now c.answer_counted.new.progress c.in-Some.next _ _ ends.0 ends.2 ends.3 c.in-Err.ensures.err c.in-Err.ensures.called c.in-Err.ensures.answered
 
 pub answer_counted-requires-clause-asks : goal.answer_counted-requires-clause-asks
 answer_counted-requires-clause-asks g c =
