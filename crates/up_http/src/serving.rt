@@ -2,7 +2,8 @@
 ghost use Rattle.std.specs.Prelude.{◌≡◌, ◌≤◌, ◌<◌, ◌+◌, [], ◌∷◌, ℕ, List, if◌then◌else◌, is_ok, IfOk, IfErr, IfSome, IsTrue, OnOk, false, true, take};
 ghost use Rattle.std.specs.Io.KnownBytes.{Appends};
 ghost use Rattle.up_http.specs.Requests.{asks_running, most_requests};
-ghost use Rattle.up_http.specs.Serving.{Ran, Finished, AnswersFirst, Unanswered, Takes, Stops, Moves, Completes, IsFresh, calls, told};
+ghost use Rattle.up_http.specs.Serving.{RanRequests, FinishedRequests, AnswersFirst, calls};
+ghost use Rattle.up_http.specs.Steps.{Unanswered, Takes, Stops, Moves, Completes, IsFresh, told};
 
 use crate::asked::{Next, Step, What};
 use crate::fault::{Fault, ServeFault};
@@ -11,7 +12,8 @@ use crate::progress::Progress;
 use crate::respond::Respond;
 use crate::served::Served;
 use std::alloc::Global;
-use std::io::{Read, Write};
+use up_lines::sink::Sink;
+use up_lines::source::Source;
 use up_lines::{read_piece, write_whole};
 
 /// The most bytes that are read: so many requests of a head and a body of the greatest sizes.
@@ -21,17 +23,20 @@ const MOST_BYTES: u64 = 27_852_800;
 const PIECE_BYTES: usize = 8_192;
 
 /// Answers a request.
-fn answer_next<S, A: Respond<S>, W: Write>(
+fn answer_next<S, A: Respond<S>, W: Sink>(
     alloc: Global,
     responder: &A,
     state: &mut S,
     writer: &mut W,
     next: &Next,
 ) -> Result<(), Fault>
-    requires { IsTrue (asks_running next.now.what) }
+    requires asks { IsTrue (asks_running next.now.what) }
+    requires can_write { W.can_write writer.old }
     ensures ok { OnOk result ((text : List ℕ) × A.gives responder.now state.old next.now text state.new
         × Appends (W.contents writer.old) (W.contents writer.new) text) }
-    ensures err { IfErr result (λ cause. Unanswered (A.gives responder.now) cause state.old next.now state.new (W.contents writer.old) (W.contents writer.new)) }
+    ensures err { IfErr result (λ cause. Unanswered (A.gives responder.now) cause next.now (record { state = state.old; held = W.contents writer.old })
+        (record { state = state.new; held = W.contents writer.new })) }
+    ensures goes_on { OnOk result (W.can_write writer.new) }
 {
     let text = responder.respond(alloc, state, next)?;
     match write_whole(writer, text.as_slice()) {
@@ -53,7 +58,7 @@ fn count_call(called: u32, next: &Next) -> u32
 }
 
 /// Answers a request that the feeder gave, and counts it.
-fn answer_counted<S, A: Respond<S>, W: Write>(
+fn answer_counted<S, A: Respond<S>, W: Sink>(
     alloc: Global,
     responder: &A,
     state: &mut S,
@@ -64,21 +69,27 @@ fn answer_counted<S, A: Respond<S>, W: Write>(
     requires asks { IsTrue (asks_running next.what) }
     requires calls_left { progress.old.called < progress.old.feeder.given }
     requires answers_left { progress.old.answered < progress.old.feeder.given }
+    requires can_write { W.can_write writer.old }
     ensures feeder { progress.new.feeder ≡ progress.old.feeder }
     ensures called { progress.new.called ≡ progress.old.called + calls (next ∷ []) }
     ensures answered { progress.new.answered ≡ (if is_ok result then progress.old.answered + 1 else progress.old.answered) }
     ensures ok { OnOk result ((text : List ℕ) × A.gives responder.now state.old next text state.new
         × Appends (W.contents writer.old) (W.contents writer.new) text) }
-    ensures err { IfErr result (λ cause. Unanswered (A.gives responder.now) cause state.old next state.new (W.contents writer.old) (W.contents writer.new)) }
+    ensures err { IfErr result (λ cause. Unanswered (A.gives responder.now) cause next (record { state = state.old; held = W.contents writer.old })
+        (record { state = state.new; held = W.contents writer.new })) }
+    ensures goes_on { OnOk result (W.can_write writer.new) }
 {
     progress.called = count_call(progress.called, &next);
-    answer_next(alloc, responder, state, writer, &next)?;
+    let told = answer_next(alloc, responder, state, writer, &next);
+    // Dropped in one place: a proof goes through the request's drop at each way out.
+    drop(next);
+    told?;
     progress.answered += 1;
     Ok(())
 }
 
 /// Feeds the stream a piece, and answers the request that is whole then.
-fn serve_piece<S, A: Respond<S>, W: Write>(
+fn serve_piece<S, A: Respond<S>, W: Sink>(
     alloc: Global,
     responder: &A,
     state: &mut S,
@@ -86,12 +97,15 @@ fn serve_piece<S, A: Respond<S>, W: Write>(
     progress: &mut Progress,
     piece: &[u8],
 ) -> Result<usize, Fault>
-    requires { progress.old.over ≡ false }
+    requires goes_on { progress.old.over ≡ false }
+    requires can_write { W.can_write writer.old }
     ensures taken { IfOk result (λ n. Moves n piece.now progress.old progress.new) }
-    ensures ok { IfOk result (λ n. Takes (A.gives responder.now) (take n piece.now) progress.old state.old (W.contents writer.old)
-        progress.new state.new (W.contents writer.new)) }
+    ensures ok { IfOk result (λ n. Takes (A.gives responder.now) (take n piece.now) progress.old (record { state = state.old; held = W.contents writer.old })
+        progress.new (record { state = state.new; held = W.contents writer.new })) }
     ensures err { IfErr result (λ cause. Stops (A.gives responder.now) cause false piece.now
-        progress.old state.old (W.contents writer.old) progress.new state.new (W.contents writer.new)) }
+        progress.old (record { state = state.old; held = W.contents writer.old })
+        progress.new (record { state = state.new; held = W.contents writer.new })) }
+    ensures goes_on { OnOk result (W.can_write writer.new) }
 {
     let Step { taken, next } = match progress.feeder.feed(piece) {
         Ok(step) => step,
@@ -110,18 +124,21 @@ fn serve_piece<S, A: Respond<S>, W: Write>(
 }
 
 /// Answers what is left at the input's end, if anything is.
-fn finish<S, A: Respond<S>, W: Write>(
+fn finish<S, A: Respond<S>, W: Sink>(
     alloc: Global,
     responder: &A,
     state: &mut S,
     writer: &mut W,
     progress: &mut Progress,
 ) -> Result<(), Fault>
-    requires { progress.old.over ≡ false }
-    ensures ok { OnOk result (Completes (A.gives responder.now) progress.old state.old (W.contents writer.old)
-        progress.new state.new (W.contents writer.new)) }
-    ensures err { IfErr result (λ cause. Stops (A.gives responder.now) cause true [] progress.old state.old (W.contents writer.old)
-        progress.new state.new (W.contents writer.new)) }
+    requires goes_on { progress.old.over ≡ false }
+    requires can_write { W.can_write writer.old }
+    ensures ok { OnOk result (Completes (A.gives responder.now) progress.old (record { state = state.old; held = W.contents writer.old })
+        progress.new (record { state = state.new; held = W.contents writer.new })) }
+    ensures err { IfErr result (λ cause. Stops (A.gives responder.now) cause true []
+        progress.old (record { state = state.old; held = W.contents writer.old })
+        progress.new (record { state = state.new; held = W.contents writer.new })) }
+    ensures goes_on { OnOk result (W.can_write writer.new) }
 {
     match progress.feeder.end() {
         None => {
@@ -139,7 +156,7 @@ fn finish<S, A: Respond<S>, W: Write>(
 }
 
 /// Reads the stream and answers its requests, each as soon as it is whole, until it ends.
-fn serve_reads<S, A: Respond<S>, R: Read, W: Write>(
+fn serve_reads<S, A: Respond<S>, R: Source, W: Sink>(
     alloc: Global,
     responder: &A,
     state: &mut S,
@@ -147,9 +164,13 @@ fn serve_reads<S, A: Respond<S>, R: Read, W: Write>(
     writer: &mut W,
     progress: &mut Progress,
 ) -> Result<(), Fault>
-    requires { IsFresh progress.old }
-    ensures { Ran (A.gives responder.now) state.old state.new (R.remaining reader.old) (R.remaining reader.new)
-        (W.contents writer.old) (W.contents writer.new) (told result progress.new) }
+    requires fresh { IsFresh progress.old }
+    requires can_read { R.can_read reader.old }
+    requires can_write { W.can_write writer.old }
+    ensures ran { RanRequests (A.gives responder.now) (R.remaining reader.old) (R.remaining reader.new)
+        (record { state = state.old; held = W.contents writer.old })
+        (record { state = state.new; held = W.contents writer.new }) (told result progress.new) }
+    ensures goes_on { OnOk result (W.can_write writer.new) }
 {
     let mut buffer = [0; PIECE_BYTES];
     let mut most = MOST_BYTES;
@@ -185,25 +206,35 @@ fn serve_reads<S, A: Respond<S>, R: Read, W: Write>(
 
 /// Reads a stream and answers its requests, each as soon as it is whole, until the stream ends.
 ///
-/// Of a reader whose bytes are known at most 27,852,800 are read; nothing is tried twice. A fault tells how many requests were
+/// Of a reader whose bytes are known at most 27,852,800 are read. Nothing is tried twice: after a read that
+/// failed or gave no byte the reader isn't read, nor is the writer written after a write that failed or took none. A fault tells how many requests were
 /// handed on as commands, whose effects stand, and how many answers were written whole. `Read` comes after all requests that
 /// were whole before it, and `Write` also where the writer takes no byte.
-pub fn serve<S, A: Respond<S>, R: Read, W: Write>(
+pub fn serve<S, A: Respond<S>, R: Source, W: Sink>(
     alloc: Global,
     responder: &A,
     state: &mut S,
     reader: &mut R,
     writer: &mut W,
 ) -> Result<Served, ServeFault>
+    requires can_read { R.can_read reader.old }
+    requires can_write { W.can_write writer.old }
+
     // For any reader and writer: the bytes that came, what was answered of them, and what was written.
-    ensures ran { Ran (A.gives responder.now) state.old state.new (R.remaining reader.old) (R.remaining reader.new)
-        (W.contents writer.old) (W.contents writer.new) result }
+    ensures ran { RanRequests (A.gives responder.now) (R.remaining reader.old) (R.remaining reader.new)
+        (record { state = state.old; held = W.contents writer.old })
+        (record { state = state.new; held = W.contents writer.new }) result }
 
     // Where it is known what the reader has, by its requests.
     ensures whole { IfOk result (λ served. IfSome (R.remaining reader.old) (λ input.
-        Finished (A.gives responder.now) state.old (W.contents writer.old) input served.requests state.new (W.contents writer.new))) }
+        FinishedRequests (A.gives responder.now) input served.requests (record { state = state.old; held = W.contents writer.old })
+        (record { state = state.new; held = W.contents writer.new }))) }
     ensures prefix { IfErr result (λ fault. IfSome (R.remaining reader.old) (λ input.
-        AnswersFirst (A.gives responder.now) state.old (W.contents writer.old) input fault state.new (W.contents writer.new))) }
+        AnswersFirst (A.gives responder.now) input fault (record { state = state.old; held = W.contents writer.old })
+        (record { state = state.new; held = W.contents writer.new }))) }
+
+    // Nothing was tried twice: where it ended well the writer may be written again.
+    ensures goes_on { OnOk result (W.can_write writer.new) }
 {
     let mut progress = Progress {
         feeder: Feeder::new(alloc),

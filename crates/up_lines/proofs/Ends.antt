@@ -1,6 +1,6 @@
 -- How a run ends.
 use Rattle.std.proofs.Common.{◌≡◌, ◌&&◌, Result, Ok, Err, OnOk, IfErr, IsErrAnd, ℕ, ◌-◌, ◌<◌, ◌≤◌, Bool, true, false, List, [], ◌∷◌, ◌++◌, length, take, drop, filter, refl, ap, sym, ◌∙◌, subst, arith, append-nil, length-append}
-use Rattle.std.specs.Prelude.{Option}
+use Rattle.std.specs.Prelude.{Option, None}
 use Rattle.std.specs.List.{list_all}
 use Rattle.std.specs.Io.KnownBytes.{Consumes, IsAtEnd}
 use Rattle.std.proofs.KnownBytes.{Appends-nil}
@@ -11,12 +11,14 @@ use Rattle.up_lines.specs.declared.progress.Progress.{Progress}
 use Rattle.up_lines.specs.declared.fault.ScriptCause.{ScriptCause}
 use Rattle.up_lines.specs.declared.fault.ScriptCause.TheVariants.{Read}
 use Rattle.up_lines.specs.Lines.{newline, most_lines, most_line_bytes, most_bytes, lines_of, is_short, fits, has_bytes, asked}
-use Rattle.up_lines.specs.Runs.{Run, Stopped, Finished, Tells, Ran}
+use Rattle.up_lines.specs.declared.fault.ScriptFault.{ScriptFault}
+use Rattle.up_lines.specs.Runs.{At, Run}
+use Rattle.up_lines.specs.LineRuns.{Gives, FinishedLines, Stopped, RanLines}
 use Rattle.up_lines.specs.Progress.{Sofar, Closes, Fails, Stops, Completes, IsFresh, told, is_inside}
 use Rattle.up_lines.proofs.Cuts.{lines-line, lines-last, lines-begun}
 use Rattle.up_lines.proofs.RunLaws.{is_short-le, asked-append, asked_among-none, fits-true}
 use Rattle.up_lines.proofs.Steps.{takes_end}
-use Rattle.up_lines.proofs.Stopping.{stopped, tells_broken, stops_end}
+use Rattle.up_lines.proofs.Stopping.{stopped, breaks_none, stops_at, ended_next}
 
 not_full : (n : ℕ) → n ≤ most_lines → (n ≡ most_lines → ⊥) → n < most_lines
 not_full n few h = omega arith
@@ -52,67 +54,68 @@ fits_begun whole (b ∷ bs) each own short few room =
     ∙ fits-true (whole ++ (b ∷ bs) ∷ []) (omega (arith, length-append whole ((b ∷ bs) ∷ [])))
     (list_all-append is_short whole ((b ∷ bs) ∷ []) ∙ ap (λ t. t && (is_short (b ∷ bs) && true)) each ∙ ap (λ t. t && true) (is_short-le (b ∷ bs) short))
 
-module _ {S : Type 0} (gives : S → List ℕ → List ℕ → S → Type 0) (first : S) (empty : Option (List ℕ)) where
+module _ {S : Type 0} (gives : Gives S) (first : At S) where
   -- the lines of what came
-  lines_now : (came : List ℕ) (at : Progress) (now : S) (holds : Option (List ℕ)) (so : Sofar gives first empty came at now holds) (ended : Bool) → lines_of ended came ≡ so.whole ++ lines_of ended at.line.items
-  lines_now came at now holds so ended =
+  lines_now : (came : List ℕ) (at : Progress) (now : At S) (so : Sofar gives first came at now) (ended : Bool) → lines_of ended came ≡ so.whole ++ lines_of ended at.line.items
+  lines_now came at now so ended =
       ap (lines_of ended) (sym (append-nil came)) ∙ so.cut ended [] ∙ ap (λ l. so.whole ++ lines_of ended l) (append-nil at.line.items)
 
-  few_whole : (came : List ℕ) (at : Progress) (now : S) (holds : Option (List ℕ)) (so : Sofar gives first empty came at now holds) → length so.whole ≤ most_lines
-  few_whole came at now holds so = omega (arith, so.counted_is, so.few)
+  few_whole : (came : List ℕ) (at : Progress) (now : At S) (so : Sofar gives first came at now) → length so.whole ≤ most_lines
+  few_whole came at now so = omega (arith, so.counted_is, so.few)
 
   -- what came is within the limits
-  pub within_limits : (came : List ℕ) (at : Progress) (now : S) (holds : Option (List ℕ)) → Sofar gives first empty came at now holds → fits (lines_of true came) ≡ true
-  within_limits came at now holds so = ap fits (lines_now came at now holds so true) ∙ fits_begun so.whole at.line.items so.each_short so.own_bytes so.short (few_whole came at now holds so)
+  pub within_limits : (came : List ℕ) (at : Progress) (now : At S) → Sofar gives first came at now → fits (lines_of true came) ≡ true
+  within_limits came at now so = ap fits (lines_now came at now so true) ∙ fits_begun so.whole at.line.items so.each_short so.own_bytes so.short (few_whole came at now so)
       (λ full. so.none_past (so.counted_is ∙ full))
 
   -- the end, with no line begun
-  completes_none : (came : List ℕ) (at : Progress) (now : S) (holds : Option (List ℕ)) → at.line.items ≡ [] → Sofar gives first empty came at now holds → Finished gives first empty came at.answered now holds
-  completes_none came at now holds none so =
-      let all : lines_of true came ≡ so.whole = lines_now came at now holds so true ∙ ap (λ l. so.whole ++ lines_of true l) none ∙ append-nil so.whole in
+  completes_none : (came : List ℕ) (at : Progress) (now : At S) → at.line.items ≡ [] → Sofar gives first came at now → FinishedLines gives came at.answered first now
+  completes_none came at now none so =
+      let all : lines_of true came ≡ so.whole = lines_now came at now so true ∙ ap (λ l. so.whole ++ lines_of true l) none ∙ append-nil so.whole in
       record {
+        items = filter has_bytes so.whole;
         answers = so.answers;
-        within = within_limits came at now holds so;
-        run = subst (λ l. Run gives first l so.answers now) (sym (ap asked all ∙ asked-all so.whole so.each_short (few_whole came at now holds so))) so.run;
+        all = (within_limits came at now so, sym (ap asked all ∙ asked-all so.whole so.each_short (few_whole came at now so)));
+        run = so.run;
         answered_is = so.answered_is;
         wrote = so.wrote;
       }
 
   -- a line that is begun is the last
-  same_lines : (came : List ℕ) (at : Progress) (now : S) (holds : Option (List ℕ)) (so : Sofar gives first empty came at now holds) (ended : Bool) → 0 < length at.line.items
+  same_lines : (came : List ℕ) (at : Progress) (now : At S) (so : Sofar gives first came at now) (ended : Bool) → 0 < length at.line.items
       → lines_of ended (came ++ newline ∷ []) ≡ lines_of true came
-  same_lines came at now holds so ended some =
+  same_lines came at now so ended some =
       so.cut ended (newline ∷ []) ∙ ap (λ l. so.whole ++ l) (lines-line ended at.line.items [] so.own_bytes ∙ sym (lines-last_one at.line.items so.own_bytes some))
-      ∙ sym (lines_now came at now holds so true)
+      ∙ sym (lines_now came at now so true)
 
   -- the end, with a line begun
-  completes_some : (came : List ℕ) (old new : Progress) (before after : S) (held holds : Option (List ℕ)) → old.counted < most_lines → 0 < length old.line.items → Closes gives old before held new after holds
-      → Sofar gives first empty came old before held → Finished gives first empty came new.answered after holds
-  completes_some came old new before after held holds room some closes so =
-      let then = completes_none (came ++ newline ∷ []) new after holds closes.emptied (takes_end gives old new before after held holds room closes first empty came so) in
-      let same = same_lines came old before held so true some in
+  completes_some : (came : List ℕ) (old new : Progress) (before after : At S) → old.counted < most_lines → 0 < length old.line.items → Closes gives old before new after
+      → Sofar gives first came old before → FinishedLines gives came new.answered first after
+  completes_some came old new before after room some closes so =
+      let then = completes_none (came ++ newline ∷ []) new after closes.emptied (takes_end gives old new before after room closes first came so) in
+      let same = same_lines came old before so true some in
       record {
+        items = then.items;
         answers = then.answers;
-        within = ap fits (sym same) ∙ then.within;
-        run = subst (λ l. Run gives first (asked l) then.answers after) same then.run;
+        all = (ap fits (sym same) ∙ then.all.0, then.all.1 ∙ ap asked same);
+        run = then.run;
         answered_is = then.answered_is;
         wrote = then.wrote;
       }
 
   -- the reader failed
-  pub stops_read : (came : List ℕ) (at : Progress) (now : S) (holds : Option (List ℕ)) → Sofar gives first empty came at now holds
-      → Tells Read false came × Stopped gives Read first empty (asked (lines_of false came)) at.answered now holds
-  stops_read came at now holds so =
-      let all : lines_of false came ≡ so.whole = lines_now came at now holds so false ∙ ap (λ l. so.whole ++ l) (lines-begun at.line.items so.own_bytes) ∙ append-nil so.whole in (
-        (refl, within_limits came at now holds so),
-        stopped gives Read first empty came at now holds so _ [] at.answered now holds []
-            (ap asked all ∙ asked-all so.whole so.each_short (few_whole came at now holds so) ∙ sym (append-nil (filter has_bytes so.whole))) (refl, refl, refl) refl (Appends-nil holds),
-      )
+  pub stops_read : (came : List ℕ) (at : Progress) (now : At S) → Sofar gives first came at now
+      → Stopped gives came false (record { cause = Read; lines = at.answered }) first now
+  stops_read came at now so =
+      let all : lines_of false came ≡ so.whole = lines_now came at now so false ∙ ap (λ l. so.whole ++ l) (lines-begun at.line.items so.own_bytes) ∙ append-nil so.whole in
+      let is : asked (lines_of false came) ≡ filter has_bytes so.whole = ap asked all ∙ asked-all so.whole so.each_short (few_whole came at now so) in
+      stopped gives Read came false came first at now so None at.answered now ([], is ∙ sym (append-nil (filter has_bytes so.whole)))
+      (refl, within_limits came at now so, sym is) (breaks_none gives Read now (λ e. absurd (cc))) refl
 
-module _ {S : Type 0} (gives : S → List ℕ → List ℕ → S → Type 0) where
+module _ {S : Type 0} (gives : Gives S) where
   -- before any byte
-  pub fresh : (first : S) (empty : Option (List ℕ)) (at : Progress) → IsFresh at → Sofar gives first empty [] at first empty
-  fresh first empty at new = record {
+  pub fresh : (first : At S) (at : Progress) → IsFresh at → Sofar gives first [] at first
+  fresh first at new = record {
     whole = [];
     answers = [];
     cut = λ ended more. ap (λ l. lines_of ended (l ++ more)) (sym new.empty);
@@ -125,48 +128,50 @@ module _ {S : Type 0} (gives : S → List ℕ → List ℕ → S → Type 0) whe
     bytes = omega arith;
     run = refl;
     answered_is = new.none_answered;
-    wrote = Appends-nil empty;
+    wrote = Appends-nil first.held;
   }
 
-  pub finishes_none : (at : Progress) (now : S) (holds : Option (List ℕ)) → at.line.items ≡ [] → Completes gives at now holds at now holds
-  finishes_none at now holds none = λ first empty came so. completes_none gives first empty came at now holds none so
+  pub finishes_none : (at : Progress) (now : At S) → at.line.items ≡ [] → Completes gives at now at now
+  finishes_none at now none = λ first came so. completes_none gives first came at now none so
 
-  pub finishes_some : (old new : Progress) (before after : S) (held holds : Option (List ℕ)) → old.counted < most_lines → 0 < length old.line.items → Closes gives old before held new after holds
-      → Completes gives old before held new after holds
-  finishes_some old new before after held holds room some closes = λ first empty came so. completes_some gives first empty came old new before after held holds room some closes so
+  pub finishes_some : (old new : Progress) (before after : At S) → old.counted < most_lines → 0 < length old.line.items → Closes gives old before new after
+      → Completes gives old before new after
+  finishes_some old new before after room some closes = λ first came so. completes_some gives first came old new before after room some closes so
 
-  -- the last line isn't answered whole
-  pub finish_stops : (cause : ScriptCause) (old new : Progress) (before after : S) (held holds : Option (List ℕ)) → old.counted < most_lines → 0 < length old.line.items → Fails gives cause old before held new after holds
-      → Stops gives cause true [] old before held new after holds
-  finish_stops cause old new before after held holds room some fails = λ first empty came so.
-      let both = stops_end gives cause old new before after held holds [] room fails first empty came so in
-      let same : lines_of false (came ++ newline ∷ []) ≡ lines_of true (came ++ []) = same_lines gives first empty came old before held so false some ∙ ap (lines_of true) (sym (append-nil came)) in (
-        tells_broken gives cause before after old.line.items held holds true (came ++ []) fails.unanswered,
-        subst (λ l. Stopped gives cause first empty (asked l) new.answered after holds) same both.1,
-      )
+  -- the line that the input's end ends isn't answered whole
+  pub finish_stops : (cause : ScriptCause) (old new : Progress) (before after : At S) → old.counted < most_lines → 0 < length old.line.items → Fails gives cause old before new after
+      → Stops gives cause true [] old before new after
+  finish_stops cause old new before after room some fails = λ first came so.
+      let same : lines_of false (came ++ newline ∷ []) ≡ lines_of true (came ++ []) = same_lines gives first came old before so false some ∙ ap (lines_of true) (sym (append-nil came)) in
+      stops_at gives cause came true (came ++ []) first old new before after so _ (ap asked (sym same) ∙ ended_next gives came first old before so [] room fails.some) fails.answered_is fails.unanswered
 
   -- a run that stopped before the input's end
-  pub ran_err : (cause : ScriptCause) (first now : S) (had has held holds : Option (List ℕ)) (came : List ℕ) (answered : ℕ)
-      → Consumes had has came → length came ≤ most_bytes → Tells cause false came × Stopped gives cause first held (asked (lines_of false came)) answered now holds
-      → Ran gives first now had has held holds (Err (record { cause = cause; lines = answered }))
-  ran_err cause first now had has held holds came answered read bounded both =
-      record { came = came; ended = false; read = read; bounded = bounded; at_end = λ h. absurd (cc); leaves = both }
+  pub ran_err : (cause : ScriptCause) (first now : At S) (had has : Option (List ℕ)) (came : List ℕ) (answered : ℕ)
+      → Consumes had has came → length came ≤ most_bytes → Stopped gives came false (record { cause = cause; lines = answered }) first now
+      → RanLines gives had has first now (Err (record { cause = cause; lines = answered }))
+  ran_err cause first now had has came answered read bounded stopped =
+      record { came = came; ended = false; read = read; bounded = bounded; at_end = λ h. absurd (cc); leaves = stopped }
 
-  pub ran_stop : (r : Result (Unit {0}) ScriptCause) (cause : ScriptCause) (first now : S) (had has held holds : Option (List ℕ)) (came : List ℕ) (answered : ℕ)
+  pub ran_stop : (r : Result (Unit {0}) ScriptCause) (cause : ScriptCause) (first now : At S) (had has : Option (List ℕ)) (came : List ℕ) (answered : ℕ)
       → IsErrAnd r (λ x. x ≡ cause) → Consumes had has came → length came ≤ most_bytes
-      → Tells cause false came × Stopped gives cause first held (asked (lines_of false came)) answered now holds
-      → Ran gives first now had has held holds (told r answered)
-  ran_stop r cause first now had has held holds came answered failed read bounded both =
+      → Stopped gives came false (record { cause = cause; lines = answered }) first now
+      → RanLines gives had has first now (told r answered)
+  ran_stop r cause first now had has came answered failed read bounded stopped =
       let (x, is, same) = err_from_is_err_and r failed in
-      subst (λ s. Ran gives first now had has held holds (told s answered)) (sym (is ∙ ap Err same)) (ran_err cause first now had has held holds came answered read bounded both)
+      subst (λ s. RanLines gives had has first now (told s answered)) (sym (is ∙ ap Err same)) (ran_err cause first now had has came answered read bounded stopped)
 
   -- a run to the input's end
-  pub ran_on : (r : Result (Unit {0}) ScriptCause) (first now : S) (had has held holds : Option (List ℕ)) (came : List ℕ) (old : Progress) (before : S) (have : Option (List ℕ)) (new : Progress)
-      → Consumes had has came → length came ≤ most_bytes → IsAtEnd has → Sofar gives first held came old before have
-      → OnOk r (Completes gives old before have new now holds) → IfErr r (λ cause. Stops gives cause true [] old before have new now holds)
-      → Ran gives first now had has held holds (told r new.answered)
-  ran_on (Ok _) first now had has held holds came old before have new read bounded end so ok err =
-      record { came = came; ended = true; read = read; bounded = bounded; at_end = λ _. end; leaves = (refl, ok first held came so) }
-  ran_on (Err cause) first now had has held holds came old before have new read bounded end so ok err =
-      let P : List ℕ → Type 0 = λ l. Tells cause true l × Stopped gives cause first held (asked (lines_of true l)) new.answered now holds in
-      record { came = came; ended = true; read = read; bounded = bounded; at_end = λ _. end; leaves = subst P (append-nil came) (err first held came so) }
+  pub ran_on : (r : Result (Unit {0}) ScriptCause) (first now : At S) (had has : Option (List ℕ)) (came : List ℕ) (old : Progress) (before : At S) (new : Progress)
+      → Consumes had has came → length came ≤ most_bytes → IsAtEnd has → Sofar gives first came old before
+      → OnOk r (Completes gives old before new now) → IfErr r (λ cause. Stops gives cause true [] old before new now)
+      → RanLines gives had has first now (told r new.answered)
+  ran_on (Ok _) first now had has came old before new read bounded end so ok err =
+      record { came = came; ended = true; read = read; bounded = bounded; at_end = λ _. end; leaves = (refl, ok first came so) }
+  ran_on (Err cause) first now had has came old before new read bounded end so ok err = record {
+    came = came;
+    ended = true;
+    read = read;
+    bounded = bounded;
+    at_end = λ _. end;
+    leaves = subst (λ l. Stopped gives l true (record { cause = cause; lines = new.answered }) first now) (append-nil came) (err first came so);
+  }

@@ -8,7 +8,8 @@ use Rattle.std.proofs.lemmas.List.Sums.{take_while-cons}
 use Rattle.std.proofs.lemmas.List.Elements.{filter-append}
 use Rattle.std.proofs.lemmas.List.Folds.{list_all-append}
 use Rattle.up_lines.specs.Lines.{most_lines, most_line_bytes, is_short, fits, has_bytes, asked}
-use Rattle.up_lines.specs.Runs.{Run, print, printed}
+use Rattle.up_lines.specs.Runs.{Run, written}
+use Rattle.up_lines.specs.LineRuns.{print}
 use Rattle.up_lines.proofs.Cuts.{both_hold, Begins}
 
 pub has_bytes-long : (line : List ℕ) → 0 < length line → has_bytes line ≡ true
@@ -30,9 +31,9 @@ module _ {S : Type 0} (gives : S → List ℕ → List ℕ → S → Type 0) whe
   pub Run-one : (old new : S) (line answer : List ℕ) → has_bytes line ≡ true → gives old line answer new → Run gives old (filter has_bytes (line ∷ [])) (answer ∷ []) new
   Run-one old new line answer h p = subst (λ t. Run gives old (cond t (line ∷ []) []) (answer ∷ []) new) (sym h) (new, p, refl)
 
-pub printed-append : (cs bs : List (List ℕ)) → printed (cs ++ bs) ≡ printed cs ++ printed bs
+pub printed-append : (cs bs : List (List ℕ)) → written print (cs ++ bs) ≡ written print cs ++ written print bs
 printed-append [] bs = refl
-printed-append (a ∷ cs) bs = ap (λ l. print a ++ l) (printed-append cs bs) ∙ sym (append_assoc (print a) (printed cs) (printed bs))
+printed-append (a ∷ cs) bs = ap (λ l. print a ++ l) (printed-append cs bs) ∙ sym (append_assoc (print a) (written print cs) (written print bs))
 
 -- a first line that is answered
 pub filter-first : (line : List ℕ) (lines : List (List ℕ)) → has_bytes line ≡ true → filter has_bytes (line ∷ lines) ≡ line ∷ filter has_bytes lines

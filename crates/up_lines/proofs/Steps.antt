@@ -1,6 +1,5 @@
 -- How far a run has come, step by step.
 use Rattle.std.proofs.Common.{◌≡◌, ◌&&◌, not, Result, Ok, Err, OnOk, IfErr, IsErrAnd, ℕ, ◌+◌, ◌<◌, true, List, [], ◌∷◌, ◌++◌, length, filter, ap, sym, ◌∙◌, subst, arith, append_assoc, append-nil, length-append}
-use Rattle.std.specs.Prelude.{Option}
 use Rattle.std.specs.List.{list_all}
 use Rattle.std.specs.Io.KnownBytes.{Appends}
 use Rattle.std.proofs.KnownBytes.{Appends-trans}
@@ -10,30 +9,31 @@ use Rattle.std.proofs.lemmas.List.Elements.{filter-append}
 use Rattle.std.proofs.lemmas.List.Folds.{list_all-append}
 use Rattle.up_lines.specs.declared.progress.Progress.{Progress}
 use Rattle.up_lines.specs.Lines.{newline, most_lines, most_line_bytes, lines_of, is_short, has_bytes}
-use Rattle.up_lines.specs.Runs.{Run, print}
+use Rattle.up_lines.specs.Runs.{At, Run}
+use Rattle.up_lines.specs.LineRuns.{Gives, print}
 use Rattle.up_lines.specs.Progress.{Closes, Takes, is_inside}
 use Rattle.up_lines.proofs.Cuts.{lines-line}
 use Rattle.up_lines.proofs.RunLaws.{has_bytes-long, is_short-le, Run-append, Run-one, printed-append}
 
-module _ {S : Type 0} (gives : S → List ℕ → List ℕ → S → Type 0) where
+module _ {S : Type 0} (gives : Gives S) where
   -- a line with bytes is ended
-  pub closes_some : (old new : Progress) (before after : S) (held holds : Option (List ℕ)) (line text : List ℕ)
+  pub closes_some : (old new : Progress) (before after : At S) (line text : List ℕ)
       → line ≡ old.line.items → 0 < length line → new.line.items ≡ [] → new.counted ≡ old.counted + 1 → new.answered ≡ old.answered + 1
-      → gives before line text after → Appends held holds (print text)
-      → Closes gives old before held new after holds
-  closes_some old new before after held holds line text same some emptied counted answered gave wrote = record {
+      → gives before.state line text after.state → Appends before.held after.held (print text)
+      → Closes gives old before new after
+  closes_some old new before after line text same some emptied counted answered gave wrote = record {
     answers = text ∷ [];
     emptied = emptied;
     counted_is = counted;
     answered_is = answered;
-    run = subst (λ l. Run gives before (filter has_bytes (l ∷ [])) (text ∷ []) after) same (Run-one gives before after line text (has_bytes-long line some) gave);
-    wrote = subst (Appends held holds) (sym (append-nil (print text))) wrote;
+    run = subst (λ l. Run gives before.state (filter has_bytes (l ∷ [])) (text ∷ []) after.state) same (Run-one gives before.state after.state line text (has_bytes-long line some) gave);
+    wrote = subst (Appends before.held after.held) (sym (append-nil (print text))) wrote;
   }
 
   -- the end of a line is taken
-  pub takes_end : (old new : Progress) (before after : S) (held holds : Option (List ℕ)) → old.counted < most_lines → Closes gives old before held new after holds
-      → Takes gives (newline ∷ []) old before held new after holds
-  takes_end old new before after held holds room closes = λ first empty came so.
+  pub takes_end : (old new : Progress) (before after : At S) → old.counted < most_lines → Closes gives old before new after
+      → Takes gives (newline ∷ []) old before new after
+  takes_end old new before after room closes = λ first came so.
       let line = old.line.items in
       let whole' : list_all is_short (line ∷ []) ≡ true = ap (λ t. t && true) (is_short-le line so.short) in
       record {
@@ -52,17 +52,17 @@ module _ {S : Type 0} (gives : S → List ℕ → List ℕ → S → Type 0) whe
         short = omega (arith, ap length closes.emptied);
         none_past = λ _. closes.emptied;
         bytes = omega (arith, so.bytes, so.short, closes.counted_is, ap length closes.emptied, length-append came (newline ∷ []));
-        run = subst (λ l. Run gives first l (so.answers ++ closes.answers) after) (sym (filter-append has_bytes so.whole (line ∷ [])))
-            (Run-append gives first before after (filter has_bytes so.whole) (filter has_bytes (line ∷ [])) so.answers closes.answers so.run closes.run);
+        run = subst (λ l. Run gives first.state l (so.answers ++ closes.answers) after.state) (sym (filter-append has_bytes so.whole (line ∷ [])))
+            (Run-append gives first.state before.state after.state (filter has_bytes so.whole) (filter has_bytes (line ∷ [])) so.answers closes.answers so.run closes.run);
         answered_is = omega (arith, so.answered_is, closes.answered_is, length-append so.answers closes.answers);
-        wrote = subst (Appends empty holds) (sym (printed-append so.answers closes.answers)) (Appends-trans _ _ _ _ _ so.wrote closes.wrote);
+        wrote = subst (Appends first.held after.held) (sym (printed-append so.answers closes.answers)) (Appends-trans _ _ _ _ _ so.wrote closes.wrote);
       }
 
   -- a byte of a line's own is taken
-  pub takes_byte : (old new : Progress) (byte : ℕ) (now : S) (holds : Option (List ℕ)) → old.counted < most_lines → (length old.line.items ≡ most_line_bytes → ⊥) → is_inside byte ≡ true
+  pub takes_byte : (old new : Progress) (byte : ℕ) (now : At S) → old.counted < most_lines → (length old.line.items ≡ most_line_bytes → ⊥) → is_inside byte ≡ true
       → new.line.items ≡ old.line.items ++ byte ∷ [] → new.counted ≡ old.counted → new.answered ≡ old.answered
-      → Takes gives (byte ∷ []) old now holds new now holds
-  takes_byte old new byte now holds room not_full own grown counted answered = λ first empty came so.
+      → Takes gives (byte ∷ []) old now new now
+  takes_byte old new byte now room not_full own grown counted answered = λ first came so.
       let line = old.line.items in
       let one_more : length new.line.items ≡ length line + 1 = omega (arith, ap length grown, length-append line (byte ∷ [])) in
       record {
@@ -85,10 +85,9 @@ module _ {S : Type 0} (gives : S → List ℕ → List ℕ → S → Type 0) whe
       }
 
   -- the same, where the byte is known by an equation
-  pub takes_newline : (byte : ℕ) → byte ≡ newline → (old new : Progress) (before after : S) (held holds : Option (List ℕ)) → old.counted < most_lines → Closes gives old before held new after holds
-      → Takes gives (byte ∷ []) old before held new after holds
-  takes_newline byte e old new before after held holds room closes =
-      subst (λ b. Takes gives (b ∷ []) old before held new after holds) (sym e) (takes_end old new before after held holds room closes)
+  pub takes_newline : (byte : ℕ) → byte ≡ newline → (old new : Progress) (before after : At S) → old.counted < most_lines → Closes gives old before new after
+      → Takes gives (byte ∷ []) old before new after
+  takes_newline byte e old new before after room closes = subst (λ b. Takes gives (b ∷ []) old before new after) (sym e) (takes_end old new before after room closes)
 
 pub on_ok : {T E P Q : Type 0} → (r : Result T E) → (P → Q) → OnOk r P → OnOk r Q
 on_ok (Ok _) f h = f h

@@ -1,6 +1,6 @@
 -- Where a run stops among the bytes.
 use Rattle.std.proofs.Common.{◌≡◌, ◌&&◌, inl, inr, ℕ, ◌+◌, ◌-◌, ◌<◌, ◌≤◌, Bool, true, false, List, [], ◌∷◌, ◌++◌, length, take, drop, get_or, take-append-drop, filter, refl, ap, sym, ◌∙◌, subst, arith, append_assoc, append-nil, length-append}
-use Rattle.std.specs.Prelude.{Option}
+use Rattle.std.specs.Prelude.{Option, Some, None}
 use Rattle.std.specs.List.{list_all}
 use Rattle.std.specs.Io.KnownBytes.{Appends}
 use Rattle.std.proofs.KnownBytes.{Appends-nil, Appends-trans}
@@ -11,8 +11,10 @@ use Rattle.up_lines.specs.declared.progress.Progress.{Progress}
 use Rattle.up_lines.specs.Lines.{newline, most_lines, most_line_bytes, lines_of, is_short, fits, has_bytes, asked}
 use Rattle.up_lines.specs.declared.fault.ScriptCause.{ScriptCause}
 use Rattle.up_lines.specs.declared.fault.ScriptCause.TheVariants.{Memory, Read, Write, TooLong}
-use Rattle.up_lines.specs.Runs.{Breaks, Stopped, Tells, Unanswered}
-use Rattle.up_lines.specs.Progress.{Sofar, Fails, Takes, Stops, is_inside}
+use Rattle.up_lines.specs.declared.fault.ScriptFault.{ScriptFault}
+use Rattle.up_lines.specs.Runs.{At, Breaks, BreaksOff}
+use Rattle.up_lines.specs.LineRuns.{Gives, print, AreFirst, Stopped, Tells}
+use Rattle.up_lines.specs.Progress.{Sofar, Fails, Takes, Stops, Unanswered, is_inside}
 use Rattle.up_lines.proofs.Cuts.{lines-line, lines-begins, lines-prefix, lines-some}
 use Rattle.up_lines.proofs.RunLaws.{is_short-le, is_short-gt, filter-first, asked_among, asked-append, asked_none, fits-many, fits-long}
 
@@ -25,44 +27,49 @@ record Past (came : List ℕ) (byte : ℕ) (whole : List (List ℕ)) : Type 0 wh
   past : (more : List ℕ) → fits (lines_of true (came ++ byte ∷ more)) ≡ false
   settled : (ended : Bool) (more : List ℕ) → asked (lines_of ended (came ++ byte ∷ more)) ≡ filter has_bytes whole
 
-module _ {S : Type 0} (gives : S → List ℕ → List ℕ → S → Type 0) where
-  -- the whole lines are answered, and this became of those behind them
-  pub stopped : (cause : ScriptCause) (first : S) (empty : Option (List ℕ)) (came : List ℕ) (at : Progress) (before : S) (held : Option (List ℕ)) (so : Sofar gives first empty came at before held)
-      → (lines others : List (List ℕ)) (answered : ℕ) (after : S) (holds : Option (List ℕ)) (prefix : List ℕ)
-      → lines ≡ filter has_bytes so.whole ++ others → Breaks gives cause before others after prefix → answered ≡ at.answered → Appends held holds prefix
-      → Stopped gives cause first empty lines answered after holds
-  stopped cause first empty came at before held so lines others answered after holds prefix split broke same wrote = record {
+module _ {S : Type 0} (gives : Gives S) where
+  -- the whole lines are answered, and this became of the next one
+  pub stopped : (cause : ScriptCause) (came : List ℕ) (ended : Bool) (bytes : List ℕ) (first : At S) (at : Progress) (before : At S) (so : Sofar gives first came at before)
+      → (next : Option (List ℕ)) (answered : ℕ) (after : At S) → AreFirst (asked (lines_of ended bytes)) (filter has_bytes so.whole) next → Tells cause bytes ended (filter has_bytes so.whole)
+      → BreaksOff gives print cause next before after → answered ≡ at.answered
+      → Stopped gives bytes ended (record { cause = cause; lines = answered }) first after
+  stopped cause came ended bytes first at before so next answered after split tells (prefix, breaks, wrote) same = record {
     done = filter has_bytes so.whole;
-    others = others;
+    next = next;
     answers = so.answers;
-    last = before;
+    last = before.state;
     prefix = prefix;
-    split = split;
+    first_ones = (split, tells);
     run = so.run;
-    after = broke;
+    breaks = breaks;
     answered_is = same ∙ so.answered_is;
     wrote = Appends-trans _ _ _ _ _ so.wrote wrote;
   }
 
+  -- nothing is handed on
+  pub breaks_none : (cause : ScriptCause) (now : At S) → (cause ≡ Write → ⊥) → BreaksOff gives print cause None now now
+  breaks_none cause now other = ([], (other, refl, refl), Appends-nil now.held)
+
   -- nothing is taken of a byte that passes a limit
-  stops_past : (first : S) (empty : Option (List ℕ)) (came : List ℕ) (at : Progress) (byte : ℕ) (more : List ℕ) (now : S) (holds : Option (List ℕ)) (so : Sofar gives first empty came at now holds) → Past came byte so.whole
-      → Tells TooLong false (came ++ byte ∷ more) × Stopped gives TooLong first empty (asked (lines_of false (came ++ byte ∷ more))) at.answered now holds
-  stops_past first empty came at byte more now holds so h = (
-    λ others. let same : (came ++ byte ∷ more) ++ others ≡ came ++ byte ∷ (more ++ others) = append_assoc came (byte ∷ more) others in (
-      ap (λ l. fits (lines_of true l)) same ∙ h.past (more ++ others),
-      ap (λ l. asked (lines_of true l)) same ∙ h.settled true (more ++ others) ∙ sym (h.settled false more),
-    ),
-    stopped TooLong first empty came at now holds so _ [] at.answered now holds [] (h.settled false more ∙ sym (append-nil (filter has_bytes so.whole))) (refl, refl, refl) refl (Appends-nil holds),
-  )
+  stops_past : (first : At S) (came : List ℕ) (at : Progress) (byte : ℕ) (more : List ℕ) (now : At S) (so : Sofar gives first came at now) → Past came byte so.whole
+      → Stopped gives (came ++ byte ∷ more) false (record { cause = TooLong; lines = at.answered }) first now
+  stops_past first came at byte more now so h =
+      stopped TooLong came false (came ++ byte ∷ more) first at now so None at.answered now ([], h.settled false more ∙ sym (append-nil (filter has_bytes so.whole))) (
+        λ others. let same : (came ++ byte ∷ more) ++ others ≡ came ++ byte ∷ (more ++ others) = append_assoc came (byte ∷ more) others in (
+          ap (λ l. fits (lines_of true l)) same ∙ h.past (more ++ others),
+          ap (λ l. asked (lines_of true l)) same ∙ h.settled true (more ++ others) ∙ sym (h.settled false more),
+        ),
+        sym (h.settled false more),
+      ) (breaks_none TooLong now (λ e. absurd (cc))) refl
 
   -- nothing is taken past the last line
-  pub stops_many : (at : Progress) (byte : ℕ) (more : List ℕ) (now : S) (holds : Option (List ℕ)) → at.counted ≡ most_lines
-      → Stops gives TooLong false (byte ∷ more) at now holds at now holds
-  stops_many at byte more now holds full = λ first empty came so.
+  pub stops_many : (at : Progress) (byte : ℕ) (more : List ℕ) (now : At S) → at.counted ≡ most_lines
+      → Stops gives TooLong false (byte ∷ more) at now at now
+  stops_many at byte more now full = λ first came so.
       let all : length so.whole ≡ most_lines = omega (arith, so.counted_is) in
       let none : most_lines - length so.whole ≡ 0 = omega (arith, all) in
       let within : length so.whole ≤ most_lines = omega (arith, all) in
-      stops_past first empty came at byte more now holds so (record {
+      stops_past first came at byte more now so (record {
         past = λ rest.
             ap fits (so.cut true (byte ∷ rest) ∙ ap (λ l. so.whole ++ lines_of true (l ++ byte ∷ rest)) (so.none_past full))
             ∙ fits-many so.whole (lines_of true (byte ∷ rest)) all (lines-some byte rest);
@@ -72,14 +79,14 @@ module _ {S : Type 0} (gives : S → List ℕ → List ℕ → S → Type 0) whe
       })
 
   -- nothing is taken past a line's last byte
-  pub stops_long : (at : Progress) (byte : ℕ) (more : List ℕ) (now : S) (holds : Option (List ℕ)) → length at.line.items ≡ most_line_bytes → is_inside byte ≡ true
-      → Stops gives TooLong false (byte ∷ more) at now holds at now holds
-  stops_long at byte more now holds full own = λ first empty came so.
+  pub stops_long : (at : Progress) (byte : ℕ) (more : List ℕ) (now : At S) → length at.line.items ≡ most_line_bytes → is_inside byte ≡ true
+      → Stops gives TooLong false (byte ∷ more) at now at now
+  stops_long at byte more now full own = λ first came so.
       let line = at.line.items in
       let long : (rest : List ℕ) → is_short ((line ++ byte ∷ []) ++ rest) ≡ false =
       (λ rest. is_short-gt _ (omega (arith, length-append (line ++ byte ∷ []) rest, length-append line (byte ∷ [])))) in
       let within : length so.whole ≤ most_lines = omega (arith, so.counted_is, so.few) in
-      stops_past first empty came at byte more now holds so (record {
+      stops_past first came at byte more now so (record {
         past = λ rest. let prefix = lines-prefix line byte rest so.own_bytes own in
             ap fits (so.cut true (byte ∷ rest) ∙ ap (λ l. so.whole ++ l) prefix.is) ∙ fits-long so.whole _ prefix.others (long prefix.rest);
         settled = λ ended rest.
@@ -93,13 +100,12 @@ module _ {S : Type 0} (gives : S → List ℕ → List ℕ → S → Type 0) whe
   behind whole more = asked_among (most_lines - length whole) (lines_of false more)
 
   -- no memory for a byte
-  pub stops_memory : (old new : Progress) (bytes : List ℕ) (now : S) (holds : Option (List ℕ)) → new.answered ≡ old.answered
-      → Stops gives Memory false bytes old now holds new now holds
-  stops_memory old new bytes now holds same = λ first empty came so. (
-    tt,
-    stopped Memory first empty came old now holds so _ (behind so.whole (old.line.items ++ bytes)) new.answered now holds []
-        (ap asked (so.cut false bytes) ∙ asked-append so.whole (lines_of false (old.line.items ++ bytes)) so.each_short (omega (arith, so.counted_is, so.few))) (refl, inl refl) same (Appends-nil holds),
-  )
+  pub stops_memory : (old new : Progress) (bytes : List ℕ) (now : At S) → new.answered ≡ old.answered
+      → Stops gives Memory false bytes old now new now
+  stops_memory old new bytes now same = λ first came so.
+      stopped Memory came false (came ++ bytes) first old now so None new.answered now
+      (behind so.whole (old.line.items ++ bytes), ap asked (so.cut false bytes) ∙ asked-append so.whole (lines_of false (old.line.items ++ bytes)) so.each_short (omega (arith, so.counted_is, so.few)))
+      tt (breaks_none Memory now (λ e. absurd (cc))) same
 
   -- the line that is begun is the next to be answered
   split_end : (whole : List (List ℕ)) (line more : List ℕ) → list_all is_short whole ≡ true → length whole < most_lines → length line ≤ most_line_bytes
@@ -114,50 +120,47 @@ module _ {S : Type 0} (gives : S → List ℕ → List ℕ → S → Type 0) whe
       ∙ ap (λ l. l ++ behind (whole ++ line ∷ []) more) (filter-append has_bytes whole (line ∷ []) ∙ ap (λ l. filter has_bytes whole ++ l) (filter-first line [] some))
       ∙ append_assoc (filter has_bytes whole) (line ∷ []) (behind (whole ++ line ∷ []) more)
 
-  -- what becomes of a line that isn't answered whole, with others behind it
-  broken : (cause : ScriptCause) (old new : S) (line : List ℕ) (rest : List (List ℕ)) (held holds : Option (List ℕ)) → Unanswered gives cause old line new held holds
-      → (prefix : List ℕ) × Breaks gives cause old (line ∷ rest) new prefix × Appends held holds prefix
-  broken Memory old new line rest held holds (inl same, wrote) = ([], (refl, inl same), wrote)
-  broken Memory old new line rest held holds (inr (answer, gave), wrote) = ([], (refl, inr (line, answer, rest, refl, gave)), wrote)
-  broken Write old new line rest held holds (answer, gave, prefix, proper, wrote) = (prefix, (line, answer, rest, refl, gave, proper), wrote)
-  broken Read old new line rest held holds h = absurd h
-  broken TooLong old new line rest held holds h = absurd h
+  -- a line that isn't answered whole, with others behind it
+  pub stops_at : (cause : ScriptCause) (came : List ℕ) (ended : Bool) (bytes : List ℕ) (first : At S) (old new : Progress) (before after : At S) (so : Sofar gives first came old before)
+      → (rest : List (List ℕ)) → asked (lines_of ended bytes) ≡ filter has_bytes so.whole ++ old.line.items ∷ rest → new.answered ≡ old.answered
+      → Unanswered gives cause old.line.items before after → Stopped gives bytes ended (record { cause = cause; lines = new.answered }) first after
+  stops_at Memory came ended bytes first old new before after so rest split same (inl broke) =
+      stopped Memory came ended bytes first old before so None new.answered after (old.line.items ∷ rest, split) tt broke same
+  stops_at Memory came ended bytes first old new before after so rest split same (inr broke) =
+      stopped Memory came ended bytes first old before so (Some old.line.items) new.answered after (rest, split) tt broke same
+  stops_at Write came ended bytes first old new before after so rest split same broke =
+      stopped Write came ended bytes first old before so (Some old.line.items) new.answered after (rest, split) tt broke same
+  stops_at Read came ended bytes first old new before after so rest split same broke = absurd broke
+  stops_at TooLong came ended bytes first old new before after so rest split same broke = absurd broke
 
-  -- neither a failed read nor a limit leaves a line so
-  pub tells_broken : (cause : ScriptCause) (old new : S) (line : List ℕ) (held holds : Option (List ℕ)) (ended : Bool) (came : List ℕ) → Unanswered gives cause old line new held holds → Tells cause ended came
-  tells_broken Memory old new line held holds ended came h = tt
-  tells_broken Write old new line held holds ended came h = tt
-  tells_broken Read old new line held holds ended came h = absurd h
-  tells_broken TooLong old new line held holds ended came h = absurd h
+  -- the line that a newline ends is the next to be answered
+  pub ended_next : (came : List ℕ) (first : At S) (old : Progress) (before : At S) (so : Sofar gives first came old before) (more : List ℕ) → old.counted < most_lines → has_bytes old.line.items ≡ true
+      → asked (lines_of false (came ++ newline ∷ more)) ≡ filter has_bytes so.whole ++ old.line.items ∷ behind (so.whole ++ old.line.items ∷ []) more
+  ended_next came first old before so more room some =
+      ap asked (so.cut false (newline ∷ more)) ∙ split_end so.whole old.line.items more so.each_short (omega (arith, so.counted_is)) so.short so.own_bytes some
 
   -- a line that isn't answered whole
-  pub stops_end : (cause : ScriptCause) (old new : Progress) (before after : S) (held holds : Option (List ℕ)) (more : List ℕ) → old.counted < most_lines
-      → Fails gives cause old before held new after holds → Stops gives cause false (newline ∷ more) old before held new after holds
-  stops_end cause old new before after held holds more room fails = λ first empty came so.
-      let line = old.line.items in
-      let (prefix, broke, wrote) = broken cause before after line (behind (so.whole ++ line ∷ []) more) held holds fails.unanswered in (
-        tells_broken cause before after line held holds false (came ++ newline ∷ more) fails.unanswered,
-        stopped cause first empty came old before held so _ (line ∷ behind (so.whole ++ line ∷ []) more) new.answered after holds prefix
-            (ap asked (so.cut false (newline ∷ more)) ∙ split_end so.whole line more so.each_short (omega (arith, so.counted_is)) so.short so.own_bytes fails.some) broke fails.answered_is wrote,
-      )
+  pub stops_end : (cause : ScriptCause) (old new : Progress) (before after : At S) (more : List ℕ) → old.counted < most_lines
+      → Fails gives cause old before new after → Stops gives cause false (newline ∷ more) old before new after
+  stops_end cause old new before after more room fails = λ first came so.
+      stops_at cause came false (came ++ newline ∷ more) first old new before after so _ (ended_next came first old before so more room fails.some) fails.answered_is fails.unanswered
 
   -- the same, where the byte is known by an equation
-  pub stops_newline : (byte : ℕ) → byte ≡ newline → (cause : ScriptCause) (old new : Progress) (before after : S) (held holds : Option (List ℕ)) (more : List ℕ) → old.counted < most_lines
-      → Fails gives cause old before held new after holds → Stops gives cause false (byte ∷ more) old before held new after holds
-  stops_newline byte e cause old new before after held holds more room fails =
-      subst (λ b. Stops gives cause false (b ∷ more) old before held new after holds) (sym e) (stops_end cause old new before after held holds more room fails)
+  pub stops_newline : (byte : ℕ) → byte ≡ newline → (cause : ScriptCause) (old new : Progress) (before after : At S) (more : List ℕ) → old.counted < most_lines
+      → Fails gives cause old before new after → Stops gives cause false (byte ∷ more) old before new after
+  stops_newline byte e cause old new before after more room fails =
+      subst (λ b. Stops gives cause false (b ∷ more) old before new after) (sym e) (stops_end cause old new before after more room fails)
 
   -- bytes taken, and then not all of the others
-  pub stops_after : (xs ys : List ℕ) (cause : ScriptCause) (ended : Bool) (old mid new : Progress) (before between after : S) (held have holds : Option (List ℕ)) → Takes gives xs old before held mid between have → Stops gives cause ended ys mid between have new after holds
-      → Stops gives cause ended (xs ++ ys) old before held new after holds
-  stops_after xs ys cause ended old mid new before between after held have holds p q = λ first empty came so.
-      let P : List ℕ → Type 0 = λ l. Tells cause ended l × Stopped gives cause first empty (asked (lines_of ended l)) new.answered after holds in
-      subst P (append_assoc came xs ys) (q first empty (came ++ xs) (p first empty came so))
+  pub stops_after : (xs ys : List ℕ) (cause : ScriptCause) (ended : Bool) (old mid new : Progress) (before between after : At S) → Takes gives xs old before mid between → Stops gives cause ended ys mid between new after
+      → Stops gives cause ended (xs ++ ys) old before new after
+  stops_after xs ys cause ended old mid new before between after p q = λ first came so.
+      subst (λ l. Stopped gives l ended (record { cause = cause; lines = new.answered }) first after) (append_assoc came xs ys) (q first (came ++ xs) (p first came so))
 
   -- a piece that isn't all taken
-  pub stops_piece : (piece : List ℕ) (i : ℕ) (cause : ScriptCause) (old mid new : Progress) (before between after : S) (held have holds : Option (List ℕ)) → i < length piece
-      → Takes gives (take i piece) old before held mid between have → ((more : List ℕ) → Stops gives cause false (get_or piece i 0 ∷ more) mid between have new after holds)
-      → Stops gives cause false piece old before held new after holds
-  stops_piece piece i cause old mid new before between after held have holds below p q =
-      subst (λ l. Stops gives cause false l old before held new after holds) (sym (piece_split piece i below))
-      (stops_after (take i piece) _ cause false old mid new before between after held have holds p (q (drop (i + 1) piece)))
+  pub stops_piece : (piece : List ℕ) (i : ℕ) (cause : ScriptCause) (old mid new : Progress) (before between after : At S) → i < length piece
+      → Takes gives (take i piece) old before mid between → ((more : List ℕ) → Stops gives cause false (get_or piece i 0 ∷ more) mid between new after)
+      → Stops gives cause false piece old before new after
+  stops_piece piece i cause old mid new before between after below p q =
+      subst (λ l. Stops gives cause false l old before new after) (sym (piece_split piece i below))
+      (stops_after (take i piece) _ cause false old mid new before between after p (q (drop (i + 1) piece)))

@@ -1,19 +1,21 @@
--- What stands while lines are read.
-use Rattle.std.specs.Prelude.{◌≡◌, ℕ, ◌+◌, ◌*◌, ◌≤◌, ◌==◌, Bool, true, not, Result, Ok, Err, Option, List, [], ◌∷◌, ◌++◌, length, filter}
+-- What stands while lines are read: the steps of a run.
+use Rattle.std.specs.Prelude.{◌≡◌, ◌⊎◌, ℕ, ◌+◌, ◌*◌, ◌≤◌, ◌==◌, Bool, true, not, Result, Ok, Err, Some, None, List, [], ◌∷◌, ◌++◌, length, filter}
 use Rattle.std.specs.List.{list_all}
 use Rattle.std.specs.Io.KnownBytes.{Appends}
 use Rattle.up_lines.specs.declared.fault.ScriptCause.{ScriptCause}
+use Rattle.up_lines.specs.declared.fault.ScriptCause.TheVariants.{Memory, Read, Write, TooLong}
 use Rattle.up_lines.specs.declared.fault.ScriptFault.{ScriptFault}
 use Rattle.up_lines.specs.declared.progress.Progress.{Progress}
-use Rattle.up_lines.specs.Lines.{newline, most_lines, most_line_bytes, lines_of, is_short, has_bytes, asked}
-use Rattle.up_lines.specs.Runs.{Run, printed, Unanswered, Stopped, Finished, Tells}
+use Rattle.up_lines.specs.Lines.{newline, most_lines, most_line_bytes, lines_of, is_short, has_bytes}
+use Rattle.up_lines.specs.Runs.{At, Run, written, BreaksOff}
+use Rattle.up_lines.specs.LineRuns.{Gives, print, Stopped, FinishedLines}
 
 -- whether a byte is one of a line's own
 abbrev pub is_inside : ℕ → Bool
 is_inside byte = not (byte == newline)
 
 -- of the bytes that came the whole lines were answered, and the next line is begun
-pub record Sofar {S : Type 0} (gives : S → List ℕ → List ℕ → S → Type 0) (first : S) (held : Option (List ℕ)) (came : List ℕ) (at : Progress) (now : S) (holds : Option (List ℕ)) : Type 0 where
+pub record Sofar {S : Type 0} (gives : Gives S) (first : At S) (came : List ℕ) (at : Progress) (now : At S) : Type 0 where
   pub whole : List (List ℕ)
   pub answers : List (List ℕ)
   pub cut : (ended : Bool) (more : List ℕ) → lines_of ended (came ++ more) ≡ whole ++ lines_of ended (at.line.items ++ more)
@@ -24,38 +26,45 @@ pub record Sofar {S : Type 0} (gives : S → List ℕ → List ℕ → S → Typ
   pub short : length at.line.items ≤ most_line_bytes
   pub none_past : at.counted ≡ most_lines → at.line.items ≡ []
   pub bytes : length came ≤ at.counted * (most_line_bytes + 1) + length at.line.items
-  pub run : Run gives first (filter has_bytes whole) answers now
+  pub run : Run gives first.state (filter has_bytes whole) answers now.state
   pub answered_is : at.answered ≡ length answers
-  pub wrote : Appends held holds (printed answers)
+  pub wrote : Appends first.held now.held (written print answers)
 
 -- bytes are taken: what stood after the bytes before them stands after them too
-abbrev pub Takes : {S : Type 0} → (S → List ℕ → List ℕ → S → Type 0) → List ℕ → Progress → S → Option (List ℕ) → Progress → S → Option (List ℕ) → Type 0
-Takes {S} gives bytes old before held new after holds = (first : S) (empty : Option (List ℕ)) (came : List ℕ) → Sofar gives first empty came old before held → Sofar gives first empty (came ++ bytes) new after holds
+abbrev pub Takes : {S : Type 0} → Gives S → List ℕ → Progress → At S → Progress → At S → Type 0
+Takes {S} gives bytes old before new after = (first : At S) (came : List ℕ) → Sofar gives first came old before → Sofar gives first (came ++ bytes) new after
 
 -- bytes are not all taken: the run stops among them
-abbrev pub Stops : {S : Type 0} → (S → List ℕ → List ℕ → S → Type 0) → ScriptCause → Bool → List ℕ → Progress → S → Option (List ℕ) → Progress → S → Option (List ℕ) → Type 0
-Stops {S} gives cause ended bytes old before held new after holds = (first : S) (empty : Option (List ℕ)) (came : List ℕ) → Sofar gives first empty came old before held
-    → Tells cause ended (came ++ bytes) × Stopped gives cause first empty (asked (lines_of ended (came ++ bytes))) new.answered after holds
+abbrev pub Stops : {S : Type 0} → Gives S → ScriptCause → Bool → List ℕ → Progress → At S → Progress → At S → Type 0
+Stops {S} gives cause ended bytes old before new after = (first : At S) (came : List ℕ) → Sofar gives first came old before
+    → Stopped gives (came ++ bytes) ended (record { cause = cause; lines = new.answered }) first after
 
 -- a line is ended: it has its answer if it has any byte, and the next one is empty
-pub record Closes {S : Type 0} (gives : S → List ℕ → List ℕ → S → Type 0) (old : Progress) (before : S) (held : Option (List ℕ)) (new : Progress) (after : S) (holds : Option (List ℕ)) : Type 0 where
+pub record Closes {S : Type 0} (gives : Gives S) (old : Progress) (before : At S) (new : Progress) (after : At S) : Type 0 where
   pub answers : List (List ℕ)
   pub emptied : new.line.items ≡ []
   pub counted_is : new.counted ≡ old.counted + 1
   pub answered_is : new.answered ≡ old.answered + length answers
-  pub run : Run gives before (filter has_bytes (old.line.items ∷ [])) answers after
-  pub wrote : Appends held holds (printed answers)
+  pub run : Run gives before.state (filter has_bytes (old.line.items ∷ [])) answers after.state
+  pub wrote : Appends before.held after.held (written print answers)
+
+-- a line that isn't answered whole: without memory it has no answer, or one of which nothing is written; where the writer failed a part is
+abbrev pub Unanswered : {S : Type 0} → Gives S → ScriptCause → List ℕ → At S → At S → Type 0
+Unanswered gives Memory line old new = BreaksOff gives print Memory None old new ⊎ BreaksOff gives print Memory (Some line) old new
+Unanswered gives Write line old new = BreaksOff gives print Write (Some line) old new
+Unanswered gives Read line old new = ⊥
+Unanswered gives TooLong line old new = ⊥
 
 -- a line that has some byte isn't answered whole
-pub record Fails {S : Type 0} (gives : S → List ℕ → List ℕ → S → Type 0) (cause : ScriptCause) (old : Progress) (before : S) (held : Option (List ℕ)) (new : Progress) (after : S) (holds : Option (List ℕ)) : Type 0 where
+pub record Fails {S : Type 0} (gives : Gives S) (cause : ScriptCause) (old : Progress) (before : At S) (new : Progress) (after : At S) : Type 0 where
   pub some : has_bytes old.line.items ≡ true
   pub answered_is : new.answered ≡ old.answered
-  pub unanswered : Unanswered gives cause before old.line.items after held holds
+  pub unanswered : Unanswered gives cause old.line.items before after
 
 -- the input's end ends the line that is begun
-abbrev pub Completes : {S : Type 0} → (S → List ℕ → List ℕ → S → Type 0) → Progress → S → Option (List ℕ) → Progress → S → Option (List ℕ) → Type 0
-Completes {S} gives old before held new after holds = (first : S) (empty : Option (List ℕ)) (came : List ℕ) → Sofar gives first empty came old before held
-    → Finished gives first empty came new.answered after holds
+abbrev pub Completes : {S : Type 0} → Gives S → Progress → At S → Progress → At S → Type 0
+Completes {S} gives old before new after = (first : At S) (came : List ℕ) → Sofar gives first came old before
+    → FinishedLines gives came new.answered first after
 
 -- nothing is counted yet
 pub record IsFresh (at : Progress) : Type 0 where

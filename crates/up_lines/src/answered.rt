@@ -1,25 +1,29 @@
 //! One line, answered.
 ghost use Rattle.std.specs.Prelude.{ℕ, List, [], ◌∷◌, ◌++◌, IfErr, OnOk};
 ghost use Rattle.std.specs.Io.KnownBytes.{Appends};
-ghost use Rattle.up_lines.specs.Runs.{print, Unanswered};
+ghost use Rattle.up_lines.specs.LineRuns.{print};
+ghost use Rattle.up_lines.specs.Progress.{Unanswered};
 
 use crate::fault::ScriptCause;
 use crate::interpret::Interpret;
+use crate::sink::Sink;
 use crate::written::write_whole;
 use std::alloc::Global;
-use std::io::Write;
 
 /// Answers a line, and writes the answer and a newline.
-pub(crate) fn answer_line<S, I: Interpret<S>, W: Write>(
+pub(crate) fn answer_line<S, I: Interpret<S>, W: Sink>(
     alloc: Global,
     interpreter: &I,
     state: &mut S,
     writer: &mut W,
     line: &[u8],
 ) -> Result<(), ScriptCause>
+    requires { W.can_write writer.old }
     ensures ok { OnOk result ((text : List ℕ) × I.gives state.old line.now text state.new
         × Appends (W.contents writer.old) (W.contents writer.new) (print text)) }
-    ensures err { IfErr result (λ cause. Unanswered I.gives cause state.old line.now state.new (W.contents writer.old) (W.contents writer.new)) }
+    ensures err { IfErr result (λ cause. Unanswered I.gives cause line.now (record { state = state.old; held = W.contents writer.old })
+        (record { state = state.new; held = W.contents writer.new })) }
+    ensures goes_on { OnOk result (W.can_write writer.new) }
 {
     let mut text = interpreter.interpret(alloc, state, line)?;
     text.push(b'\n')?;

@@ -7,22 +7,24 @@ use crate::answered::answer_line;
 use crate::fault::ScriptCause;
 use crate::interpret::Interpret;
 use crate::progress::Progress;
+use crate::sink::Sink;
 use std::alloc::Global;
-use std::io::Write;
 
 /// Counts the line that is begun, and answers it if it has any byte.
-pub(crate) fn end_line<S, I: Interpret<S>, W: Write>(
+pub(crate) fn end_line<S, I: Interpret<S>, W: Sink>(
     alloc: Global,
     interpreter: &I,
     state: &mut S,
     writer: &mut W,
     progress: &mut Progress,
 ) -> Result<(), ScriptCause>
-    requires { progress.old.counted < most_lines }
-    ensures ok { OnOk result (Closes I.gives progress.old state.old (W.contents writer.old)
-        progress.new state.new (W.contents writer.new)) }
-    ensures err { IfErr result (λ cause. Fails I.gives cause progress.old state.old (W.contents writer.old)
-        progress.new state.new (W.contents writer.new)) }
+    requires few { progress.old.counted < most_lines }
+    requires can_write { W.can_write writer.old }
+    ensures ok { OnOk result (Closes I.gives progress.old (record { state = state.old; held = W.contents writer.old })
+        progress.new (record { state = state.new; held = W.contents writer.new })) }
+    ensures err { IfErr result (λ cause. Fails I.gives cause progress.old (record { state = state.old; held = W.contents writer.old })
+        progress.new (record { state = state.new; held = W.contents writer.new })) }
+    ensures goes_on { OnOk result (W.can_write writer.new) }
 {
     if progress.line.is_empty() {
         progress.counted += 1;

@@ -8,6 +8,8 @@ pub mod interpret;
 pub mod limits;
 mod progress;
 mod reading;
+pub mod sink;
+pub mod source;
 mod taking;
 mod written;
 

@@ -7,11 +7,11 @@ use crate::fault::ScriptCause;
 use crate::interpret::Interpret;
 use crate::limits::{MOST_LINE_BYTES, MOST_LINES};
 use crate::progress::Progress;
+use crate::sink::Sink;
 use std::alloc::Global;
-use std::io::Write;
 
 /// Takes the next byte.
-pub(crate) fn take_byte<S, I: Interpret<S>, W: Write>(
+pub(crate) fn take_byte<S, I: Interpret<S>, W: Sink>(
     alloc: Global,
     interpreter: &I,
     state: &mut S,
@@ -19,10 +19,13 @@ pub(crate) fn take_byte<S, I: Interpret<S>, W: Write>(
     progress: &mut Progress,
     byte: u8,
 ) -> Result<(), ScriptCause>
-    ensures ok { OnOk result (Takes I.gives (byte ∷ []) progress.old state.old (W.contents writer.old)
-        progress.new state.new (W.contents writer.new)) }
+    requires { W.can_write writer.old }
+    ensures ok { OnOk result (Takes I.gives (byte ∷ []) progress.old (record { state = state.old; held = W.contents writer.old })
+        progress.new (record { state = state.new; held = W.contents writer.new })) }
     ensures err { IfErr result (λ cause. (more : List ℕ) → Stops I.gives cause false (byte ∷ more)
-        progress.old state.old (W.contents writer.old) progress.new state.new (W.contents writer.new)) }
+        progress.old (record { state = state.old; held = W.contents writer.old })
+        progress.new (record { state = state.new; held = W.contents writer.new })) }
+    ensures goes_on { OnOk result (W.can_write writer.new) }
 {
     if progress.counted == MOST_LINES {
         return Err(ScriptCause::TooLong);

@@ -1,5 +1,8 @@
-//! Tests of lines through their public calls: readers and writers that fail, and limits.
+//! Tests of lines through their public calls: readers and writers that fail, or that may not be used after
+//! they failed, and limits.
 #![tactic(auto)]
 
 #[cfg(test)]
 mod lines;
+#[cfg(test)]
+mod once;

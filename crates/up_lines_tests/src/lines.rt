@@ -9,7 +9,7 @@ use up_lines::limits::MOST_LINE_BYTES;
 use up_lines::run;
 
 /// Answers each line by itself in brackets, and counts the lines.
-struct Bracket;
+pub(crate) struct Bracket;
 
 impl Interpret<u32> for Bracket {
     ghost use Rattle.std.specs.Prelude.{◌≡◌, ◌∷◌, ◌++◌, []};

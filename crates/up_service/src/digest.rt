@@ -5,8 +5,8 @@ ghost use Rattle.sha2.specs.Sha512.{sha512};
 ghost use Rattle.up_service.specs.Digests.{Digested, most_bytes};
 
 use sha2::{Digest, Sha256, Sha512};
-use std::io::Read;
 use up_lines::read_piece;
+use up_lines::source::Source;
 
 /// One more than a file may have, in bytes.
 const PAST_BYTES: u64 = 1_073_741_825;
@@ -24,8 +24,10 @@ pub enum DigestFault {
 }
 
 /// The number of bytes that the reader gives, their SHA-256 and their SHA-512 (FIPS 180-4), all in one pass. `TooLong` past
-/// 1,073,741,824 bytes. Of a reader whose bytes are known at most one more than these is read. Takes no memory.
-pub fn digest_stream<R: Read>(reader: &mut R) -> Result<(u64, [u8; 32], [u8; 64]), DigestFault>
+/// 1,073,741,824 bytes. Of a reader whose bytes are known at most one more than these is read, and none after a read that failed.
+/// Takes no memory.
+pub fn digest_stream<R: Source>(reader: &mut R) -> Result<(u64, [u8; 32], [u8; 64]), DigestFault>
+    requires { R.can_read reader.old }
     // For any reader: the bytes that came, and what is said of them.
     ensures digested { Digested (R.remaining reader.old) (R.remaining reader.new) result }
 

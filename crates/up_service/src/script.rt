@@ -1,41 +1,50 @@
 //! Scripts: lines that are read, carried out at a desk, and answered.
-ghost use Rattle.std.specs.Prelude.{◌≡◌, IfOk, IfErr, IfSome, true, false};
-ghost use Rattle.up_lines.specs.Lines.{lines_of, fits, asked};
-ghost use Rattle.up_lines.specs.Runs.{Ran, Finished, AnswersFirst};
+ghost use Rattle.std.specs.Prelude.{◌≡◌, IfOk, IfErr, IfSome, OnOk, true, false};
+ghost use Rattle.up_lines.specs.LineRuns.{RanLines, FinishedLines, AnswersFirst};
+ghost use Rattle.up_lines.specs.Lines.{lines_of, fits};
 ghost use Rattle.up_service.specs.LineAnswers.{Lines};
 
 use crate::line_answer::Scripter;
 use sqlite::Alter;
 use std::alloc::Global;
-use std::io::{Read, Write};
 use up_desk::desk::Desk;
 use up_lines::fault::{ScriptCause, ScriptFault};
 use up_lines::run;
+use up_lines::sink::Sink;
+use up_lines::source::Source;
 use up_sign::scheme::Scheme;
 
 /// Reads a script to its end, carries out its lines at the desk one after another, and writes a line for each that isn't empty.
 ///
 /// The number is that of the lines answered. A line has at most 2,097,152 bytes, its newline not counted, and there are at most
-/// 100,000; past that comes `TooLong`. Of a reader whose bytes are known at most 209,715,300,001 are read. A fault tells how many
+/// 100,000; past that comes `TooLong`. Of a reader whose bytes are known at most 209,715,300,001 are read; nothing is tried twice. A fault tells how many
 /// answers were written whole; what was answered before it stays done.
-pub fn run_script<K: Scheme, D: Alter, R: Read, W: Write>(
+pub fn run_script<K: Scheme, D: Alter, R: Source, W: Sink>(
     alloc: Global,
     desk: &mut Desk<K, D>,
     reader: &mut R,
     writer: &mut W,
 ) -> Result<u32, ScriptFault>
+    requires can_read { R.can_read reader.old }
+    requires can_write { W.can_write writer.old }
+
     // For any reader and writer: the bytes that came, what was answered of them, and what was written.
-    ensures ran { Ran (Lines (K.rules) D.Store) desk.old desk.new (R.remaining reader.old) (R.remaining reader.new)
-        (W.contents writer.old) (W.contents writer.new) result }
+    ensures ran { RanLines (Lines (K.rules) D.Store) (R.remaining reader.old) (R.remaining reader.new)
+        (record { state = desk.old; held = W.contents writer.old })
+        (record { state = desk.new; held = W.contents writer.new }) result }
 
     // Where it is known what the reader has, by its lines.
     ensures whole { IfOk result (λ answered. IfSome (R.remaining reader.old) (λ input.
-        Finished (Lines (K.rules) D.Store) desk.old (W.contents writer.old) input answered desk.new (W.contents writer.new))) }
+        FinishedLines (Lines (K.rules) D.Store) input answered (record { state = desk.old; held = W.contents writer.old })
+        (record { state = desk.new; held = W.contents writer.new }))) }
     ensures too_long { IfErr result (λ fault. fault.cause ≡ ScriptCause.TooLong → IfSome (R.remaining reader.old) (λ input.
         fits (lines_of true input) ≡ false)) }
     ensures prefix { IfErr result (λ fault. IfSome (R.remaining reader.old) (λ input.
-        AnswersFirst (Lines (K.rules) D.Store) desk.old (W.contents writer.old) (asked (lines_of true input)) fault.lines
-        desk.new (W.contents writer.new))) }
+        AnswersFirst (Lines (K.rules) D.Store) input fault (record { state = desk.old; held = W.contents writer.old })
+        (record { state = desk.new; held = W.contents writer.new }))) }
+
+    // Nothing was tried twice: where it ended well the writer may be written again.
+    ensures goes_on { OnOk result (W.can_write writer.new) }
 {
     run(alloc, &Scripter, desk, reader, writer)
 }

@@ -1,16 +1,17 @@
 //! Streams of HTTP requests: read, carried out at a desk, and answered.
-ghost use Rattle.std.specs.Prelude.{◌≡◌, IfOk, IfErr, IfSome};
-ghost use Rattle.up_http.specs.Serving.{Ran, Finished, AnswersFirst};
+ghost use Rattle.std.specs.Prelude.{◌≡◌, IfOk, IfErr, IfSome, OnOk};
+ghost use Rattle.up_http.specs.Serving.{RanRequests, FinishedRequests, AnswersFirst};
 ghost use Rattle.up_service.specs.Responses.{Responses};
 
 use crate::response::Responder;
 use sqlite::Alter;
 use std::alloc::Global;
-use std::io::{Read, Write};
 use up_desk::desk::Desk;
 use up_http::fault::ServeFault;
 use up_http::served::Served;
 use up_http::serving::serve;
+use up_lines::sink::Sink;
+use up_lines::source::Source;
 use up_sign::scheme::Scheme;
 
 /// Reads a stream of HTTP requests until it ends, carries out their commands at the desk, all at one moment in seconds since
@@ -20,22 +21,31 @@ use up_sign::scheme::Scheme;
 /// known at most 27,852,800 are read; nothing is tried twice. A fault tells how many requests were handed to the desk, whose
 /// effects stand, and how many answers were written whole. `Read` comes after all requests that were whole before it, and
 /// `Write` also where the writer takes no byte.
-pub fn serve_stream<K: Scheme, D: Alter, R: Read, W: Write>(
+pub fn serve_stream<K: Scheme, D: Alter, R: Source, W: Sink>(
     alloc: Global,
     desk: &mut Desk<K, D>,
     at: u64,
     reader: &mut R,
     writer: &mut W,
 ) -> Result<Served, ServeFault>
+    requires can_read { R.can_read reader.old }
+    requires can_write { W.can_write writer.old }
+
     // For any reader and writer: the bytes that came, what was answered of them, and what was written.
-    ensures ran { Ran (Responses (K.rules) D.Store at) desk.old desk.new (R.remaining reader.old) (R.remaining reader.new)
-        (W.contents writer.old) (W.contents writer.new) result }
+    ensures ran { RanRequests (Responses (K.rules) D.Store at) (R.remaining reader.old) (R.remaining reader.new)
+        (record { state = desk.old; held = W.contents writer.old })
+        (record { state = desk.new; held = W.contents writer.new }) result }
 
     // Where it is known what the reader has, by its requests.
     ensures whole { IfOk result (λ served. IfSome (R.remaining reader.old) (λ input.
-        Finished (Responses (K.rules) D.Store at) desk.old (W.contents writer.old) input served.requests desk.new (W.contents writer.new))) }
+        FinishedRequests (Responses (K.rules) D.Store at) input served.requests (record { state = desk.old; held = W.contents writer.old })
+        (record { state = desk.new; held = W.contents writer.new }))) }
     ensures prefix { IfErr result (λ fault. IfSome (R.remaining reader.old) (λ input.
-        AnswersFirst (Responses (K.rules) D.Store at) desk.old (W.contents writer.old) input fault desk.new (W.contents writer.new))) }
+        AnswersFirst (Responses (K.rules) D.Store at) input fault (record { state = desk.old; held = W.contents writer.old })
+        (record { state = desk.new; held = W.contents writer.new }))) }
+
+    // Nothing was tried twice: where it ended well the writer may be written again.
+    ensures goes_on { OnOk result (W.can_write writer.new) }
 {
     serve(alloc, &Responder { at }, desk, reader, writer)
 }

@@ -1,5 +1,6 @@
 use Rattle.std.proofs.Common.{[], ◌≡◌, ◌++◌, ◌∙◌, false, sym, subst, take, drop, take-append-drop, Some}
 use Rattle.up_http.specs.Serving.{Stopped}
+use Rattle.up_http.specs.Steps.{fault_at}
 use Rattle.up_http.specs.Feeding.{Gives}
 use Rattle.up_http.proofs.ServeLaws.{takes_next, stops_next}
 use Rattle.up_http.proofs.StreamLaws.{first_runs}
@@ -7,21 +8,21 @@ use Rattle.up_http.proofs.serving.serve_piece.Goals as goal
 
 pub returns-in-Ok-answer_counted-clause-ok : goal.returns-in-Ok-answer_counted-clause-ok
 returns-in-Ok-answer_counted-clause-ok g c =
-    let goes_on : c.args.progress.now.feeder.ended ≡ false = sym c.args.progress.now.ends ∙ c.requires in
+    let goes_on : c.args.progress.now.feeder.ended ≡ false = sym c.args.progress.now.ends ∙ c.requires.goes_on in
     let gives : Gives c.args.progress.now.feeder c.args.piece.now c.in-Ok.step.taken (Some c.in-Some.next) c.feed.new.self = subst (λ o. Gives c.args.progress.now.feeder c.args.piece.now c.in-Ok.step.taken o c.feed.new.self) c.in-Some.is (c.in-Ok.ensures.ok.going_on goes_on) in
     let (text, gave, wrote) = c.in-Ok-answer_counted.ensures.ok in
-    takes_next (g.A.Respond.gives c.args.responder.now) c.args.progress.now _ _ c.in-Some.next text _ _ _ _ goes_on (c.in-Ok-answer_counted.ensures.feeder ∙ gives.1) gives.2 gives.4 gives.3 gives.5 gave wrote c.in-Ok-answer_counted.ensures.called c.in-Ok-answer_counted.ensures.answered
+    takes_next (g.A.Respond.gives c.args.responder.now) c.args.progress.now _ _ c.in-Some.next text _ _ goes_on (c.in-Ok-answer_counted.ensures.feeder ∙ gives.1) gives.2 gives.4 gives.3 gives.5 gave wrote c.in-Ok-answer_counted.ensures.called c.in-Ok-answer_counted.ensures.answered
 
 pub returns-in-Err-answer_counted-clause-err : goal.returns-in-Err-answer_counted-clause-err
-returns-in-Err-answer_counted-clause-err g c first empty came so =
-    let goes_on : c.args.progress.now.feeder.ended ≡ false = sym c.args.progress.now.ends ∙ c.requires in
+returns-in-Err-answer_counted-clause-err g c first came so =
+    let goes_on : c.args.progress.now.feeder.ended ≡ false = sym c.args.progress.now.ends ∙ c.requires.goes_on in
     let gives : Gives c.args.progress.now.feeder c.args.piece.now c.in-Ok.step.taken (Some c.in-Some.next) c.feed.new.self = subst (λ o. Gives c.args.progress.now.feeder c.args.piece.now c.in-Ok.step.taken o c.feed.new.self) c.in-Some.is (c.in-Ok.ensures.ok.going_on goes_on) in
-    subst (λ l. Stopped (g.A.Respond.gives c.args.responder.now) c.in-Err-answer_counted.cause first empty (came ++ l) false c.answer_counted.new.progress.called c.answer_counted.new.progress.answered c.answer_counted.new.state (g.W.Write.contents c.answer_counted.new.writer))
+    subst (λ l. Stopped (g.A.Respond.gives c.args.responder.now) (came ++ l) false (fault_at c.in-Err-answer_counted.cause c.answer_counted.new.progress) first (record { state = c.answer_counted.new.state; held = g.W.Sink.contents c.answer_counted.new.writer }))
     (take-append-drop c.in-Ok.step.taken c.args.piece.now)
-    (stops_next (g.A.Respond.gives c.args.responder.now) c.in-Err-answer_counted.cause c.args.progress.now _ _ (take c.in-Ok.step.taken c.args.piece.now) (drop c.in-Ok.step.taken c.args.piece.now) c.in-Some.next _ _ _ _ goes_on gives.3 gives.5 c.in-Err-answer_counted.ensures.err c.in-Err-answer_counted.ensures.called c.in-Err-answer_counted.ensures.answered first empty came so)
+    (stops_next (g.A.Respond.gives c.args.responder.now) c.in-Err-answer_counted.cause c.args.progress.now c.answer_counted.new.progress (take c.in-Ok.step.taken c.args.piece.now) (drop c.in-Ok.step.taken c.args.piece.now) c.in-Some.next _ _ goes_on gives.3 gives.5 c.in-Err-answer_counted.ensures.err c.in-Err-answer_counted.ensures.called c.in-Err-answer_counted.ensures.answered first came so)
 
 pub answer_counted-requires-clause-asks : goal.answer_counted-requires-clause-asks
 answer_counted-requires-clause-asks g c =
-    let goes_on : c.args.progress.now.feeder.ended ≡ false = sym c.args.progress.now.ends ∙ c.requires in
+    let goes_on : c.args.progress.now.feeder.ended ≡ false = sym c.args.progress.now.ends ∙ c.requires.goes_on in
     let gives : Gives c.args.progress.now.feeder c.args.piece.now c.in-Ok.step.taken (Some c.in-Some.next) c.feed.new.self = subst (λ o. Gives c.args.progress.now.feeder c.args.piece.now c.in-Ok.step.taken o c.feed.new.self) c.in-Some.is (c.in-Ok.ensures.ok.going_on goes_on) in
     first_runs c.args.progress.now.feeder.given _ c.in-Some.next [] (gives.5 [])

@@ -7,33 +7,35 @@ use Rattle.up_http.proofs.ServeLaws.{fresh, nearer, piece_left, room_left, ran_e
 use Rattle.up_http.proofs.serving.serve_reads.Goals as goal
 
 pub loop-progress-init : goal.loop-progress-init
-loop-progress-init g c = ([], Consumes-nil _, fresh (g.A.Respond.gives c.args.responder.now) c.args.state.now _ c.args.progress.now c.requires.feeder c.requires.none_called c.requires.none_answered, omega arith, omega arith, omega arith, omega arith)
+loop-progress-init g c = ([], Consumes-nil _, fresh (g.A.Respond.gives c.args.responder.now) _ c.args.progress.now c.requires.fresh.feeder c.requires.fresh.none_called c.requires.fresh.none_answered, omega arith, omega arith, omega arith, omega arith, c.requires.can_read, c.requires.can_write)
 
 -- the length of what is left of a piece
 left : (xs : List ℕ) (at filled : ℕ) → at ≤ filled → filled ≤ length xs → length (take (filled - at) (drop at xs)) ≡ filled - at
 left xs at filled h k = length-take-le (filled - at) (drop at xs) (omega (arith, length-drop at xs))
 
 pub loop-progress-smaller-in-Ok : goal.loop-progress-smaller-in-Ok
-loop-progress-smaller-in-Ok g c = let (came, read, so, budget, inside, within, room) = c.loop-progress.invariant in
+loop-progress-smaller-in-Ok g c = let (came, read, so, budget, inside, within, room, can_read, can_write) = c.loop-progress.invariant in
     nearer c.loop-progress.most c.loop-progress.at c.loop-progress.filled c.in-Ok.taken c.loop-progress.progress.feeder.given c.serve_piece.new.progress.feeder.given _ c.if-at-filled.true
     (left c.loop-progress.buffer c.loop-progress.at c.loop-progress.filled inside within) c.in-Ok.ensures.taken.0 c.in-Ok.ensures.taken.1
 
 pub loop-progress-preserved-in-Ok : goal.loop-progress-preserved-in-Ok
-loop-progress-preserved-in-Ok g c = let (came, read, so, budget, inside, within, room) = c.loop-progress.invariant in
+loop-progress-preserved-in-Ok g c = let (came, read, so, budget, inside, within, room, can_read, can_write) = c.loop-progress.invariant in
     let n = c.in-Ok.taken in
     let piece = take (c.loop-progress.filled - c.loop-progress.at) (drop c.loop-progress.at c.loop-progress.buffer) in
     let long : length piece ≡ c.loop-progress.filled - c.loop-progress.at = left c.loop-progress.buffer c.loop-progress.at c.loop-progress.filled inside within in
     let few : n ≤ length piece = c.in-Ok.ensures.taken.0 in
     let some : length (take n piece) ≡ n = length-take-le n piece few in (
       came ++ take n piece,
-      subst (Consumes (g.R.Read.remaining c.args.reader.now) (g.R.Read.remaining c.loop-progress.reader))
+      subst (Consumes (g.R.Source.remaining c.args.reader.now) (g.R.Source.remaining c.loop-progress.reader))
           (ap (λ l. came ++ l) (sym (piece_left c.loop-progress.buffer c.loop-progress.at c.loop-progress.filled n (omega arith)))
           ∙ sym (append_assoc came (take n piece) (take (c.loop-progress.filled - (c.loop-progress.at + n)) (drop (c.loop-progress.at + n) c.loop-progress.buffer)))) read,
-      c.in-Ok.ensures.ok c.args.state.now (g.W.Write.contents c.args.writer.now) came so,
+      c.in-Ok.ensures.ok _ came so,
       omega (arith, budget, some, few, long, length-append came (take n piece)),
       omega (arith, few, long),
       within,
       room,
+      can_read,
+      c.in-Ok.ensures.goes_on,
     )
 
 -- nothing is left of the piece, and nothing was read
@@ -42,18 +44,17 @@ consumed_none had mid has came piece buffer k n none none' p q =
     subst (Consumes had has) (append-nil (came ++ []) ∙ append-nil came)
     (Consumes-trans had mid has (came ++ []) [] (subst (λ k. Consumes had mid (came ++ take k piece)) none p) (subst (λ n. Consumes mid has (take n buffer)) none' q))
 
-pub returns-in-Ok-eq0 : goal.returns-in-Ok-eq0
-returns-in-Ok-eq0 g c = let (came, read, so, budget, inside, within, room) = c.loop-progress.invariant in
+pub returns-in-Ok-eq0-clause-ran : goal.returns-in-Ok-eq0-clause-ran
+returns-in-Ok-eq0-clause-ran g c = let (came, read, so, budget, inside, within, room, can_read, can_write) = c.loop-progress.invariant in
     let none : c.loop-progress.filled - c.loop-progress.at ≡ 0 = omega (arith, c.if-at-filled.false) in
     let goes_on : c.loop-progress.progress.feeder.ended ≡ false = sym c.loop-progress.progress.ends ∙ c.loop-progress-test.true in
-    let below = room_left (g.A.Respond.gives c.args.responder.now) c.args.state.now (g.W.Write.contents c.args.writer.now) came c.loop-progress.progress c.loop-progress.state (g.W.Write.contents c.loop-progress.writer) so goes_on in
-    ran_end (g.A.Respond.gives c.args.responder.now) c.finish.result c.args.state.now c.finish.new.state (g.R.Read.remaining c.args.reader.now) (g.R.Read.remaining c.read_piece.new.reader) (g.W.Write.contents c.args.writer.now) (g.W.Write.contents c.finish.new.writer)
-    came c.loop-progress.progress c.loop-progress.state (g.W.Write.contents c.loop-progress.writer) c.finish.new.progress
-    (consumed_none _ (g.R.Read.remaining c.loop-progress.reader) _ came (drop c.loop-progress.at c.loop-progress.buffer) c.read_piece.new.buffer (c.loop-progress.filled - c.loop-progress.at) c.in-Ok-eq0.field-0 none c.in-Ok-eq0.field-0-test read c.in-Ok-eq0.ensures.bytes)
+    let below = room_left (g.A.Respond.gives c.args.responder.now) _ came c.loop-progress.progress _ so goes_on in
+    ran_end (g.A.Respond.gives c.args.responder.now) c.finish.result _ _ (g.R.Source.remaining c.args.reader.now) (g.R.Source.remaining c.read_piece.new.reader) came c.loop-progress.progress _ c.finish.new.progress
+    (consumed_none _ (g.R.Source.remaining c.loop-progress.reader) _ came (drop c.loop-progress.at c.loop-progress.buffer) c.read_piece.new.buffer (c.loop-progress.filled - c.loop-progress.at) c.in-Ok-eq0.field-0 none c.in-Ok-eq0.field-0-test read c.in-Ok-eq0.ensures.bytes)
     (omega (arith, below)) (c.in-Ok-eq0.ensures.end c.in-Ok-eq0.field-0-test (omega (arith, below, budget, none)) room) so c.finish.ensures.ok c.finish.ensures.err
 
-pub returns-in-Err : goal.returns-in-Err
-returns-in-Err g c = let (came, read, so, budget, inside, within, room) = c.loop-progress.invariant in
+pub returns-in-Err-clause-ran : goal.returns-in-Err-clause-ran
+returns-in-Err-clause-ran g c = let (came, read, so, budget, inside, within, room, can_read, can_write) = c.loop-progress.invariant in
     let piece = take (c.loop-progress.filled - c.loop-progress.at) (drop c.loop-progress.at c.loop-progress.buffer) in
-    ran_stop (g.A.Respond.gives c.args.responder.now) c.in-Err.cause c.args.state.now _ _ _ _ _ (came ++ piece) c.serve_piece.new.progress read
-    (omega (arith, budget, left c.loop-progress.buffer c.loop-progress.at c.loop-progress.filled inside within, length-append came piece)) (c.in-Err.ensures.err c.args.state.now _ came so)
+    ran_stop (g.A.Respond.gives c.args.responder.now) c.in-Err.cause _ _ _ _ (came ++ piece) c.serve_piece.new.progress read
+    (omega (arith, budget, left c.loop-progress.buffer c.loop-progress.at c.loop-progress.filled inside within, length-append came piece)) (c.in-Err.ensures.err _ came so)

@@ -1,13 +1,15 @@
 use Rattle.std.proofs.Common.{◌≡◌, ◌≤◌, ◌<◌, ◌+◌, ◌-◌, ◌*◌, ◌++◌, ℕ, List, length, take, drop}
 use Rattle.std.specs.Io.KnownBytes.{Consumes}
-use Rattle.up_http.specs.Serving.{Sofar, most_bytes}
+use Rattle.up_http.specs.Serving.{most_bytes}
+use Rattle.up_http.specs.Steps.{Sofar}
 use Rattle.up_http.proofs.serving.serve_reads.Given as goal
 
--- the bytes that were taken, and those of the piece that weren't yet
+-- the bytes that were taken, those of the piece that weren't yet, and that more may be read and answers written
 abbrev pub invariant-loop-progress : goal.invariant-loop-progress
-invariant-loop-progress g l = (came : List ℕ) × Consumes (g.R.Read.remaining l.fn.reader) (g.R.Read.remaining l.reader) (came ++ take (l.filled - l.at) (drop l.at l.buffer))
-    × Sofar (g.A.Respond.gives l.responder) l.fn.state (g.W.Write.contents l.fn.writer) came l.progress l.state (g.W.Write.contents l.writer)
+invariant-loop-progress g l = (came : List ℕ) × Consumes (g.R.Source.remaining l.fn.reader) (g.R.Source.remaining l.reader) (came ++ take (l.filled - l.at) (drop l.at l.buffer))
+    × Sofar (g.A.Respond.gives l.responder) (record { state = l.fn.state; held = g.W.Sink.contents l.fn.writer }) came l.progress (record { state = l.state; held = g.W.Sink.contents l.writer })
     × (length came + (l.filled - l.at) + l.most ≡ most_bytes) × (l.at ≤ l.filled) × (l.filled ≤ length l.buffer) × (0 < length l.buffer)
+    × g.R.Source.can_read l.reader × g.W.Sink.can_write l.writer
 
 -- each turn takes bytes, gives a request, or reads
 abbrev pub decreases-loop-progress : goal.decreases-loop-progress

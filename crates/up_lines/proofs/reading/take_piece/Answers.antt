@@ -6,6 +6,5 @@ pub returns-in_err-take_byte-clause-err : goal.returns-in_err-take_byte-clause-e
 returns-in_err-take_byte-clause-err g c =
     passed_on c.from_residual.result c.in_err-take_byte.field-0.0 _ c.from_residual.ensures.1
     (stops_piece g.I.Interpret.gives c.args.piece.now c.loop-byte.byte-index c.in_err-take_byte.field-0.0
-    c.args.progress.now c.loop-byte.progress c.take_byte.new.progress c.args.state.now c.loop-byte.state c.take_byte.new.state
-    (g.W.Write.contents c.args.writer.now) (g.W.Write.contents c.loop-byte.writer) (g.W.Write.contents c.take_byte.new.writer)
-    c.loop-byte-test.true c.loop-byte.invariant c.in_err-take_byte.ensures.err)
+    c.args.progress.now c.loop-byte.progress c.take_byte.new.progress _ _ _
+    c.loop-byte-test.true c.loop-byte.invariant.taken c.in_err-take_byte.ensures.err)

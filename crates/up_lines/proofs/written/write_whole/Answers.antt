@@ -7,6 +7,7 @@ pub loop-at-preserved : goal.loop-at-preserved
 loop-at-preserved g c = record {
   in_text = grind (arith, common_steps, c.in-Ok.ensures.bound);
   wrote = wrote_more _ _ _ c.args.text.now c.loop-at.at c.in-Ok.n c.loop-at.invariant.wrote c.in-Ok.ensures.bytes;
+  can = c.in-Ok.ensures.goes_on (grind (arith, common_steps));
 }
 
 pub returns-in-Err-clause-err : goal.returns-in-Err-clause-err

@@ -10,6 +10,7 @@ pub returns-clause-ok : goal.returns-clause-ok
 returns-clause-ok g c =
     IfOk-weaker c.answer_response.result _ _ (λ t is. (
       c.call-answer.ensures.scheme,
+      (c.call-answer.result, is, c.call-answer.ensures.outright),
       responded (g.K.Scheme.rules c.args.desk.now.scheme) c.args.at c.args.command.now c.args.last c.args.head c.call-answer.result (string_bytes t)
           (state g.D.Store c.args.desk.now.store) (state g.D.Store c.call-answer.new.self.store) c.call-answer.ensures.clean c.call-answer.ensures.served is,
     )) c.answer_response.ensures
@@ -20,6 +21,7 @@ returns-clause-err g c =
       answer_response c.call-answer.result c.args.last c.args.head,
       (
         c.call-answer.ensures.scheme,
+        (c.call-answer.result, refl, c.call-answer.ensures.outright),
         responded (g.K.Scheme.rules c.args.desk.now.scheme) c.args.at c.args.command.now c.args.last c.args.head c.call-answer.result (answer_response c.call-answer.result c.args.last c.args.head)
             (state g.D.Store c.args.desk.now.store) (state g.D.Store c.call-answer.new.self.store) c.call-answer.ensures.clean c.call-answer.ensures.served refl,
       ),

@@ -1,0 +1,68 @@
+-- The steps of a run over a stream.
+use Rattle.std.specs.Prelude.{◌≡◌, ◌⊎◌, ℕ, ◌+◌, ◌*◌, ◌<◌, ◌≤◌, Bool, true, false, Some, List, [], ◌∷◌, ◌++◌, length, Result, Ok, Err}
+use Rattle.std.specs.Io.KnownBytes.{Appends}
+use Rattle.up_lines.specs.Runs.{At, Run, BreaksOff, written}
+use Rattle.up_http.specs.Requests.{Firsts, most_requests, most_request}
+use Rattle.up_http.specs.Feeding.{Waits}
+use Rattle.up_http.specs.Serving.{Gives, plain, calls, Stopped, FinishedRequests}
+use Rattle.up_http.specs.declared.asked.Next.{Next}
+use Rattle.up_http.specs.declared.progress.Progress.{Progress}
+use Rattle.up_http.specs.declared.fault.Fault.{Fault}
+use Rattle.up_http.specs.declared.fault.Fault.TheVariants.{Memory, Read, Write}
+use Rattle.up_lines.specs.declared.fault.ScriptCause.TheVariants as why
+use Rattle.up_http.specs.declared.fault.ServeFault.{ServeFault}
+use Rattle.up_http.specs.declared.served.Served.{Served}
+
+-- of the bytes that were taken the whole requests were answered
+pub record Sofar {S : Type 0} (gives : Gives S) (first : At S) (came : List ℕ) (at : Progress) (now : At S) : Type 0 where
+  pub done : List Next
+  pub texts : List (List ℕ)
+  pub firsts : (more : List ℕ) → Firsts 0 (came ++ more) done at.feeder.ended (at.feeder.rest ++ more)
+  pub given_is : at.feeder.given ≡ length done
+  pub few : length done ≤ most_requests
+  pub below : at.feeder.ended ≡ false → at.feeder.given < most_requests
+  pub waits : at.feeder.ended ≡ false → Waits at.feeder.rest
+  pub bytes : length came ≤ at.feeder.given * most_request + length at.feeder.rest
+  pub run : Run gives first.state done texts now.state
+  pub answered_is : at.answered ≡ length texts
+  pub called_is : at.called ≡ calls done
+  pub wrote : Appends first.held now.held (written plain texts)
+
+-- the result of a run, told with what was called and answered
+abbrev pub fault_at : Fault → Progress → ServeFault
+fault_at cause at = record { cause = cause; called = at.called; answered = at.answered }
+
+abbrev pub told : Result (Unit {0}) Fault → Progress → Result Served ServeFault
+told (Ok _) at = Ok (record { requests = at.answered })
+told (Err cause) at = Err (fault_at cause at)
+
+-- bytes are taken
+abbrev pub Takes : {S : Type 0} → Gives S → List ℕ → Progress → At S → Progress → At S → Type 0
+Takes {S} gives bytes old before new after = (first : At S) (came : List ℕ) → Sofar gives first came old before → Sofar gives first (came ++ bytes) new after
+
+-- the run stops among bytes
+abbrev pub Stops : {S : Type 0} → Gives S → Fault → Bool → List ℕ → Progress → At S → Progress → At S → Type 0
+Stops {S} gives cause ended bytes old before new after = (first : At S) (came : List ℕ) → Sofar gives first came old before
+    → Stopped gives (came ++ bytes) ended (fault_at cause new) first after
+
+-- a request isn't answered whole: without memory nothing of its answer is written, and where the writer failed a part is
+abbrev pub Unanswered : {S : Type 0} → Gives S → Fault → Next → At S → At S → Type 0
+Unanswered gives Memory next old new = BreaksOff gives plain why.Memory (Some next) old new
+Unanswered gives Write next old new = BreaksOff gives plain why.Write (Some next) old new
+Unanswered gives Read next old new = ⊥
+
+-- a step takes bytes, all of the piece or those up to the end of a request
+abbrev pub Moves : ℕ → List ℕ → Progress → Progress → Type 0
+Moves n piece old new = (n ≤ length piece) × (((n ≡ length piece) × (new.feeder.given ≡ old.feeder.given)) ⊎ ((new.feeder.given ≡ old.feeder.given + 1) × (old.feeder.given < most_requests)))
+
+-- what is left at the input's end is answered
+abbrev pub Completes : {S : Type 0} → Gives S → Progress → At S → Progress → At S → Type 0
+Completes {S} gives old before new after = (first : At S) (came : List ℕ) → Sofar gives first came old before
+    → FinishedRequests gives came new.answered first after
+
+-- nothing is counted yet
+pub record IsFresh (at : Progress) : Type 0 where
+  pub feeder : at.feeder ≡ record { rest = []; given = 0; ended = false }
+  pub over : at.over ≡ false
+  pub none_called : at.called ≡ 0
+  pub none_answered : at.answered ≡ 0

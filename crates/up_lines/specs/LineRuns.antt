@@ -1,0 +1,55 @@
+-- What a run over lines leaves.
+use Rattle.std.specs.Prelude.{◌≡◌, ℕ, Bool, true, false, ⊤, Option, Some, None, List, [], ◌∷◌, ◌++◌, Result}
+use Rattle.up_lines.specs.declared.fault.ScriptCause.{ScriptCause}
+use Rattle.up_lines.specs.declared.fault.ScriptCause.TheVariants.{Memory, Read, Write, TooLong}
+use Rattle.up_lines.specs.declared.fault.ScriptFault.{ScriptFault}
+use Rattle.up_lines.specs.Lines.{newline, most_bytes, lines_of, fits, asked}
+use Rattle.up_lines.specs.Runs.{At, AnswersUpTo, Finished, Ran}
+
+-- what answers lines: in a state a line may have this answer, which leaves that state
+abbrev pub Gives : Type 0 → Type 1
+Gives S = S → List ℕ → List ℕ → S → Type 0
+
+-- an answer as it is written
+abbrev pub print : List ℕ → List ℕ
+print answer = answer ++ newline ∷ []
+
+-- of the lines that are to be answered these are the first, and then comes this one, if it was handed on
+abbrev pub AreFirst : List (List ℕ) → List (List ℕ) → Option (List ℕ) → Type 0
+AreFirst lines done None = (others : List (List ℕ)) × (lines ≡ done ++ others)
+AreFirst lines done (Some next) = (others : List (List ℕ)) × (lines ≡ done ++ next ∷ others)
+
+-- all lines of bytes that are an input, which are within the limits
+abbrev pub AreAll : List ℕ → List (List ℕ) → Type 0
+AreAll input lines = (fits (lines_of true input) ≡ true) × (lines ≡ asked (lines_of true input))
+
+-- a limit is passed, whatever else follows, and nothing that follows is answered
+abbrev pub IsPast : List ℕ → Type 0
+IsPast came = (more : List ℕ) → (fits (lines_of true (came ++ more)) ≡ false) × (asked (lines_of true (came ++ more)) ≡ asked (lines_of false came))
+
+-- what a cause says of the bytes that came, of whether the input ended behind them, and of the lines that were answered: a failed read
+-- and a passed limit come behind all that were whole
+abbrev pub Tells : ScriptCause → List ℕ → Bool → List (List ℕ) → Type 0
+Tells TooLong came ended done = IsPast came × (done ≡ asked (lines_of ended came))
+Tells Read came ended done = (ended ≡ false) × (fits (lines_of true came) ≡ true) × (done ≡ asked (lines_of ended came))
+Tells Memory came ended done = ⊤
+Tells Write came ended done = ⊤
+
+-- what a run that ended early leaves of the bytes that came
+abbrev pub Stopped : {S : Type 0} → Gives S → List ℕ → Bool → ScriptFault → At S → At S → Type 0
+Stopped gives came ended fault first now =
+    AnswersUpTo gives print (λ done next. AreFirst (asked (lines_of ended came)) done next × Tells fault.cause came ended done) fault.cause first fault.lines now
+
+-- what a run that read to the end leaves: each line has its answer, in order
+abbrev pub FinishedLines : {S : Type 0} → Gives S → List ℕ → ℕ → At S → At S → Type 0
+FinishedLines gives input answered first now = Finished gives print (AreAll input) first answered now
+
+-- a run over a reader and a writer
+abbrev pub RanLines : {S : Type 0} → Gives S → Option (List ℕ) → Option (List ℕ) → At S → At S → Result ℕ ScriptFault → Type 0
+RanLines gives had has first now result =
+    Ran most_bytes (λ came ended answered. (ended ≡ true) × FinishedLines gives came answered first now) (λ came ended fault. Stopped gives came ended fault first now) had has result
+
+-- of the lines of an input the first so many have their answers, written whole; the next one may be answered, and less than its whole
+-- answer written
+abbrev pub AnswersFirst : {S : Type 0} → Gives S → List ℕ → ScriptFault → At S → At S → Type 0
+AnswersFirst gives input fault first now = AnswersUpTo gives print (AreFirst (asked (lines_of true input))) fault.cause first fault.lines now

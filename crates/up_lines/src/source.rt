@@ -1,0 +1,36 @@
+//! What bytes are read from.
+ghost use Rattle.std.specs.Prelude.{◌<◌, ℕ, List, Option, IfOk};
+ghost use Rattle.std.specs.Io.{ReadsAtMost};
+ghost use Rattle.std.specs.Io.KnownBytes.{ReadConsumes};
+
+use std::io;
+use std::io::Read;
+
+/// What bytes are read from, up to the first read that fails or gives none: only a read that gave a byte ensures that it may be
+/// read again.
+pub trait Source {
+    // The bytes that reads will give from here on, where they are known.
+    ghost remaining: { Self → Option (List ℕ) };
+
+    // It may be read.
+    ghost can_read: { Self → Type 0 };
+
+    /// Reads bytes to the buffer's front, and tells how many they are.
+    fn read_some(&mut self, buffer: &mut [u8]) -> io::Result<usize>
+        requires { can_read self.old }
+        ensures bound { ReadsAtMost result buffer.new }
+        ensures bytes { ReadConsumes (remaining self.old) (remaining self.new) result buffer.new }
+        ensures goes_on { IfOk result (λ n. 0 < n → can_read self.new) };
+}
+
+impl<R: Read> Source for R {
+    ghost use Rattle.std.specs.Prelude.{⊤};
+
+    ghost remaining = { R.remaining };
+
+    ghost can_read = { λ _. ⊤ };
+
+    fn read_some(&mut self, buffer: &mut [u8]) -> io::Result<usize> {
+        self.read(buffer)
+    }
+}

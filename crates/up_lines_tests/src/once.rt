@@ -1,0 +1,121 @@
+//! A reader and a writer that may not be used again once they failed, or gave or took nothing.
+use crate::lines::Bracket;
+use std::io;
+use up_lines::fault::{ScriptCause as Cause, ScriptFault};
+use up_lines::run;
+use up_lines::sink::Sink;
+use up_lines::source::Source;
+
+/// Gives a byte at a time, and fails at one call. What asks it again afterwards isn't proved.
+#[derive(Drop)]
+struct Once<'a> {
+    bytes: &'a [u8],
+    calls: u32,
+    fails_at: u32,
+    over: bool,
+}
+
+impl Source for Once<'_> {
+    ghost use Rattle.std.specs.Prelude.{◌≡◌, None, false};
+
+    ghost remaining = { λ _. None };
+
+    ghost can_read = { λ s. s.over ≡ false };
+
+    fn read_some(&mut self, buffer: &mut [u8]) -> io::Result<usize> {
+        let is_open = !self.over;
+        prove!(is_open);
+        self.over = true;
+        self.calls = self.calls.saturating_add(1);
+        if self.calls == self.fails_at {
+            return Err(io::Error::from(io::ErrorKind::Other));
+        }
+        if self.bytes.is_empty() || buffer.is_empty() {
+            return Ok(0);
+        }
+        buffer[0] = self.bytes[0];
+        self.bytes = &self.bytes[1..];
+        self.over = false;
+        Ok(1)
+    }
+}
+
+/// Takes a byte at a time, and fails at one call. What writes to it afterwards isn't proved.
+#[derive(Drop)]
+struct Last {
+    written: u32,
+    fails_at: u32,
+    over: bool,
+}
+
+impl Sink for Last {
+    ghost use Rattle.std.specs.Prelude.{◌≡◌, None, false};
+
+    ghost contents = { λ _. None };
+
+    ghost can_write = { λ s. s.over ≡ false };
+
+    fn write_some(&mut self, bytes: &[u8]) -> io::Result<usize> {
+        let is_open = !self.over;
+        prove!(is_open);
+        if bytes.is_empty() {
+            return Ok(0);
+        }
+        if self.written == self.fails_at {
+            self.over = true;
+            return Err(io::Error::from(io::ErrorKind::Other));
+        }
+        self.written = self.written.saturating_add(1);
+        Ok(1)
+    }
+}
+
+#[test]
+fn ends_at_the_first_failure(rt: HostRuntime) {
+    // What fails, the answer, how often was read, and how many bytes were written.
+    let table: [((u32, u32), Result<u32, ScriptFault>, (u32, u32)); 4] = [
+        ((0, 99), Ok(2), (6, 9)),
+        (
+            (3, 99),
+            Err(ScriptFault {
+                cause: Cause::Read,
+                lines: 1,
+            }),
+            (3, 4),
+        ),
+        (
+            (6, 99),
+            Err(ScriptFault {
+                cause: Cause::Read,
+                lines: 2,
+            }),
+            (6, 9),
+        ),
+        (
+            (0, 6),
+            Err(ScriptFault {
+                cause: Cause::Write,
+                lines: 1,
+            }),
+            (5, 6),
+        ),
+    ];
+    for ((reads, writes), wanted, (calls, written)) in table {
+        let mut state = 0;
+        let mut reader = Once {
+            bytes: b"a\nbc\n",
+            calls: 0,
+            fails_at: reads,
+            over: false,
+        };
+        let mut writer = Last {
+            written: 0,
+            fails_at: writes,
+            over: false,
+        };
+        let result = run(rt.alloc(), &Bracket, &mut state, &mut reader, &mut writer);
+        assert_eq!(rt; result, wanted);
+        assert_eq!(rt; reader.calls, calls);
+        assert_eq!(rt; writer.written, written);
+    }
+}
