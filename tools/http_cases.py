@@ -39,11 +39,11 @@ PRIMARY = trials.TOP / "examples" / "primary"
 FIRST_PATH = (trials.TOP / "examples" / "first_path" / "script").read_text(encoding="ascii").split("\n")[:-1]
 GIVEN, MANIFEST, REPLY = ((PRIMARY / name).read_bytes() for name in ("manifest-input.json", "manifest.json", "reply.json"))
 MANIFEST, REPLY = MANIFEST.strip(), REPLY.strip()
-PATIENCE = 30
+PATIENCE = 90
 
 # how long the service waits for a client that does nothing, and for a connection as a whole, in seconds; what more a busy machine
 # may take, and how many times as fast its clock is made to go
-SILENCE, WHOLE, SLACK, FAST = 30, 300, 15, 30
+SILENCE, WHOLE, SLACK, FAST = 30, 300, 60, 30
 
 GET_ROOT = b"GET /image/root.json HTTP/1.1\r\nHost: d\r\n\r\n"
 NO_FILE = b"GET /image/nofile HTTP/1.1\r\nHost: d\r\n\r\n"
@@ -336,7 +336,7 @@ def clock_once(program, path):
 def once_whole(program, path):
     """Each request is answered as soon as it is whole, while the next one is still cut."""
     half, silence = len(MANIFEST) // 2, 1
-    with served(program, path, 1) as running, connected(running, SILENCE // 2) as client:
+    with served(program, path, 1) as running, connected(running, SILENCE - 2) as client:
         client.sendall(NO_FILE + POST % len(MANIFEST) + MANIFEST[:half])
         well = client.recv(len(OPEN), socket.MSG_WAITALL) == OPEN and not select.select([client], [], [], silence)[0]
         client.sendall(MANIFEST[half:] + NO_FILE[:1])
