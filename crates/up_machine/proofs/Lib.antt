@@ -44,3 +44,4 @@ pub mod AcceptedManifests
 pub mod NamedImages
 pub mod DecidedManifests
 pub mod SoundRows
+pub mod Senders

@@ -3,13 +3,16 @@ ghost use Rattle.std.specs.Prelude.{◌≡◌, ◌<◌, ◌≤◌, ◌+◌, None
 ghost use Rattle.up_canon.specs.Canon.{max_count};
 ghost use Rattle.up_canon.specs.Moments.{last_command_moment};
 ghost use Rattle.up_canon.specs.Names.{first_repeated};
+ghost use Rattle.up_machine.specs.Keys.{hashed_roles};
 ghost use Rattle.up_machine.specs.RowsFit.{roles_can_sign};
 ghost use Rattle.up_machine.specs.ManifestRows.{accepted_row as accepted_row_of, accepted_rows as accepted_rows_of, kept_of, plan_by_rows};
 
 use crate::decision::AcceptedRows;
 use crate::director_files::{reply_text, targets_for};
+use crate::hashed_keys::HashedRoleKeys;
 use crate::reported::{fitted_ecus, reported_rows};
-use crate::rows::{Founding, Kept, VehicleRow, VehicleRows};
+use crate::rows::{Kept, VehicleRow, VehicleRows};
+use crate::sender::Sender;
 use std::alloc::{AllocError, Global};
 use up_canon::count::Count;
 use up_canon::listed::Duplicate;
@@ -30,29 +33,22 @@ pub(crate) fn accepted_rows<K: Scheme>(
     scheme: &K,
     at: Moment,
     incoming: &Incoming,
-    founding: &Founding,
-    rows: &VehicleRows,
+    sender: &Sender,
+    hashed: &HashedRoleKeys,
     images: &Table<Image>,
     campaigns: &[Campaign],
 ) -> Result<AcceptedRows, AllocError>
-    requires keys { IsTrue (roles_can_sign (K.rules scheme.now) founding.now.keys.director) }
-    requires version { rows.now.vehicle.version < max_count }
+    requires keys { IsTrue (roles_can_sign (K.rules scheme.now) sender.now.founding.keys.director) }
+    requires hashed { hashed.now ≡ hashed_roles (K.rules scheme.now) sender.now.founding.keys.director }
+    requires version { sender.now.vehicle.vehicle.version < max_count }
     requires moment { at ≤ last_command_moment }
-    requires once { first_repeated (map (λ row. row.ecu) rows.now.ecus) ≡ None }
-    ensures { IfOk result (λ accepted. accepted ≡ accepted_rows_of (K.rules scheme.now) founding.now rows.now at incoming.now images.now campaigns.now) }
+    requires once { first_repeated (map (λ row. row.ecu) sender.now.vehicle.ecus) ≡ None }
+    ensures { IfOk result (λ accepted. accepted ≡ accepted_rows_of (K.rules scheme.now) sender.now.founding sender.now.vehicle at incoming.now images.now campaigns.now) }
 {
+    let rows = sender.vehicle;
     let reports = incoming.manifest.reports.as_slice();
     let plan = plan_for(alloc, rows, reports, images, campaigns)?;
-    let kept = kept_row(
-        alloc,
-        scheme,
-        at,
-        incoming,
-        founding,
-        &rows.vehicle,
-        images,
-        plan,
-    )?;
+    let kept = kept_row(alloc, scheme, at, incoming, sender, hashed, images, plan)?;
     let vehicle = VehicleRows {
         vehicle: accepted_row(alloc, &rows.vehicle, incoming.manifest.counter)?,
         ecus: reported_rows(alloc, rows.ecus.as_slice(), reports)?,
@@ -86,19 +82,21 @@ fn kept_row<K: Scheme>(
     scheme: &K,
     at: Moment,
     incoming: &Incoming,
-    founding: &Founding,
-    row: &VehicleRow,
+    sender: &Sender,
+    hashed: &HashedRoleKeys,
     images: &Table<Image>,
     plan: Plan,
 ) -> Result<Kept, AllocError>
-    requires keys { IsTrue (roles_can_sign (K.rules scheme.now) founding.now.keys.director) }
-    requires version { row.now.version < max_count }
+    requires keys { IsTrue (roles_can_sign (K.rules scheme.now) sender.now.founding.keys.director) }
+    requires hashed { hashed.now ≡ hashed_roles (K.rules scheme.now) sender.now.founding.keys.director }
+    requires version { sender.now.vehicle.vehicle.version < max_count }
     requires moment { at ≤ last_command_moment }
     requires once { first_repeated (map (λ a. a.ecu) plan.assigned) ≡ None }
-    ensures { IfOk result (λ kept. kept ≡ kept_of (K.rules scheme.now) founding.now row.now at incoming.now images.now plan) }
+    ensures { IfOk result (λ kept. kept ≡ kept_of (K.rules scheme.now) sender.now.founding sender.now.vehicle.vehicle at incoming.now images.now plan) }
 {
+    let (founding, row) = (sender.founding, &sender.vehicle.vehicle);
     let targets = targets_for(alloc, images, plan.assigned.as_slice())?;
-    let reply = reply_text(alloc, scheme, at, founding, row, targets)?;
+    let reply = reply_text(alloc, scheme, at, founding, hashed, row, targets)?;
     Ok(Kept {
         vehicle: row.vehicle.copy(alloc)?,
         counter: incoming.manifest.counter,

@@ -1,17 +1,23 @@
 //! The decision on a manifest that a vehicle delivers.
-ghost use Rattle.std.specs.Prelude.{◌≡◌, ◌≤◌, IfSome, IsTrue, option_copied};
+ghost use Rattle.std.specs.Prelude.{◌≡◌, ◌≤◌, ◌<◌, ℕ, IfSome, IsTrue, option_copied};
 ghost use Rattle.up_canon.specs.Moments.{last_command_moment};
+ghost use Rattle.up_sign.specs.Schemes.{Rules};
+ghost use Rattle.up_machine.specs.Keys.{hashed_roles as hashed_roles_of};
 ghost use Rattle.up_machine.specs.RowsFit.{founding_fits, rows_fit};
 ghost use Rattle.up_machine.specs.ManifestRows.{repeated as repeated_in};
+ghost use Rattle.up_machine.specs.Rows.{kept_at};
 ghost use Rattle.up_machine.specs.State.{State};
 ghost use Rattle.up_machine.specs.Sound.{IsSound};
+ghost use Rattle.up_machine.specs.Senders.{ArePlanned, CanAnswer, IsSenderOf};
 ghost use Rattle.up_machine.specs.Decisions.{IsRead, AreRowsFor, decide_incoming, GivesDelivered};
 
 use crate::acceptance::accepted_rows;
 use crate::decision::Delivered;
+use crate::hashed_keys::{HashedRoleKeys, hashed_roles};
 use crate::kept_reply::reply_of;
-use crate::manifest_checks::{check_new, check_primary, primary_key};
+use crate::manifest_checks::check_reports;
 use crate::rows::{Founding, Kept, VehicleRows};
+use crate::sender::{Sender, decide_sender, is_later};
 use std::alloc::Global;
 use std::marker::Model;
 use up_canon::moment::Moment;
@@ -70,23 +76,66 @@ pub fn decide_manifest<K: Scheme>(
         → GivesDelivered (K.rules scheme.now) s incoming.now.manifest.vehicle result
         (decide_incoming (K.rules scheme.now) s at incoming.now) }
 {
+    let sender = decide_sender(scheme, incoming, rows.founding, rows.vehicle)?;
+    if !is_later(incoming, &sender) {
+        return decide_again(alloc, incoming, &sender, rows.kept);
+    }
+    let hashed = hashed_roles(alloc, scheme, &sender.founding.keys.director)?;
+    let (images, campaigns) = (rows.images, rows.campaigns);
+    decide_new(
+        alloc, scheme, at, incoming, &sender, &hashed, images, campaigns,
+    )
+}
+
+/// Answers a manifest whose counter isn't above the last one, over the row that is kept with its counter: the kept reply where
+/// the vehicle has accepted the same canonical signed text, and else `Stale` with the last counter; `Memory`.
+pub fn decide_again(
+    alloc: Global,
+    incoming: &Incoming,
+    sender: &Sender,
+    kept: Option<&Kept>,
+) -> Result<Delivered, Refusal>
+    requires read { IsRead incoming.now }
+    requires older { incoming.now.manifest.counter ≤ sender.now.vehicle.vehicle.last }
+    ensures { (k : Rules) (s : State) (at : ℕ) → at ≤ last_command_moment → IsSound k s → IsSenderOf k s incoming.now sender.now
+        → option_copied kept.entry ≡ kept_at k s incoming.now.manifest.vehicle incoming.now.manifest.counter
+        → GivesDelivered k s incoming.now.manifest.vehicle result (decide_incoming k s at incoming.now) }
+{
+    body_laws();
+    match repeated(incoming, kept) {
+        Some(row) => Ok(Delivered::Repeat(reply_of(alloc, row)?)),
+        None => Err(Refusal::Stale(sender.vehicle.vehicle.last)),
+    }
+}
+
+/// Decides on a manifest whose counter is above the last one, so that no row is kept with it: `UnknownEcu`, `DuplicateEcu`,
+/// `MissingEcu`, `BadReportSignature`, `ReportReplayed`, and then what it changes, by the plan of this moment; `Memory`.
+/// `hashed` has the keys of the Director's roles.
+pub fn decide_new<K: Scheme>(
+    alloc: Global,
+    scheme: &K,
+    at: Moment,
+    incoming: &Incoming,
+    sender: &Sender,
+    hashed: &HashedRoleKeys,
+    images: &Table<Image>,
+    campaigns: &[Campaign],
+) -> Result<Delivered, Refusal>
+    requires moment { at ≤ last_command_moment }
+    requires read { IsRead incoming.now }
+    requires later { sender.now.vehicle.vehicle.last < incoming.now.manifest.counter }
+    requires can { CanAnswer (K.rules scheme.now) sender.now }
+    requires hashed { hashed.now ≡ hashed_roles_of (K.rules scheme.now) sender.now.founding.keys.director }
+    ensures { (s : State) → IsSound (K.rules scheme.now) s → IsSenderOf (K.rules scheme.now) s incoming.now sender.now → ArePlanned s incoming.now.manifest images.now campaigns.now
+        → GivesDelivered (K.rules scheme.now) s incoming.now.manifest.vehicle result (decide_incoming (K.rules scheme.now) s at incoming.now) }
+{
     body_laws();
     other_images_change_nothing();
-    let Some(founding) = rows.founding else {
-        return Err(Refusal::NotFounded);
-    };
-    let Some(vehicle) = rows.vehicle else {
-        return Err(Refusal::UnknownVehicle);
-    };
-    let primary_key = primary_key(vehicle);
-    check_primary(scheme, vehicle, &primary_key, incoming)?;
-    if let Some(row) = repeated(incoming, rows.kept) {
-        return Ok(Delivered::Repeat(reply_of(alloc, row)?));
-    }
-    check_new(alloc, scheme, vehicle, &primary_key, &incoming.manifest)?;
-    let (images, campaigns) = (rows.images, rows.campaigns);
+    let (ecus, primary) = (&sender.vehicle.ecus, &sender.vehicle.vehicle.primary);
+    let reports = incoming.manifest.reports.as_slice();
+    check_reports(alloc, scheme, ecus.as_slice(), primary, &sender.key, reports)?;
     let accepted = accepted_rows(
-        alloc, scheme, at, incoming, founding, vehicle, images, campaigns,
+        alloc, scheme, at, incoming, sender, hashed, images, campaigns,
     )?;
     Ok(Delivered::Accepted(accepted))
 }

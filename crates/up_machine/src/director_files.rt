@@ -7,12 +7,13 @@ ghost use Rattle.up_canon.specs.Names.{are_distinct};
 ghost use Rattle.up_roles.specs.Targets.{target_fits, ecus_of};
 ghost use Rattle.up_roles.specs.declared.repository.Repository.TheVariants.{Director as TheDirector};
 ghost use Rattle.up_machine.specs.Files.{target_of};
+ghost use Rattle.up_machine.specs.Keys.{hashed_roles};
 ghost use Rattle.up_machine.specs.RowsFit.{roles_can_sign};
 ghost use Rattle.up_machine.specs.ManifestRows.{target_for, reply_of};
 ghost use Rattle.up_machine.specs.Replies.{reply_json as reply_json_of};
 
 use crate::decision::RoleTexts;
-use crate::hashed_keys::hashed_roles;
+use crate::hashed_keys::HashedRoleKeys;
 use crate::making::role_texts;
 use crate::rows::{Founding, VehicleRow};
 use std::alloc::{AllocError, Global};
@@ -62,16 +63,19 @@ fn target(alloc: Global, ecu: &Ident, image: &Image) -> Result<Target, AllocErro
     })
 }
 
-/// The text of the reply to the manifest that gives the vehicle its next version: the Director's files for that version.
+/// The text of the reply to the manifest that gives the vehicle its next version: the Director's files for that version, signed
+/// with the keys of their roles, which are hashed already.
 pub(crate) fn reply_text<K: Scheme>(
     alloc: Global,
     scheme: &K,
     at: Moment,
     founding: &Founding,
+    hashed: &HashedRoleKeys,
     row: &VehicleRow,
     targets: Listed<Target>,
 ) -> Result<Text, AllocError>
     requires keys { IsTrue (roles_can_sign (K.rules scheme.now) founding.now.keys.director) }
+    requires hashed { hashed.now ≡ hashed_roles (K.rules scheme.now) founding.now.keys.director }
     requires version { row.now.version < max_count }
     requires moment { at ≤ last_command_moment }
     requires targets { list_all (target_fits TheDirector) targets ≡ true }
@@ -80,13 +84,12 @@ pub(crate) fn reply_text<K: Scheme>(
 {
     let vehicle = Some(row.vehicle.copy(alloc)?);
     let version = row.version + 1;
-    let hashed = hashed_roles(alloc, scheme, &founding.keys.director)?;
     let files = role_texts(
         alloc,
         scheme,
         Repository::Director,
         &founding.keys,
-        &hashed,
+        hashed,
         &vehicle,
         version,
         at,

@@ -1,10 +1,9 @@
 //! The checks of a manifest over the rows of its vehicle.
-ghost use Rattle.std.specs.Prelude.{◌≡◌, ◌<◌, ◌≤◌, OnOk, find, not, option_copied};
-ghost use Rattle.up_canon.specs.Canon.{max_count};
+ghost use Rattle.std.specs.Prelude.{◌≡◌, find, not, option_copied};
 ghost use Rattle.up_canon.specs.Refusals.{Gives};
 ghost use Rattle.up_sign.specs.Hmac.{block_key};
 ghost use Rattle.up_machine.specs.Deliveries.{report_name};
-ghost use Rattle.up_machine.specs.ManifestRows.{row_of as row_in, has_row as has_row_in, is_signed_by_row, public_of_row, is_reported_in, follows as follows_row, follows_its_row, check_primary as check_primary_in, check_reports_of, check_new_of};
+ghost use Rattle.up_machine.specs.ManifestRows.{row_of as row_in, has_row as has_row_in, is_signed_by_row, public_of_row, is_reported_in, follows as follows_row, follows_its_row, check_primary as check_primary_in, check_reports_of};
 
 use crate::rows::{EcuRow, VehicleRows};
 use std::alloc::Global;
@@ -13,7 +12,7 @@ use up_canon::ident::Ident;
 use up_canon::listed::Duplicate;
 use up_canon::named::{first_repeated, has_name};
 use up_canon::refusal::Refusal;
-use up_manifest::manifest::{Incoming, Manifest};
+use up_manifest::manifest::Incoming;
 use up_manifest::report::SignedReport;
 use up_sign::envelope::Envelope;
 use up_sign::key_id::HashedKey;
@@ -53,39 +52,10 @@ pub(crate) fn check_primary<K: Scheme>(
     Ok(())
 }
 
-/// Tests a manifest that is no repeat: its counter is above the last, and its reports pass.
-#[tactic(auto, unfolding(crate::specs::ManifestRows::check_new_of, up_canon::specs::Steps::and_then))]
-pub(crate) fn check_new<K: Scheme>(
-    alloc: Global,
-    scheme: &K,
-    rows: &VehicleRows,
-    primary_key: &HashedKey,
-    manifest: &Manifest,
-) -> Result<(), Refusal>
-    requires { primary_key.now ≡ block_key (public_of_row rows.now.ecus rows.now.vehicle.primary) }
-    ensures value { Gives result (check_new_of (K.rules scheme.now) rows.now manifest.now) }
-    ensures later { OnOk result (rows.now.vehicle.last < manifest.now.counter) }
-    ensures limit { OnOk result (manifest.now.counter ≤ max_count) }
-{
-    let last = rows.vehicle.last;
-    if manifest.counter.get() <= last.get() {
-        return Err(Refusal::Stale(last));
-    }
-    let reports = manifest.reports.as_slice();
-    check_reports(
-        alloc,
-        scheme,
-        rows.ecus.as_slice(),
-        &rows.vehicle.primary,
-        primary_key,
-        reports,
-    )
-}
-
 /// Tests that the reports are of the vehicle's ECUs, none twice and all of them, each signed by its ECU, and none older
 /// than the ECU's last report or another with its counter. Each test runs over the whole list before the next.
 #[tactic(auto, unfolding(crate::specs::ManifestRows::check_reports_of, up_canon::specs::Steps::and_then))]
-fn check_reports<K: Scheme>(
+pub(crate) fn check_reports<K: Scheme>(
     alloc: Global,
     scheme: &K,
     rows: &[EcuRow],

@@ -1,0 +1,71 @@
+//! Who sent a manifest: the first step of the decision on it.
+ghost use Rattle.std.specs.Prelude.{◌≡◌, IfOk, IfSome, IsTrue, nat_lt, option_copied};
+ghost use Rattle.up_machine.specs.Rows.{founding_row, vehicle_rows};
+ghost use Rattle.up_machine.specs.RowsFit.{founding_fits, rows_fit};
+ghost use Rattle.up_machine.specs.Senders.{CanAnswer, GivesSender};
+ghost use Rattle.up_machine.specs.State.{State};
+
+use crate::manifest_checks::{check_primary, primary_key};
+use crate::rows::{Founding, VehicleRows};
+use std::marker::Model;
+use up_canon::refusal::Refusal;
+use up_manifest::manifest::Incoming;
+use up_sign::key_id::HashedKey;
+use up_sign::scheme::Scheme;
+
+/// A founding, the rows of a vehicle whose Primary signed a manifest, and what is computed once of the Primary's key. The type
+/// doesn't say whose they are; the contract of `decide_sender` does.
+#[derive(Drop)]
+pub struct Sender<'a> {
+    pub founding: &'a Founding,
+    pub vehicle: &'a VehicleRows,
+    pub key: HashedKey,
+}
+
+impl<'a> Model for Sender<'a> {
+    ghost use Rattle.up_machine.specs.Senders.{SenderData};
+
+    ghost Value = { SenderData };
+
+    ghost use Rattle.std.specs.Coded.{codes};
+
+    ghost coded = { Prim.hlevel codes };
+
+    ghost view = { λ a. record { founding = a.founding.now; vehicle = a.vehicle.now; key = a.key } };
+}
+
+/// Tests who sent a manifest, over the founding's row and those of its vehicle: `NotFounded`; `UnknownVehicle`;
+/// `WrongPrimary`; `BadManifestSignature`. It needs nothing else, and takes no memory.
+pub fn decide_sender<'a, K: Scheme>(
+    scheme: &K,
+    incoming: &Incoming,
+    founding: Option<&'a Founding>,
+    vehicle: Option<&'a VehicleRows>,
+) -> Result<Sender<'a>, Refusal>
+    requires keys { IfSome (option_copied founding) (λ f. IsTrue (founding_fits (K.rules scheme.now) f)) }
+    requires rows { IfSome (option_copied vehicle) (λ v. IsTrue (rows_fit v)) }
+    ensures from { (s : State) → option_copied founding.entry ≡ founding_row s → option_copied vehicle.entry ≡ vehicle_rows s incoming.now.manifest.vehicle
+        → GivesSender (K.rules scheme.now) s incoming.now result }
+    ensures can { IfOk result (CanAnswer (K.rules scheme.now)) }
+{
+    let Some(founding) = founding else {
+        return Err(Refusal::NotFounded);
+    };
+    let Some(vehicle) = vehicle else {
+        return Err(Refusal::UnknownVehicle);
+    };
+    let key = primary_key(vehicle);
+    check_primary(scheme, vehicle, &key, incoming)?;
+    Ok(Sender {
+        founding,
+        vehicle,
+        key,
+    })
+}
+
+/// Whether the manifest's counter is above the last one that was accepted of its vehicle.
+pub fn is_later(incoming: &Incoming, sender: &Sender) -> bool
+    ensures { result ≡ nat_lt sender.now.vehicle.vehicle.last incoming.now.manifest.counter }
+{
+    sender.vehicle.vehicle.last.get() < incoming.manifest.counter.get()
+}
