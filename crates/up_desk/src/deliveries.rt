@@ -1,5 +1,5 @@
 //! Manifests that vehicles deliver.
-ghost use Rattle.std.specs.Prelude.{◌≡◌, ◌≤◌, ◌<◌, length, Result, Ok, Err, IfOk, IfSome, IsTrue, option_copied};
+ghost use Rattle.std.specs.Prelude.{◌≡◌, ◌≤◌, ◌<◌, length, Result, Ok, Err, IfOk, IfSome, IsTrue, ⊤};
 ghost use Rattle.sqlite.specs.Held.{state};
 ghost use Rattle.sqlite.specs.State.{HasCleanDisk};
 ghost use Rattle.up_canon.specs.Moments.{last_command_moment};
@@ -12,13 +12,14 @@ ghost use Rattle.up_manifest.specs.Manifests.{largest_body, incoming_in};
 ghost use Rattle.up_machine.specs.declared.decision.Delivered.TheVariants.{Accepted};
 ghost use Rattle.up_machine.specs.Deciding.{Outcome};
 ghost use Rattle.up_machine.specs.Decisions.{IsRead, decide_incoming, GivesDelivered};
-ghost use Rattle.up_machine.specs.Rows.{founding_row, kept_at, vehicle_rows};
 ghost use Rattle.up_machine.specs.RowsFit.{founding_fits, rows_fit};
+ghost use Rattle.up_machine.specs.Senders.{CanAnswer, IsSenderOf};
 ghost use Rattle.up_machine.specs.Sound.{IsSound};
 ghost use Rattle.up_machine.specs.State.{State};
 ghost use Rattle.up_store.specs.Connections.{KeepsState};
 ghost use Rattle.up_tables.specs.Stands.{IfClean};
-ghost use Rattle.up_desk.specs.Serving.{GivesOrLost, Reads, Serves, ArePlanRows};
+ghost use Rattle.up_desk.specs.Delivering.{Decides, IsKnown};
+ghost use Rattle.up_desk.specs.Serving.{Reads, Serves, ArePlanRows};
 
 use crate::images::images_for;
 use crate::lost::{refusal_of, replied};
@@ -26,14 +27,17 @@ use crate::reading::{read_fitting_vehicle, read_founding};
 use sqlite::Alter;
 use std::alloc::Global;
 use up_canon::bytes::Bytes;
+use up_canon::ident::Ident;
 use up_canon::moment::Moment;
 use up_canon::refusal::Refusal;
 use up_canon::table::Table;
 use up_machine::answer::Answer;
-use up_machine::decide_manifest::{DeliveryRows, decide_manifest};
+use up_machine::decide_manifest::{decide_again, decide_new};
 use up_machine::decision::{AcceptedRows, Delivered};
+use up_machine::hashed_keys::hashed_roles;
 use up_machine::kept_reply::{reply_in, targets_in};
-use up_machine::rows::{Founding, Kept, VehicleRows};
+use up_machine::rows::{Founding, VehicleRows};
+use up_machine::sender::{Sender, decide_sender, is_later};
 use up_manifest::manifest::{Incoming, Manifest};
 use up_manifest::reading::read_manifest;
 use up_plan::campaign::Campaign;
@@ -104,7 +108,7 @@ fn accept<D: Alter>(
     }
 }
 
-/// Decides on a manifest, over rows that are read one after another.
+/// Decides on a manifest: what is known of its vehicle, who sent it, whether it was there before, and what is new.
 fn decide<K: Scheme, D: Alter>(
     store: &mut Store<D>,
     alloc: Global,
@@ -114,103 +118,154 @@ fn decide<K: Scheme, D: Alter>(
 ) -> Result<Delivered, Refusal>
     requires moment { at ≤ last_command_moment }
     requires read { IsRead incoming.now }
-    ensures decided { HasCleanDisk (state D.Store store.new) → (s : State) → IsSound (K.rules scheme.now) s → IfClean (KeepsState (K.rules scheme.now) s) (state D.Store store.old)
-        → GivesOrLost (GivesDelivered (K.rules scheme.now) s incoming.now.manifest.vehicle) result (decide_incoming (K.rules scheme.now) s at incoming.now) }
+    ensures decided { Decides (K.rules scheme.now) at incoming.now (λ s. ⊤) (state D.Store store.old) (state D.Store store.new) result }
     ensures reads { Reads (state D.Store store.old) (state D.Store store.new) }
 {
-    match read_founding(store, alloc, scheme) {
-        Ok(founding) => decide_founded(store, alloc, scheme, at, incoming, founding.as_ref()),
+    match read_known(store, alloc, scheme, &incoming.manifest.vehicle) {
+        Ok(known) => decide_known(store, alloc, scheme, at, incoming, &known),
         Err(fault) => Err(refusal_of(fault)),
     }
 }
 
-/// The same, once the founding's row was read.
-fn decide_founded<K: Scheme, D: Alter>(
+/// What is known of a vehicle: the founding, and the vehicle's rows.
+#[derive(Drop)]
+struct Known {
+    founding: Option<Founding>,
+    vehicle: Option<VehicleRows>,
+}
+
+fn read_known<K: Scheme, D: Alter>(
     store: &mut Store<D>,
     alloc: Global,
     scheme: &K,
-    at: Moment,
-    incoming: &Incoming,
-    founding: Option<&Founding>,
-) -> Result<Delivered, Refusal>
-    requires moment { at ≤ last_command_moment }
-    requires read { IsRead incoming.now }
-    requires keys { IfSome (option_copied founding) (λ f. IsTrue (founding_fits (K.rules scheme.now) f)) }
-    ensures decided { HasCleanDisk (state D.Store store.new) → (s : State) → IsSound (K.rules scheme.now) s → option_copied founding.entry ≡ founding_row s → IfClean (KeepsState (K.rules scheme.now) s) (state D.Store store.old)
-        → GivesOrLost (GivesDelivered (K.rules scheme.now) s incoming.now.manifest.vehicle) result (decide_incoming (K.rules scheme.now) s at incoming.now) }
+    vehicle: &Ident,
+) -> Result<Known, StoreFault>
+    ensures told { HasCleanDisk (state D.Store store.new) → IfOk result (λ known. (k : Rules) (s : State) → IfClean (KeepsState k s) (state D.Store store.old)
+        → IsKnown s vehicle.now known.founding known.vehicle) }
     ensures reads { Reads (state D.Store store.old) (state D.Store store.new) }
+    ensures founding { IfOk result (λ known. IfSome known.founding (λ f. IsTrue (founding_fits (K.rules scheme.now) f))) }
+    ensures vehicle { IfOk result (λ known. IfSome known.vehicle (λ v. IsTrue (rows_fit v))) }
 {
-    match read_fitting_vehicle(store, alloc, &incoming.manifest.vehicle) {
-        Ok(vehicle) => {
-            let rows = vehicle.as_ref();
-            decide_known(store, alloc, scheme, at, incoming, founding, rows)
-        }
-        Err(fault) => Err(refusal_of(fault)),
+    let founding = match read_founding(store, alloc, scheme) {
+        Ok(founding) => founding,
+        Err(fault) => return Err(fault),
+    };
+    match read_fitting_vehicle(store, alloc, vehicle) {
+        Ok(vehicle) => Ok(Known { founding, vehicle }),
+        Err(fault) => Err(fault),
     }
 }
 
-/// The same, once the vehicle was read.
+/// The same, once it is known: who sent it. A manifest that its vehicle's Primary didn't sign costs no more.
 fn decide_known<K: Scheme, D: Alter>(
     store: &mut Store<D>,
     alloc: Global,
     scheme: &K,
     at: Moment,
     incoming: &Incoming,
-    founding: Option<&Founding>,
-    vehicle: Option<&VehicleRows>,
+    known: &Known,
 ) -> Result<Delivered, Refusal>
     requires moment { at ≤ last_command_moment }
     requires read { IsRead incoming.now }
-    requires keys { IfSome (option_copied founding) (λ f. IsTrue (founding_fits (K.rules scheme.now) f)) }
-    requires rows { IfSome (option_copied vehicle) (λ v. IsTrue (rows_fit v)) }
-    ensures decided { HasCleanDisk (state D.Store store.new) → (s : State) → IsSound (K.rules scheme.now) s → option_copied founding.entry ≡ founding_row s → option_copied vehicle.entry ≡ vehicle_rows s incoming.now.manifest.vehicle → IfClean (KeepsState (K.rules scheme.now) s) (state D.Store store.old)
-        → GivesOrLost (GivesDelivered (K.rules scheme.now) s incoming.now.manifest.vehicle) result (decide_incoming (K.rules scheme.now) s at incoming.now) }
+    requires keys { IfSome known.now.founding (λ f. IsTrue (founding_fits (K.rules scheme.now) f)) }
+    requires rows { IfSome known.now.vehicle (λ v. IsTrue (rows_fit v)) }
+    ensures decided { Decides (K.rules scheme.now) at incoming.now (λ s. IsKnown s incoming.now.manifest.vehicle known.now.founding known.now.vehicle) (state D.Store store.old) (state D.Store store.new) result }
     ensures reads { Reads (state D.Store store.old) (state D.Store store.new) }
 {
-    rows_are_found();
-    let manifest = &incoming.manifest;
-    match store.kept(alloc, &manifest.vehicle, manifest.counter) {
-        Ok(kept) => {
-            let row = kept.as_ref();
-            decide_kept(store, alloc, scheme, at, incoming, founding, vehicle, row)
-        }
-        Err(fault) => Err(refusal_of(fault)),
+    let (founding, vehicle) = (known.founding.as_ref(), known.vehicle.as_ref());
+    match decide_sender(scheme, incoming, founding, vehicle) {
+        Ok(sender) => decide_sent(store, alloc, scheme, at, incoming, &sender),
+        Err(refusal) => Err(refusal),
     }
 }
 
-/// The same, once the row that was kept with the manifest's counter was read.
-fn decide_kept<K: Scheme, D: Alter>(
+/// The same, once it is known who sent it: its counter tells whether it may have been there before.
+fn decide_sent<K: Scheme, D: Alter>(
     store: &mut Store<D>,
     alloc: Global,
     scheme: &K,
     at: Moment,
     incoming: &Incoming,
-    founding: Option<&Founding>,
-    vehicle: Option<&VehicleRows>,
-    kept: Option<&Kept>,
+    sender: &Sender,
 ) -> Result<Delivered, Refusal>
     requires moment { at ≤ last_command_moment }
     requires read { IsRead incoming.now }
-    requires keys { IfSome (option_copied founding) (λ f. IsTrue (founding_fits (K.rules scheme.now) f)) }
-    requires rows { IfSome (option_copied vehicle) (λ v. IsTrue (rows_fit v)) }
-    ensures decided { HasCleanDisk (state D.Store store.new) → (s : State) → IsSound (K.rules scheme.now) s → option_copied founding.entry ≡ founding_row s → option_copied vehicle.entry ≡ vehicle_rows s incoming.now.manifest.vehicle → option_copied kept.entry ≡ kept_at (K.rules scheme.now) s incoming.now.manifest.vehicle incoming.now.manifest.counter → IfClean (KeepsState (K.rules scheme.now) s) (state D.Store store.old)
-        → GivesOrLost (GivesDelivered (K.rules scheme.now) s incoming.now.manifest.vehicle) result (decide_incoming (K.rules scheme.now) s at incoming.now) }
+    requires can { CanAnswer (K.rules scheme.now) sender.now }
+    ensures decided { Decides (K.rules scheme.now) at incoming.now (λ s. IsSenderOf (K.rules scheme.now) s incoming.now sender.now) (state D.Store store.old) (state D.Store store.new) result }
+    ensures reads { Reads (state D.Store store.old) (state D.Store store.new) }
+{
+    if is_later(incoming, sender) {
+        decide_later(store, alloc, scheme, at, incoming, sender)
+    } else {
+        decide_earlier(store, alloc, at, incoming, sender)
+    }
+}
+
+/// Of a manifest whose counter isn't above the last: the row that was kept with it tells whether it is a repeat.
+fn decide_earlier<D: Alter>(
+    store: &mut Store<D>,
+    alloc: Global,
+    at: Moment,
+    incoming: &Incoming,
+    sender: &Sender,
+) -> Result<Delivered, Refusal>
+    requires moment { at ≤ last_command_moment }
+    requires read { IsRead incoming.now }
+    requires older { incoming.now.manifest.counter ≤ sender.now.vehicle.vehicle.last }
+    ensures decided { (k : Rules) → Decides k at incoming.now (λ s. IsSenderOf k s incoming.now sender.now) (state D.Store store.old) (state D.Store store.new) result }
+    ensures reads { Reads (state D.Store store.old) (state D.Store store.new) }
+{
+    rows_are_found();
+    let manifest = &incoming.manifest;
+    match store.kept(alloc, &manifest.vehicle, manifest.counter) {
+        Ok(kept) => decide_again(alloc, incoming, sender, kept.as_ref()),
+        Err(fault) => Err(refusal_of(fault)),
+    }
+}
+
+/// Of a manifest whose counter is above the last: what is new.
+fn decide_later<K: Scheme, D: Alter>(
+    store: &mut Store<D>,
+    alloc: Global,
+    scheme: &K,
+    at: Moment,
+    incoming: &Incoming,
+    sender: &Sender,
+) -> Result<Delivered, Refusal>
+    requires moment { at ≤ last_command_moment }
+    requires read { IsRead incoming.now }
+    requires later { sender.now.vehicle.vehicle.last < incoming.now.manifest.counter }
+    requires can { CanAnswer (K.rules scheme.now) sender.now }
+    ensures decided { Decides (K.rules scheme.now) at incoming.now (λ s. IsSenderOf (K.rules scheme.now) s incoming.now sender.now) (state D.Store store.old) (state D.Store store.new) result }
     ensures reads { Reads (state D.Store store.old) (state D.Store store.new) }
 {
     match read_plan_rows(store, alloc, &incoming.manifest) {
-        Ok(plan) => {
-            let (images, campaigns) = (&plan.images, plan.campaigns.values());
-            let rows = DeliveryRows {
-                founding,
-                vehicle,
-                kept,
-                images,
-                campaigns,
-            };
-            decide_manifest(alloc, scheme, at, incoming, &rows)
-        }
+        Ok(plan) => decide_planned(alloc, scheme, at, incoming, sender, &plan),
         Err(fault) => Err(refusal_of(fault)),
     }
+}
+
+/// The same, once the campaigns and images were read that its plan needs.
+fn decide_planned<K: Scheme>(
+    alloc: Global,
+    scheme: &K,
+    at: Moment,
+    incoming: &Incoming,
+    sender: &Sender,
+    plan: &PlanRows,
+) -> Result<Delivered, Refusal>
+    requires moment { at ≤ last_command_moment }
+    requires read { IsRead incoming.now }
+    requires later { sender.now.vehicle.vehicle.last < incoming.now.manifest.counter }
+    requires can { CanAnswer (K.rules scheme.now) sender.now }
+    ensures { (s : State) → IsSound (K.rules scheme.now) s → IsSenderOf (K.rules scheme.now) s incoming.now sender.now → ArePlanRows s incoming.now.manifest plan.now.campaigns plan.now.images
+        → GivesDelivered (K.rules scheme.now) s incoming.now.manifest.vehicle result (decide_incoming (K.rules scheme.now) s at incoming.now) }
+{
+    let hashed = hashed_roles(alloc, scheme, &sender.founding.keys.director)?;
+    let (images, campaigns) = (&plan.images, plan.campaigns.values());
+    decide_new(
+        alloc, scheme, at, incoming, sender, &hashed, images, campaigns,
+    )
 }
 
 /// What the plan for a vehicle reads: the running campaigns that reach it, and the images that their items or the reports name.
