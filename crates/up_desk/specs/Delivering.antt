@@ -6,20 +6,27 @@ use Rattle.up_canon.specs.declared.refusal.Refusal.{Refusal}
 use Rattle.up_sign.specs.Schemes.{Rules}
 use Rattle.up_manifest.specs.declared.manifest.Incoming.{Incoming}
 use Rattle.up_machine.specs.declared.decision.Delivered.{Delivered}
-use Rattle.up_machine.specs.declared.rows.Founding.{Founding}
 use Rattle.up_machine.specs.declared.rows.VehicleRows.{VehicleRows}
 use Rattle.up_machine.specs.Decisions.{decide_incoming, GivesDelivered}
-use Rattle.up_machine.specs.Rows.{founding_row, vehicle_rows}
+use Rattle.up_machine.specs.Rows.{vehicle_rows}
+use Rattle.up_machine.specs.Senders.{IsSenderOf, SenderData}
 use Rattle.up_machine.specs.Sound.{IsSound}
 use Rattle.up_machine.specs.State.{State}
 use Rattle.up_tables.specs.Stands.{IfClean}
 use Rattle.up_store.specs.Connections.{KeepsState}
+use Rattle.up_desk.specs.declared.catalog.Catalog.{Catalog}
 use Rattle.up_desk.specs.Serving.{GivesOrLost}
+use Rattle.up_desk.specs.Standing.{IsOf}
 
--- the founding and the rows of this vehicle are those of the state
-pub record IsKnown (s : State) (name : Name) (founding : Option Founding) (vehicle : Option VehicleRows) : Type 0 where
-  pub founding_is : founding ≡ founding_row s
+-- what is kept in memory is of the state, and the rows of this vehicle are its
+pub record IsKnown (s : State) (name : Name) (catalog : Catalog) (vehicle : Option VehicleRows) : Type 0 where
+  pub kept : IsOf s catalog
   pub rows : vehicle ≡ vehicle_rows s name
+
+-- and the vehicle's Primary sent the manifest
+pub record IsSent (k : Rules) (s : State) (incoming : Incoming) (catalog : Catalog) (sender : SenderData) : Type 0 where
+  pub kept : IsOf s catalog
+  pub from : IsSenderOf k s incoming sender
 
 -- what the rule gives is decided, over each sound state of which this is known and that the tables showed
 abbrev pub Decides : Rules → ℕ → Incoming → (State → Type 0) → Connected → Connected → Result Delivered Refusal → Type 0

@@ -1,5 +1,6 @@
 pub mod Gathered
 pub mod Serving
+pub mod Standing
 pub mod Making
 pub mod Delivering
 pub mod Calls

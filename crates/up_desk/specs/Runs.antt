@@ -8,12 +8,10 @@ use Rattle.up_machine.specs.declared.answer.Answer.{Answer}
 use Rattle.up_machine.specs.declared.answer.Answer.TheVariants.{Refused}
 use Rattle.up_machine.specs.State.{State}
 use Rattle.up_machine.specs.Machine.{Timed, run}
-use Rattle.sqlite.specs.State.{State as Connected, HasCleanDisk}
 use Rattle.up_machine.specs.Repeats.{Sent, after, thinned, expected, not_lost, vehicle_of, without_others, own_answers}
 use Rattle.up_machine.specs.ApartLaws.{AreExchanged}
 use Rattle.up_machine.specs.Sound.{IsSound}
-use Rattle.up_tables.specs.Stands.{IfClean}
-use Rattle.up_store.specs.Connections.{KeepsState}
+use Rattle.up_desk.specs.Standing.{Standing, HasCleanDisk, IfClean, KeepsState}
 use Rattle.up_desk.specs.Serving.{is_lost, outright, RepliesStay}
 
 -- a command with its moment
@@ -63,6 +61,6 @@ pub record IsRun (k : Rules) (old : State) (cs : List (ℕ × Command)) (answers
       × AreExchanged (length before) (map unless_lost answers) (expected k old (before ++ n ∷ m ∷ rest))
 
 -- so from each sound state that the tables showed, where the disk is clean then; and the tables show the state
-abbrev pub RunsCalls : Rules → List (ℕ × Command) → List Answer → Connected → Connected → Type 0
+abbrev pub RunsCalls : Rules → List (ℕ × Command) → List Answer → Standing → Standing → Type 0
 RunsCalls k cs answers old new =
     HasCleanDisk new → (s : State) → IsSound k s → IfClean (KeepsState k s) old → (next : State) × IsRun k s cs answers next × IsSound k next × KeepsState k next new

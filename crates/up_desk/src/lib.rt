@@ -2,6 +2,7 @@
 #![tactic(auto)]
 
 mod campaigns;
+pub mod catalog;
 mod deliveries;
 pub mod desk;
 mod files;
