@@ -4,7 +4,6 @@ use Rattle.std.proofs.lemmas.List.{take_more, take_all}
 use Rattle.std.specs.Prelude.{Result, Ok, Err, is_ok, MatchBool, IsTrue, IfSome, if◌then◌else◌}
 use Rattle.std.specs.List.{AllByRecursion}
 use Rattle.std.specs.FinMap as table
-use Rattle.sqlite.specs.State.{State as Connected, HasCleanDisk}
 use Rattle.up_sign.specs.Schemes.{Rules}
 use Rattle.up_machine.specs.declared.command.Command.{Command}
 use Rattle.up_machine.specs.declared.answer.Answer.{Answer}
@@ -18,8 +17,7 @@ use Rattle.up_machine.specs.RepeatLaws.{AreCommands, RepeatsChangeNothing, Serve
 use Rattle.up_machine.specs.ApartLaws.{VehiclesStandApart, DeliveriesCommute, AreExchanged}
 use Rattle.up_machine.specs.Laws.{KeptRepliesOutlastRuns}
 use Rattle.up_machine.specs.Replies.{kept_reply}
-use Rattle.up_tables.specs.Stands.{IfClean}
-use Rattle.up_store.specs.Connections.{KeepsState}
+use Rattle.up_desk.specs.Standing.{Standing, HasCleanDisk, IfClean, KeepsState}
 use Rattle.up_desk.specs.Serving.{is_lost, IsAnswered, outright}
 use Rattle.up_desk.specs.Calls.{ServesCall}
 use Rattle.up_desk.specs.Runs.{AreOutright, AreNeighbours, timed, sent, unless_lost, IsRun, RunsCalls}
@@ -50,11 +48,11 @@ outright_next k (d ∷ cs) (b ∷ answers) c a all due = (all.0, outright_next k
 -- ---- over the store
 
 -- the commands have run, over a clean disk: from each state that the tables showed
-abbrev RunsFrom : Rules → Connected → Connected → List (ℕ × Command) → List Answer → Type 0
+abbrev RunsFrom : Rules → Standing → Standing → List (ℕ × Command) → List Answer → Type 0
 RunsFrom k old new cs answers =
     HasCleanDisk new → (s : State) → IsSound k s → IfClean (KeepsState k s) old → (next : State) × Ran k s cs answers next × IsSound k next × KeepsState k next new
 
-runs_next : (k : Rules) (old mid new : Connected) (cs : List (ℕ × Command)) (c : ℕ × Command) (answers : List Answer) (a : Answer)
+runs_next : (k : Rules) (old mid new : Standing) (cs : List (ℕ × Command)) (c : ℕ × Command) (answers : List Answer) (a : Answer)
     → RunsFrom k old mid cs answers → (HasCleanDisk new → HasCleanDisk mid) → ServesCall k c.0 c.1 a mid new → IsTrue (is_command c.1) → RunsFrom k old new (cs ++ c ∷ []) (answers ++ a ∷ [])
 runs_next k old mid new cs c answers a runs clean serves fits = λ now s sound was.
     let before = runs (clean now) s sound was in
@@ -62,14 +60,14 @@ runs_next k old mid new cs c answers a runs clean serves fits = λ now s sound w
     (here.0, ran_next k s cs answers before.0 c a here.0 before.1 here.1 fits, here.3, here.4)
 
 -- so many commands have run, with as many answers after those that were there
-pub record SoFar (k : Rules) (old new : Connected) (cs : List (ℕ × Command)) (held answers : List Answer) : Type 0 where
+pub record SoFar (k : Rules) (old new : Standing) (cs : List (ℕ × Command)) (held answers : List Answer) : Type 0 where
   pub given : List Answer
   pub items : answers ≡ held ++ given
   pub due : AreOutright k cs given
   pub runs : RunsFrom k old new cs given
   pub clean : HasCleanDisk new → HasCleanDisk old
 
-pub none_so_far : (k : Rules) (s : Connected) (cs : List (ℕ × Command)) (held answers : List Answer) → answers ≡ held → SoFar k s s (take 0 cs) held answers
+pub none_so_far : (k : Rules) (s : Standing) (cs : List (ℕ × Command)) (held answers : List Answer) → answers ≡ held → SoFar k s s (take 0 cs) held answers
 none_so_far k s cs held answers same = record {
   given = [];
   items = same ∙ sym (append-nil held);
@@ -78,7 +76,7 @@ none_so_far k s cs held answers same = record {
   clean = λ now. now;
 }
 
-so_far_next : (k : Rules) (old mid new : Connected) (cs : List (ℕ × Command)) (c : ℕ × Command) (held answers more : List Answer) (a : Answer)
+so_far_next : (k : Rules) (old mid new : Standing) (cs : List (ℕ × Command)) (c : ℕ × Command) (held answers more : List Answer) (a : Answer)
     → SoFar k old mid cs held answers → more ≡ answers ++ a ∷ [] → (HasCleanDisk new → HasCleanDisk mid) → ServesCall k c.0 c.1 a mid new → IsTrue (is_command c.1)
     → IfSome (outright k c.0 c.1) (λ r. a ≡ Refused r) → SoFar k old new (cs ++ c ∷ []) held more
 so_far_next k old mid new cs c held answers more a far pushed clean serves fits due = record {
@@ -90,7 +88,7 @@ so_far_next k old mid new cs c held answers more a far pushed clean serves fits 
 }
 
 -- one call more, by a scheme that is the same
-pub one_more : (k j : Rules) (old mid new : Connected) (cs : List (ℕ × Command)) (i : ℕ) (c : ℕ × Command) (held answers more : List Answer) (a : Answer)
+pub one_more : (k j : Rules) (old mid new : Standing) (cs : List (ℕ × Command)) (i : ℕ) (c : ℕ × Command) (held answers more : List Answer) (a : Answer)
     → i < length cs → c ≡ get_or cs i c → j ≡ k → SoFar k old mid (take i cs) held answers → more ≡ answers ++ a ∷ [] → (HasCleanDisk new → HasCleanDisk mid)
     → ServesCall j c.0 c.1 a mid new → IsTrue (is_command c.1) → IfSome (outright j c.0 c.1) (λ r. a ≡ Refused r) → SoFar k old new (take (i + 1) cs) held more
 one_more k j old mid new cs i c held answers more a within item scheme far pushed clean serves fits due =
@@ -183,7 +181,7 @@ ran_all laws k old cs answers new sound ran =
     }
 
 -- over the store, the answers and the state that the tables show then
-pub run_whole : (laws : ListLaws) (k : Rules) (old new : Connected) (cs : List (ℕ × Command)) (i : ℕ) (held answers : List Answer) → length cs ≤ i → SoFar k old new (take i cs) held answers
+pub run_whole : (laws : ListLaws) (k : Rules) (old new : Standing) (cs : List (ℕ × Command)) (i : ℕ) (held answers : List Answer) → length cs ≤ i → SoFar k old new (take i cs) held answers
     → (told : List Answer) × (answers ≡ held ++ told) × AreOutright k cs told × RunsCalls k cs told old new
 run_whole laws k old new cs i held answers all far =
     let whole : SoFar k old new cs held answers = subst (λ (xs : List (ℕ × Command)). SoFar k old new xs held answers) (take_all i cs all) far in (

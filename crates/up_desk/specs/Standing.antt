@@ -87,8 +87,9 @@ abbrev pub IfClean : (Standing → Type 0) → Standing → Type 0
 IfClean P d = HasCleanDisk d → P d
 
 -- the tables show the state, and what is kept in memory is of it
-abbrev pub KeepsState : Rules → State → Standing → Type 0
-KeepsState k s d = connections.KeepsState k s d.connection × Fits s d.catalog
+pub record KeepsState (k : Rules) (s : State) (d : Standing) : Type 0 where
+  pub tables : connections.KeepsState k s d.connection
+  pub memory : Fits s d.catalog
 
 abbrev pub Survives : Standing → Standing → (Trees → Type 0) → Type 0
 Survives old new P = connected.Survives old.connection new.connection P

@@ -121,9 +121,10 @@ fn accept<D: Alter>(
     alloc: Global,
     rows: AcceptedRows,
 ) -> Result<Answer, Refusal>
-    ensures { (k : Rules) (s : State) (name : Name) (computed : Result Outcome Refusal) → IsSound k s → IfClean (KeepsState k s) (state D.Store store.old)
+    ensures serves { (k : Rules) (s : State) (name : Name) (computed : Result Outcome Refusal) → IsSound k s → IfClean (KeepsState k s) (state D.Store store.old)
         → (HasCleanDisk (state D.Store store.old) → GivesDelivered k s name (Ok (Accepted rows)) computed)
         → Serves k s (state D.Store store.old) (state D.Store store.new) result computed }
+    ensures clean { HasCleanDisk (state D.Store store.new) → HasCleanDisk (state D.Store store.old) }
 {
     rows_are_found();
     manifests_are_added();

@@ -1,7 +1,8 @@
 -- The steps of the decision on a manifest, over the rows of a state.
-use Rattle.std.proofs.Common.{◌≡◌, ℕ, ◌+◌, ◌<◌, ◌≤◌, List, [], ◌∷◌, Bool, true, false, cond, max, Option, Some, None, Ok, Err, refl, sym, ap, ◌∙◌, subst, arith}
+use Rattle.std.proofs.Common.{◌≡◌, ℕ, ◌+◌, ◌<◌, ◌≤◌, List, [], ◌∷◌, Bool, true, false, cond, max, Option, Some, None, Result, Ok, Err, refl, sym, ap, ◌∙◌, subst, arith}
 use Rattle.std.proofs.lemmas.Bool.Decides.{nat_tests}
-use Rattle.std.specs.Prelude.{⊤, ◌==◌, ◌≢◌, bytes_eq, find, nat_le, nat_lt, option_and_then, option_map}
+use Rattle.std.proofs.lemmas.Result.{err_from_is_err_and}
+use Rattle.std.specs.Prelude.{⊤, ◌==◌, ◌≢◌, bytes_eq, find, nat_le, nat_lt, option_and_then, option_map, IsErrAnd}
 use Rattle.std.specs.List.{AllByRecursion, enumerate_from}
 use Rattle.std.specs.FinMap as table
 use Rattle.up_canon.specs.Moments.{last_command_moment}
@@ -28,7 +29,7 @@ use Rattle.up_machine.specs.Deliveries.{Received, receive_manifest}
 use Rattle.up_machine.specs.Decisions.{IsRead, DeliveryData, AreImagesOf, AreRowsFor, decide_incoming, files_named, GivesDelivered}
 use Rattle.up_machine.specs.ManifestRows.{accepted_rows, check_primary, check_new_of, check_reports_of, repeated}
 use Rattle.up_machine.specs.Rows.{founding_row, kept_at, kept_row, reply_kept, rows_of, vehicle_rows}
-use Rattle.up_machine.specs.Senders.{ArePlanned, IsSenderOf, SenderData}
+use Rattle.up_machine.specs.Senders.{ArePlanned, GivesSender, IsSenderOf, SenderData}
 use Rattle.up_canon.proofs.Steps.{bind-ok, bind-err, first_ok, map_some}
 use Rattle.up_machine.proofs.CheckedRows.{received_same}
 use Rattle.up_machine.proofs.DecidedManifests.{Given, bad_manifest, is_accepted, is_repeated}
@@ -85,15 +86,18 @@ signed_by k s incoming sender from =
     first_ok (check_primary k sender.vehicle incoming) (λ _. Ok (record { vehicle = test.v; incoming = incoming })) from.received (check_primary k sender.vehicle incoming ≡ Ok tt)
     (sym test.receives ∙ from.receives) (λ x is _. is)
 
+pub sender_refused : (k : Rules) (s : State) (incoming : Incoming) (result : Result SenderData Refusal) (e : Refusal) → IsErrAnd result (λ x. x ≡ e) → receive_manifest k s incoming ≡ Err e
+    → GivesSender k s incoming result
+sender_refused k s incoming result e is bad =
+    let (x, was, same) = err_from_is_err_and result is in
+    subst (GivesSender k s incoming) (sym (was ∙ ap (λ x. Err x) same)) bad
+
 -- what refuses the sender refuses the manifest
 pub refused_first : (k : Rules) (s : State) (at : ℕ) (incoming : Incoming) (e : Refusal) → receive_manifest k s incoming ≡ Err e → decide_incoming k s at incoming ≡ Err e
 unfolding decide_incoming
 refused_first k s at incoming e bad = bind-err _ _ e bad
 
 -- ---- above the last counter no row is kept
-
-below_last : (a b last : ℕ) → max a b ≡ last → last < last → ⊥
-below_last a b last is h = omega arith
 
 other_counter : (a counter : ℕ) → a < counter → (a == counter) ≡ false
 other_counter a counter h = grind (arith, nat_tests)

@@ -1,5 +1,5 @@
 //! Who sent a manifest: the first step of the decision on it.
-ghost use Rattle.std.specs.Prelude.{◌≡◌, IfOk, IfSome, IsTrue, nat_lt, option_copied};
+ghost use Rattle.std.specs.Prelude.{◌≡◌, Some, IfOk, IfSome, IsTrue, nat_lt, option_copied};
 ghost use Rattle.up_machine.specs.Rows.{founding_row, vehicle_rows};
 ghost use Rattle.up_machine.specs.RowsFit.{founding_fits, rows_fit};
 ghost use Rattle.up_machine.specs.Senders.{CanAnswer, GivesSender};
@@ -47,6 +47,7 @@ pub fn decide_sender<'a, K: Scheme>(
     ensures from { (s : State) → option_copied founding.entry ≡ founding_row s → option_copied vehicle.entry ≡ vehicle_rows s incoming.now.manifest.vehicle
         → GivesSender (K.rules scheme.now) s incoming.now result }
     ensures can { IfOk result (CanAnswer (K.rules scheme.now)) }
+    ensures given { IfOk result (λ sender. (option_copied founding.entry ≡ Some sender.founding) × (option_copied vehicle.entry ≡ Some sender.vehicle)) }
 {
     let Some(founding) = founding else {
         return Err(Refusal::NotFounded);
