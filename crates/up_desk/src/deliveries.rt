@@ -25,6 +25,7 @@ ghost use Rattle.up_desk.specs.Standing.{CanDecide, Fits, IsLoaded};
 
 use crate::catalog::{Catalog, load};
 use crate::lost::{refusal_of, replied};
+use crate::planned::images_for;
 use crate::reading::read_fitting_vehicle;
 use sqlite::Alter;
 use std::alloc::Global;
@@ -250,9 +251,16 @@ fn decide_later<K: Scheme>(
     ensures { (s : State) → IsSound (K.rules scheme.now) s → IsSent (K.rules scheme.now) s incoming.now catalog.now sender.now
         → GivesDelivered (K.rules scheme.now) s incoming.now.manifest.vehicle result (decide_incoming (K.rules scheme.now) s at incoming.now) }
 {
-    let (hashed, images) = (&catalog.hashed, &catalog.images);
-    let campaigns = catalog.campaigns.values();
+    let (hashed, campaigns) = (&catalog.hashed, catalog.campaigns.values());
+    let (vehicle, reports) = (&incoming.manifest.vehicle, &incoming.manifest.reports);
+    let images = images_for(
+        alloc,
+        &catalog.images,
+        campaigns,
+        vehicle,
+        reports.as_slice(),
+    )?;
     decide_new(
-        alloc, scheme, at, incoming, sender, hashed, images, campaigns,
+        alloc, scheme, at, incoming, sender, hashed, &images, campaigns,
     )
 }

@@ -11,6 +11,7 @@ mod inventory;
 pub mod laws;
 pub mod lost;
 mod obeying;
+mod planned;
 mod reading;
 mod register;
 mod replacements;
