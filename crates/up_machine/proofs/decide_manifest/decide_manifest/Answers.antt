@@ -1,0 +1,41 @@
+use Rattle.std.proofs.Common.{ap, sym, subst, ◌∙◌}
+use Rattle.std.specs.Prelude.{IfSome, IsTrue, option_copied}
+use Rattle.up_machine.specs.Decisions.{DeliveryData}
+use Rattle.up_machine.specs.RowsFit.{founding_fits, rows_fit}
+use Rattle.up_machine.specs.Senders.{ArePlanned}
+use Rattle.up_machine.proofs.Passing.{delivery_refused, surely}
+use Rattle.up_machine.proofs.Senders.{refused_first}
+use Rattle.up_machine.proofs.decide_manifest.decide_manifest.Goals as goal
+
+pub returns-in_err-decide_sender : goal.returns-in_err-decide_sender
+returns-in_err-decide_sender g c = λ s sound rows.
+    let k = g.K.Scheme.rules c.args.scheme.now in
+    let e = c.in_err-decide_sender.field-0.0 in
+    let founding = ap (λ (d : DeliveryData). d.founding) c.rows.view_is ∙ rows.founding in
+    let vehicle = ap (λ (d : DeliveryData). d.vehicle) c.rows.view_is ∙ rows.vehicle in
+    delivery_refused k s c.args.incoming.now.manifest.vehicle c.from_residual.result e _ c.from_residual.ensures.1
+    (surely _ e (refused_first k s c.args.at c.args.incoming.now e (c.in_err-decide_sender.ensures.from s founding vehicle)))
+
+pub returns-then-not-is_later : goal.returns-then-not-is_later
+returns-then-not-is_later g c = λ s sound rows.
+    let k = g.K.Scheme.rules c.args.scheme.now in
+    let founding = ap (λ (d : DeliveryData). d.founding) c.rows.view_is ∙ rows.founding in
+    let vehicle = ap (λ (d : DeliveryData). d.vehicle) c.rows.view_is ∙ rows.vehicle in
+    let kept = ap (λ (d : DeliveryData). d.kept) c.rows.view_is ∙ rows.kept in
+    c.decide_again.ensures k s c.args.at c.requires.moment sound (c.in_ok-decide_sender.ensures.from s founding vehicle) kept
+
+pub returns : goal.returns
+returns g c = λ s sound rows.
+    let founding = ap (λ (d : DeliveryData). d.founding) c.rows.view_is ∙ rows.founding in
+    let vehicle = ap (λ (d : DeliveryData). d.vehicle) c.rows.view_is ∙ rows.vehicle in
+    let images = ap (λ (d : DeliveryData). d.images) (sym c.rows.view_is) in
+    let campaigns = ap (λ (d : DeliveryData). d.campaigns) (sym c.rows.view_is) in
+    c.decide_new.ensures s sound (c.in_ok-decide_sender.ensures.from s founding vehicle)
+    (subst (λ is. ArePlanned s c.args.incoming.now.manifest is c.rows.inside.campaigns.now) images (subst (λ cs. ArePlanned s c.args.incoming.now.manifest c.args.rows.now.images cs) campaigns (record { images_are = rows.images; items = rows.campaigns })))
+
+pub decide_sender-requires-clause-keys : goal.decide_sender-requires-clause-keys
+decide_sender-requires-clause-keys g c =
+    subst (λ (d : DeliveryData). IfSome d.founding (λ f. IsTrue (founding_fits (g.K.Scheme.rules c.args.scheme.now) f))) (sym c.rows.view_is) c.requires.keys
+
+pub decide_sender-requires-clause-rows : goal.decide_sender-requires-clause-rows
+decide_sender-requires-clause-rows g c = subst (λ (d : DeliveryData). IfSome d.vehicle (λ v. IsTrue (rows_fit v))) (sym c.rows.view_is) c.requires.rows
