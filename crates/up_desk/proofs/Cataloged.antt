@@ -1,6 +1,6 @@
 -- What is kept in memory, and what keeps it.
 use Rattle.std.proofs.Common.{◌≡◌, ℕ, List, [], ◌∷◌, Bool, true, false, cond, Option, Some, None, Result, Ok, Err, map, filter, refl, sym, ap, ◌∙◌, subst}
-use Rattle.std.specs.Prelude.{⊤, ◌&&◌, MatchBool, flat_map, is_some}
+use Rattle.std.specs.Prelude.{⊤, ◌&&◌, if◌then◌else◌, IfSome, MatchBool, flat_map, is_some}
 use Rattle.std.specs.FinMap as table
 use Rattle.up_canon.specs.Names.{Name, Table}
 use Rattle.up_canon.specs.Steps.{and_then, ◌>>=◌}
@@ -28,7 +28,7 @@ use Rattle.up_machine.specs.State.{State, Vehicle}
 use Rattle.up_store.specs.Found.{values_where}
 use Rattle.up_desk.specs.Gathered.{gathered, item_files, report_files}
 use Rattle.up_desk.specs.Serving.{is_lost, IsAnswered, outcome_due}
-use Rattle.up_desk.specs.Standing.{IsOf, Fits, IsLoaded, StillFits, keeps_catalog}
+use Rattle.up_desk.specs.Standing.{IsOf, Fits, IsLoaded, StillFits, keeps_catalog, kept_for}
 use Rattle.up_desk.specs.declared.catalog.Catalog.{Catalog}
 use Rattle.up_desk.proofs.LookedUp.{images_planned}
 use Rattle.up_desk.proofs.Serving.{next_is}
@@ -97,6 +97,35 @@ still_fits k s next at (CloseCampaign name) a catalog h still = dropped next cat
 -- the state and the answer are those of the command
 pub still_of : (s : State) (c d : Command) (catalog : Option Catalog) → c ≡ d → StillFits s d catalog → StillFits s c catalog
 still_of s c d catalog is h = subst (λ (e : Command). StillFits s e catalog) (sym is) h
+
+-- what is kept for a command
+by_keeping : (s : State) (old new : Option Catalog) (b : Bool) → new ≡ (if b then old else None) → Fits s old → MatchBool b (Fits s new) (new ≡ None)
+by_keeping s old new true is fits = subst (Fits s) (sym is) fits
+by_keeping s old new false is fits = is
+
+pub still_kept : (s : State) (c : Command) (old new : Option Catalog) → new ≡ kept_for c old → Fits s old → StillFits s c new
+still_kept s c old new is fits = by_keeping s old new (keeps_catalog c) is fits
+
+can_by : (P : Catalog → Type 0) (old new : Option Catalog) (b : Bool) → new ≡ (if b then old else None) → IfSome old P → IfSome new P
+can_by P old new true is can = subst (λ o. IfSome o P) (sym is) can
+can_by P old new false is can = subst (λ o. IfSome o P) (sym is) tt
+
+pub can_still : (P : Catalog → Type 0) (c : Command) (old new : Option Catalog) → new ≡ kept_for c old → IfSome old P → IfSome new P
+can_still P c old new is can = can_by P old new (keeps_catalog c) is can
+
+fits_by : (s : State) (old new : Option Catalog) (b : Bool) → new ≡ (if b then old else None) → Fits s old → Fits s new
+fits_by s old new true is fits = subst (Fits s) (sym is) fits
+fits_by s old new false is fits = dropped s new is
+
+pub kept_fits : (s : State) (c : Command) (old new : Option Catalog) → new ≡ kept_for c old → Fits s old → Fits s new
+kept_fits s c old new is fits = fits_by s old new (keeps_catalog c) is fits
+
+again_by : (old new : Option Catalog) (b : Bool) → new ≡ (if b then old else None) → new ≡ (if b then new else None)
+again_by old new true is = refl
+again_by old new false is = is
+
+pub kept_again : (c : Command) (old new : Option Catalog) → new ≡ kept_for c old → new ≡ kept_for c new
+kept_again c old new is = again_by old new (keeps_catalog c) is
 
 -- ---- what a plan reads of it
 

@@ -1,6 +1,6 @@
 -- What a desk stands on: the connection to its tables, and what it keeps of them in memory. The tables show a state to a desk where they
 -- show it, and what the desk keeps is of that state. A new desk keeps nothing, so to it they show what they show.
-use Rattle.std.specs.Prelude.{◌≡◌, ⊤, Bool, true, false, MatchBool, Option, Some, None, Result, IsTrue}
+use Rattle.std.specs.Prelude.{◌≡◌, ⊤, Bool, true, false, MatchBool, if◌then◌else◌, Option, Some, None, Result, IsTrue}
 use Rattle.sqlite.specs.Held.{Held}
 use Rattle.sqlite.specs.Held as held
 use Rattle.sqlite.specs.State.{State as Connected}
@@ -50,6 +50,9 @@ abbrev pub keeps_catalog : Command → Bool
 keeps_catalog (Deliver body) = true
 keeps_catalog (Fetch repository name) = true
 keeps_catalog _ = false
+
+abbrev pub kept_for : Command → Option Catalog → Option Catalog
+kept_for c catalog = if keeps_catalog c then catalog else None
 
 -- what is left in memory after a command: of the same state, or nothing
 abbrev pub StillFits : State → Command → Option Catalog → Type 0

@@ -9,7 +9,7 @@ ghost use Rattle.up_machine.specs.State.{State};
 ghost use Rattle.up_store.specs.Connections.{KeepsState};
 ghost use Rattle.up_tables.specs.Stands.{IfClean};
 ghost use Rattle.up_desk.specs.Serving.{Reads};
-ghost use Rattle.up_desk.specs.Standing.{CanDecide, Fits, IsLoaded, keeps_catalog as keeps_catalog_in};
+ghost use Rattle.up_desk.specs.Standing.{CanDecide, Fits, IsLoaded, kept_for, keeps_catalog as keeps_catalog_in};
 
 use crate::reading::read_founding;
 use sqlite::Alter;
@@ -34,12 +34,21 @@ pub struct Catalog {
 }
 
 /// Whether the command leaves all that a catalog has as it is.
-pub fn keeps_catalog(command: &Command) -> bool
+fn keeps_catalog(command: &Command) -> bool
     ensures { result ≡ keeps_catalog_in command.now }
 {
     match command {
         Command::Deliver(_) | Command::Fetch(_, _) => true,
         _ => false,
+    }
+}
+
+/// Drops the catalog, unless the command leaves all that it has as it is.
+pub fn drop_before(command: &Command, catalog: &mut Option<Catalog>)
+    ensures { catalog.new ≡ kept_for command.now catalog.old }
+{
+    if !keeps_catalog(command) {
+        *catalog = None;
     }
 }
 

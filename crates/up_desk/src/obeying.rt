@@ -9,11 +9,11 @@ ghost use Rattle.up_machine.specs.Sound.{IsSound};
 ghost use Rattle.up_machine.specs.State.{State};
 ghost use Rattle.up_store.specs.Connections.{KeepsState};
 ghost use Rattle.up_tables.specs.Stands.{IfClean};
-ghost use Rattle.up_desk.specs.Standing.{CanDecide, Fits, StillFits};
+ghost use Rattle.up_desk.specs.Standing.{CanDecide, Fits, StillFits, kept_for};
 ghost use Rattle.up_desk.specs.Serving.{Serves, outcome_due, outright as outright_of, outright_in_time, told};
 
 use crate::campaigns::{close, open};
-use crate::catalog::{Catalog, keeps_catalog};
+use crate::catalog::{Catalog, drop_before};
 use crate::deliveries::deliver;
 use crate::files::fetch;
 use crate::inventory::add_vehicle;
@@ -46,6 +46,7 @@ pub fn obey<K: Scheme, D: Alter>(
     ensures fits { HasCleanDisk (state D.Store store.new) → (k : Rules) (s : State) → IfClean (KeepsState k s) (state D.Store store.old) → Fits s catalog.old → StillFits s command.now catalog.new }
     ensures can { IfSome catalog.new (CanDecide (K.rules scheme.now)) }
 {
+    drop_before(command, catalog);
     match command_moment(at) {
         Some(at) => act(store, catalog, alloc, scheme, at, command),
         None => Err(Refusal::MomentOutOfRange),
@@ -63,15 +64,13 @@ fn act<K: Scheme, D: Alter>(
 ) -> Result<Answer, Refusal>
     requires moment { at ≤ last_command_moment }
     requires can { IfSome catalog (CanDecide (K.rules scheme.now)) }
+    requires dropped { catalog ≡ kept_for command.now catalog }
     ensures serves { (s : State) → IsSound (K.rules scheme.now) s → IfClean (KeepsState (K.rules scheme.now) s) (state D.Store store.old) → (HasCleanDisk (state D.Store store.old) → Fits s catalog.old)
         → Serves (K.rules scheme.now) s (state D.Store store.old) (state D.Store store.new) result (outcome_due (K.rules scheme.now) s at command.now) }
     ensures outright { IfSome (outright_in_time (K.rules scheme.now) command.now) (λ r. result ≡ Err r) }
     ensures fits { HasCleanDisk (state D.Store store.new) → (k : Rules) (s : State) → IfClean (KeepsState k s) (state D.Store store.old) → Fits s catalog.old → StillFits s command.now catalog.new }
     ensures can { IfSome catalog.new (CanDecide (K.rules scheme.now)) }
 {
-    if !keeps_catalog(command) {
-        *catalog = None;
-    }
     match command {
         Command::Found(keys) => found(store, alloc, scheme, at, keys),
         Command::Rotate(keys) => rotate(store, alloc, scheme, at, keys),
