@@ -1,5 +1,5 @@
 -- Images that are looked up one after another.
-use Rattle.std.proofs.Common.{◌≡◌, ℕ, ◌+◌, ◌<◌, length, take, get_or, List, [], ◌∷◌, ◌++◌, Bool, true, false, cond, Option, Some, None, map, refl, sym, ap, ◌∙◌, subst}
+use Rattle.std.proofs.Common.{◌≡◌, ℕ, ◌+◌, ◌<◌, length, take, get_or, List, [], ◌∷◌, ◌++◌, Bool, true, false, cond, Option, Some, None, map, append-nil, refl, sym, ap, ◌∙◌, subst}
 use Rattle.std.specs.Prelude.{◌&&◌, filter, flat_map, is_some}
 use Rattle.std.specs.List.{AllByRecursion}
 use Rattle.std.specs.FinMap as table
@@ -107,6 +107,17 @@ each_rest P (x ∷ xs) ys h = each_rest P xs ys h.1
 map_both : (xs ys : List Item) → item_files (xs ++ ys) ≡ item_files xs ++ item_files ys
 map_both [] ys = refl
 map_both (x ∷ xs) ys = ap (λ fs. x.file ∷ fs) (map_both xs ys)
+
+-- of one campaign
+items_chosen : (c : CampaignData) (b : Bool) → flat_map (λ (d : CampaignData). d.items) (cond b (c ∷ []) []) ≡ cond b c.items []
+items_chosen c true = append-nil c.items
+items_chosen c false = refl
+
+pub one_for : (c : CampaignData) (vehicle : Name) → (c.running && reaches vehicle c.reach) ≡ true → items_for (c ∷ []) vehicle ≡ c.items
+one_for c vehicle is = items_chosen c (c.running && reaches vehicle c.reach) ∙ ap (λ b. cond b c.items []) is
+
+pub none_for : (c : CampaignData) (vehicle : Name) → (c.running && reaches vehicle c.reach) ≡ false → items_for (c ∷ []) vehicle ≡ []
+none_for c vehicle is = items_chosen c (c.running && reaches vehicle c.reach) ∙ ap (λ b. cond b c.items []) is
 
 -- one more campaign
 pub items_more : (campaigns : List CampaignData) (vehicle : Name) (i : ℕ) (c : CampaignData) → i < length campaigns → c ≡ get_or campaigns i c

@@ -100,8 +100,14 @@ impl<K: Scheme, D: Alter> Desk<K, D> {
         states_stay_sound();
         repeats_change_nothing();
         kept_replies_stay();
-        let (store, catalog) = (&mut self.store, &mut self.catalog);
-        answer_of(obey(store, catalog, alloc, &self.scheme, at, command))
+        answer_of(obey(
+            &mut self.store,
+            &mut self.catalog,
+            alloc,
+            &self.scheme,
+            at,
+            command,
+        ))
     }
 
     /// Answers commands one after another, each with its moment, and appends one answer for each: where some commands are

@@ -1,7 +1,7 @@
 //! Images that the plan for a vehicle needs, out of all that are registered.
-ghost use Rattle.std.specs.Prelude.{◌≡◌, ◌∷◌, [], IfOk, OnOk};
+ghost use Rattle.std.specs.Prelude.{◌≡◌, ◌∷◌, ◌&&◌, [], IfOk, OnOk};
 ghost use Rattle.std.specs.FinMap as table;
-ghost use Rattle.up_plan.specs.Planning.{items_for};
+ghost use Rattle.up_plan.specs.Planning.{items_for, reaches as is_reached};
 ghost use Rattle.up_desk.specs.Gathered.{IsPart, with_found, gathered, item_files, report_files};
 
 use std::alloc::{AllocError, Global};
@@ -55,11 +55,18 @@ fn add_campaign(
 ) -> Result<(), AllocError>
     ensures { OnOk result (IsPart registered.now images.old → images.new ≡ gathered registered.now (item_files (items_for (campaign.now ∷ []) vehicle.now)) images.old) }
 {
-    if campaign.running && campaign.reach.reaches(vehicle) {
+    if is_for(campaign, vehicle) {
         add_items(alloc, images, registered, campaign.items.as_slice())
     } else {
         Ok(())
     }
+}
+
+/// Whether the campaign runs and reaches the vehicle.
+fn is_for(campaign: &Campaign, vehicle: &Ident) -> bool
+    ensures { result ≡ (campaign.now.running && is_reached vehicle.now campaign.now.reach) }
+{
+    campaign.running && campaign.reach.reaches(vehicle)
 }
 
 fn add_items(
