@@ -1,4 +1,5 @@
 use Rattle.std.proofs.Common.{sym, subst}
+use Rattle.sqlite.specs.Held.{state}
 use Rattle.up_desk.proofs.Cataloged.{loaded_fits, there_loaded}
 use Rattle.up_desk.proofs.Steps.{reads_none}
 use Rattle.up_desk.proofs.catalog.load.Goals as goal
@@ -11,3 +12,6 @@ returns-in-Ok-clause-fits g c = λ clean k s was fits. loaded_fits s c.in-Ok.rea
 
 pub returns-in-Ok-clause-loaded : goal.returns-in-Ok-clause-loaded
 returns-in-Ok-clause-loaded g c = λ clean k s was fits. c.in-Ok.ensures.told clean k s was
+
+pub returns-then-is_some-clause-reads : goal.returns-then-is_some-clause-reads
+returns-then-is_some-clause-reads g c = reads_none (state g.D.Store c.args.store.now)

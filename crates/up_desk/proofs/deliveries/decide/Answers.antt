@@ -1,10 +1,11 @@
 use Rattle.std.proofs.Common.{sym, ap, subst, ◌∙◌}
 use Rattle.std.specs.Prelude.{IfSome, IsTrue, option_copied}
+use Rattle.sqlite.specs.Held.{state}
 use Rattle.up_canon.specs.declared.refusal.Refusal.TheVariants.{NotFounded}
 use Rattle.up_machine.specs.RowsFit.{rows_fit}
 use Rattle.up_machine.proofs.Senders.{no_founding, refused_first}
 use Rattle.up_desk.specs.Standing.{CanDecide, IsLoaded}
-use Rattle.up_desk.proofs.Steps.{following, lost_told}
+use Rattle.up_desk.proofs.Steps.{following, lost_told, reads_none}
 use Rattle.up_desk.proofs.deliveries.decide.Goals as goal
 
 pub returns-in_default-clause-decided : goal.returns-in_default-clause-decided
@@ -31,3 +32,6 @@ decide_known-requires-clause-can g c = subst (λ o. IfSome o (CanDecide (g.K.Sch
 
 pub decide_known-requires-clause-rows : goal.decide_known-requires-clause-rows
 decide_known-requires-clause-rows g c = subst (λ o. IfSome o (λ v. IsTrue (rows_fit v))) (sym c.as_ref-rows.ensures.value) c.in-Ok.ensures.fits
+
+pub returns-in_default-clause-reads : goal.returns-in_default-clause-reads
+returns-in_default-clause-reads g c = reads_none (state g.D.Store c.args.store.now)

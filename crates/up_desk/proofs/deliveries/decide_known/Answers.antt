@@ -1,9 +1,10 @@
 use Rattle.std.proofs.Common.{◌≡◌, sym, ap, subst, ◌∙◌}
+use Rattle.sqlite.specs.Held.{state}
 use Rattle.up_machine.specs.Keys.{hashed_roles}
 use Rattle.up_machine.specs.declared.rows.Founding.{Founding}
 use Rattle.up_machine.proofs.Senders.{refused_first}
 use Rattle.std.proofs.lemmas.Option.{same_Some}
-use Rattle.up_desk.proofs.Steps.{due_or_lost}
+use Rattle.up_desk.proofs.Steps.{due_or_lost, reads_none}
 use Rattle.up_desk.proofs.deliveries.decide_known.Goals as goal
 
 pub returns-in-Ok-clause-decided : goal.returns-in-Ok-clause-decided
@@ -17,3 +18,6 @@ returns-in-Err-clause-decided g c = λ clean s sound known was.
 pub decide_sent-requires-clause-hashed : goal.decide_sent-requires-clause-hashed
 decide_sent-requires-clause-hashed g c =
     c.requires.can.hashed ∙ ap (λ (f : Founding). hashed_roles (g.K.Scheme.rules c.args.scheme.now) f.keys.director) (same_Some c.in-Ok.ensures.given.0)
+
+pub returns-in-Err-clause-reads : goal.returns-in-Err-clause-reads
+returns-in-Err-clause-reads g c = reads_none (state g.D.Store c.args.store.now)

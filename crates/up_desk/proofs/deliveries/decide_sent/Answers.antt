@@ -1,5 +1,6 @@
+use Rattle.sqlite.specs.Held.{state}
 use Rattle.up_machine.specs.Decisions.{GivesDelivered}
-use Rattle.up_desk.proofs.Steps.{gives_or_lost}
+use Rattle.up_desk.proofs.Steps.{gives_or_lost, reads_none}
 use Rattle.up_desk.proofs.deliveries.decide_sent.Goals as goal
 
 pub returns-then-is_later-clause-decided : goal.returns-then-is_later-clause-decided
@@ -9,3 +10,6 @@ returns-then-is_later-clause-decided g c = λ clean s sound sent was.
 pub returns-else-is_later-clause-decided : goal.returns-else-is_later-clause-decided
 returns-else-is_later-clause-decided g c = λ clean s sound sent was.
     c.decide_earlier.ensures.decided (g.K.Scheme.rules c.args.scheme.now) clean s sound sent.from was
+
+pub returns-then-is_later-clause-reads : goal.returns-then-is_later-clause-reads
+returns-then-is_later-clause-reads g c = reads_none (state g.D.Store c.args.store.now)
