@@ -59,7 +59,7 @@ pub fn load<K: Scheme, D: Alter>(
     alloc: Global,
     scheme: &K,
 ) -> Result<(), StoreFault>
-    requires { IfSome catalog (CanDecide (K.rules scheme.now)) }
+    requires { IfSome catalog.old (CanDecide (K.rules scheme.now)) }
     ensures can { IfSome catalog.new (CanDecide (K.rules scheme.now)) }
     ensures fits { HasCleanDisk (state D.Store store.new) → (k : Rules) (s : State) → IfClean (KeepsState k s) (state D.Store store.old) → Fits s catalog.old → Fits s catalog.new }
     ensures loaded { HasCleanDisk (state D.Store store.new) → OnOk result ((k : Rules) (s : State) → IfClean (KeepsState k s) (state D.Store store.old) → Fits s catalog.old → IsLoaded s catalog.new) }

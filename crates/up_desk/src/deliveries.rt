@@ -55,7 +55,7 @@ pub fn deliver<K: Scheme, D: Alter>(
     body: &Bytes,
 ) -> Result<Answer, Refusal>
     requires moment { at ≤ last_command_moment }
-    requires can { IfSome catalog (CanDecide (K.rules scheme.now)) }
+    requires can { IfSome catalog.old (CanDecide (K.rules scheme.now)) }
     ensures large { largest_body < length body.now → result ≡ Err TooLarge }
     ensures serves { (s : State) → IsSound (K.rules scheme.now) s → IfClean (KeepsState (K.rules scheme.now) s) (state D.Store store.old) → (HasCleanDisk (state D.Store store.old) → Fits s catalog.old)
         → Serves (K.rules scheme.now) s (state D.Store store.old) (state D.Store store.new) result
@@ -80,7 +80,7 @@ fn receive<K: Scheme, D: Alter>(
 ) -> Result<Answer, Refusal>
     requires moment { at ≤ last_command_moment }
     requires read { IsRead incoming.now }
-    requires can { IfSome catalog (CanDecide (K.rules scheme.now)) }
+    requires can { IfSome catalog.old (CanDecide (K.rules scheme.now)) }
     ensures serves { (s : State) → IsSound (K.rules scheme.now) s → IfClean (KeepsState (K.rules scheme.now) s) (state D.Store store.old) → (HasCleanDisk (state D.Store store.old) → Fits s catalog.old)
         → Serves (K.rules scheme.now) s (state D.Store store.old) (state D.Store store.new) result (decide_incoming (K.rules scheme.now) s at incoming.now) }
     ensures fits { HasCleanDisk (state D.Store store.new) → (k : Rules) (s : State) → IfClean (KeepsState k s) (state D.Store store.old) → Fits s catalog.old → Fits s catalog.new }

@@ -39,7 +39,7 @@ pub fn obey<K: Scheme, D: Alter>(
     at: u64,
     command: &Command,
 ) -> Result<Answer, Refusal>
-    requires { IfSome catalog (CanDecide (K.rules scheme.now)) }
+    requires { IfSome catalog.old (CanDecide (K.rules scheme.now)) }
     ensures serves { (s : State) → IsSound (K.rules scheme.now) s → IfClean (KeepsState (K.rules scheme.now) s) (state D.Store store.old) → (HasCleanDisk (state D.Store store.old) → Fits s catalog.old)
         → Serves (K.rules scheme.now) s (state D.Store store.old) (state D.Store store.new) result (outcome_due (K.rules scheme.now) s at command.now) }
     ensures outright { IfSome (outright_of (K.rules scheme.now) at command.now) (λ r. result ≡ Err r) }
@@ -63,8 +63,8 @@ fn act<K: Scheme, D: Alter>(
     command: &Command,
 ) -> Result<Answer, Refusal>
     requires moment { at ≤ last_command_moment }
-    requires can { IfSome catalog (CanDecide (K.rules scheme.now)) }
-    requires dropped { catalog ≡ kept_for command.now catalog }
+    requires can { IfSome catalog.old (CanDecide (K.rules scheme.now)) }
+    requires dropped { catalog.old ≡ kept_for command.now catalog.old }
     ensures serves { (s : State) → IsSound (K.rules scheme.now) s → IfClean (KeepsState (K.rules scheme.now) s) (state D.Store store.old) → (HasCleanDisk (state D.Store store.old) → Fits s catalog.old)
         → Serves (K.rules scheme.now) s (state D.Store store.old) (state D.Store store.new) result (outcome_due (K.rules scheme.now) s at command.now) }
     ensures outright { IfSome (outright_in_time (K.rules scheme.now) command.now) (λ r. result ≡ Err r) }
