@@ -2,7 +2,7 @@
 -- show it, and what the desk keeps is of that state. A new desk keeps nothing, so to it they show what they show.
 use Rattle.std.specs.Prelude.{◌≡◌, ⊤, Bool, true, false, MatchBool, if◌then◌else◌, Option, Some, None, Result, IsTrue}
 use Rattle.sqlite.specs.Held.{Held}
-use Rattle.sqlite.specs.Held as held
+use Rattle.sqlite.specs.Held as holding
 use Rattle.sqlite.specs.State.{State as Connected}
 use Rattle.sqlite.specs.State as connected
 use Rattle.sqlite.specs.Tree.{Trees}
@@ -75,7 +75,7 @@ pub record Standing : Type 0 where
   pub catalog : Option Catalog
 
 abbrev pub state : {D : Type 0} → Ghosts D → Stored D → Standing
-state g d = record { connection = held.state g d.held; catalog = d.catalog }
+state g d = record { connection = holding.state g d.held; catalog = d.catalog }
 
 -- a desk that keeps nothing
 abbrev pub bare : {D : Type 0} → Held D → Stored D

@@ -106,10 +106,11 @@ fn add_file(
 ) -> Result<(), AllocError>
     ensures { OnOk result (IsPart registered.now images.old → images.new ≡ with_found registered.now images.old file.now) }
 {
-    if images.contains(file.text()) {
+    let name = file.text();
+    if images.contains(name) {
         return Ok(());
     }
-    match registered.get(file.text()) {
+    match registered.get(name) {
         Some(image) => copy_image(alloc, images, file, image),
         None => Ok(()),
     }
