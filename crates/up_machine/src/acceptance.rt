@@ -11,8 +11,7 @@ use crate::decision::AcceptedRows;
 use crate::director_files::{reply_text, targets_for};
 use crate::hashed_keys::HashedRoleKeys;
 use crate::reported::{fitted_ecus, reported_rows};
-use crate::rows::{Kept, VehicleRow, VehicleRows};
-use crate::sender::Sender;
+use crate::rows::{Founding, Kept, VehicleRow, VehicleRows};
 use std::alloc::{AllocError, Global};
 use up_canon::count::Count;
 use up_canon::listed::Duplicate;
@@ -27,28 +26,38 @@ use up_plan::plan::plan;
 use up_sign::scheme::Scheme;
 
 /// The rows of the manifest's vehicle with one version more, and the row that is kept for the manifest: the plan of this
-/// moment, and the reply with the Director's files for it.
+/// moment, and the reply with the Director's files for it, signed with keys that are hashed already.
 pub(crate) fn accepted_rows<K: Scheme>(
     alloc: Global,
     scheme: &K,
     at: Moment,
     incoming: &Incoming,
-    sender: &Sender,
+    founding: &Founding,
     hashed: &HashedRoleKeys,
+    rows: &VehicleRows,
     images: &Table<Image>,
     campaigns: &[Campaign],
 ) -> Result<AcceptedRows, AllocError>
-    requires keys { IsTrue (roles_can_sign (K.rules scheme.now) sender.now.founding.keys.director) }
-    requires hashed { hashed.now ≡ hashed_roles (K.rules scheme.now) sender.now.founding.keys.director }
-    requires version { sender.now.vehicle.vehicle.version < max_count }
+    requires keys { IsTrue (roles_can_sign (K.rules scheme.now) founding.now.keys.director) }
+    requires hashed { hashed.now ≡ hashed_roles (K.rules scheme.now) founding.now.keys.director }
+    requires version { rows.now.vehicle.version < max_count }
     requires moment { at ≤ last_command_moment }
-    requires once { first_repeated (map (λ row. row.ecu) sender.now.vehicle.ecus) ≡ None }
-    ensures { IfOk result (λ accepted. accepted ≡ accepted_rows_of (K.rules scheme.now) sender.now.founding sender.now.vehicle at incoming.now images.now campaigns.now) }
+    requires once { first_repeated (map (λ row. row.ecu) rows.now.ecus) ≡ None }
+    ensures { IfOk result (λ accepted. accepted ≡ accepted_rows_of (K.rules scheme.now) founding.now rows.now at incoming.now images.now campaigns.now) }
 {
-    let rows = sender.vehicle;
     let reports = incoming.manifest.reports.as_slice();
     let plan = plan_for(alloc, rows, reports, images, campaigns)?;
-    let kept = kept_row(alloc, scheme, at, incoming, sender, hashed, images, plan)?;
+    let kept = kept_row(
+        alloc,
+        scheme,
+        at,
+        incoming,
+        founding,
+        hashed,
+        &rows.vehicle,
+        images,
+        plan,
+    )?;
     let vehicle = VehicleRows {
         vehicle: accepted_row(alloc, &rows.vehicle, incoming.manifest.counter)?,
         ecus: reported_rows(alloc, rows.ecus.as_slice(), reports)?,
@@ -82,19 +91,19 @@ fn kept_row<K: Scheme>(
     scheme: &K,
     at: Moment,
     incoming: &Incoming,
-    sender: &Sender,
+    founding: &Founding,
     hashed: &HashedRoleKeys,
+    row: &VehicleRow,
     images: &Table<Image>,
     plan: Plan,
 ) -> Result<Kept, AllocError>
-    requires keys { IsTrue (roles_can_sign (K.rules scheme.now) sender.now.founding.keys.director) }
-    requires hashed { hashed.now ≡ hashed_roles (K.rules scheme.now) sender.now.founding.keys.director }
-    requires version { sender.now.vehicle.vehicle.version < max_count }
+    requires keys { IsTrue (roles_can_sign (K.rules scheme.now) founding.now.keys.director) }
+    requires hashed { hashed.now ≡ hashed_roles (K.rules scheme.now) founding.now.keys.director }
+    requires version { row.now.version < max_count }
     requires moment { at ≤ last_command_moment }
     requires once { first_repeated (map (λ a. a.ecu) plan.assigned) ≡ None }
-    ensures { IfOk result (λ kept. kept ≡ kept_of (K.rules scheme.now) sender.now.founding sender.now.vehicle.vehicle at incoming.now images.now plan) }
+    ensures { IfOk result (λ kept. kept ≡ kept_of (K.rules scheme.now) founding.now row.now at incoming.now images.now plan) }
 {
-    let (founding, row) = (sender.founding, &sender.vehicle.vehicle);
     let targets = targets_for(alloc, images, plan.assigned.as_slice())?;
     let reply = reply_text(alloc, scheme, at, founding, hashed, row, targets)?;
     Ok(Kept {

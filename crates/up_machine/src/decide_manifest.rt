@@ -131,11 +131,17 @@ pub fn decide_new<K: Scheme>(
 {
     body_laws();
     other_images_change_nothing();
-    let (ecus, primary) = (&sender.vehicle.ecus, &sender.vehicle.vehicle.primary);
-    let reports = incoming.manifest.reports.as_slice();
-    check_reports(alloc, scheme, ecus.as_slice(), primary, &sender.key, reports)?;
+    let (founding, vehicle) = (sender.founding, sender.vehicle);
+    check_reports(
+        alloc,
+        scheme,
+        vehicle.ecus.as_slice(),
+        &vehicle.vehicle.primary,
+        &sender.key,
+        incoming.manifest.reports.as_slice(),
+    )?;
     let accepted = accepted_rows(
-        alloc, scheme, at, incoming, sender, hashed, images, campaigns,
+        alloc, scheme, at, incoming, founding, hashed, vehicle, images, campaigns,
     )?;
     Ok(Delivered::Accepted(accepted))
 }
