@@ -282,12 +282,14 @@ def senders(program, own, lines=100):
     """Counters 1 and 3 are accepted first, so that 2 is stale and 4 is fresh."""
     told = [list(manifests(100, lines, counter, 4)) for counter in (1, 2, 3, 4)]
     signed = [forged(line) for line in told[3]]
-    kinds = {"fresh": (told[3], b"reply "), "repeat": (told[0], b"reply "), "stale": (told[1], b"refused 13 "), "forged": (signed, b"refused 12 ")}
+    kinds = {"fresh": (told[3], b"reply "), "repeat": (told[0], b"reply "),
+             "stale": (told[1], b"refused 13 "), "forged": (signed, b"refused 12 ")}
     others = {"1 image": (1, 0, 0), "10 campaigns": (1, 10, 0), "200 campaigns": (1, 200, 0),
               "10,000 closed campaigns": (1, 0, 10_000), "1,024 images": (1024, 0, 0)}
-    for name, (images, campaigns, others_closed) in others.items():
+    for name, (images, campaigns, ended) in others.items():
         path = own / name
-        trials.printed(program, path, [*prepared(100, images, campaigns, 4), *closed(others_closed), *told[0], *told[2]], 3600)
+        before = [*prepared(100, images, campaigns, 4), *closed(ended), *told[0], *told[2]]
+        assert trials.printed(program, path, before, 3600) is not None
         for kind, (script, answered) in kinds.items():
             copy = trials.copied(path, own / "next")
             print("| %s, %s | %d |" % (name, kind, alone(program, copy, script, told[0][:1], answered)), flush=True)
