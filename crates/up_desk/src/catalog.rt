@@ -44,7 +44,7 @@ fn keeps_catalog(command: &Command) -> bool
 }
 
 /// Drops the catalog, unless the command leaves all that it has as it is.
-pub fn drop_before(command: &Command, catalog: &mut Option<Catalog>)
+pub(crate) fn drop_before(command: &Command, catalog: &mut Option<Catalog>)
     ensures { catalog.new ≡ kept_for command.now catalog.old }
 {
     if !keeps_catalog(command) {
@@ -53,7 +53,7 @@ pub fn drop_before(command: &Command, catalog: &mut Option<Catalog>)
 }
 
 /// Reads the catalog where there is none. There is none before founding, and after a fault.
-pub fn load<K: Scheme, D: Alter>(
+pub(crate) fn load<K: Scheme, D: Alter>(
     store: &mut Store<D>,
     catalog: &mut Option<Catalog>,
     alloc: Global,
