@@ -7,14 +7,14 @@ use Rattle.up_machine.proofs.Passing.{delivery_refused, surely}
 use Rattle.up_machine.proofs.Senders.{refused_first}
 use Rattle.up_machine.proofs.decide_manifest.decide_manifest.Goals as goal
 
-pub returns-in_err-decide_sender : goal.returns-in_err-decide_sender
-returns-in_err-decide_sender g c = λ s sound rows.
+pub returns-in_err-sender : goal.returns-in_err-sender
+returns-in_err-sender g c = λ s sound rows.
     let k = g.K.Scheme.rules c.args.scheme.now in
-    let e = c.in_err-decide_sender.field-0.0 in
+    let e = c.in_err-sender.field-0.0 in
     let founding = ap (λ (d : DeliveryData). d.founding) c.rows.view_is ∙ rows.founding in
     let vehicle = ap (λ (d : DeliveryData). d.vehicle) c.rows.view_is ∙ rows.vehicle in
     delivery_refused k s c.args.incoming.now.manifest.vehicle c.from_residual.result e _ c.from_residual.ensures.1
-    (surely _ e (refused_first k s c.args.at c.args.incoming.now e (c.in_err-decide_sender.ensures.from s founding vehicle)))
+    (surely _ e (refused_first k s c.args.at c.args.incoming.now e (c.in_err-sender.ensures.from s founding vehicle)))
 
 pub returns-then-not-is_later : goal.returns-then-not-is_later
 returns-then-not-is_later g c = λ s sound rows.
@@ -22,7 +22,7 @@ returns-then-not-is_later g c = λ s sound rows.
     let founding = ap (λ (d : DeliveryData). d.founding) c.rows.view_is ∙ rows.founding in
     let vehicle = ap (λ (d : DeliveryData). d.vehicle) c.rows.view_is ∙ rows.vehicle in
     let kept = ap (λ (d : DeliveryData). d.kept) c.rows.view_is ∙ rows.kept in
-    c.decide_again.ensures k s c.args.at c.requires.moment sound (c.in_ok-decide_sender.ensures.from s founding vehicle) kept
+    c.decide_again.ensures k s c.args.at c.requires.moment sound (c.in_ok-sender.ensures.from s founding vehicle) kept
 
 pub returns : goal.returns
 returns g c = λ s sound rows.
@@ -30,7 +30,7 @@ returns g c = λ s sound rows.
     let vehicle = ap (λ (d : DeliveryData). d.vehicle) c.rows.view_is ∙ rows.vehicle in
     let images = ap (λ (d : DeliveryData). d.images) (sym c.rows.view_is) in
     let campaigns = ap (λ (d : DeliveryData). d.campaigns) (sym c.rows.view_is) in
-    c.decide_new.ensures s sound (c.in_ok-decide_sender.ensures.from s founding vehicle)
+    c.decide_new.ensures s sound (c.in_ok-sender.ensures.from s founding vehicle)
     (subst (λ is. ArePlanned s c.args.incoming.now.manifest is c.rows.inside.campaigns.now) images (subst (λ cs. ArePlanned s c.args.incoming.now.manifest c.args.rows.now.images cs) campaigns (record { images_are = rows.images; items = rows.campaigns })))
 
 pub decide_sender-requires-clause-keys : goal.decide_sender-requires-clause-keys

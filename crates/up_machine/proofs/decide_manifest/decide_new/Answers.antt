@@ -18,7 +18,7 @@ pub returns-in_err-check_reports : goal.returns-in_err-check_reports
 returns-in_err-check_reports g c = λ s sound from planned.
     let k = g.K.Scheme.rules c.args.scheme.now in
     let e = c.in_err-check_reports.field-0.0 in
-    let same = ap₂ (check_reports_of k) (c.as_slice.ensures ∙ ap (λ (d : SenderData). d.vehicle.ecus) c.sender.view_is) c.as_slice-check_reports.ensures in
+    let same = ap₂ (check_reports_of k) (c.as_slice.ensures ∙ ap (λ (d : SenderData). d.vehicle.ecus) c.sender.view_is) c.as_slice-2.ensures in
     delivery_refused k s c.args.incoming.now.manifest.vehicle c.from_residual.result e _ c.from_residual.ensures.1
     (so_too (check_reports_of k c.args.sender.now.vehicle.ecus c.args.incoming.now.manifest.reports) _ e
     (new_refused c.body_laws.ensures.read c.body_laws.ensures.signed k s c.args.at c.args.incoming.now c.args.sender.now e sound c.requires.moment c.requires.read from c.requires.later)
@@ -44,7 +44,9 @@ accepted_rows-requires-clause-version g c =
     let below = version_below c.args.sender.now.vehicle c.requires.can.rows in
     let later = c.requires.later in
     let version = ap (λ (d : SenderData). d.vehicle.vehicle.version) c.sender.view_is in
-    omega (arith, below, later, version)
+    let limit = c.get.ensures.limit in
+    let counter = c.get.ensures.value in
+    omega (arith, below, later, version, limit, counter)
 
 pub accepted_rows-requires-clause-once : goal.accepted_rows-requires-clause-once
 accepted_rows-requires-clause-once g c =
@@ -53,7 +55,7 @@ accepted_rows-requires-clause-once g c =
 pub returns : goal.returns
 returns g c = λ s sound from planned.
     let k = g.K.Scheme.rules c.args.scheme.now in
-    let same = ap₂ (check_reports_of k) (c.as_slice.ensures ∙ ap (λ (d : SenderData). d.vehicle.ecus) c.sender.view_is) c.as_slice-check_reports.ensures in
+    let same = ap₂ (check_reports_of k) (c.as_slice.ensures ∙ ap (λ (d : SenderData). d.vehicle.ecus) c.sender.view_is) c.as_slice-2.ensures in
     let made = c.in_ok-accepted.ensures ∙ ap (λ (d : SenderData). accepted_rows k d.founding d.vehicle c.args.at c.args.incoming.now c.args.images.now c.args.campaigns.now) c.sender.view_is in
     subst (λ a. GivesDelivered k s c.args.incoming.now.manifest.vehicle (Ok (Accepted a)) (decide_incoming k s c.args.at c.args.incoming.now)) (sym made)
     (new_accepted c.other_images_change_nothing.ensures c.body_laws.ensures.read c.body_laws.ensures.signed k s c.args.at c.args.incoming.now c.args.sender.now c.args.images.now c.args.campaigns.now
