@@ -131,8 +131,6 @@ pub fn decide_new<K: Scheme>(
 {
     body_laws();
     other_images_change_nothing();
-    // It is at most 2^53-1, so that the version, which isn't above the last counter, can rise.
-    let _ = incoming.manifest.counter.get();
     let (founding, vehicle) = (sender.founding, sender.vehicle);
     check_reports(
         alloc,

@@ -1,7 +1,5 @@
 use Rattle.std.proofs.Common.{ap, sym, subst, ◌∙◌}
-use Rattle.std.specs.Prelude.{IfSome, IsTrue, option_copied}
 use Rattle.up_machine.specs.Decisions.{DeliveryData}
-use Rattle.up_machine.specs.RowsFit.{founding_fits, rows_fit}
 use Rattle.up_machine.specs.Senders.{ArePlanned}
 use Rattle.up_machine.proofs.Passing.{delivery_refused, surely}
 use Rattle.up_machine.proofs.Senders.{refused_first}
@@ -32,10 +30,3 @@ returns g c = λ s sound rows.
     let campaigns = ap (λ (d : DeliveryData). d.campaigns) (sym c.rows.view_is) in
     c.decide_new.ensures s sound (c.in_ok-sender.ensures.from s founding vehicle)
     (subst (λ is. ArePlanned s c.args.incoming.now.manifest is c.rows.inside.campaigns.now) images (subst (λ cs. ArePlanned s c.args.incoming.now.manifest c.args.rows.now.images cs) campaigns (record { images_are = rows.images; items = rows.campaigns })))
-
-pub decide_sender-requires-clause-keys : goal.decide_sender-requires-clause-keys
-decide_sender-requires-clause-keys g c =
-    subst (λ (d : DeliveryData). IfSome d.founding (λ f. IsTrue (founding_fits (g.K.Scheme.rules c.args.scheme.now) f))) (sym c.rows.view_is) c.requires.keys
-
-pub decide_sender-requires-clause-rows : goal.decide_sender-requires-clause-rows
-decide_sender-requires-clause-rows g c = subst (λ (d : DeliveryData). IfSome d.vehicle (λ v. IsTrue (rows_fit v))) (sym c.rows.view_is) c.requires.rows

@@ -1,17 +1,10 @@
-use Rattle.std.proofs.Common.{◌≡◌, Ok, None, subst, sym, ap, ap₂, map, ◌∙◌, arith}
-use Rattle.std.specs.Prelude.{IsTrue}
-use Rattle.up_canon.specs.Names.{first_repeated}
-use Rattle.up_sign.specs.Hmac.{block_key}
+use Rattle.std.proofs.Common.{Ok, subst, sym, ap, ap₂, ◌∙◌}
 use Rattle.up_machine.specs.declared.decision.Delivered.TheVariants.{Accepted}
 use Rattle.up_machine.specs.Decisions.{decide_incoming, GivesDelivered}
-use Rattle.up_machine.specs.Keys.{hashed_roles}
-use Rattle.up_machine.specs.ManifestRows.{accepted_rows, check_reports_of, public_of_row}
-use Rattle.up_machine.specs.RowsFit.{roles_can_sign}
+use Rattle.up_machine.specs.ManifestRows.{accepted_rows, check_reports_of}
 use Rattle.up_machine.specs.Senders.{SenderData}
-use Rattle.up_machine.proofs.NewFiles.{each_signs}
 use Rattle.up_machine.proofs.Passing.{Refuses, so_too, delivery_refused}
 use Rattle.up_machine.proofs.Senders.{new_accepted, new_refused}
-use Rattle.up_machine.proofs.SoundRows.{version_below, each_once}
 use Rattle.up_machine.proofs.decide_manifest.decide_new.Goals as goal
 
 pub returns-in_err-check_reports : goal.returns-in_err-check_reports
@@ -23,34 +16,6 @@ returns-in_err-check_reports g c = λ s sound from planned.
     (so_too (check_reports_of k c.args.sender.now.vehicle.ecus c.args.incoming.now.manifest.reports) _ e
     (new_refused c.body_laws.ensures.read c.body_laws.ensures.signed k s c.args.at c.args.incoming.now c.args.sender.now e sound c.requires.moment c.requires.read from c.requires.later)
     (subst (λ r. Refuses r e) same c.in_err-check_reports.ensures))
-
-pub check_reports-requires : goal.check_reports-requires
-check_reports-requires g c =
-    ap (λ (d : SenderData). d.key) c.sender.view_is ∙ c.requires.can.key
-    ∙ ap (λ (d : SenderData). block_key (public_of_row d.vehicle.ecus d.vehicle.vehicle.primary)) (sym c.sender.view_is)
-    ∙ ap (λ rows. block_key (public_of_row rows c.sender.inside.vehicle.now.vehicle.primary)) (sym c.as_slice.ensures)
-
-pub accepted_rows-requires-clause-keys : goal.accepted_rows-requires-clause-keys
-accepted_rows-requires-clause-keys g c =
-    subst (λ (d : SenderData). IsTrue (roles_can_sign (g.K.Scheme.rules c.args.scheme.now) d.founding.keys.director)) (sym c.sender.view_is)
-    (each_signs (g.K.Scheme.rules c.args.scheme.now) c.args.sender.now.founding.keys c.requires.can.keys).0
-
-pub accepted_rows-requires-clause-hashed : goal.accepted_rows-requires-clause-hashed
-accepted_rows-requires-clause-hashed g c =
-    c.requires.hashed ∙ ap (λ (d : SenderData). hashed_roles (g.K.Scheme.rules c.args.scheme.now) d.founding.keys.director) (sym c.sender.view_is)
-
-pub accepted_rows-requires-clause-version : goal.accepted_rows-requires-clause-version
-accepted_rows-requires-clause-version g c =
-    let below = version_below c.args.sender.now.vehicle c.requires.can.rows in
-    let later = c.requires.later in
-    let version = ap (λ (d : SenderData). d.vehicle.vehicle.version) c.sender.view_is in
-    let limit = c.get.ensures.limit in
-    let counter = c.get.ensures.value in
-    omega (arith, below, later, version, limit, counter)
-
-pub accepted_rows-requires-clause-once : goal.accepted_rows-requires-clause-once
-accepted_rows-requires-clause-once g c =
-    subst (λ (d : SenderData). first_repeated (map (λ row. row.ecu) d.vehicle.ecus) ≡ None) (sym c.sender.view_is) (each_once c.args.sender.now.vehicle c.requires.can.rows)
 
 pub returns : goal.returns
 returns g c = λ s sound from planned.
