@@ -58,8 +58,7 @@ serves : (laws : CallLaws) (k : Rules) (at : ℕ) (c : Command) (r : Result Answ
     → ServesCall k at c (told r) old new
 serves laws k at c r old new fits obeys keeps = λ now s sound was.
     let it = answered k s new.connection at c r laws.sound fits sound ((obeyed k at c r old new obeys s sound was).leaves now) in
-    let still = keeps now k s (λ before. (was before).tables) (was (cleaned laws k at c r old new obeys now)).memory in
-    (
+    let still = keeps now k s (λ before. (was before).tables) (was (cleaned laws k at c r old new obeys now)).memory in (
       it.next,
       it.answered,
       answered_stays k s it.next at c (told r) laws.served laws.replies sound it.answered,
