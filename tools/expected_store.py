@@ -322,8 +322,8 @@ def computed():
     return [
         section("all nine writes", [*WRITES, REPLACEMENT], REFUSED, READS),
         section("each disk call refused", [*in_order, REPLACEMENT], [], ONE_OF_EACH),
-        older("a raise of schema 1 in files", 1, WRITES, FURTHER[:1], FEW_READS),
-        older("a raise of schema 2 in files", 2, WRITES, FURTHER[:1], FEW_READS),
+        older("each disk call refused over a raise of schema 1 in files", 1, WRITES, FURTHER[:1], FEW_READS),
+        older("each disk call refused over a raise of schema 2 in files", 2, WRITES, FURTHER[:1], FEW_READS),
         older("a database of schema 1 in files", 1, WRITES, FURTHER, READS),
         older("a database of schema 2 in files", 2, WRITES, FURTHER, READS),
         older("a new database of schema 1 in files", 1, [], WRITES[:1], READS),
