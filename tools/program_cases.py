@@ -10,8 +10,11 @@ NO_DATABASE = b"uptane_desk: cannot open the database\n"
 UNREAD = b"uptane_desk: cannot read the file\n"
 RUN = ["run", ":memory:"]
 NOT_JSON = b"refused 5 NotJson\n"
-# SHA-256 of `abc`, by FIPS 180-4
-ABC = b"3 ba7816bf8f01cfea414140de5dae2223b00361a396177a9cb410ff61f20015ad\n"
+# SHA-256 and SHA-512 of `abc`, by FIPS 180-4
+ABC = (
+    b"3 ba7816bf8f01cfea414140de5dae2223b00361a396177a9cb410ff61f20015ad "
+    b"ddaf35a193617abacc417349ae20413112e6fa4e89a97ea20a9eeee64b55d39a2192992a274fc1a836ba3c23a3feebbd454d4423643ce80e2a9ac94fa54ca49f\n"
+)
 LONGEST_LINE = 2_097_152
 LARGEST_FILE = 1_073_741_824
 MEBIBYTE = 1 << 20

@@ -1,7 +1,8 @@
--- The length and the SHA-256 (FIPS 180-4) of what a reader gives.
+-- The length, the SHA-256 and the SHA-512 (FIPS 180-4) of what a reader gives.
 use Rattle.std.specs.Prelude.{◌≡◌, ℕ, ◌≤◌, ◌<◌, List, length, Option, Result, Ok, Err, ⊤}
 use Rattle.std.specs.Io.KnownBytes.{Consumes, IsAtEnd}
 use Rattle.sha2.specs.Sha256.{sha256}
+use Rattle.sha2.specs.Sha512.{sha512}
 use Rattle.up_service.specs.declared.digest.DigestFault.{DigestFault}
 use Rattle.up_service.specs.declared.digest.DigestFault.TheVariants.{Read, TooLong}
 
@@ -10,13 +11,13 @@ abbrev pub most_bytes : ℕ
 most_bytes = 1073741824
 
 -- what is answered where these bytes came
-abbrev pub Tells : List ℕ → Option (List ℕ) → Result (ℕ × List ℕ) DigestFault → Type 0
-Tells came has (Ok told) = IsAtEnd has × (length came ≤ most_bytes) × (told.0 ≡ length came) × (told.1 ≡ sha256 came)
+abbrev pub Tells : List ℕ → Option (List ℕ) → Result (ℕ × List ℕ × List ℕ) DigestFault → Type 0
+Tells came has (Ok told) = IsAtEnd has × (length came ≤ most_bytes) × (told.0 ≡ length came) × (told.1 ≡ sha256 came) × (told.2 ≡ sha512 came)
 Tells came has (Err Read) = ⊤
 Tells came has (Err TooLong) = most_bytes < length came
 
 -- of the bytes that came, at most one more than a file may have
-pub record Digested (had has : Option (List ℕ)) (result : Result (ℕ × List ℕ) DigestFault) : Type 0 where
+pub record Digested (had has : Option (List ℕ)) (result : Result (ℕ × List ℕ × List ℕ) DigestFault) : Type 0 where
   pub came : List ℕ
   pub read : Consumes had has came
   pub bounded : length came ≤ 1073741825

@@ -1,9 +1,10 @@
-//! The length and the digest of a stream.
+//! The length and the digests of a stream.
 ghost use Rattle.std.specs.Prelude.{◌≡◌, ◌<◌, IfOk, IfErr, IfSome, length};
 ghost use Rattle.sha2.specs.Sha256.{sha256};
+ghost use Rattle.sha2.specs.Sha512.{sha512};
 ghost use Rattle.up_service.specs.Digests.{Digested, most_bytes};
 
-use sha2::{Digest, Sha256};
+use sha2::{Digest, Sha256, Sha512};
 use std::io::Read;
 use up_lines::read_piece;
 
@@ -13,7 +14,7 @@ const PAST_BYTES: u64 = 1_073_741_825;
 /// How many bytes are read at once.
 const PIECE_BYTES: usize = 8_192;
 
-/// Why there is no digest.
+/// Why there are no digests.
 #[derive(Clone, Copy, Debug, PartialEq, Eq, Drop)]
 pub enum DigestFault {
     /// The reader failed.
@@ -22,24 +23,26 @@ pub enum DigestFault {
     TooLong,
 }
 
-/// The number of bytes that the reader gives, and their SHA-256. `TooLong` past 1,073,741,824 bytes. Of a reader whose bytes are
-/// known at most one more than these is read. Takes no memory.
-pub fn digest_stream<R: Read>(reader: &mut R) -> Result<(u64, [u8; 32]), DigestFault>
+/// The number of bytes that the reader gives, their SHA-256 and their SHA-512 (FIPS 180-4), all in one pass. `TooLong` past
+/// 1,073,741,824 bytes. Of a reader whose bytes are known at most one more than these is read. Takes no memory.
+pub fn digest_stream<R: Read>(reader: &mut R) -> Result<(u64, [u8; 32], [u8; 64]), DigestFault>
     // For any reader: the bytes that came, and what is said of them.
     ensures digested { Digested (R.remaining reader.old) (R.remaining reader.new) result }
 
     // Where it is known what the reader has.
-    ensures whole { IfOk result (λ told. IfSome (R.remaining reader.old) (λ input. (told.0 ≡ length input) × (told.1 ≡ sha256 input))) }
+    ensures whole { IfOk result (λ told. IfSome (R.remaining reader.old) (λ input. (told.0 ≡ length input) × (told.1 ≡ sha256 input) × (told.2 ≡ sha512 input))) }
     ensures too_long { IfErr result (λ fault. fault ≡ DigestFault.TooLong → IfSome (R.remaining reader.old) (λ input. most_bytes < length input)) }
 {
     let mut buffer = [0; PIECE_BYTES];
-    let mut hasher = Sha256::new();
+    let mut shorter = Sha256::new();
+    let mut longer = Sha512::new();
     let mut most = PAST_BYTES;
     while most > 0 {
         match read_piece(reader, &mut buffer, most) {
-            Ok(0) => return Ok((PAST_BYTES - most, hasher.finalize())),
+            Ok(0) => return Ok((PAST_BYTES - most, shorter.finalize(), longer.finalize())),
             Ok(n) => {
-                hasher.update(&buffer[..n]);
+                shorter.update(&buffer[..n]);
+                longer.update(&buffer[..n]);
                 most -= n as u64;
             }
             Err(_) => return Err(DigestFault::Read),

@@ -23,12 +23,16 @@ impl Read for Torn {
     }
 }
 
-/// The length and the digest as the program prints them, or the fault.
-fn told(rt: &HostRuntime, digested: &Result<(u64, [u8; 32]), DigestFault>) -> Result<String, Fail> {
+/// The length and the digests as the program prints them, or the fault.
+fn told(
+    rt: &HostRuntime,
+    digested: &Result<(u64, [u8; 32], [u8; 64]), DigestFault>,
+) -> Result<String, Fail> {
     match digested {
         Ok(told) => {
-            let digits = hex::encode(rt.alloc(), &told.1[..])?;
-            Ok(format!(in rt.alloc(); "{} {digits}", told.0)?)
+            let sha256 = hex::encode(rt.alloc(), &told.1[..])?;
+            let sha512 = hex::encode(rt.alloc(), &told.2[..])?;
+            Ok(format!(in rt.alloc(); "{} {sha256} {sha512}", told.0)?)
         }
         Err(fault) => Ok(format!(in rt.alloc(); "{fault:?}")?),
     }
@@ -36,14 +40,22 @@ fn told(rt: &HostRuntime, digested: &Result<(u64, [u8; 32]), DigestFault>) -> Re
 
 #[test]
 fn digests(rt: HostRuntime) -> Result<(), Fail> {
-    let table: [(&[u8], &str); 2] = [
+    let table: [(&[u8], &str); 4] = [
         (
             b"",
-            "0 e3b0c44298fc1c149afbf4c8996fb92427ae41e4649b934ca495991b7852b855",
+            "0 e3b0c44298fc1c149afbf4c8996fb92427ae41e4649b934ca495991b7852b855 cf83e1357eefb8bdf1542850d66d8007d620e4050b5715dc83f4a921d36ce9ce47d0d13c5d85f2b0ff8318d2877eec2f63b931bd47417a81a538327af927da3e",
         ),
         (
             b"abc",
-            "3 ba7816bf8f01cfea414140de5dae2223b00361a396177a9cb410ff61f20015ad",
+            "3 ba7816bf8f01cfea414140de5dae2223b00361a396177a9cb410ff61f20015ad ddaf35a193617abacc417349ae20413112e6fa4e89a97ea20a9eeee64b55d39a2192992a274fc1a836ba3c23a3feebbd454d4423643ce80e2a9ac94fa54ca49f",
+        ),
+        (
+            b"abcdbcdecdefdefgefghfghighijhijkijkljklmklmnlmnomnopnopq",
+            "56 248d6a61d20638b8e5c026930c3e6039a33ce45964ff2167f6ecedd419db06c1 204a8fc6dda82f0a0ced7beb8e08a41657c16ef468b228a8279be331a703c33596fd15c13b1b07f9aa1d3bea57789ca031ad85c7a71dd70354ec631238ca3445",
+        ),
+        (
+            b"abcdefghbcdefghicdefghijdefghijkefghijklfghijklmghijklmnhijklmnoijklmnopjklmnopqklmnopqrlmnopqrsmnopqrstnopqrstu",
+            "112 cf5b16a778af8380036ce59e7b0492370b249b11e8f07a51afac45037afee9d1 8e959b75dae313da8cf4f72814fc143f8f7779c6eb9f7fa17299aeadb6889018501d289e4900f7e4331b99dec4b5433ac7d329eeb6dd26545e96e55b874be909",
         ),
     ];
     for (bytes, wanted) in table {

@@ -1,4 +1,4 @@
-//! The program: runs a script over the repositories, serves them over HTTP, or prints the length and the SHA-256 of a file.
+//! The program: runs a script over the repositories, serves them over HTTP, or prints the length and the digests of a file.
 #![tactic(auto)]
 
 mod bounded;
