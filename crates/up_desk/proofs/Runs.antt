@@ -1,10 +1,13 @@
 -- Calls one after another, and what they come to.
-use Rattle.std.proofs.Common.{◌≡◌, ℕ, zero, suc, ◌+◌, ◌<◌, ◌≤◌, List, [], ◌∷◌, ◌++◌, Bool, true, false, Option, Some, None, length, get_or, take, map, append-nil, append_assoc, refl, sym, ap, ap₂, ◌∙◌, subst, arith}
+use Rattle.std.proofs.Common.{◌≡◌, inl, inr, ℕ, zero, suc, ◌+◌, ◌<◌, ◌≤◌, List, [], ◌∷◌, ◌++◌, Bool, true, false, Option, Some, None, length, length-append, get_or, take, map, append-nil, append_assoc, refl, sym, ap, ap₂, ◌∙◌, subst, arith}
 use Rattle.std.proofs.lemmas.List.{take_more, take_all}
-use Rattle.std.specs.Prelude.{Result, Ok, Err, is_ok, MatchBool, IsTrue, IfSome, if◌then◌else◌}
+use Rattle.std.specs.Prelude.{◌⊎◌, Result, Ok, Err, is_ok, is_some, MatchBool, IsTrue, IfSome, if◌then◌else◌}
 use Rattle.std.specs.List.{AllByRecursion}
 use Rattle.std.specs.FinMap as table
-use Rattle.sqlite.specs.State.{State as Connected, HasCleanDisk}
+use Rattle.sqlite.specs.State.{State as Connected, HasCleanDisk, Survives}
+use Rattle.sqlite_trees.specs.View.{doubt}
+use Rattle.sqlite.specs.Tree.{Trees}
+use Rattle.sqlite.proofs.StateLemmas.{survives_then}
 use Rattle.up_sign.specs.Schemes.{Rules}
 use Rattle.up_machine.specs.declared.command.Command.{Command}
 use Rattle.up_machine.specs.declared.answer.Answer.{Answer}
@@ -12,17 +15,17 @@ use Rattle.up_machine.specs.declared.answer.Answer.TheVariants.{Refused}
 use Rattle.up_machine.specs.Commands.{is_command}
 use Rattle.up_machine.specs.State.{State}
 use Rattle.up_machine.specs.Machine.{run}
-use Rattle.up_machine.specs.Repeats.{Sent, serve, after, thinned, expected}
+use Rattle.up_machine.specs.Repeats.{Sent, Met, meet, repeat_of, serve, after, thinned, expected}
 use Rattle.up_machine.specs.Sound.{IsSound}
 use Rattle.up_machine.specs.RepeatLaws.{AreCommands, RepeatsChangeNothing, ServedIsThinned}
 use Rattle.up_machine.specs.ApartLaws.{VehiclesStandApart, DeliveriesCommute, AreExchanged}
 use Rattle.up_machine.specs.Laws.{KeptRepliesOutlastRuns}
 use Rattle.up_machine.specs.Replies.{kept_reply}
-use Rattle.up_tables.specs.Stands.{IfClean}
+use Rattle.up_tables.specs.Stands.{IfClean, LeavesOnly}
 use Rattle.up_store.specs.Connections.{KeepsState}
-use Rattle.up_desk.specs.Serving.{is_lost, IsAnswered, outright}
-use Rattle.up_desk.specs.Calls.{ServesCall}
-use Rattle.up_desk.specs.Runs.{AreOutright, AreNeighbours, timed, sent, unless_lost, IsRun, RunsCalls}
+use Rattle.up_desk.specs.Serving.{HoldsState, IsCommit, is_lost, IsAnswered, outright}
+use Rattle.up_desk.specs.Calls.{CommitsCall, IsServed, ServesCall, SparesCall}
+use Rattle.up_desk.specs.Runs.{AreOutright, AreNeighbours, timed, sent, unless_lost, IsRun, RunsCalls, ComesTo, SparesCalls, IsLastCommit, CommitsCalls}
 
 -- the calls one after another, of which some may be lost
 abbrev pub Ran : Rules → State → List (ℕ × Command) → List Answer → State → Type 0
@@ -46,69 +49,6 @@ outright_next k [] [] c a all due = (due, tt)
 outright_next k [] (b ∷ answers) c a all due = absurd all
 outright_next k (d ∷ cs) [] c a all due = absurd all
 outright_next k (d ∷ cs) (b ∷ answers) c a all due = (all.0, outright_next k cs answers c a all.1 due)
-
--- ---- over the store
-
--- the commands have run, over a clean disk: from each state that the tables showed
-abbrev RunsFrom : Rules → Connected → Connected → List (ℕ × Command) → List Answer → Type 0
-RunsFrom k old new cs answers =
-    HasCleanDisk new → (s : State) → IsSound k s → IfClean (KeepsState k s) old → (next : State) × Ran k s cs answers next × IsSound k next × KeepsState k next new
-
-runs_next : (k : Rules) (old mid new : Connected) (cs : List (ℕ × Command)) (c : ℕ × Command) (answers : List Answer) (a : Answer)
-    → RunsFrom k old mid cs answers → (HasCleanDisk new → HasCleanDisk mid) → ServesCall k c.0 c.1 a mid new → IsTrue (is_command c.1) → RunsFrom k old new (cs ++ c ∷ []) (answers ++ a ∷ [])
-runs_next k old mid new cs c answers a runs clean serves fits = λ now s sound was.
-    let before = runs (clean now) s sound was in
-    let here = serves now before.0 before.2 (λ _. before.3) in
-    (here.0, ran_next k s cs answers before.0 c a here.0 before.1 here.1 fits, here.3, here.4)
-
--- so many commands have run, with as many answers after those that were there
-pub record SoFar (k : Rules) (old new : Connected) (cs : List (ℕ × Command)) (held answers : List Answer) : Type 0 where
-  pub given : List Answer
-  pub items : answers ≡ held ++ given
-  pub due : AreOutright k cs given
-  pub runs : RunsFrom k old new cs given
-  pub clean : HasCleanDisk new → HasCleanDisk old
-
-pub none_so_far : (k : Rules) (s : Connected) (cs : List (ℕ × Command)) (held answers : List Answer) → answers ≡ held → SoFar k s s (take 0 cs) held answers
-none_so_far k s cs held answers same = record {
-  given = [];
-  items = same ∙ sym (append-nil held);
-  due = tt;
-  runs = λ now t sound was. (t, refl, sound, was now);
-  clean = λ now. now;
-}
-
-so_far_next : (k : Rules) (old mid new : Connected) (cs : List (ℕ × Command)) (c : ℕ × Command) (held answers more : List Answer) (a : Answer)
-    → SoFar k old mid cs held answers → more ≡ answers ++ a ∷ [] → (HasCleanDisk new → HasCleanDisk mid) → ServesCall k c.0 c.1 a mid new → IsTrue (is_command c.1)
-    → IfSome (outright k c.0 c.1) (λ r. a ≡ Refused r) → SoFar k old new (cs ++ c ∷ []) held more
-so_far_next k old mid new cs c held answers more a far pushed clean serves fits due = record {
-  given = far.given ++ a ∷ [];
-  items = pushed ∙ ap (λ (items : List Answer). items ++ a ∷ []) far.items ∙ append_assoc held far.given (a ∷ []);
-  due = outright_next k cs far.given c a far.due due;
-  runs = runs_next k old mid new cs c far.given a far.runs clean serves fits;
-  clean = λ now. far.clean (clean now);
-}
-
--- one call more, by a scheme that is the same
-pub one_more : (k j : Rules) (old mid new : Connected) (cs : List (ℕ × Command)) (i : ℕ) (c : ℕ × Command) (held answers more : List Answer) (a : Answer)
-    → i < length cs → c ≡ get_or cs i c → j ≡ k → SoFar k old mid (take i cs) held answers → more ≡ answers ++ a ∷ [] → (HasCleanDisk new → HasCleanDisk mid)
-    → ServesCall j c.0 c.1 a mid new → IsTrue (is_command c.1) → IfSome (outright j c.0 c.1) (λ r. a ≡ Refused r) → SoFar k old new (take (i + 1) cs) held more
-one_more k j old mid new cs i c held answers more a within item scheme far pushed clean serves fits due =
-    let taken : take (i + 1) cs ≡ take i cs ++ c ∷ [] = take_more cs i c within ∙ ap (λ x. take i cs ++ x ∷ []) (sym item) in
-    subst (λ (xs : List (ℕ × Command)). SoFar k old new xs held more) (sym taken)
-    (so_far_next k old mid new (take i cs) c held answers more a far pushed clean (subst (λ rules. ServesCall rules c.0 c.1 a mid new) scheme serves) fits
-    (subst (λ rules. IfSome (outright rules c.0 c.1) (λ r. a ≡ Refused r)) scheme due))
-
--- what went through
-pub chosen_ok : {T E A : Type 0} (r : Result T E) (x : T) (new there else_there : A) → r ≡ Ok x → new ≡ (if is_ok r then there else else_there) → new ≡ there
-chosen_ok (Ok y) x new there other h is = is
-chosen_ok (Err e) x new there other h is = cc
-
--- what holds of each command holds of the one at hand
-pub each_or : {A : Type 0} (P : A → Type 0) (xs : List A) (i : ℕ) (x : A) → AllByRecursion P xs → i < length xs → x ≡ get_or xs i x → P x
-each_or P [] i x all within is = absurd (omega arith)
-each_or P (y ∷ xs) zero x all within is = subst P (sym is) all.0
-each_or P (y ∷ xs) (suc i) x all within is = each_or P xs i x all.1 (omega arith) is
 
 -- ---- the whole list
 
@@ -145,6 +85,248 @@ ran_served k old (c ∷ cs) (a ∷ answers) new ran =
     let rest = ran_served k ran.0 cs answers new ran.3 in
     let whole = by_loss k old ran.0 new c a (sent cs answers) answers (is_lost a) ran.1 rest.told rest.state in
     record { count = ap suc rest.count; told = whole.told; state = whole.state; fits = (ran.2, rest.fits) }
+
+-- ---- lists that grow at their end
+
+snoc_ends : {A : Type 0} (xs ys : List A) (x y : A) → xs ++ x ∷ [] ≡ ys ++ y ∷ [] → (xs ≡ ys) × (x ≡ y)
+snoc_ends [] [] x y h = (refl, cc)
+snoc_ends [] (b ∷ ys) x y h = absurd (omega (arith, ap length h, length-append ys (y ∷ [])))
+snoc_ends (b ∷ xs) [] x y h = absurd (omega (arith, ap length h, length-append xs (x ∷ [])))
+snoc_ends (b ∷ xs) (d ∷ ys) x y h =
+    let tails : xs ++ x ∷ [] ≡ ys ++ y ∷ [] = cc in
+    let heads : b ≡ d = cc in
+    let rest = snoc_ends xs ys x y tails in
+    (λ i. heads i ∷ rest.0 i, rest.1)
+
+last_of : {A : Type 0} (zs : List A) → (zs ≡ []) ⊎ ((ys : List A) × (y : A) × (zs ≡ ys ++ y ∷ []))
+last_of [] = inl refl
+last_of {A} (z ∷ zs) = by_rest (last_of zs)
+  where
+    by_rest : (zs ≡ []) ⊎ ((ys : List A) × (y : A) × (zs ≡ ys ++ y ∷ [])) → (z ∷ zs ≡ []) ⊎ ((ys : List A) × (y : A) × (z ∷ zs ≡ ys ++ y ∷ []))
+    by_rest (inl none) = inr ([], z, ap (λ (l : List A). z ∷ l) none)
+    by_rest (inr (ys, y, is)) = inr (z ∷ ys, y, ap (λ (l : List A). z ∷ l) is)
+
+all_split : {A : Type 0} (P : A → Type 0) (ys : List A) (y : A) → AllByRecursion P (ys ++ y ∷ []) → AllByRecursion P ys × P y
+all_split P [] y all = (tt, all.0)
+all_split P (z ∷ ys) y all = let rest = all_split P ys y all.1 in ((all.0, rest.0), rest.1)
+
+sent_next : (k : Rules) (cs : List (ℕ × Command)) (answers : List Answer) (c : ℕ × Command) (a : Answer) → AreOutright k cs answers
+    → sent (cs ++ c ∷ []) (answers ++ a ∷ []) ≡ sent cs answers ++ item (is_lost a) c ∷ []
+sent_next k [] [] c a all = refl
+sent_next k [] (b ∷ answers) c a all = absurd all
+sent_next k (d ∷ cs) [] c a all = absurd all
+sent_next k (d ∷ cs) (b ∷ answers) c a all = ap (λ (ms : List Sent). item (is_lost b) d ∷ ms) (sent_next k cs answers c a all.1)
+
+after_append : (k : Rules) (s : State) (ms ns : List Sent) → after k s (ms ++ ns) ≡ after k (after k s ms) ns
+after_append k s [] ns = refl
+after_append k s (m ∷ ms) ns = after_append k (meet k s m).next ms ns
+
+-- what a command meets that is told to be lost or not
+abbrev met : Rules → State → Sent → Bool → Met
+met k s m b = if b then record { sent = m; is_repeat = false; answer = None; next = s } else
+    let o = serve k s m.item.at m.item.command in
+    record { sent = m; is_repeat = is_some (repeat_of k s m.item.at m.item.command); answer = Some o.answer; next = o.next }
+
+-- the state after one command, which was lost or not
+met_by : (k : Rules) (s next : State) (m : Sent) (lost : Bool) → m.lost ≡ lost → MatchBool lost (s ≡ next) ((serve k s m.item.at m.item.command).next ≡ next) → (meet k s m).next ≡ next
+met_by k s next m lost is = by_lost lost (ap (met k s m) is)
+  where
+    by_lost : (b : Bool) → met k s m m.lost ≡ met k s m b → MatchBool b (s ≡ next) ((serve k s m.item.at m.item.command).next ≡ next) → (met k s m m.lost).next ≡ next
+    by_lost true same h = ap (λ (r : Met). r.next) same ∙ h
+    by_lost false same h = ap (λ (r : Met). r.next) same ∙ h
+
+met_unchanged : (k : Rules) (s : State) (m : Sent) → (serve k s m.item.at m.item.command).next ≡ s → (meet k s m).next ≡ s
+met_unchanged k s m h = met_by k s s m m.lost refl (by_lost m.lost)
+  where
+    by_lost : (b : Bool) → MatchBool b (s ≡ s) ((serve k s m.item.at m.item.command).next ≡ s)
+    by_lost true = refl
+    by_lost false = h
+
+after_unchanged : (k : Rules) (s : State) (ms : List Sent) → AllByRecursion (λ n. (serve k s n.item.at n.item.command).next ≡ s) ms → after k s ms ≡ s
+after_unchanged k s [] all = refl
+after_unchanged k s (m ∷ ms) all = ap (λ t. after k t ms) (met_unchanged k s m all.0) ∙ after_unchanged k s ms all.1
+
+-- ---- over the store
+
+-- the commands have run, over a clean disk: from each state that the tables showed
+abbrev RunsFrom : Rules → Connected → Connected → List (ℕ × Command) → List Answer → Type 0
+RunsFrom k old new cs answers =
+    HasCleanDisk new → (s : State) → IsSound k s → IfClean (KeepsState k s) old → (next : State) × Ran k s cs answers next × IsSound k next × KeepsState k next new
+
+runs_next : (k : Rules) (old mid new : Connected) (cs : List (ℕ × Command)) (c : ℕ × Command) (answers : List Answer) (a : Answer)
+    → RunsFrom k old mid cs answers → (HasCleanDisk new → HasCleanDisk mid) → ServesCall k c.0 c.1 a mid new → IsTrue (is_command c.1) → RunsFrom k old new (cs ++ c ∷ []) (answers ++ a ∷ [])
+runs_next k old mid new cs c answers a runs clean serves fits = λ now s sound was.
+    let before = runs (clean now) s sound was in
+    let here = serves now before.0 before.2 (λ _. before.3) in
+    (here.0, ran_next k s cs answers before.0 c a here.0 before.1 here.1 fits, here.3, here.4)
+
+-- the state that the tables show between two calls; over a disk that isn't clean any sound state stands for it
+record Between (k : Rules) (s : State) (mid : Connected) (cs : List (ℕ × Command)) (answers : List Answer) : Type 0 where
+  at : State
+  sound : IsSound k at
+  shown : IfClean (KeepsState k at) mid
+  ran : HasCleanDisk mid → Ran k s cs answers at
+
+between : (k : Rules) (old mid : Connected) (cs : List (ℕ × Command)) (answers : List Answer) → RunsFrom k old mid cs answers → (s : State) → IsSound k s → IfClean (KeepsState k s) old
+    → Between k s mid cs answers
+between k old mid cs answers runs s sound was = by_disk (doubt mid.is_clean) refl
+  where
+    by_disk : (d : ℕ) → doubt mid.is_clean ≡ d → Between k s mid cs answers
+    by_disk zero now = let it = runs now s sound was in record { at = it.0; sound = it.2; shown = λ _. it.3; ran = λ _. it.1 }
+    by_disk (suc d) other = record { at = s; sound = sound; shown = λ now. absurd (omega (arith, now, other)); ran = λ now. absurd (omega (arith, now, other)) }
+
+-- a crash behind one more call
+spares_next : (k : Rules) (old mid new : Connected) (cs : List (ℕ × Command)) (c : ℕ × Command) (answers : List Answer) (a : Answer)
+    → SparesCalls k cs answers old mid → RunsFrom k old mid cs answers → AreOutright k cs answers → (HasCleanDisk new → HasCleanDisk mid) → SparesCall k c.0 c.1 mid new
+    → SparesCalls k (cs ++ c ∷ []) (answers ++ a ∷ []) old new
+spares_next k old mid new cs c answers a far runs due clean spares = λ s sound was.
+    let b = between k old mid cs answers runs s sound was in
+    let x = item (is_lost a) c in
+    let more : sent (cs ++ c ∷ []) (answers ++ a ∷ []) ≡ sent cs answers ++ x ∷ [] = sent_next k cs answers c a due in
+    survives_then old mid new (λ trees. (at : State) × ComesTo k s (sent cs answers) at × HoldsState k at trees) (HoldsState k (serve k b.at c.0 c.1).next)
+    (λ trees. (at : State) × ComesTo k s (sent (cs ++ c ∷ []) (answers ++ a ∷ [])) at × HoldsState k at trees)
+    (λ now trees h. (
+      h.0,
+      (h.1.0, h.1.1 ++ x ∷ [], h.1.2, more ∙ ap (λ (l : List Sent). l ++ x ∷ []) h.1.3 ∙ append_assoc h.1.0 (h.1.2 ∷ h.1.1) (x ∷ []), h.1.4),
+      h.2,
+    ))
+    (λ now trees holds. (
+      (serve k b.at c.0 c.1).next,
+      (sent cs answers, [], x, more, ap (λ (t : State). (serve k t c.0 c.1).next) (ran_served k s cs answers b.at (b.ran (clean now))).state),
+      holds,
+    ))
+    (far s sound was) (spares b.at b.sound b.shown)
+
+-- the last call was a commit that was answered
+commit_last : (k : Rules) (s at next : State) (c : ℕ × Command) (a : Answer) (ms : List Sent) (mid new : Connected) → at ≡ after k s ms → is_lost a ≡ false
+    → IsAnswered a at next (serve k at c.0 c.1)
+    → IsCommit (after k s ms) (serve k (after k s ms) c.0 c.1).answer (serve k (after k s ms) c.0 c.1).next
+    → CommitsCall k c.0 c.1 a mid new → IsSound k at → IfClean (KeepsState k at) mid → HasCleanDisk new → LeavesOnly (HoldsState k (after k s (ms ++ item (is_lost a) c ∷ []))) new
+commit_last k s at next c a ms mid new here told answered commit commits sound shown now =
+    let same : a ≡ (serve k at c.0 c.1).answer =
+    (let it : MatchBool false (next ≡ at) ((a ≡ (serve k at c.0 c.1).answer) × (next ≡ (serve k at c.0 c.1).next)) =
+    subst (λ lost. MatchBool lost (next ≡ at) ((a ≡ (serve k at c.0 c.1).answer) × (next ≡ (serve k at c.0 c.1).next))) told answered in it.0) in
+    let made : IsCommit at a (serve k at c.0 c.1).next =
+    subst (λ (b : Answer). IsCommit at b (serve k at c.0 c.1).next) (sym same)
+    (subst (λ (t : State). IsCommit t (serve k t c.0 c.1).answer (serve k t c.0 c.1).next) (sym here) commit) in
+    let end : after k s (ms ++ item (is_lost a) c ∷ []) ≡ (serve k at c.0 c.1).next =
+    after_append k s ms (item (is_lost a) c ∷ []) ∙ met_by k (after k s ms) (serve k (after k s ms) c.0 c.1).next (item (is_lost a) c) false told refl
+    ∙ ap (λ (t : State). (serve k t c.0 c.1).next) (sym here) in
+    subst (λ (t : State). LeavesOnly (HoldsState k t) new) (sym end) (commits at sound shown made now)
+
+-- the last call changes nothing
+still_last : (k : Rules) (s at : State) (c : ℕ × Command) (a : Answer) (ms : List Sent) (mid new : Connected) → at ≡ after k s ms
+    → (serve k (after k s ms) c.0 c.1).next ≡ after k s ms → LeavesOnly (HoldsState k (after k s ms)) mid
+    → Survives mid new (HoldsState k (serve k at c.0 c.1).next) → HasCleanDisk new → LeavesOnly (HoldsState k (after k s (ms ++ item (is_lost a) c ∷ []))) new
+still_last k s at c a ms mid new here same before spares now =
+    let end : after k s (ms ++ item (is_lost a) c ∷ []) ≡ after k s ms =
+    after_append k s ms (item (is_lost a) c ∷ []) ∙ met_unchanged k (after k s ms) (item (is_lost a) c) same in
+    let next : (serve k at c.0 c.1).next ≡ after k s ms = ap (λ (t : State). (serve k t c.0 c.1).next) here ∙ same in
+    subst (λ (t : State). LeavesOnly (HoldsState k t) new) (sym end) (λ trees left. by_call trees next (spares.crash now trees left))
+  where
+    by_call : (trees : Trees) → (serve k at c.0 c.1).next ≡ after k s ms → mid.may_leave trees ⊎ HoldsState k (serve k at c.0 c.1).next trees → HoldsState k (after k s ms) trees
+    by_call trees next (inl earlier) = before trees earlier
+    by_call trees next (inr holds) = subst (λ (t : State). HoldsState k t trees) next holds
+
+-- what stays of a last commit behind one more call
+commits_next : (k : Rules) (old mid new : Connected) (cs : List (ℕ × Command)) (c : ℕ × Command) (answers : List Answer) (a : Answer)
+    → CommitsCalls k cs answers old mid → RunsFrom k old mid cs answers → AreOutright k cs answers → (HasCleanDisk new → HasCleanDisk mid)
+    → ServesCall k c.0 c.1 a mid new → SparesCall k c.0 c.1 mid new → CommitsCall k c.0 c.1 a mid new → CommitsCalls k (cs ++ c ∷ []) (answers ++ a ∷ []) old new
+commits_next k old mid new cs c answers a far runs due clean serves spares commits = λ s sound was before rest m last now.
+    let b = between k old mid cs answers runs s sound was in
+    let ms = sent cs answers in
+    let x = item (is_lost a) c in
+    let here : b.at ≡ after k s ms = (ran_served k s cs answers b.at (b.ran (clean now))).state in
+    let more : sent (cs ++ c ∷ []) (answers ++ a ∷ []) ≡ ms ++ x ∷ [] = sent_next k cs answers c a due in
+    let served = serves now b.at b.sound b.shown in
+    subst (λ (l : List Sent). LeavesOnly (HoldsState k (after k s l)) new) (sym more)
+    (by_rest s sound was before rest m last now b here more served (last_of rest))
+  where
+    by_rest : (s : State) → IsSound k s → IfClean (KeepsState k s) old → (before rest : List Sent) (m : Sent) → IsLastCommit k s (sent (cs ++ c ∷ []) (answers ++ a ∷ [])) before rest m → HasCleanDisk new
+        → (b : Between k s mid cs answers) → b.at ≡ after k s (sent cs answers) → sent (cs ++ c ∷ []) (answers ++ a ∷ []) ≡ sent cs answers ++ item (is_lost a) c ∷ []
+        → IsServed k b.at c.0 c.1 a new → (rest ≡ []) ⊎ ((ys : List Sent) × (y : Sent) × (rest ≡ ys ++ y ∷ []))
+        → LeavesOnly (HoldsState k (after k s (sent cs answers ++ item (is_lost a) c ∷ []))) new
+    by_rest s sound was before rest m last now b here more served (inl none) =
+        let ends = snoc_ends (sent cs answers) before (item (is_lost a) c) m (sym more ∙ last.list ∙ ap (λ (l : List Sent). before ++ m ∷ l) none) in
+        commit_last k s b.at served.0 c a (sent cs answers) mid new here (ap (λ (n : Sent). n.lost) ends.1 ∙ last.answered) served.1
+        (subst (λ (l : List Sent). IsCommit (after k s l) (serve k (after k s l) c.0 c.1).answer (serve k (after k s l) c.0 c.1).next) (sym ends.0)
+        (subst (λ (n : Sent). IsCommit (after k s before) (serve k (after k s before) n.item.at n.item.command).answer (serve k (after k s before) n.item.at n.item.command).next) (sym ends.1) last.commit))
+        commits b.sound b.shown now
+    by_rest s sound was before rest m last now b here more served (inr (ys, y, is)) =
+        let ends = snoc_ends (sent cs answers) (before ++ m ∷ ys) (item (is_lost a) c) y
+        (sym more ∙ last.list ∙ ap (λ (l : List Sent). before ++ m ∷ l) is ∙ sym (append_assoc before (m ∷ ys) (y ∷ []))) in
+        let o = serve k (after k s before) m.item.at m.item.command in
+        let quiet = all_split (λ (n : Sent). (serve k o.next n.item.at n.item.command).next ≡ o.next) ys y (subst (λ (l : List Sent). AllByRecursion (λ (n : Sent). (serve k o.next n.item.at n.item.command).next ≡ o.next) l) is last.unchanged) in
+        let till : after k s (sent cs answers) ≡ o.next =
+        ap (λ (l : List Sent). after k s l) ends.0 ∙ after_append k s before (m ∷ ys)
+        ∙ ap (λ (t : State). after k t ys) (met_by k (after k s before) o.next m false last.answered refl) ∙ after_unchanged k o.next ys quiet.0 in
+        let same : (serve k o.next c.0 c.1).next ≡ o.next = subst (λ (n : Sent). (serve k o.next n.item.at n.item.command).next ≡ o.next) (sym ends.1) quiet.1 in
+        still_last k s b.at c a (sent cs answers) mid new here (subst (λ (t : State). (serve k t c.0 c.1).next ≡ t) (sym till) same)
+        (far s sound was before ys m (record { list = ends.0; answered = last.answered; commit = last.commit; unchanged = quiet.0 }) (clean now))
+        (spares b.at b.sound b.shown) now
+
+-- so many commands have run, with as many answers after those that were there
+pub record SoFar (k : Rules) (old new : Connected) (cs : List (ℕ × Command)) (held answers : List Answer) : Type 0 where
+  pub given : List Answer
+  pub items : answers ≡ held ++ given
+  pub due : AreOutright k cs given
+  pub runs : RunsFrom k old new cs given
+  pub spares : SparesCalls k cs given old new
+  pub commits : CommitsCalls k cs given old new
+  pub clean : HasCleanDisk new → HasCleanDisk old
+
+-- what is told of a call
+pub record CallOf (k : Rules) (c : ℕ × Command) (a : Answer) (mid new : Connected) : Type 0 where
+  pub serves : ServesCall k c.0 c.1 a mid new
+  pub spares : SparesCall k c.0 c.1 mid new
+  pub commits : CommitsCall k c.0 c.1 a mid new
+  pub fits : IsTrue (is_command c.1)
+  pub due : IfSome (outright k c.0 c.1) (λ r. a ≡ Refused r)
+
+pub none_so_far : (k : Rules) (s : Connected) (cs : List (ℕ × Command)) (held answers : List Answer) → answers ≡ held → SoFar k s s (take 0 cs) held answers
+none_so_far k s cs held answers same = record {
+  given = [];
+  items = same ∙ sym (append-nil held);
+  due = tt;
+  runs = λ now t sound was. (t, refl, sound, was now);
+  spares = λ t sound was. record { clean = omega arith; shield = λ h. h; counts = omega arith; limit = refl; closes = λ now h. inl h; crash = λ now trees h. inl h };
+  commits = λ t sound was before rest m last now. absurd (omega (arith, ap length last.list, length-append before (m ∷ rest)));
+  clean = λ now. now;
+}
+
+so_far_next : (k : Rules) (old mid new : Connected) (cs : List (ℕ × Command)) (c : ℕ × Command) (held answers more : List Answer) (a : Answer)
+    → SoFar k old mid cs held answers → more ≡ answers ++ a ∷ [] → (HasCleanDisk new → HasCleanDisk mid) → CallOf k c a mid new → SoFar k old new (cs ++ c ∷ []) held more
+so_far_next k old mid new cs c held answers more a far pushed clean call = record {
+  given = far.given ++ a ∷ [];
+  items = pushed ∙ ap (λ (items : List Answer). items ++ a ∷ []) far.items ∙ append_assoc held far.given (a ∷ []);
+  due = outright_next k cs far.given c a far.due call.due;
+  runs = runs_next k old mid new cs c far.given a far.runs clean call.serves call.fits;
+  spares = spares_next k old mid new cs c far.given a far.spares far.runs far.due clean call.spares;
+  commits = commits_next k old mid new cs c far.given a far.commits far.runs far.due clean call.serves call.spares call.commits;
+  clean = λ now. far.clean (clean now);
+}
+
+-- one call more, by a scheme that is the same
+pub one_more : (k j : Rules) (old mid new : Connected) (cs : List (ℕ × Command)) (i : ℕ) (c : ℕ × Command) (held answers more : List Answer) (a : Answer)
+    → i < length cs → c ≡ get_or cs i c → j ≡ k → SoFar k old mid (take i cs) held answers → more ≡ answers ++ a ∷ [] → (HasCleanDisk new → HasCleanDisk mid)
+    → CallOf j c a mid new → SoFar k old new (take (i + 1) cs) held more
+one_more k j old mid new cs i c held answers more a within item scheme far pushed clean call =
+    let taken : take (i + 1) cs ≡ take i cs ++ c ∷ [] = take_more cs i c within ∙ ap (λ x. take i cs ++ x ∷ []) (sym item) in
+    subst (λ (xs : List (ℕ × Command)). SoFar k old new xs held more) (sym taken)
+    (so_far_next k old mid new (take i cs) c held answers more a far pushed clean (subst (λ rules. CallOf rules c a mid new) scheme call))
+
+-- what went through
+pub chosen_ok : {T E A : Type 0} (r : Result T E) (x : T) (new there else_there : A) → r ≡ Ok x → new ≡ (if is_ok r then there else else_there) → new ≡ there
+chosen_ok (Ok y) x new there other h is = is
+chosen_ok (Err e) x new there other h is = cc
+
+-- what holds of each command holds of the one at hand
+pub each_or : {A : Type 0} (P : A → Type 0) (xs : List A) (i : ℕ) (x : A) → AllByRecursion P xs → i < length xs → x ≡ get_or xs i x → P x
+each_or P [] i x all within is = absurd (omega arith)
+each_or P (y ∷ xs) zero x all within is = subst P (sym is) all.0
+each_or P (y ∷ xs) (suc i) x all within is = each_or P xs i x all.1 (omega arith) is
+
+-- ---- the laws of a list
 
 -- the laws of the machine that tell what a list of calls comes to
 pub record ListLaws : Type 0 where
@@ -184,7 +366,7 @@ ran_all laws k old cs answers new sound ran =
 
 -- over the store, the answers and the state that the tables show then
 pub run_whole : (laws : ListLaws) (k : Rules) (old new : Connected) (cs : List (ℕ × Command)) (i : ℕ) (held answers : List Answer) → length cs ≤ i → SoFar k old new (take i cs) held answers
-    → (told : List Answer) × (answers ≡ held ++ told) × AreOutright k cs told × RunsCalls k cs told old new
+    → (told : List Answer) × (answers ≡ held ++ told) × AreOutright k cs told × RunsCalls k cs told old new × SparesCalls k cs told old new × CommitsCalls k cs told old new
 run_whole laws k old new cs i held answers all far =
     let whole : SoFar k old new cs held answers = subst (λ (xs : List (ℕ × Command)). SoFar k old new xs held answers) (take_all i cs all) far in (
       whole.given,
@@ -193,4 +375,6 @@ run_whole laws k old new cs i held answers all far =
       λ now s sound was.
           let it = whole.runs now s sound was in
           (it.0, ran_all laws k s cs whole.given it.0 sound it.1, it.2, it.3),
+      whole.spares,
+      whole.commits,
     )

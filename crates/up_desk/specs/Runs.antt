@@ -1,6 +1,7 @@
 -- Lists of commands, answered one after another.
-use Rattle.std.specs.Prelude.{◌≡◌, ◌≢◌, ℕ, List, [], ◌∷◌, ◌++◌, Option, Some, None, if◌then◌else◌, map, length, ⊤, IfSome}
+use Rattle.std.specs.Prelude.{◌≡◌, ◌≢◌, ℕ, false, List, [], ◌∷◌, ◌++◌, Option, Some, None, if◌then◌else◌, map, length, ⊤, IfSome}
 use Rattle.std.specs.FinMap as table
+use Rattle.std.specs.List.{AllByRecursion}
 use Rattle.up_canon.specs.Names.{Name}
 use Rattle.up_sign.specs.Schemes.{Rules}
 use Rattle.up_machine.specs.declared.command.Command.{Command}
@@ -8,13 +9,14 @@ use Rattle.up_machine.specs.declared.answer.Answer.{Answer}
 use Rattle.up_machine.specs.declared.answer.Answer.TheVariants.{Refused}
 use Rattle.up_machine.specs.State.{State}
 use Rattle.up_machine.specs.Machine.{Timed, run}
-use Rattle.sqlite.specs.State.{State as Connected, HasCleanDisk}
-use Rattle.up_machine.specs.Repeats.{Sent, after, thinned, expected, not_lost, vehicle_of, without_others, own_answers}
+use Rattle.sqlite.specs.State.{State as Connected, HasCleanDisk, Survives}
+use Rattle.up_machine.specs.Deciding.{Outcome}
+use Rattle.up_machine.specs.Repeats.{Sent, serve, after, thinned, expected, not_lost, vehicle_of, without_others, own_answers}
 use Rattle.up_machine.specs.ApartLaws.{AreExchanged}
 use Rattle.up_machine.specs.Sound.{IsSound}
-use Rattle.up_tables.specs.Stands.{IfClean}
+use Rattle.up_tables.specs.Stands.{IfClean, LeavesOnly}
 use Rattle.up_store.specs.Connections.{KeepsState}
-use Rattle.up_desk.specs.Serving.{is_lost, outright, RepliesStay}
+use Rattle.up_desk.specs.Serving.{HoldsState, IsCommit, is_lost, outright, RepliesStay}
 
 -- a command with its moment
 abbrev pub timed : ℕ × Command → Timed
@@ -66,3 +68,30 @@ pub record IsRun (k : Rules) (old : State) (cs : List (ℕ × Command)) (answers
 abbrev pub RunsCalls : Rules → List (ℕ × Command) → List Answer → Connected → Connected → Type 0
 RunsCalls k cs answers old new =
     HasCleanDisk new → (s : State) → IsSound k s → IfClean (KeepsState k s) old → (next : State) × IsRun k s cs answers next × IsSound k next × KeepsState k next new
+
+-- ---- what a crash leaves after a list
+
+-- what a command of a list comes to, behind those before it that were not lost
+abbrev pub outcome_behind : Rules → State → List Sent → Sent → Outcome
+outcome_behind k s before m = serve k (after k s before) m.item.at m.item.command
+
+-- the state after some of the first commands: one of them was carried out, if only its answer was lost, and those before it as they were answered
+abbrev pub ComesTo : Rules → State → List Sent → State → Type 0
+ComesTo k s ms at = (before rest : List Sent) × (m : Sent) × (ms ≡ before ++ m ∷ rest) × (at ≡ (outcome_behind k s before m).next)
+
+-- only a fault of the disk shuts the connection, and a crash leaves what it could leave before the list, or the state after some of the first commands
+abbrev pub SparesCalls : Rules → List (ℕ × Command) → List Answer → Connected → Connected → Type 0
+SparesCalls k cs answers old new = (s : State) → IsSound k s → IfClean (KeepsState k s) old
+    → Survives old new (λ trees. (at : State) × ComesTo k s (sent cs answers) at × HoldsState k at trees)
+
+-- a commit that was answered, and behind it no command that changes the state
+pub record IsLastCommit (k : Rules) (s : State) (ms before rest : List Sent) (m : Sent) : Type 0 where
+  pub list : ms ≡ before ++ m ∷ rest
+  pub answered : m.lost ≡ false
+  pub commit : IsCommit (after k s before) (outcome_behind k s before m).answer (outcome_behind k s before m).next
+  pub unchanged : AllByRecursion (λ n. (serve k (outcome_behind k s before m).next n.item.at n.item.command).next ≡ (outcome_behind k s before m).next) rest
+
+-- where the last commit was answered, a crash leaves the state after the whole list alone
+abbrev pub CommitsCalls : Rules → List (ℕ × Command) → List Answer → Connected → Connected → Type 0
+CommitsCalls k cs answers old new = (s : State) → IsSound k s → IfClean (KeepsState k s) old → (before rest : List Sent) (m : Sent) → IsLastCommit k s (sent cs answers) before rest m
+    → IfClean (LeavesOnly (HoldsState k (after k s (sent cs answers)))) new

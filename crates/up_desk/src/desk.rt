@@ -8,7 +8,7 @@ ghost use Rattle.up_machine.specs.declared.answer.Answer.TheVariants.{Refused};
 ghost use Rattle.up_machine.specs.Commands.{opens_running};
 ghost use Rattle.up_machine.specs.Reads.{ecus_of as ecus_in, version_of as version_in, installed as installed_in, assigned_to};
 ghost use Rattle.up_machine.specs.Rows.{vehicle_rows};
-ghost use Rattle.up_desk.specs.Runs.{AreOutright, RunsCalls};
+ghost use Rattle.up_desk.specs.Runs.{AreOutright, CommitsCalls, RunsCalls, SparesCalls};
 ghost use Rattle.up_desk.specs.Calls.{CommitsCall, ServesCall, SparesCall};
 ghost use Rattle.up_desk.specs.Serving.{Reads, Tells, outright as outright_of};
 
@@ -96,7 +96,9 @@ impl<K: Scheme, D: Alter> Desk<K, D> {
 
     /// Answers commands one after another, each with its moment, and appends one answer for each: where some commands are
     /// repeated or lost (answered `Refused(Memory)` or `Refused(Store)`), the state is the plain machine's after the list
-    /// without them, and each other answer is the expected one; each kept reply stays. An error means that nothing was done.
+    /// without them, and each other answer is the expected one; each kept reply stays. Only a fault of the disk shuts the
+    /// connection. A crash leaves what it could leave before, or the state after some of the first commands; where the last
+    /// commit was answered, the state after all of them. An error means that nothing was done.
     pub fn run(
         &mut self,
         alloc: Global,
@@ -105,7 +107,9 @@ impl<K: Scheme, D: Alter> Desk<K, D> {
     ) -> Result<(), AllocError>
         requires { AllByRecursion (λ c. IsTrue (opens_running c.1)) commands.now }
         ensures ran { OnOk result ((told : List Answer) × (answers.new.items ≡ answers.old.items ++ told) × AreOutright (K.rules self.old.scheme) commands.now told
-            × RunsCalls (K.rules self.old.scheme) commands.now told (state D.Store self.old.store) (state D.Store self.new.store)) }
+            × RunsCalls (K.rules self.old.scheme) commands.now told (state D.Store self.old.store) (state D.Store self.new.store)
+            × SparesCalls (K.rules self.old.scheme) commands.now told (state D.Store self.old.store) (state D.Store self.new.store)
+            × CommitsCalls (K.rules self.old.scheme) commands.now told (state D.Store self.old.store) (state D.Store self.new.store)) }
         ensures err { OnErr result ((answers.new.items ≡ answers.old.items) × (self.new ≡ self.old)) }
         ensures clean { HasCleanDisk (state D.Store self.new.store) → HasCleanDisk (state D.Store self.old.store) }
         ensures scheme { self.new.scheme ≡ self.old.scheme }

@@ -16,8 +16,13 @@ loop-item-preserved g c =
     let pushed = chosen_ok c.push.result c.unwrap.result _ _ _ c.unwrap.ensures c.push.ensures.items in
     let longer : vec_len c.push.new.self ≡ vec_len c.loop-item.answers + 1 = chosen_ok c.push.result c.unwrap.result _ _ _ c.unwrap.ensures c.push.ensures.len in
     record {
-      far = one_more _ _ _ (state g.D.Store c.loop-item.self.store) _ _ _ _ _ _ _ _ c.loop-item-test.true c.item-item.is (ap g.K.Scheme.rules kept.scheme) kept.far pushed c.call-answer.ensures.clean
-          c.call-answer.ensures.served c.keeps_limits.ensures c.call-answer.ensures.outright;
+      far = one_more _ _ _ (state g.D.Store c.loop-item.self.store) _ _ _ _ _ _ _ _ c.loop-item-test.true c.item-item.is (ap g.K.Scheme.rules kept.scheme) kept.far pushed c.call-answer.ensures.clean (record {
+        serves = c.call-answer.ensures.served;
+        spares = c.call-answer.ensures.crash;
+        commits = c.call-answer.ensures.durable;
+        fits = c.keeps_limits.ensures;
+        due = c.call-answer.ensures.outright;
+      });
       scheme = c.call-answer.ensures.scheme ∙ kept.scheme;
       room = omega arith;
     }
