@@ -15,9 +15,9 @@ ghost use Rattle.up_tables.specs.Stands.{IfClean};
 ghost use Rattle.up_desk.specs.Serving.{GivesOrLost, Reads, Serves, Tells};
 ghost use Rattle.up_desk.specs.Gathered.{gathered, item_files};
 
+use crate::faults::{done_of, refusal_of};
 use crate::images::images_of;
-use crate::lost::{done_of, refusal_of};
-use crate::reading::is_founded;
+use crate::reads::is_founded;
 use sqlite::Alter;
 use std::alloc::Global;
 use up_canon::ident::Ident;

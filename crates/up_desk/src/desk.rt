@@ -12,8 +12,8 @@ ghost use Rattle.up_desk.specs.Runs.{AreOutright, CommitsCalls, RunsCalls, Spare
 ghost use Rattle.up_desk.specs.Calls.{CommitsCall, ServesCall, SparesCall};
 ghost use Rattle.up_desk.specs.Serving.{Reads, Tells, outright as outright_of};
 
-use crate::obeying::{answer_of, keeps_limits, obey};
-use crate::reading::read_vehicle;
+use crate::dispatch::{answer_of, dispatch, keeps_limits};
+use crate::reads::read_vehicle;
 use crate::views::{assigned_of, ecus_of, installed_on, version_of};
 use sqlite::Alter;
 use std::alloc::{AllocError, Global};
@@ -91,7 +91,7 @@ impl<K: Scheme, D: Alter> Desk<K, D> {
         states_stay_sound();
         repeats_change_nothing();
         kept_replies_stay();
-        answer_of(obey(&mut self.store, alloc, &self.scheme, at, command))
+        answer_of(dispatch(&mut self.store, alloc, &self.scheme, at, command))
     }
 
     /// Answers commands one after another, each with its moment, and appends one answer for each: where some commands are

@@ -15,8 +15,8 @@ ghost use Rattle.up_store.specs.Connections.{KeepsState};
 ghost use Rattle.up_tables.specs.Stands.{IfClean};
 ghost use Rattle.up_desk.specs.Serving.{GivesOrLost, Reads, Serves};
 
-use crate::lost::refusal_of;
-use crate::reading::is_founded;
+use crate::faults::refusal_of;
+use crate::reads::is_founded;
 use sqlite::Alter;
 use std::alloc::Global;
 use up_canon::file_name::FileName;

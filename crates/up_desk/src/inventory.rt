@@ -16,8 +16,8 @@ ghost use Rattle.up_store.specs.Connections.{KeepsState};
 ghost use Rattle.up_tables.specs.Stands.{IfClean};
 ghost use Rattle.up_desk.specs.Serving.{GivesOrLost, Reads, Serves, Tells};
 
-use crate::lost::{done_of, refusal_of};
-use crate::reading::{is_founded, read_vehicle};
+use crate::faults::{done_of, refusal_of};
+use crate::reads::{is_founded, read_vehicle};
 use sqlite::Alter;
 use std::alloc::Global;
 use up_canon::ident::Ident;

@@ -4,13 +4,13 @@
 mod campaigns;
 mod deliveries;
 pub mod desk;
+mod dispatch;
+pub mod faults;
 mod files;
 mod images;
 mod inventory;
 pub mod laws;
-pub mod lost;
-mod obeying;
-mod reading;
+mod reads;
 mod register;
 mod replacements;
 mod roots;

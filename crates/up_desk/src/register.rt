@@ -16,8 +16,8 @@ ghost use Rattle.up_tables.specs.Stands.{IfClean};
 ghost use Rattle.up_desk.specs.Serving.{GivesOrLost, Reads, Serves};
 ghost use Rattle.up_desk.specs.Making.{MadeOrLost};
 
-use crate::lost::{done_of, refusal_of};
-use crate::reading::read_founding;
+use crate::faults::{done_of, refusal_of};
+use crate::reads::read_founding;
 use sqlite::Alter;
 use std::alloc::Global;
 use up_canon::count::Count;

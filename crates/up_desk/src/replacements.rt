@@ -14,9 +14,9 @@ ghost use Rattle.up_store.specs.Connections.{KeepsState};
 ghost use Rattle.up_tables.specs.Stands.{IfClean};
 ghost use Rattle.up_desk.specs.Serving.{GivesOrLost, Reads, Serves};
 
+use crate::faults::{done_of, refusal_of};
 use crate::inventory::is_taken;
-use crate::lost::{done_of, refusal_of};
-use crate::reading::{is_founded, read_vehicle};
+use crate::reads::{is_founded, read_vehicle};
 use sqlite::Alter;
 use std::alloc::Global;
 use up_canon::moment::Moment;

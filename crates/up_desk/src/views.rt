@@ -5,7 +5,7 @@ ghost use Rattle.up_machine.specs.Reads.{ecus_of as ecus_in, version_of as versi
 ghost use Rattle.up_rows.specs.Lookups.{installed_among};
 ghost use Rattle.up_desk.specs.Serving.{Reads, Tells};
 
-use crate::reading::read_vehicle;
+use crate::reads::read_vehicle;
 use sqlite::Alter;
 use std::alloc::{AllocError, Global};
 use up_canon::ident::Ident;

@@ -4,7 +4,7 @@ use sqlite::{Alter, Connection, FileFrom, FileStore, Unknown};
 use std::test::Fail;
 use std::{fs, io};
 use up_file::closing::close_file;
-use up_file::taking::take;
+use up_file::adopting::adopt_or_create;
 
 const EIGHT_TABLES: [&str; 8] = [
     "CREATE TABLE meta (id INTEGER PRIMARY KEY, app TEXT NOT NULL, schema INTEGER NOT NULL, root INTEGER NOT NULL, image_version INTEGER NOT NULL, stamp INTEGER NOT NULL) STRICT",
@@ -72,7 +72,7 @@ fn taken<S: Alter + Drop>(conn: Connection<S>) -> Option<Connection<S>> {
     if !conn.is_autocommit() {
         return None;
     }
-    match take(conn) {
+    match adopt_or_create(conn) {
         Ok(store) => Some(store.release()),
         Err(_) => None,
     }

@@ -1,3 +1,3 @@
 pub mod FieldLaws
-pub mod PlanLaws
+pub mod RoutedLaws
 pub mod RouteLaws

@@ -5,6 +5,6 @@ pub mod Framing
 pub mod Closing
 pub mod Routes
 pub mod Rows
-pub mod Planned
+pub mod Routed
 pub mod Fronts
 pub mod Responses

@@ -7,6 +7,6 @@ mod fields;
 mod framing;
 pub mod heads;
 pub mod methods;
-pub mod planned;
 pub mod responses;
+pub mod routed;
 mod routes;

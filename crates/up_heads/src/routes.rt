@@ -23,7 +23,7 @@ pub(crate) fn kind_of(alloc: Global, path: &str) -> Result<Option<Kind>, AllocEr
     ensures { IfOk result (λ found. found ≡ kind path.now) }
 {
     match routes(alloc) {
-        Ok(router) => Ok(found(&router, path)),
+        Ok(router) => Ok(matched(&router, path)),
         Err(_) => Err(AllocError),
     }
 }
@@ -40,7 +40,7 @@ fn routes(alloc: Global) -> Result<Router<Kind>, InsertError>
 }
 
 /// What the route that a router finds leads to.
-fn found(router: &Router<Kind>, path: &str) -> Option<Kind>
+fn matched(router: &Router<Kind>, path: &str) -> Option<Kind>
     ensures { result ≡ option_map (λ row. row.value) (first router.now path.now) }
 {
     match router.at(path) {

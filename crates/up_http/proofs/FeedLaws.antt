@@ -7,13 +7,13 @@ use Rattle.httparse.specs.Grammar.{RequestHead}
 use Rattle.up_heads.specs.Heads.{Heads, NeverHasHead}
 use Rattle.std.specs.Prelude.{MatchOption, IsSome}
 use Rattle.up_manifest.specs.Manifests.{largest_body}
-use Rattle.up_heads.specs.Planned.{planned}
+use Rattle.up_heads.specs.Routed.{routed}
 use Rattle.up_heads.specs.Framing.{framing}
 use Rattle.up_http.specs.Requests.{is_head, size_of, most_requests, First, Framed, asked, refused, bad_request}
 use Rattle.up_manifest.specs.Bodies.{Coming}
 use Rattle.up_http.specs.Feeding.{Fed, Feeds, Gives, Waits, IsCut}
 use Rattle.up_heads.specs.Fronts.{IsFactsOf}
-use Rattle.up_http.specs.Parts.{Begins, IsPlanOf, IsWaiting, IsWhole, ReadsPiece, TakesHead, Settles, body_of, fed_of}
+use Rattle.up_http.specs.Parts.{Begins, IsIntentOf, IsWaiting, IsWhole, ReadsPiece, TakesHead, Settles, body_of, fed_of}
 use Rattle.up_heads.specs.declared.check.Check.{Check}
 use Rattle.up_heads.specs.declared.check.Check.TheVariants.{BadRequest}
 use Rattle.up_heads.specs.Methods.{verb_of, is_head_verb}
@@ -22,7 +22,7 @@ use Rattle.up_http.specs.declared.asked.Next.{Next}
 use Rattle.up_heads.specs.declared.heads.Facts.{Facts}
 use Rattle.up_http.specs.declared.asked.What.TheVariants.{Fixed}
 use Rattle.up_heads.specs.declared.heads.Front.TheVariants.{Whole, Bad}
-use Rattle.up_http.specs.declared.taking.Taken.{Taken}
+use Rattle.up_http.specs.declared.head_bytes.Taken.{Taken}
 use Rattle.up_http.specs.declared.feeder.Parts.{Parts}
 use Rattle.up_http.specs.declared.feeder.Waiting.{Waiting}
 use Rattle.up_http.proofs.StreamLaws.{never_empty}
@@ -77,10 +77,10 @@ taken_fits size taken bytes piece small is =
 
 -- a piece of a body
 pub gives_body : (bytes piece : List ℕ) (old new : Waiting) (given taken : ℕ) (result : Option Next) (fed : Fed)
-    → IsWaiting bytes old → new.plan ≡ old.plan → new.body ≡ record { size = old.body.size; bytes = take old.body.size (old.body.bytes ++ piece) }
+    → IsWaiting bytes old → new.intent ≡ old.intent → new.body ≡ record { size = old.body.size; bytes = take old.body.size (old.body.bytes ++ piece) }
     → taken ≡ min (length piece) (old.body.size - length old.body.bytes) → length old.body.bytes ≤ old.body.size → given < most_requests
     → Settles bytes new given result fed → Gives (record { rest = bytes ++ old.body.bytes; given = given; ended = false }) piece taken result fed
-gives_body bytes piece old new given taken None fed waits plan body many fits below settles =
+gives_body bytes piece old new given taken None fed waits intent body many fits below settles =
     let size : new.body.size ≡ old.body.size = ap (λ b. b.size) body in
     let items : new.body.bytes ≡ old.body.bytes ++ take taken piece = ap (λ b. b.bytes) body ∙ taken_fits old.body.size taken old.body.bytes piece fits many in
     let within : taken ≤ length piece = omega arith in
@@ -95,11 +95,11 @@ gives_body bytes piece old new given taken None fed waits plan body many fits be
       subst Waits (rest ∙ sym (ap (λ f. f.rest) now))
           (inr (waits.head, new.body.bytes, heads_more bytes waits.head [] new.body.bytes waits.heads, subst (λ r. IsCut r new.body.bytes) (sym waits.framing_is) short)),
     )
-gives_body bytes piece old new given taken (Some next) fed waits plan body many fits below settles =
+gives_body bytes piece old new given taken (Some next) fed waits intent body many fits below settles =
     let size : new.body.size ≡ old.body.size = ap (λ b. b.size) body in
     let items : new.body.bytes ≡ old.body.bytes ++ take taken piece = ap (λ b. b.bytes) body ∙ taken_fits old.body.size taken old.body.bytes piece fits many in
     let within : taken ≤ length piece = omega arith in
-    let said : IsPlanOf waits.head waits.stated new.plan = subst (IsPlanOf waits.head waits.stated) (sym plan) waits.plan_is in
+    let said : IsIntentOf waits.head waits.stated new.intent = subst (IsIntentOf waits.head waits.stated) (sym intent) waits.intent_is in
     let is : next ≡ asked given waits.head waits.stated new.body.bytes = settles.2 waits.head waits.stated said in
     let joined : bytes ++ new.body.bytes ≡ (bytes ++ old.body.bytes) ++ take taken piece = ap (λ l. bytes ++ l) items ∙ sym (append_assoc bytes old.body.bytes (take taken piece)) in
     let whole : length new.body.bytes ≡ size_of waits.stated = settles.0 ∙ size ∙ waits.size_is in (
@@ -185,11 +185,11 @@ gives_more old piece new given taken more (Some next) fed within added gives =
 
 -- a request whose body is cut short at the end of the input
 pub ends_cut : (bytes : List ℕ) (waiting : Waiting) (given : ℕ) (next : Next) → IsWaiting bytes waiting → length waiting.body.bytes < waiting.body.size
-    → next ≡ record { what = Fixed BadRequest; head = waiting.plan.head; last = true }
+    → next ≡ record { what = Fixed BadRequest; head = waiting.intent.head; last = true }
     → (0 < length (bytes ++ waiting.body.bytes)) × First given (bytes ++ waiting.body.bytes) next []
 ends_cut bytes waiting given next waits cut is =
     let some = head_has_bytes bytes waits.head waits.heads in
-    let same : next ≡ refused waits.head BadRequest = is ∙ (λ i. record { what = Fixed BadRequest; head = waits.plan_is.head_is i; last = true }) in
+    let same : next ≡ refused waits.head BadRequest = is ∙ (λ i. record { what = Fixed BadRequest; head = waits.intent_is.head_is i; last = true }) in
     let size = size_of waits.stated in
     let short : length waiting.body.bytes < size = omega (arith, waits.size_is) in (
       omega (arith, some, length-append bytes waiting.body.bytes),
@@ -220,13 +220,13 @@ size_small bytes facts stated (head, heads, said) framed = framing_small head st
 
 -- what is kept of it
 pub begins_body : (bytes : List ℕ) (facts : Facts) (stated : Option ℕ) (waiting : Waiting) → IsWhole bytes facts → facts.framing ≡ Ok stated
-    → waiting.body.size ≡ size_of stated → ((head : RequestHead) → IsFactsOf bytes head facts → waiting.plan.asks ≡ planned head stated)
-    → waiting.plan.head ≡ is_head_verb facts.verb → waiting.plan.closes ≡ facts.closes → IsWaiting bytes waiting
+    → waiting.body.size ≡ size_of stated → ((head : RequestHead) → IsFactsOf bytes head facts → waiting.intent.asks ≡ routed head stated)
+    → waiting.intent.head ≡ is_head_verb facts.verb → waiting.intent.closes ≡ facts.closes → IsWaiting bytes waiting
 begins_body bytes facts stated waiting (head, heads, said) framed size asks verb closes = record {
   head = head;
   heads = heads;
   stated = stated;
   framing_is = sym said.framing_is ∙ framed;
   size_is = size;
-  plan_is = record { asks_is = asks head said; head_is = verb ∙ head_verb head facts.verb said.verb_is; closes_is = closes ∙ said.closes_is };
+  intent_is = record { asks_is = asks head said; head_is = verb ∙ head_verb head facts.verb said.verb_is; closes_is = closes ∙ said.closes_is };
 }

@@ -161,8 +161,7 @@ module _ {S : Type 0} (gives : Gives S) where
         first = λ more _. subst (λ n. First n ((bytes' ++ others) ++ more) next (others ++ more)) so.given_is
             (subst (λ l. First old.feeder.given l next (others ++ more)) (sym (append_assoc bytes' others more)) (firsts (others ++ more)));
       } in
-      stopped came old (came ++ (bytes ++ others)) false (Some next) (fault_at cause new) first before after so
-      (
+      stopped came old (came ++ (bytes ++ others)) false (Some next) (fault_at cause new) first before after so (
         bytes' ++ others,
         subst (λ e. Firsts 0 (came ++ (bytes ++ others)) so.done e (bytes' ++ others)) goes_on
             (subst (λ l. Firsts 0 (came ++ (bytes ++ others)) so.done old.feeder.ended l) behind (so.firsts (bytes ++ others))),

@@ -5,7 +5,7 @@ use Rattle.httparse.specs.Grammar.{RequestHead, HasNoRequest}
 use Rattle.up_heads.specs.Heads.{Heads, NeverHasHead, most_head}
 use Rattle.up_heads.specs.Framing.{framing}
 use Rattle.up_heads.specs.Closing.{closes}
-use Rattle.up_heads.specs.Planned.{planned}
+use Rattle.up_heads.specs.Routed.{routed}
 use Rattle.up_http.specs.Requests.{asked, is_head, most_requests, size_of}
 use Rattle.up_heads.specs.Fronts.{IsFactsOf}
 use Rattle.up_http.specs.Feeding.{Fed}
@@ -13,8 +13,8 @@ use Rattle.up_http.specs.declared.asked.Next.{Next}
 use Rattle.up_heads.specs.declared.heads.Facts.{Facts}
 use Rattle.up_heads.specs.declared.heads.Front.{Front}
 use Rattle.up_heads.specs.declared.heads.Front.TheVariants.{Whole, Cut, Bad}
-use Rattle.up_http.specs.declared.taking.Taken.{Taken}
-use Rattle.up_http.specs.declared.feeder.Plan.{Plan}
+use Rattle.up_http.specs.declared.head_bytes.Taken.{Taken}
+use Rattle.up_http.specs.declared.feeder.Intent.{Intent}
 use Rattle.up_http.specs.declared.feeder.Waiting.{Waiting}
 use Rattle.up_http.specs.declared.feeder.Parts.{Parts}
 
@@ -52,10 +52,10 @@ pub record TakesHead (old piece : List ℕ) (taken : Taken) (new : List ℕ) : T
   pub stands : ReadsPiece new piece taken taken.front
 
 -- what is kept of a head that states this length of its body
-pub record IsPlanOf (head : RequestHead) (stated : Option ℕ) (plan : Plan) : Type 0 where
-  pub asks_is : plan.asks ≡ planned head stated
-  pub head_is : plan.head ≡ is_head head
-  pub closes_is : plan.closes ≡ closes head
+pub record IsIntentOf (head : RequestHead) (stated : Option ℕ) (intent : Intent) : Type 0 where
+  pub asks_is : intent.asks ≡ routed head stated
+  pub head_is : intent.head ≡ is_head head
+  pub closes_is : intent.closes ≡ closes head
 
 -- a whole head is kept, and a body of the length that it states, as far as it has come
 pub record IsWaiting (bytes : List ℕ) (waiting : Waiting) : Type 0 where
@@ -64,7 +64,7 @@ pub record IsWaiting (bytes : List ℕ) (waiting : Waiting) : Type 0 where
   pub stated : Option ℕ
   pub framing_is : framing head ≡ Ok stated
   pub size_is : waiting.body.size ≡ size_of stated
-  pub plan_is : IsPlanOf head stated waiting.plan
+  pub intent_is : IsIntentOf head stated waiting.intent
 
 -- the bytes of a body
 abbrev pub body_of : Option Waiting → List ℕ
@@ -92,4 +92,4 @@ Settles bytes waiting given None new =
     (length waiting.body.bytes < waiting.body.size) × (new ≡ record { rest = bytes ++ waiting.body.bytes; given = given; ended = false })
 Settles bytes waiting given (Some next) new =
     (length waiting.body.bytes ≡ waiting.body.size) × (new ≡ record { rest = []; given = given + 1; ended = next.last })
-    × ((head : RequestHead) (stated : Option ℕ) → IsPlanOf head stated waiting.plan → next ≡ asked given head stated waiting.body.bytes)
+    × ((head : RequestHead) (stated : Option ℕ) → IsIntentOf head stated waiting.intent → next ≡ asked given head stated waiting.body.bytes)

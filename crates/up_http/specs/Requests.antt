@@ -6,11 +6,11 @@ use Rattle.up_manifest.specs.Manifests.{largest_body}
 use Rattle.up_heads.specs.Framing.{framing}
 use Rattle.up_heads.specs.Closing.{closes}
 use Rattle.up_heads.specs.Methods.{verb_of, is_head_verb}
-use Rattle.up_heads.specs.Planned.{planned}
+use Rattle.up_heads.specs.Routed.{routed}
 use Rattle.up_heads.specs.declared.check.Check.{Check}
 use Rattle.up_heads.specs.declared.check.Check.TheVariants.{BadRequest, NotFound, AllowGet, AllowPost, LengthRequired, TooLarge, NotImplemented}
-use Rattle.up_heads.specs.declared.planned.Planned.{Planned}
-use Rattle.up_heads.specs.declared.planned.Planned.TheVariants as planned_as
+use Rattle.up_heads.specs.declared.routed.Routed.{Routed}
+use Rattle.up_heads.specs.declared.routed.Routed.TheVariants as routed_as
 use Rattle.up_roles.specs.declared.repository.Repository.TheVariants.{Director, Image}
 use Rattle.up_machine.specs.declared.command.Command.TheVariants.{Deliver, Fetch}
 use Rattle.up_machine.specs.Commands.{opens_running}
@@ -31,11 +31,11 @@ abbrev pub size_of : Option ℕ → ℕ
 size_of stated = unwrap_or stated 0
 
 -- what a request asks, with its body
-abbrev pub with_body : Planned → List ℕ → What
-with_body (planned_as.Fixed check) body = Fixed check
-with_body planned_as.Deliver body = Call (Deliver body)
-with_body (planned_as.FetchDirector file) body = Call (Fetch Director file)
-with_body (planned_as.FetchImage file) body = Call (Fetch Image file)
+abbrev pub with_body : Routed → List ℕ → What
+with_body (routed_as.Fixed check) body = Fixed check
+with_body routed_as.Deliver body = Call (Deliver body)
+with_body (routed_as.FetchDirector file) body = Call (Fetch Director file)
+with_body (routed_as.FetchImage file) body = Call (Fetch Image file)
 
 -- whether a campaign that is opened is running
 unfoldable pub asks_running : What → Bool
@@ -52,11 +52,11 @@ needs_length AllowPost = false
 needs_length TooLarge = false
 needs_length NotImplemented = false
 
-abbrev pub ends_with : Planned → Bool
-ends_with (planned_as.Fixed check) = needs_length check
-ends_with planned_as.Deliver = false
-ends_with (planned_as.FetchDirector file) = false
-ends_with (planned_as.FetchImage file) = false
+abbrev pub ends_with : Routed → Bool
+ends_with (routed_as.Fixed check) = needs_length check
+ends_with routed_as.Deliver = false
+ends_with (routed_as.FetchDirector file) = false
+ends_with (routed_as.FetchImage file) = false
 
 -- whether the method is HEAD
 unfoldable pub is_head : RequestHead → Bool
@@ -73,9 +73,9 @@ refused head check = record { what = Fixed check; head = is_head head; last = tr
 -- a whole request, of which so many stood before it, with the length that it states and its body
 abbrev pub asked : ℕ → RequestHead → Option ℕ → List ℕ → Next
 asked before head stated body = record {
-  what = with_body (planned head stated) body;
+  what = with_body (routed head stated) body;
   head = is_head head;
-  last = closes head || (ends_with (planned head stated) || nat_le most_requests (before + 1));
+  last = closes head || (ends_with (routed head stated) || nat_le most_requests (before + 1));
 }
 
 -- a whole head, what comes after it, the request that its framing makes of them, and what is left behind the request

@@ -1,17 +1,17 @@
 //! A stream in pieces, and its requests.
 ghost use Rattle.std.specs.Prelude.{◌≡◌, ◌≤◌, ◌<◌, ◌+◌, ◌++◌, [], IfOk, OnErr, Some, None, false, true, length, ℕ, Option};
 ghost use Rattle.up_http.specs.Feeding.{Fed, Feeds, Gives, Ends};
-ghost use Rattle.up_http.specs.Parts.{Begins, IsPlanOf, IsWaiting, IsWhole, Keeps, Settles, fed_of};
+ghost use Rattle.up_http.specs.Parts.{Begins, IsIntentOf, IsWaiting, IsWhole, Keeps, Settles, fed_of};
 ghost use Rattle.up_http.specs.Requests.{asked, ends_with, most_requests, with_body};
 ghost use Rattle.httparse.specs.Grammar.{RequestHead};
 
 use crate::asked::{Next, Step, What};
-use crate::taking::take_head;
+use crate::head_bytes::take_head;
 use std::alloc::{AllocError, Global};
 use std::marker::Model;
 use up_heads::check::Check;
 use up_heads::heads::{Facts, Front};
-use up_heads::planned::{Planned, plan_of};
+use up_heads::routed::{Routed, route_of};
 use up_machine::command::Command;
 use up_manifest::body::Body;
 use up_roles::repository::Repository;
@@ -21,9 +21,9 @@ const MOST_REQUESTS: u32 = 100;
 
 /// What is kept of a whole head.
 #[derive(Drop)]
-pub(crate) struct Plan {
+pub(crate) struct Intent {
     /// What is asked, but for the body.
-    pub asks: Planned,
+    pub asks: Routed,
     /// Whether the method is HEAD.
     pub head: bool,
     /// Whether the connection is closed behind the request.
@@ -33,7 +33,7 @@ pub(crate) struct Plan {
 /// A request whose body isn't whole.
 #[derive(Drop)]
 pub(crate) struct Waiting {
-    pub plan: Plan,
+    pub intent: Intent,
     pub body: Body,
 }
 
@@ -114,7 +114,7 @@ fn end_parts(parts: &mut Parts) -> Option<Next>
         return None;
     }
     if let Some(waiting) = parts.waiting.take() {
-        let head = waiting.plan.head;
+        let head = waiting.intent.head;
         return Some(give(parts, fixed(Check::BadRequest, head)));
     }
     if parts.head.is_empty() {
@@ -188,33 +188,33 @@ fn settle(parts: &mut Parts, waiting: Waiting) -> Option<Next>
 /// What a whole request asks.
 fn next_of(given: u32, waiting: Waiting) -> Next
     requires { given < most_requests }
-    ensures { (head : RequestHead) (stated : Option ℕ) → IsPlanOf head stated waiting.plan → result ≡ asked given head stated waiting.body.bytes }
+    ensures { (head : RequestHead) (stated : Option ℕ) → IsIntentOf head stated waiting.intent → result ≡ asked given head stated waiting.body.bytes }
 {
-    let Waiting { plan, body } = waiting;
-    let last = plan.closes || ends_stream(&plan.asks) || given + 1 >= MOST_REQUESTS;
+    let Waiting { intent, body } = waiting;
+    let last = intent.closes || ends_stream(&intent.asks) || given + 1 >= MOST_REQUESTS;
     Next {
-        what: joined(plan.asks, body),
-        head: plan.head,
+        what: joined(intent.asks, body),
+        head: intent.head,
         last,
     }
 }
 
 /// Whether the stream ends with what is asked, since nobody knows where its body ends.
-fn ends_stream(asks: &Planned) -> bool
+fn ends_stream(asks: &Routed) -> bool
     ensures { result ≡ ends_with asks.now }
 {
-    matches!(asks, Planned::Fixed(Check::LengthRequired))
+    matches!(asks, Routed::Fixed(Check::LengthRequired))
 }
 
 /// What is asked, with its body.
-fn joined(asks: Planned, body: Body) -> What
+fn joined(asks: Routed, body: Body) -> What
     ensures { result ≡ with_body asks body.bytes }
 {
     match asks {
-        Planned::Fixed(check) => What::Fixed(check),
-        Planned::Deliver => What::Call(Command::Deliver(body.into_bytes())),
-        Planned::FetchDirector(file) => What::Call(Command::Fetch(Repository::Director, file)),
-        Planned::FetchImage(file) => What::Call(Command::Fetch(Repository::Image, file)),
+        Routed::Fixed(check) => What::Fixed(check),
+        Routed::Deliver => What::Call(Command::Deliver(body.into_bytes())),
+        Routed::FetchDirector(file) => What::Call(Command::Fetch(Repository::Director, file)),
+        Routed::FetchImage(file) => What::Call(Command::Fetch(Repository::Image, file)),
     }
 }
 
@@ -299,10 +299,10 @@ fn begin(
     ensures waits { IfOk result (λ waiting. IsWaiting head.now waiting) }
     ensures empty { IfOk result (λ waiting. waiting.body.bytes ≡ []) }
 {
-    let asks = plan_of(alloc, head, facts, stated)?;
+    let asks = route_of(alloc, head, facts, stated)?;
     let body = Body::new(alloc, stated.unwrap_or(0) as u64).unwrap();
     Ok(Waiting {
-        plan: Plan {
+        intent: Intent {
             asks,
             head: facts.verb.is_head(),
             closes: facts.closes,

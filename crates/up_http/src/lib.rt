@@ -4,10 +4,10 @@
 pub mod asked;
 pub mod fault;
 pub mod feeder;
+mod head_bytes;
 pub mod laws;
 mod progress;
 pub mod respond;
 pub mod served;
 pub mod serving;
 pub mod stream;
-mod taking;

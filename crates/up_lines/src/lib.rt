@@ -6,16 +6,16 @@ mod ending;
 pub mod fault;
 pub mod interpret;
 pub mod limits;
+mod lines;
+mod next_byte;
 mod progress;
-mod reading;
 pub mod sink;
 pub mod source;
-mod taking;
 mod written;
 
 ghost use Rattle.up_lines.specs.Lines.{WholeLinesFirst};
 
-pub use reading::{read_piece, run};
+pub use lines::{read_piece, run};
 pub use written::{NotWritten, write_whole};
 
 /// The lines that are whole are answered first and as they are, whatever bytes follow.

@@ -4,7 +4,7 @@
 pub mod body;
 pub mod building;
 pub mod manifest;
-pub mod reading;
+pub mod manifest_read;
 pub mod report;
 mod writing;
 

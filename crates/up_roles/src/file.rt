@@ -9,7 +9,7 @@ use std::alloc::Global;
 use up_canon::json_text::value_within;
 use up_canon::refusal::Refusal;
 use up_sign::envelope::Envelope;
-use up_sign::reading::open;
+use up_sign::envelope_read::open;
 
 /// The most bytes that a file may have.
 const LARGEST_FILE: usize = 4194304;

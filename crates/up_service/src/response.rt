@@ -85,15 +85,15 @@ fn answer_response(
     ensures { IfOk result (λ t. string_bytes t ≡ answer_response_of answer.now last head) }
 {
     match answer {
-        Answer::Done | Answer::Already => found(alloc, "", last, head),
-        Answer::Reply(reply) => found(alloc, reply.text.as_str(), last, head),
-        Answer::File(text) => found(alloc, text.as_str(), last, head),
+        Answer::Done | Answer::Already => ok_response(alloc, "", last, head),
+        Answer::Reply(reply) => ok_response(alloc, reply.text.as_str(), last, head),
+        Answer::File(text) => ok_response(alloc, text.as_str(), last, head),
         Answer::Refused(refusal) => refusal_response(alloc, refusal, last, head),
     }
 }
 
 /// The response with a reply's or a file's text.
-fn found(alloc: Global, text: &str, last: bool, head: bool) -> Result<String, AllocError>
+fn ok_response(alloc: Global, text: &str, last: bool, head: bool) -> Result<String, AllocError>
     ensures { IfOk result (λ t. string_bytes t ≡ found_response text.now last head) }
 {
     response_text(alloc, StatusCode::OK, None, last, head, text)

@@ -9,7 +9,7 @@ use std::alloc::{AllocError, Global};
 use up_canon::ident::Ident;
 use up_canon::refusal::Refusal;
 use up_desk::desk::Desk;
-use up_desk::lost::refusal_of;
+use up_desk::faults::refusal_of;
 use up_machine::laws::vehicles_stand_apart;
 use up_machine::rows::{EcuRow, VehicleRows};
 use up_plan::assigned::Plan;

@@ -2,10 +2,10 @@
 #![tactic(auto)]
 
 pub mod envelope;
+pub mod envelope_read;
 pub mod hmac_sha256;
 pub mod key_id;
 pub mod laws;
-pub mod reading;
 pub mod scheme;
 pub mod seal;
 pub mod threshold;

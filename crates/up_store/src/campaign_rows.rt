@@ -11,8 +11,8 @@ ghost use Rattle.up_store.specs.ColumnRows.{IsCampaign, AreRunning};
 ghost use Rattle.up_store.specs.Found.{values_where};
 ghost use Rattle.up_store.specs.Typed.{IsTypedCampaign};
 
+use crate::column_values::{ident_in, read_column};
 use crate::image_rows::name_of;
-use crate::reading::{ident_in, read_column};
 use crate::store::StoreFault;
 use std::alloc::{AllocError, Global};
 use up_canon::ident::Ident;

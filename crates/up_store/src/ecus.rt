@@ -5,14 +5,14 @@ ghost use Rattle.up_rows.specs.SecondHashes.{TellsItsHash};
 ghost use Rattle.up_tables.specs.Ecus.{FitEcu};
 ghost use Rattle.up_store.specs.Shown.{ecu_read, installed_read, reported_sha512};
 
-use crate::reading::{count_in, file_name_in, ident_in, sha256_in};
+use crate::column_values::{count_in, file_name_in, ident_in, sha256_in};
 use crate::store::StoreFault;
 use std::alloc::{AllocError, Global};
 use up_canon::bytes::Bytes;
 use up_canon::listed::Listed;
 use up_canon::text::Text;
 use up_machine::rows::EcuRow;
-use up_manifest::reading::report_sha512;
+use up_manifest::manifest_read::report_sha512;
 use up_manifest::report::Installed;
 use up_tables::ecu::{EcuRow as EcuShown, Installed as InstalledShown};
 

@@ -7,7 +7,7 @@ ghost use Rattle.up_store.specs.ColumnRows.{IsImage, AreImages, AreHashesOf};
 ghost use Rattle.up_store.specs.Typed.{IsTypedImage};
 ghost use Rattle.std.specs.FinMap as table;
 
-use crate::reading::{count_in, file_name_in, read_column, sha256_in};
+use crate::column_values::{count_in, file_name_in, read_column, sha256_in};
 use crate::store::StoreFault;
 use std::alloc::{AllocError, Global};
 use up_canon::file_name::FileName;

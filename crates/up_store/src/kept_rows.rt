@@ -6,7 +6,7 @@ ghost use Rattle.up_tables.specs.Forms.{FitKept};
 ghost use Rattle.up_store.specs.ColumnRows.{IsKept};
 ghost use Rattle.up_store.specs.Typed.{IsTypedKept};
 
-use crate::reading::{count_in, ident_in, moment_in, read_column};
+use crate::column_values::{count_in, ident_in, moment_in, read_column};
 use crate::store::{MOST_NUMBER, StoreFault};
 use std::alloc::Global;
 use up_canon::text::Text;

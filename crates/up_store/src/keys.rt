@@ -6,7 +6,7 @@ ghost use Rattle.up_tables.specs.Forms.{FitRoleKey, role_key_row};
 ghost use Rattle.up_store.specs.Lines.{repository_lines, role_lines, repository_word as word_of};
 ghost use Rattle.up_store.specs.Shown.{is_key_of, secrets_of, threshold_of, IsRoleOf, AreKeysOf};
 
-use crate::reading::threshold_in;
+use crate::column_values::threshold_in;
 use crate::store::{MOST_NUMBER, StoreFault};
 use std::alloc::{AllocError, Global};
 use up_canon::bytes::Bytes;

@@ -3,6 +3,7 @@
 
 mod campaign_rows;
 mod campaigns;
+mod column_values;
 mod ecus;
 mod files;
 mod image_rows;
@@ -11,7 +12,6 @@ mod kept_rows;
 mod keys;
 pub mod laws;
 mod manifests;
-mod reading;
 mod replaced;
 mod roots;
 mod second_hashes;

@@ -13,9 +13,9 @@ ghost use Rattle.up_store.specs.Puts.{IsReported, with_reported};
 ghost use Rattle.up_tables.specs.Stands.{IfClean, HasTables, IsAsCommitted, IsInside, IsOpen, Reads, Steps};
 ghost use Rattle.up_store.specs.Connections.{Answers, FindsRows, NeedsOpen, PutsRows, PutsTables, TakesRows, CommitsRows, SparesRows};
 
+use crate::column_values::count_in;
 use crate::ecus::make_ecus;
 use crate::kept_rows::{make_kept, read_kept};
-use crate::reading::count_in;
 use crate::store::{MOST_ROWS, Store, StoreFault, commit};
 use crate::vehicles::make_vehicle;
 use sqlite::{Alter, Transaction};

@@ -14,9 +14,9 @@ ghost use Rattle.up_store.specs.Fitting.{IsNextRoot, IsSameRoot};
 ghost use Rattle.up_tables.specs.Stands.{IfClean, IsAsCommitted, IsInside, IsOpen, IsWithin, Steps};
 ghost use Rattle.up_store.specs.Connections.{Answers, FindsRows, NeedsOpen, PutsRows, PutsTables, TakesRows, CommitsRows, SparesRows};
 
+use crate::column_values::moment_in;
 use crate::files::{make_role_files, make_root_files};
 use crate::keys::{make_keys, read_keys, repository_word};
-use crate::reading::moment_in;
 use crate::store::{MOST_NUMBER, Store, StoreFault, commit};
 use sqlite::{Alter, Transaction};
 use std::alloc::Global;

@@ -14,7 +14,7 @@ ghost use Rattle.up_store.specs.Lines.{second_hash};
 ghost use Rattle.up_store.specs.Listing.{ListsRows};
 ghost use Rattle.up_store.specs.Puts.{with_sha512_line};
 
-use crate::reading::sha512_in;
+use crate::column_values::sha512_in;
 use crate::store::StoreFault;
 use sqlite::{Alter, Transaction};
 use std::alloc::Global;

@@ -11,8 +11,8 @@ ghost use Rattle.up_tables.specs.Stands.{IfClean, IsAsCommitted, IsInside, IsOpe
 ghost use Rattle.up_tables.specs.Forms.{FitVehicle};
 ghost use Rattle.up_store.specs.Connections.{Answers, FindsRows, NeedsOpen, TakesRows, CommitsRows, SparesRows, PutsRows};
 
+use crate::column_values::{count_in, ident_in};
 use crate::ecus::{make_ecus, read_ecus};
-use crate::reading::{count_in, ident_in};
 use crate::store::{MOST_NUMBER, MOST_ROWS, Store, StoreFault, commit};
 use sqlite::{Alter, Transaction};
 use std::alloc::Global;

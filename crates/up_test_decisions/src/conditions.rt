@@ -10,7 +10,7 @@ use up_canon::refusal::Refusal;
 use up_machine::rows::{Founding, VehicleRows};
 use up_machine::rows_fit::{founding_fits, rows_fit};
 use up_manifest::manifest::Incoming;
-use up_manifest::reading::read_manifest;
+use up_manifest::manifest_read::read_manifest;
 use up_sign::scheme::Scheme;
 
 /// The moment of a command, at most the last one.

@@ -11,7 +11,7 @@ use up_canon::hex_text::hex_of;
 use up_canon::listed::Duplicate;
 use up_manifest::building::{build_manifest, build_report};
 use up_manifest::manifest::{Incoming, Manifest};
-use up_manifest::reading::{read_manifest, report_sha512};
+use up_manifest::manifest_read::{read_manifest, report_sha512};
 use up_manifest::report::Report;
 use up_sign::scheme::Scheme;
 use up_sign::threshold::accepts;

@@ -14,7 +14,7 @@ use up_canon::bytes::Bytes;
 use up_canon::refusal::Refusal;
 use up_sign::envelope::Envelope;
 use up_sign::key_id::{HashedKey, key_id_text};
-use up_sign::reading::read_envelope;
+use up_sign::envelope_read::read_envelope;
 use up_sign::scheme::Scheme;
 use up_sign::seal::seal;
 use up_sign::threshold::{accepts, accepts_by};

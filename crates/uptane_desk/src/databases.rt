@@ -8,9 +8,9 @@ use sqlite::{Alter, Connection, Unknown};
 use std::fs;
 use std::process::ExitCode;
 use up_desk::desk::Desk;
+use up_file::adopting::adopt_or_create;
 use up_file::closing::close_file;
 use up_file::opening::open_file;
-use up_file::taking::take;
 use up_sign::hmac_sha256::HmacSha256;
 
 /// What is done over a database.
@@ -35,7 +35,7 @@ fn over_memory(rt: &HostRuntime, work: Work) -> ExitCode {
     let Ok(conn) = Connection::open_in_memory(rt.alloc()) else {
         return unopened(rt);
     };
-    match take(conn) {
+    match adopt_or_create(conn) {
         Ok(store) => {
             let mut desk = Desk::new(HmacSha256, store);
             work_at(rt, &mut desk, work)
@@ -53,7 +53,7 @@ fn over_file(rt: &HostRuntime, path: &str, work: Work) -> ExitCode {
     let Ok(conn) = open_file(rt, path, Unknown) else {
         return unopened(rt);
     };
-    match take(conn) {
+    match adopt_or_create(conn) {
         Ok(store) => {
             let mut desk = Desk::new(HmacSha256, store);
             let status = work_at(rt, &mut desk, work);

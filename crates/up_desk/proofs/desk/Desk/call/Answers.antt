@@ -11,9 +11,9 @@ returns g c =
       served = c.repeats_change_nothing.ensures.served;
       replies = c.kept_replies_stay.ensures.run;
     } in
-    let inside = called laws (g.K.Scheme.rules c.self.inside.scheme) c.args.at c.args.command.now c.obey.result c.answer_of.result
-    (state g.D.Store c.self.inside.store) (state g.D.Store c.obey.new.store) c.keeps_limits.ensures c.obey.ensures.serves c.obey.ensures.outright c.answer_of.ensures in
-    let call = subst (λ d. IsCall (g.K.Scheme.rules d.scheme) c.args.at c.args.command.now c.answer_of.result (state g.D.Store d.store) (state g.D.Store c.obey.new.store)) c.self.view_is inside in
+    let inside = called laws (g.K.Scheme.rules c.self.inside.scheme) c.args.at c.args.command.now c.dispatch.result c.answer_of.result
+    (state g.D.Store c.self.inside.store) (state g.D.Store c.dispatch.new.store) c.keeps_limits.ensures c.dispatch.ensures.serves c.dispatch.ensures.outright c.answer_of.ensures in
+    let call = subst (λ d. IsCall (g.K.Scheme.rules d.scheme) c.args.at c.args.command.now c.answer_of.result (state g.D.Store d.store) (state g.D.Store c.dispatch.new.store)) c.self.view_is inside in
     record {
       served = call.served;
       outright = call.outright;

@@ -1,0 +1,71 @@
+use Rattle.std.proofs.Common.{◌≡◌, ◌≤◌, ◌∙◌, ap, ℕ, List, false, arith, refl, subst, [], ◌++◌, take, length, length-append, append-nil}
+use Rattle.std.proofs.lemmas.Grind.{common_steps}
+use Rattle.std.proofs.lemmas.List.{length-take-le}
+use Rattle.std.specs.Prelude.{Option}
+use Rattle.std.specs.Io.KnownBytes.{Consumes}
+use Rattle.std.proofs.KnownBytes.{Consumes-nil, Consumes-trans, Consumes-kept}
+use Rattle.up_lines.specs.declared.fault.ScriptCause.TheVariants.{Read}
+use Rattle.up_lines.specs.LineRuns.{Stopped}
+use Rattle.up_lines.specs.Progress.{Sofar}
+use Rattle.up_lines.proofs.Stopping.{stops_memory}
+use Rattle.up_lines.proofs.Ends.{fresh, same_prefix, ran_stop, ran_err, ran_on, stops_read}
+use Rattle.up_lines.proofs.lines.read_lines.Goals as goal
+
+pub loop-most-init : goal.loop-most-init
+loop-most-init g c = ([], Consumes-nil _, fresh g.I.Interpret.gives _ c.args.progress.now c.requires.fresh, refl, grind (arith, common_steps, c.in_ok-buffer.ensures.len), c.requires.can_read, c.requires.can_write)
+
+pub returns-in_err-buffer-clause-ran : goal.returns-in_err-buffer-clause-ran
+returns-in_err-buffer-clause-ran g c =
+    ran_stop g.I.Interpret.gives c.from_residual.result _ _ _ _ _ [] c.args.progress.now.answered c.from_residual.ensures.1 (Consumes-nil _) (omega arith)
+    (stops_memory g.I.Interpret.gives c.args.progress.now c.args.progress.now [] _ refl _ [] (fresh g.I.Interpret.gives _ c.args.progress.now c.requires.fresh))
+
+-- the buffer keeps its length
+kept : (new old : List ℕ) (len : ℕ) → length new ≡ length old → length old ≡ len → length new ≡ len
+kept new old len p q = p ∙ q
+
+pub loop-most-preserved : goal.loop-most-preserved
+loop-most-preserved g c = let (came, read, so, budget, room, can_read, can_write) = c.loop-most.invariant in
+    let within : c.in-Ok.n ≤ length c.read_piece.new.buffer = c.in-Ok.ensures.count.0 in
+    let most : c.in-Ok.n ≤ c.loop-most.most = c.in-Ok.ensures.count.1 in
+    let long : length (take c.in-Ok.n c.read_piece.new.buffer) ≡ c.in-Ok.n = length-take-le c.in-Ok.n c.read_piece.new.buffer within in
+    let same : take c.in-Ok.n c.deref.result.now ≡ take c.in-Ok.n c.read_piece.new.buffer = same_prefix c.in-Ok.n c.loop-most.buffer.len c.deref.result.now c.read_piece.new.buffer c.loop-most.buffer.items c.deref.ensures.value
+    (kept _ c.deref_mut.result.now _ c.read_piece.auto.buffer c.deref_mut.ensures.len) within in (
+      came ++ take c.in-Ok.n c.read_piece.new.buffer,
+      Consumes-trans _ _ _ _ _ read c.in-Ok.ensures.bytes,
+      subst (λ l. Sofar g.I.Interpret.gives (record { state = c.args.state.now; held = g.W.Sink.contents c.args.writer.now }) (came ++ l) c.take_piece.new.progress (record { state = c.take_piece.new.state; held = g.W.Sink.contents c.take_piece.new.writer })) same
+          (c.in_ok-take_piece-in-Ok.ensures.ok _ came so),
+      omega (arith, long, most, budget, length-append came (take c.in-Ok.n c.read_piece.new.buffer)),
+      room,
+      c.in-Ok.ensures.goes_on (grind (arith, common_steps)),
+      c.in_ok-take_piece-in-Ok.ensures.goes_on,
+    )
+
+pub returns-in_err-take_piece-in-Ok-clause-ran :
+    goal.returns-in_err-take_piece-in-Ok-clause-ran
+returns-in_err-take_piece-in-Ok-clause-ran g c = let (came, read, so, budget, room, can_read, can_write) = c.loop-most.invariant in
+    let within : c.in-Ok.n ≤ length c.read_piece.new.buffer = c.in-Ok.ensures.count.0 in
+    let most : c.in-Ok.n ≤ c.loop-most.most = c.in-Ok.ensures.count.1 in
+    let long : length (take c.in-Ok.n c.read_piece.new.buffer) ≡ c.in-Ok.n = length-take-le c.in-Ok.n c.read_piece.new.buffer within in
+    let same : take c.in-Ok.n c.deref.result.now ≡ take c.in-Ok.n c.read_piece.new.buffer = same_prefix c.in-Ok.n c.loop-most.buffer.len c.deref.result.now c.read_piece.new.buffer c.loop-most.buffer.items c.deref.ensures.value
+    (kept _ c.deref_mut.result.now _ c.read_piece.auto.buffer c.deref_mut.ensures.len) within in
+    let cause = c.in_err-take_piece-in-Ok.field-0.0 in
+    ran_stop g.I.Interpret.gives c.from_residual-in_err-take_piece-in-Ok.result cause _ _ _ _ (came ++ take c.in-Ok.n c.read_piece.new.buffer) c.take_piece.new.progress.answered
+    c.from_residual-in_err-take_piece-in-Ok.ensures.1 (Consumes-trans _ _ _ _ _ read c.in-Ok.ensures.bytes) (omega (arith, long, most, budget, length-append came (take c.in-Ok.n c.read_piece.new.buffer)))
+    (subst (λ l. Stopped g.I.Interpret.gives (came ++ l) false (record { cause = cause; lines = c.take_piece.new.progress.answered }) (record { state = c.args.state.now; held = g.W.Sink.contents c.args.writer.now }) (record { state = c.take_piece.new.state; held = g.W.Sink.contents c.take_piece.new.writer })) same
+    (c.in_err-take_piece-in-Ok.ensures.err _ came so))
+
+pub returns-in-Err-clause-ran : goal.returns-in-Err-clause-ran
+returns-in-Err-clause-ran g c = let (came, read, so, budget, room, can_read, can_write) = c.loop-most.invariant in
+    ran_err g.I.Interpret.gives Read _ _ _ _ came c.loop-most.progress.answered (Consumes-kept _ _ _ _ read c.in-Err.ensures.err) (omega (arith, budget))
+    (stops_read g.I.Interpret.gives _ came c.loop-most.progress _ so)
+
+-- nothing was read at the end
+consumed_none : (had mid has : Option (List ℕ)) (came : List ℕ) (n : ℕ) (buffer : List ℕ) → n ≡ 0 → Consumes had mid came → Consumes mid has (take n buffer) → Consumes had has came
+consumed_none had mid has came n buffer none p q =
+    subst (Consumes had has) (ap (λ k. came ++ take k buffer) none ∙ append-nil came) (Consumes-trans had mid has came (take n buffer) p q)
+
+pub returns-in-Ok-eq0-clause-ran : goal.returns-in-Ok-eq0-clause-ran
+returns-in-Ok-eq0-clause-ran g c = let (came, read, so, budget, room, can_read, can_write) = c.loop-most.invariant in
+    ran_on g.I.Interpret.gives c.finish.result _ _ (g.R.Source.remaining c.args.reader.now) (g.R.Source.remaining c.read_piece.new.reader) came c.loop-most.progress _ c.finish.new.progress
+    (consumed_none _ (g.R.Source.remaining c.loop-most.reader) _ came c.in-Ok-eq0.field-0 c.read_piece.new.buffer c.in-Ok-eq0.field-0-test read c.in-Ok-eq0.ensures.bytes)
+    (omega (arith, budget)) (c.in-Ok-eq0.ensures.end c.in-Ok-eq0.field-0-test c.loop-most-test.true (omega (arith, room, c.deref_mut.ensures.len))) so c.finish.ensures.ok c.finish.ensures.err

@@ -1,0 +1,161 @@
+//! Lines cut from a reader, and their answers written to a writer.
+ghost use Rattle.std.specs.Prelude.{◌≡◌, ◌<◌, ◌≤◌, ℕ, List, Option, [], IfOk, IfErr, IfSome, OnErr, OnOk, false, true, length, take};
+ghost use Rattle.std.specs.Io.KnownBytes.{Consumes, IsAtEnd, Keeps};
+ghost use Rattle.up_lines.specs.Lines.{lines_of, fits};
+ghost use Rattle.up_lines.specs.LineRuns.{RanLines, FinishedLines, AnswersFirst};
+ghost use Rattle.up_lines.specs.Progress.{Takes, Stops, Completes, IsFresh, told};
+
+use crate::ending::end_line;
+use crate::fault::{ScriptCause, ScriptFault};
+use crate::interpret::Interpret;
+use crate::limits::{MOST_BYTES, PIECE_BYTES};
+use crate::next_byte::take_byte;
+use crate::progress::Progress;
+use crate::sink::Sink;
+use crate::source::Source;
+use std::alloc::Global;
+use std::io;
+
+/// Takes the bytes of a piece.
+fn take_piece<S, I: Interpret<S>, W: Sink>(
+    alloc: Global,
+    interpreter: &I,
+    state: &mut S,
+    writer: &mut W,
+    progress: &mut Progress,
+    piece: &[u8],
+) -> Result<(), ScriptCause>
+    requires { W.can_write writer.old }
+    ensures ok { OnOk result (Takes I.gives piece.now progress.old (record { state = state.old; held = W.contents writer.old })
+        progress.new (record { state = state.new; held = W.contents writer.new })) }
+    ensures err { IfErr result (λ cause. Stops I.gives cause false piece.now
+        progress.old (record { state = state.old; held = W.contents writer.old })
+        progress.new (record { state = state.new; held = W.contents writer.new })) }
+    ensures goes_on { OnOk result (W.can_write writer.new) }
+{
+    for byte in piece {
+        take_byte(alloc, interpreter, state, writer, progress, *byte)?;
+    }
+    Ok(())
+}
+
+/// Reads a piece of at most so many bytes to the buffer's front, and tells how many they are: none only at the reader's end,
+/// or where there is room for none. A fault takes nothing from the reader. Only where some came may the reader be read again.
+pub fn read_piece<R: Source>(reader: &mut R, buffer: &mut [u8], most: u64) -> io::Result<usize>
+    requires { R.can_read reader.old }
+    ensures count { IfOk result (λ n. (n ≤ length buffer.new) × (n ≤ most)) }
+    ensures bytes { IfOk result (λ n. Consumes (R.remaining reader.old) (R.remaining reader.new) (take n buffer.new)) }
+    ensures end { IfOk result (λ n. n ≡ 0 → 0 < most → 0 < length buffer.old → IsAtEnd (R.remaining reader.new)) }
+    ensures err { OnErr result (Keeps (R.remaining reader.old) (R.remaining reader.new)) }
+    ensures goes_on { IfOk result (λ n. 0 < n → R.can_read reader.new) }
+{
+    let room = if most < buffer.len() as u64 {
+        most as usize
+    } else {
+        buffer.len()
+    };
+    reader.read_some(&mut buffer[..room])
+}
+
+/// Ends the line that the input's end ends, if one is begun.
+fn finish<S, I: Interpret<S>, W: Sink>(
+    alloc: Global,
+    interpreter: &I,
+    state: &mut S,
+    writer: &mut W,
+    progress: &mut Progress,
+) -> Result<(), ScriptCause>
+    requires { W.can_write writer.old }
+    ensures ok { OnOk result (Completes I.gives progress.old (record { state = state.old; held = W.contents writer.old })
+        progress.new (record { state = state.new; held = W.contents writer.new })) }
+    ensures err { IfErr result (λ cause. Stops I.gives cause true []
+        progress.old (record { state = state.old; held = W.contents writer.old })
+        progress.new (record { state = state.new; held = W.contents writer.new })) }
+    ensures goes_on { OnOk result (W.can_write writer.new) }
+{
+    if progress.line.is_empty() {
+        return Ok(());
+    }
+    end_line(alloc, interpreter, state, writer, progress)
+}
+
+/// Reads and takes the bytes, to the input's end.
+fn read_lines<S, I: Interpret<S>, R: Source, W: Sink>(
+    alloc: Global,
+    interpreter: &I,
+    state: &mut S,
+    reader: &mut R,
+    writer: &mut W,
+    progress: &mut Progress,
+) -> Result<(), ScriptCause>
+    requires fresh { IsFresh progress.old }
+    requires can_read { R.can_read reader.old }
+    requires can_write { W.can_write writer.old }
+    ensures ran { RanLines I.gives (R.remaining reader.old) (R.remaining reader.new)
+        (record { state = state.old; held = W.contents writer.old })
+        (record { state = state.new; held = W.contents writer.new }) (told result progress.new.answered) }
+    ensures goes_on { OnOk result (W.can_write writer.new) }
+{
+    let mut buffer = vec![in alloc; 0; PIECE_BYTES]?;
+    let mut most = MOST_BYTES;
+    while most > 0 {
+        match read_piece(reader, &mut buffer, most) {
+            Ok(0) => return finish(alloc, interpreter, state, writer, progress),
+            Ok(n) => {
+                take_piece(alloc, interpreter, state, writer, progress, &buffer[..n])?;
+                most -= n as u64;
+            }
+            Err(_) => return Err(ScriptCause::Read),
+        }
+    }
+    Err(ScriptCause::TooLong)
+}
+
+/// Answers each line of what the reader has, in order, as soon as it is whole, and writes each answer and a newline.
+///
+/// A line ends with a newline (byte 10), or with the input where any byte stands behind the last newline.
+/// An empty line is counted and not answered. The number is that of the lines answered. There are at most 100,000 lines, of at
+/// most 2,097,152 bytes each without the newline; past that comes `TooLong`. Of a reader whose bytes are known at most
+/// 209,715,300,001 are read: so many lines of so many bytes, their newlines, and one byte more. Nothing is tried twice: after
+/// a read that failed or gave no byte the reader isn't read, nor is the writer written after a write that failed or took none.
+/// A fault tells how many answers were written whole; lines that were answered before it stay answered.
+pub fn run<S, I: Interpret<S>, R: Source, W: Sink>(
+    alloc: Global,
+    interpreter: &I,
+    state: &mut S,
+    reader: &mut R,
+    writer: &mut W,
+) -> Result<u32, ScriptFault>
+    requires can_read { R.can_read reader.old }
+    requires can_write { W.can_write writer.old }
+    // For any reader and writer: the bytes that came, what was answered of them, and what was written.
+    ensures ran { RanLines I.gives (R.remaining reader.old) (R.remaining reader.new)
+        (record { state = state.old; held = W.contents writer.old })
+        (record { state = state.new; held = W.contents writer.new }) result }
+
+    // Where it is known what the reader has, by its lines.
+    ensures whole { IfOk result (λ answered. IfSome (R.remaining reader.old) (λ input.
+        FinishedLines I.gives input answered (record { state = state.old; held = W.contents writer.old })
+        (record { state = state.new; held = W.contents writer.new }))) }
+    ensures too_long { IfErr result (λ fault. fault.cause ≡ ScriptCause.TooLong → IfSome (R.remaining reader.old) (λ input.
+        fits (lines_of true input) ≡ false)) }
+    ensures prefix { IfErr result (λ fault. IfSome (R.remaining reader.old) (λ input.
+        AnswersFirst I.gives input fault (record { state = state.old; held = W.contents writer.old })
+        (record { state = state.new; held = W.contents writer.new }))) }
+
+    // Nothing was tried twice: where it ended well the writer may be written again.
+    ensures goes_on { OnOk result (W.can_write writer.new) }
+{
+    let mut progress = Progress {
+        line: Vec::new(alloc),
+        counted: 0,
+        answered: 0,
+    };
+    match read_lines(alloc, interpreter, state, reader, writer, &mut progress) {
+        Ok(()) => Ok(progress.answered),
+        Err(cause) => Err(ScriptFault {
+            cause,
+            lines: progress.answered,
+        }),
+    }
+}
