@@ -5,7 +5,7 @@
 
 systemd starts in a container: its files are this machine's, what it writes is in memory and gone at the end, and it has a
 network of its own. That needs root, overlayfs, systemd and systemd-nspawn (Debian's `systemd-container`), and curl. Where
-something is missing nothing is tried, and what it is is told. Takes two minutes.
+one of them is missing nothing is tried, and it says which. Takes a few minutes.
 """
 import contextlib
 import http.client
@@ -39,7 +39,13 @@ def missing():
     found = [] if os.getuid() == 0 else ["root"]
     found += [word for word in ("systemd-nspawn", "nsenter", "useradd", "runuser", "curl") if not shutil.which(word)]
     found += [] if Path("/lib/systemd/systemd").exists() else ["systemd"]
-    return found + ([] if "\toverlay\n" in Path("/proc/filesystems").read_text("ascii") else ["overlayfs"])
+    found += [] if "\toverlay\n" in Path("/proc/filesystems").read_text("ascii") else ["overlayfs"]
+    return found + ([] if control_groups() else ["control groups of the second version"])
+
+
+def control_groups():
+    """Where they are mounted."""
+    return [line.split()[1] for line in Path("/proc/mounts").read_text("ascii").splitlines() if line.split()[2] == "cgroup2"]
 
 
 @contextlib.contextmanager
@@ -64,8 +70,7 @@ def mounted(own):
 @contextlib.contextmanager
 def own_group():
     """A control group of its own, so that two containers don't meet in one."""
-    kept = next(line.split()[1] for line in Path("/proc/mounts").read_text("ascii").splitlines() if line.split()[2] == "cgroup2")
-    group = Path(kept) / ("unit_cases_%d" % os.getpid())
+    group = Path(control_groups()[0]) / ("unit_cases_%d" % os.getpid())
     group.mkdir()
     try:
         yield group
@@ -105,8 +110,8 @@ def entered(running):
 # ---- inside
 
 
-def ran(*words, **more):
-    return subprocess.run(words, capture_output=True, check=False, timeout=PATIENCE, **more)
+def ran(*words, limit=PATIENCE, **more):
+    return subprocess.run(words, capture_output=True, check=False, timeout=limit, **more)
 
 
 def well(*words, **more):
@@ -163,8 +168,7 @@ def page():
 
 def carried_out(block, folder):
     """What the commands print, and whether they go well, one after another."""
-    done = ran("sh", "-eu", cwd=folder, input=block.encode("ascii"))
-    print(done.stderr.decode("utf-8", "replace"), end="", file=sys.stderr)
+    done = ran("sh", "-eu", limit=4 * PATIENCE, cwd=folder, input=block.encode("ascii"))
     return done.stdout.decode("ascii"), done.returncode == 0
 
 
@@ -221,9 +225,11 @@ def ends():
     yield "wrong words aren't tried again", wrong and (shown("ExecMainStatus"), shown("NRestarts")) == ("2", "0")
     yield "its own words again", changed("") and well("systemctl", "restart", UNIT) and delivered(kept[-1][0]) == kept[-1][1]
     yield "a stop", well("systemctl", "stop", UNIT) and shown("ActiveState") == "inactive" and trials.faults(FILE) == []
-    yield "a script meanwhile", by_script(FILE, '{"at":1767225600,"do":"show","vehicle":"V1"}').startswith("vehicle V1 version 6 ")
-    with subprocess.Popen([*AS_OWNER, *RUN, str(FILE)], stdin=subprocess.PIPE, stdout=subprocess.PIPE) as other:
-        waits = well("systemctl", "start", UNIT) and until(lambda: int(shown("NRestarts")) > 1)
+    show = '{"at":1767225600,"do":"show","vehicle":"V1"}'
+    yield "a script meanwhile", by_script(FILE, show) == "vehicle V1 version %d P1=factory.bin\n" % len(kept)
+    with subprocess.Popen([*AS_OWNER, *RUN, str(FILE)], stdin=subprocess.PIPE, stdout=subprocess.PIPE, text=True, bufsize=1) as other:
+        print(show, file=other.stdin)
+        waits = other.stdout.readline() and well("systemctl", "start", UNIT) and until(lambda: int(shown("NRestarts")) > 1)
         other.stdin.close()
     yield "it waits for a program that has the file", waits and all(delivered(body) == reply for body, reply in kept)
 
@@ -244,7 +250,7 @@ def send(address):
     socket.socket(socket.AF_INET, socket.SOCK_DGRAM).sendto(b"x", (address, 9))
 every = mmap.PROT_READ | mmap.PROT_WRITE | mmap.PROT_EXEC
 tried = {"writes in " + name: lambda name=name: write(name + "/probe") for name in ["/var/lib/uptane", *OTHERS]}
-tried |= {"a socket of " + name: lambda name=name: socket.socket(getattr(socket, name)) for name in
+tried |= {"a socket of " + name: lambda name=name: socket.socket(getattr(socket, name), socket.SOCK_DGRAM) for name in
           ("AF_INET", "AF_INET6", "AF_UNIX", "AF_NETLINK")}
 tried |= {"sends to " + name: lambda name=name: send(name) for name in ("127.0.0.1", "192.0.2.1")}
 tried |= {"sees " + name: lambda name=name: os.stat(name) for name in ("/proc/1/status", "/proc/sys", "/tmp/other", "/home/other")}
