@@ -24,3 +24,4 @@ pub mod RepeatLaws
 pub mod ApartLaws
 pub mod SignedLaws
 pub mod RowLaws
+pub mod TwoSteps
