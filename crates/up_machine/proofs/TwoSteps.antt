@@ -1,10 +1,13 @@
 -- What both steps of a decision come to.
-use Rattle.std.proofs.Common.{◌≡◌, Bool, true, Option, Some, None, Result, Ok, Err, refl, sym, ◌∙◌}
+use Rattle.std.proofs.Common.{◌≡◌, ℕ, Bool, true, false, Option, Some, None, Result, Ok, Err, refl, sym, ◌∙◌, subst}
 use Rattle.std.specs.Prelude.{⊤, IfOk, IfSome, IsTrue, MatchBool}
+use Rattle.std.specs.FinMap as table
 use Rattle.std.specs.declared.alloc.AllocError.{AllocError}
 use Rattle.up_canon.specs.Refusals.{is_memory}
 use Rattle.up_canon.specs.declared.refusal.Refusal.{Refusal}
 use Rattle.up_sign.specs.Schemes.{Rules}
+use Rattle.up_plan.specs.Images.{ImageData}
+use Rattle.up_machine.specs.declared.answer.Answer.TheVariants.{Done}
 use Rattle.up_machine.specs.declared.rows.Founding.{Founding}
 use Rattle.up_machine.specs.declared.decision.Decision.{Decision}
 use Rattle.up_machine.specs.declared.decision.Decision.TheVariants.{Already, New}
