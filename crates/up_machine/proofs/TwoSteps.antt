@@ -16,7 +16,7 @@ use Rattle.up_machine.specs.Rows.{founding_row}
 use Rattle.up_machine.specs.RowsFit.{founding_fits}
 use Rattle.up_machine.specs.Sound.{IsSound}
 use Rattle.up_machine.specs.Deciding.{Outcome}
-use Rattle.up_machine.specs.Decisions.{IsDone, GivesRows, GivesDecision, HasRootRows, HasRegisterRows}
+use Rattle.up_machine.specs.Decisions.{GivesRows, GivesDecision, HasRootRows, HasRegisterRows}
 use Rattle.up_machine.specs.Due.{HasRoot, HasFounding, CanMakeRoot, CanMakeFiles, GivesOutright, GivesNewImage}
 use Rattle.up_machine.specs.Repositories.{stamped, decide_found, decide_rotate, decide_image, decide_new_image, decide_refresh}
 use Rattle.up_machine.specs.TwoSteps.{founded, rotated, registered, or_memory, in_two_steps, new_rows, unless_there, FoundedInTwoSteps, RotatedInTwoSteps, RegisteredInTwoSteps, RefreshedInTwoSteps}

@@ -106,8 +106,8 @@ pub fn rows_are_sound()
 /// state that its rule reads; the second makes the rows of just that, over all images. Both together answer the rows of the
 /// plain machine's next state, `Already`, or the refusal that is due.
 pub fn decided_in_two_steps()
-    ensures found { FoundedInTwoSteps }
-    ensures rotate { RotatedInTwoSteps }
+    ensures founding { FoundedInTwoSteps }
+    ensures rotation { RotatedInTwoSteps }
     ensures image { RegisteredInTwoSteps }
     ensures refresh { RefreshedInTwoSteps }
 {}
