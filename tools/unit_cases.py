@@ -253,7 +253,7 @@ tried = {"writes in " + name: lambda name=name: write(name + "/probe") for name 
 tried |= {"a socket of " + name: lambda name=name: socket.socket(getattr(socket, name), socket.SOCK_DGRAM) for name in
           ("AF_INET", "AF_INET6", "AF_UNIX", "AF_NETLINK")}
 tried |= {"sends to " + name: lambda name=name: send(name) for name in ("127.0.0.1", "192.0.2.1")}
-tried |= {"sees " + name: lambda name=name: os.stat(name) for name in ("/proc/1/status", "/proc/sys", "/tmp/other", "/home/other")}
+tried |= {"sees " + name: lambda name=name: os.stat(name) for name in ["/proc/1/status", "/proc/sys", *SEEN]}
 tried |= {"memory to write and to execute": lambda: mmap.mmap(-1, 4096, prot=every),
           "a file that runs as its owner": lambda: os.chmod("/var/lib/uptane/probe", 0o4700),
           "another priority": lambda: call(141, 0, 0, 19), "an owner of a file": lambda: call(92, b"/var/lib/uptane/probe", -1, -1),
@@ -269,6 +269,7 @@ with open("/var/lib/uptane/told", "w") as out:
 """
 OTHERS = ["%s/other" % name for name in ("/etc", "/usr/local", "/var/lib", "/var/log", "/srv", "/run", "/tmp", "/dev/shm", "/home")]
 OTHERS += ["/run/lock", "/dev/mqueue"]
+SEEN = [name for name in OTHERS if name.startswith(("/tmp", "/home"))]
 MAY = ["writes in /var/lib/uptane", "a socket of AF_INET", "sends to 127.0.0.1"]
 
 
@@ -283,7 +284,7 @@ def hardened():
         name.mkdir(exist_ok=True)
         name.chmod(0o1777)
     script = Path("/usr/local/lib/probe.py")
-    script.write_text(PROBE.replace("*OTHERS", "*%r" % OTHERS), "ascii")
+    script.write_text(PROBE.replace("*OTHERS", "*%r" % OTHERS).replace("*SEEN", "*%r" % SEEN), "ascii")
     words, told = ["/usr/bin/python3", str(script)], FOLDER / "told"
     made = well("ip", "address", "add", "192.0.2.1/32", "dev", "lo") and well(*AS_OWNER, *words)
     yield "without the unit its user may do all of it", made and told_of("may not", told) == []
