@@ -1,7 +1,7 @@
 //! A text written whole, with nothing tried twice.
 ghost use Rattle.std.specs.Prelude.{ℕ, List, OnOk, OnErr};
 ghost use Rattle.std.specs.Io.KnownBytes.{Appends};
-ghost use Rattle.up_lines.specs.Runs.{IsProperPrefix};
+ghost use Rattle.up_pieces.specs.Prefixes.{IsProperPrefix};
 
 use crate::sink::Sink;
 

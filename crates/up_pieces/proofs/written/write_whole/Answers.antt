@@ -1,7 +1,7 @@
 use Rattle.std.proofs.Common.{arith}
 use Rattle.std.proofs.lemmas.Grind.{common_steps}
-use Rattle.up_lines.proofs.Writes.{wrote_more, wrote_prefix}
-use Rattle.up_lines.proofs.written.write_whole.Goals as goal
+use Rattle.up_pieces.proofs.Writes.{wrote_more, wrote_prefix}
+use Rattle.up_pieces.proofs.written.write_whole.Goals as goal
 
 pub loop-at-preserved : goal.loop-at-preserved
 loop-at-preserved g c = record {

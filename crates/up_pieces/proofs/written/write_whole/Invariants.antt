@@ -1,6 +1,6 @@
 use Rattle.std.proofs.Common.{length, take, ◌-◌, ◌≤◌}
 use Rattle.std.specs.Io.KnownBytes.{Appends}
-use Rattle.up_lines.proofs.written.write_whole.Given as goal
+use Rattle.up_pieces.proofs.written.write_whole.Given as goal
 
 -- what stands before `at` was written, and the writer may be written
 abbrev pub invariant-loop-at : goal.invariant-loop-at
