@@ -4,8 +4,8 @@
     unit_cases.py PROGRAM
 
 systemd starts in a container: its files are this machine's, what it writes is in memory and gone at the end, and it has a
-network of its own. That needs root, overlayfs, systemd and systemd-nspawn (Debian's `systemd-container`), and curl. Where
-one of them is missing nothing is tried, and it says which. Takes a few minutes.
+network of its own. That needs root, overlayfs, systemd and systemd-nspawn (Debian's `systemd-container`), iproute2 and
+curl. Where one of them is missing nothing is tried, and it says which. Takes a few minutes.
 """
 import contextlib
 import http.client
@@ -13,6 +13,7 @@ import json
 import os
 import re
 import shutil
+import signal
 import subprocess
 import sys
 import time
@@ -37,7 +38,7 @@ PATH = "/usr/local/sbin:/usr/local/bin:/usr/sbin:/usr/bin:/sbin:/bin"
 def missing():
     """What the container needs and isn't there."""
     found = [] if os.getuid() == 0 else ["root"]
-    found += [word for word in ("systemd-nspawn", "nsenter", "useradd", "runuser", "curl") if not shutil.which(word)]
+    found += [word for word in ("systemd-nspawn", "nsenter", "useradd", "runuser", "ip", "curl") if not shutil.which(word)]
     found += [] if Path("/lib/systemd/systemd").exists() else ["systemd"]
     found += [] if "\toverlay\n" in Path("/proc/filesystems").read_text("ascii") else ["overlayfs"]
     return found + ([] if control_groups() else ["control groups of the second version"])
@@ -342,6 +343,8 @@ def main(program):
     if lacks:
         print("there is no %s, so no unit is started" % ", no ".join(lacks))
         return trials.judged("units", [])
+    # where it is told to end, the container ends first
+    signal.signal(signal.SIGTERM, lambda *_: sys.exit(1))
     folders = {trials.TOP, Path(program).resolve().parent}
     with trials.folder() as own, mounted(own) as root, own_group() as group, booted(root, group, folders) as words:
         tool = [sys.executable, str(Path(__file__).resolve()), str(Path(program).resolve()), "inside"]
