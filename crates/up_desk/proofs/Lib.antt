@@ -8,6 +8,7 @@ pub mod Loops
 pub mod Marks
 pub mod Serving
 pub mod Outlasting
+pub mod Cataloged
 pub mod Calls
 pub mod Runs
 pub mod Commits

@@ -34,7 +34,7 @@ use Rattle.up_rows.proofs.Tables.{changed, entries_changed}
 use Rattle.up_rows.specs.StateRows.{StateRows, rows_of_state}
 use Rattle.up_rows.specs.Lookups.{stands_among, owner_among, last_owner, owner_found, installed_among}
 use Rattle.up_rows.specs.Laws.{FoundedIsFound, VehiclesAreFound, VersionsAreTold, EcusAreTold, InstalledIsTold}
-use Rattle.up_store.specs.Found.{vehicle_found, ecus_found, campaigns_found}
+use Rattle.up_store.specs.Found.{vehicle_found, ecus_found, campaigns_found, values_where}
 use Rattle.up_store.proofs.ValuesWhere.{from_T}
 
 -- ---- vehicles
@@ -234,3 +234,21 @@ items_found rows vehicle =
     let sorted : T (is_sorted by_name (filter (λ e. test e.1) es)) = subst T (sym (sorted_filtered (λ e. test e.1) es (from_T _ (table.entries_sorted rows.campaigns)))) tt in
     ap (λ (found : List (Name × CampaignData)). flat_map (λ (c : CampaignData). c.items) (filter test (map (λ e. e.1) found))) (table.entries-from_sorted by_name (filter (λ e. test e.1) es) sorted)
     ∙ ap (flat_map (λ (c : CampaignData). c.items)) (filtered_again test es)
+
+-- ---- the running campaigns
+
+filtered_values : {X : Type 0} (p : X → Bool) (es : List (Name × X)) → map (λ e. e.1) (filter (λ e. p e.1) es) ≡ filter p (map (λ e. e.1) es)
+filtered_values p [] = refl
+filtered_values p (e ∷ es) = by_test (p e.1)
+  where
+    by_test : (b : Bool) → map (λ e. e.1) (cond b (e ∷ filter (λ e. p e.1) es) (filter (λ e. p e.1) es)) ≡ cond b (e.1 ∷ filter p (map (λ e. e.1) es)) (filter p (map (λ e. e.1) es))
+    by_test true = ap (λ xs. e.1 ∷ xs) (filtered_values p es)
+    by_test false = filtered_values p es
+
+pub running_sorted : (campaigns : Table CampaignData) → table.values (values_where (λ (c : CampaignData). c.running) campaigns) ≡ filter (λ (c : CampaignData). c.running) (table.values campaigns)
+running_sorted campaigns =
+    let test = λ (c : CampaignData). c.running in
+    let es = table.entries campaigns in
+    let sorted : T (is_sorted by_name (filter (λ e. test e.1) es)) = subst T (sym (sorted_filtered (λ e. test e.1) es (from_T _ (table.entries_sorted campaigns)))) tt in
+    ap (λ (found : List (Name × CampaignData)). map (λ e. e.1) found) (table.entries-from_sorted by_name (filter (λ e. test e.1) es) sorted)
+    ∙ filtered_values test es
