@@ -12,10 +12,12 @@ use Rattle.up_sign.specs.Envelopes.{identifier}
 use Rattle.up_sign.specs.Schemes.{Rules}
 use Rattle.up_plan.specs.Campaigns.{CampaignData}
 use Rattle.up_plan.specs.Images.{ImageData}
+use Rattle.up_metadata.specs.declared.keys.RoleSecrets.{RoleSecrets}
+use Rattle.up_metadata.specs.declared.keys.RepoKeys.{RepoKeys}
+use Rattle.up_metadata.specs.declared.keys.KeySet.{KeySet}
+use Rattle.up_metadata.specs.Keys.{role_fits, keys_fit, threshold_fits, secret_fits, repository_fits, key_set_fits}
+use Rattle.up_metadata.specs.Files.{Root}
 use Rattle.up_machine.specs.declared.answer.Answer.TheVariants.{Done, Reply as Replied}
-use Rattle.up_machine.specs.declared.keys.RoleSecrets.{RoleSecrets}
-use Rattle.up_machine.specs.declared.keys.RepoKeys.{RepoKeys}
-use Rattle.up_machine.specs.declared.keys.KeySet.{KeySet}
 use Rattle.up_machine.specs.declared.decision.AcceptedRows.{AcceptedRows}
 use Rattle.up_machine.specs.declared.decision.RegisterRows.{RegisterRows}
 use Rattle.up_machine.specs.declared.decision.RootRows.{RootRows}
@@ -23,9 +25,8 @@ use Rattle.up_machine.specs.declared.rows.EcuRow.{EcuRow}
 use Rattle.up_machine.specs.declared.rows.Founding.{Founding}
 use Rattle.up_machine.specs.declared.rows.VehicleRows.{VehicleRows}
 use Rattle.up_machine.specs.declared.vehicle.Replacement.{Replacement}
-use Rattle.up_machine.specs.Keys.{role_fits, keys_fit, threshold_fits, secret_fits, repository_fits, key_set_fits}
 use Rattle.up_machine.specs.Vehicles.{NewVehicleData}
-use Rattle.up_machine.specs.State.{Entry, Root, Vehicle, State, nth, root_at, added}
+use Rattle.up_machine.specs.State.{Entry, Vehicle, State, nth, root_at, added}
 use Rattle.up_machine.specs.Sound.{IsSound}
 use Rattle.up_machine.specs.Deciding.{Outcome, done}
 use Rattle.up_machine.specs.Decisions.{IsDone, HasRootRows, HasRegisterRows, HasAcceptedRows, GivesReplacement}
@@ -33,8 +34,8 @@ use Rattle.up_machine.specs.Deliveries.{with_entry}
 use Rattle.up_machine.specs.Inventory.{with_campaign, decide_open, with_vehicle, decide_vehicle, with_replacement, decide_replace}
 use Rattle.up_machine.specs.Repositories.{stamped, with_root, with_image, decide_found, decide_rotate, decide_image, decide_refresh}
 use Rattle.up_machine.specs.Rows.{rows_of, reply_kept}
+use Rattle.up_metadata.proofs.Lists.{and_left, and_right}
 use Rattle.up_machine.proofs.Decided.{found_ok, rotate_ok}
-use Rattle.up_machine.proofs.Lists.{and_left, and_right}
 use Rattle.up_machine.proofs.ReplacedRows.{rows_have}
 use Rattle.up_machine.proofs.SoundRows.{row_names}
 use Rattle.up_machine.proofs.Places.{nth_last}

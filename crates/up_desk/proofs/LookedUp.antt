@@ -19,9 +19,9 @@ use Rattle.up_plan.specs.Campaigns.{CampaignData}
 use Rattle.up_plan.specs.Images.{ImageData}
 use Rattle.up_plan.specs.Planning.{items_for, reaches}
 use Rattle.up_machine.specs.Decisions.{AreImagesOf, files_named}
-use Rattle.up_machine.proofs.Lists.{each_weaker}
 use Rattle.up_machine.specs.State.{State}
 use Rattle.up_machine.specs.Sound.{IsSound}
+use Rattle.up_metadata.proofs.Lists.{each_weaker}
 use Rattle.up_machine.proofs.Tables.{get_new, get_same, get_after-insert, one_name}
 use Rattle.up_desk.specs.Gathered.{IsPart, with_image_found, with_found, gathered, item_files, report_files}
 

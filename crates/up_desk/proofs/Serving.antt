@@ -16,8 +16,7 @@ use Rattle.up_machine.specs.declared.command.Command.TheVariants.{Found, Rotate,
 use Rattle.up_machine.specs.declared.vehicle.Replacement.{Replacement}
 use Rattle.up_machine.specs.declared.answer.Answer.{Answer}
 use Rattle.up_machine.specs.declared.answer.Answer.TheVariants.{Reply as Replied, Refused}
-use Rattle.up_machine.specs.Keys.{public_fits}
-use Rattle.up_machine.specs.Vehicles.{NewVehicleData}
+use Rattle.up_machine.specs.Vehicles.{NewVehicleData, public_fits}
 use Rattle.up_machine.specs.Commands.{is_command}
 use Rattle.sqlite.specs.Tree.{Trees}
 use Rattle.sqlite_trees.specs.View.{doubt}

@@ -16,15 +16,17 @@ use Rattle.std.proofs.lemmas.Cmp.{nat_list_cmp_total}
 use Rattle.std.specs.Cmp.Lexicographic.{slice_cmp}
 use Rattle.up_canon.specs.Names.{Name}
 use Rattle.up_sign.specs.Schemes.{Rules}
+use Rattle.up_metadata.specs.Files.{Root}
 use Rattle.up_machine.specs.declared.rows.EcuRow.{EcuRow}
 use Rattle.up_machine.specs.declared.rows.VehicleRow.{VehicleRow}
 use Rattle.up_machine.specs.declared.rows.VehicleRows.{VehicleRows}
 use Rattle.up_machine.specs.declared.rows.Founding.{Founding}
 use Rattle.up_machine.specs.Files.{File, file, files}
-use Rattle.up_machine.specs.State.{Root, State, Vehicle}
+use Rattle.up_machine.specs.State.{State, Vehicle}
 use Rattle.up_machine.specs.Rows.{founding_row, vehicle_rows, rows_of}
 use Rattle.up_machine.specs.Reads.{version_of, ecus_of, installed}
-use Rattle.up_machine.proofs.Lists.{and_left, and_right, none_passes}
+use Rattle.up_metadata.proofs.Lists.{and_left, and_right}
+use Rattle.up_machine.proofs.Lists.{none_passes}
 use Rattle.up_machine.proofs.Tables.{one_name}
 use Rattle.up_plan.specs.Campaigns.{CampaignData}
 use Rattle.up_plan.specs.Planning.{items_for, reaches}

@@ -17,12 +17,12 @@ use Rattle.up_manifest.specs.Manifests.{largest_body, incoming_in}
 use Rattle.up_plan.specs.Campaigns.{CampaignData}
 use Rattle.up_plan.specs.Images.{ImageData}
 use Rattle.up_plan.specs.Planning.{items_for}
+use Rattle.up_machine.specs.Vehicles.{public_fits}
 use Rattle.up_machine.specs.declared.command.Command.{Command}
 use Rattle.up_machine.specs.declared.command.Command.TheVariants.{AddVehicle, ReplaceEcu, Deliver}
 use Rattle.up_machine.specs.declared.answer.Answer.{Answer}
 use Rattle.up_machine.specs.declared.answer.Answer.TheVariants.{Done, Already, Reply as Replied, File, Refused}
 use Rattle.up_machine.specs.declared.answer.Reply.{Reply}
-use Rattle.up_machine.specs.Keys.{public_fits}
 use Rattle.up_machine.specs.State.{State}
 use Rattle.up_machine.specs.Deciding.{Outcome, check_moment}
 use Rattle.up_machine.specs.Decisions.{decide_incoming, files_named, AreImagesOf}

@@ -6,7 +6,7 @@ ghost use Rattle.sqlite.specs.State.{HasCleanDisk};
 ghost use Rattle.up_canon.specs.declared.refusal.Refusal.TheVariants.{BadShape};
 ghost use Rattle.up_canon.specs.Moments.{last_command_moment};
 ghost use Rattle.up_sign.specs.Schemes.{Rules};
-ghost use Rattle.up_machine.specs.Keys.{public_fits};
+ghost use Rattle.up_machine.specs.Vehicles.{public_fits};
 ghost use Rattle.up_machine.specs.Inventory.{decide_vehicle as decide_vehicle_in, with_vehicle};
 ghost use Rattle.up_machine.specs.Rows.{founding_row, rows_of, vehicle_rows};
 ghost use Rattle.up_machine.specs.Decisions.{GivesDecision};

@@ -4,7 +4,7 @@ ghost use Rattle.sqlite.specs.Held.{state};
 ghost use Rattle.sqlite.specs.State.{HasCleanDisk};
 ghost use Rattle.up_canon.specs.declared.refusal.Refusal.TheVariants.{BadShape};
 ghost use Rattle.up_canon.specs.Moments.{last_command_moment};
-ghost use Rattle.up_machine.specs.Keys.{public_fits as public_fits_in};
+ghost use Rattle.up_machine.specs.Vehicles.{public_fits as public_fits_in};
 ghost use Rattle.up_machine.specs.Inventory.{decide_replace as decide_replace_in};
 ghost use Rattle.up_machine.specs.Rows.{founding_row, vehicle_rows};
 ghost use Rattle.up_machine.specs.Decisions.{GivesReplacement};

@@ -12,9 +12,9 @@ use crate::progress::Progress;
 use crate::respond::Respond;
 use crate::served::Served;
 use std::alloc::Global;
-use up_lines::sink::Sink;
-use up_lines::source::Source;
-use up_lines::{read_piece, write_whole};
+use up_pieces::sink::Sink;
+use up_pieces::source::Source;
+use up_pieces::{read_piece, write_whole};
 
 /// The most bytes that are read: so many requests of a head and a body of the greatest sizes.
 const MOST_BYTES: u64 = 27_852_800;

@@ -1,4 +1,3 @@
-pub mod Writes
 pub mod Cuts
 pub mod RunLaws
 pub mod Steps

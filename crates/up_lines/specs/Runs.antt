@@ -1,6 +1,7 @@
 -- What a run over items leaves, whatever the items are: answers, states, and what was written. Lines are such items, and requests.
-use Rattle.std.specs.Prelude.{◌≡◌, ◌≢◌, ℕ, ◌<◌, ◌≤◌, Bool, true, Option, Some, None, List, [], ◌∷◌, ◌++◌, length, flat_map, Result, MatchResult}
+use Rattle.std.specs.Prelude.{◌≡◌, ◌≢◌, ℕ, ◌≤◌, Bool, true, Option, Some, None, List, [], ◌∷◌, ◌++◌, length, flat_map, Result, MatchResult}
 use Rattle.std.specs.Io.KnownBytes.{Appends, Consumes, IsAtEnd}
+use Rattle.up_pieces.specs.Prefixes.{IsProperPrefix}
 use Rattle.up_lines.specs.declared.fault.ScriptCause.{ScriptCause}
 use Rattle.up_lines.specs.declared.fault.ScriptCause.TheVariants.{Memory, Read, Write, TooLong}
 
@@ -24,10 +25,6 @@ written print answers = flat_map print answers
 abbrev pub listed : {I : Type 0} → Option I → List I
 listed None = []
 listed (Some item) = item ∷ []
-
--- a prefix of a text that isn't all of it
-abbrev pub IsProperPrefix : List ℕ → List ℕ → Type 0
-IsProperPrefix prefix text = (rest : List ℕ) × (text ≡ prefix ++ rest) × (0 < length rest)
 
 -- what is written of an answer that isn't written whole: nothing where memory was refused, a part where the writer failed
 abbrev pub IsCut : ScriptCause → List ℕ → List ℕ → Type 0

@@ -6,9 +6,9 @@ ghost use Rattle.up_lines.specs.Progress.{Unanswered};
 
 use crate::fault::ScriptCause;
 use crate::interpret::Interpret;
-use crate::sink::Sink;
-use crate::written::write_whole;
 use std::alloc::Global;
+use up_pieces::sink::Sink;
+use up_pieces::write_whole;
 
 /// Answers a line, and writes the answer and a newline.
 pub(crate) fn answer_line<S, I: Interpret<S>, W: Sink>(

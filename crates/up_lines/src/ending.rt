@@ -7,8 +7,8 @@ use crate::answered::answer_line;
 use crate::fault::ScriptCause;
 use crate::interpret::Interpret;
 use crate::progress::Progress;
-use crate::sink::Sink;
 use std::alloc::Global;
+use up_pieces::sink::Sink;
 
 /// Counts the line that is begun, and answers it if it has any byte.
 pub(crate) fn end_line<S, I: Interpret<S>, W: Sink>(

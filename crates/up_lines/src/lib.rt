@@ -9,14 +9,10 @@ pub mod limits;
 mod lines;
 mod next_byte;
 mod progress;
-pub mod sink;
-pub mod source;
-mod written;
 
 ghost use Rattle.up_lines.specs.Lines.{WholeLinesFirst};
 
-pub use lines::{read_piece, run};
-pub use written::{NotWritten, write_whole};
+pub use lines::run;
 
 /// The lines that are whole are answered first and as they are, whatever bytes follow.
 pub fn whole_lines_first()

@@ -1,6 +1,5 @@
 //! Lines cut from a reader, and their answers written to a writer.
-ghost use Rattle.std.specs.Prelude.{◌≡◌, ◌<◌, ◌≤◌, ℕ, List, Option, [], IfOk, IfErr, IfSome, OnErr, OnOk, false, true, length, take};
-ghost use Rattle.std.specs.Io.KnownBytes.{Consumes, IsAtEnd, Keeps};
+ghost use Rattle.std.specs.Prelude.{◌≡◌, ℕ, List, Option, [], IfOk, IfErr, IfSome, OnOk, false, true};
 ghost use Rattle.up_lines.specs.Lines.{lines_of, fits};
 ghost use Rattle.up_lines.specs.LineRuns.{RanLines, FinishedLines, AnswersFirst};
 ghost use Rattle.up_lines.specs.Progress.{Takes, Stops, Completes, IsFresh, told};
@@ -11,10 +10,10 @@ use crate::interpret::Interpret;
 use crate::limits::{MOST_BYTES, PIECE_BYTES};
 use crate::next_byte::take_byte;
 use crate::progress::Progress;
-use crate::sink::Sink;
-use crate::source::Source;
 use std::alloc::Global;
-use std::io;
+use up_pieces::read_piece;
+use up_pieces::sink::Sink;
+use up_pieces::source::Source;
 
 /// Takes the bytes of a piece.
 fn take_piece<S, I: Interpret<S>, W: Sink>(
@@ -37,24 +36,6 @@ fn take_piece<S, I: Interpret<S>, W: Sink>(
         take_byte(alloc, interpreter, state, writer, progress, *byte)?;
     }
     Ok(())
-}
-
-/// Reads a piece of at most so many bytes to the buffer's front, and tells how many they are: none only at the reader's end,
-/// or where there is room for none. A fault takes nothing from the reader. Only where some came may the reader be read again.
-pub fn read_piece<R: Source>(reader: &mut R, buffer: &mut [u8], most: u64) -> io::Result<usize>
-    requires { R.can_read reader.old }
-    ensures count { IfOk result (λ n. (n ≤ length buffer.new) × (n ≤ most)) }
-    ensures bytes { IfOk result (λ n. Consumes (R.remaining reader.old) (R.remaining reader.new) (take n buffer.new)) }
-    ensures end { IfOk result (λ n. n ≡ 0 → 0 < most → 0 < length buffer.old → IsAtEnd (R.remaining reader.new)) }
-    ensures err { OnErr result (Keeps (R.remaining reader.old) (R.remaining reader.new)) }
-    ensures goes_on { IfOk result (λ n. 0 < n → R.can_read reader.new) }
-{
-    let room = if most < buffer.len() as u64 {
-        most as usize
-    } else {
-        buffer.len()
-    };
-    reader.read_some(&mut buffer[..room])
 }
 
 /// Ends the line that the input's end ends, if one is begun.

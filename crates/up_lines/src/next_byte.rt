@@ -7,8 +7,8 @@ use crate::fault::ScriptCause;
 use crate::interpret::Interpret;
 use crate::limits::{MOST_LINE_BYTES, MOST_LINES};
 use crate::progress::Progress;
-use crate::sink::Sink;
 use std::alloc::Global;
+use up_pieces::sink::Sink;
 
 /// Takes the next byte.
 pub(crate) fn take_byte<S, I: Interpret<S>, W: Sink>(

@@ -3,8 +3,8 @@ use crate::lines::Bracket;
 use std::io;
 use up_lines::fault::{ScriptCause as Cause, ScriptFault};
 use up_lines::run;
-use up_lines::sink::Sink;
-use up_lines::source::Source;
+use up_pieces::sink::Sink;
+use up_pieces::source::Source;
 
 /// Gives a byte at a time, and fails at one call. What asks it again afterwards isn't proved.
 #[derive(Drop)]

@@ -16,6 +16,7 @@ use Rattle.up_plan.specs.declared.assigned.Plan.{Plan}
 use Rattle.up_plan.specs.Campaigns.{CampaignData}
 use Rattle.up_plan.specs.Images.{ImageData}
 use Rattle.up_plan.specs.Planning.{items_for, resulting, plan_from, plan_of}
+use Rattle.up_metadata.specs.Files.{Root, role_texts}
 use Rattle.up_machine.specs.declared.rows.EcuRow.{EcuRow}
 use Rattle.up_machine.specs.declared.rows.Founding.{Founding}
 use Rattle.up_machine.specs.declared.rows.Kept.{Kept}
@@ -23,8 +24,7 @@ use Rattle.up_machine.specs.declared.rows.VehicleRow.{VehicleRow}
 use Rattle.up_machine.specs.declared.rows.VehicleRows.{VehicleRows}
 use Rattle.up_machine.specs.declared.decision.AcceptedRows.{AcceptedRows}
 use Rattle.up_machine.specs.declared.vehicle.NewEcu.{NewEcu}
-use Rattle.up_machine.specs.State.{Entry, Vehicle, Root, State, root_at, version, last_counter, newest, report_of, last_report}
-use Rattle.up_machine.specs.Files.{role_texts}
+use Rattle.up_machine.specs.State.{Entry, Vehicle, State, root_at, version, last_counter, newest, report_of, last_report}
 use Rattle.up_machine.specs.Deliveries.{Received, fitted, plan_in, entry_of}
 use Rattle.up_machine.specs.Replies.{reply_making, reply_json, reply_text}
 use Rattle.up_machine.specs.Rows.{founding_row, ecu_row, vehicle_row, rows_of, kept_row}

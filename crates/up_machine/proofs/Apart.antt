@@ -19,12 +19,12 @@ use Rattle.up_plan.specs.declared.campaign.Reach.{Reach}
 use Rattle.up_plan.specs.declared.campaign.Reach.TheVariants.{All, Named}
 use Rattle.up_plan.specs.Campaigns.{CampaignData}
 use Rattle.up_plan.specs.Images.{ImageData}
-use Rattle.up_machine.specs.declared.keys.KeySet.{KeySet}
+use Rattle.up_metadata.specs.declared.keys.KeySet.{KeySet}
+use Rattle.up_metadata.specs.Keys.{check_keys}
 use Rattle.up_machine.specs.declared.vehicle.Replacement.{Replacement}
 use Rattle.up_machine.specs.declared.command.Command.{Command}
 use Rattle.up_machine.specs.declared.command.Command.TheVariants.{Found, Rotate, AddImage, Refresh, AddVehicle, ReplaceEcu, OpenCampaign, CloseCampaign, Deliver, Fetch}
 use Rattle.up_machine.specs.declared.answer.Answer.TheVariants.{Refused}
-use Rattle.up_machine.specs.Keys.{check_keys}
 use Rattle.up_machine.specs.Vehicles.{NewVehicleData, has_ecu, ecu_names}
 use Rattle.up_machine.specs.State.{Vehicle, State, added, is_taken_in, is_taken}
 use Rattle.up_machine.specs.Files.{files, file}

@@ -5,8 +5,9 @@ use Rattle.std.proofs.lemmas.Bool.{ne_eqb}
 use Rattle.up_canon.specs.Steps.{refuse_if}
 use Rattle.up_canon.specs.declared.refusal.Refusal.{Refusal}
 use Rattle.up_canon.specs.declared.refusal.Refusal.TheVariants.{NotFounded}
+use Rattle.up_metadata.specs.Files.{Root}
 use Rattle.up_machine.specs.declared.rows.Founding.{Founding}
-use Rattle.up_machine.specs.State.{Root, State, nth}
+use Rattle.up_machine.specs.State.{State, nth}
 use Rattle.up_machine.specs.Rows.{founding_row}
 use Rattle.up_machine.specs.Deciding.{check_founded}
 

@@ -8,15 +8,16 @@ use Rattle.up_sign.specs.Schemes.{Rules}
 use Rattle.up_roles.specs.declared.repository.Repository.TheVariants.{Director, Image}
 use Rattle.up_roles.specs.declared.targets.Target.{Target}
 use Rattle.up_plan.specs.Images.{ImageData}
-use Rattle.up_machine.specs.declared.hashed_keys.HashedKeySet.{HashedKeySet}
-use Rattle.up_machine.specs.declared.keys.KeySet.{KeySet}
+use Rattle.up_metadata.specs.declared.hashed_keys.HashedKeySet.{HashedKeySet}
+use Rattle.up_metadata.specs.declared.keys.KeySet.{KeySet}
+use Rattle.up_metadata.specs.declared.role_files.RoleTexts.{RoleTexts}
+use Rattle.up_metadata.specs.Files.{Root, Making, root_text, role_texts}
 use Rattle.up_machine.specs.declared.rows.Founding.{Founding}
 use Rattle.up_machine.specs.declared.decision.NextRoot.{NextRoot}
 use Rattle.up_machine.specs.declared.decision.RegisterRows.{RegisterRows}
 use Rattle.up_machine.specs.declared.decision.RootRows.{RootRows}
-use Rattle.up_machine.specs.declared.decision.RoleTexts.{RoleTexts}
-use Rattle.up_machine.specs.State.{Root, State, nth, root_at}
-use Rattle.up_machine.specs.Files.{Making, root_text, role_texts, image_making, target_of}
+use Rattle.up_machine.specs.State.{State, nth, root_at}
+use Rattle.up_machine.specs.Files.{image_making, target_of}
 use Rattle.up_machine.specs.Rows.{founding_row}
 use Rattle.up_machine.specs.Repositories.{stamped, with_root}
 use Rattle.up_machine.specs.Decisions.{HasRootRows, HasRegisterRows}

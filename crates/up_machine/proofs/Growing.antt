@@ -8,12 +8,13 @@ use Rattle.up_canon.specs.Names.{Name, Table}
 use Rattle.up_canon.specs.declared.refusal.Refusal.{Refusal}
 use Rattle.up_sign.specs.Schemes.{Rules}
 use Rattle.up_plan.specs.Images.{ImageData}
+use Rattle.up_metadata.specs.Files.{Root}
 use Rattle.up_machine.specs.declared.command.Command.{Command}
 use Rattle.up_machine.specs.declared.command.Command.TheVariants.{Found, Rotate, AddImage, Refresh, AddVehicle, ReplaceEcu, OpenCampaign, CloseCampaign, Deliver, Fetch}
 use Rattle.up_machine.specs.Vehicles.{NewVehicleData, has_ecu, is_among, in_place_of}
 use Rattle.up_machine.specs.declared.vehicle.NewEcu.{NewEcu}
 use Rattle.up_machine.specs.declared.vehicle.Replacement.{Replacement}
-use Rattle.up_machine.specs.State.{Entry, Vehicle, Root, State, is_taken_in}
+use Rattle.up_machine.specs.State.{Entry, Vehicle, State, is_taken_in}
 use Rattle.up_machine.specs.Deciding.{Outcome, already}
 use Rattle.up_machine.specs.Inventory.{with_vehicle, with_replaced, with_replacement}
 use Rattle.up_machine.specs.Deliveries.{with_entry}

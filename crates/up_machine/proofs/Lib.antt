@@ -27,9 +27,6 @@ pub mod Commuting
 pub mod Installing
 pub mod Signing
 pub mod Serving
-pub mod Makings
-pub mod RootMakings
-pub mod HashedIds
 pub mod NewFiles
 pub mod FoundingRows
 pub mod Registers

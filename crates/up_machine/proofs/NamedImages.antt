@@ -32,7 +32,7 @@ use Rattle.up_machine.specs.Files.{target_of}
 use Rattle.up_machine.specs.State.{report_of}
 use Rattle.up_machine.specs.ManifestRows.{fitted_with, fitted_in, reported_row, accepted_row, reply_of, kept_of, plan_by_rows, accepted_rows, target_for}
 use Rattle.up_machine.specs.Decisions.{files_named, AreImagesOf}
-use Rattle.up_machine.proofs.Lists.{and_left, and_right, each_weaker, all_weaker}
+use Rattle.up_metadata.proofs.Lists.{and_left, and_right, each_weaker, all_weaker}
 use Rattle.up_machine.proofs.Planned.{plan_passes}
 use Rattle.up_machine.proofs.Values.{each_found}
 

@@ -12,14 +12,15 @@ use Rattle.up_canon.proofs.Printable.{both}
 use Rattle.up_roles.specs.Targets.{ecus_of}
 use Rattle.up_plan.specs.Images.{ImageData}
 use Rattle.up_roles.specs.Payload.{version_fits}
-use Rattle.up_machine.specs.declared.keys.KeySet.{KeySet}
+use Rattle.up_metadata.specs.declared.keys.KeySet.{KeySet}
+use Rattle.up_metadata.specs.Keys.{repository_fits, key_set_fits, can_sign, roles_can_sign, all_can_sign}
+use Rattle.up_metadata.specs.Files.{keys_of}
 use Rattle.up_machine.specs.declared.rows.Founding.{Founding}
-use Rattle.up_machine.specs.Keys.{repository_fits, key_set_fits}
-use Rattle.up_machine.specs.RowsFit.{can_sign, roles_can_sign, all_can_sign, founding_fits}
+use Rattle.up_machine.specs.RowsFit.{founding_fits}
 use Rattle.up_machine.specs.Due.{CanMakeFiles}
-use Rattle.up_machine.specs.Files.{keys_of, target_of}
-use Rattle.up_machine.proofs.Lists.{and_left, and_right}
-use Rattle.up_machine.proofs.Makings.{roles_sign, fitting_sign}
+use Rattle.up_machine.specs.Files.{target_of}
+use Rattle.up_metadata.proofs.Lists.{and_left, and_right}
+use Rattle.up_metadata.proofs.RoleFiles.{roles_sign, fitting_sign}
 use denote.Ref.{Bor}
 
 pub both_fit : (k : Rules) (keys : KeySet) → IsTrue (key_set_fits k keys) → IsTrue (repository_fits k keys.director) × IsTrue (repository_fits k keys.image)

@@ -16,7 +16,7 @@ use Rattle.up_machine.specs.State.{State}
 use Rattle.up_machine.specs.Deciding.{Outcome, done}
 use Rattle.up_machine.specs.Inventory.{reach_is_known, has_its_image, has_its_hardware, with_campaign, decide_new_campaign}
 use Rattle.up_machine.specs.Decisions.{Knows, named_in, finds_image, finds_hardware, check_campaign}
-use Rattle.up_machine.proofs.Lists.{each_weaker}
+use Rattle.up_metadata.proofs.Lists.{each_weaker}
 
 all_marked : {A : Type 0} (p : A → Bool) (xs : List A) → list_all (λ b. b) (map p xs) ≡ list_all p xs
 all_marked p [] = refl

@@ -11,7 +11,7 @@ use Rattle.up_plan.specs.declared.campaign.Item.{Item}
 use Rattle.up_plan.specs.Campaigns.{CampaignData}
 use Rattle.up_plan.specs.Images.{ImageData}
 use Rattle.up_plan.specs.Planning.{is_above, is_offered, offered, greatest, level, wanted, Resulting, with_wanted, resulting, unmet, updates, plan_with, plan_of, items_for}
-use Rattle.up_machine.proofs.Lists.{and_left, and_right, all_of_filter}
+use Rattle.up_metadata.proofs.Lists.{and_left, and_right, all_of_filter}
 
 -- the best of a list passes what all of the list pass
 best_passes : {A : Type 0} (beats : A → A → Bool) (p : A → Bool) (a : A) (xs : List A) → p a ≡ true → list_all p xs ≡ true → p (best_of beats a xs) ≡ true

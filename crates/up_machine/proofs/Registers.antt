@@ -13,7 +13,7 @@ use Rattle.up_canon.specs.Names.{Name, Table}
 use Rattle.up_canon.proofs.Printable.{both}
 use Rattle.up_plan.specs.Images.{ImageData}
 use Rattle.up_machine.specs.Registers.{place_among}
-use Rattle.up_machine.proofs.Lists.{and_left, and_right, each_weaker}
+use Rattle.up_metadata.proofs.Lists.{and_left, and_right, each_weaker}
 use Rattle.up_machine.proofs.Values.{each_found}
 
 abbrev R : Name → Name → Ordering

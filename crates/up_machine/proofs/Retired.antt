@@ -11,8 +11,8 @@ use Rattle.up_machine.specs.State.{Vehicle, is_recorded}
 use Rattle.up_machine.specs.Machine.{run}
 use Rattle.up_machine.specs.Laws.{RetiredStayRetired, RetiredAreNoEcus, RetiredAreNeverRecorded}
 use Rattle.up_canon.proofs.Steps.{one_value}
+use Rattle.up_metadata.proofs.Lists.{and_left, and_right}
 use Rattle.up_machine.proofs.Growing.{or_left, or_right, grow_on}
-use Rattle.up_machine.proofs.Lists.{and_left, and_right}
 use Rattle.up_machine.proofs.Soundness.{stay_on}
 use Rattle.up_machine.proofs.Values.{any_found, found_any}
 

@@ -5,8 +5,9 @@ use Rattle.std.specs.List.{AllByRecursion, enumerate_from}
 use Rattle.up_sign.specs.Schemes.{Rules}
 use Rattle.up_roles.specs.declared.repository.Repository.{Repository}
 use Rattle.up_roles.specs.declared.repository.Repository.TheVariants.{Director, Image}
-use Rattle.up_machine.specs.State.{Root, State, root_at}
-use Rattle.up_machine.specs.Files.{File, numbered_root_name, root_text_at, numbered_roots, latest_root, role_texts, image_making, texts_in, image_texts, files}
+use Rattle.up_metadata.specs.Files.{Root, role_texts}
+use Rattle.up_machine.specs.State.{State, root_at}
+use Rattle.up_machine.specs.Files.{File, numbered_root_name, root_text_at, numbered_roots, latest_root, image_making, texts_in, image_texts, files}
 use Rattle.up_machine.specs.SignedLaws.{IsRootText, IsImageText, IsServedText, ServedFilesAreKnown}
 use Rattle.up_canon.proofs.Lists.{each_of_both}
 use Rattle.up_canon.proofs.Steps.{map_some}

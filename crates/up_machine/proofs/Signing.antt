@@ -1,125 +1,22 @@
--- Every file is signed for its role.
-use Rattle.std.proofs.Common.{◌≡◌, ℕ, zero, suc, ◌+◌, ◌-◌, ◌≤◌, List, [], ◌∷◌, ◌++◌, Bool, true, false, cond, not, Option, Some, None, refl, sym, ap, ◌∙◌, arith}
-use Rattle.std.specs.Prelude.{◌&&◌, ◌||◌, length, map, filter, nat_le, bytes_eq, fold, option_map, option_to_list, unwrap_or, is_none, codes, slice_get}
-use Rattle.std.specs.List.{AllByRecursion, list_all, list_any}
-use Rattle.std.specs.Cmp.Lexicographic.{bytes_decides}
-use Rattle.std.proofs.lemmas.Bool.{ne_eqb, or_left, or_right}
-use Rattle.std.proofs.lemmas.List.{length-map}
-use Rattle.serde_json.specs.Data.{Data}
-use Rattle.up_canon.specs.Canon.{text}
-use Rattle.up_canon.specs.Names.{Name, is_from_to}
-use Rattle.up_sign.specs.Schemes.{Rules, IsScheme}
-use Rattle.up_sign.specs.Envelopes.{is_by, is_satisfied, signature_of, sealed}
-use Rattle.up_sign.specs.Formats.{envelope_text}
-use Rattle.up_sign.specs.Hmac.{key_id}
-use Rattle.up_sign.proofs.Accepted.{bytes_eq-refl}
+-- Every file of a sound state is signed for its role.
+use Rattle.std.proofs.Common.{◌≡◌, ℕ, zero, suc, ◌-◌, ◌≤◌, List, [], ◌∷◌, Option, Some, None, refl, ap, ◌∙◌, arith}
+use Rattle.std.specs.Prelude.{length, option_map, unwrap_or, codes, slice_get, IfSome}
+use Rattle.std.proofs.lemmas.Bool.{ne_eqb}
+use Rattle.up_canon.specs.Names.{Name}
+use Rattle.up_sign.specs.Schemes.{Rules}
 use Rattle.up_roles.specs.declared.repository.Repository.{Repository}
 use Rattle.up_roles.specs.declared.repository.Repository.TheVariants.{Director, Image}
-use Rattle.up_roles.specs.Payload.{sealed_text}
-use Rattle.up_roles.specs.Root.{root_payload, root_text_of}
-use Rattle.up_roles.specs.Targets.{targets_payload, targets_text_of}
-use Rattle.up_roles.specs.Snapshot.{snapshot_payload, snapshot_text_of}
-use Rattle.up_roles.specs.Timestamp.{timestamp_payload, timestamp_text_of}
-use Rattle.up_machine.specs.declared.keys.RoleSecrets.{RoleSecrets}
-use Rattle.up_machine.specs.declared.keys.RepoKeys.{RepoKeys}
-use Rattle.up_machine.specs.declared.keys.KeySet.{KeySet}
-use Rattle.up_machine.specs.Keys.{secret_fits, keys_fit, threshold_fits, role_fits, repository_fits, key_set_fits}
-use Rattle.up_machine.specs.State.{Entry, Root, State, nth, root_at}
-use Rattle.up_machine.specs.Files.{keys_of, root_signers, root_file, root_text, root_text_at, Making, targets_file, targets_text, snapshot_file, snapshot_text, timestamp_file, timestamp_text, role_texts, image_making}
+use Rattle.up_metadata.specs.declared.keys.KeySet.{KeySet}
+use Rattle.up_metadata.specs.Keys.{repository_fits, key_set_fits}
+use Rattle.up_metadata.specs.Files.{keys_of, Root, role_texts}
+use Rattle.up_metadata.specs.Signed.{HasFittingKeys, RootFilesAreSigned, RoleFilesAreSigned}
+use Rattle.up_metadata.proofs.Lists.{and_left, and_right}
+use Rattle.up_machine.specs.State.{Entry, State, nth, root_at}
+use Rattle.up_machine.specs.Files.{image_making}
 use Rattle.up_machine.specs.Replies.{reply_making, reply_json, reply_text}
 use Rattle.up_machine.specs.Sound.{IsSoundRoot, IsGrounded, IsSound}
-use Rattle.up_machine.specs.SignedLaws.{IsAcceptedBy, IsSignedFor, root_role, RootsAreSigned, AreSignedFor, ImageFilesAreSigned, RepliesAreSigned}
-use Rattle.up_machine.proofs.Lists.{and_left, and_right, each_weaker}
+use Rattle.up_machine.specs.SignedLaws.{RootsAreSigned, ImageFilesAreSigned, RepliesAreSigned}
 use Rattle.up_machine.proofs.Keeping.{nth_at}
-
--- ---- tests of bytes
-
-abbrev is_in : List ℕ → List (List ℕ) → Bool
-is_in x xs = list_any (bytes_eq x) xs
-
-in_front : (x : List ℕ) (xs ys : List (List ℕ)) → is_in x xs ≡ true → is_in x (xs ++ ys) ≡ true
-in_front x [] ys h = cc
-in_front x (z ∷ xs) ys h = by_test (bytes_eq x z) h (in_front x xs ys)
-  where
-    by_test : (b : Bool) → (b || list_any (bytes_eq x) xs) ≡ true → (list_any (bytes_eq x) xs ≡ true → list_any (bytes_eq x) (xs ++ ys) ≡ true) → (b || list_any (bytes_eq x) (xs ++ ys)) ≡ true
-    by_test true h more = refl
-    by_test false h more = more h
-
-in_back : (x : List ℕ) (xs ys : List (List ℕ)) → is_in x ys ≡ true → is_in x (xs ++ ys) ≡ true
-in_back x [] ys h = h
-in_back x (z ∷ xs) ys h = or_right (bytes_eq x z) _ (in_back x xs ys h)
-
-each_in : (xs : List (List ℕ)) → AllByRecursion (λ x. is_in x xs ≡ true) xs
-each_in [] = tt
-each_in (x ∷ xs) = (or_left _ _ (bytes_eq-refl x), each_weaker (λ y. list_any (bytes_eq y) xs ≡ true) (λ y. list_any (bytes_eq y) (x ∷ xs) ≡ true) (λ y h. or_right (bytes_eq y x) _ h) xs (each_in xs))
-
--- what passes the test stays in the filtered list
-in_filter : (p : List ℕ → Bool) (x : List ℕ) (xs : List (List ℕ)) → p x ≡ true → is_in x xs ≡ true → is_in x (filter p xs) ≡ true
-in_filter p x [] passes h = cc
-in_filter p x (z ∷ xs) passes h = by_test (bytes_eq x z) refl h (in_filter p x xs passes)
-  where
-    by_pass : (b : Bool) → list_any (bytes_eq x) (filter p xs) ≡ true → list_any (bytes_eq x) (cond b (z ∷ filter p xs) (filter p xs)) ≡ true
-    by_pass true h = or_right (bytes_eq x z) _ h
-    by_pass false h = h
-
-    by_test : (b : Bool) → bytes_eq x z ≡ b → (b || list_any (bytes_eq x) xs) ≡ true → (list_any (bytes_eq x) xs ≡ true → list_any (bytes_eq x) (filter p xs) ≡ true)
-        → list_any (bytes_eq x) (cond (p z) (z ∷ filter p xs) (filter p xs)) ≡ true
-    by_test true is h more =
-        let kept : p z ≡ true = ap p (sym ((bytes_decides x z).0 is)) ∙ passes in
-        rw kept (or_left _ _ is)
-    by_test false is h more = by_pass (p z) (more h)
-
--- an old key is among the signers: it is one of the new keys, or one of those that aren't
-old_signs : (x : List ℕ) (own old : List (List ℕ)) → is_in x old ≡ true → is_in x (own ++ filter (λ secret. not (list_any (bytes_eq secret) own)) old) ≡ true
-old_signs x own old h = by_test (list_any (bytes_eq x) own) refl
-  where
-    by_test : (b : Bool) → list_any (bytes_eq x) own ≡ b → list_any (bytes_eq x) (own ++ filter (λ secret. not (list_any (bytes_eq secret) own)) old) ≡ true
-    by_test true is = in_front x own _ is
-    by_test false is = in_back x own _ (in_filter (λ secret. not (list_any (bytes_eq secret) own)) x old (ap not is) h)
-
--- ---- acceptance
-
-satisfied : (k : Rules) → IsScheme k → (signed secret : List ℕ) (signers : List (List ℕ)) → k.secret_fits secret ≡ true → is_in secret signers ≡ true
-    → list_any (is_by k signed (k.public_of secret)) (map (signature_of k signed) signers) ≡ true
-satisfied k law signed secret [] fits h = cc
-satisfied k law signed secret (x ∷ signers) fits h = by_test (bytes_eq secret x) refl h (satisfied k law signed secret signers fits)
-  where
-    own : is_by k signed (k.public_of secret) (signature_of k signed secret) ≡ true
-    own = rw (bytes_eq-refl (key_id (k.public_of secret)), bytes_eq-refl k.method, law.tag_is_valid secret signed fits)
-
-    by_test : (b : Bool) → bytes_eq secret x ≡ b → (b || list_any (bytes_eq secret) signers) ≡ true
-        → (list_any (bytes_eq secret) signers ≡ true → list_any (is_by k signed (k.public_of secret)) (map (signature_of k signed) signers) ≡ true)
-        → (is_by k signed (k.public_of secret) (signature_of k signed x) || list_any (is_by k signed (k.public_of secret)) (map (signature_of k signed) signers)) ≡ true
-    by_test true is h more = or_left _ _ (ap (λ y. is_by k signed (k.public_of secret) (signature_of k signed y)) (sym ((bytes_decides secret x).0 is)) ∙ own)
-    by_test false is h more = or_right _ _ (more h)
-
-counted_from : {A : Type 0} (p : A → Bool) (n : ℕ) (xs : List A) → AllByRecursion (λ x. p x ≡ true) xs → fold (λ a x. a + cond (p x) 1 0) n xs ≡ n + length xs
-counted_from p n [] h = omega arith
-counted_from p n (x ∷ xs) h =
-    ap (λ b. fold (λ a x. a + cond (p x) 1 0) (n + cond b 1 0) xs) h.0 ∙ counted_from p (n + 1) xs h.1 ∙ one_later n (length xs)
-  where
-    one_later : (n m : ℕ) → n + 1 + m ≡ n + suc m
-    one_later n m = omega arith
-
-each_satisfied : (k : Rules) → IsScheme k → (signed : List ℕ) (signers keys : List (List ℕ)) → list_all (secret_fits k) keys ≡ true → AllByRecursion (λ x. is_in x signers ≡ true) keys
-    → AllByRecursion (λ p. is_satisfied k (sealed k signers signed) p ≡ true) (map k.public_of keys)
-each_satisfied k law signed signers [] fits h = tt
-each_satisfied k law signed signers (x ∷ keys) fits h = (
-  satisfied k law signed x signers (and_right (is_from_to 1 256 (length x)) _ (and_left _ _ fits)) h.0,
-  each_satisfied k law signed signers keys (and_right _ _ fits) h.1,
-)
-
-accepted : (k : Rules) → IsScheme k → (signed : List ℕ) (signers : List (List ℕ)) (role : RoleSecrets) → role_fits k role ≡ true → AllByRecursion (λ x. is_in x signers ≡ true) role.keys
-    → IsAcceptedBy k (sealed k signers signed) role
-accepted k law signed signers role fits h =
-    let fit : list_all (secret_fits k) role.keys ≡ true = and_right (is_from_to 1 4 (length role.keys)) _ (and_left _ (is_none _) (and_left _ (threshold_fits role) fits)) in
-    let counted = counted_from (is_satisfied k (sealed k signers signed)) 0 (map k.public_of role.keys) (each_satisfied k law signed signers role.keys fit h) in
-    let size : length (map k.public_of role.keys) ≡ length role.keys = length-map role.keys k.public_of in
-    let meets : nat_le role.threshold (length role.keys) ≡ true = and_right (nat_le 1 role.threshold) _ (and_right (keys_fit k role) _ fits) in
-    ap (nat_le role.threshold) (counted ∙ plain _ ∙ size) ∙ meets
-  where
-    plain : (n : ℕ) → 0 + n ≡ n
-    plain n = omega arith
 
 -- ---- the keys of a sound root
 
@@ -127,79 +24,24 @@ repository_keys_fit : (k : Rules) (repository : Repository) (keys : KeySet) → 
 repository_keys_fit k Director keys h = and_left _ _ h
 repository_keys_fit k Image keys h = and_right (repository_fits k keys.director) _ h
 
-root_fits : (k : Rules) (keys : RepoKeys) → repository_fits k keys ≡ true → role_fits k keys.root ≡ true
-root_fits k keys h = and_left _ _ (and_left _ _ (and_left _ _ h))
-
-targets_fit : (k : Rules) (keys : RepoKeys) → repository_fits k keys ≡ true → role_fits k keys.targets ≡ true
-targets_fit k keys h = and_right (role_fits k keys.root) _ (and_left _ _ (and_left _ _ h))
-
-snapshot_fits : (k : Rules) (keys : RepoKeys) → repository_fits k keys ≡ true → role_fits k keys.snapshot ≡ true
-snapshot_fits k keys h = and_right (role_fits k keys.root && role_fits k keys.targets) _ (and_left _ _ h)
-
-timestamp_fits : (k : Rules) (keys : RepoKeys) → repository_fits k keys ≡ true → role_fits k keys.timestamp ≡ true
-timestamp_fits k keys h = and_right (role_fits k keys.root && role_fits k keys.targets && role_fits k keys.snapshot) _ h
-
-sound_keys : (k : Rules) (s : State) (repository : Repository) (i : ℕ) (root : Root) → IsSound k s → root_at s i ≡ Some root → repository_fits k (keys_of repository root.keys) ≡ true
+sound_keys : (k : Rules) (s : State) (repository : Repository) (i : ℕ) (root : Root) → IsSound k s → root_at s i ≡ Some root → HasFittingKeys k repository root
 sound_keys k s repository i root sound there =
     repository_keys_fit k repository root.keys (nth_at (IsSoundRoot k) s.roots i root sound.repositories.each_root there).keys
 
 -- ---- Root files
 
-root_sealed : (k : Rules) (s : State) (repository : Repository) (i : ℕ) (root : Root)
-    → root_text_at k s repository i root ≡ envelope_text (sealed k (root_signers repository root (root_at s (i - 1))) (text (root_payload (root_file k repository i root))))
-unfolding root_text root_text_of sealed_text
-root_sealed k s repository i root = refl
+before_fits : (k : Rules) (s : State) (repository : Repository) (i : ℕ) (o : Option Root) → IsSound k s → root_at s i ≡ o → IfSome o (HasFittingKeys k repository)
+before_fits k s repository i None sound is = tt
+before_fits k s repository i (Some before) sound is = sound_keys k s repository i before sound is
 
-before_signs : (k : Rules) → IsScheme k → (s : State) (repository : Repository) (i : ℕ) (root : Root) (signed : List ℕ) → IsSound k s → (o : Option Root) → root_at s (i - 1) ≡ o
-    → AllByRecursion (IsAcceptedBy k (sealed k (root_signers repository root o) signed)) (option_to_list (option_map (root_role repository) o))
-before_signs k law s repository i root signed sound None is = tt
-before_signs k law s repository i root signed sound (Some before) is = (
-  accepted k law signed (root_signers repository root (Some before)) (root_role repository before)
-      (root_fits k (keys_of repository before.keys) (sound_keys k s repository (i - 1) before sound is))
-      (each_weaker (λ x. is_in x (root_role repository before).keys ≡ true) (λ x. is_in x (root_signers repository root (Some before)) ≡ true)
-      (λ x h. old_signs x (root_role repository root).keys (root_role repository before).keys h) (root_role repository before).keys (each_in (root_role repository before).keys)),
-  tt,
-)
+pub roots_signed : RootFilesAreSigned → RootsAreSigned
+roots_signed files k s repository i root law sound there =
+    files k repository i root (root_at s (i - 1)) law (sound_keys k s repository i root sound there) (before_fits k s repository (i - 1) (root_at s (i - 1)) sound refl)
 
-pub roots_signed : RootsAreSigned
-roots_signed k s repository i root law sound there =
-    let signed = text (root_payload (root_file k repository i root)) in
-    let before = root_at s (i - 1) in
-    let own = (root_role repository root).keys in
-    record {
-      envelope = sealed k (root_signers repository root before) signed;
-      is = root_sealed k s repository i root;
-      signed = refl;
-      accepted = (
-        accepted k law signed (root_signers repository root before) (root_role repository root)
-            (root_fits k (keys_of repository root.keys) (sound_keys k s repository i root sound there))
-            (each_weaker (λ x. is_in x own ≡ true) (λ x. is_in x (root_signers repository root before) ≡ true) (λ x h. in_front x own _ h) own (each_in own)),
-        before_signs k law s repository i root signed sound before refl,
-      );
-    }
+-- ---- the image repository's files
 
--- ---- Targets, Snapshot and Timestamp files
-
-one_role : (k : Rules) → IsScheme k → (role : RoleSecrets) (payload : Data) (file_text : List ℕ) → role_fits k role ≡ true → file_text ≡ envelope_text (sealed k role.keys (text payload)) → IsSignedFor k (role ∷ []) payload file_text
-one_role k law role payload file_text fits is = record {
-  envelope = sealed k role.keys (text payload);
-  is = is;
-  signed = refl;
-  accepted = (accepted k law (text payload) role.keys role fits (each_in role.keys), tt);
-}
-
-making_signed : (k : Rules) → IsScheme k → (m : Making) → repository_fits k (keys_of m.repository m.keys) ≡ true → AreSignedFor k m
-unfolding targets_text snapshot_text timestamp_text targets_text_of snapshot_text_of timestamp_text_of sealed_text
-making_signed k law m fits =
-    let keys = keys_of m.repository m.keys in
-    record {
-      targets = one_role k law keys.targets (targets_payload (targets_file m)) (targets_text k m) (targets_fit k keys fits) refl;
-      snapshot = one_role k law keys.snapshot (snapshot_payload (snapshot_file m)) (snapshot_text k m) (snapshot_fits k keys fits) refl;
-      timestamp = one_role k law keys.timestamp (timestamp_payload (timestamp_file k m)) (timestamp_text k m) (timestamp_fits k keys fits) refl;
-    }
-
-pub images_signed : ImageFilesAreSigned
-images_signed k s root law sound there = making_signed k law (image_making s root) (sound_keys k s Image (length s.roots) root sound there)
+pub images_signed : RoleFilesAreSigned → ImageFilesAreSigned
+images_signed files k s root law sound there = files k (image_making s root) law (sound_keys k s Image (length s.roots) root sound there)
 
 -- ---- replies
 
@@ -222,13 +64,13 @@ unfolding reply_text
 reply_is k s vehicle number e root there =
     ap (λ o. unwrap_or (option_map (λ root. reply_json vehicle number e.root (role_texts k (reply_making s vehicle number e root))) o) (codes "")) there
 
-pub replies_signed : RepliesAreSigned
-replies_signed k s vehicle v number e law sound there entry =
+pub replies_signed : RoleFilesAreSigned → RepliesAreSigned
+replies_signed files k s vehicle v number e law sound there entry =
     let grounded = nth_at (IsGrounded s) v.entries number e (sound.vehicles vehicle v there).grounded entry in
     let root = nth_there s.roots e.root grounded.from grounded.to in
     record {
       root = root.0;
       there = root.1;
       made = reply_is k s vehicle number e root.0 root.1;
-      signed = making_signed k law (reply_making s vehicle number e root.0) (sound_keys k s Director e.root root.0 sound root.1);
+      signed = files k (reply_making s vehicle number e root.0) law (sound_keys k s Director e.root root.0 sound root.1);
     }

@@ -9,20 +9,21 @@ use Rattle.up_canon.specs.declared.refusal.Refusal.{Refusal}
 use Rattle.up_manifest.specs.declared.manifest.Incoming.{Incoming}
 use Rattle.up_manifest.specs.Manifests.{incoming_in}
 use Rattle.up_canon.specs.Names.{first_repeated}
+use Rattle.up_metadata.specs.Files.{Root}
 use Rattle.up_machine.specs.declared.rows.EcuRow.{EcuRow}
 use Rattle.up_machine.specs.declared.vehicle.NewEcu.{NewEcu}
 use Rattle.up_machine.specs.Vehicles.{ecu_names}
 use Rattle.up_machine.specs.declared.rows.Founding.{Founding}
 use Rattle.up_machine.specs.declared.rows.VehicleRows.{VehicleRows}
-use Rattle.up_machine.specs.State.{Vehicle, Root, State, root_at}
+use Rattle.up_machine.specs.State.{Vehicle, State, root_at}
 use Rattle.up_machine.specs.Rows.{ecu_row, rows_of}
 use Rattle.up_machine.specs.RowsFit.{founding_fits, rows_fit}
 use Rattle.up_machine.specs.Sound.{IsSoundRoot}
 use Rattle.up_machine.specs.Decisions.{IsRead}
 use Rattle.up_machine.specs.RowLaws.{FoundingRowFits, VehicleRowsFit}
+use Rattle.up_metadata.proofs.Lists.{and_left, and_right}
 use Rattle.up_machine.proofs.Counters.{versions_are_counts}
 use Rattle.up_machine.proofs.Keeping.{nth_at}
-use Rattle.up_machine.proofs.Lists.{and_left, and_right}
 use Rattle.up_machine.proofs.NewFiles.{both_sign}
 use Rattle.up_canon.proofs.Steps.{map_some}
 

@@ -13,7 +13,7 @@ use Rattle.std.proofs.lemmas.Cmp.{nat_list_cmp_total}
 use Rattle.std.proofs.lemmas.Bool.{or_right}
 use Rattle.up_canon.specs.Names.{Name, Table}
 use Rattle.up_canon.proofs.TableLemmas.{less}
-use Rattle.up_machine.proofs.Lists.{each_weaker}
+use Rattle.up_metadata.proofs.Lists.{each_weaker}
 
 abbrev at_name : {X : Type 0} → Name → List (Name × X) → Option X
 at_name q es = entries.find (slice_cmp nat_cmp) q es

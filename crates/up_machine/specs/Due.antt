@@ -7,13 +7,12 @@ use Rattle.up_canon.specs.declared.refusal.Refusal.{Refusal}
 use Rattle.up_sign.specs.Schemes.{Rules}
 use Rattle.up_roles.specs.Payload.{version_fits}
 use Rattle.up_plan.specs.Images.{ImageData}
-use Rattle.up_machine.specs.declared.keys.KeySet.{KeySet}
+use Rattle.up_metadata.specs.declared.keys.KeySet.{KeySet}
+use Rattle.up_metadata.specs.Keys.{key_set_fits, hashed_key_set, roles_can_sign, all_can_sign}
 use Rattle.up_machine.specs.declared.rows.Founding.{Founding}
 use Rattle.up_machine.specs.declared.decision.NextRoot.{NextRoot}
 use Rattle.up_machine.specs.declared.decision.Decision.{Decision}
 use Rattle.up_machine.specs.declared.decision.Decision.TheVariants.{Already, New}
-use Rattle.up_machine.specs.Keys.{key_set_fits, hashed_key_set}
-use Rattle.up_machine.specs.RowsFit.{roles_can_sign, all_can_sign}
 use Rattle.up_machine.specs.State.{State, root_at}
 use Rattle.up_machine.specs.Rows.{founding_row}
 use Rattle.up_machine.specs.Deciding.{Outcome, already}

@@ -6,12 +6,13 @@ use Rattle.up_canon.specs.Canon.{max_count}
 use Rattle.up_canon.specs.Names.{Name}
 use Rattle.up_sign.specs.Schemes.{Rules}
 use Rattle.up_plan.specs.Images.{ImageData}
+use Rattle.up_metadata.specs.Files.{Root}
 use Rattle.up_machine.specs.declared.command.Command.{Command}
 use Rattle.up_machine.specs.declared.answer.Answer.TheVariants.{Refused, Already}
 use Rattle.up_machine.specs.declared.answer.Reply.{Reply}
 use Rattle.up_canon.specs.declared.refusal.Refusal.{Refusal}
 use Rattle.up_machine.specs.Commands.{is_command}
-use Rattle.up_machine.specs.State.{Entry, Vehicle, Root, State, empty_state, version, last_counter, is_taken_in, is_recorded, is_retired}
+use Rattle.up_machine.specs.State.{Entry, Vehicle, State, empty_state, version, last_counter, is_taken_in, is_recorded, is_retired}
 use Rattle.up_machine.specs.Replies.{kept_reply}
 use Rattle.up_machine.specs.Machine.{Timed, step, run}
 use Rattle.up_machine.specs.Sound.{CountersRise, IsSound}

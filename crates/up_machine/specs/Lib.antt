@@ -1,4 +1,3 @@
-pub mod Keys
 pub mod Vehicles
 pub mod Commands
 pub mod State

@@ -20,6 +20,7 @@ use Rattle.up_plan.specs.declared.assigned.Plan.{Plan}
 use Rattle.up_plan.specs.Campaigns.{CampaignData}
 use Rattle.up_plan.specs.Images.{ImageData}
 use Rattle.up_plan.specs.Planning.{plan_of}
+use Rattle.up_metadata.specs.Files.{Making, role_texts}
 use Rattle.up_machine.specs.declared.rows.EcuRow.{EcuRow}
 use Rattle.up_machine.specs.declared.rows.Founding.{Founding}
 use Rattle.up_machine.specs.declared.rows.Kept.{Kept}
@@ -27,7 +28,7 @@ use Rattle.up_machine.specs.declared.rows.VehicleRow.{VehicleRow}
 use Rattle.up_machine.specs.declared.rows.VehicleRows.{VehicleRows}
 use Rattle.up_machine.specs.declared.decision.AcceptedRows.{AcceptedRows}
 use Rattle.up_machine.specs.State.{report_of}
-use Rattle.up_machine.specs.Files.{Making, role_texts, target_of}
+use Rattle.up_machine.specs.Files.{target_of}
 use Rattle.up_machine.specs.Deliveries.{report_name, report_names}
 use Rattle.up_machine.specs.Replies.{reply_json}
 

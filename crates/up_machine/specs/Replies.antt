@@ -8,10 +8,11 @@ use Rattle.up_sign.specs.Schemes.{Rules}
 use Rattle.up_roles.specs.declared.repository.Repository.TheVariants.{Director}
 use Rattle.up_roles.specs.declared.targets.Target.{Target}
 use Rattle.up_plan.specs.declared.assigned.Assigned.{Assigned}
+use Rattle.up_metadata.specs.declared.role_files.RoleTexts.{RoleTexts}
+use Rattle.up_metadata.specs.Files.{Root, Making, role_texts}
 use Rattle.up_machine.specs.declared.answer.Reply.{Reply}
-use Rattle.up_machine.specs.State.{Entry, Root, State, nth, root_at}
-use Rattle.up_machine.specs.declared.decision.RoleTexts.{RoleTexts}
-use Rattle.up_machine.specs.Files.{Making, role_texts, target_of}
+use Rattle.up_machine.specs.State.{Entry, State, nth, root_at}
+use Rattle.up_machine.specs.Files.{target_of}
 
 -- the target for an ECU that an image is assigned to
 abbrev pub assigned_target : State → Assigned → Option Target

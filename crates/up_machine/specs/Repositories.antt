@@ -10,9 +10,9 @@ use Rattle.up_sign.specs.Schemes.{Rules}
 use Rattle.up_roles.specs.declared.repository.Repository.{Repository}
 use Rattle.up_plan.specs.declared.image.Need.{Need}
 use Rattle.up_plan.specs.Images.{ImageData}
+use Rattle.up_metadata.specs.declared.keys.KeySet.{KeySet}
+use Rattle.up_metadata.specs.Keys.{check_keys}
 use Rattle.up_machine.specs.declared.answer.Answer.TheVariants.{File}
-use Rattle.up_machine.specs.declared.keys.KeySet.{KeySet}
-use Rattle.up_machine.specs.Keys.{check_keys}
 use Rattle.up_machine.specs.State.{State}
 use Rattle.up_machine.specs.Files.{file}
 use Rattle.up_machine.specs.Deciding.{Outcome, done, where_new, check_moment, check_founded, check_version}

@@ -1,50 +1,22 @@
--- Every file is signed for its role: so many of the role's keys are satisfied, over the text of the file's payload.
-use Rattle.std.specs.Prelude.{◌≡◌, ℕ, ◌⊎◌, ◌-◌, List, [], ◌∷◌, Some, IsTrue, map, length, option_map, option_to_list}
-use Rattle.std.specs.List.{AllByRecursion}
+-- Every file of a sound state is signed for its role.
+use Rattle.std.specs.Prelude.{◌≡◌, ℕ, ◌⊎◌, ◌-◌, List, ◌∷◌, Some, length, option_map, option_to_list}
 use Rattle.std.specs.FinMap as table
-use Rattle.serde_json.specs.Data.{Data}
-use Rattle.up_canon.specs.Canon.{text}
 use Rattle.up_canon.specs.Names.{Name}
 use Rattle.up_sign.specs.Schemes.{Rules, IsScheme}
-use Rattle.up_sign.specs.Envelopes.{is_accepted}
-use Rattle.up_sign.specs.Formats.{envelope_text}
-use Rattle.up_sign.specs.declared.envelope.Envelope.{Envelope}
 use Rattle.up_roles.specs.declared.repository.Repository.{Repository}
 use Rattle.up_roles.specs.declared.repository.Repository.TheVariants.{Director, Image}
 use Rattle.up_roles.specs.Root.{root_payload}
-use Rattle.up_roles.specs.Snapshot.{snapshot_payload}
-use Rattle.up_roles.specs.Targets.{targets_payload}
-use Rattle.up_roles.specs.Timestamp.{timestamp_payload}
-use Rattle.up_machine.specs.declared.keys.RoleSecrets.{RoleSecrets}
-use Rattle.up_machine.specs.State.{Entry, Vehicle, Root, State, nth, root_at}
-use Rattle.up_machine.specs.Files.{keys_of, root_file, Making, targets_file, targets_text, snapshot_file, snapshot_text, timestamp_file, timestamp_text, role_texts, root_text_at, image_making, file}
+use Rattle.up_metadata.specs.Files.{Root, root_file, role_texts}
+use Rattle.up_metadata.specs.Signed.{IsSignedFor, root_role, AreSignedFor}
+use Rattle.up_machine.specs.State.{Entry, Vehicle, State, nth, root_at}
+use Rattle.up_machine.specs.Files.{root_text_at, image_making, file}
 use Rattle.up_machine.specs.Replies.{reply_making, reply_json, reply_text}
 use Rattle.up_machine.specs.Sound.{IsSound}
-
--- the envelope is accepted under the role's keys and threshold
-abbrev pub IsAcceptedBy : Rules → Envelope → RoleSecrets → Type 0
-IsAcceptedBy k envelope role = IsTrue (is_accepted k (map k.public_of role.keys) role.threshold envelope)
-
--- the text is that of one envelope of the payload's text, which each of these roles accepts
-pub record IsSignedFor (k : Rules) (roles : List RoleSecrets) (payload : Data) (file_text : List ℕ) : Type 0 where
-  pub envelope : Envelope
-  pub is : file_text ≡ envelope_text envelope
-  pub signed : envelope.signed ≡ text payload
-  pub accepted : AllByRecursion (IsAcceptedBy k envelope) roles
-
-abbrev pub root_role : Repository → Root → RoleSecrets
-root_role repository root = (keys_of repository root.keys).root
 
 -- root version i is signed for its own root role and for that of the version before
 abbrev pub RootsAreSigned : Type 0
 RootsAreSigned = (k : Rules) (s : State) (repository : Repository) (i : ℕ) (root : Root) → IsScheme k → IsSound k s → root_at s i ≡ Some root
     → IsSignedFor k (root_role repository root ∷ option_to_list (option_map (root_role repository) (root_at s (i - 1)))) (root_payload (root_file k repository i root)) (root_text_at k s repository i root)
-
--- the three files of a making are signed for their roles
-pub record AreSignedFor (k : Rules) (m : Making) : Type 0 where
-  pub targets : IsSignedFor k ((keys_of m.repository m.keys).targets ∷ []) (targets_payload (targets_file m)) (targets_text k m)
-  pub snapshot : IsSignedFor k ((keys_of m.repository m.keys).snapshot ∷ []) (snapshot_payload (snapshot_file m)) (snapshot_text k m)
-  pub timestamp : IsSignedFor k ((keys_of m.repository m.keys).timestamp ∷ []) (timestamp_payload (timestamp_file k m)) (timestamp_text k m)
 
 -- the image repository's files are signed for the roles of the last root version
 abbrev pub ImageFilesAreSigned : Type 0

@@ -10,7 +10,7 @@ use Rattle.up_manifest.specs.Manifests.{manifest_of}
 use Rattle.up_plan.specs.declared.assigned.Plan.{Plan}
 use Rattle.up_plan.specs.Campaigns.{CampaignData}
 use Rattle.up_plan.specs.Images.{ImageData}
-use Rattle.up_machine.specs.declared.keys.KeySet.{KeySet}
+use Rattle.up_metadata.specs.Files.{Root}
 use Rattle.up_machine.specs.declared.vehicle.NewEcu.{NewEcu}
 use Rattle.up_machine.specs.Vehicles.{NewVehicleData, has_ecu, is_among}
 
@@ -31,11 +31,6 @@ pub record Vehicle : Type 0 where
   pub ecus : List NewEcu
   pub retired : List Name
   pub entries : List Entry
-
--- a root version of both repositories: the keys and the moment
-pub record Root : Type 0 where
-  pub keys : KeySet
-  pub at : ℕ
 
 -- the i-th root is root version i; before founding there is none, and the image repository's version and stamp are 0
 pub record State : Type 0 where

@@ -3,13 +3,11 @@ ghost use Rattle.std.specs.Prelude.{◌≡◌, ◌<◌, ◌≤◌, ◌+◌, None
 ghost use Rattle.up_canon.specs.Canon.{max_count};
 ghost use Rattle.up_canon.specs.Moments.{last_command_moment};
 ghost use Rattle.up_canon.specs.Names.{first_repeated};
-ghost use Rattle.up_machine.specs.Keys.{hashed_roles};
-ghost use Rattle.up_machine.specs.RowsFit.{roles_can_sign};
+ghost use Rattle.up_metadata.specs.Keys.{hashed_roles, roles_can_sign};
 ghost use Rattle.up_machine.specs.ManifestRows.{accepted_row as accepted_row_of, accepted_rows as accepted_rows_of, kept_of, plan_by_rows};
 
 use crate::decision::AcceptedRows;
 use crate::director_files::{reply_text, targets_for};
-use crate::hashed_keys::HashedRoleKeys;
 use crate::reported::{fitted_ecus, reported_rows};
 use crate::rows::{Founding, Kept, VehicleRow, VehicleRows};
 use std::alloc::{AllocError, Global};
@@ -19,6 +17,7 @@ use up_canon::moment::Moment;
 use up_canon::table::Table;
 use up_manifest::manifest::Incoming;
 use up_manifest::report::SignedReport;
+use up_metadata::hashed_keys::HashedRoleKeys;
 use up_plan::assigned::Plan;
 use up_plan::campaign::Campaign;
 use up_plan::image::Image;

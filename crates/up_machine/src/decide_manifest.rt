@@ -2,7 +2,7 @@
 ghost use Rattle.std.specs.Prelude.{◌≡◌, ◌≤◌, ◌<◌, ℕ, IfSome, IsTrue, option_copied};
 ghost use Rattle.up_canon.specs.Moments.{last_command_moment};
 ghost use Rattle.up_sign.specs.Schemes.{Rules};
-ghost use Rattle.up_machine.specs.Keys.{hashed_roles as hashed_roles_of};
+ghost use Rattle.up_metadata.specs.Keys.{hashed_roles as hashed_roles_of};
 ghost use Rattle.up_machine.specs.RowsFit.{founding_fits, rows_fit};
 ghost use Rattle.up_machine.specs.ManifestRows.{repeated as repeated_in};
 ghost use Rattle.up_machine.specs.Rows.{kept_at};
@@ -13,7 +13,6 @@ ghost use Rattle.up_machine.specs.Decisions.{IsRead, AreRowsFor, decide_incoming
 
 use crate::acceptance::accepted_rows;
 use crate::decision::Delivered;
-use crate::hashed_keys::{HashedRoleKeys, hashed_roles};
 use crate::kept_reply::reply_of;
 use crate::manifest_checks::check_reports;
 use crate::rows::{Founding, Kept, VehicleRows};
@@ -25,6 +24,7 @@ use up_canon::refusal::Refusal;
 use up_canon::table::Table;
 use up_manifest::body_laws;
 use up_manifest::manifest::Incoming;
+use up_metadata::hashed_keys::{HashedRoleKeys, hashed_roles};
 use up_plan::campaign::Campaign;
 use up_plan::image::Image;
 use up_plan::laws::other_images_change_nothing;

@@ -6,10 +6,10 @@ ghost use Rattle.up_canon.specs.Moments.{last_command_moment};
 ghost use Rattle.up_canon.specs.declared.refusal.Refusal.TheVariants.{BadShape};
 ghost use Rattle.up_canon.specs.Steps.{and_then, or_error};
 ghost use Rattle.up_canon.specs.declared.refusal.Refusal.TheVariants.{UnknownVehicle};
+ghost use Rattle.up_machine.specs.Vehicles.{public_fits as public_fits_in};
 ghost use Rattle.up_machine.specs.Decisions.{GivesReplacement};
 ghost use Rattle.up_machine.specs.Deciding.{check_founded as check_founded_in};
 ghost use Rattle.up_machine.specs.Inventory.{decide_replace as decide_replace_in, decide_replacement};
-ghost use Rattle.up_machine.specs.Keys.{public_fits as public_fits_in};
 ghost use Rattle.up_machine.specs.Rows.{founding_row, rows_of, vehicle_rows};
 ghost use Rattle.up_machine.specs.State.{State, Vehicle, is_taken};
 

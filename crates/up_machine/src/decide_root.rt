@@ -10,13 +10,13 @@ ghost use Rattle.up_machine.specs.Decisions.{GivesRows};
 ghost use Rattle.up_machine.specs.Due.{CanMakeRoot, HasRoot};
 
 use crate::decision::NextRoot;
-use crate::key_checks::check_keys;
-use crate::keys::KeySet;
 use crate::rows::Founding;
 use std::alloc::Global;
 use up_canon::count::MAX_COUNT;
 use up_canon::moment::Moment;
 use up_canon::refusal::Refusal;
+use up_metadata::key_checks::check_keys;
+use up_metadata::keys::KeySet;
 use up_sign::scheme::Scheme;
 
 /// How many root versions there may be.

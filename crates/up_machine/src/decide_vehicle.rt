@@ -6,11 +6,10 @@ ghost use Rattle.up_canon.specs.Moments.{last_command_moment};
 ghost use Rattle.up_canon.specs.declared.refusal.Refusal.TheVariants.{BadShape, VehicleTaken};
 ghost use Rattle.up_canon.specs.Steps.{and_then};
 ghost use Rattle.up_machine.specs.Deciding.{check_founded as check_founded_in, where_new};
-ghost use Rattle.up_machine.specs.Keys.{public_fits};
 ghost use Rattle.up_machine.specs.State.{State, added, is_taken};
 ghost use Rattle.up_machine.specs.Sound.{IsSound};
 ghost use Rattle.up_machine.specs.Rows.{founding_row, rows_of, vehicle_rows};
-ghost use Rattle.up_machine.specs.Vehicles.{ecu_names, first_marked};
+ghost use Rattle.up_machine.specs.Vehicles.{ecu_names, first_marked, public_fits};
 ghost use Rattle.up_machine.specs.Inventory.{same_vehicle as same_vehicle_of, decide_new_vehicle, decide_vehicle as decide_vehicle_in, with_vehicle};
 ghost use Rattle.up_machine.specs.Decisions.{GivesDecision};
 

@@ -1,17 +1,10 @@
 //! What decisions answer: new rows with all texts, or, in a first step, what is due.
 use crate::answer::Reply;
-use crate::hashed_keys::HashedKeySet;
-use crate::keys::KeySet;
 use crate::rows::{Founding, Kept, VehicleRows};
 use up_canon::text::Text;
-
-/// The texts of the Targets, Snapshot and Timestamp files that are made together.
-#[derive(Debug, Drop)]
-pub struct RoleTexts {
-    pub targets: Text,
-    pub snapshot: Text,
-    pub timestamp: Text,
-}
+use up_metadata::hashed_keys::HashedKeySet;
+use up_metadata::keys::KeySet;
+use up_metadata::role_files::RoleTexts;
 
 /// A root version that is due: its number, the image repository's version with it, its keys, hashed, and the keys
 /// of the version before, none at a founding.

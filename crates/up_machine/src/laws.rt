@@ -91,7 +91,9 @@ pub fn files_are_signed()
     ensures images { ImageFilesAreSigned }
     ensures replies { RepliesAreSigned }
     ensures known { ServedFilesAreKnown }
-{}
+{
+    up_metadata::laws::files_are_signed();
+}
 
 /// The rows of a sound state have what decisions ask of them.
 pub fn rows_are_sound()

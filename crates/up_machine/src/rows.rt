@@ -1,5 +1,4 @@
 //! Rows: what is kept of the state, one for each thing.
-use crate::keys::KeySet;
 use std::alloc::{AllocError, Global};
 use up_canon::bytes::Bytes;
 use up_canon::count::Count;
@@ -9,6 +8,7 @@ use up_canon::moment::Moment;
 use up_canon::named::Named;
 use up_canon::text::Text;
 use up_manifest::report::Installed;
+use up_metadata::keys::KeySet;
 use up_plan::assigned::Plan;
 
 /// The founded repositories: the last root version and its keys, the image repository's version, and the moment of the command

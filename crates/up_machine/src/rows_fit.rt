@@ -1,12 +1,11 @@
 //! What decisions ask of the rows that they are given. Those of a sound state have it (`laws::rows_are_sound`), and a caller
 //! that can't know whether its rows are such a state's can test them.
 ghost use Rattle.std.specs.Prelude.{◌≡◌};
-ghost use Rattle.up_machine.specs.RowsFit.{can_sign as can_sign_in, roles_can_sign as roles_can_sign_in, founding_fits as founding_fits_in, rows_fit as rows_fit_in};
+ghost use Rattle.up_machine.specs.RowsFit.{founding_fits as founding_fits_in, rows_fit as rows_fit_in};
 
-use crate::key_checks::secrets_fit;
-use crate::keys::{RepoKeys, RoleSecrets};
 use crate::rows::{Founding, VehicleRows};
 use up_canon::named::are_distinct;
+use up_metadata::key_checks::all_can_sign;
 use up_sign::scheme::Scheme;
 
 /// Whether each role of both repositories has 1 to 4 secrets that the scheme takes. Identifiers and thresholds are not looked
@@ -14,23 +13,7 @@ use up_sign::scheme::Scheme;
 pub fn founding_fits<K: Scheme>(scheme: &K, founding: &Founding) -> bool
     ensures { result ≡ founding_fits_in (K.rules scheme.now) founding.now }
 {
-    roles_can_sign(scheme, &founding.keys.director) && roles_can_sign(scheme, &founding.keys.image)
-}
-
-fn roles_can_sign<K: Scheme>(scheme: &K, keys: &RepoKeys) -> bool
-    ensures { result ≡ roles_can_sign_in (K.rules scheme.now) keys.now }
-{
-    can_sign(scheme, &keys.root)
-        && can_sign(scheme, &keys.targets)
-        && can_sign(scheme, &keys.snapshot)
-        && can_sign(scheme, &keys.timestamp)
-}
-
-fn can_sign<K: Scheme>(scheme: &K, role: &RoleSecrets) -> bool
-    ensures { result ≡ can_sign_in (K.rules scheme.now) role.now }
-{
-    let keys = role.keys.as_slice();
-    1 <= keys.len() && keys.len() <= 4 && secrets_fit(scheme, keys)
+    all_can_sign(scheme, &founding.keys)
 }
 
 /// Whether the vehicle's version is at most its last counter, and no ECU stands twice in it.

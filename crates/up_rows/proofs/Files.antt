@@ -8,7 +8,8 @@ use Rattle.up_canon.specs.Names.{Name}
 use Rattle.up_sign.specs.Schemes.{Rules}
 use Rattle.up_roles.specs.declared.repository.Repository.{Repository}
 use Rattle.up_roles.specs.declared.repository.Repository.TheVariants.{Director, Image}
-use Rattle.up_machine.specs.State.{Root, State, root_at}
+use Rattle.up_metadata.specs.Files.{Root}
+use Rattle.up_machine.specs.State.{State, root_at}
 use Rattle.up_machine.specs.Files.{File, numbered_root_name, root_text_at, numbered_roots, latest_root, texts_in, image_texts, files}
 use Rattle.up_rows.specs.declared.root_row.RootRow.{RootRow}
 use Rattle.up_rows.specs.StateRows.{root_row, root_rows}

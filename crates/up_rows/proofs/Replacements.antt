@@ -21,8 +21,8 @@ use Rattle.up_machine.specs.Rows.{founding_row, ecu_row, new_row, rows_of}
 use Rattle.up_machine.specs.Sound.{IsEntryOf}
 use Rattle.up_machine.specs.State.{Entry, Vehicle, State, newest, report_of, last_report, is_taken, is_taken_in}
 use Rattle.up_machine.specs.Vehicles.{has_ecu, is_among, in_place_of}
+use Rattle.up_metadata.proofs.Lists.{and_left, and_right}
 use Rattle.up_machine.proofs.Installing.{found_is}
-use Rattle.up_machine.proofs.Lists.{and_left, and_right}
 use Rattle.up_machine.proofs.Tables.{one_name, get_new}
 use Rattle.up_machine.proofs.Values.{found_any}
 use Rattle.up_rows.specs.Tables.{each_value}

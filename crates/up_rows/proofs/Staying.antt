@@ -6,9 +6,10 @@ use Rattle.std.specs.FinMap as table
 use Rattle.up_canon.specs.Names.{Name}
 use Rattle.up_sign.specs.Schemes.{Rules}
 use Rattle.up_roles.specs.declared.repository.Repository.TheVariants.{Director, Image}
+use Rattle.up_metadata.specs.Files.{Root, root_text}
 use Rattle.up_machine.specs.declared.rows.Kept.{Kept}
-use Rattle.up_machine.specs.State.{Entry, Vehicle, Root, State, nth}
-use Rattle.up_machine.specs.Files.{numbered_root_name, root_text}
+use Rattle.up_machine.specs.State.{Entry, Vehicle, State, nth}
+use Rattle.up_machine.specs.Files.{numbered_root_name}
 use Rattle.up_machine.specs.Rows.{kept_row}
 use Rattle.up_machine.specs.Sound.{IsSound, IsGrounded}
 use Rattle.up_machine.specs.Laws.{IsLater}

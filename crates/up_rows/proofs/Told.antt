@@ -10,10 +10,11 @@ use Rattle.std.proofs.lemmas.Bool.{ne_eqb}
 use Rattle.std.proofs.lemmas.Cmp.{nat_list_cmp_total}
 use Rattle.up_canon.specs.Names.{Name}
 use Rattle.up_sign.specs.Schemes.{Rules}
+use Rattle.up_metadata.specs.Files.{Root}
 use Rattle.up_machine.specs.declared.rows.Founding.{Founding}
 use Rattle.up_machine.specs.declared.rows.Kept.{Kept}
 use Rattle.up_machine.specs.declared.vehicle.NewEcu.{NewEcu}
-use Rattle.up_machine.specs.State.{Entry, Vehicle, Root, State, empty_state, nth, root_at}
+use Rattle.up_machine.specs.State.{Entry, Vehicle, State, empty_state, nth, root_at}
 use Rattle.up_machine.specs.Rows.{founding_row, ecu_row, rows_of, kept_row}
 use Rattle.up_rows.specs.Tables.{each_value}
 use Rattle.up_rows.specs.StateRows.{root_row, root_rows, kept_rows, retired_names, root_of, ecu_of, entry_of, vehicle_of_rows}

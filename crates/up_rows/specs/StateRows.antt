@@ -7,13 +7,14 @@ use Rattle.up_sign.specs.Schemes.{Rules}
 use Rattle.up_roles.specs.declared.repository.Repository.TheVariants.{Director, Image}
 use Rattle.up_plan.specs.Campaigns.{CampaignData}
 use Rattle.up_plan.specs.Images.{ImageData}
-use Rattle.up_machine.specs.declared.decision.RoleTexts.{RoleTexts}
+use Rattle.up_metadata.specs.declared.role_files.RoleTexts.{RoleTexts}
+use Rattle.up_metadata.specs.Files.{Root}
 use Rattle.up_machine.specs.declared.rows.EcuRow.{EcuRow}
 use Rattle.up_machine.specs.declared.rows.Founding.{Founding}
 use Rattle.up_machine.specs.declared.rows.Kept.{Kept}
 use Rattle.up_machine.specs.declared.rows.VehicleRows.{VehicleRows}
 use Rattle.up_machine.specs.declared.vehicle.NewEcu.{NewEcu}
-use Rattle.up_machine.specs.State.{Entry, Vehicle, Root, State}
+use Rattle.up_machine.specs.State.{Entry, Vehicle, State}
 use Rattle.up_machine.specs.Files.{numbered_root_name, root_text_at, image_texts}
 use Rattle.up_machine.specs.Rows.{founding_row, rows_of, kept_row}
 use Rattle.up_rows.specs.declared.root_row.RootRow.{RootRow}

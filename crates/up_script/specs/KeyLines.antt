@@ -6,9 +6,9 @@ use Rattle.up_canon.specs.Members.{object_in, list_in, count_in}
 use Rattle.up_canon.specs.Readers.{fitting}
 use Rattle.up_canon.specs.Steps.{◌>>=◌, each}
 use Rattle.up_canon.specs.declared.refusal.Refusal.{Refusal}
-use Rattle.up_machine.specs.declared.keys.RoleSecrets.{RoleSecrets}
-use Rattle.up_machine.specs.declared.keys.RepoKeys.{RepoKeys}
-use Rattle.up_machine.specs.declared.keys.KeySet.{KeySet}
+use Rattle.up_metadata.specs.declared.keys.RoleSecrets.{RoleSecrets}
+use Rattle.up_metadata.specs.declared.keys.RepoKeys.{RepoKeys}
+use Rattle.up_metadata.specs.declared.keys.KeySet.{KeySet}
 
 -- a key, 1 to 256 bytes in hexadecimal digits
 unfoldable pub key_of : List ℕ → Data → Result (List ℕ) Refusal

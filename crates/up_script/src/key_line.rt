@@ -11,7 +11,7 @@ use up_canon::each::{Reading, each_of};
 use up_canon::fields::{count_at, list_at, object_at};
 use up_canon::hex_text::hex_of;
 use up_canon::refusal::Refusal;
-use up_machine::keys::{KeySet, RepoKeys, RoleSecrets};
+use up_metadata::keys::{KeySet, RepoKeys, RoleSecrets};
 
 /// Keys of 1 to 256 bytes, in hexadecimal digits.
 struct KeyReading;

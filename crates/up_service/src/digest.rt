@@ -5,8 +5,8 @@ ghost use Rattle.sha2.specs.Sha512.{sha512};
 ghost use Rattle.up_service.specs.Digests.{Digested, most_bytes};
 
 use sha2::{Digest, Sha256, Sha512};
-use up_lines::read_piece;
-use up_lines::source::Source;
+use up_pieces::read_piece;
+use up_pieces::source::Source;
 
 /// One more than a file may have, in bytes.
 const PAST_BYTES: u64 = 1_073_741_825;

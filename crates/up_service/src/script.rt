@@ -10,8 +10,8 @@ use std::alloc::Global;
 use up_desk::desk::Desk;
 use up_lines::fault::{ScriptCause, ScriptFault};
 use up_lines::run;
-use up_lines::sink::Sink;
-use up_lines::source::Source;
+use up_pieces::sink::Sink;
+use up_pieces::source::Source;
 use up_sign::scheme::Scheme;
 
 /// Reads a script to its end, carries out its lines at the desk one after another, and writes a line for each that isn't empty.

@@ -10,8 +10,8 @@ use up_desk::desk::Desk;
 use up_http::fault::ServeFault;
 use up_http::served::Served;
 use up_http::serving::serve;
-use up_lines::sink::Sink;
-use up_lines::source::Source;
+use up_pieces::sink::Sink;
+use up_pieces::source::Source;
 use up_sign::scheme::Scheme;
 
 /// Reads a stream of HTTP requests until it ends, carries out their commands at the desk, all at one moment in seconds since

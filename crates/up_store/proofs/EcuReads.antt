@@ -16,7 +16,7 @@ use Rattle.up_manifest.specs.declared.report.Installed.{Installed}
 use Rattle.up_machine.specs.declared.rows.EcuRow.{EcuRow}
 use Rattle.up_machine.specs.declared.rows.VehicleRows.{VehicleRows}
 use Rattle.up_machine.specs.Vehicles.{is_among}
-use Rattle.up_machine.proofs.Lists.{each_weaker}
+use Rattle.up_metadata.proofs.Lists.{each_weaker}
 use Rattle.up_machine.proofs.Values.{each_found}
 use Rattle.up_rows.specs.Lookups.{stands_among, owner_among, last_owner}
 use Rattle.up_rows.specs.SecondHashes.{TellsItsHash}

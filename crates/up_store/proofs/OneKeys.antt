@@ -9,9 +9,9 @@ use Rattle.sqlite.specs.declared.types.Value.TheVariants.{Int, Text}
 use Rattle.sqlite.specs.Order.{Row, column, value_cmp}
 use Rattle.up_roles.specs.declared.repository.Repository.{Repository}
 use Rattle.up_roles.specs.declared.repository.Repository.TheVariants.{Director, Image}
-use Rattle.up_machine.specs.declared.keys.KeySet.{KeySet}
-use Rattle.up_machine.specs.declared.keys.RepoKeys.{RepoKeys}
-use Rattle.up_machine.specs.declared.keys.RoleSecrets.{RoleSecrets}
+use Rattle.up_metadata.specs.declared.keys.KeySet.{KeySet}
+use Rattle.up_metadata.specs.declared.keys.RepoKeys.{RepoKeys}
+use Rattle.up_metadata.specs.declared.keys.RoleSecrets.{RoleSecrets}
 use Rattle.up_rows.specs.declared.root_row.RootRow.{RootRow}
 use Rattle.up_tables.specs.Rows.{has_number, has_text}
 use Rattle.up_store.specs.Lines.{repository_word, role_lines, repository_lines, root_lines, roots_lines}

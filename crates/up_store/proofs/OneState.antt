@@ -22,8 +22,9 @@ use Rattle.up_columns.proofs.NamesRead.{names-there, file_names-there}
 use Rattle.up_columns.proofs.NeedsRead.{needs-there}
 use Rattle.up_columns.proofs.CampaignsRead.{reach-there, campaign_items-there}
 use Rattle.up_columns.proofs.PlansRead.{plan-there}
+use Rattle.up_metadata.specs.Files.{Root}
 use Rattle.up_machine.specs.Sound.{IsSound}
-use Rattle.up_machine.specs.State.{Entry, Vehicle, Root, State}
+use Rattle.up_machine.specs.State.{Entry, Vehicle, State}
 use Rattle.up_machine.specs.declared.rows.EcuRow.{EcuRow}
 use Rattle.up_machine.specs.declared.rows.Founding.{Founding}
 use Rattle.up_machine.specs.declared.rows.Kept.{Kept}

@@ -15,9 +15,8 @@ use Rattle.up_roles.specs.Lifetimes.{lifetimes}
 use Rattle.up_roles.specs.Payload.{repository_text, sealed_text}
 use Rattle.up_roles.specs.Root.{root_more, root_payload, root_text_of}
 use Rattle.up_roles.specs.declared.repository.Repository.TheVariants.{Director}
-use Rattle.up_machine.specs.declared.keys.KeySet.{KeySet}
-use Rattle.up_machine.specs.Files.{root_signers, root_file, root_text}
-use Rattle.up_machine.specs.State.{Root}
+use Rattle.up_metadata.specs.declared.keys.KeySet.{KeySet}
+use Rattle.up_metadata.specs.Files.{root_signers, root_file, root_text, Root}
 
 -- ---- a moment in quotes
 

@@ -8,10 +8,11 @@ use Rattle.up_canon.specs.Moments.{MomentsAreRead}
 use Rattle.up_canon.specs.Names.{Name}
 use Rattle.up_sign.specs.Schemes.{Rules}
 use Rattle.up_roles.specs.declared.repository.Repository.TheVariants.{Director}
-use Rattle.up_machine.specs.declared.keys.KeySet.{KeySet}
+use Rattle.up_metadata.specs.declared.keys.KeySet.{KeySet}
+use Rattle.up_metadata.specs.Files.{Root}
 use Rattle.up_machine.specs.Files.{numbered_root_name, root_text_at}
 use Rattle.up_machine.specs.Sound.{IsSoundRoot}
-use Rattle.up_machine.specs.State.{Root, State, root_at}
+use Rattle.up_machine.specs.State.{State, root_at}
 use Rattle.up_rows.specs.declared.root_row.RootRow.{RootRow}
 use Rattle.up_rows.specs.Lookups.{text_in, row_named, text_held}
 use Rattle.up_rows.specs.StateRows.{StateRows, root_row}

@@ -9,11 +9,11 @@ use Rattle.up_roles.specs.declared.repository.Repository.{Repository}
 use Rattle.up_roles.specs.declared.repository.Repository.TheVariants.{Director, Image}
 use Rattle.up_plan.specs.Campaigns.{CampaignData}
 use Rattle.up_plan.specs.Images.{ImageData}
+use Rattle.up_metadata.specs.declared.role_files.RoleTexts.{RoleTexts}
+use Rattle.up_metadata.specs.declared.keys.RoleSecrets.{RoleSecrets}
+use Rattle.up_metadata.specs.declared.keys.RepoKeys.{RepoKeys}
 use Rattle.up_machine.specs.Files.{numbered_root_name}
-use Rattle.up_machine.specs.declared.decision.RoleTexts.{RoleTexts}
 use Rattle.up_machine.specs.declared.decision.RootRows.{RootRows}
-use Rattle.up_machine.specs.declared.keys.RoleSecrets.{RoleSecrets}
-use Rattle.up_machine.specs.declared.keys.RepoKeys.{RepoKeys}
 use Rattle.up_machine.specs.declared.rows.Founding.{Founding}
 use Rattle.up_machine.specs.declared.rows.EcuRow.{EcuRow}
 use Rattle.up_machine.specs.declared.rows.VehicleRows.{VehicleRows}

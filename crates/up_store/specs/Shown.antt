@@ -2,8 +2,8 @@
 use Rattle.std.specs.Prelude.{◌≡◌, ℕ, ◌&&◌, Bool, List, Option, Some, map, filter, find, option_map, option_and_then, bytes_eq, codes, string_bytes}
 use Rattle.up_manifest.specs.Manifests.{report_sha512_of}
 use Rattle.up_manifest.specs.declared.report.Installed.{Installed}
-use Rattle.up_machine.specs.declared.keys.RoleSecrets.{RoleSecrets}
-use Rattle.up_machine.specs.declared.keys.RepoKeys.{RepoKeys}
+use Rattle.up_metadata.specs.declared.keys.RoleSecrets.{RoleSecrets}
+use Rattle.up_metadata.specs.declared.keys.RepoKeys.{RepoKeys}
 use Rattle.up_machine.specs.declared.rows.EcuRow.{EcuRow}
 use Rattle.up_machine.specs.declared.rows.Founding.{Founding}
 use Rattle.up_machine.specs.declared.rows.VehicleRow.{VehicleRow}

@@ -6,9 +6,9 @@ use Rattle.std.specs.FinMap as table
 use Rattle.up_canon.specs.Names.{Name, is_ident, is_file_name}
 use Rattle.up_plan.specs.Campaigns.{CampaignData}
 use Rattle.up_plan.specs.Images.{ImageData}
-use Rattle.up_machine.specs.declared.keys.RoleSecrets.{RoleSecrets}
-use Rattle.up_machine.specs.declared.keys.RepoKeys.{RepoKeys}
-use Rattle.up_machine.specs.declared.keys.KeySet.{KeySet}
+use Rattle.up_metadata.specs.declared.keys.RoleSecrets.{RoleSecrets}
+use Rattle.up_metadata.specs.declared.keys.RepoKeys.{RepoKeys}
+use Rattle.up_metadata.specs.declared.keys.KeySet.{KeySet}
 use Rattle.up_machine.specs.declared.rows.VehicleRows.{VehicleRows}
 use Rattle.up_machine.specs.declared.rows.Kept.{Kept}
 use Rattle.up_rows.specs.SecondHashes.{TellsItsHash}

@@ -7,7 +7,8 @@ ghost use Rattle.up_store.specs.Shown.{file_read};
 use crate::keys::repository_word;
 use std::alloc::{AllocError, Global};
 use up_canon::text::Text;
-use up_machine::decision::{RoleTexts, RootRows};
+use up_machine::decision::RootRows;
+use up_metadata::role_files::RoleTexts;
 use up_roles::repository::Repository;
 use up_tables::repo_file::FileRow;
 

@@ -11,7 +11,7 @@ use crate::store::{MOST_NUMBER, StoreFault};
 use std::alloc::{AllocError, Global};
 use up_canon::bytes::Bytes;
 use up_canon::listed::Listed;
-use up_machine::keys::{KeySet, RepoKeys, RoleSecrets};
+use up_metadata::keys::{KeySet, RepoKeys, RoleSecrets};
 use up_roles::repository::Repository;
 use up_tables::role_key::RoleKeyRow;
 

@@ -12,8 +12,8 @@ use up_canon::moment::Moment;
 use up_canon::refusal::Refusal;
 use up_machine::decide_root::{decide_found, decide_rotate};
 use up_machine::decision::RootRows;
-use up_machine::keys::KeySet;
 use up_machine::new_files::root_rows;
+use up_metadata::keys::KeySet;
 use up_sign::scheme::Scheme;
 
 /// The answer to a founding.

@@ -8,9 +8,10 @@ use std::alloc::{AllocError, Global};
 use up_canon::bytes::Bytes;
 use up_canon::listed::Listed;
 use up_canon::text::Text;
-use up_machine::decision::{RegisterRows, RoleTexts, RootRows};
-use up_machine::keys::{KeySet, RepoKeys, RoleSecrets};
+use up_machine::decision::{RegisterRows, RootRows};
 use up_machine::rows::Founding;
+use up_metadata::keys::{KeySet, RepoKeys, RoleSecrets};
+use up_metadata::role_files::RoleTexts;
 
 /// The texts of a new root version.
 #[derive(Drop)]

@@ -1,8 +1,7 @@
 use Rattle.std.proofs.Common.{◌≡◌, List, false, sym, ap, ◌∙◌}
 use Rattle.std.specs.List.{list_all}
 use Rattle.sqlite.specs.Held.{state}
-use Rattle.up_machine.specs.Keys.{public_fits}
-use Rattle.up_machine.specs.Vehicles.{NewVehicleData}
+use Rattle.up_machine.specs.Vehicles.{NewVehicleData, public_fits}
 use Rattle.up_machine.specs.declared.vehicle.NewEcu.{NewEcu}
 use Rattle.up_desk.proofs.Serving.{by_key, unfit_vehicle}
 use Rattle.up_desk.proofs.Steps.{refused, reads_none}

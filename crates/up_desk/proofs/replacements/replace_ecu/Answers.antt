@@ -1,6 +1,6 @@
 use Rattle.std.proofs.Common.{◌≡◌, false, sym, ap, ◌∙◌}
 use Rattle.sqlite.specs.Held.{state}
-use Rattle.up_machine.specs.Keys.{public_fits}
+use Rattle.up_machine.specs.Vehicles.{public_fits}
 use Rattle.up_desk.proofs.Serving.{by_key, unfit_ecu}
 use Rattle.up_desk.proofs.Steps.{refused, reads_none}
 use Rattle.up_desk.proofs.replacements.replace_ecu.Goals as goal

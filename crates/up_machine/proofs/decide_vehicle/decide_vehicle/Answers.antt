@@ -1,8 +1,7 @@
 use Rattle.std.proofs.Common.{◌≡◌, true, false, sym, ap, ◌∙◌}
 use Rattle.std.specs.List.{list_all}
-use Rattle.up_machine.specs.Keys.{public_fits}
 use Rattle.up_machine.specs.declared.vehicle.NewEcu.{NewEcu}
-use Rattle.up_machine.specs.Vehicles.{NewVehicleData}
+use Rattle.up_machine.specs.Vehicles.{NewVehicleData, public_fits}
 use Rattle.up_machine.proofs.decide_vehicle.decide_vehicle.Goals as goal
 
 pub returns-then-publics_fit-clause-key : goal.returns-then-publics_fit-clause-key

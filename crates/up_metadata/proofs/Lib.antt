@@ -1,0 +1,5 @@
+pub mod Lists
+pub mod HashedIds
+pub mod RoleFiles
+pub mod RootFiles
+pub mod Signing
