@@ -10,9 +10,9 @@ use Rattle.sqlite_trees.specs.declared.store.Store.{Ghosts}
 use Rattle.up_canon.specs.Names.{Table}
 use Rattle.up_plan.specs.Campaigns.{CampaignData}
 use Rattle.up_sign.specs.Schemes.{Rules}
+use Rattle.up_metadata.specs.Keys.{hashed_roles}
 use Rattle.up_machine.specs.declared.command.Command.{Command}
 use Rattle.up_machine.specs.declared.command.Command.TheVariants.{Deliver, Fetch}
-use Rattle.up_machine.specs.Keys.{hashed_roles}
 use Rattle.up_machine.specs.Rows.{founding_row}
 use Rattle.up_machine.specs.RowsFit.{founding_fits}
 use Rattle.up_machine.specs.State.{State}

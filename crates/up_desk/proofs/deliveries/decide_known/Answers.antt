@@ -1,6 +1,6 @@
 use Rattle.std.proofs.Common.{◌≡◌, sym, ap, subst, ◌∙◌}
 use Rattle.sqlite.specs.Held.{state}
-use Rattle.up_machine.specs.Keys.{hashed_roles}
+use Rattle.up_metadata.specs.Keys.{hashed_roles}
 use Rattle.up_machine.specs.declared.rows.Founding.{Founding}
 use Rattle.up_machine.proofs.Senders.{refused_first}
 use Rattle.std.proofs.lemmas.Option.{same_Some}
