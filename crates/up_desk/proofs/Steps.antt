@@ -158,14 +158,6 @@ pub gives_or_lost : {R : Type 0} (gives : Result R Refusal → Result Outcome Re
 gives_or_lost gives (Ok x) computed due h = h
 gives_or_lost gives (Err r) computed due h = memory_is_lost (is_memory r) (is_store r) (computed ≡ Err r) (due r h)
 
--- what is due is refused so, or it is lost
-pub due_or_lost : (r : Refusal) (computed : Result Outcome Refusal) → computed ≡ Err r → MatchBool (is_lost_by r) ⊤ (computed ≡ Err r)
-due_or_lost r computed is = by_loss (is_lost_by r)
-  where
-    by_loss : (b : Bool) → MatchBool b ⊤ (computed ≡ Err r)
-    by_loss true = tt
-    by_loss false = is
-
 -- ---- calls of the store
 
 pub store_reads : {old new : Connected} → IfClean (IsAsCommitted old) new → Survives old new (λ _. ⊥) → Reads old new

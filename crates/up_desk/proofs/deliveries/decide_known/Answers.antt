@@ -4,7 +4,8 @@ use Rattle.up_metadata.specs.Keys.{hashed_roles}
 use Rattle.up_machine.specs.declared.rows.Founding.{Founding}
 use Rattle.up_machine.proofs.Senders.{refused_first}
 use Rattle.std.proofs.lemmas.Option.{same_Some}
-use Rattle.up_desk.proofs.Steps.{due_or_lost, reads_none}
+use Rattle.up_desk.proofs.Due.{surely_refused}
+use Rattle.up_desk.proofs.Steps.{reads_none}
 use Rattle.up_desk.proofs.deliveries.decide_known.Goals as goal
 
 pub returns-in-Ok-clause-decided : goal.returns-in-Ok-clause-decided
@@ -13,7 +14,7 @@ returns-in-Ok-clause-decided g c = λ clean s sound known was.
 
 pub returns-in-Err-clause-decided : goal.returns-in-Err-clause-decided
 returns-in-Err-clause-decided g c = λ clean s sound known was.
-    due_or_lost c.in-Err.refusal _ (refused_first (g.K.Scheme.rules c.args.scheme.now) s c.args.at c.args.incoming.now c.in-Err.refusal (c.in-Err.ensures.from s (sym known.kept.founding) known.rows))
+    surely_refused c.in-Err.refusal _ (refused_first (g.K.Scheme.rules c.args.scheme.now) s c.args.at c.args.incoming.now c.in-Err.refusal (c.in-Err.ensures.from s (sym known.kept.founding) known.rows))
 
 pub decide_sent-requires-clause-hashed : goal.decide_sent-requires-clause-hashed
 decide_sent-requires-clause-hashed g c =
