@@ -18,7 +18,7 @@ returns-in-Err-clause-decided g c = λ clean s sound known was.
 
 pub decide_sent-requires-clause-hashed : goal.decide_sent-requires-clause-hashed
 decide_sent-requires-clause-hashed g c =
-    c.requires.can.hashed ∙ ap (λ (f : Founding). hashed_roles (g.K.Scheme.rules c.args.scheme.now) f.keys.director) (same_Some c.in-Ok.ensures.given.0)
+    c.requires.can.hashed ∙ ap (λ (f : Founding). hashed_roles (g.K.Scheme.rules c.args.scheme.now) f.keys.director) (same_Some _ _ c.in-Ok.ensures.given.0)
 
 pub returns-in-Err-clause-reads : goal.returns-in-Err-clause-reads
 returns-in-Err-clause-reads g c = reads_none (state g.D.Store c.args.store.now)
