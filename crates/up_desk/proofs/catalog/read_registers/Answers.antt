@@ -9,7 +9,7 @@ returns-in-Ok-images-clause-told g c = λ clean k s was founding.
     let next = store_reads c.images.ensures.kept c.images.ensures.crash in
     record {
       founding = founding;
-      campaigns = c.in-Ok-campaigns.ensures.told (clean_before next clean) (rows_of_state k s) was;
+      campaigns = c.in-Ok-running.ensures.told (clean_before next clean) (rows_of_state k s) was;
       images = c.in-Ok-images.ensures.told clean (rows_of_state k s) (keeps_after k s was first);
     }
 
@@ -19,8 +19,8 @@ returns-in-Ok-images-clause-reads g c = reads_then (store_reads c.running.ensure
 pub returns-in-Err-images-clause-reads : goal.returns-in-Err-images-clause-reads
 returns-in-Err-images-clause-reads g c = reads_then (store_reads c.running.ensures.kept c.running.ensures.crash) (store_reads c.images.ensures.kept c.images.ensures.crash)
 
-pub returns-in-Err-campaigns-clause-reads : goal.returns-in-Err-campaigns-clause-reads
-returns-in-Err-campaigns-clause-reads g c = store_reads c.running.ensures.kept c.running.ensures.crash
+pub returns-in-Err-running-clause-reads : goal.returns-in-Err-running-clause-reads
+returns-in-Err-running-clause-reads g c = store_reads c.running.ensures.kept c.running.ensures.crash
 
 pub returns-in-Err-clause-reads : goal.returns-in-Err-clause-reads
 returns-in-Err-clause-reads g c = reads_none (state g.D.Store c.args.store.now)
