@@ -11,8 +11,7 @@ use Rattle.up_lines.specs.declared.progress.Progress.{Progress}
 use Rattle.up_lines.specs.declared.fault.ScriptCause.{ScriptCause}
 use Rattle.up_lines.specs.declared.fault.ScriptCause.TheVariants.{Read}
 use Rattle.up_lines.specs.Lines.{newline, most_lines, most_line_bytes, most_bytes, lines_of, is_short, fits, has_bytes, asked}
-use Rattle.up_lines.specs.declared.fault.ScriptFault.{ScriptFault}
-use Rattle.up_lines.specs.Runs.{At, Run}
+use Rattle.up_lines.specs.Runs.{At}
 use Rattle.up_lines.specs.LineRuns.{Gives, FinishedLines, Stopped, RanLines}
 use Rattle.up_lines.specs.Progress.{Sofar, Closes, Fails, Stops, Completes, IsFresh, told, is_inside}
 use Rattle.up_lines.proofs.Cuts.{lines-line, lines-last, lines-begun}

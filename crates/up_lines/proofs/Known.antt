@@ -1,13 +1,12 @@
 -- What a run says where it is known what the reader had.
-use Rattle.std.proofs.Common.{◌≡◌, ℕ, Bool, true, false, List, [], ◌∷◌, ◌++◌, Ok, Err, IfSome, Some, None, inl, inr, refl, ap, sym, ◌∙◌, subst, append_assoc, append-nil, arith, length-append}
+use Rattle.std.proofs.Common.{◌≡◌, ℕ, Bool, true, false, List, [], ◌∷◌, ◌++◌, Ok, Err, IfSome, Some, None, refl, ap, sym, ◌∙◌, subst, append_assoc, append-nil}
 use Rattle.std.specs.Prelude.{Option}
 use Rattle.std.proofs.KnownBytes.{Consumes-whole}
-use Rattle.up_lines.specs.declared.fault.ScriptCause.{ScriptCause}
-use Rattle.up_lines.specs.declared.fault.ScriptCause.TheVariants.{Memory, Read, Write, TooLong}
+use Rattle.up_lines.specs.declared.fault.ScriptCause.TheVariants.{TooLong}
 use Rattle.up_lines.specs.declared.fault.ScriptFault.{ScriptFault}
 use Rattle.up_lines.specs.Lines.{lines_of, fits, asked}
 use Rattle.up_lines.specs.Runs.{At}
-use Rattle.up_lines.specs.LineRuns.{Gives, AreFirst, FinishedLines, Stopped, Tells, RanLines, AnswersFirst}
+use Rattle.up_lines.specs.LineRuns.{Gives, AreFirst, FinishedLines, Tells, RanLines, AnswersFirst}
 use Rattle.up_lines.proofs.Later.{whole_first}
 
 -- what is to be answered of the whole input begins with what is to be answered of what came

@@ -2,7 +2,6 @@
 use Rattle.std.proofs.Common.{◌≡◌, ◌&&◌, inl, inr, ℕ, ◌+◌, ◌-◌, ◌<◌, ◌≤◌, Bool, true, false, List, [], ◌∷◌, ◌++◌, length, take, drop, get_or, take-append-drop, filter, refl, ap, sym, ◌∙◌, subst, arith, append_assoc, append-nil, length-append}
 use Rattle.std.specs.Prelude.{Option, Some, None}
 use Rattle.std.specs.List.{list_all}
-use Rattle.std.specs.Io.KnownBytes.{Appends}
 use Rattle.std.proofs.KnownBytes.{Appends-nil, Appends-trans}
 use Rattle.std.proofs.lemmas.Grind.{common_steps}
 use Rattle.std.proofs.lemmas.List.Elements.{filter-append}
@@ -11,8 +10,7 @@ use Rattle.up_lines.specs.declared.progress.Progress.{Progress}
 use Rattle.up_lines.specs.Lines.{newline, most_lines, most_line_bytes, lines_of, is_short, fits, has_bytes, asked}
 use Rattle.up_lines.specs.declared.fault.ScriptCause.{ScriptCause}
 use Rattle.up_lines.specs.declared.fault.ScriptCause.TheVariants.{Memory, Read, Write, TooLong}
-use Rattle.up_lines.specs.declared.fault.ScriptFault.{ScriptFault}
-use Rattle.up_lines.specs.Runs.{At, Breaks, BreaksOff}
+use Rattle.up_lines.specs.Runs.{At, BreaksOff}
 use Rattle.up_lines.specs.LineRuns.{Gives, print, AreFirst, Stopped, Tells}
 use Rattle.up_lines.specs.Progress.{Sofar, Fails, Takes, Stops, Unanswered, is_inside}
 use Rattle.up_lines.proofs.Cuts.{lines-line, lines-begins, lines-prefix, lines-some}

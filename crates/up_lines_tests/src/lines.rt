@@ -55,12 +55,12 @@ impl Read for Slow<'_> {
 
 /// Keeps what is written, at most so many bytes a call, and fails once, or takes nothing once.
 #[derive(Drop)]
-struct Shaky {
-    written: Vec<u8>,
-    step: usize,
-    calls: u32,
-    fails_at: u32,
-    takes_none_at: u32,
+pub(crate) struct Shaky {
+    pub written: Vec<u8>,
+    pub step: usize,
+    pub calls: u32,
+    pub fails_at: u32,
+    pub takes_none_at: u32,
 }
 
 impl Write for Shaky {

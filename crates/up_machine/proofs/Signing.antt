@@ -1,5 +1,5 @@
 -- Every file of a sound state is signed for its role.
-use Rattle.std.proofs.Common.{◌≡◌, ℕ, zero, suc, ◌-◌, ◌≤◌, List, [], ◌∷◌, Option, Some, None, refl, ap, ◌∙◌, arith}
+use Rattle.std.proofs.Common.{◌≡◌, ℕ, zero, suc, ◌-◌, ◌≤◌, List, [], ◌∷◌, true, Option, Some, None, refl, ap, ◌∙◌, arith}
 use Rattle.std.specs.Prelude.{length, option_map, unwrap_or, codes, slice_get, IfSome}
 use Rattle.std.proofs.lemmas.Bool.{ne_eqb}
 use Rattle.up_canon.specs.Names.{Name}
