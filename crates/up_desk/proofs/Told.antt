@@ -14,7 +14,7 @@ use Rattle.std.proofs.lemmas.Bool.{or_parts}
 use Rattle.std.proofs.lemmas.Bool.Decides.{nat_tests}
 use Rattle.std.proofs.lemmas.Cmp.{nat_list_cmp_total}
 use Rattle.std.specs.Cmp.Lexicographic.{slice_cmp}
-use Rattle.up_canon.specs.Names.{Name}
+use Rattle.up_canon.specs.Names.{Name, Table}
 use Rattle.up_sign.specs.Schemes.{Rules}
 use Rattle.up_metadata.specs.Files.{Root}
 use Rattle.up_machine.specs.declared.rows.EcuRow.{EcuRow}
