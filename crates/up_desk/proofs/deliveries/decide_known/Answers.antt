@@ -1,4 +1,4 @@
-use Rattle.std.proofs.Common.{◌≡◌, sym, ap, subst, ◌∙◌}
+use Rattle.std.proofs.Common.{sym, ap, ◌∙◌}
 use Rattle.sqlite.specs.Held.{state}
 use Rattle.up_metadata.specs.Keys.{hashed_roles}
 use Rattle.up_machine.specs.declared.rows.Founding.{Founding}
