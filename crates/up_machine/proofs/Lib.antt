@@ -42,3 +42,4 @@ pub mod NamedImages
 pub mod DecidedManifests
 pub mod SoundRows
 pub mod Senders
+pub mod TwoSteps

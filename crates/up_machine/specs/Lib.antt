@@ -23,3 +23,4 @@ pub mod RepeatLaws
 pub mod ApartLaws
 pub mod SignedLaws
 pub mod RowLaws
+pub mod TwoSteps

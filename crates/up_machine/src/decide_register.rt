@@ -1,18 +1,13 @@
 //! Decisions on the register of images: on an image over the founding's row and the image of its filename, on one of a new
 //! filename over all images too, and on new files over the founding's row alone, of which `new_files::register_rows` makes them.
-ghost use Rattle.std.specs.Prelude.{◌≡◌, ◌+◌, ◌≤◌, IfOk, IfSome, IsTrue, None, Ok, option_copied};
-ghost use Rattle.std.specs.FinMap as table;
+ghost use Rattle.std.specs.Prelude.{◌≡◌, ◌≤◌, IfOk, IfSome, IsTrue, Ok, option_copied};
 ghost use Rattle.up_canon.specs.Moments.{last_command_moment};
 ghost use Rattle.up_sign.specs.Schemes.{Rules};
 ghost use Rattle.up_machine.specs.declared.decision.Decision.TheVariants.{New};
 ghost use Rattle.up_machine.specs.declared.rows.Founding.{Founding};
 ghost use Rattle.up_machine.specs.RowsFit.{founding_fits};
-ghost use Rattle.up_machine.specs.State.{State};
-ghost use Rattle.up_machine.specs.Sound.{IsSound};
-ghost use Rattle.up_machine.specs.Rows.{founding_row};
-ghost use Rattle.up_machine.specs.Repositories.{decide_image as decide_image_in, decide_new_image as decide_new_image_in, decide_refresh as decide_refresh_in, stamped, with_image};
-ghost use Rattle.up_machine.specs.Decisions.{GivesRows, HasRegisterRows};
-ghost use Rattle.up_machine.specs.Due.{CanMakeFiles, GivesNewImage, GivesOutright, HasFounding};
+ghost use Rattle.up_machine.specs.Due.{CanMakeFiles};
+ghost use Rattle.up_machine.specs.TwoSteps.{TellsImage, MakesImageRows, TellsRefresh};
 
 use crate::decision::{Decision, RegisterRows};
 use crate::new_files::rows_with_image;
@@ -39,8 +34,7 @@ pub fn decide_image(
     old: Option<&Image>,
 ) -> Result<Decision<Founding>, Refusal>
     requires { at ≤ last_command_moment }
-    ensures decided { (s : State) → founding ≡ founding_row s → option_copied old.entry ≡ table.get s.images image.now.file
-        → GivesNewImage s at image.now result (decide_image_in s at image.now) }
+    ensures decided { TellsImage at image.now founding (option_copied old.entry) result }
     ensures same { (new : Founding) → result ≡ Ok (New new) → founding ≡ Some new }
 {
     let Some(founding) = founding else {
@@ -70,9 +64,7 @@ pub fn decide_new_image<K: Scheme>(
 ) -> Result<RegisterRows, Refusal>
     requires moment { at ≤ last_command_moment }
     requires keys { IsTrue (founding_fits (K.rules scheme.now) founding) }
-    ensures { (s : State) → IsSound (K.rules scheme.now) s → HasFounding s founding → images.now ≡ s.images → table.get s.images image.now.file ≡ None
-        → GivesRows (HasRegisterRows (K.rules scheme.now) (stamped (with_image s image.now) at (s.image_version + 1))) (stamped (with_image s image.now) at (s.image_version + 1)) result
-        (decide_new_image_in s at image.now) }
+    ensures { MakesImageRows (K.rules scheme.now) at image.now founding images.now result }
 {
     if images.len() >= MAX_IMAGES {
         return Err(Refusal::RegisterFull);
@@ -93,8 +85,7 @@ pub fn decide_refresh(
     founding: Option<Founding>,
 ) -> Result<Founding, Refusal>
     requires { at ≤ last_command_moment }
-    ensures decided { (s : State) → founding ≡ founding_row s
-        → GivesOutright (HasFounding (stamped s at version)) (stamped s at version) result (decide_refresh_in s at version) }
+    ensures decided { TellsRefresh at version founding result }
     ensures fits { (k : Rules) → IfSome founding (λ f. IsTrue (founding_fits k f)) → IfOk result (λ new. CanMakeFiles k new) }
 {
     let Some(old) = founding else {

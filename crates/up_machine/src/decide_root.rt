@@ -1,13 +1,10 @@
 //! Decisions on new root versions: foundings and rotations. Each is taken over the founding's row alone;
 //! `new_files::root_rows` makes the rows of what is due.
-ghost use Rattle.std.specs.Prelude.{◌≡◌, ◌+◌, ◌≤◌, IfOk, IfSome, IsTrue, is_some};
+ghost use Rattle.std.specs.Prelude.{◌≤◌, IfOk, IfSome, IsTrue};
 ghost use Rattle.up_canon.specs.Moments.{last_command_moment};
 ghost use Rattle.up_machine.specs.RowsFit.{founding_fits};
-ghost use Rattle.up_machine.specs.State.{State};
-ghost use Rattle.up_machine.specs.Rows.{founding_row};
-ghost use Rattle.up_machine.specs.Repositories.{decide_found as decide_found_in, decide_rotate as decide_rotate_in, stamped, with_root};
-ghost use Rattle.up_machine.specs.Decisions.{GivesRows};
-ghost use Rattle.up_machine.specs.Due.{CanMakeRoot, HasRoot};
+ghost use Rattle.up_machine.specs.Due.{CanMakeRoot};
+ghost use Rattle.up_machine.specs.TwoSteps.{TellsFounding, TellsRotation};
 
 use crate::decision::NextRoot;
 use crate::rows::Founding;
@@ -32,9 +29,7 @@ pub fn decide_found<K: Scheme>(
     is_founded: bool,
 ) -> Result<NextRoot, Refusal>
     requires { at ≤ last_command_moment }
-    ensures decided { (s : State) → is_founded ≡ is_some (founding_row s)
-        → GivesRows (HasRoot (stamped (with_root s at keys.now) at 1) at keys.now) (stamped (with_root s at keys.now) at 1) result
-        (decide_found_in (K.rules scheme.now) s at keys.now) }
+    ensures decided { TellsFounding (K.rules scheme.now) at keys.now is_founded result }
     ensures fits { IfOk result (λ new. CanMakeRoot (K.rules scheme.now) at keys.now new) }
 {
     let hashed = check_keys(alloc, scheme, keys)?;
@@ -60,9 +55,7 @@ pub fn decide_rotate<K: Scheme>(
     founding: Option<Founding>,
 ) -> Result<NextRoot, Refusal>
     requires { at ≤ last_command_moment }
-    ensures decided { (s : State) → founding ≡ founding_row s
-        → GivesRows (HasRoot (stamped (with_root s at keys.now) at (s.image_version + 1)) at keys.now) (stamped (with_root s at keys.now) at (s.image_version + 1)) result
-        (decide_rotate_in (K.rules scheme.now) s at keys.now) }
+    ensures decided { TellsRotation (K.rules scheme.now) at keys.now founding result }
     ensures fits { IfSome founding (λ f. IsTrue (founding_fits (K.rules scheme.now) f)) → IfOk result (λ new. CanMakeRoot (K.rules scheme.now) at keys.now new) }
 {
     let hashed = check_keys(alloc, scheme, keys)?;

@@ -4,6 +4,7 @@ ghost use Rattle.up_machine.specs.RepeatLaws.{RepeatsAreStale, RepeatsGetKeptRep
 ghost use Rattle.up_machine.specs.ApartLaws.{VehiclesStandApart, DeliveriesCommute, InstalledIsOfTheVehicle};
 ghost use Rattle.up_machine.specs.RowLaws.{FoundingRowFits, VehicleRowsFit};
 ghost use Rattle.up_machine.specs.SignedLaws.{RootsAreSigned, ImageFilesAreSigned, RepliesAreSigned, ServedFilesAreKnown};
+ghost use Rattle.up_machine.specs.TwoSteps.{FoundedInTwoSteps, RotatedInTwoSteps, RegisteredInTwoSteps, RefreshedInTwoSteps};
 
 use up_manifest::body_laws;
 
@@ -99,4 +100,14 @@ pub fn files_are_signed()
 pub fn rows_are_sound()
     ensures founding { FoundingRowFits }
     ensures vehicles { VehicleRowsFit }
+{}
+
+/// A decision that is taken in two steps is the plain machine's. The first step tells what is due, over the rows of a sound
+/// state that its rule reads; the second makes the rows of just that, over all images. Both together answer the rows of the
+/// plain machine's next state, `Already`, or the refusal that is due.
+pub fn decided_in_two_steps()
+    ensures founding { FoundedInTwoSteps }
+    ensures rotation { RotatedInTwoSteps }
+    ensures image { RegisteredInTwoSteps }
+    ensures refresh { RefreshedInTwoSteps }
 {}

@@ -8,11 +8,10 @@ ghost use Rattle.up_roles.specs.Payload.{version_fits};
 ghost use Rattle.up_roles.specs.Targets.{target_fits, ecus_of};
 ghost use Rattle.up_metadata.specs.Files.{role_texts as role_texts_of, root_text as root_text_of, Root};
 ghost use Rattle.up_metadata.specs.Keys.{key_set_fits, hashed_key_set, all_can_sign};
-ghost use Rattle.up_machine.specs.Decisions.{HasRegisterRows, HasRootRows};
-ghost use Rattle.up_machine.specs.Due.{CanMakeFiles, CanMakeRoot, HasFounding, HasRoot};
+ghost use Rattle.up_machine.specs.Due.{CanMakeFiles, CanMakeRoot};
 ghost use Rattle.up_machine.specs.Files.{target_of};
 ghost use Rattle.up_machine.specs.Registers.{place_among};
-ghost use Rattle.up_machine.specs.State.{State};
+ghost use Rattle.up_machine.specs.TwoSteps.{MakesRegisterRows, MakesRootRows};
 
 use crate::decision::{NextRoot, RegisterRows, RootRows};
 use crate::image_targets::{image_targets, targets_with};
@@ -42,7 +41,7 @@ pub fn root_rows<K: Scheme>(
     images: &Table<Image>,
 ) -> Result<RootRows, AllocError>
     requires { CanMakeRoot (K.rules scheme.now) at keys.now new.now }
-    ensures { (next : State) → HasRoot next at keys.now new.now → images.now ≡ next.images → IfOk result (λ rows. HasRootRows (K.rules scheme.now) next rows) }
+    ensures { MakesRootRows (K.rules scheme.now) at keys.now new.now images.now result }
 {
     let before = new.before.as_ref();
     let images = images.values();
@@ -151,7 +150,7 @@ pub fn register_rows<K: Scheme>(
     images: &Table<Image>,
 ) -> Result<RegisterRows, AllocError>
     requires { CanMakeFiles (K.rules scheme.now) founding }
-    ensures { (next : State) → HasFounding next founding → images.now ≡ next.images → IfOk result (λ rows. HasRegisterRows (K.rules scheme.now) next rows) }
+    ensures { MakesRegisterRows (K.rules scheme.now) founding images.now result }
 {
     match image_targets(alloc, images.values()) {
         Ok(targets) => rows_with_targets(alloc, scheme, founding, targets),
