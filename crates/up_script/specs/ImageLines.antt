@@ -10,6 +10,7 @@ use Rattle.up_canon.specs.declared.refusal.Refusal.{Refusal}
 use Rattle.up_canon.specs.declared.refusal.Refusal.TheVariants.{BadShape}
 use Rattle.up_columns.specs.Columns.{need_of}
 use Rattle.up_plan.specs.Images.{ImageData, image_fault}
+use Rattle.up_plan.specs.declared.image.Need.{Need}
 
 -- a list that may be left out, and is then empty
 abbrev pub list_or_empty : List ℕ → Option Data → Result (List Data) Refusal
@@ -38,17 +39,32 @@ within (Some fault) x = Err (BadShape fault)
 abbrev pub checked : {A : Type 0} → (A → Option (List ℕ)) → A → Result A Refusal
 checked fault x = within (fault x) x
 
+-- the hardware identifiers that the image fits
+unfoldable pub hardware_in : Data → Result (List (List ℕ)) Refusal
+hardware_in d = do
+  values ← list_in (codes "hardware") d
+  each (ident_of (codes "hardware")) values
+
+-- what it needs, if anything
+unfoldable pub needs_in : Data → Result (List Need) Refusal
+needs_in d = do
+  values ← optional_list_in (codes "needs") d
+  each (need_of (codes "needs")) values
+
+-- the filenames that it conflicts with, if any
+unfoldable pub conflicts_in : Data → Result (List (List ℕ)) Refusal
+conflicts_in d = do
+  values ← optional_list_in (codes "conflicts") d
+  each (file_name_of (codes "conflicts")) values
+
 unfoldable pub image_in : Data → Result ImageData Refusal
 image_in d = do
   file ← file_name_in (codes "file") d
   size ← count_in (codes "length") d
   sha256 ← sha256_in (codes "sha256") d
   sha512 ← optional_sha512_in d
-  hardware_values ← list_in (codes "hardware") d
-  hardware ← each (ident_of (codes "hardware")) hardware_values
+  hardware ← hardware_in d
   release ← count_in (codes "release") d
-  need_values ← optional_list_in (codes "needs") d
-  needs ← each (need_of (codes "needs")) need_values
-  conflict_values ← optional_list_in (codes "conflicts") d
-  conflicts ← each (file_name_of (codes "conflicts")) conflict_values
+  needs ← needs_in d
+  conflicts ← conflicts_in d
   checked image_fault (record { file = file; length = size; sha256 = sha256; sha512 = sha512; hardware = hardware; release = release; needs = needs; conflicts = conflicts })
