@@ -5,7 +5,7 @@ from edits.hashes import hashes
 from edits.kit import crates as ch
 crates=ch(); now=hashes(crates,[*crates]); kept=lock.kept()
 new={}
-for t in ('judge','judge2','judge3','judge4','pieces','store','desk'):
+for t in ('judge','judge2','judge3','judge4','try'):
     p=f'/work/{t}/refused.lock'
     if not os.path.isfile(p): continue
     for l in open(p):
