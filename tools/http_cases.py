@@ -425,7 +425,7 @@ def many_images(program, path):
     for number in range(60):
         told = {"file": "%03d.bin" % number, "length": 1, "sha256": fleet.digest(str(number)), "hardware": kinds, "release": number}
         lines.append(fleet.line("add_image", **told))
-    assert trials.printed(program, path, lines) == len(lines) * ["done"]
+    assert trials.printed(program, path, lines, 600) == len(lines) * ["done"]
     return path
 
 

@@ -330,11 +330,12 @@ def second_hashes_damaged():
     yield fleet.line("rotate", **fleet.key_set(9)), LOST
     yield campaign("new", "all", "HP", "a"), LOST
     yield campaign("new", "all", "HP", "none"), "refused 26 UnknownImage"
-    yield campaign("new", ["V9"], "HP", "a"), "refused 10 UnknownVehicle"
+    yield campaign("new", ["V9"], "HP", "a"), LOST
+    # (the images of running campaigns are read before a manifest is looked at)
     yield delivered("V1", 4, "P1", "S1"), LOST
-    yield delivered("V1", 1, "P1", "S1"), "reply V1 version 1 targets 2"
-    yield delivered("V1", 2, "P1", "S1"), "refused 13 Stale 3"
-    yield delivered("V1", 4, "P1"), "refused 16 MissingEcu S1"
+    yield delivered("V1", 1, "P1", "S1"), LOST
+    yield delivered("V1", 2, "P1", "S1"), LOST
+    yield delivered("V1", 4, "P1"), LOST
     yield close("over"), "already"
 
 

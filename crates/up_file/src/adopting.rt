@@ -13,7 +13,9 @@ use up_store::store::{OpenFault, Store};
 /// Adopts a database of this product, which raises one of an older schema, and makes the tables in one without any: `OpenFault::Store` where it has those
 /// of another. A fault hands the connection back as it was committed, with no transaction under way, and is never
 /// `OpenFault::NotOurs`.
-pub fn adopt_or_create<D: Alter>(conn: Connection<D>) -> Result<Store<D>, (Connection<D>, OpenFault)>
+pub fn adopt_or_create<D: Alter>(
+    conn: Connection<D>,
+) -> Result<Store<D>, (Connection<D>, OpenFault)>
     requires { (state D.Store conn).in_transaction ≡ false }
     ensures taken { IfOk result (λ s. HasCleanDisk (state D.Store s) → IsTaken (state D.Store conn) (state D.Store s)) }
     ensures crash { IfOk result (λ s. Survives (state D.Store conn) (state D.Store s) (TakenIn (state D.Store conn))) }

@@ -3,8 +3,8 @@ use crate::files::{found, in_new_folder};
 use sqlite::{Alter, Connection, FileFrom, FileStore, Unknown};
 use std::test::Fail;
 use std::{fs, io};
-use up_file::closing::close_file;
 use up_file::adopting::adopt_or_create;
+use up_file::closing::close_file;
 
 const EIGHT_TABLES: [&str; 8] = [
     "CREATE TABLE meta (id INTEGER PRIMARY KEY, app TEXT NOT NULL, schema INTEGER NOT NULL, root INTEGER NOT NULL, image_version INTEGER NOT NULL, stamp INTEGER NOT NULL) STRICT",

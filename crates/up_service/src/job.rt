@@ -7,6 +7,6 @@ pub enum Job {
     Run(String),
     /// Answers HTTP over the database of this file, at this port of 127.0.0.1, on so many connections.
     Serve(String, u16, u32),
-    /// Prints the length and the digest of this file.
+    /// Prints the length and the digests of this file.
     Digest(String),
 }

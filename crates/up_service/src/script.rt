@@ -17,8 +17,8 @@ use up_sign::scheme::Scheme;
 /// Reads a script to its end, carries out its lines at the desk one after another, and writes a line for each that isn't empty.
 ///
 /// The number is that of the lines answered. A line has at most 2,097,152 bytes, its newline not counted, and there are at most
-/// 100,000; past that comes `TooLong`. Of a reader whose bytes are known at most 209,715,300,001 are read; nothing is tried twice. A fault tells how many
-/// answers were written whole; what was answered before it stays done.
+/// 100,000; past that comes `TooLong`. Of a reader whose bytes are known at most 209,715,300,001 are read; nothing is tried
+/// twice. A fault tells how many answers were written whole; what was answered before it stays done.
 pub fn run_script<K: Scheme, D: Alter, R: Source, W: Sink>(
     alloc: Global,
     desk: &mut Desk<K, D>,

@@ -1,5 +1,6 @@
 //! Vehicles, as rows spell them: `VEHICLE PRIMARY VERSION LAST`; and ECUs: `ECU HARDWARE PUBLIC_KEY INSTALLED COUNTER REPORT`, in which
-//! what is installed is `FILE:LENGTH:SHA256` or `FILE:LENGTH:SHA256+SHA512`, and a `-` stands for nothing. And replacements: `VEHICLE OLD ECU HARDWARE PUBLIC_KEY`.
+//! what is installed is `FILE:LENGTH:SHA256` or `FILE:LENGTH:SHA256+SHA512`, and a `-` stands for nothing. And replacements:
+//! `VEHICLE OLD ECU HARDWARE PUBLIC_KEY`.
 use crate::fault::Fault;
 use crate::words::{
     bytes, count, file_name, hashes, hashes_digits, ident, number, parts_of, push_bytes,

@@ -6,8 +6,8 @@ use up_canon::fields::count_at;
 use up_canon::hex_text::hex_of;
 use up_canon::listed::Duplicate;
 use up_sign::envelope::{Envelope, Signature};
-use up_sign::key_id::{key_id, key_id_text};
 use up_sign::envelope_read::{open, read_envelope};
+use up_sign::key_id::{key_id, key_id_text};
 
 /// The signatures and the signed text of an envelope.
 pub(crate) fn envelope_of(alloc: Global, value: &Value) -> Result<String, AllocError> {
