@@ -132,14 +132,14 @@ kept_again c old new is = again_by old new (keeps_catalog c) is
 -- a campaign that doesn't run has no items for anybody
 ran_again : (p : CampaignData → Bool) (cs : List CampaignData) → filter (λ c. c.running && p c) (filter (λ c. c.running) cs) ≡ filter (λ c. c.running && p c) cs
 ran_again p [] = refl
-ran_again p (c ∷ cs) = by_test c.running refl
+ran_again p (c ∷ cs) = by_test c.running refl (ran_again p cs)
   where
-    by_test : (b : Bool) → c.running ≡ b
+    by_test : (b : Bool) → c.running ≡ b → filter (λ c. c.running && p c) (filter (λ c. c.running) cs) ≡ filter (λ c. c.running && p c) cs
         → filter (λ c. c.running && p c) (cond b (c ∷ filter (λ c. c.running) cs) (filter (λ c. c.running) cs)) ≡ cond (b && p c) (c ∷ filter (λ c. c.running && p c) cs) (filter (λ c. c.running && p c) cs)
-    by_test true is =
+    by_test true is more =
         ap (λ b. cond (b && p c) (c ∷ filter (λ c. c.running && p c) (filter (λ c. c.running) cs)) (filter (λ c. c.running && p c) (filter (λ c. c.running) cs))) is
-        ∙ ap (λ rest. cond (p c) (c ∷ rest) rest) (ran_again p cs)
-    by_test false is = ran_again p cs
+        ∙ ap (λ rest. cond (p c) (c ∷ rest) rest) more
+    by_test false is more = more
 
 values_are : (campaigns : Table CampaignData) → table.values (values_where (λ (c : CampaignData). c.running) campaigns) ≡ filter (λ (c : CampaignData). c.running) (table.values campaigns)
 values_are campaigns = running_sorted campaigns

@@ -220,11 +220,12 @@ sorted_filtered p (e ∷ es) h = by_test (p e) (sorted_filtered p es (and_right 
 
 filtered_values : {X : Type 0} (p : X → Bool) (es : List (Name × X)) → map (λ e. e.1) (filter (λ e. p e.1) es) ≡ filter p (map (λ e. e.1) es)
 filtered_values p [] = refl
-filtered_values p (e ∷ es) = by_test (p e.1)
+filtered_values p (e ∷ es) = by_test (p e.1) (filtered_values p es)
   where
-    by_test : (b : Bool) → map (λ e. e.1) (cond b (e ∷ filter (λ e. p e.1) es) (filter (λ e. p e.1) es)) ≡ cond b (e.1 ∷ filter p (map (λ e. e.1) es)) (filter p (map (λ e. e.1) es))
-    by_test true = ap (λ xs. e.1 ∷ xs) (filtered_values p es)
-    by_test false = filtered_values p es
+    by_test : (b : Bool) → map (λ e. e.1) (filter (λ e. p e.1) es) ≡ filter p (map (λ e. e.1) es)
+        → map (λ e. e.1) (cond b (e ∷ filter (λ e. p e.1) es) (filter (λ e. p e.1) es)) ≡ cond b (e.1 ∷ filter p (map (λ e. e.1) es)) (filter p (map (λ e. e.1) es))
+    by_test true more = ap (λ xs. e.1 ∷ xs) more
+    by_test false more = more
 
 pub running_sorted : (campaigns : Table CampaignData) → table.values (values_where (λ (c : CampaignData). c.running) campaigns) ≡ filter (λ (c : CampaignData). c.running) (table.values campaigns)
 running_sorted campaigns =

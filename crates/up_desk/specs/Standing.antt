@@ -70,7 +70,7 @@ pub record DeskView (K D : Type 0) : Type 0 where
   pub scheme : K
   pub store : Stored D
 
-pub record Standing : Type 0 where
+pub record Standing : Type 1 where
   pub connection : Connected
   pub catalog : Option Catalog
 

@@ -22,3 +22,6 @@ decide_sent-requires-clause-hashed g c =
 
 pub returns-in-Err-clause-reads : goal.returns-in-Err-clause-reads
 returns-in-Err-clause-reads g c = reads_none (state g.D.Store c.args.store.now)
+
+pub decide_sender-requires-clause-keys : goal.decide_sender-requires-clause-keys
+decide_sender-requires-clause-keys g c = c.requires.can.keys
