@@ -1,9 +1,9 @@
 -- What is kept in memory, and what keeps it.
-use Rattle.std.proofs.Common.{◌≡◌, ℕ, List, [], ◌∷◌, Bool, true, false, cond, Option, Some, None, Result, Ok, Err, map, filter, refl, sym, ap, ◌∙◌, subst}
-use Rattle.std.specs.Prelude.{⊤, ◌&&◌, if◌then◌else◌, IfSome, MatchBool, flat_map, is_some}
+use Rattle.std.proofs.Common.{◌≡◌, ℕ, List, [], ◌∷◌, Bool, true, false, cond, Option, Some, None, Result, Ok, Err, filter, refl, sym, ap, ◌∙◌, subst}
+use Rattle.std.specs.Prelude.{◌&&◌, if◌then◌else◌, IfSome, MatchBool, flat_map, is_some}
 use Rattle.std.specs.FinMap as table
 use Rattle.up_canon.specs.Names.{Name, Table}
-use Rattle.up_canon.specs.Steps.{and_then, ◌>>=◌}
+use Rattle.up_canon.specs.Steps.{and_then}
 use Rattle.up_canon.specs.declared.refusal.Refusal.{Refusal}
 use Rattle.up_sign.specs.Schemes.{Rules}
 use Rattle.up_manifest.specs.declared.manifest.Incoming.{Incoming}
@@ -21,7 +21,6 @@ use Rattle.up_machine.specs.Deliveries.{Received, accepted, decide_received}
 use Rattle.up_machine.specs.Machine.{outcome_of}
 use Rattle.up_machine.specs.Repeats.{KeptEntry, repeat_in, serve}
 use Rattle.up_machine.specs.Repositories.{decide_fetch}
-use Rattle.up_machine.specs.Rows.{founding_row}
 use Rattle.up_machine.specs.Senders.{ArePlanned}
 use Rattle.up_machine.specs.Sound.{IsSound}
 use Rattle.up_machine.specs.State.{State, Vehicle}

@@ -7,7 +7,6 @@ use Rattle.sqlite.specs.State.{State as Connected}
 use Rattle.sqlite.specs.State as connected
 use Rattle.sqlite.specs.Tree.{Trees}
 use Rattle.sqlite_trees.specs.declared.store.Store.{Ghosts}
-use Rattle.up_canon.specs.Names.{Table}
 use Rattle.up_plan.specs.Campaigns.{CampaignData}
 use Rattle.up_sign.specs.Schemes.{Rules}
 use Rattle.up_metadata.specs.Keys.{hashed_roles}
