@@ -116,6 +116,7 @@ FURTHER = [
 # ---- second hashes
 
 ONE_HASH, OTHER_HASH = "5c" * 64, "c5" * 32 + "0a" * 32
+HARDWARE = {"b-v": "hw", "a-v": "hv", "a-x": "hz"}
 
 
 def report(ecu, counter, file, sha256, second=""):
@@ -131,7 +132,7 @@ def member(digits):
 def told(ecu, key, file, sha256, counter, second, hash=None):
     """An ECU's row after a report: the second hash is the one that the report's text has, in lower case."""
     hashes = sha256 + ("+" + hash if hash else "")
-    return f"{ecu} hw {key} {file}:5:{hashes} {counter} {report(ecu, counter, file, sha256, second)}"
+    return f"{ecu} {HARDWARE[ecu]} {key} {file}:5:{hashes} {counter} {report(ecu, counter, file, sha256, second)}"
 
 
 # the images are put in, and stand in the table of second hashes, in other orders than that of their names
@@ -151,7 +152,7 @@ BOTH_AGAIN = [
 ]
 UNKNOWN_MEMBERS = [
     told("b-v", "090009", "c.bin", FIVE, 9, ',"sha384":"00"' + member("g" + ONE_HASH[1:])),
-    told("a-x", "0c0c", "c.bin", FIVE, 3, ',"sha512":7').replace("a-x hw", "a-x hz"),
+    told("a-x", "0c0c", "c.bin", FIVE, 3, ',"sha512":7'),
 ]
 SECOND_HASHES = [
     WRITES[0],
