@@ -51,6 +51,10 @@ REPLIES = {
     "equal_and_greater_releases": [("V2", 1, 1, []), ("V2", 2, 1, [A_FOR_S2])],
     "tie_by_the_least_filename": [("V2", 1, 1, [A7_FOR_S2])],
     "kept_reply_after_a_rotation": [("V2", 1, 1, [A_FOR_S2]), ("V2", 2, 2, []), ("V2", 1, 1, [A_FOR_S2])],
+    "commands_between_manifests": [
+        ("V2", 1, 1, []), ("V2", 2, 1, []), ("V2", 3, 1, [A_FOR_S2]), ("V2", 4, 1, [S_FOR_S2]), ("V2", 5, 1, [A_FOR_S2]),
+        ("V2", 6, 2, [A_FOR_S2]), ("V2", 3, 1, [A_FOR_S2]), ("V2", 7, 2, [])
+    ],
     "root_signed_by_the_old_key_too": [("V1", 1, 1, []), ("V1", 2, 2, [])],
     "each_command_under_a_second_scheme": [("V2", 1, 1, [A_FOR_S2]), ("V2", 2, 2, []), ("V2", 1, 1, [A_FOR_S2])],
     "report_of_an_attack": [("V1", 1, 1, []), ("V1", 2, 1, []), ("V1", 1, 1, []), ("V1", 3, 1, [])],

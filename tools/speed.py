@@ -7,6 +7,8 @@
     speed.py PROGRAM lines          lines a second over a file, as a ratio to the same script over memory
     speed.py PROGRAM growth         how a manifest's time grows with kept replies, images, campaigns and vehicles
     speed.py PROGRAM growth_counts  the same in instructions, over files
+    speed.py PROGRAM senders        instructions of a fresh, a repeated, a stale and a forged manifest of 4 ECUs, over files with so many
+                                    campaigns and images, behind a first manifest
     speed.py PROGRAM start          processor seconds and memory of a start over files of so many kept replies
     speed.py PROGRAM sums           instructions of a start and of a manifest over files with and without sums of pages
     speed.py PROGRAM http           requests a second over a file, beside the same by script, and instructions
@@ -17,6 +19,7 @@ Instructions are those that valgrind's callgrind counts, and compressions the ca
 need no valgrind. A number behind `growth_counts`, `start` or `sums` is the greatest number of kept replies, for a quick trial.
 Files are made where `TMPDIR` says.
 """
+import json
 import os
 import re
 import sqlite3
@@ -233,18 +236,18 @@ def growth(program, _):
         print("| %s | %.0f |" % (name, cost(program, list(prepared(*words)), told)), flush=True)
 
 
-def alone(program, path, script):
-    """The instructions that a line takes behind a start over a file, which callgrind leaves out."""
+def alone(program, path, script, before=(), answered=b"reply "):
+    """The instructions that a line takes behind a start over a file and the lines before, which callgrind leaves out."""
     told = path.parent / "told"
     words = [*callgrind(told, "--instr-atstart=no"), str(program), "run", str(path)]
     with subprocess.Popen(words, stdin=subprocess.PIPE, stdout=subprocess.PIPE, stderr=subprocess.PIPE) as it:
-        asked(it, [fleet.line("show", vehicle="v000000")])
+        asked(it, [fleet.line("show", vehicle="v000000"), *before])
         subprocess.run(["callgrind_control", "-i", "on", str(it.pid)], capture_output=True, check=True)
         answers = asked(it, script)
         subprocess.run(["callgrind_control", "-i", "off", str(it.pid)], capture_output=True, check=True)
         it.stdin.close()
         taken = collected(it.stderr.read())
-    assert all(answer.startswith(b"reply ") for answer in answers)
+    assert all(answer.startswith(answered) for answer in answers)
     return taken // len(script)
 
 
@@ -272,6 +275,39 @@ def growth_counts(program, own, most=MOST):
         trials.printed(program, path, prepared(*words))
         kept_replies(program, path, 0, lines)
         print("| %s | %d |" % (name, alone(program, path, list(manifests(100, lines, 2)))), flush=True)
+
+
+def closed(number):
+    """So many campaigns that are opened and closed."""
+    for at in range(number):
+        items = [{"hardware": "HS", "file": "i0"}]
+        yield fleet.line("open_campaign", campaign="d%d" % at, vehicles=["other"], items=items)
+        yield fleet.line("close_campaign", campaign="d%d" % at)
+
+
+def forged(line):
+    """The line with one digit of its Primary's signature changed, which is the first of its body."""
+    asked = json.loads(line)
+    front, rest = asked["body"].split('"sig":"', 1)
+    other = "1" if rest[0] == "0" else "0"
+    return fleet.line("deliver", body=front + '"sig":"' + other + rest[1:])
+
+
+def senders(program, own, lines=100):
+    """Counters 1 and 3 are accepted first, so that 2 is stale and 4 is fresh."""
+    told = [list(manifests(100, lines, counter, 4)) for counter in (1, 2, 3, 4)]
+    signed = [forged(line) for line in told[3]]
+    kinds = {"fresh": (told[3], b"reply "), "repeat": (told[0], b"reply "),
+             "stale": (told[1], b"refused 13 "), "forged": (signed, b"refused 12 ")}
+    others = {"1 image": (1, 0, 0), "10 campaigns": (1, 10, 0), "200 campaigns": (1, 200, 0),
+              "10,000 closed campaigns": (1, 0, 10_000), "1,024 images": (1024, 0, 0)}
+    for name, (images, campaigns, ended) in others.items():
+        path = own / name
+        before = [*prepared(100, images, campaigns, 4), *closed(ended), *told[0], *told[2]]
+        assert trials.printed(program, path, before, 3600) is not None
+        for kind, (script, answered) in kinds.items():
+            copy = trials.copied(path, own / "next")
+            print("| %s, %s | %d |" % (name, kind, alone(program, copy, script, told[0][:1], answered)), flush=True)
 
 
 def used(words, given=subprocess.DEVNULL):
@@ -427,7 +463,7 @@ def bodies(program, own):
         print("| %s | %d | %d |" % (name, *taken), flush=True)
 
 
-PARTS = (fleets, functions, commands, lines, growth, growth_counts, start, sums, http, head, bodies)
+PARTS = (fleets, functions, commands, lines, growth, growth_counts, senders, start, sums, http, head, bodies)
 
 
 def main(program, part, *most):

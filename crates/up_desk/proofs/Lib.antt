@@ -8,6 +8,8 @@ pub mod Loops
 pub mod Marks
 pub mod Serving
 pub mod Outlasting
+pub mod Cataloged
+pub mod Viewed
 pub mod Calls
 pub mod Runs
 pub mod Commits

@@ -4,7 +4,6 @@ use Rattle.std.proofs.lemmas.List.{take_more, take_all}
 use Rattle.std.specs.Prelude.{◌⊎◌, Result, Ok, Err, is_ok, is_some, MatchBool, IsTrue, IfSome, if◌then◌else◌}
 use Rattle.std.specs.List.{AllByRecursion}
 use Rattle.std.specs.FinMap as table
-use Rattle.sqlite.specs.State.{State as Connected, HasCleanDisk, Survives}
 use Rattle.sqlite_trees.specs.View.{doubt}
 use Rattle.sqlite.specs.Tree.{Trees}
 use Rattle.sqlite.proofs.StateLemmas.{survives_then}
@@ -21,8 +20,7 @@ use Rattle.up_machine.specs.RepeatLaws.{AreCommands, RepeatsChangeNothing, Serve
 use Rattle.up_machine.specs.ApartLaws.{VehiclesStandApart, DeliveriesCommute, AreExchanged}
 use Rattle.up_machine.specs.Laws.{KeptRepliesOutlastRuns}
 use Rattle.up_machine.specs.Replies.{kept_reply}
-use Rattle.up_tables.specs.Stands.{IfClean, LeavesOnly}
-use Rattle.up_store.specs.Connections.{KeepsState}
+use Rattle.up_desk.specs.Standing.{Standing, HasCleanDisk, IfClean, KeepsState, Survives, LeavesOnly}
 use Rattle.up_desk.specs.Serving.{HoldsState, IsCommit, is_lost, IsAnswered, outright}
 use Rattle.up_desk.specs.Calls.{CommitsCall, IsServed, ServesCall, SparesCall}
 use Rattle.up_desk.specs.Runs.{AreOutright, AreNeighbours, timed, sent, unless_lost, IsRun, RunsCalls, ComesTo, SparesCalls, IsLastCommit, CommitsCalls}
@@ -149,11 +147,11 @@ after_unchanged k s (m ∷ ms) all = ap (λ t. after k t ms) (met_unchanged k s 
 -- ---- over the store
 
 -- the commands have run, over a clean disk: from each state that the tables showed
-abbrev RunsFrom : Rules → Connected → Connected → List (ℕ × Command) → List Answer → Type 0
+abbrev RunsFrom : Rules → Standing → Standing → List (ℕ × Command) → List Answer → Type 0
 RunsFrom k old new cs answers =
     HasCleanDisk new → (s : State) → IsSound k s → IfClean (KeepsState k s) old → (next : State) × Ran k s cs answers next × IsSound k next × KeepsState k next new
 
-runs_next : (k : Rules) (old mid new : Connected) (cs : List (ℕ × Command)) (c : ℕ × Command) (answers : List Answer) (a : Answer)
+runs_next : (k : Rules) (old mid new : Standing) (cs : List (ℕ × Command)) (c : ℕ × Command) (answers : List Answer) (a : Answer)
     → RunsFrom k old mid cs answers → (HasCleanDisk new → HasCleanDisk mid) → ServesCall k c.0 c.1 a mid new → IsTrue (is_command c.1) → RunsFrom k old new (cs ++ c ∷ []) (answers ++ a ∷ [])
 runs_next k old mid new cs c answers a runs clean serves fits = λ now s sound was.
     let before = runs (clean now) s sound was in
@@ -161,29 +159,29 @@ runs_next k old mid new cs c answers a runs clean serves fits = λ now s sound w
     (here.0, ran_next k s cs answers before.0 c a here.0 before.1 here.1 fits, here.3, here.4)
 
 -- the state that the tables show between two calls; over a disk that isn't clean any sound state stands for it
-record Between (k : Rules) (s : State) (mid : Connected) (cs : List (ℕ × Command)) (answers : List Answer) : Type 0 where
+record Between (k : Rules) (s : State) (mid : Standing) (cs : List (ℕ × Command)) (answers : List Answer) : Type 0 where
   at : State
   sound : IsSound k at
   shown : IfClean (KeepsState k at) mid
   ran : HasCleanDisk mid → Ran k s cs answers at
 
-between : (k : Rules) (old mid : Connected) (cs : List (ℕ × Command)) (answers : List Answer) → RunsFrom k old mid cs answers → (s : State) → IsSound k s → IfClean (KeepsState k s) old
+between : (k : Rules) (old mid : Standing) (cs : List (ℕ × Command)) (answers : List Answer) → RunsFrom k old mid cs answers → (s : State) → IsSound k s → IfClean (KeepsState k s) old
     → Between k s mid cs answers
-between k old mid cs answers runs s sound was = by_disk (doubt mid.is_clean) refl
+between k old mid cs answers runs s sound was = by_disk (doubt mid.connection.is_clean) refl
   where
-    by_disk : (d : ℕ) → doubt mid.is_clean ≡ d → Between k s mid cs answers
+    by_disk : (d : ℕ) → doubt mid.connection.is_clean ≡ d → Between k s mid cs answers
     by_disk zero now = let it = runs now s sound was in record { at = it.0; sound = it.2; shown = λ _. it.3; ran = λ _. it.1 }
     by_disk (suc d) other = record { at = s; sound = sound; shown = λ now. absurd (omega (arith, now, other)); ran = λ now. absurd (omega (arith, now, other)) }
 
 -- a crash behind one more call
-spares_next : (k : Rules) (old mid new : Connected) (cs : List (ℕ × Command)) (c : ℕ × Command) (answers : List Answer) (a : Answer)
+spares_next : (k : Rules) (old mid new : Standing) (cs : List (ℕ × Command)) (c : ℕ × Command) (answers : List Answer) (a : Answer)
     → SparesCalls k cs answers old mid → RunsFrom k old mid cs answers → AreOutright k cs answers → (HasCleanDisk new → HasCleanDisk mid) → SparesCall k c.0 c.1 mid new
     → SparesCalls k (cs ++ c ∷ []) (answers ++ a ∷ []) old new
 spares_next k old mid new cs c answers a far runs due clean spares = λ s sound was.
     let b = between k old mid cs answers runs s sound was in
     let x = item (is_lost a) c in
     let more : sent (cs ++ c ∷ []) (answers ++ a ∷ []) ≡ sent cs answers ++ x ∷ [] = sent_next k cs answers c a due in
-    survives_then old mid new (λ trees. (at : State) × ComesTo k s (sent cs answers) at × HoldsState k at trees) (HoldsState k (serve k b.at c.0 c.1).next)
+    survives_then old.connection mid.connection new.connection (λ trees. (at : State) × ComesTo k s (sent cs answers) at × HoldsState k at trees) (HoldsState k (serve k b.at c.0 c.1).next)
     (λ trees. (at : State) × ComesTo k s (sent (cs ++ c ∷ []) (answers ++ a ∷ [])) at × HoldsState k at trees)
     (λ now trees h. (
       h.0,
@@ -198,7 +196,7 @@ spares_next k old mid new cs c answers a far runs due clean spares = λ s sound 
     (far s sound was) (spares b.at b.sound b.shown)
 
 -- the last call was a commit that was answered
-commit_last : (k : Rules) (s at next : State) (c : ℕ × Command) (a : Answer) (ms : List Sent) (mid new : Connected) → at ≡ after k s ms → is_lost a ≡ false
+commit_last : (k : Rules) (s at next : State) (c : ℕ × Command) (a : Answer) (ms : List Sent) (mid new : Standing) → at ≡ after k s ms → is_lost a ≡ false
     → IsAnswered a at next (serve k at c.0 c.1)
     → IsCommit (after k s ms) (serve k (after k s ms) c.0 c.1).answer (serve k (after k s ms) c.0 c.1).next
     → CommitsCall k c.0 c.1 a mid new → IsSound k at → IfClean (KeepsState k at) mid → HasCleanDisk new → LeavesOnly (HoldsState k (after k s (ms ++ item (is_lost a) c ∷ []))) new
@@ -215,7 +213,7 @@ commit_last k s at next c a ms mid new here told answered commit commits sound s
     subst (λ (t : State). LeavesOnly (HoldsState k t) new) (sym end) (commits at sound shown made now)
 
 -- the last call changes nothing
-still_last : (k : Rules) (s at : State) (c : ℕ × Command) (a : Answer) (ms : List Sent) (mid new : Connected) → at ≡ after k s ms
+still_last : (k : Rules) (s at : State) (c : ℕ × Command) (a : Answer) (ms : List Sent) (mid new : Standing) → at ≡ after k s ms
     → (serve k (after k s ms) c.0 c.1).next ≡ after k s ms → LeavesOnly (HoldsState k (after k s ms)) mid
     → Survives mid new (HoldsState k (serve k at c.0 c.1).next) → HasCleanDisk new → LeavesOnly (HoldsState k (after k s (ms ++ item (is_lost a) c ∷ []))) new
 still_last k s at c a ms mid new here same before spares now =
@@ -224,12 +222,12 @@ still_last k s at c a ms mid new here same before spares now =
     let next : (serve k at c.0 c.1).next ≡ after k s ms = ap (λ (t : State). (serve k t c.0 c.1).next) here ∙ same in
     subst (λ (t : State). LeavesOnly (HoldsState k t) new) (sym end) (λ trees left. by_call trees next (spares.crash now trees left))
   where
-    by_call : (trees : Trees) → (serve k at c.0 c.1).next ≡ after k s ms → mid.may_leave trees ⊎ HoldsState k (serve k at c.0 c.1).next trees → HoldsState k (after k s ms) trees
+    by_call : (trees : Trees) → (serve k at c.0 c.1).next ≡ after k s ms → mid.connection.may_leave trees ⊎ HoldsState k (serve k at c.0 c.1).next trees → HoldsState k (after k s ms) trees
     by_call trees next (inl earlier) = before trees earlier
     by_call trees next (inr holds) = subst (λ (t : State). HoldsState k t trees) next holds
 
 -- what stays of a last commit behind one more call
-commits_next : (k : Rules) (old mid new : Connected) (cs : List (ℕ × Command)) (c : ℕ × Command) (answers : List Answer) (a : Answer)
+commits_next : (k : Rules) (old mid new : Standing) (cs : List (ℕ × Command)) (c : ℕ × Command) (answers : List Answer) (a : Answer)
     → CommitsCalls k cs answers old mid → RunsFrom k old mid cs answers → AreOutright k cs answers → (HasCleanDisk new → HasCleanDisk mid)
     → ServesCall k c.0 c.1 a mid new → SparesCall k c.0 c.1 mid new → CommitsCall k c.0 c.1 a mid new → CommitsCalls k (cs ++ c ∷ []) (answers ++ a ∷ []) old new
 commits_next k old mid new cs c answers a far runs due clean serves spares commits = λ s sound was before rest m last now.
@@ -266,7 +264,7 @@ commits_next k old mid new cs c answers a far runs due clean serves spares commi
         (spares b.at b.sound b.shown) now
 
 -- so many commands have run, with as many answers after those that were there
-pub record SoFar (k : Rules) (old new : Connected) (cs : List (ℕ × Command)) (held answers : List Answer) : Type 0 where
+pub record SoFar (k : Rules) (old new : Standing) (cs : List (ℕ × Command)) (held answers : List Answer) : Type 0 where
   pub given : List Answer
   pub items : answers ≡ held ++ given
   pub due : AreOutright k cs given
@@ -276,14 +274,14 @@ pub record SoFar (k : Rules) (old new : Connected) (cs : List (ℕ × Command)) 
   pub clean : HasCleanDisk new → HasCleanDisk old
 
 -- what is told of a call
-pub record CallOf (k : Rules) (c : ℕ × Command) (a : Answer) (mid new : Connected) : Type 0 where
+pub record CallOf (k : Rules) (c : ℕ × Command) (a : Answer) (mid new : Standing) : Type 0 where
   pub serves : ServesCall k c.0 c.1 a mid new
   pub spares : SparesCall k c.0 c.1 mid new
   pub commits : CommitsCall k c.0 c.1 a mid new
   pub fits : IsTrue (is_command c.1)
   pub due : IfSome (outright k c.0 c.1) (λ r. a ≡ Refused r)
 
-pub none_so_far : (k : Rules) (s : Connected) (cs : List (ℕ × Command)) (held answers : List Answer) → answers ≡ held → SoFar k s s (take 0 cs) held answers
+pub none_so_far : (k : Rules) (s : Standing) (cs : List (ℕ × Command)) (held answers : List Answer) → answers ≡ held → SoFar k s s (take 0 cs) held answers
 none_so_far k s cs held answers same = record {
   given = [];
   items = same ∙ sym (append-nil held);
@@ -294,7 +292,7 @@ none_so_far k s cs held answers same = record {
   clean = λ now. now;
 }
 
-so_far_next : (k : Rules) (old mid new : Connected) (cs : List (ℕ × Command)) (c : ℕ × Command) (held answers more : List Answer) (a : Answer)
+so_far_next : (k : Rules) (old mid new : Standing) (cs : List (ℕ × Command)) (c : ℕ × Command) (held answers more : List Answer) (a : Answer)
     → SoFar k old mid cs held answers → more ≡ answers ++ a ∷ [] → (HasCleanDisk new → HasCleanDisk mid) → CallOf k c a mid new → SoFar k old new (cs ++ c ∷ []) held more
 so_far_next k old mid new cs c held answers more a far pushed clean call = record {
   given = far.given ++ a ∷ [];
@@ -307,7 +305,7 @@ so_far_next k old mid new cs c held answers more a far pushed clean call = recor
 }
 
 -- one call more, by a scheme that is the same
-pub one_more : (k j : Rules) (old mid new : Connected) (cs : List (ℕ × Command)) (i : ℕ) (c : ℕ × Command) (held answers more : List Answer) (a : Answer)
+pub one_more : (k j : Rules) (old mid new : Standing) (cs : List (ℕ × Command)) (i : ℕ) (c : ℕ × Command) (held answers more : List Answer) (a : Answer)
     → i < length cs → c ≡ get_or cs i c → j ≡ k → SoFar k old mid (take i cs) held answers → more ≡ answers ++ a ∷ [] → (HasCleanDisk new → HasCleanDisk mid)
     → CallOf j c a mid new → SoFar k old new (take (i + 1) cs) held more
 one_more k j old mid new cs i c held answers more a within item scheme far pushed clean call =
@@ -365,7 +363,7 @@ ran_all laws k old cs answers new sound ran =
     }
 
 -- over the store, the answers and the state that the tables show then
-pub run_whole : (laws : ListLaws) (k : Rules) (old new : Connected) (cs : List (ℕ × Command)) (i : ℕ) (held answers : List Answer) → length cs ≤ i → SoFar k old new (take i cs) held answers
+pub run_whole : (laws : ListLaws) (k : Rules) (old new : Standing) (cs : List (ℕ × Command)) (i : ℕ) (held answers : List Answer) → length cs ≤ i → SoFar k old new (take i cs) held answers
     → (told : List Answer) × (answers ≡ held ++ told) × AreOutright k cs told × RunsCalls k cs told old new × SparesCalls k cs told old new × CommitsCalls k cs told old new
 run_whole laws k old new cs i held answers all far =
     let whole : SoFar k old new cs held answers = subst (λ (xs : List (ℕ × Command)). SoFar k old new xs held answers) (take_all i cs all) far in (

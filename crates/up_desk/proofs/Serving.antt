@@ -180,7 +180,7 @@ answered k s new at c (Ok a) stays fits sound h =
     }
 answered k s new at c (Err r) stays fits sound h = record { next = s; answered = by_loss k s at c r (is_lost_by r) h.1; sound = sound; keeps = h.0 }
 
-next_is : (k : Rules) (s : State) (at : ℕ) (c : Command) → (outcome_of s (outcome_due k s at c)).next ≡ (serve k s at c).next
+pub next_is : (k : Rules) (s : State) (at : ℕ) (c : Command) → (outcome_of s (outcome_due k s at c)).next ≡ (serve k s at c).next
 next_is k s at c = sym (ap (λ (o : Outcome). o.next) (due_is k s at c))
 
 pub crashed : (k : Rules) (s : State) (old new : Connected) (at : ℕ) (c : Command) (r : Result Answer Refusal) → Serves k s old new r (outcome_due k s at c) → Survives old new (HoldsState k (serve k s at c).next)
@@ -239,7 +239,7 @@ told_outright (Some r) given answer is h = is ∙ ap told h
 -- ---- a disk that is clean was clean
 
 pub clean_once : (k : Rules) (old new : Connected) (Left : State → Trees → Type 0) → EmptyIsSound
-    → ((s : State) → IsSound k s → IfClean (KeepsState k s) old → Survives old new (Left s)) → HasCleanDisk new → HasCleanDisk old
+    → ((s : State) → IsSound k s → (HasCleanDisk old → ⊥) → Survives old new (Left s)) → HasCleanDisk new → HasCleanDisk old
 unfolding doubt
 clean_once k old new Left sound survives now = by_test old.is_clean refl
   where
@@ -247,6 +247,6 @@ clean_once k old new Left sound survives now = by_test old.is_clean refl
     by_test true is = ap doubt is
     by_test false is =
         let is_not : HasCleanDisk old → ⊥ = λ (clean : doubt old.is_clean ≡ 0). let one : doubt old.is_clean ≡ 1 = ap doubt is in absurd (omega arith) in
-        let all : Survives old new (Left empty_state) = survives empty_state (sound k) (λ clean. absurd (is_not clean)) in
+        let all : Survives old new (Left empty_state) = survives empty_state (sound k) is_not in
         let before : doubt old.is_clean ≡ 0 = omega (arith, all.clean) in
         before

@@ -1,6 +1,6 @@
 -- What is read of the rows of a state is the state's.
 use Rattle.std.proofs.Common.{◌≡◌, ℕ, List, [], ◌∷◌, Bool, true, false, cond, T, Option, Some, None, length, map, refl, sym, ap, ap₂, ◌∙◌, arith, subst}
-use Rattle.std.specs.Prelude.{◌&&◌, ◌==◌, bytes_eq, is_none, is_some, option_map, option_and_then, unwrap_or, find, filter, flat_map}
+use Rattle.std.specs.Prelude.{◌==◌, bytes_eq, is_none, is_some, option_map, option_and_then, unwrap_or, find, filter}
 use Rattle.std.specs.List.{AllByRecursion}
 use Rattle.std.specs.Option.{option_or}
 use Rattle.std.specs.FinMap as table
@@ -14,7 +14,7 @@ use Rattle.std.proofs.lemmas.Bool.{or_parts}
 use Rattle.std.proofs.lemmas.Bool.Decides.{nat_tests}
 use Rattle.std.proofs.lemmas.Cmp.{nat_list_cmp_total}
 use Rattle.std.specs.Cmp.Lexicographic.{slice_cmp}
-use Rattle.up_canon.specs.Names.{Name}
+use Rattle.up_canon.specs.Names.{Name, Table}
 use Rattle.up_sign.specs.Schemes.{Rules}
 use Rattle.up_metadata.specs.Files.{Root}
 use Rattle.up_machine.specs.declared.rows.EcuRow.{EcuRow}
@@ -29,14 +29,13 @@ use Rattle.up_metadata.proofs.Lists.{and_left, and_right}
 use Rattle.up_machine.proofs.Lists.{none_passes}
 use Rattle.up_machine.proofs.Tables.{one_name}
 use Rattle.up_plan.specs.Campaigns.{CampaignData}
-use Rattle.up_plan.specs.Planning.{items_for, reaches}
 use Rattle.up_roles.specs.declared.repository.Repository.{Repository}
 use Rattle.up_roles.specs.declared.repository.Repository.TheVariants.{Director, Image}
 use Rattle.up_rows.proofs.Tables.{changed, entries_changed}
-use Rattle.up_rows.specs.StateRows.{StateRows, rows_of_state}
+use Rattle.up_rows.specs.StateRows.{rows_of_state}
 use Rattle.up_rows.specs.Lookups.{stands_among, owner_among, last_owner, owner_found, installed_among}
 use Rattle.up_rows.specs.Laws.{FoundedIsFound, VehiclesAreFound, VersionsAreTold, EcusAreTold, InstalledIsTold}
-use Rattle.up_store.specs.Found.{vehicle_found, ecus_found, campaigns_found}
+use Rattle.up_store.specs.Found.{vehicle_found, ecus_found, values_where}
 use Rattle.up_store.proofs.ValuesWhere.{from_T}
 
 -- ---- vehicles
@@ -201,7 +200,7 @@ founded_with k s repository name text founded there = by_roots (length s.roots =
     by_roots true none = absurd (let e = there ∙ no_file k s repository name s.roots refl (grind (arith, none, nat_tests)) in cc)
     by_roots false some = some_where (founding_row s) (length s.roots == 0) (founded s) some
 
--- ---- campaigns that reach a vehicle
+-- ---- the running campaigns
 
 below_filtered : {X : Type 0} (p : Name × X → Bool) (name : Name) (es : List (Name × X)) → below_all by_name name es ≡ true → below_all by_name name (filter p es) ≡ true
 below_filtered p name [] h = refl
@@ -219,20 +218,19 @@ sorted_filtered p (e ∷ es) h = by_test (p e) (sorted_filtered p es (and_right 
     by_test true more = rw (below_filtered p e.0 es (and_left (below_all by_name e.0 es) (is_sorted by_name es) h), more)
     by_test false more = more
 
-filtered_again : {X : Type 0} (p : X → Bool) (es : List (Name × X)) → filter p (map (λ e. e.1) (filter (λ e. p e.1) es)) ≡ filter p (map (λ e. e.1) es)
-filtered_again p [] = refl
-filtered_again p (e ∷ es) = by_test (p e.1) refl (filtered_again p es)
+filtered_values : {X : Type 0} (p : X → Bool) (es : List (Name × X)) → map (λ e. e.1) (filter (λ e. p e.1) es) ≡ filter p (map (λ e. e.1) es)
+filtered_values p [] = refl
+filtered_values p (e ∷ es) = by_test (p e.1) (filtered_values p es)
   where
-    by_test : (b : Bool) → p e.1 ≡ b → filter p (map (λ e. e.1) (filter (λ e. p e.1) es)) ≡ filter p (map (λ e. e.1) es)
-        → filter p (map (λ e. e.1) (cond b (e ∷ filter (λ e. p e.1) es) (filter (λ e. p e.1) es))) ≡ cond b (e.1 ∷ filter p (map (λ e. e.1) es)) (filter p (map (λ e. e.1) es))
-    by_test true is more = ap (λ b. cond b (e.1 ∷ filter p (map (λ e. e.1) (filter (λ e. p e.1) es))) (filter p (map (λ e. e.1) (filter (λ e. p e.1) es)))) is ∙ ap (λ xs. e.1 ∷ xs) more
-    by_test false is more = more
+    by_test : (b : Bool) → map (λ e. e.1) (filter (λ e. p e.1) es) ≡ filter p (map (λ e. e.1) es)
+        → map (λ e. e.1) (cond b (e ∷ filter (λ e. p e.1) es) (filter (λ e. p e.1) es)) ≡ cond b (e.1 ∷ filter p (map (λ e. e.1) es)) (filter p (map (λ e. e.1) es))
+    by_test true more = ap (λ xs. e.1 ∷ xs) more
+    by_test false more = more
 
--- their items for the vehicle are those of all campaigns
-pub items_found : (rows : StateRows) (vehicle : Name) → items_for (table.values (campaigns_found vehicle rows)) vehicle ≡ items_for (table.values rows.campaigns) vehicle
-items_found rows vehicle =
-    let test = λ (c : CampaignData). c.running && reaches vehicle c.reach in
-    let es = table.entries rows.campaigns in
-    let sorted : T (is_sorted by_name (filter (λ e. test e.1) es)) = subst T (sym (sorted_filtered (λ e. test e.1) es (from_T _ (table.entries_sorted rows.campaigns)))) tt in
-    ap (λ (found : List (Name × CampaignData)). flat_map (λ (c : CampaignData). c.items) (filter test (map (λ e. e.1) found))) (table.entries-from_sorted by_name (filter (λ e. test e.1) es) sorted)
-    ∙ ap (flat_map (λ (c : CampaignData). c.items)) (filtered_again test es)
+pub running_sorted : (campaigns : Table CampaignData) → table.values (values_where (λ (c : CampaignData). c.running) campaigns) ≡ filter (λ (c : CampaignData). c.running) (table.values campaigns)
+running_sorted campaigns =
+    let test = λ (c : CampaignData). c.running in
+    let es = table.entries campaigns in
+    let sorted : T (is_sorted by_name (filter (λ e. test e.1) es)) = subst T (sym (sorted_filtered (λ e. test e.1) es (from_T _ (table.entries_sorted campaigns)))) tt in
+    ap (λ (found : List (Name × CampaignData)). map (λ e. e.1) found) (table.entries-from_sorted by_name (filter (λ e. test e.1) es) sorted)
+    ∙ filtered_values test es

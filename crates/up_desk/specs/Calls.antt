@@ -1,30 +1,28 @@
 -- What a call of a desk comes to: the answer, the state that the tables show then, and what a crash leaves.
 use Rattle.std.specs.Prelude.{ℕ}
-use Rattle.sqlite.specs.State.{State as Connected, HasCleanDisk, Survives}
 use Rattle.up_sign.specs.Schemes.{Rules}
 use Rattle.up_machine.specs.declared.command.Command.{Command}
 use Rattle.up_machine.specs.declared.answer.Answer.{Answer}
 use Rattle.up_machine.specs.State.{State}
 use Rattle.up_machine.specs.Repeats.{serve}
 use Rattle.up_machine.specs.Sound.{IsSound}
-use Rattle.up_tables.specs.Stands.{IfClean, LeavesOnly}
-use Rattle.up_store.specs.Connections.{KeepsState}
+use Rattle.up_desk.specs.Standing.{Standing, HasCleanDisk, IfClean, KeepsState, Survives, LeavesOnly}
 use Rattle.up_desk.specs.Serving.{HoldsState, IsAnswered, IsCommit, RepliesStay}
 
 -- The answer and the next state are those of what is served, and where the command was lost the state is as it was. Kept replies are
 -- kept on, the state stays sound, and the tables show it.
-abbrev pub IsServed : Rules → State → ℕ → Command → Answer → Connected → Type 0
+abbrev pub IsServed : Rules → State → ℕ → Command → Answer → Standing → Type 0
 IsServed k s at c a new = (next : State) × IsAnswered a s next (serve k s at c) × RepliesStay k s next × IsSound k next × KeepsState k next new
 
 -- so from each sound state that the tables showed
-abbrev pub ServesCall : Rules → ℕ → Command → Answer → Connected → Connected → Type 0
+abbrev pub ServesCall : Rules → ℕ → Command → Answer → Standing → Standing → Type 0
 ServesCall k at c a old new = HasCleanDisk new → (s : State) → IsSound k s → IfClean (KeepsState k s) old → IsServed k s at c a new
 
 -- whatever is answered, a crash leaves what it could leave before, or the next state
-abbrev pub SparesCall : Rules → ℕ → Command → Connected → Connected → Type 0
+abbrev pub SparesCall : Rules → ℕ → Command → Standing → Standing → Type 0
 SparesCall k at c old new = (s : State) → IsSound k s → IfClean (KeepsState k s) old → Survives old new (HoldsState k (serve k s at c).next)
 
 -- after a commit it leaves the next state alone
-abbrev pub CommitsCall : Rules → ℕ → Command → Answer → Connected → Connected → Type 0
+abbrev pub CommitsCall : Rules → ℕ → Command → Answer → Standing → Standing → Type 0
 CommitsCall k at c a old new = (s : State) → IsSound k s → IfClean (KeepsState k s) old → IsCommit s a (serve k s at c).next
     → IfClean (LeavesOnly (HoldsState k (serve k s at c).next)) new

@@ -1,10 +1,9 @@
 -- Images that are looked up one after another, by the files that name them.
-use Rattle.std.specs.Prelude.{◌≡◌, List, [], ◌∷◌, Option, None, Some, map, flat_map}
+use Rattle.std.specs.Prelude.{◌≡◌, List, [], ◌∷◌, Option, None, Some, map}
 use Rattle.std.specs.FinMap as table
 use Rattle.up_canon.specs.Names.{Name, Table}
 use Rattle.up_manifest.specs.declared.report.SignedReport.{SignedReport}
 use Rattle.up_plan.specs.declared.campaign.Item.{Item}
-use Rattle.up_plan.specs.Campaigns.{CampaignData}
 use Rattle.up_plan.specs.Images.{ImageData}
 
 -- an image under its filename, if there is one
@@ -29,9 +28,6 @@ gathered registered (file ∷ files) images = gathered registered files (with_fo
 
 abbrev pub item_files : List Item → List Name
 item_files items = map (λ i. i.file) items
-
-abbrev pub campaign_files : List CampaignData → List Name
-campaign_files campaigns = flat_map (λ c. item_files c.items) campaigns
 
 abbrev pub report_files : List SignedReport → List Name
 report_files reports = map (λ r. r.report.image.file) reports

@@ -9,13 +9,11 @@ use Rattle.up_machine.specs.declared.answer.Answer.{Answer}
 use Rattle.up_machine.specs.declared.answer.Answer.TheVariants.{Refused}
 use Rattle.up_machine.specs.State.{State}
 use Rattle.up_machine.specs.Machine.{Timed, run}
-use Rattle.sqlite.specs.State.{State as Connected, HasCleanDisk, Survives}
 use Rattle.up_machine.specs.Deciding.{Outcome}
 use Rattle.up_machine.specs.Repeats.{Sent, serve, after, thinned, expected, not_lost, vehicle_of, without_others, own_answers}
 use Rattle.up_machine.specs.ApartLaws.{AreExchanged}
 use Rattle.up_machine.specs.Sound.{IsSound}
-use Rattle.up_tables.specs.Stands.{IfClean, LeavesOnly}
-use Rattle.up_store.specs.Connections.{KeepsState}
+use Rattle.up_desk.specs.Standing.{Standing, HasCleanDisk, IfClean, KeepsState, Survives, LeavesOnly}
 use Rattle.up_desk.specs.Serving.{HoldsState, IsCommit, is_lost, outright, RepliesStay}
 
 -- a command with its moment
@@ -65,7 +63,7 @@ pub record IsRun (k : Rules) (old : State) (cs : List (ℕ × Command)) (answers
       × AreExchanged (length before) (map unless_lost answers) (expected k old (before ++ n ∷ m ∷ rest))
 
 -- so from each sound state that the tables showed, where the disk is clean then; and the tables show the state
-abbrev pub RunsCalls : Rules → List (ℕ × Command) → List Answer → Connected → Connected → Type 0
+abbrev pub RunsCalls : Rules → List (ℕ × Command) → List Answer → Standing → Standing → Type 0
 RunsCalls k cs answers old new =
     HasCleanDisk new → (s : State) → IsSound k s → IfClean (KeepsState k s) old → (next : State) × IsRun k s cs answers next × IsSound k next × KeepsState k next new
 
@@ -80,7 +78,7 @@ abbrev pub ComesTo : Rules → State → List Sent → State → Type 0
 ComesTo k s ms at = (before rest : List Sent) × (m : Sent) × (ms ≡ before ++ m ∷ rest) × (at ≡ (outcome_behind k s before m).next)
 
 -- only a fault of the disk shuts the connection, and a crash leaves what it could leave before the list, or the state after some of the first commands
-abbrev pub SparesCalls : Rules → List (ℕ × Command) → List Answer → Connected → Connected → Type 0
+abbrev pub SparesCalls : Rules → List (ℕ × Command) → List Answer → Standing → Standing → Type 0
 SparesCalls k cs answers old new = (s : State) → IsSound k s → IfClean (KeepsState k s) old
     → Survives old new (λ trees. (at : State) × ComesTo k s (sent cs answers) at × HoldsState k at trees)
 
@@ -92,6 +90,6 @@ pub record IsLastCommit (k : Rules) (s : State) (ms before rest : List Sent) (m 
   pub unchanged : AllByRecursion (λ n. (serve k (outcome_behind k s before m).next n.item.at n.item.command).next ≡ (outcome_behind k s before m).next) rest
 
 -- where the last commit was answered, a crash leaves the state after the whole list alone
-abbrev pub CommitsCalls : Rules → List (ℕ × Command) → List Answer → Connected → Connected → Type 0
+abbrev pub CommitsCalls : Rules → List (ℕ × Command) → List Answer → Standing → Standing → Type 0
 CommitsCalls k cs answers old new = (s : State) → IsSound k s → IfClean (KeepsState k s) old → (before rest : List Sent) (m : Sent) → IsLastCommit k s (sent cs answers) before rest m
     → IfClean (LeavesOnly (HoldsState k (after k s (sent cs answers)))) new

@@ -2,22 +2,16 @@
 -- over a disk that has returned what was written so far; what is answered outright is said of any.
 use Rattle.std.specs.Prelude.{◌≡◌, ◌||◌, ℕ, Bool, true, false, nat_lt, if◌then◌else◌, codes, length, Option, Some, None, MatchBool, ⊤, Result, Ok, Err, IfOk}
 use Rattle.std.specs.List.{list_all}
-use Rattle.std.specs.FinMap as table
-use Rattle.sqlite.specs.Held.{Held}
 use Rattle.sqlite.specs.State.{State as Connected, HasCleanDisk, Survives}
 use Rattle.sqlite.specs.Tree.{Trees}
 use Rattle.up_canon.specs.Moments.{last_command_moment}
-use Rattle.up_canon.specs.Names.{Name, Table}
+use Rattle.up_canon.specs.Names.{Name}
 use Rattle.up_canon.specs.Refusals.{is_memory}
 use Rattle.up_canon.specs.Steps.{◌>>=◌}
 use Rattle.up_canon.specs.declared.refusal.Refusal.{Refusal}
 use Rattle.up_canon.specs.declared.refusal.Refusal.TheVariants.{Memory, Store, MomentOutOfRange, TooLarge, BadShape}
 use Rattle.up_sign.specs.Schemes.{Rules}
-use Rattle.up_manifest.specs.declared.manifest.Manifest.{Manifest}
 use Rattle.up_manifest.specs.Manifests.{largest_body, incoming_in}
-use Rattle.up_plan.specs.Campaigns.{CampaignData}
-use Rattle.up_plan.specs.Images.{ImageData}
-use Rattle.up_plan.specs.Planning.{items_for}
 use Rattle.up_machine.specs.Vehicles.{public_fits}
 use Rattle.up_machine.specs.declared.command.Command.{Command}
 use Rattle.up_machine.specs.declared.command.Command.TheVariants.{AddVehicle, ReplaceEcu, Deliver}
@@ -26,7 +20,7 @@ use Rattle.up_machine.specs.declared.answer.Answer.TheVariants.{Done, Already, R
 use Rattle.up_machine.specs.declared.answer.Reply.{Reply}
 use Rattle.up_machine.specs.State.{State}
 use Rattle.up_machine.specs.Deciding.{Outcome, check_moment}
-use Rattle.up_machine.specs.Decisions.{decide_incoming, files_named, AreImagesOf}
+use Rattle.up_machine.specs.Decisions.{decide_incoming}
 use Rattle.up_machine.specs.Machine.{decide, outcome_of}
 use Rattle.up_machine.specs.Replies.{kept_reply}
 use Rattle.up_rows.specs.StateRows.{StateRows, rows_of_state}
@@ -34,11 +28,6 @@ use Rattle.up_tables.specs.declared.values.StoreFault.{StoreFault}
 use Rattle.up_tables.specs.declared.values.StoreFault.TheVariants as fault
 use Rattle.up_tables.specs.Stands.{IfClean, LeavesOnly}
 use Rattle.up_store.specs.Connections.{KeepsRows, KeepsState, HoldsRows}
-
--- a scheme, and the connection over which the tables are kept
-pub record DeskView (K D : Type 0) : Type 0 where
-  pub scheme : K
-  pub store : Held D
 
 -- ---- answers
 
@@ -131,11 +120,6 @@ Tells of_state old new result = HasCleanDisk new → IfOk result (λ found. (k :
 abbrev pub GivesOrLost : {R : Type 0} → (Result R Refusal → Result Outcome Refusal → Type 0) → Result R Refusal → Result Outcome Refusal → Type 0
 GivesOrLost gives (Ok x) computed = gives (Ok x) computed
 GivesOrLost gives (Err r) computed = MatchBool (is_lost_by r) ⊤ (computed ≡ Err r)
-
--- the campaigns and images that the plan for a manifest's vehicle reads
-pub record ArePlanRows (s : State) (manifest : Manifest) (campaigns : Table CampaignData) (images : Table ImageData) : Type 0 where
-  pub items : items_for (table.values campaigns) manifest.vehicle ≡ items_for (table.values s.campaigns) manifest.vehicle
-  pub images_are : AreImagesOf (files_named (table.values campaigns) manifest.vehicle manifest.reports) images s.images
 
 -- a fault of the store as a refusal
 abbrev pub refusal_told : StoreFault → Refusal

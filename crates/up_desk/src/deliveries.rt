@@ -1,5 +1,5 @@
 //! Manifests that vehicles deliver.
-ghost use Rattle.std.specs.Prelude.{◌≡◌, ◌≤◌, ◌<◌, length, Result, Ok, Err, IfOk, IfSome, IsTrue, option_copied};
+ghost use Rattle.std.specs.Prelude.{◌≡◌, ◌≤◌, ◌<◌, length, Result, Ok, Err, IfSome, IsTrue, option_copied};
 ghost use Rattle.sqlite.specs.Held.{state};
 ghost use Rattle.sqlite.specs.State.{HasCleanDisk};
 ghost use Rattle.up_canon.specs.Moments.{last_command_moment};
@@ -9,55 +9,62 @@ ghost use Rattle.up_canon.specs.declared.refusal.Refusal.TheVariants.{TooLarge};
 ghost use Rattle.up_canon.specs.Steps.{and_then};
 ghost use Rattle.up_sign.specs.Schemes.{Rules};
 ghost use Rattle.up_manifest.specs.Manifests.{largest_body, incoming_in};
+ghost use Rattle.up_metadata.specs.Keys.{hashed_roles};
 ghost use Rattle.up_machine.specs.declared.decision.Delivered.TheVariants.{Accepted};
 ghost use Rattle.up_machine.specs.Deciding.{Outcome};
 ghost use Rattle.up_machine.specs.Decisions.{IsRead, decide_incoming, GivesDelivered};
-ghost use Rattle.up_machine.specs.Rows.{founding_row, kept_at, vehicle_rows};
-ghost use Rattle.up_machine.specs.RowsFit.{founding_fits, rows_fit};
+ghost use Rattle.up_machine.specs.RowsFit.{rows_fit};
+ghost use Rattle.up_machine.specs.Senders.{CanAnswer, IsSenderOf};
 ghost use Rattle.up_machine.specs.Sound.{IsSound};
 ghost use Rattle.up_machine.specs.State.{State};
 ghost use Rattle.up_store.specs.Connections.{KeepsState};
 ghost use Rattle.up_tables.specs.Stands.{IfClean};
-ghost use Rattle.up_desk.specs.Serving.{GivesOrLost, Reads, Serves, ArePlanRows};
+ghost use Rattle.up_desk.specs.Delivering.{Decides, IsKnown, IsSent};
+ghost use Rattle.up_desk.specs.Serving.{Reads, Serves};
+ghost use Rattle.up_desk.specs.Standing.{CanDecide, Fits, IsLoaded};
 
+use crate::catalog::{Catalog, load};
 use crate::faults::{refusal_of, replied};
-use crate::images::images_for;
-use crate::reads::{read_fitting_vehicle, read_founding};
+use crate::planned::images_for;
+use crate::reads::read_fitting_vehicle;
 use sqlite::Alter;
 use std::alloc::Global;
 use up_canon::bytes::Bytes;
 use up_canon::moment::Moment;
 use up_canon::refusal::Refusal;
-use up_canon::table::Table;
 use up_machine::answer::Answer;
-use up_machine::decide_manifest::{DeliveryRows, decide_manifest};
+use up_machine::decide_manifest::{decide_again, decide_new};
 use up_machine::decision::{AcceptedRows, Delivered};
 use up_machine::kept_reply::{reply_in, targets_in};
-use up_machine::rows::{Founding, Kept, VehicleRows};
-use up_manifest::manifest::{Incoming, Manifest};
+use up_machine::rows::VehicleRows;
+use up_machine::sender::{Sender, decide_sender, is_later};
+use up_manifest::manifest::Incoming;
 use up_manifest::manifest_read::read_manifest;
-use up_plan::campaign::Campaign;
-use up_plan::image::Image;
 use up_rows::laws::{ecus_tell_their_hash, manifests_are_added, rows_are_found};
 use up_sign::scheme::Scheme;
-use up_store::store::{Store, StoreFault};
+use up_store::store::Store;
 
-/// Takes in a manifest, or answers a repeat by the reply that was kept for it.
+/// Takes in a manifest, or answers a repeat by the reply that was kept for it. What is kept in memory is loaded where nothing
+/// is, and kept whatever is answered.
 pub fn deliver<K: Scheme, D: Alter>(
     store: &mut Store<D>,
+    catalog: &mut Option<Catalog>,
     alloc: Global,
     scheme: &K,
     at: Moment,
     body: &Bytes,
 ) -> Result<Answer, Refusal>
-    requires { at ≤ last_command_moment }
+    requires moment { at ≤ last_command_moment }
+    requires can { IfSome catalog.old (CanDecide (K.rules scheme.now)) }
     ensures large { largest_body < length body.now → result ≡ Err TooLarge }
-    ensures serves { (s : State) → IsSound (K.rules scheme.now) s → IfClean (KeepsState (K.rules scheme.now) s) (state D.Store store.old)
+    ensures serves { (s : State) → IsSound (K.rules scheme.now) s → IfClean (KeepsState (K.rules scheme.now) s) (state D.Store store.old) → (HasCleanDisk (state D.Store store.old) → Fits s catalog.old)
         → Serves (K.rules scheme.now) s (state D.Store store.old) (state D.Store store.new) result
         (and_then (incoming_in body.now) (decide_incoming (K.rules scheme.now) s at)) }
+    ensures fits { HasCleanDisk (state D.Store store.new) → (k : Rules) (s : State) → IfClean (KeepsState k s) (state D.Store store.old) → Fits s catalog.old → Fits s catalog.new }
+    ensures can { IfSome catalog.new (CanDecide (K.rules scheme.now)) }
 {
     match read_manifest(alloc, body.as_slice()) {
-        Ok(incoming) => receive(store, alloc, scheme, at, &incoming),
+        Ok(incoming) => receive(store, catalog, alloc, scheme, at, &incoming),
         Err(refusal) => Err(refusal),
     }
 }
@@ -65,6 +72,7 @@ pub fn deliver<K: Scheme, D: Alter>(
 /// The same of a manifest that was read.
 fn receive<K: Scheme, D: Alter>(
     store: &mut Store<D>,
+    catalog: &mut Option<Catalog>,
     alloc: Global,
     scheme: &K,
     at: Moment,
@@ -72,10 +80,35 @@ fn receive<K: Scheme, D: Alter>(
 ) -> Result<Answer, Refusal>
     requires moment { at ≤ last_command_moment }
     requires read { IsRead incoming.now }
-    ensures { (s : State) → IsSound (K.rules scheme.now) s → IfClean (KeepsState (K.rules scheme.now) s) (state D.Store store.old)
+    requires can { IfSome catalog.old (CanDecide (K.rules scheme.now)) }
+    ensures serves { (s : State) → IsSound (K.rules scheme.now) s → IfClean (KeepsState (K.rules scheme.now) s) (state D.Store store.old) → (HasCleanDisk (state D.Store store.old) → Fits s catalog.old)
         → Serves (K.rules scheme.now) s (state D.Store store.old) (state D.Store store.new) result (decide_incoming (K.rules scheme.now) s at incoming.now) }
+    ensures fits { HasCleanDisk (state D.Store store.new) → (k : Rules) (s : State) → IfClean (KeepsState k s) (state D.Store store.old) → Fits s catalog.old → Fits s catalog.new }
+    ensures can { IfSome catalog.new (CanDecide (K.rules scheme.now)) }
 {
-    match decide(store, alloc, scheme, at, incoming) {
+    match load(store, catalog, alloc, scheme) {
+        Ok(()) => receive_loaded(store, catalog.as_ref(), alloc, scheme, at, incoming),
+        Err(fault) => Err(refusal_of(fault)),
+    }
+}
+
+/// The same, once the catalog is loaded; there is none before founding.
+fn receive_loaded<K: Scheme, D: Alter>(
+    store: &mut Store<D>,
+    catalog: Option<&Catalog>,
+    alloc: Global,
+    scheme: &K,
+    at: Moment,
+    incoming: &Incoming,
+) -> Result<Answer, Refusal>
+    requires moment { at ≤ last_command_moment }
+    requires read { IsRead incoming.now }
+    requires can { IfSome (option_copied catalog) (CanDecide (K.rules scheme.now)) }
+    ensures serves { (s : State) → IsSound (K.rules scheme.now) s → IfClean (KeepsState (K.rules scheme.now) s) (state D.Store store.old) → (HasCleanDisk (state D.Store store.old) → IsLoaded s (option_copied catalog.entry))
+        → Serves (K.rules scheme.now) s (state D.Store store.old) (state D.Store store.new) result (decide_incoming (K.rules scheme.now) s at incoming.now) }
+    ensures clean { HasCleanDisk (state D.Store store.new) → HasCleanDisk (state D.Store store.old) }
+{
+    match decide(store, catalog, alloc, scheme, at, incoming) {
         Ok(Delivered::Repeat(reply)) => Ok(Answer::Reply(reply)),
         Ok(Delivered::Accepted(rows)) => accept(store, alloc, rows),
         Err(refusal) => Err(refusal),
@@ -89,9 +122,10 @@ fn accept<D: Alter>(
     alloc: Global,
     rows: AcceptedRows,
 ) -> Result<Answer, Refusal>
-    ensures { (k : Rules) (s : State) (name : Name) (computed : Result Outcome Refusal) → IsSound k s → IfClean (KeepsState k s) (state D.Store store.old)
+    ensures serves { (k : Rules) (s : State) (name : Name) (computed : Result Outcome Refusal) → IsSound k s → IfClean (KeepsState k s) (state D.Store store.old)
         → (HasCleanDisk (state D.Store store.old) → GivesDelivered k s name (Ok (Accepted rows)) computed)
         → Serves k s (state D.Store store.old) (state D.Store store.new) result computed }
+    ensures clean { HasCleanDisk (state D.Store store.new) → HasCleanDisk (state D.Store store.old) }
 {
     rows_are_found();
     manifests_are_added();
@@ -105,9 +139,10 @@ fn accept<D: Alter>(
     }
 }
 
-/// Decides on a manifest, over rows that are read one after another.
+/// Decides on a manifest: what is known of its vehicle, who sent it, whether it was there before, and what is new.
 fn decide<K: Scheme, D: Alter>(
     store: &mut Store<D>,
+    catalog: Option<&Catalog>,
     alloc: Global,
     scheme: &K,
     at: Moment,
@@ -115,132 +150,118 @@ fn decide<K: Scheme, D: Alter>(
 ) -> Result<Delivered, Refusal>
     requires moment { at ≤ last_command_moment }
     requires read { IsRead incoming.now }
-    ensures decided { HasCleanDisk (state D.Store store.new) → (s : State) → IsSound (K.rules scheme.now) s → IfClean (KeepsState (K.rules scheme.now) s) (state D.Store store.old)
-        → GivesOrLost (GivesDelivered (K.rules scheme.now) s incoming.now.manifest.vehicle) result (decide_incoming (K.rules scheme.now) s at incoming.now) }
+    requires can { IfSome (option_copied catalog) (CanDecide (K.rules scheme.now)) }
+    ensures decided { Decides (K.rules scheme.now) at incoming.now (λ s. IsLoaded s (option_copied catalog.entry)) (state D.Store store.old) (state D.Store store.new) result }
     ensures reads { Reads (state D.Store store.old) (state D.Store store.new) }
 {
-    match read_founding(store, alloc, scheme) {
-        Ok(founding) => decide_founded(store, alloc, scheme, at, incoming, founding.as_ref()),
-        Err(fault) => Err(refusal_of(fault)),
-    }
-}
-
-/// The same, once the founding's row was read.
-fn decide_founded<K: Scheme, D: Alter>(
-    store: &mut Store<D>,
-    alloc: Global,
-    scheme: &K,
-    at: Moment,
-    incoming: &Incoming,
-    founding: Option<&Founding>,
-) -> Result<Delivered, Refusal>
-    requires moment { at ≤ last_command_moment }
-    requires read { IsRead incoming.now }
-    requires keys { IfSome (option_copied founding) (λ f. IsTrue (founding_fits (K.rules scheme.now) f)) }
-    ensures decided { HasCleanDisk (state D.Store store.new) → (s : State) → IsSound (K.rules scheme.now) s → option_copied founding.entry ≡ founding_row s → IfClean (KeepsState (K.rules scheme.now) s) (state D.Store store.old)
-        → GivesOrLost (GivesDelivered (K.rules scheme.now) s incoming.now.manifest.vehicle) result (decide_incoming (K.rules scheme.now) s at incoming.now) }
-    ensures reads { Reads (state D.Store store.old) (state D.Store store.new) }
-{
+    let Some(catalog) = catalog else {
+        return Err(Refusal::NotFounded);
+    };
     match read_fitting_vehicle(store, alloc, &incoming.manifest.vehicle) {
         Ok(vehicle) => {
             let rows = vehicle.as_ref();
-            decide_known(store, alloc, scheme, at, incoming, founding, rows)
+            decide_known(store, catalog, alloc, scheme, at, incoming, rows)
         }
         Err(fault) => Err(refusal_of(fault)),
     }
 }
 
-/// The same, once the vehicle was read.
+/// The same, once the vehicle's rows were read: who sent it. A manifest that its vehicle's Primary didn't sign costs no more.
 fn decide_known<K: Scheme, D: Alter>(
     store: &mut Store<D>,
+    catalog: &Catalog,
     alloc: Global,
     scheme: &K,
     at: Moment,
     incoming: &Incoming,
-    founding: Option<&Founding>,
     vehicle: Option<&VehicleRows>,
 ) -> Result<Delivered, Refusal>
     requires moment { at ≤ last_command_moment }
     requires read { IsRead incoming.now }
-    requires keys { IfSome (option_copied founding) (λ f. IsTrue (founding_fits (K.rules scheme.now) f)) }
+    requires can { CanDecide (K.rules scheme.now) catalog.now }
     requires rows { IfSome (option_copied vehicle) (λ v. IsTrue (rows_fit v)) }
-    ensures decided { HasCleanDisk (state D.Store store.new) → (s : State) → IsSound (K.rules scheme.now) s → option_copied founding.entry ≡ founding_row s → option_copied vehicle.entry ≡ vehicle_rows s incoming.now.manifest.vehicle → IfClean (KeepsState (K.rules scheme.now) s) (state D.Store store.old)
-        → GivesOrLost (GivesDelivered (K.rules scheme.now) s incoming.now.manifest.vehicle) result (decide_incoming (K.rules scheme.now) s at incoming.now) }
+    ensures decided { Decides (K.rules scheme.now) at incoming.now (λ s. IsKnown s incoming.now.manifest.vehicle catalog.now (option_copied vehicle.entry)) (state D.Store store.old) (state D.Store store.new) result }
+    ensures reads { Reads (state D.Store store.old) (state D.Store store.new) }
+{
+    match decide_sender(scheme, incoming, Some(&catalog.founding), vehicle) {
+        Ok(sender) => decide_sent(store, catalog, alloc, scheme, at, incoming, &sender),
+        Err(refusal) => Err(refusal),
+    }
+}
+
+/// The same, once it is known who sent it: its counter tells whether it may have been there before.
+fn decide_sent<K: Scheme, D: Alter>(
+    store: &mut Store<D>,
+    catalog: &Catalog,
+    alloc: Global,
+    scheme: &K,
+    at: Moment,
+    incoming: &Incoming,
+    sender: &Sender,
+) -> Result<Delivered, Refusal>
+    requires moment { at ≤ last_command_moment }
+    requires read { IsRead incoming.now }
+    requires can { CanAnswer (K.rules scheme.now) sender.now }
+    requires hashed { catalog.now.hashed ≡ hashed_roles (K.rules scheme.now) sender.now.founding.keys.director }
+    ensures decided { Decides (K.rules scheme.now) at incoming.now (λ s. IsSent (K.rules scheme.now) s incoming.now catalog.now sender.now) (state D.Store store.old) (state D.Store store.new) result }
+    ensures reads { Reads (state D.Store store.old) (state D.Store store.new) }
+{
+    if is_later(incoming, sender) {
+        decide_later(catalog, alloc, scheme, at, incoming, sender)
+    } else {
+        decide_earlier(store, alloc, at, incoming, sender)
+    }
+}
+
+/// Of a manifest whose counter isn't above the last: the row that was kept with it tells whether it is a repeat.
+fn decide_earlier<D: Alter>(
+    store: &mut Store<D>,
+    alloc: Global,
+    at: Moment,
+    incoming: &Incoming,
+    sender: &Sender,
+) -> Result<Delivered, Refusal>
+    requires moment { at ≤ last_command_moment }
+    requires read { IsRead incoming.now }
+    requires older { incoming.now.manifest.counter ≤ sender.now.vehicle.vehicle.last }
+    ensures decided { (k : Rules) → Decides k at incoming.now (λ s. IsSenderOf k s incoming.now sender.now) (state D.Store store.old) (state D.Store store.new) result }
     ensures reads { Reads (state D.Store store.old) (state D.Store store.new) }
 {
     rows_are_found();
     let manifest = &incoming.manifest;
     match store.kept(alloc, &manifest.vehicle, manifest.counter) {
-        Ok(kept) => {
-            let row = kept.as_ref();
-            decide_kept(store, alloc, scheme, at, incoming, founding, vehicle, row)
-        }
+        Ok(kept) => decide_again(alloc, incoming, sender, kept.as_ref()),
         Err(fault) => Err(refusal_of(fault)),
     }
 }
 
-/// The same, once the row that was kept with the manifest's counter was read.
-fn decide_kept<K: Scheme, D: Alter>(
-    store: &mut Store<D>,
+/// Of a manifest whose counter is above the last: what is new, by the running campaigns and the images.
+fn decide_later<K: Scheme>(
+    catalog: &Catalog,
     alloc: Global,
     scheme: &K,
     at: Moment,
     incoming: &Incoming,
-    founding: Option<&Founding>,
-    vehicle: Option<&VehicleRows>,
-    kept: Option<&Kept>,
+    sender: &Sender,
 ) -> Result<Delivered, Refusal>
     requires moment { at ≤ last_command_moment }
     requires read { IsRead incoming.now }
-    requires keys { IfSome (option_copied founding) (λ f. IsTrue (founding_fits (K.rules scheme.now) f)) }
-    requires rows { IfSome (option_copied vehicle) (λ v. IsTrue (rows_fit v)) }
-    ensures decided { HasCleanDisk (state D.Store store.new) → (s : State) → IsSound (K.rules scheme.now) s → option_copied founding.entry ≡ founding_row s → option_copied vehicle.entry ≡ vehicle_rows s incoming.now.manifest.vehicle → option_copied kept.entry ≡ kept_at (K.rules scheme.now) s incoming.now.manifest.vehicle incoming.now.manifest.counter → IfClean (KeepsState (K.rules scheme.now) s) (state D.Store store.old)
-        → GivesOrLost (GivesDelivered (K.rules scheme.now) s incoming.now.manifest.vehicle) result (decide_incoming (K.rules scheme.now) s at incoming.now) }
-    ensures reads { Reads (state D.Store store.old) (state D.Store store.new) }
+    requires later { sender.now.vehicle.vehicle.last < incoming.now.manifest.counter }
+    requires can { CanAnswer (K.rules scheme.now) sender.now }
+    requires hashed { catalog.now.hashed ≡ hashed_roles (K.rules scheme.now) sender.now.founding.keys.director }
+    ensures { (s : State) → IsSound (K.rules scheme.now) s → IsSent (K.rules scheme.now) s incoming.now catalog.now sender.now
+        → GivesDelivered (K.rules scheme.now) s incoming.now.manifest.vehicle result (decide_incoming (K.rules scheme.now) s at incoming.now) }
 {
-    match read_plan_rows(store, alloc, &incoming.manifest) {
-        Ok(plan) => {
-            let (images, campaigns) = (&plan.images, plan.campaigns.values());
-            let rows = DeliveryRows {
-                founding,
-                vehicle,
-                kept,
-                images,
-                campaigns,
-            };
-            decide_manifest(alloc, scheme, at, incoming, &rows)
-        }
-        Err(fault) => Err(refusal_of(fault)),
-    }
-}
-
-/// What the plan for a vehicle reads: the running campaigns that reach it, and the images that their items or the reports name.
-#[derive(Drop)]
-struct PlanRows {
-    campaigns: Table<Campaign>,
-    images: Table<Image>,
-}
-
-fn read_plan_rows<D: Alter>(
-    store: &mut Store<D>,
-    alloc: Global,
-    manifest: &Manifest,
-) -> Result<PlanRows, StoreFault>
-    ensures told { HasCleanDisk (state D.Store store.new) → IfOk result (λ rows. (k : Rules) (s : State) → IsSound k s → IfClean (KeepsState k s) (state D.Store store.old)
-        → ArePlanRows s manifest.now rows.campaigns rows.images) }
-    ensures reads { Reads (state D.Store store.old) (state D.Store store.new) }
-{
-    let campaigns = match store.campaigns_for(alloc, &manifest.vehicle) {
-        Ok(campaigns) => campaigns,
-        Err(fault) => return Err(fault),
-    };
-    match images_for(
-        store,
+    let (hashed, campaigns) = (&catalog.hashed, catalog.campaigns.values());
+    let (vehicle, reports) = (&incoming.manifest.vehicle, &incoming.manifest.reports);
+    let images = images_for(
         alloc,
-        campaigns.values(),
-        manifest.reports.as_slice(),
-    ) {
-        Ok(images) => Ok(PlanRows { campaigns, images }),
-        Err(fault) => Err(fault),
-    }
+        &catalog.images,
+        campaigns,
+        vehicle,
+        reports.as_slice(),
+    )?;
+    decide_new(
+        alloc, scheme, at, incoming, sender, hashed, &images, campaigns,
+    )
 }

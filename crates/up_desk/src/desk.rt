@@ -1,8 +1,6 @@
 //! The two repositories under one scheme.
 ghost use Rattle.std.specs.Prelude.{◌≡◌, ◌++◌, List, IfSome, OnOk, OnErr, IsTrue};
 ghost use Rattle.std.specs.List.{AllByRecursion};
-ghost use Rattle.sqlite.specs.Held.{state};
-ghost use Rattle.sqlite.specs.State.{HasCleanDisk};
 ghost use Rattle.up_machine.specs.declared.answer.Answer.{Answer};
 ghost use Rattle.up_machine.specs.declared.answer.Answer.TheVariants.{Refused};
 ghost use Rattle.up_machine.specs.Commands.{opens_running};
@@ -10,8 +8,10 @@ ghost use Rattle.up_machine.specs.Reads.{ecus_of as ecus_in, version_of as versi
 ghost use Rattle.up_machine.specs.Rows.{vehicle_rows};
 ghost use Rattle.up_desk.specs.Runs.{AreOutright, CommitsCalls, RunsCalls, SparesCalls};
 ghost use Rattle.up_desk.specs.Calls.{CommitsCall, ServesCall, SparesCall};
-ghost use Rattle.up_desk.specs.Serving.{Reads, Tells, outright as outright_of};
+ghost use Rattle.up_desk.specs.Serving.{outright as outright_of};
+ghost use Rattle.up_desk.specs.Standing.{HasCleanDisk, Reads, Tells, bare, state};
 
+use crate::catalog::Catalog;
 use crate::dispatch::{answer_of, dispatch, keeps_limits};
 use crate::reads::read_vehicle;
 use crate::views::{assigned_of, ecus_of, installed_on, version_of};
@@ -36,32 +36,41 @@ use up_store::store::{Store, StoreFault};
 pub struct Desk<K: Scheme, D: Alter> {
     scheme: K,
     store: Store<D>,
+    catalog: Option<Catalog>,
 }
 
 impl<K: Scheme, D: Alter> Model for Desk<K, D> {
-    ghost use Rattle.up_desk.specs.Serving.{DeskView};
+    ghost use Rattle.up_desk.specs.Standing.{CanDecide, DeskView};
+    ghost use Rattle.std.specs.Prelude.{IfSome};
 
     ghost Value = { DeskView K D };
 
     ghost use Rattle.std.specs.Coded.{codes};
+    ghost use Rattle.std.specs.FinMap as table;
     ghost use Rattle.sqlite.specs.Held.{held_code};
 
-    ghost coded = { Prim.hlevel (codes, held_code D.code) };
+    ghost coded = { Prim.hlevel (codes, held_code D.code, table.code) };
 
-    ghost view = { λ a. record { scheme = a.scheme; store = a.store } };
+    ghost view = { λ a. record { scheme = a.scheme; store = record { held = a.store; catalog = a.catalog } } };
+
+    ghost invariant = { λ a. IfSome a.catalog (CanDecide (K.rules a.scheme)) };
 }
 
 impl<K: Scheme, D: Alter> Desk<K, D> {
-    /// A desk over this store.
+    /// A desk over this store, which keeps nothing in memory yet.
     pub fn new(scheme: K, store: Store<D>) -> Desk<K, D>
-        ensures { result ≡ record { scheme = scheme; store = store } }
+        ensures { result ≡ record { scheme = scheme; store = bare store } }
     {
-        Desk { scheme, store }
+        Desk {
+            scheme,
+            store,
+            catalog: None,
+        }
     }
 
     /// The store.
     pub fn release(self) -> Store<D>
-        ensures { result ≡ self.store }
+        ensures { result ≡ self.store.held }
     {
         self.store
     }
@@ -91,7 +100,14 @@ impl<K: Scheme, D: Alter> Desk<K, D> {
         states_stay_sound();
         repeats_change_nothing();
         kept_replies_stay();
-        answer_of(dispatch(&mut self.store, alloc, &self.scheme, at, command))
+        answer_of(dispatch(
+            &mut self.store,
+            &mut self.catalog,
+            alloc,
+            &self.scheme,
+            at,
+            command,
+        ))
     }
 
     /// Answers commands one after another, each with its moment, and appends one answer for each: where some commands are

@@ -1,15 +1,19 @@
 //! Commands over the store.
 ghost use Rattle.std.specs.Prelude.{◌≡◌, ◌≤◌, ◌<◌, IsTrue, IfSome, MatchOption, Err};
 ghost use Rattle.sqlite.specs.Held.{state};
+ghost use Rattle.sqlite.specs.State.{HasCleanDisk};
 ghost use Rattle.up_canon.specs.Moments.{last_command_moment};
+ghost use Rattle.up_sign.specs.Schemes.{Rules};
 ghost use Rattle.up_machine.specs.Commands.{is_command, opens_running};
 ghost use Rattle.up_machine.specs.Sound.{IsSound};
 ghost use Rattle.up_machine.specs.State.{State};
 ghost use Rattle.up_store.specs.Connections.{KeepsState};
 ghost use Rattle.up_tables.specs.Stands.{IfClean};
+ghost use Rattle.up_desk.specs.Standing.{CanDecide, Fits, StillFits, kept_for};
 ghost use Rattle.up_desk.specs.Serving.{Serves, outcome_due, outright as outright_of, outright_in_time, told};
 
 use crate::campaigns::{close, open};
+use crate::catalog::{Catalog, drop_before};
 use crate::deliveries::deliver;
 use crate::files::fetch;
 use crate::inventory::add_vehicle;
@@ -25,20 +29,26 @@ use up_machine::command::Command;
 use up_sign::scheme::Scheme;
 use up_store::store::Store;
 
-/// What a command comes to, whose moment is checked first.
+/// What a command comes to, whose moment is checked first. What is kept in memory is dropped before every command but a delivery
+/// and a fetch.
 pub fn dispatch<K: Scheme, D: Alter>(
     store: &mut Store<D>,
+    catalog: &mut Option<Catalog>,
     alloc: Global,
     scheme: &K,
     at: u64,
     command: &Command,
 ) -> Result<Answer, Refusal>
-    ensures serves { (s : State) → IsSound (K.rules scheme.now) s → IfClean (KeepsState (K.rules scheme.now) s) (state D.Store store.old)
+    requires { IfSome catalog.old (CanDecide (K.rules scheme.now)) }
+    ensures serves { (s : State) → IsSound (K.rules scheme.now) s → IfClean (KeepsState (K.rules scheme.now) s) (state D.Store store.old) → (HasCleanDisk (state D.Store store.old) → Fits s catalog.old)
         → Serves (K.rules scheme.now) s (state D.Store store.old) (state D.Store store.new) result (outcome_due (K.rules scheme.now) s at command.now) }
     ensures outright { IfSome (outright_of (K.rules scheme.now) at command.now) (λ r. result ≡ Err r) }
+    ensures fits { HasCleanDisk (state D.Store store.new) → (k : Rules) (s : State) → IfClean (KeepsState k s) (state D.Store store.old) → Fits s catalog.old → StillFits s command.now catalog.new }
+    ensures can { IfSome catalog.new (CanDecide (K.rules scheme.now)) }
 {
+    drop_before(command, catalog);
     match command_moment(at) {
-        Some(at) => dispatch_at(store, alloc, scheme, at, command),
+        Some(at) => dispatch_at(store, catalog, alloc, scheme, at, command),
         None => Err(Refusal::MomentOutOfRange),
     }
 }
@@ -46,15 +56,20 @@ pub fn dispatch<K: Scheme, D: Alter>(
 /// The same at a moment that commands may have.
 fn dispatch_at<K: Scheme, D: Alter>(
     store: &mut Store<D>,
+    catalog: &mut Option<Catalog>,
     alloc: Global,
     scheme: &K,
     at: Moment,
     command: &Command,
 ) -> Result<Answer, Refusal>
     requires moment { at ≤ last_command_moment }
-    ensures serves { (s : State) → IsSound (K.rules scheme.now) s → IfClean (KeepsState (K.rules scheme.now) s) (state D.Store store.old)
+    requires can { IfSome catalog.old (CanDecide (K.rules scheme.now)) }
+    requires dropped { catalog.old ≡ kept_for command.now catalog.old }
+    ensures serves { (s : State) → IsSound (K.rules scheme.now) s → IfClean (KeepsState (K.rules scheme.now) s) (state D.Store store.old) → (HasCleanDisk (state D.Store store.old) → Fits s catalog.old)
         → Serves (K.rules scheme.now) s (state D.Store store.old) (state D.Store store.new) result (outcome_due (K.rules scheme.now) s at command.now) }
     ensures outright { IfSome (outright_in_time (K.rules scheme.now) command.now) (λ r. result ≡ Err r) }
+    ensures fits { HasCleanDisk (state D.Store store.new) → (k : Rules) (s : State) → IfClean (KeepsState k s) (state D.Store store.old) → Fits s catalog.old → StillFits s command.now catalog.new }
+    ensures can { IfSome catalog.new (CanDecide (K.rules scheme.now)) }
 {
     match command {
         Command::Found(keys) => found(store, alloc, scheme, at, keys),
@@ -65,10 +80,11 @@ fn dispatch_at<K: Scheme, D: Alter>(
         Command::ReplaceEcu(new) => replace_ecu(store, alloc, scheme, at, new),
         Command::OpenCampaign(campaign) => open(store, alloc, at, campaign),
         Command::CloseCampaign(name) => close(store, alloc, at, name),
-        Command::Deliver(body) => deliver(store, alloc, scheme, at, body),
+        Command::Deliver(body) => deliver(store, catalog, alloc, scheme, at, body),
         Command::Fetch(repository, name) => fetch(store, alloc, at, *repository, name),
     }
 }
+
 /// The seconds as a moment that a command may have, which is at most 2100-01-01T00:00:00Z.
 fn command_moment(at: u64) -> Option<Moment>
     ensures { MatchOption result (last_command_moment < at) (λ moment. (at ≤ last_command_moment) × (moment ≡ at)) }

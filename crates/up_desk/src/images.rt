@@ -8,15 +8,14 @@ ghost use Rattle.up_machine.specs.State.{State};
 ghost use Rattle.up_store.specs.Connections.{KeepsState};
 ghost use Rattle.up_tables.specs.Stands.{IfClean};
 ghost use Rattle.up_desk.specs.Serving.{Reads};
-ghost use Rattle.up_desk.specs.Gathered.{IsPart, with_found, gathered, item_files, campaign_files, report_files};
+ghost use Rattle.up_desk.specs.Gathered.{IsPart, with_found, gathered, item_files};
 
 use sqlite::Alter;
 use std::alloc::{AllocError, Global};
 use up_canon::file_name::FileName;
 use up_canon::table::Table;
 use up_canon::text::Text;
-use up_manifest::report::SignedReport;
-use up_plan::campaign::{Campaign, Item};
+use up_plan::campaign::Item;
 use up_plan::image::Image;
 use up_store::store::{Store, StoreFault};
 
@@ -37,47 +36,6 @@ pub fn images_of<D: Alter>(
     }
 }
 
-/// The images of the files that these campaigns' items and these reports name, each under its filename.
-pub fn images_for<D: Alter>(
-    store: &mut Store<D>,
-    alloc: Global,
-    campaigns: &[Campaign],
-    reports: &[SignedReport],
-) -> Result<Table<Image>, StoreFault>
-    ensures told { HasCleanDisk (state D.Store store.new) → IfOk result (λ images. (k : Rules) (s : State) → IfClean (KeepsState k s) (state D.Store store.old)
-        → images ≡ gathered s.images (report_files reports.now) (gathered s.images (campaign_files campaigns.now) table.empty)) }
-    ensures reads { Reads (state D.Store store.old) (state D.Store store.new) }
-{
-    let mut images = Table::new(alloc);
-    match add_campaigns(store, alloc, &mut images, campaigns) {
-        Ok(()) => {}
-        Err(fault) => return Err(fault),
-    }
-    match add_reports(store, alloc, &mut images, reports) {
-        Ok(()) => Ok(images),
-        Err(fault) => Err(fault),
-    }
-}
-
-fn add_campaigns<D: Alter>(
-    store: &mut Store<D>,
-    alloc: Global,
-    images: &mut Table<Image>,
-    campaigns: &[Campaign],
-) -> Result<(), StoreFault>
-    ensures told { HasCleanDisk (state D.Store store.new) → OnOk result ((k : Rules) (s : State) → IfClean (KeepsState k s) (state D.Store store.old)
-        → IsPart s.images images.old → images.new ≡ gathered s.images (campaign_files campaigns.now) images.old) }
-    ensures reads { Reads (state D.Store store.old) (state D.Store store.new) }
-{
-    for campaign in campaigns {
-        match add_items(store, alloc, images, campaign.items.as_slice()) {
-            Ok(()) => {}
-            Err(fault) => return Err(fault),
-        }
-    }
-    Ok(())
-}
-
 fn add_items<D: Alter>(
     store: &mut Store<D>,
     alloc: Global,
@@ -90,25 +48,6 @@ fn add_items<D: Alter>(
 {
     for item in items {
         match add_file(store, alloc, images, &item.file) {
-            Ok(()) => {}
-            Err(fault) => return Err(fault),
-        }
-    }
-    Ok(())
-}
-
-fn add_reports<D: Alter>(
-    store: &mut Store<D>,
-    alloc: Global,
-    images: &mut Table<Image>,
-    reports: &[SignedReport],
-) -> Result<(), StoreFault>
-    ensures told { HasCleanDisk (state D.Store store.new) → OnOk result ((k : Rules) (s : State) → IfClean (KeepsState k s) (state D.Store store.old)
-        → IsPart s.images images.old → images.new ≡ gathered s.images (report_files reports.now) images.old) }
-    ensures reads { Reads (state D.Store store.old) (state D.Store store.new) }
-{
-    for report in reports {
-        match add_file(store, alloc, images, &report.report.image.file) {
             Ok(()) => {}
             Err(fault) => return Err(fault),
         }

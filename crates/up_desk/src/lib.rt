@@ -2,6 +2,7 @@
 #![tactic(auto)]
 
 mod campaigns;
+pub mod catalog;
 mod deliveries;
 pub mod desk;
 mod dispatch;
@@ -10,6 +11,7 @@ mod files;
 mod images;
 mod inventory;
 pub mod laws;
+mod planned;
 mod reads;
 mod register;
 mod replacements;

@@ -1,7 +1,6 @@
 -- What a line or a request is answered where memory or the database may refuse.
 use Rattle.std.proofs.Common.{◌≡◌, inl, inr, ℕ, List, Bool, true, false, Result, Ok, Err, refl, sym, subst, ap, ◌∙◌}
 use Rattle.std.specs.Prelude.{◌⊎◌, ◌||◌, ⊤, MatchBool, OnErr}
-use Rattle.sqlite.specs.State.{State as Connected, HasCleanDisk}
 use Rattle.sqlite_trees.specs.declared.store.Store.{Ghosts}
 use Rattle.up_canon.specs.Names.{Name}
 use Rattle.up_canon.specs.Refusals.{is_memory}
@@ -14,7 +13,8 @@ use Rattle.up_machine.specs.declared.command.Command.{Command}
 use Rattle.up_machine.specs.Deciding.{Outcome}
 use Rattle.up_machine.specs.Repeats.{serve}
 use Rattle.up_machine.specs.State.{State}
-use Rattle.up_desk.specs.Serving.{DeskView, is_store, is_lost_by, is_lost}
+use Rattle.up_desk.specs.Serving.{is_store, is_lost_by, is_lost}
+use Rattle.up_desk.specs.Standing.{DeskView, Standing, HasCleanDisk}
 use Rattle.up_desk.specs.Calls.{ServesCall}
 use Rattle.up_script.specs.AskedLines.{asked_in}
 use Rattle.up_script.specs.declared.asked.Asked.{Asked}
@@ -56,7 +56,7 @@ by_loss tell tell_answer same true a old new o t is h e = inr (lost_answer tell 
 by_loss tell tell_answer same false a old new o t is h e = inl (e ∙ ap tell_answer h.0, h.1)
 
 -- what is told of what the desk answered a command
-called : (tell : Refusal → List ℕ) (tell_answer : Answer → List ℕ) → ((r : Refusal) → tell_answer (Refused r) ≡ tell r) → (k : Rules) (at : ℕ) (c : Command) (a : Answer) (t : List ℕ) (old new : Connected)
+called : (tell : Refusal → List ℕ) (tell_answer : Answer → List ℕ) → ((r : Refusal) → tell_answer (Refused r) ≡ tell r) → (k : Rules) (at : ℕ) (c : Command) (a : Answer) (t : List ℕ) (old new : Standing)
     → (HasCleanDisk new → HasCleanDisk old) → ServesCall k at c a old new
     → t ≡ tell_answer a → AnswersAs tell (λ s. answered_as tell_answer k s at c) k t old new
 called tell tell_answer same k at c a t old new clean answered is = record {
@@ -65,13 +65,13 @@ called tell tell_answer same k at c a t old new clean answered is = record {
 }
 
 -- as a line
-pub printed : (k : Rules) (at : ℕ) (c : Command) (a : Answer) (t : List ℕ) (old new : Connected) → (HasCleanDisk new → HasCleanDisk old) → ServesCall k at c a old new
+pub printed : (k : Rules) (at : ℕ) (c : Command) (a : Answer) (t : List ℕ) (old new : Standing) → (HasCleanDisk new → HasCleanDisk old) → ServesCall k at c a old new
     → t ≡ answer_text a → AnswersLine (λ s. command_answer k s at c) k t old new
 unfolding answer_text
 printed k at c a t old new clean answered is = called refused_text answer_text (λ r. refl) k at c a t old new clean answered is
 
 -- as a response
-pub responded : (k : Rules) (at : ℕ) (c : Command) (last head : Bool) (a : Answer) (t : List ℕ) (old new : Connected) → (HasCleanDisk new → HasCleanDisk old) → ServesCall k at c a old new
+pub responded : (k : Rules) (at : ℕ) (c : Command) (last head : Bool) (a : Answer) (t : List ℕ) (old new : Standing) → (HasCleanDisk new → HasCleanDisk old) → ServesCall k at c a old new
     → t ≡ answer_response a last head → AnswersCall k at c last head t old new
 unfolding answer_response
 responded k at c last head a t old new clean answered is =
@@ -79,7 +79,7 @@ responded k at c last head a t old new clean answered is =
 
 -- ---- lines that are refused, views, and fixed answers
 
-pub refused_line : (k : Rules) (line : List ℕ) (r : Refusal) (t : List ℕ) (s : Connected) → MatchBool (is_memory r) ⊤ (asked_in k line ≡ Err r) → t ≡ refused_text r → AnswersLine (λ q. line_answer k q line) k t s s
+pub refused_line : (k : Rules) (line : List ℕ) (r : Refusal) (t : List ℕ) (s : Standing) → MatchBool (is_memory r) ⊤ (asked_in k line ≡ Err r) → t ≡ refused_text r → AnswersLine (λ q. line_answer k q line) k t s s
 unfolding line_answer
 refused_line k line r t s due is = record { clean = λ now. now; answered = λ now q sound was. (q, by_memory q (is_memory r) refl due, sound, was now) }
   where
@@ -91,7 +91,7 @@ refused_line k line r t s due is = record { clean = λ now. now; answered = λ n
     by_memory q false same due = inl (is ∙ sym (ap (λ a. (answer_to k q a).text) due), sym (ap (λ a. (answer_to k q a).next) due))
 
 -- a line that asks this is answered as that is
-pub asked_line : (k : Rules) (line : List ℕ) (asked : Asked) (t : List ℕ) (old new : Connected) → asked_in k line ≡ Ok asked → AnswersLine (λ s. carried_out k s asked.at asked.what) k t old new
+pub asked_line : (k : Rules) (line : List ℕ) (asked : Asked) (t : List ℕ) (old new : Standing) → asked_in k line ≡ Ok asked → AnswersLine (λ s. carried_out k s asked.at asked.what) k t old new
     → AnswersLine (λ s. line_answer k s line) k t old new
 unfolding line_answer
 asked_line k line asked t old new is h = record {
@@ -100,13 +100,13 @@ asked_line k line asked t old new is h = record {
 }
 
 -- a view is told, or its refusal
-pub told_view : (k : Rules) (vehicle : Name) (t : List ℕ) (old new : Connected) → Sees (λ s. shown_in s vehicle ≡ Ok t) old new → AnswersLine (λ s. viewed s vehicle) k t old new
+pub told_view : (k : Rules) (vehicle : Name) (t : List ℕ) (old new : Standing) → Sees (λ s. shown_in s vehicle ≡ Ok t) old new → AnswersLine (λ s. viewed s vehicle) k t old new
 told_view k vehicle t old new sees = record {
   clean = sees.clean;
   answered = λ now s sound was. let it = sees.seen now k s sound was in (s, inl (sym (ap shown_text it.0), refl), sound, it.1);
 }
 
-pub told_refusal : (k : Rules) (vehicle : Name) (r : Refusal) (t : List ℕ) (old new : Connected) → Sees (λ s. MatchBool (is_lost_by r) ⊤ (shown_in s vehicle ≡ Err r)) old new → t ≡ refused_text r
+pub told_refusal : (k : Rules) (vehicle : Name) (r : Refusal) (t : List ℕ) (old new : Standing) → Sees (λ s. MatchBool (is_lost_by r) ⊤ (shown_in s vehicle ≡ Err r)) old new → t ≡ refused_text r
     → AnswersLine (λ s. viewed s vehicle) k t old new
 told_refusal k vehicle r t old new sees is = record {
   clean = sees.clean;

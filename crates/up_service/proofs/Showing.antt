@@ -5,7 +5,6 @@ use Rattle.std.specs.List.{AllByRecursion}
 use Rattle.std.specs.FinMap as table
 use Rattle.std.proofs.lemmas.List.{flat_map_more, take_more}
 use Rattle.std.proofs.lemmas.Result.{IfOk-weaker}
-use Rattle.sqlite.specs.State.{State as Connected, HasCleanDisk}
 use Rattle.up_canon.specs.Names.{Name}
 use Rattle.up_canon.specs.Steps.{and_then, ◌>>=◌, or_error}
 use Rattle.up_canon.specs.declared.refusal.Refusal.{Refusal}
@@ -25,34 +24,45 @@ use Rattle.up_machine.specs.Vehicles.{has_ecu, ecu_names}
 use Rattle.up_rows.specs.StateRows.{rows_of_state}
 use Rattle.up_tables.specs.declared.values.StoreFault.{StoreFault}
 use Rattle.up_tables.specs.declared.values.StoreFault.TheVariants as fault
-use Rattle.up_desk.specs.Serving.{Reads, Tells, is_lost_by, refusal_told}
+use Rattle.up_desk.specs.Serving.{is_lost_by, refusal_told}
+use Rattle.up_desk.specs.Standing.{Standing, HasCleanDisk, IfClean, KeepsState, Fits, Reads, Tells}
 use Rattle.up_script.specs.PrintedLines.{ecu_text, vehicle_text}
 use Rattle.up_service.specs.LineAnswers.{Sees, ecus_text, row_text, rows_text, line_of, shown_in, shown_with}
 
 -- ---- steps
 
+clean_at : (old new : Standing) → Reads old new → HasCleanDisk new → HasCleanDisk old
+clean_at old new reads now = let before : HasCleanDisk old = omega (arith, reads.tables.survives.clean) in before
+
+-- what was shown before a read is shown after it
+seen_on : (k : Rules) (s : State) (old new : Standing) → Reads old new → IfClean (KeepsState k s) old → HasCleanDisk new → KeepsState k s new
+seen_on k s old new reads was now = record {
+  tables = reads.tables.kept (rows_of_state k s) (λ before. (was before).tables) now;
+  memory = subst (Fits s) (sym reads.memory) (was (clean_at old new reads now)).memory;
+}
+
 -- what the desk tells by reading
-pub seen_by : {A E : Type 0} (f : State → A) (result : Result A E) (old new : Connected) → Tells (λ k s. f s) old new result → Reads old new → Sees (λ s. IfOk result (λ found. found ≡ f s)) old new
+pub seen_by : {A E : Type 0} (f : State → A) (result : Result A E) (old new : Standing) → Tells (λ k s. f s) old new result → Reads old new → Sees (λ s. IfOk result (λ found. found ≡ f s)) old new
 seen_by f result old new told reads = record {
-  clean = λ now. let before : HasCleanDisk old = omega (arith, reads.survives.clean) in before;
-  seen = λ now k s sound was. (IfOk-weaker result _ _ (λ found is. is k s was) (told now), reads.kept (rows_of_state k s) was now);
+  clean = clean_at old new reads;
+  seen = λ now k s sound was. (IfOk-weaker result _ _ (λ found is. is k s (λ before. (was before).tables)) (told now), seen_on k s old new reads was now);
 }
 
 -- the database refused
-pub seen_in_fault : (P : State → Type 0) (old new : Connected) → Reads old new → ((s : State) → P s) → Sees P old new
+pub seen_in_fault : (P : State → Type 0) (old new : Standing) → Reads old new → ((s : State) → P s) → Sees P old new
 seen_in_fault P old new reads holds = record {
-  clean = λ now. let before : HasCleanDisk old = omega (arith, reads.survives.clean) in before;
-  seen = λ now k s sound was. (holds s, reads.kept (rows_of_state k s) was now);
+  clean = clean_at old new reads;
+  seen = λ now k s sound was. (holds s, seen_on k s old new reads was now);
 }
 
 -- one step after another
-pub sees_then : (P Q R : State → Type 0) (old mid new : Connected) → Sees P old mid → Sees Q mid new → ((k : Rules) (s : State) → IsSound k s → P s → Q s → R s) → Sees R old new
+pub sees_then : (P Q R : State → Type 0) (old mid new : Standing) → Sees P old mid → Sees Q mid new → ((k : Rules) (s : State) → IsSound k s → P s → Q s → R s) → Sees R old new
 sees_then P Q R old mid new first next joined = record {
   clean = λ now. first.clean (next.clean now);
   seen = λ now k s sound was. let a = first.seen (next.clean now) k s sound was in let b = next.seen now k s sound (λ _. a.1) in (joined k s sound a.0 b.0, b.1);
 }
 
-pub sees_weaker : (P Q : State → Type 0) (old new : Connected) → Sees P old new → ((s : State) → P s → Q s) → Sees Q old new
+pub sees_weaker : (P Q : State → Type 0) (old new : Standing) → Sees P old new → ((s : State) → P s → Q s) → Sees Q old new
 sees_weaker P Q old new first weaker = record {
   clean = first.clean;
   seen = λ now k s sound was. let a = first.seen now k s sound was in (weaker s a.0, a.1);

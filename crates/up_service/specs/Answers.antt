@@ -1,6 +1,5 @@
 -- What is told of an answer, and the state that it leaves; or that memory or the database refused.
 use Rattle.std.specs.Prelude.{◌≡◌, ◌⊎◌, ℕ, List}
-use Rattle.sqlite.specs.State.{State as Connected, HasCleanDisk}
 use Rattle.up_canon.specs.declared.refusal.Refusal.{Refusal}
 use Rattle.up_canon.specs.declared.refusal.Refusal.TheVariants.{Memory, Store}
 use Rattle.up_sign.specs.Schemes.{Rules}
@@ -9,8 +8,7 @@ use Rattle.up_machine.specs.declared.command.Command.{Command}
 use Rattle.up_machine.specs.Repeats.{serve}
 use Rattle.up_machine.specs.Sound.{IsSound}
 use Rattle.up_machine.specs.State.{State}
-use Rattle.up_tables.specs.Stands.{IfClean}
-use Rattle.up_store.specs.Connections.{KeepsState}
+use Rattle.up_desk.specs.Standing.{Standing, HasCleanDisk, IfClean, KeepsState}
 
 -- the text of an answer, and the state after it
 pub record Answered : Type 0 where
@@ -31,7 +29,7 @@ IsAnswerOrLost tell a old text new = ((text ≡ a.text) × (new ≡ a.next)) ⊎
 
 -- of each state that the tables show, over a disk that has returned what was written so far: the text is its answer or tells
 -- that it is lost, and the tables show the next state
-pub record AnswersAs (tell : Refusal → List ℕ) (answer : State → Answered) (k : Rules) (text : List ℕ) (old new : Connected) : Type 0 where
+pub record AnswersAs (tell : Refusal → List ℕ) (answer : State → Answered) (k : Rules) (text : List ℕ) (old new : Standing) : Type 0 where
   pub clean : HasCleanDisk new → HasCleanDisk old
   pub answered : HasCleanDisk new → (s : State) → IsSound k s → IfClean (KeepsState k s) old
       → (next : State) × IsAnswerOrLost tell (answer s) s text next × IsSound k next × KeepsState k next new

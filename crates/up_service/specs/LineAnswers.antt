@@ -1,7 +1,5 @@
 -- What each line of a script is answered, and the state that it leaves.
 use Rattle.std.specs.Prelude.{◌≡◌, ℕ, List, ◌++◌, flat_map, MatchBool, ⊤, Option, Result, Ok, Err}
-use Rattle.sqlite.specs.Held.{state}
-use Rattle.sqlite.specs.State.{State as Connected, HasCleanDisk}
 use Rattle.sqlite_trees.specs.declared.store.Store.{Ghosts}
 use Rattle.up_canon.specs.Names.{Name}
 use Rattle.up_canon.specs.Steps.{◌>>=◌, or_error}
@@ -15,9 +13,8 @@ use Rattle.up_machine.specs.declared.rows.VehicleRows.{VehicleRows}
 use Rattle.up_machine.specs.Reads.{ecus_of, version_of, installed, assigned_to}
 use Rattle.up_machine.specs.Sound.{IsSound}
 use Rattle.up_machine.specs.State.{State}
-use Rattle.up_tables.specs.Stands.{IfClean}
-use Rattle.up_store.specs.Connections.{KeepsState}
-use Rattle.up_desk.specs.Serving.{DeskView, is_lost_by}
+use Rattle.up_desk.specs.Serving.{is_lost_by}
+use Rattle.up_desk.specs.Standing.{DeskView, Standing, HasCleanDisk, IfClean, KeepsState, state}
 use Rattle.up_script.specs.AskedLines.{asked_in}
 use Rattle.up_script.specs.PrintedLines.{answer_text, refused_text, vehicle_text, ecu_text}
 use Rattle.up_script.specs.declared.asked.Asked.{Asked}
@@ -65,7 +62,7 @@ shown_text (Err r) = refused_text r
 
 -- a step of a view, over a disk that has returned what was written so far: this holds of each sound state that the tables show, and
 -- they go on showing it
-pub record Sees (holds : State → Type 0) (old new : Connected) : Type 0 where
+pub record Sees (holds : State → Type 0) (old new : Standing) : Type 0 where
   pub clean : HasCleanDisk new → HasCleanDisk old
   pub seen : HasCleanDisk new → (k : Rules) (s : State) → IsSound k s → IfClean (KeepsState k s) old → holds s × KeepsState k s new
 
@@ -93,7 +90,7 @@ unfoldable pub line_answer : Rules → State → List ℕ → Answered
 line_answer k s line = answer_to k s (asked_in k line)
 
 -- the line is such an answer, or says that memory or the database refused
-abbrev pub AnswersLine : (State → Answered) → Rules → List ℕ → Connected → Connected → Type 0
+abbrev pub AnswersLine : (State → Answered) → Rules → List ℕ → Standing → Standing → Type 0
 AnswersLine answer k text old new = AnswersAs refused_text answer k text old new
 
 -- what a desk may answer a line, and how it leaves it

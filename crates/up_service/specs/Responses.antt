@@ -1,7 +1,5 @@
 -- What each request is answered, and the state that it leaves.
 use Rattle.std.specs.Prelude.{◌≡◌, ℕ, Bool, List, [], None, IfSome}
-use Rattle.sqlite.specs.Held.{state}
-use Rattle.sqlite.specs.State.{State as Connected}
 use Rattle.sqlite_trees.specs.declared.store.Store.{Ghosts}
 use Rattle.up_sign.specs.Schemes.{Rules}
 use Rattle.up_machine.specs.declared.answer.Answer.{Answer}
@@ -11,7 +9,8 @@ use Rattle.up_heads.specs.Responses.{response_of, check_response_of, refusal_res
 use Rattle.up_http.specs.declared.asked.Next.{Next}
 use Rattle.up_http.specs.declared.asked.What.{What}
 use Rattle.up_http.specs.declared.asked.What.TheVariants.{Call, Fixed}
-use Rattle.up_desk.specs.Serving.{DeskView, outright}
+use Rattle.up_desk.specs.Standing.{DeskView, Standing, state}
+use Rattle.up_desk.specs.Serving.{outright}
 use Rattle.up_service.specs.Answers.{AnswersAs, answered_as}
 
 -- a reply's or a file's text is the body
@@ -27,7 +26,7 @@ answer_response (File text) last head = found_response text last head
 answer_response (Refused r) last head = refusal_response_of r last head
 
 -- a command is served at the moment, or its response is that of a refusal for want of memory or by the database
-abbrev pub AnswersCall : Rules → ℕ → Command → Bool → Bool → List ℕ → Connected → Connected → Type 0
+abbrev pub AnswersCall : Rules → ℕ → Command → Bool → Bool → List ℕ → Standing → Standing → Type 0
 AnswersCall k at command last head text old new =
     AnswersAs (λ r. refusal_response_of r last head) (λ s. answered_as (λ answer. answer_response answer last head) k s at command) k text old new
 

@@ -1,8 +1,8 @@
 //! The answer to a line of a script.
 ghost use Rattle.std.specs.Prelude.{◌≡◌, List, ℕ, IsTrue, IfOk, OnErr, string_bytes};
-ghost use Rattle.sqlite.specs.Held.{state};
 ghost use Rattle.up_machine.specs.Commands.{opens_running};
 ghost use Rattle.up_script.specs.AskedLines.{asks_running};
+ghost use Rattle.up_desk.specs.Standing.{state};
 ghost use Rattle.up_service.specs.LineAnswers.{AnswersLine, carried_out, command_answer, line_answer, viewed};
 
 use crate::show::shown;

@@ -1,7 +1,7 @@
 //! Views of a vehicle.
 ghost use Rattle.std.specs.Prelude.{◌≡◌, ◌++◌, Ok, IfOk, string_bytes};
-ghost use Rattle.sqlite.specs.Held.{state};
 ghost use Rattle.up_machine.specs.Reads.{assigned_to};
+ghost use Rattle.up_desk.specs.Standing.{state};
 ghost use Rattle.up_service.specs.LineAnswers.{GivesShown, Sees, row_text, rows_text, shown_in};
 
 use sqlite::Alter;

@@ -143,3 +143,34 @@ pub reaching_ended : (vehicle : Name) (campaigns : Table CampaignData) (rows : L
 reaching_ended vehicle campaigns rows t are so =
     whole.same_table t _ (λ n. whole.ended campaign_key campaign_row (λ n. campaign_lines) (λ n. line_of_campaign) (λ n. refl) (λ n x. refl) (is_reached vehicle) (running campaigns) rows t are.each so n
     ∙ both_pass vehicle (table.get campaigns n) ∙ sym (get_where (λ c. c.running && reaches vehicle c.reach) campaigns n))
+
+-- ---- all running campaigns
+
+abbrev any_campaign : CampaignData → Bool
+any_campaign campaign = true
+
+-- those of these rows
+abbrev pub AreRead : List CampaignRow → Table CampaignData → Table CampaignData → Type 0
+AreRead rows campaigns t = whole.IsSofar campaign_key campaign_row (λ n. campaign_lines) (λ n. line_of_campaign) (λ n. refl) (λ n x. refl) any_campaign (running campaigns) rows t
+
+pub running_begun : (campaigns : Table CampaignData) → AreRead [] campaigns table.empty
+running_begun campaigns = whole.begun campaign_key campaign_row (λ n. campaign_lines) (λ n. line_of_campaign) (λ n. refl) (λ n x. refl) any_campaign (running campaigns)
+
+pub running_more : (campaigns : Table CampaignData) (rows : List CampaignRow) (i : ℕ) (r : CampaignRow) (t next : Table CampaignData) → i < length rows → r ≡ get_or rows i r → AreRunning rows campaigns
+    → ((name : Name) (campaign : CampaignData) → IsTypedCampaign name campaign → IsCampaign r campaign → next ≡ table.insert t campaign.name campaign)
+    → AreRead (take i rows) campaigns t → AreRead (take (i + 1) rows) campaigns next
+running_more campaigns rows i r t next h at are put so =
+    let is = whole.row_is campaign_key campaign_row (λ n. campaign_lines) (λ n. line_of_campaign) (λ n. refl) (λ n x. refl) any_campaign (running campaigns) rows i r h at are.each in
+    let same = campaign_shown is.value r is.same in
+    whole.more campaign_key campaign_row (λ n. campaign_lines) (λ n. line_of_campaign) (λ n. refl) (λ n x. refl) any_campaign (running campaigns) rows i r is.value t next h at is.there
+    (put (campaign_key r) is.value (are.typed (campaign_key r) is.value (if_passes_some is_running (table.get campaigns (campaign_key r)) is.value is.there)) same
+    ∙ ap (λ name. table.insert t name is.value) (sym same.name)) so
+
+any_campaign_passes : (o : Option CampaignData) → if_passes any_campaign o ≡ o
+any_campaign_passes None = refl
+any_campaign_passes (Some campaign) = refl
+
+pub running_ended : (campaigns : Table CampaignData) (rows : List CampaignRow) (t : Table CampaignData) → AreRunning rows campaigns → AreRead rows campaigns t → t ≡ values_where (λ c. c.running) campaigns
+running_ended campaigns rows t are so =
+    whole.same_table t _ (λ n. whole.ended campaign_key campaign_row (λ n. campaign_lines) (λ n. line_of_campaign) (λ n. refl) (λ n x. refl) any_campaign (running campaigns) rows t are.each so n
+    ∙ any_campaign_passes (running campaigns n) ∙ sym (get_where (λ c. c.running) campaigns n))

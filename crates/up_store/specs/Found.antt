@@ -23,3 +23,7 @@ values_where test t = table.from_sorted (filter (λ e. test e.1) (table.entries 
 -- the running campaigns that reach the vehicle
 abbrev pub campaigns_found : Name → StateRows → Table CampaignData
 campaigns_found vehicle rows = values_where (λ c. c.running && reaches vehicle c.reach) rows.campaigns
+
+-- the running campaigns
+abbrev pub running_found : StateRows → Table CampaignData
+running_found rows = values_where (λ c. c.running) rows.campaigns

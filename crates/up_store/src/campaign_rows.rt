@@ -125,6 +125,31 @@ fn read_its_reach(alloc: Global, shown: &CampaignRow) -> Result<Reach, StoreFaul
     read_column(read_reach(alloc, shown.reach.as_str()))
 }
 
+/// The rows of running campaigns as they stand in the table, read.
+pub fn read_running(alloc: Global, shown: &[CampaignRow]) -> Result<Table<Campaign>, StoreFault>
+    ensures { IfOk result (λ read. (campaigns : Named CampaignData) → AreRunning shown.now campaigns → read ≡ values_where (λ c. c.running) campaigns) }
+{
+    let mut running = Table::new(alloc);
+    for row in shown {
+        add_running(&mut running, alloc, row)?;
+    }
+    Ok(running)
+}
+
+/// Reads a row as it stands in the table, and puts the campaign under its name.
+fn add_running(
+    running: &mut Table<Campaign>,
+    alloc: Global,
+    shown: &CampaignRow,
+) -> Result<(), StoreFault>
+    ensures { OnOk result ((name : Name) (campaign : CampaignData) → IsTypedCampaign name campaign → IsCampaign shown.now campaign → running.new ≡ table.insert running.old campaign.name campaign) }
+{
+    let campaign = read_campaign(alloc, shown)?;
+    let name = name_of(alloc, campaign.name.text())?;
+    running.insert(name, campaign)?;
+    Ok(())
+}
+
 /// The row of a campaign as it stands in the table.
 pub fn make_campaign(alloc: Global, campaign: &Campaign) -> Result<CampaignRow, AllocError>
     ensures same { IfOk result (λ made. IsCampaign made campaign.now) }

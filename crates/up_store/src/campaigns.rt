@@ -9,11 +9,11 @@ ghost use Rattle.up_rows.specs.Changes.{with_campaign_row};
 ghost use Rattle.up_store.specs.ColumnRows.{IsCampaign};
 ghost use Rattle.up_store.specs.Typed.{IsTypedCampaign};
 ghost use Rattle.up_store.specs.Fitting.{IsNewCampaign, IsClosing};
-ghost use Rattle.up_store.specs.Found.{campaigns_found};
+ghost use Rattle.up_store.specs.Found.{campaigns_found, running_found};
 ghost use Rattle.up_tables.specs.Stands.{IfClean, IsAsCommitted, IsInside, IsOpen, Steps};
 ghost use Rattle.up_store.specs.Connections.{Answers, FindsRows, NeedsOpen, TakesRows, CommitsRows, SparesRows, PutsRows};
 
-use crate::campaign_rows::{make_campaign, read_campaign, read_reaching};
+use crate::campaign_rows::{make_campaign, read_campaign, read_reaching, read_running};
 use crate::store::{Store, StoreFault, commit};
 use sqlite::{Alter, Transaction};
 use std::alloc::Global;
@@ -50,6 +50,17 @@ impl<D: Alter> Store<D> {
     {
         let mut tx = self.conn.transaction();
         find_campaigns(&mut tx, alloc, vehicle)
+    }
+
+    /// The running campaigns by their names.
+    pub fn running(&mut self, alloc: Global) -> Result<Table<Campaign>, StoreFault>
+        ensures told { Answers running_found (state D.Store self.old) (state D.Store self.new) result }
+        ensures kept { IfClean (IsAsCommitted (state D.Store self.old)) (state D.Store self.new) }
+        ensures crash { Survives (state D.Store self.old) (state D.Store self.new) (λ _. ⊥) }
+        ensures open { NeedsOpen (state D.Store self.old) (state D.Store self.new) result }
+    {
+        let mut tx = self.conn.transaction();
+        find_running(&mut tx, alloc)
     }
 
     /// Writes a campaign whose name is new.
@@ -141,6 +152,23 @@ fn find_campaigns<D: Alter>(
 {
     match running_shown(tx, alloc) {
         Ok(shown) => read_reaching(alloc, vehicle, shown.as_slice()),
+        Err(fault) => Err(fault),
+    }
+}
+
+/// The running campaigns.
+fn find_running<D: Alter>(
+    tx: &mut Transaction<'_, D>,
+    alloc: Global,
+) -> Result<Table<Campaign>, StoreFault>
+    requires mode { IfClean IsInside (state D.Store tx.old.conn.now) }
+    ensures same_reference { tx.new.conn.ghost_name ≡ tx.old.conn.ghost_name }
+    ensures found { FindsRows running_found (state D.Store tx.old.conn.now) (state D.Store tx.new.conn.now) result }
+    ensures open { NeedsOpen (state D.Store tx.old.conn.now) (state D.Store tx.new.conn.now) result }
+    ensures steps { Steps (state D.Store tx.old.conn.now) (state D.Store tx.new.conn.now) }
+{
+    match running_shown(tx, alloc) {
+        Ok(shown) => read_running(alloc, shown.as_slice()),
         Err(fault) => Err(fault),
     }
 }

@@ -10,8 +10,8 @@ use Rattle.up_desk.proofs.Fitting.{accepting_fits}
 use Rattle.up_desk.proofs.Steps.{WillWrite, reads_none, refused, written}
 use Rattle.up_desk.proofs.deliveries.accept.Goals as goal
 
-pub returns-in-Ok : goal.returns-in-Ok
-returns-in-Ok g c = λ k s name computed sound was gives.
+pub returns-in-Ok-clause-serves : goal.returns-in-Ok-clause-serves
+returns-in-Ok-clause-serves g c = λ k s name computed sound was gives.
     let old = state g.D.Store c.args.store.now in
     let new = state g.D.Store c.write_accept-written.new.self in
     let rows = c.args.rows in
@@ -22,6 +22,6 @@ returns-in-Ok g c = λ k s name computed sound was gives.
     (when_accepted k s name (Accepted rows) rows computed refl (gives clean))))
     c.write_accept-written.ensures.written c.write_accept-written.ensures.durable c.write_accept-written.ensures.kept c.write_accept-written.ensures.crash c.write_accept-written.ensures.clean)
 
-pub returns-in-Err : goal.returns-in-Err
-returns-in-Err g c = λ k s name computed sound was gives.
+pub returns-in-Err-clause-serves : goal.returns-in-Err-clause-serves
+returns-in-Err-clause-serves g c = λ k s name computed sound was gives.
     refused was (reads_none (state g.D.Store c.args.store.now)) (λ clean. tt)

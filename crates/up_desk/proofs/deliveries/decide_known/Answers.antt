@@ -1,19 +1,27 @@
-use Rattle.std.proofs.Common.{◌∙◌}
-use Rattle.up_rows.specs.StateRows.{rows_of_state}
-use Rattle.up_desk.proofs.Steps.{clean_before, keeps_after, lost_told, reads_then, store_reads}
+use Rattle.std.proofs.Common.{sym, ap, ◌∙◌}
+use Rattle.sqlite.specs.Held.{state}
+use Rattle.up_metadata.specs.Keys.{hashed_roles}
+use Rattle.up_machine.specs.declared.rows.Founding.{Founding}
+use Rattle.up_machine.proofs.Senders.{refused_first}
+use Rattle.std.proofs.lemmas.Option.{same_Some}
+use Rattle.up_desk.proofs.Due.{surely_refused}
+use Rattle.up_desk.proofs.Steps.{reads_none}
 use Rattle.up_desk.proofs.deliveries.decide_known.Goals as goal
 
 pub returns-in-Ok-clause-decided : goal.returns-in-Ok-clause-decided
-returns-in-Ok-clause-decided g c clean = λ s sound founding vehicle was.
-    let k = g.K.Scheme.rules c.args.scheme.now in
-    let before = clean_before c.decide_kept.ensures.reads clean in
-    c.decide_kept.ensures.decided clean s sound founding vehicle (c.as_ref-row.ensures.value ∙ c.in-Ok.ensures.told before (rows_of_state k s) was ∙ c.rows_are_found.ensures.kept k s c.args.incoming.now.manifest.vehicle c.args.incoming.now.manifest.counter) (keeps_after k s was (store_reads c.kept.ensures.kept c.kept.ensures.crash))
-
-pub returns-in-Ok-clause-reads : goal.returns-in-Ok-clause-reads
-returns-in-Ok-clause-reads g c = reads_then (store_reads c.kept.ensures.kept c.kept.ensures.crash) c.decide_kept.ensures.reads
+returns-in-Ok-clause-decided g c = λ clean s sound known was.
+    c.decide_sent.ensures.decided clean s sound (record { kept = known.kept; from = c.in-Ok.ensures.from s (sym known.kept.founding) known.rows }) was
 
 pub returns-in-Err-clause-decided : goal.returns-in-Err-clause-decided
-returns-in-Err-clause-decided g c = λ clean s sound founding vehicle was. lost_told c.refusal_of.result c.in-Err.fault _ c.refusal_of.ensures
+returns-in-Err-clause-decided g c = λ clean s sound known was.
+    surely_refused c.in-Err.refusal _ (refused_first (g.K.Scheme.rules c.args.scheme.now) s c.args.at c.args.incoming.now c.in-Err.refusal (c.in-Err.ensures.from s (sym known.kept.founding) known.rows))
+
+pub decide_sent-requires-clause-hashed : goal.decide_sent-requires-clause-hashed
+decide_sent-requires-clause-hashed g c =
+    c.requires.can.hashed ∙ ap (λ (f : Founding). hashed_roles (g.K.Scheme.rules c.args.scheme.now) f.keys.director) (same_Some _ _ c.in-Ok.ensures.given.0)
 
 pub returns-in-Err-clause-reads : goal.returns-in-Err-clause-reads
-returns-in-Err-clause-reads g c = store_reads c.kept.ensures.kept c.kept.ensures.crash
+returns-in-Err-clause-reads g c = reads_none (state g.D.Store c.args.store.now)
+
+pub decide_sender-requires-clause-keys : goal.decide_sender-requires-clause-keys
+decide_sender-requires-clause-keys g c = c.requires.can.keys

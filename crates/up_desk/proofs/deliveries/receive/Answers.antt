@@ -1,25 +1,22 @@
-use Rattle.std.proofs.Common.{Ok, refl, subst}
-use Rattle.up_machine.specs.Decisions.{decide_incoming, GivesDelivered}
-use Rattle.up_desk.proofs.Decided.{when_repeated}
-use Rattle.up_desk.proofs.Steps.{after_reads, keeps_after, refused, unchanged}
+use Rattle.std.proofs.Common.{sym, subst}
+use Rattle.std.specs.Prelude.{IfSome}
+use Rattle.up_desk.specs.Standing.{CanDecide, IsLoaded}
+use Rattle.up_desk.proofs.Steps.{after_reads, clean_before, keeps_after, lost_told, refused}
 use Rattle.up_desk.proofs.deliveries.receive.Goals as goal
 
-pub returns-in-Ok-Repeat : goal.returns-in-Ok-Repeat
-returns-in-Ok-Repeat g c = λ s sound was.
+pub returns-in-Ok-clause-serves : goal.returns-in-Ok-clause-serves
+returns-in-Ok-clause-serves g c = λ s sound was kept.
     let k = g.K.Scheme.rules c.args.scheme.now in
-    unchanged refl (λ next h same. h same) was c.decide.ensures.reads
-    (λ clean. when_repeated k s c.args.incoming.now.manifest.vehicle c.in-Ok-Repeat.field-0 c.in-Ok-Repeat.reply _ c.in-Ok-Repeat.field-0-is (c.in-Ok-Repeat.ensures.decided clean s sound was))
+    after_reads c.load.ensures.reads
+    (c.receive_loaded.ensures.serves s sound (keeps_after k s was c.load.ensures.reads)
+    (λ mid. subst (IsLoaded s) (sym c.as_ref.ensures.value) (c.in-Ok.ensures.loaded mid k s was (kept (clean_before c.load.ensures.reads mid)))))
 
-pub returns-in-Ok-Accepted : goal.returns-in-Ok-Accepted
-returns-in-Ok-Accepted g c = λ s sound was.
-    let k = g.K.Scheme.rules c.args.scheme.now in
-    let name = c.args.incoming.now.manifest.vehicle in
-    let computed = decide_incoming k s c.args.at c.args.incoming.now in
-    after_reads c.decide.ensures.reads
-    (c.accept.ensures k s name computed sound (keeps_after k s was c.decide.ensures.reads)
-    (λ clean. subst (λ d. GivesDelivered k s name (Ok d) computed) c.in-Ok-Accepted.field-0-is (c.in-Ok-Accepted.ensures.decided clean s sound was)))
+pub returns-in-Ok-clause-fits : goal.returns-in-Ok-clause-fits
+returns-in-Ok-clause-fits g c = λ clean k s was fits. c.load.ensures.fits (c.receive_loaded.ensures.clean clean) k s was fits
 
-pub returns-in-Err : goal.returns-in-Err
-returns-in-Err g c = λ s sound was.
-    refused was c.decide.ensures.reads
-    (λ clean. c.in-Err.ensures.decided clean s sound was)
+pub returns-in-Err-clause-serves : goal.returns-in-Err-clause-serves
+returns-in-Err-clause-serves g c = λ s sound was kept.
+    refused was c.load.ensures.reads (λ clean. lost_told c.refusal_of.result c.in-Err.fault _ c.refusal_of.ensures)
+
+pub receive_loaded-requires-clause-can : goal.receive_loaded-requires-clause-can
+receive_loaded-requires-clause-can g c = subst (λ o. IfSome o (CanDecide (g.K.Scheme.rules c.args.scheme.now))) (sym c.as_ref.ensures.value) c.load.ensures.can

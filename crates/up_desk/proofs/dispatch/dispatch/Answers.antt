@@ -2,23 +2,38 @@ use Rattle.std.proofs.Common.{Err, refl, subst}
 use Rattle.sqlite.specs.Held.{state}
 use Rattle.up_canon.specs.declared.refusal.Refusal.TheVariants.{MomentOutOfRange}
 use Rattle.up_desk.specs.Serving.{Serves, outcome_due}
+use Rattle.up_desk.specs.Standing.{CanDecide}
+use Rattle.up_desk.proofs.Cataloged.{can_still, kept_again, kept_fits, still_kept}
 use Rattle.up_desk.proofs.Serving.{late_due, in_time_outright, late_outright}
 use Rattle.up_desk.proofs.Steps.{refused, reads_none}
 use Rattle.up_desk.proofs.dispatch.dispatch.Goals as goal
 
 pub returns-in-None : goal.returns-in-None
 returns-in-None g c = record {
-  serves = λ s sound was.
+  serves = λ s sound was kept.
       refused was (reads_none (state g.D.Store c.args.store.now))
       (λ clean. late_due (g.K.Scheme.rules c.args.scheme.now) s c.args.at c.args.command.now c.in-None.ensures);
   outright = late_outright (g.K.Scheme.rules c.args.scheme.now) c.args.at c.args.command.now (Err MomentOutOfRange) c.in-None.ensures refl;
+  fits = λ clean k s was fits. still_kept s c.args.command.now c.args.catalog.now c.drop_before.new.catalog c.drop_before.ensures fits;
+  can = can_still (CanDecide (g.K.Scheme.rules c.args.scheme.now)) c.args.command.now c.args.catalog.now c.drop_before.new.catalog c.drop_before.ensures c.requires;
 }
 
 pub returns-in-Some-clause-serves : goal.returns-in-Some-clause-serves
-returns-in-Some-clause-serves g c = λ s sound was.
+returns-in-Some-clause-serves g c = λ s sound was kept.
     subst (λ at. Serves (g.K.Scheme.rules c.args.scheme.now) s (state g.D.Store c.args.store.now) (state g.D.Store c.dispatch_at.new.store) c.dispatch_at.result (outcome_due (g.K.Scheme.rules c.args.scheme.now) s at c.args.command.now))
-    c.in-Some.ensures.1 (c.dispatch_at.ensures.serves s sound was)
+    c.in-Some.ensures.1
+    (c.dispatch_at.ensures.serves s sound was (λ clean. kept_fits s c.args.command.now c.args.catalog.now c.drop_before.new.catalog c.drop_before.ensures (kept clean)))
 
 pub returns-in-Some-clause-outright : goal.returns-in-Some-clause-outright
 returns-in-Some-clause-outright g c =
     in_time_outright (g.K.Scheme.rules c.args.scheme.now) c.args.at c.args.command.now c.dispatch_at.result c.in-Some.ensures.0 c.dispatch_at.ensures.outright
+
+pub returns-in-Some-clause-fits : goal.returns-in-Some-clause-fits
+returns-in-Some-clause-fits g c = λ clean k s was fits.
+    c.dispatch_at.ensures.fits clean k s was (kept_fits s c.args.command.now c.args.catalog.now c.drop_before.new.catalog c.drop_before.ensures fits)
+
+pub dispatch_at-requires-clause-can : goal.dispatch_at-requires-clause-can
+dispatch_at-requires-clause-can g c = can_still (CanDecide (g.K.Scheme.rules c.args.scheme.now)) c.args.command.now c.args.catalog.now c.drop_before.new.catalog c.drop_before.ensures c.requires
+
+pub dispatch_at-requires-clause-dropped : goal.dispatch_at-requires-clause-dropped
+dispatch_at-requires-clause-dropped g c = kept_again c.args.command.now c.args.catalog.now c.drop_before.new.catalog c.drop_before.ensures

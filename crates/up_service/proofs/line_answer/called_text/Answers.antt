@@ -1,7 +1,7 @@
 use Rattle.std.proofs.Common.{refl}
 use Rattle.std.proofs.lemmas.Result.{IfOk-weaker}
 use Rattle.std.specs.Prelude.{string_bytes}
-use Rattle.sqlite.specs.Held.{state}
+use Rattle.up_desk.specs.Standing.{state}
 use Rattle.up_script.specs.PrintedLines.{answer_text}
 use Rattle.up_service.proofs.Answering.{printed, on_err}
 use Rattle.up_service.proofs.line_answer.called_text.Goals as goal

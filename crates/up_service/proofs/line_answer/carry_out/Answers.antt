@@ -1,6 +1,6 @@
 use Rattle.std.proofs.Common.{List, ℕ, sym, subst, IfOk, OnErr}
 use Rattle.std.specs.Prelude.{string_bytes}
-use Rattle.sqlite.specs.Held.{state}
+use Rattle.up_desk.specs.Standing.{state}
 use Rattle.up_service.specs.LineAnswers.{AnswersLine, carried_out, command_answer}
 use Rattle.up_service.proofs.line_answer.carry_out.Goals as goal
 

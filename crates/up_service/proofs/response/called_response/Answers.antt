@@ -1,7 +1,7 @@
 use Rattle.std.proofs.Common.{refl}
 use Rattle.std.proofs.lemmas.Result.{IfOk-weaker}
 use Rattle.std.specs.Prelude.{string_bytes}
-use Rattle.sqlite.specs.Held.{state}
+use Rattle.up_desk.specs.Standing.{state}
 use Rattle.up_service.specs.Responses.{answer_response}
 use Rattle.up_service.proofs.Answering.{on_err, responded}
 use Rattle.up_service.proofs.response.called_response.Goals as goal

@@ -1,6 +1,6 @@
 use Rattle.std.proofs.Common.{◌≡◌, Ok, sym, subst, ◌∙◌}
 use Rattle.std.specs.Prelude.{string_bytes}
-use Rattle.sqlite.specs.Held.{state}
+use Rattle.up_desk.specs.Standing.{state}
 use Rattle.up_machine.specs.Rows.{vehicle_rows}
 use Rattle.up_tables.specs.declared.values.StoreFault.{StoreFault}
 use Rattle.up_service.specs.LineAnswers.{GivesShown}

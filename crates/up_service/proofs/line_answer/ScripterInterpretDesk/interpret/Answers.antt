@@ -1,5 +1,5 @@
 use Rattle.std.proofs.Common.{inr, ap, sym, subst}
-use Rattle.sqlite.specs.Held.{state}
+use Rattle.up_desk.specs.Standing.{state}
 use Rattle.up_service.specs.LineAnswers.{AnswersLine, line_answer}
 use Rattle.up_service.proofs.line_answer.ScripterInterpretDesk.interpret.Goals as goal
 

@@ -1,0 +1,170 @@
+-- What is kept in memory, and what keeps it.
+use Rattle.std.proofs.Common.{◌≡◌, ℕ, List, [], ◌∷◌, Bool, true, false, cond, Option, Some, None, Result, Ok, Err, filter, refl, sym, ap, ◌∙◌, subst}
+use Rattle.std.specs.Prelude.{◌&&◌, if◌then◌else◌, IfSome, MatchBool, flat_map, is_some}
+use Rattle.std.specs.FinMap as table
+use Rattle.up_canon.specs.Names.{Name, Table}
+use Rattle.up_canon.specs.Steps.{and_then}
+use Rattle.up_canon.specs.declared.refusal.Refusal.{Refusal}
+use Rattle.up_sign.specs.Schemes.{Rules}
+use Rattle.up_manifest.specs.declared.manifest.Incoming.{Incoming}
+use Rattle.up_manifest.specs.declared.manifest.Manifest.{Manifest}
+use Rattle.up_manifest.specs.declared.report.SignedReport.{SignedReport}
+use Rattle.up_plan.specs.Campaigns.{CampaignData}
+use Rattle.up_plan.specs.Images.{ImageData}
+use Rattle.up_plan.specs.Planning.{items_for, reaches}
+use Rattle.up_machine.specs.declared.answer.Answer.{Answer}
+use Rattle.up_machine.specs.declared.command.Command.{Command}
+use Rattle.up_machine.specs.declared.command.Command.TheVariants.{Found, Rotate, AddImage, Refresh, AddVehicle, ReplaceEcu, OpenCampaign, CloseCampaign, Deliver, Fetch}
+use Rattle.up_machine.specs.Deciding.{Outcome}
+use Rattle.up_machine.specs.Decisions.{decide_incoming, resolve}
+use Rattle.up_machine.specs.Deliveries.{Received, accepted, decide_received}
+use Rattle.up_machine.specs.Machine.{outcome_of}
+use Rattle.up_machine.specs.Repeats.{KeptEntry, repeat_in, serve}
+use Rattle.up_machine.specs.Repositories.{decide_fetch}
+use Rattle.up_machine.specs.Senders.{ArePlanned}
+use Rattle.up_machine.specs.Sound.{IsSound}
+use Rattle.up_machine.specs.State.{State, Vehicle}
+use Rattle.up_store.specs.Found.{values_where}
+use Rattle.up_desk.specs.Gathered.{gathered, item_files, report_files}
+use Rattle.up_desk.specs.Serving.{is_lost, IsAnswered, outcome_due}
+use Rattle.up_desk.specs.Standing.{IsOf, Fits, IsLoaded, StillFits, keeps_catalog, kept_for}
+use Rattle.up_desk.specs.declared.catalog.Catalog.{Catalog}
+use Rattle.up_desk.proofs.LookedUp.{images_planned}
+use Rattle.up_desk.proofs.Serving.{next_is}
+use Rattle.up_desk.proofs.Told.{running_sorted}
+
+-- ---- deliveries and fetches change vehicles alone
+
+-- the next state is this one with other vehicles
+abbrev KeepsRest : State → Result Outcome Refusal → Type 0
+KeepsRest s computed = (vehicles : Table Vehicle) × ((outcome_of s computed).next ≡ record s { vehicles = vehicles })
+
+refused_keeps : (s : State) (e : Refusal) → KeepsRest s (Err e)
+refused_keeps s e = (s.vehicles, refl)
+
+bound_keeps : {A : Type 0} (s : State) (m : Result A Refusal) (f : A → Result Outcome Refusal) → ((x : A) → KeepsRest s (f x)) → KeepsRest s (and_then m f)
+unfolding and_then
+bound_keeps s (Ok x) f each = each x
+bound_keeps s (Err e) f each = refused_keeps s e
+
+resolved_keeps : (k : Rules) (s : State) (at : ℕ) (r : Received) (o : Option KeptEntry) → KeepsRest s (resolve k s at r o)
+unfolding decide_received
+resolved_keeps k s at r (Some p) = (s.vehicles, refl)
+resolved_keeps k s at r None = bound_keeps s _ (λ _. Ok (accepted k s at r)) (λ _. ((accepted k s at r).next.vehicles, refl))
+
+incoming_keeps : (k : Rules) (s : State) (at : ℕ) (incoming : Incoming) → KeepsRest s (decide_incoming k s at incoming)
+unfolding decide_incoming
+incoming_keeps k s at incoming = bound_keeps s _ (λ r. resolve k s at r (repeat_in r)) (λ r. resolved_keeps k s at r (repeat_in r))
+
+delivery_keeps : (k : Rules) (s : State) (at : ℕ) (body : List ℕ) → KeepsRest s (outcome_due k s at (Deliver body))
+delivery_keeps k s at body = bound_keeps s _ _ (λ _. bound_keeps s _ _ (λ incoming. incoming_keeps k s at incoming))
+
+-- ---- what fits a state fits the next
+
+-- what is kept says nothing of vehicles
+fits_rest : (s t : State) (catalog : Option Catalog) (vehicles : Table Vehicle) → t ≡ record s { vehicles = vehicles } → Fits s catalog → Fits t catalog
+fits_rest s t None vehicles is h = tt
+fits_rest s t (Some c) vehicles is h = subst (λ (u : State). IsOf u c) (sym is) (record { founding = h.founding; campaigns = h.campaigns; images = h.images })
+
+by_loss : (s next : State) (catalog : Option Catalog) (o : Outcome) (a : Answer) (vehicles : Table Vehicle) → o.next ≡ record s { vehicles = vehicles } → (lost : Bool)
+    → MatchBool lost (next ≡ s) ((a ≡ o.answer) × (next ≡ o.next)) → Fits s catalog → Fits next catalog
+by_loss s next catalog o a vehicles is true h fits = subst (λ (t : State). Fits t catalog) (sym h) fits
+by_loss s next catalog o a vehicles is false h fits = fits_rest s next catalog vehicles (h.1 ∙ is) fits
+
+kept_by : (k : Rules) (s next : State) (at : ℕ) (c : Command) (a : Answer) (catalog : Option Catalog) → KeepsRest s (outcome_due k s at c) → IsAnswered a s next (serve k s at c) → Fits s catalog → Fits next catalog
+kept_by k s next at c a catalog rest h fits = by_loss s next catalog (serve k s at c) a rest.0 (sym (next_is k s at c) ∙ rest.1) (is_lost a) h fits
+
+dropped : (s : State) (catalog : Option Catalog) → catalog ≡ None → Fits s catalog
+dropped s catalog is = subst (Fits s) (sym is) tt
+
+-- what is left in memory after a command fits the state that it leaves
+pub still_fits : (k : Rules) (s next : State) (at : ℕ) (c : Command) (a : Answer) (catalog : Option Catalog) → IsAnswered a s next (serve k s at c) → StillFits s c catalog → Fits next catalog
+unfolding decide_fetch
+still_fits k s next at (Deliver body) a catalog h still = kept_by k s next at (Deliver body) a catalog (delivery_keeps k s at body) h still
+still_fits k s next at (Fetch repository name) a catalog h still =
+    kept_by k s next at (Fetch repository name) a catalog
+    (bound_keeps s _ _ (λ _. bound_keeps s _ _ (λ _. bound_keeps s _ _ (λ text. (s.vehicles, refl))))) h still
+still_fits k s next at (Found keys) a catalog h still = dropped next catalog still
+still_fits k s next at (Rotate keys) a catalog h still = dropped next catalog still
+still_fits k s next at (AddImage image) a catalog h still = dropped next catalog still
+still_fits k s next at (Refresh version) a catalog h still = dropped next catalog still
+still_fits k s next at (AddVehicle new) a catalog h still = dropped next catalog still
+still_fits k s next at (ReplaceEcu new) a catalog h still = dropped next catalog still
+still_fits k s next at (OpenCampaign campaign) a catalog h still = dropped next catalog still
+still_fits k s next at (CloseCampaign name) a catalog h still = dropped next catalog still
+
+-- the state and the answer are those of the command
+pub still_of : (s : State) (c d : Command) (catalog : Option Catalog) → c ≡ d → StillFits s d catalog → StillFits s c catalog
+still_of s c d catalog is h = subst (λ (e : Command). StillFits s e catalog) (sym is) h
+
+-- what is kept for a command
+by_keeping : (s : State) (old new : Option Catalog) (b : Bool) → new ≡ (if b then old else None) → Fits s old → MatchBool b (Fits s new) (new ≡ None)
+by_keeping s old new true is fits = subst (Fits s) (sym is) fits
+by_keeping s old new false is fits = is
+
+pub still_kept : (s : State) (c : Command) (old new : Option Catalog) → new ≡ kept_for c old → Fits s old → StillFits s c new
+still_kept s c old new is fits = by_keeping s old new (keeps_catalog c) is fits
+
+can_by : (P : Catalog → Type 0) (old new : Option Catalog) (b : Bool) → new ≡ (if b then old else None) → IfSome old P → IfSome new P
+can_by P old new true is can = subst (λ o. IfSome o P) (sym is) can
+can_by P old new false is can = subst (λ o. IfSome o P) (sym is) tt
+
+pub can_still : (P : Catalog → Type 0) (c : Command) (old new : Option Catalog) → new ≡ kept_for c old → IfSome old P → IfSome new P
+can_still P c old new is can = can_by P old new (keeps_catalog c) is can
+
+fits_by : (s : State) (old new : Option Catalog) (b : Bool) → new ≡ (if b then old else None) → Fits s old → Fits s new
+fits_by s old new true is fits = subst (Fits s) (sym is) fits
+fits_by s old new false is fits = dropped s new is
+
+pub kept_fits : (s : State) (c : Command) (old new : Option Catalog) → new ≡ kept_for c old → Fits s old → Fits s new
+kept_fits s c old new is fits = fits_by s old new (keeps_catalog c) is fits
+
+again_by : (old new : Option Catalog) (b : Bool) → new ≡ (if b then old else None) → new ≡ (if b then new else None)
+again_by old new true is = refl
+again_by old new false is = is
+
+pub kept_again : (c : Command) (old new : Option Catalog) → new ≡ kept_for c old → new ≡ kept_for c new
+kept_again c old new is = again_by old new (keeps_catalog c) is
+
+-- ---- what a plan reads of it
+
+-- a campaign that doesn't run has no items for anybody
+ran_again : (p : CampaignData → Bool) (cs : List CampaignData) → filter (λ c. c.running && p c) (filter (λ c. c.running) cs) ≡ filter (λ c. c.running && p c) cs
+ran_again p [] = refl
+ran_again p (c ∷ cs) = by_test c.running refl (ran_again p cs)
+  where
+    by_test : (b : Bool) → c.running ≡ b → filter (λ c. c.running && p c) (filter (λ c. c.running) cs) ≡ filter (λ c. c.running && p c) cs
+        → filter (λ c. c.running && p c) (cond b (c ∷ filter (λ c. c.running) cs) (filter (λ c. c.running) cs)) ≡ cond (b && p c) (c ∷ filter (λ c. c.running && p c) cs) (filter (λ c. c.running && p c) cs)
+    by_test true is more =
+        ap (λ b. cond (b && p c) (c ∷ filter (λ c. c.running && p c) (filter (λ c. c.running) cs)) (filter (λ c. c.running && p c) (filter (λ c. c.running) cs))) is
+        ∙ ap (λ rest. cond (p c) (c ∷ rest) rest) more
+    by_test false is more = more
+
+values_are : (campaigns : Table CampaignData) → table.values (values_where (λ (c : CampaignData). c.running) campaigns) ≡ filter (λ (c : CampaignData). c.running) (table.values campaigns)
+values_are campaigns = running_sorted campaigns
+
+pub items_run : (campaigns : Table CampaignData) (vehicle : Name) → items_for (table.values (values_where (λ (c : CampaignData). c.running) campaigns)) vehicle ≡ items_for (table.values campaigns) vehicle
+items_run campaigns vehicle =
+    ap (λ cs. items_for cs vehicle) (values_are campaigns)
+    ∙ ap (flat_map (λ (c : CampaignData). c.items)) (ran_again (λ c. reaches vehicle c.reach) (table.values campaigns))
+
+-- the running campaigns, and the images that are gathered for them and the reports, are what a plan needs
+pub are_planned : (k : Rules) (s : State) (manifest : Manifest) (c : Catalog) (campaigns : List CampaignData) (reports : List SignedReport) (images : Table ImageData) → IsSound k s → IsOf s c
+    → campaigns ≡ table.values c.campaigns → reports ≡ manifest.reports
+    → images ≡ gathered c.images (report_files reports) (gathered c.images (item_files (items_for campaigns manifest.vehicle)) table.empty) → ArePlanned s manifest images campaigns
+are_planned k s manifest c campaigns reports images sound is same reported found = record {
+  images_are = images_planned k s campaigns manifest.vehicle manifest.reports images sound
+      (found ∙ ap (λ (t : Table ImageData). gathered t (report_files reports) (gathered t (item_files (items_for campaigns manifest.vehicle)) table.empty)) is.images
+      ∙ ap (λ (rs : List SignedReport). gathered s.images (report_files rs) (gathered s.images (item_files (items_for campaigns manifest.vehicle)) table.empty)) reported);
+  items = ap (λ cs. items_for cs manifest.vehicle) (same ∙ ap table.values is.campaigns) ∙ items_run s.campaigns manifest.vehicle;
+}
+
+-- ---- what is loaded
+
+pub loaded_fits : (s : State) (catalog : Option Catalog) → IsLoaded s catalog → Fits s catalog
+loaded_fits s None h = tt
+loaded_fits s (Some c) h = h
+
+pub there_loaded : (s : State) (catalog : Option Catalog) → is_some catalog ≡ true → Fits s catalog → IsLoaded s catalog
+there_loaded s None there h = cc
+there_loaded s (Some c) there h = h

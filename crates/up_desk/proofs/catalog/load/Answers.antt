@@ -1,0 +1,17 @@
+use Rattle.std.proofs.Common.{sym, ◌∙◌}
+use Rattle.sqlite.specs.Held.{state}
+use Rattle.up_desk.proofs.Cataloged.{loaded_fits, there_loaded}
+use Rattle.up_desk.proofs.Steps.{reads_none}
+use Rattle.up_desk.proofs.catalog.load.Goals as goal
+
+pub returns-then-is_some-clause-loaded : goal.returns-then-is_some-clause-loaded
+returns-then-is_some-clause-loaded g c = λ clean k s was fits. there_loaded s c.args.catalog.now (sym c.is_some.ensures ∙ c.if-is_some.true) fits
+
+pub returns-in-Ok-clause-fits : goal.returns-in-Ok-clause-fits
+returns-in-Ok-clause-fits g c = λ clean k s was fits. loaded_fits s c.in-Ok.read (c.in-Ok.ensures.told clean k s was)
+
+pub returns-in-Ok-clause-loaded : goal.returns-in-Ok-clause-loaded
+returns-in-Ok-clause-loaded g c = λ clean k s was fits. c.in-Ok.ensures.told clean k s was
+
+pub returns-then-is_some-clause-reads : goal.returns-then-is_some-clause-reads
+returns-then-is_some-clause-reads g c = reads_none (state g.D.Store c.args.store.now)

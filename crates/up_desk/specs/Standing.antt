@@ -1,0 +1,109 @@
+-- What a desk stands on: the connection to its tables, and what it keeps of them in memory. The tables show a state to a desk where they
+-- show it, and what the desk keeps is of that state. A new desk keeps nothing, so to it they show what they show.
+use Rattle.std.specs.Prelude.{◌≡◌, ⊤, Bool, true, false, MatchBool, if◌then◌else◌, Option, Some, None, Result, IsTrue}
+use Rattle.sqlite.specs.Held.{Held}
+use Rattle.sqlite.specs.Held as holding
+use Rattle.sqlite.specs.State.{State as Connected}
+use Rattle.sqlite.specs.State as connected
+use Rattle.sqlite.specs.Tree.{Trees}
+use Rattle.sqlite_trees.specs.declared.store.Store.{Ghosts}
+use Rattle.up_plan.specs.Campaigns.{CampaignData}
+use Rattle.up_sign.specs.Schemes.{Rules}
+use Rattle.up_metadata.specs.Keys.{hashed_roles}
+use Rattle.up_machine.specs.declared.command.Command.{Command}
+use Rattle.up_machine.specs.declared.command.Command.TheVariants.{Deliver, Fetch}
+use Rattle.up_machine.specs.Rows.{founding_row}
+use Rattle.up_machine.specs.RowsFit.{founding_fits}
+use Rattle.up_machine.specs.State.{State}
+use Rattle.up_tables.specs.Stands as stands
+use Rattle.up_store.specs.Connections as connections
+use Rattle.up_store.specs.Found.{values_where}
+use Rattle.up_desk.specs.Serving as serving
+use Rattle.up_desk.specs.declared.catalog.Catalog.{Catalog}
+
+-- ---- what is kept in memory
+
+-- it is of the state: its founding, its running campaigns, and its images
+pub record IsOf (s : State) (c : Catalog) : Type 0 where
+  pub founding : founding_row s ≡ Some c.founding
+  pub campaigns : c.campaigns ≡ values_where (λ (x : CampaignData). x.running) s.campaigns
+  pub images : c.images ≡ s.images
+
+-- what is kept, if anything, is of the state
+abbrev pub Fits : State → Option Catalog → Type 0
+Fits s None = ⊤
+Fits s (Some c) = IsOf s c
+
+-- nothing is kept before founding
+abbrev pub IsLoaded : State → Option Catalog → Type 0
+IsLoaded s None = founding_row s ≡ None
+IsLoaded s (Some c) = IsOf s c
+
+-- whatever the state: the keys can sign, and the hashed ones are those of the Director's roles
+pub record CanDecide (k : Rules) (c : Catalog) : Type 0 where
+  pub keys : IsTrue (founding_fits k c.founding)
+  pub hashed : c.hashed ≡ hashed_roles k c.founding.keys.director
+
+-- these commands leave what is kept as it is of; before every other it is dropped
+abbrev pub keeps_catalog : Command → Bool
+keeps_catalog (Deliver body) = true
+keeps_catalog (Fetch repository name) = true
+keeps_catalog _ = false
+
+abbrev pub kept_for : Command → Option Catalog → Option Catalog
+kept_for c catalog = if keeps_catalog c then catalog else None
+
+-- what is left in memory after a command: of the same state, or nothing
+abbrev pub StillFits : State → Command → Option Catalog → Type 0
+StillFits s c catalog = MatchBool (keeps_catalog c) (Fits s catalog) (catalog ≡ None)
+
+-- ---- desks
+
+-- a connection, and what is kept of its tables
+pub record Stored (D : Type 0) : Type 0 where
+  pub held : Held D
+  pub catalog : Option Catalog
+
+-- a scheme, and what the desk stands on
+pub record DeskView (K D : Type 0) : Type 0 where
+  pub scheme : K
+  pub store : Stored D
+
+pub record Standing : Type 1 where
+  pub connection : Connected
+  pub catalog : Option Catalog
+
+abbrev pub state : {D : Type 0} → Ghosts D → Stored D → Standing
+state g d = record { connection = holding.state g d.held; catalog = d.catalog }
+
+-- a desk that keeps nothing
+abbrev pub bare : {D : Type 0} → Held D → Stored D
+bare h = record { held = h; catalog = None }
+
+-- ---- what is said of connections, said of what a desk stands on
+
+abbrev pub HasCleanDisk : Standing → Type 0
+HasCleanDisk d = connected.HasCleanDisk d.connection
+
+abbrev pub IfClean : (Standing → Type 0) → Standing → Type 0
+IfClean P d = HasCleanDisk d → P d
+
+-- the tables show the state, and what is kept in memory is of it
+pub record KeepsState (k : Rules) (s : State) (d : Standing) : Type 0 where
+  pub tables : connections.KeepsState k s d.connection
+  pub memory : Fits s d.catalog
+
+abbrev pub Survives : Standing → Standing → (Trees → Type 0) → Type 0
+Survives old new P = connected.Survives old.connection new.connection P
+
+abbrev pub LeavesOnly : (Trees → Type 0) → Standing → Type 0
+LeavesOnly P d = stands.LeavesOnly P d.connection
+
+-- nothing is written, and what is kept stays
+pub record Reads (old new : Standing) : Type 0 where
+  pub tables : serving.Reads old.connection new.connection
+  pub memory : new.catalog ≡ old.catalog
+
+-- what is read is told by the state that the tables show
+abbrev pub Tells : {A E : Type 0} → (Rules → State → A) → Standing → Standing → Result A E → Type 0
+Tells of_state old new result = serving.Tells of_state old.connection new.connection result

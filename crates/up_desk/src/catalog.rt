@@ -1,0 +1,126 @@
+//! What a desk keeps in memory of its tables, so that deliveries needn't read it again.
+ghost use Rattle.std.specs.Prelude.{◌≡◌, Some, IfOk, IfSome, IsTrue, OnOk};
+ghost use Rattle.sqlite.specs.Held.{state};
+ghost use Rattle.sqlite.specs.State.{HasCleanDisk};
+ghost use Rattle.up_sign.specs.Schemes.{Rules};
+ghost use Rattle.up_machine.specs.Rows.{founding_row};
+ghost use Rattle.up_machine.specs.RowsFit.{founding_fits};
+ghost use Rattle.up_machine.specs.State.{State};
+ghost use Rattle.up_store.specs.Connections.{KeepsState};
+ghost use Rattle.up_tables.specs.Stands.{IfClean};
+ghost use Rattle.up_desk.specs.Serving.{Reads};
+ghost use Rattle.up_desk.specs.Standing.{CanDecide, Fits, IsLoaded, kept_for, keeps_catalog as keeps_catalog_in};
+
+use crate::reads::read_founding;
+use sqlite::Alter;
+use std::alloc::Global;
+use up_canon::table::Table;
+use up_machine::command::Command;
+use up_machine::rows::Founding;
+use up_metadata::hashed_keys::{HashedRoleKeys, hashed_roles};
+use up_plan::campaign::Campaign;
+use up_plan::image::Image;
+use up_sign::scheme::Scheme;
+use up_store::store::{Store, StoreFault};
+
+/// What every delivery needs: the founding, the keys of the Director's roles, hashed, the running campaigns and the images by
+/// their names. Deliveries change none of it. The type doesn't say of which state it is.
+#[derive(Drop)]
+pub struct Catalog {
+    pub founding: Founding,
+    pub hashed: HashedRoleKeys,
+    pub campaigns: Table<Campaign>,
+    pub images: Table<Image>,
+}
+
+/// Whether the command leaves all that a catalog has as it is.
+fn keeps_catalog(command: &Command) -> bool
+    ensures { result ≡ keeps_catalog_in command.now }
+{
+    match command {
+        Command::Deliver(_) | Command::Fetch(_, _) => true,
+        _ => false,
+    }
+}
+
+/// Drops the catalog, unless the command leaves all that it has as it is.
+pub(crate) fn drop_before(command: &Command, catalog: &mut Option<Catalog>)
+    ensures { catalog.new ≡ kept_for command.now catalog.old }
+{
+    if !keeps_catalog(command) {
+        *catalog = None;
+    }
+}
+
+/// Reads the catalog where there is none. There is none before founding, and after a fault.
+pub(crate) fn load<K: Scheme, D: Alter>(
+    store: &mut Store<D>,
+    catalog: &mut Option<Catalog>,
+    alloc: Global,
+    scheme: &K,
+) -> Result<(), StoreFault>
+    requires { IfSome catalog.old (CanDecide (K.rules scheme.now)) }
+    ensures can { IfSome catalog.new (CanDecide (K.rules scheme.now)) }
+    ensures fits { HasCleanDisk (state D.Store store.new) → (k : Rules) (s : State) → IfClean (KeepsState k s) (state D.Store store.old) → Fits s catalog.old → Fits s catalog.new }
+    ensures loaded { HasCleanDisk (state D.Store store.new) → OnOk result ((k : Rules) (s : State) → IfClean (KeepsState k s) (state D.Store store.old) → Fits s catalog.old → IsLoaded s catalog.new) }
+    ensures reads { Reads (state D.Store store.old) (state D.Store store.new) }
+{
+    if catalog.is_some() {
+        return Ok(());
+    }
+    match read_catalog(store, alloc, scheme) {
+        Ok(read) => {
+            *catalog = read;
+            Ok(())
+        }
+        Err(fault) => Err(fault),
+    }
+}
+
+/// Reads the catalog, none before founding.
+fn read_catalog<K: Scheme, D: Alter>(
+    store: &mut Store<D>,
+    alloc: Global,
+    scheme: &K,
+) -> Result<Option<Catalog>, StoreFault>
+    ensures told { HasCleanDisk (state D.Store store.new) → IfOk result (λ read. (k : Rules) (s : State) → IfClean (KeepsState k s) (state D.Store store.old) → IsLoaded s read) }
+    ensures can { IfOk result (λ read. IfSome read (CanDecide (K.rules scheme.now))) }
+    ensures reads { Reads (state D.Store store.old) (state D.Store store.new) }
+{
+    match read_founding(store, alloc, scheme) {
+        Ok(Some(founding)) => read_registers(store, alloc, scheme, founding),
+        Ok(None) => Ok(None),
+        Err(fault) => Err(fault),
+    }
+}
+
+/// The same, once the founding was read.
+fn read_registers<K: Scheme, D: Alter>(
+    store: &mut Store<D>,
+    alloc: Global,
+    scheme: &K,
+    founding: Founding,
+) -> Result<Option<Catalog>, StoreFault>
+    requires { IsTrue (founding_fits (K.rules scheme.now) founding) }
+    ensures told { HasCleanDisk (state D.Store store.new) → IfOk result (λ read. (k : Rules) (s : State) → IfClean (KeepsState k s) (state D.Store store.old) → founding_row s ≡ Some founding → IsLoaded s read) }
+    ensures can { IfOk result (λ read. IfSome read (CanDecide (K.rules scheme.now))) }
+    ensures reads { Reads (state D.Store store.old) (state D.Store store.new) }
+{
+    let hashed = match hashed_roles(alloc, scheme, &founding.keys.director) {
+        Ok(hashed) => hashed,
+        Err(_) => return Err(StoreFault::Memory),
+    };
+    let campaigns = match store.running(alloc) {
+        Ok(campaigns) => campaigns,
+        Err(fault) => return Err(fault),
+    };
+    match store.images(alloc) {
+        Ok(images) => Ok(Some(Catalog {
+            founding,
+            hashed,
+            campaigns,
+            images,
+        })),
+        Err(fault) => Err(fault),
+    }
+}
