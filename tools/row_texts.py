@@ -58,6 +58,10 @@ REPLIES = {
         ("V2", 6, 2, [A_FOR_S2]), ("V2", 3, 1, [A_FOR_S2]), ("V2", 7, 2, []), ("V2", 8, 2, [S_FOR_S3]), ("V1", 1, 2, []),
         ("V2", 9, 2, [S_FOR_S3]), ("V2", 10, 2, []), ("V2", 8, 2, [S_FOR_S3])
     ],
+    "manifests_in_a_row": [
+        ("V2", 1, 1, [P_FOR_P2, A_FOR_S2]), ("V2", 1, 1, [P_FOR_P2, A_FOR_S2]), ("V1", 1, 1, []), ("V2", 2, 1, []),
+        ("V2", 3, 1, [A_FOR_S2]), ("V2", 1, 1, [P_FOR_P2, A_FOR_S2])
+    ],
     "root_signed_by_the_old_key_too": [("V1", 1, 1, []), ("V1", 2, 2, [])],
     "each_command_under_a_second_scheme": [("V2", 1, 1, [A_FOR_S2]), ("V2", 2, 2, []), ("V2", 1, 1, [A_FOR_S2])],
     "report_of_an_attack": [("V1", 1, 1, []), ("V1", 2, 1, []), ("V1", 1, 1, []), ("V1", 3, 1, [])],
