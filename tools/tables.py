@@ -210,6 +210,7 @@ def older(program, own):
 
 DAMAGED_IMAGES, DAMAGED_CAMPAIGNS = "UPDATE image SET needs = 'x'", "UPDATE campaign SET items = 'x'"
 OTHER_IMAGES, OTHER_CAMPAIGNS = DAMAGED_IMAGES + " WHERE file <> 'a'", DAMAGED_CAMPAIGNS + " WHERE name <> 'mine'"
+CLOSED_CAMPAIGNS = DAMAGED_CAMPAIGNS + " WHERE running = 0"
 NOT_CANONICAL = '{"signatures":[{"keyid":"k","method":"m","sig":"aa"}],"signed":{"x":1.5}}'
 LATE = 4102444801
 LOST = "refused 2 Store"
@@ -297,7 +298,8 @@ def all_damaged():
 
 
 def others_damaged():
-    """Those for which only the image and the campaigns that they name are read, where all others are damaged."""
+    """Those for which only the image and the campaigns that they name are read, where all others are damaged. A manifest reads all
+    images and running campaigns, before it is looked at: so each is lost."""
     yield image("a"), "already"
     yield image("a", release=2), "refused 19 ImageTaken"
     yield fleet.line("add_image", LATE, **fleet.FACTORY, hardware=["HP"], release=1), "refused 3 MomentOutOfRange"
@@ -307,6 +309,20 @@ def others_damaged():
     yield campaign("new", "all", "HP", "none"), "refused 26 UnknownImage"
     yield campaign("new", "all", "HS", "a"), "refused 27 WrongHardware"
     yield campaign("new", "all", "HS", "b"), LOST
+    yield from ((line, LOST) for line, _ in manifests_told())
+    yield fleet.line("fetch", repository="image", file="none"), "refused 29 UnknownFile"
+    yield delivered("V1", 4, "P1", "S1", file="b"), LOST
+    yield delivered("V2", 1, "P2", primary="P2"), LOST
+
+
+def closed_damaged():
+    """Closed campaigns are read for no manifest."""
+    yield close("over"), LOST
+    yield from manifests_told()
+
+
+def manifests_told():
+    """Manifests that change nothing."""
     yield delivered("V9", 4, "P1", "S1"), "refused 10 UnknownVehicle"
     yield delivered("V1", 4, "P1", "S1", primary="S1"), "refused 11 WrongPrimary"
     yield delivered("V1", 4, "P1", "S1", key=8), "refused 12 BadManifestSignature"
@@ -315,8 +331,6 @@ def others_damaged():
     yield delivered("V1", 4, "P1", "P2"), "refused 14 UnknownEcu P2"
     yield delivered("V1", 4, "P1", "P1"), "refused 15 DuplicateEcu P1"
     yield delivered("V1", 4, "P1"), "refused 16 MissingEcu S1"
-    yield delivered("V1", 4, "P1", "S1", file="b"), LOST
-    yield delivered("V2", 1, "P2", primary="P2"), LOST
     yield delivered("V1", 4, "P1", "S1", report_key=8), "refused 17 BadReportSignature P1"
     yield delivered("V1", 4, "P1", "S1", of=2), "refused 18 ReportReplayed P1"
 
@@ -331,7 +345,7 @@ def second_hashes_damaged():
     yield campaign("new", "all", "HP", "a"), LOST
     yield campaign("new", "all", "HP", "none"), "refused 26 UnknownImage"
     yield campaign("new", ["V9"], "HP", "a"), LOST
-    # (the images of running campaigns are read before a manifest is looked at)
+    # (all images are read before a manifest is looked at)
     yield delivered("V1", 4, "P1", "S1"), LOST
     yield delivered("V1", 1, "P1", "S1"), LOST
     yield delivered("V1", 2, "P1", "S1"), LOST
@@ -359,6 +373,7 @@ def read(program, own):
     made = {
         "all": (founded(), [DAMAGED_IMAGES, DAMAGED_CAMPAIGNS], all_damaged()),
         "others": (founded(), [OTHER_IMAGES, OTHER_CAMPAIGNS], others_damaged()),
+        "closed": (founded(), [CLOSED_CAMPAIGNS], closed_damaged()),
         "second hashes": (founded(), ["INSERT INTO image_sha512 SELECT file, x'00' FROM image"], second_hashes_damaged()),
         "unfounded": ([], [strange], unfounded()),
         "64 roots": ([*founded(), *rotated], [DAMAGED_IMAGES], [(rotate, "refused 30 RootFull")]),
