@@ -3,20 +3,23 @@
 
     speed.py PROGRAM fleets         instructions and compressions of SHA-256 a line, of scripts of five fleets
     speed.py PROGRAM functions      the five functions that take most of them, in the fleet of `fleets` that is first
+    speed.py PROGRAM malloc         calls of malloc, calloc and realloc a line, in the fleets of `fleets`
     speed.py PROGRAM commands       instructions and compressions of SHA-256 of a line of each kind
     speed.py PROGRAM lines          lines a second over a file, as a ratio to the same script over memory
     speed.py PROGRAM growth         how a manifest's time grows with kept replies, images, campaigns and vehicles
     speed.py PROGRAM growth_counts  the same in instructions, over files
     speed.py PROGRAM senders        instructions of a fresh, a repeated, a stale and a forged manifest of 4 ECUs, over files with so many
                                     campaigns and images, behind a first manifest
+    speed.py PROGRAM catalog        what a first manifest takes, which reads images and running campaigns, beside the next one, and the
+                                    memory of a start, with these two behind it and without
     speed.py PROGRAM start          processor seconds and memory of a start over files of so many kept replies
     speed.py PROGRAM sums           instructions of a start and of a manifest over files with and without sums of pages
     speed.py PROGRAM http           requests a second over a file, beside the same by script, and instructions
     speed.py PROGRAM head           instructions for a head of 16,384 bytes in one piece and a byte at a time
     speed.py PROGRAM bodies         instructions a byte to refuse bodies of 64 KiB and of 256 KiB, by their shape
 
-Instructions are those that valgrind's callgrind counts, and compressions the calls of SHA-256's function in its file. Other parts
-need no valgrind. A number behind `growth_counts`, `start` or `sums` is the greatest number of kept replies, for a quick trial.
+Instructions are those that valgrind's callgrind counts; compressions are the calls of SHA-256's function in its file, and those of
+malloc are counted in it too. Other parts need no valgrind. A number behind `growth_counts`, `start` or `sums` is the greatest number of kept replies, for a quick trial.
 Files are made where `TMPDIR` says.
 """
 import json
@@ -44,6 +47,7 @@ FLEETS = {
     "40 of 4 ECUs, images with two hashes": {"vehicles": 40, "ecus": 4, "second_hashes": 1},
 }
 COMPRESS = "block256::compress"
+TAKES_MEMORY = "malloc", "calloc", "realloc"
 MOST = 100_000
 
 
@@ -67,8 +71,8 @@ def counted(program, script, own, told, path=":memory:"):
     return collected(ran.stderr)
 
 
-def compressions(told):
-    """How often the function that hashes a block of 64 bytes was called, by callgrind's file."""
+def calls(told, is_counted):
+    """How often the functions were called whose names are counted, by callgrind's file."""
     names, number, called = {}, 0, None
     with open(told, encoding="utf-8", errors="replace") as lines:
         for line in lines:
@@ -76,9 +80,14 @@ def compressions(told):
             if named:
                 names.setdefault(named[2], named[3])
                 called = names[named[2]] if named[1] else called
-            elif line.startswith("calls=") and called and called.endswith(COMPRESS):
+            elif line.startswith("calls=") and called and is_counted(called):
                 number += int(line[6:].split(" ")[0])
     return number
+
+
+def compressions(told):
+    """How often a block of 64 bytes was hashed."""
+    return calls(told, lambda name: name.endswith(COMPRESS))
 
 
 def hashed(program, script, own):
@@ -102,6 +111,14 @@ def functions(program, own):
     found = re.findall(r"^ *([\d,]+) \(([ \d.]+%)\)  *(?:[^:\n]*):(.*?)(?: \[.*)?$", shown, re.M)
     for _, share, name in found[:5]:
         print("| `%s` | %s |" % (name, share.strip()))
+
+
+def malloc(program, own):
+    for name, words in FLEETS.items():
+        script, told = list(fleet.script(**words)), own / "told"
+        counted(program, script, own, told)
+        taken = [calls(told, lambda called: called == kind) / len(script) for kind in TAKES_MEMORY]
+        print("| %s | %d | %d | %d |" % (name, *taken), flush=True)
 
 
 def kinds_of_lines():
@@ -177,8 +194,8 @@ def manifests(vehicles, number, first=1, ecus=1):
         yield fleet.line("deliver", body=fleet.body(told))
 
 
-def prepared(vehicles, images, campaigns, ecus=1):
-    """Founding, vehicles of so many ECUs, images of other hardware, campaigns for a vehicle that sends nothing."""
+def prepared(vehicles, images, campaigns, ecus=1, reached=("other",)):
+    """Founding, vehicles of so many ECUs, images of other hardware, campaigns for a vehicle that sends nothing or for others."""
     yield fleet.line("found", **fleet.key_set(1))
     for name in [*("v%06d" % at for at in range(vehicles)), "other"]:
         told = [{"ecu": "%s-e%d" % (name, ecu), "hardware": "HP", "key": fleet.key(7)} for ecu in range(ecus)]
@@ -188,7 +205,7 @@ def prepared(vehicles, images, campaigns, ecus=1):
         yield fleet.line("add_image", **image, release=at + 1)
     for at in range(campaigns):
         items = [{"hardware": "HS", "file": "i0"}]
-        yield fleet.line("open_campaign", campaign="c%d" % at, vehicles=["other"], items=items)
+        yield fleet.line("open_campaign", campaign="c%d" % at, vehicles=list(reached), items=items)
 
 
 def asked(it, script):
@@ -308,6 +325,23 @@ def senders(program, own, lines=100):
         for kind, (script, answered) in kinds.items():
             copy = trials.copied(path, own / "next")
             print("| %s, %s | %d |" % (name, kind, alone(program, copy, script, told[0][:1], answered)), flush=True)
+
+
+def catalog(program, own):
+    named = ["v%06d" % at for at in range(1000)]
+    others = {"10 images, 10 campaigns": (100, 10, 10), "1,024 images": (100, 1024, 10), "1,000 campaigns for one vehicle": (100, 10, 1000),
+              "1,000 campaigns for 1,000 vehicles": (1000, 10, 1000, 1, named)}
+    first, after = (list(manifests(1, 1, counter)) for counter in (1, 2))
+    given = own / "two"
+    given.write_text("".join(line + "\n" for line in first + after), encoding="ascii")
+    for name, words in others.items():
+        path = own / name
+        assert trials.printed(program, path, prepared(*words), 3600) is not None
+        taken = [alone(program, trials.copied(path, own / "next"), line, before) for line, before in ((first, ()), (after, first))]
+        run = [program, "run", str(path)]
+        start = used(run)[1]
+        with open(given, "rb") as lines:
+            print("| %s | %d | %d | %d MB | %d MB |" % (name, *taken, start, used(run, lines)[1]), flush=True)
 
 
 def used(words, given=subprocess.DEVNULL):
@@ -463,7 +497,7 @@ def bodies(program, own):
         print("| %s | %d | %d |" % (name, *taken), flush=True)
 
 
-PARTS = (fleets, functions, commands, lines, growth, growth_counts, senders, start, sums, http, head, bodies)
+PARTS = (fleets, functions, malloc, commands, lines, growth, growth_counts, senders, catalog, start, sums, http, head, bodies)
 
 
 def main(program, part, *most):
