@@ -19,8 +19,8 @@
     speed.py PROGRAM bodies         instructions a byte to refuse bodies of 64 KiB and of 256 KiB, by their shape
 
 Instructions are those that valgrind's callgrind counts; compressions are the calls of SHA-256's function in its file, and those of
-malloc are counted in it too. Other parts need no valgrind. A number behind `growth_counts`, `start` or `sums` is the greatest number of kept replies, for a quick trial.
-Files are made where `TMPDIR` says.
+malloc are counted in it too. Other parts need no valgrind. A number behind `growth_counts`, `start` or `sums` is the greatest number
+of kept replies, for a quick trial. Files are made where `TMPDIR` says.
 """
 import json
 import os
@@ -329,8 +329,8 @@ def senders(program, own, lines=100):
 
 def catalog(program, own):
     named = ["v%06d" % at for at in range(1000)]
-    others = {"10 images, 10 campaigns": (100, 10, 10), "1,024 images": (100, 1024, 10), "1,000 campaigns for one vehicle": (100, 10, 1000),
-              "1,000 campaigns for 1,000 vehicles": (1000, 10, 1000, 1, named)}
+    others = {"10 images, 10 campaigns": (100, 10, 10), "1,024 images": (100, 1024, 10),
+              "1,000 campaigns for one vehicle": (100, 10, 1000), "1,000 campaigns for 1,000 vehicles": (1000, 10, 1000, 1, named)}
     first, after = (list(manifests(1, 1, counter)) for counter in (1, 2))
     given = own / "two"
     given.write_text("".join(line + "\n" for line in first + after), encoding="ascii")
