@@ -11,6 +11,7 @@ ghost use Rattle.up_tables.specs.Stands.{IfClean, IsInside, IsOpen, LeavesOnly, 
 ghost use Rattle.up_tables.specs.Listed.{TableRows, ListsTables};
 ghost use Rattle.up_tables.specs.Versions.{number_of, StandsAs};
 ghost use Rattle.up_tables.specs.Ours.{NamesUs, NamesVersion, NamesOthers, ListsUs, IsOurs, Raised, is_refused};
+ghost use Rattle.up_tables.specs.Faults.{open_fault};
 ghost use Rattle.up_tables.specs.declared.open.OpenFault.TheVariants as OpenFault;
 
 use crate::create::make_all;
@@ -198,6 +199,7 @@ fn version_numbered(number: i64) -> Option<SchemaVersion>
 fn not_ours(error: Error) -> Result<Option<SchemaVersion>, OpenFault>
     ensures no { IfOk result (λ found. (found ≡ None) × IsTrue (is_refused error)) }
     ensures fault { IfErr result (λ e. (e ≢ OpenFault.NotOurs) × (is_refused error ≡ false)) }
+    ensures told { IfErr result (λ e. e ≡ open_fault error) }
 {
     match error {
         Error::SqliteFailure(ErrorCode::OutOfMemory) => Err(OpenFault::Memory),
@@ -213,9 +215,10 @@ fn not_ours(error: Error) -> Result<Option<SchemaVersion>, OpenFault>
     }
 }
 
-/// What is told of an error of the database where it is made.
+/// What is told of an error of the database where its tables are made or raised: `Memory` where memory was refused, else `Store`.
 pub(crate) fn opening_fault(error: Error) -> OpenFault
-    ensures { result ≢ OpenFault.NotOurs }
+    ensures told { result ≡ open_fault error }
+    ensures known { result ≢ OpenFault.NotOurs }
 {
     match error {
         Error::SqliteFailure(ErrorCode::OutOfMemory) => OpenFault::Memory,

@@ -1,0 +1,12 @@
+-- What is told of an error where a file is made.
+use Rattle.std.specs.Prelude.{Result, Ok, Err}
+use Rattle.std_io.specs.declared.io.kind.ErrorKind.{ErrorKind}
+use Rattle.std_io.specs.declared.io.kind.ErrorKind.TheVariants.{AlreadyExists, OutOfMemory}
+use Rattle.up_tables.specs.declared.open.OpenFault.{OpenFault}
+use Rattle.up_tables.specs.declared.open.OpenFault.TheVariants.{Memory, Store}
+
+-- a file that is there already is none; want of memory by itself, everything else alike
+abbrev pub making_fault : ErrorKind → Result (Unit {0}) OpenFault
+making_fault AlreadyExists = Ok tt
+making_fault OutOfMemory = Err Memory
+making_fault _ = Err Store
