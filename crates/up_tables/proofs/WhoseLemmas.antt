@@ -1,8 +1,6 @@
 -- Whose tables they are is told by the row of `meta`.
-use Rattle.std.proofs.Common.{◌≡◌, inl, inr, ℕ, pos, List, [], ◌∷◌, map, length, arith, None, Ok, IsTrue, refl, sym, ap, subst, ◌∙◌, codes}
-use Rattle.std.proofs.Math.Bool.{and-true}
+use Rattle.std.proofs.Common.{◌≡◌, inl, inr, ℕ, pos, List, [], ◌∷◌, map, length, arith, Ok, refl, sym, ap, subst, ◌∙◌}
 use Rattle.std.specs.List.Sorted.{IsPermutation}
-use Rattle.sqlite.specs.declared.types.Value.TheVariants.{Int, Text}
 use Rattle.sqlite.specs.Order.{Row, column}
 use Rattle.sqlite.specs.Tree.{Trees}
 use Rattle.sqlite.specs.Clock.{timed}
@@ -12,7 +10,6 @@ use Rattle.sqlite.specs.State.{State, Shown, IsStatement}
 use Rattle.sqlite.proofs.Callers.{IsPlain, one_permutation}
 use Rattle.sqlite_resolve.specs.declared.compiled.Compiled.{Compiled}
 use Rattle.up_tables.specs.declared.open.SchemaVersion.{SchemaVersion}
-use Rattle.up_tables.specs.Rows.{has_number}
 use Rattle.up_tables.specs.Lines.{meta_row_of}
 use Rattle.up_tables.specs.Versions.{number_of, schema_of}
 use Rattle.up_tables.specs.Ours.{find_meta_text, IsOurs, NamesVersion, NamesOthers, AnswersOthers, ListsUs}
