@@ -1,6 +1,6 @@
 //! Whose tables a database has: they are made in one that has none, told by the row of `meta`, and raised where they are of an older version.
 
-ghost use Rattle.std.specs.Prelude.{◌≡◌, ◌≢◌, false, [], OnOk, OnErr, None, Some, IfOk, IfErr, IfSome, IsTrue, codes, pos};
+ghost use Rattle.std.specs.Prelude.{◌≡◌, ◌≢◌, false, [], OnOk, OnErr, Err, None, Some, IfOk, IfErr, IfSome, IsTrue, codes, pos};
 ghost use Rattle.sqlite.specs.declared.types.Value.TheVariants.{Int, Text};
 ghost use Rattle.sqlite.specs.Order.{column};
 ghost use Rattle.sqlite.specs.Held.{state};
@@ -59,6 +59,7 @@ pub fn create_tables<S: Alter>(conn: &mut Connection<S>) -> Result<(), OpenFault
     ensures made { OnOk result (IfClean (Stands up_schema AreNew) (state S.Store conn.new)) }
     ensures durable { OnOk result (IfClean (LeavesOnly (AreWith up_schema AreNew)) (state S.Store conn.new)) }
     ensures empty { HasCleanDisk (state S.Store conn.new) → OnOk result (HasNoTables (state S.Store conn.old)) }
+    ensures full { IsTrue (state S.Store conn.old).is_open → ¬ HasNoTables (state S.Store conn.old) → result ≡ Err OpenFault.Store }
     ensures fault { IfErr result (λ e. e ≢ OpenFault.NotOurs) }
     ensures kept { OnErr result (IfClean (IsAsCommitted (state S.Store conn.old)) (state S.Store conn.new)) }
     ensures autocommit { (state S.Store conn.new).in_transaction ≡ false }
