@@ -1,8 +1,8 @@
 -- Lines, cut from bytes that come one after another.
-use Rattle.std.proofs.Common.{◌≡◌, ◌≢◌, ℕ, zero, suc, ◌+◌, ◌≤◌, take, drop, get_or, take-append-drop, ◌==◌, ◌&&◌, ◌<◌, Bool, true, false, cond, not, ◌⊎◌, inl, inr, List, [], ◌∷◌, ◌++◌, length, refl, ap, sym, ◌∙◌, subst, arith}
+use Rattle.std.proofs.Common.{◌≡◌, ◌≢◌, ℕ, zero, suc, ◌+◌, ◌-◌, ◌≤◌, take, drop, get_or, take-append-drop, ◌==◌, ◌&&◌, ◌<◌, Bool, true, false, cond, not, ◌⊎◌, inl, inr, List, [], ◌∷◌, ◌++◌, length, refl, ap, sym, ◌∙◌, subst, arith}
 use Rattle.std.specs.List.{list_all}
 use Rattle.std.proofs.lemmas.Bool.{ne_eqb}
-use Rattle.std.proofs.lemmas.List.{take_all, drop_more}
+use Rattle.std.proofs.lemmas.List.{take_all, take_rest, drop_more}
 use Rattle.up_lines.specs.Lines.{newline, begin_with, lines_of}
 use Rattle.up_lines.specs.Progress.{is_inside}
 
@@ -114,10 +114,13 @@ all_inside (b ∷ bs) (suc n) within none =
 pub none_ends : (bytes : List ℕ) → ((k : ℕ) → k < length bytes → get_or bytes k 0 ≢ newline) → list_all is_inside bytes ≡ true
 none_ends bytes none = ap (list_all is_inside) (sym (take_all (length bytes) bytes (omega arith))) ∙ all_inside bytes (length bytes) (omega arith) none
 
--- bytes, cut at the first newline
-pub cut_at : (bytes : List ℕ) (at : ℕ) → at < length bytes → get_or bytes at 0 ≡ newline → ((k : ℕ) → k < at → get_or bytes k 0 ≢ newline)
-    → (list_all is_inside (take at bytes) ≡ true) × (bytes ≡ take at bytes ++ newline ∷ drop (at + 1) bytes)
-cut_at bytes at below here before = (
-  all_inside bytes at (omega arith) before,
-  sym (take-append-drop at bytes) ∙ ap (λ l. take at bytes ++ l) (drop_more bytes at 0 below ∙ ap (λ b. b ∷ drop (at + 1) bytes) here),
-)
+-- bytes, cut before and behind the first newline
+pub cut_at : (bytes : List ℕ) (at before behind : ℕ) → at < length bytes → get_or bytes at 0 ≡ newline → ((k : ℕ) → k < at → get_or bytes k 0 ≢ newline) → before ≡ at → behind ≡ at + 1
+    → (list_all is_inside (take before bytes) ≡ true) × (bytes ≡ take before bytes ++ newline ∷ take (length bytes - behind) (drop behind bytes))
+cut_at bytes at before behind below here none until from =
+    let Cut : ℕ → ℕ → Type 0 = λ i j. (list_all is_inside (take i bytes) ≡ true) × (bytes ≡ take i bytes ++ newline ∷ take (length bytes - j) (drop j bytes)) in
+    let rest : drop at bytes ≡ newline ∷ drop (at + 1) bytes = drop_more bytes at 0 below ∙ ap (λ b. b ∷ drop (at + 1) bytes) here in
+    subst (λ i. Cut i behind) (sym until) (subst (Cut at) (sym from) (
+      all_inside bytes at (omega arith) none,
+      sym (take-append-drop at bytes) ∙ ap (λ l. take at bytes ++ l) (rest ∙ ap (λ l. newline ∷ l) (sym (take_rest bytes (at + 1)))),
+    ))

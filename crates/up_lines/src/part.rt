@@ -1,4 +1,4 @@
-//! What is taken of a line: a part of it, or the rest of it with its newline.
+//! Parts of lines, as they are cut from pieces.
 ghost use Rattle.std.specs.Prelude.{◌≡◌, [], ◌∷◌, ◌++◌, ℕ, List, IfErr, OnOk, false, true};
 ghost use Rattle.std.specs.List.{list_all};
 ghost use Rattle.up_lines.specs.Lines.{newline};
@@ -12,7 +12,7 @@ use crate::progress::Progress;
 use std::alloc::Global;
 use up_pieces::sink::Sink;
 
-/// Takes bytes of the line that is begun, or is begun with them.
+/// Takes a part of a line, whole or not at all.
 pub(crate) fn take_part(progress: &mut Progress, part: &[u8]) -> Result<(), ScriptCause>
     ensures ok { OnOk result (Grows part.now progress.old progress.new) }
     ensures err { IfErr result (λ cause. (progress.new.answered ≡ progress.old.answered) × Refuses cause part.now progress.old) }
@@ -29,25 +29,25 @@ pub(crate) fn take_part(progress: &mut Progress, part: &[u8]) -> Result<(), Scri
     }
 }
 
-/// Takes the rest of a line and its newline.
+/// Takes the last part of a line and its newline.
 pub(crate) fn take_line<S, I: Interpret<S>, W: Sink>(
     alloc: Global,
     interpreter: &I,
     state: &mut S,
     writer: &mut W,
     progress: &mut Progress,
-    rest: &[u8],
+    part: &[u8],
 ) -> Result<(), ScriptCause>
-    requires own { list_all is_inside rest.now ≡ true }
+    requires own { list_all is_inside part.now ≡ true }
     requires can_write { W.can_write writer.old }
-    ensures ok { OnOk result (Takes I.gives (rest.now ++ newline ∷ []) progress.old (record { state = state.old; held = W.contents writer.old })
+    ensures ok { OnOk result (Takes I.gives (part.now ++ newline ∷ []) progress.old (record { state = state.old; held = W.contents writer.old })
         progress.new (record { state = state.new; held = W.contents writer.new })) }
-    ensures err { IfErr result (λ cause. (more : List ℕ) → Stops I.gives cause false (rest.now ++ newline ∷ more)
+    ensures err { IfErr result (λ cause. (more : List ℕ) → Stops I.gives cause false (part.now ++ newline ∷ more)
         progress.old (record { state = state.old; held = W.contents writer.old })
         progress.new (record { state = state.new; held = W.contents writer.new })) }
     ensures goes_on { OnOk result (W.can_write writer.new) }
 {
-    take_part(progress, rest)?;
+    take_part(progress, part)?;
     if progress.counted == MOST_LINES {
         return Err(ScriptCause::TooLong);
     }
