@@ -39,7 +39,7 @@ import schemas
 import trials
 
 ROWS = ["first_manifest", "equal_and_greater_releases", "kept_reply_after_a_rotation", "images_taken",
-        "files_of_the_image_repository", "campaigns", "commands_between_manifests", "replaced_ecu", "second_hash"]
+        "files_of_the_image_repository", "campaigns", "replaced_ecu", "second_hash"]
 READING = ["manifests_in_a_row"]
 OLDER = [("equal_and_greater_releases", 1), ("kept_reply_after_a_rotation", 2)]
 REFUSED = {"memory": "refused 1 Memory", "disk": "refused 2 Store"}
