@@ -2,8 +2,8 @@
 """Measures the program: instructions a line, lines a second, and what a start takes. `docs/SPEED.md` has the figures.
 
     speed.py PROGRAM fleets         instructions and compressions of SHA-256 a line, of scripts of seven fleets
-    speed.py PROGRAM allocations    calls of `malloc` a line, of the same scripts
     speed.py PROGRAM functions      the five functions that take most of them, in the fleet of `fleets` that is first
+    speed.py PROGRAM malloc         calls of malloc, calloc and realloc a line, of the same scripts
     speed.py PROGRAM commands       instructions and compressions of SHA-256 of a line of each kind
     speed.py PROGRAM lines          lines a second over a file, as a ratio to the same script over memory
     speed.py PROGRAM growth         how a manifest's time grows with kept replies, images, campaigns that run or are closed, vehicles
@@ -17,9 +17,9 @@
     speed.py PROGRAM head           instructions for a head of 16,384 bytes in one piece and a byte at a time
     speed.py PROGRAM bodies         instructions a byte to refuse bodies of 64 KiB and of 256 KiB, by their shape
 
-Instructions are those that valgrind's callgrind counts, and compressions the calls of SHA-256's function in its file. Other parts
-need no valgrind. A number behind `growth_counts`, `start` or `sums` is the greatest number of kept replies, for a quick trial.
-Files are made where `TMPDIR` says.
+Instructions are those that valgrind's callgrind counts; compressions are the calls of SHA-256's function in its file, and those of
+malloc are counted in it too. Other parts need no valgrind. A number behind `growth_counts`, `start` or `sums` is the greatest number
+of kept replies, for a quick trial. Files are made where `TMPDIR` says.
 """
 import json
 import os
@@ -48,7 +48,7 @@ FLEETS = {
     "40 of 4 ECUs, images with two hashes": {"vehicles": 40, "ecus": 4, "second_hashes": 1},
 }
 COMPRESS = re.compile(r".*block256::compress")
-MALLOC = re.compile(r"malloc")
+TAKES_MEMORY = [re.compile(name) for name in ("malloc", "calloc", "realloc")]
 MOST = 100_000
 
 
@@ -98,11 +98,12 @@ def fleets(program, own):
         print("| %s | %d | %d | %d |" % (name, len(script), taken // len(script), blocks // len(script)), flush=True)
 
 
-def allocations(program, own):
+def malloc(program, own):
     for name, words in FLEETS.items():
         script = list(fleet.script(**words))
         counted(program, script, own, own / "told")
-        print("| %s | %d |" % (name, calls(own / "told", MALLOC) // len(script)), flush=True)
+        taken = [calls(own / "told", kind) // len(script) for kind in TAKES_MEMORY]
+        print("| %s | %d | %d | %d |" % (name, *taken), flush=True)
 
 
 def functions(program, own):
@@ -520,7 +521,7 @@ def bodies(program, own):
         print("| %s | %d | %d |" % (name, *taken), flush=True)
 
 
-PARTS = (fleets, allocations, functions, commands, lines, growth, growth_counts, senders, loading, start, sums, http, head, bodies)
+PARTS = (fleets, functions, malloc, commands, lines, growth, growth_counts, senders, loading, start, sums, http, head, bodies)
 
 
 def main(program, part, *most):

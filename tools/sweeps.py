@@ -3,7 +3,7 @@
 
     sweeps.py PROGRAM KIND [EVERY [FIRST]]
 
-KIND is memory, disk, older or http. Only every EVERY-th (1) call is tried, from call FIRST (1) on. A word in place of FIRST
+KIND is memory, disk, older, reading or http. Only every EVERY-th (1) call is tried, from call FIRST (1) on. A word in place of FIRST
 draws one of the calls 1 to EVERY, so that another part is tried each time.
 
 `memory` refuses a request for memory, `disk` fails a read, write or sync of the database's files, each over the rows of
@@ -16,8 +16,8 @@ the row has it. Then the file has to have the rows that
 over it by a new start, and has to end as the row does. Each goes over an empty file. One more row, of manifests alone, is
 carried out over a file that has what comes before its first manifest: images, running campaigns and a closed one, which the
 first manifest reads and the next ones don't. And two of the rows are carried out again over files of older schemas, which have
-what the row does up to its first manifest: they stay of their schema until they are of the page's. `older` is `memory`
-over these two alone.
+what the row does up to its first manifest: they stay of their schema until they are of the page's. `older` is `memory` over
+these two alone, and `reading` over the one of manifests.
 
 `http` refuses memory while a vehicle's first manifest is posted four times, a request a connection. Each answer has to be
 the kept reply, but for one, which may be a 503 for want of memory or none, and the tables those of the rules at the moment
@@ -43,7 +43,7 @@ ROWS = ["first_manifest", "equal_and_greater_releases", "kept_reply_after_a_rota
 READING = ["manifests_in_a_row"]
 OLDER = [("equal_and_greater_releases", 1), ("kept_reply_after_a_rotation", 2)]
 REFUSED = {"memory": "refused 1 Memory", "disk": "refused 2 Store"}
-VARIABLES = {"memory": "FAIL_ALLOC", "disk": "FAIL_IO", "older": "FAIL_ALLOC", "http": "FAIL_ALLOC"}
+VARIABLES = {"memory": "FAIL_ALLOC", "disk": "FAIL_IO", "older": "FAIL_ALLOC", "reading": "FAIL_ALLOC", "http": "FAIL_ALLOC"}
 MESSAGES = [b"", b"uptane_desk: stopped after %d lines: memory\n", trials.NO_DATABASE]
 POSTS = 4
 
@@ -214,11 +214,10 @@ def tried(program, row, failing, kind, path):
 
 
 def over_rows(program, own, sweep):
-    begun = [Older(program, name, number, own) for name, number in OLDER]
-    if sweep.kind != "older":
-        begun = [*(Row(name, own) for name in ROWS), *(Begun(program, name, own) for name in READING), *begun]
-    fails = "memory" if sweep.kind == "older" else sweep.kind
-    for row in begun:
+    rows, begun = [Row(name, own) for name in ROWS], [Begun(program, name, own) for name in READING]
+    older = [Older(program, name, number, own) for name, number in OLDER]
+    fails = sweep.kind if sweep.kind in REFUSED else "memory"
+    for row in {"older": older, "reading": begun}.get(sweep.kind, rows + begun + older):
         yield sweep.over(row.name, lambda failing: tried(program, row, failing, fails, own / "swept"))
 
 

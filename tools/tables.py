@@ -298,7 +298,8 @@ def all_damaged():
 
 
 def others_damaged():
-    """Those for which only the image and the campaigns that they name are read, where all others are damaged; for a manifest all are."""
+    """Those for which only the image and the campaigns that they name are read, where all others are damaged. A manifest reads all
+    images and running campaigns, before its vehicle is looked at: so each is lost."""
     yield image("a"), "already"
     yield image("a", release=2), "refused 19 ImageTaken"
     yield fleet.line("add_image", LATE, **fleet.FACTORY, hardware=["HP"], release=1), "refused 3 MomentOutOfRange"
@@ -309,7 +310,10 @@ def others_damaged():
     yield campaign("new", "all", "HS", "a"), "refused 27 WrongHardware"
     yield campaign("new", "all", "HS", "b"), LOST
     yield from ((line, LOST) for line, _ in deliveries())
+    yield delivered("V1", 4, "P1", "S1", file="b"), LOST
+    yield delivered("V2", 1, "P2", primary="P2"), LOST
     yield fleet.line("deliver", body=NOT_CANONICAL), "refused 6 NotCanonical"
+    yield fleet.line("fetch", repository="image", file="none"), "refused 29 UnknownFile"
     yield image("a"), "already"
 
 
