@@ -1,7 +1,7 @@
 use Rattle.std.proofs.Common.{◌≡◌, ◌∷◌, ◌++◌, take}
 use Rattle.std.specs.Prelude.{flat_map}
 use Rattle.up_canon.specs.Canon.{escaped}
-use Rattle.up_canon.proofs.writing.push_quoted.Given as goal
+use Rattle.up_canon.proofs.writing.push_each_escaped.Given as goal
 
 -- a quote and the bytes so far stand behind what stood there
 abbrev pub invariant-loop-byte : goal.invariant-loop-byte
