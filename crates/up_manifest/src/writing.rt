@@ -53,8 +53,10 @@ fn push_installed(alloc: Global, out: &mut String, image: &Installed) -> Result<
     Ok(())
 }
 
-/// Bytes of room that a manifest's text gets, and for each of its reports.
+/// Bytes of room that a manifest's text gets.
 const ROOM_OF_A_MANIFEST: usize = 256;
+
+/// Bytes of room that it gets beside for each report.
 const ROOM_OF_AN_ENVELOPE: usize = 640;
 
 /// The text that a Primary signs, in which the reports' envelopes stand as they are.
