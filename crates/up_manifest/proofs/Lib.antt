@@ -7,3 +7,4 @@ pub mod Lengths
 pub mod Built
 pub mod Parts
 pub mod NoReport
+pub mod PlainTexts

@@ -3,6 +3,7 @@
 
 pub mod body;
 pub mod building;
+mod cursor;
 pub mod manifest;
 pub mod manifest_read;
 pub mod report;
