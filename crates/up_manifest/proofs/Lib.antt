@@ -8,3 +8,5 @@ pub mod Built
 pub mod Parts
 pub mod NoReport
 pub mod PlainTexts
+pub mod LowerDigits
+pub mod Spelled

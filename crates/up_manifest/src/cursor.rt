@@ -1,10 +1,13 @@
 //! Reading a canonical text piece by piece, from its front.
 ghost use Rattle.std.specs.Prelude.{◌≡◌, ◌++◌, IsTrue, IfSome, IfOk, OnOk, MatchBool, true, not, decimal, length, take, slice_index, position};
 ghost use Rattle.std.specs.List.{list_all};
+ghost use Rattle.hex.specs.Hex.{encode_lower};
 ghost use Rattle.up_canon.specs.Canon.{is_printable_text, quoted};
-ghost use Rattle.up_manifest.specs.Plain.{is_direct as is_direct_of};
+ghost use Rattle.up_manifest.specs.Plain.{is_direct as is_direct_of, is_lower_digit as is_lower_digit_of};
+ghost use Rattle.up_sign.specs.Schemes.{is_byte};
 
-use std::alloc::{AllocError, AllocFailed};
+use hex::FromHexError;
+use std::alloc::{AllocError, AllocFailed, Global};
 use up_canon::count::Count;
 use up_canon::note::is_printable;
 
@@ -32,7 +35,8 @@ impl<T: Drop> From<AllocFailed<T>> for Unread {
 /// A text that is read from its front. Each step says what it takes; where it answers an error, what is left is any text.
 #[derive(Drop)]
 pub(crate) struct Cursor<'a> {
-    rest: &'a str,
+    /// What is left.
+    pub(crate) rest: &'a str,
 }
 
 impl<'a> Cursor<'a> {
@@ -41,13 +45,6 @@ impl<'a> Cursor<'a> {
         ensures { result.rest.now ≡ text.now }
     {
         Cursor { rest: text }
-    }
-
-    /// What is left.
-    pub(crate) fn rest(&self) -> &'a str
-        ensures { result.now ≡ self.now.rest.now }
-    {
-        self.rest
     }
 
     /// Takes a piece, where it stands in front, and tells whether it does.
@@ -112,6 +109,74 @@ impl<'a> Cursor<'a> {
         let digits = self.cut(digits_size(self.rest.as_bytes()))?;
         number_of(digits).and_then(Count::new).ok_or(Unread::Form)
     }
+
+    /// Takes so many bytes in hexadecimal digits, in quotes and in lower case. After an error `out` may hold any bytes.
+    fn digits_of(&mut self, out: &mut [u8]) -> Result<(), Unread>
+        ensures { OnOk result (self.old.rest.now ≡ quoted (encode_lower out.new) ++ self.new.rest.now) }
+    {
+        let digits = self.lower_digits()?;
+        match hex::decode_to_slice(digits.as_bytes(), out) {
+            Ok(()) => Ok(()),
+            Err(_) => Err(Unread::Form),
+        }
+    }
+
+    /// Takes the digits of a SHA-256 in quotes.
+    pub(crate) fn sha256(&mut self) -> Result<[u8; 32], Unread>
+        ensures { IfOk result (λ hash. self.old.rest.now ≡ quoted (encode_lower hash) ++ self.new.rest.now) }
+    {
+        let mut hash = [0; 32];
+        self.digits_of(&mut hash[..])?;
+        Ok(hash)
+    }
+
+    /// Takes the digits of a SHA-512 in quotes.
+    pub(crate) fn sha512(&mut self) -> Result<[u8; 64], Unread>
+        ensures { IfOk result (λ hash. self.old.rest.now ≡ quoted (encode_lower hash) ++ self.new.rest.now) }
+    {
+        let mut hash = [0; 64];
+        self.digits_of(&mut hash[..])?;
+        Ok(hash)
+    }
+
+    /// Takes bytes in hexadecimal digits, in quotes and in lower case.
+    pub(crate) fn bytes(&mut self, alloc: Global) -> Result<Vec<u8>, Unread>
+        ensures value { IfOk result (λ bytes. self.old.rest.now ≡ quoted (encode_lower bytes.items) ++ self.new.rest.now) }
+        ensures typed { IfOk result (λ bytes. IsTrue (list_all is_byte bytes.items)) }
+    {
+        let digits = self.lower_digits()?;
+        match hex::decode(alloc, digits.as_bytes()) {
+            Ok(bytes) => Ok(bytes),
+            Err(FromHexError::OutOfMemory) => Err(Unread::Memory),
+            Err(_) => Err(Unread::Form),
+        }
+    }
+
+    /// Takes hexadecimal digits in lower case, in quotes.
+    fn lower_digits(&mut self) -> Result<&'a str, Unread>
+        ensures value { IfOk result (λ t. self.old.rest.now ≡ quoted t.now ++ self.new.rest.now) }
+        ensures lower { IfOk result (λ t. list_all is_lower_digit_of t.now ≡ true) }
+    {
+        let digits = self.quoted()?;
+        if are_lower_digits(digits.as_bytes()) {
+            Ok(digits)
+        } else {
+            Err(Unread::Form)
+        }
+    }
+}
+
+fn are_lower_digits(bytes: &[u8]) -> bool
+    ensures { result ≡ list_all is_lower_digit_of bytes.now }
+{
+    bytes.iter().all(|b| is_lower_digit(*b))
+}
+
+/// Whether the byte is a hexadecimal digit in lower case.
+fn is_lower_digit(byte: u8) -> bool
+    ensures { result ≡ is_lower_digit_of byte }
+{
+    (byte >= b'0' && byte <= b'9') || (byte >= b'a' && byte <= b'f')
 }
 
 /// How many bytes in front of the first that doesn't stand for itself; 0 where there is none.
