@@ -10,3 +10,4 @@ pub mod NoReport
 pub mod PlainTexts
 pub mod LowerDigits
 pub mod Spelled
+pub mod PlainReports

@@ -1,5 +1,5 @@
 -- Texts that are read piece by piece: the pieces in front of the rest are the whole text in front of it.
-use Rattle.std.proofs.Common.{◌≡◌, ℕ, ◌+◌, ◌-◌, List, [], ◌∷◌, ◌++◌, Option, Some, None, length, take, map, refl, sym, ap, ◌∙◌, append_assoc, take_at, length-append, arith}
+use Rattle.std.proofs.Common.{◌≡◌, ℕ, List, [], ◌∷◌, ◌++◌, map, refl, sym, ap, ◌∙◌, append_assoc}
 use Rattle.std.specs.Prelude.{codes, decimal}
 use Rattle.hex.specs.Hex.{encode_lower}
 use Rattle.up_canon.specs.Build.{hashes_value}
@@ -9,7 +9,7 @@ use Rattle.up_sign.specs.Formats.{signature_value, envelope_text}
 use Rattle.up_sign.specs.declared.envelope.Signature.{Signature}
 use Rattle.up_sign.specs.declared.envelope.Envelope.{Envelope}
 use Rattle.up_manifest.specs.Building.{installed_value, report_text, listed, manifest_text}
-use Rattle.up_manifest.specs.Plain.{signatures_text, second_text}
+use Rattle.up_manifest.specs.Plain.{signatures_text}
 use Rattle.up_manifest.specs.declared.report.Installed.{Installed}
 use Rattle.up_manifest.specs.declared.report.Report.{Report}
 
@@ -23,21 +23,6 @@ spell-behind : (ps : List (List ℕ)) (rest : List ℕ) → spell ps rest ≡ sp
 spell-behind [] rest = refl
 spell-behind (p ∷ ps) rest = ap (λ t. p ++ t) (spell-behind ps rest) ∙ sym (append_assoc p (spell ps []) rest)
 
--- one piece in front of a rest that begins with others
-pub then : (a s t u : List ℕ) → s ≡ a ++ t → t ≡ u → s ≡ a ++ u
-then a s t u h k = h ∙ ap (λ r. a ++ r) k
-
--- and two
-pub then-two : (a b s t u : List ℕ) → s ≡ a ++ (b ++ t) → t ≡ u → s ≡ a ++ (b ++ u)
-then-two a b s t u h k = h ∙ ap (λ r. a ++ (b ++ r)) k
-
--- what is cut off in front of a rest
-pub cut-part : (begun part rest t : List ℕ) (size : ℕ) → t ≡ take size begun → size ≡ length begun - length rest → begun ≡ part ++ rest → t ≡ part
-cut-part begun part rest t size cut is same =
-    let all : length begun ≡ length part + length rest = ap length same ∙ length-append part rest in
-    let size_of : length part ≡ size = omega arith in
-    cut ∙ ap (take size) same ∙ take_at part rest size size_of
-
 -- ---- envelopes
 
 pub signature-spelled : (s : Signature) (rest : List ℕ)
@@ -45,19 +30,16 @@ pub signature-spelled : (s : Signature) (rest : List ℕ)
 unfolding signature_value
 signature-spelled s rest = spell-behind (codes "{\"keyid\":" ∷ quoted s.keyid ∷ codes ",\"method\":" ∷ quoted s.method ∷ codes ",\"sig\":" ∷ quoted (encode_lower s.sig) ∷ codes "}" ∷ []) rest
 
-pub signatures-spelled : (s : Signature) (rest : List ℕ) → codes "{\"signatures\":[" ++ (text (signature_value s) ++ (codes "],\"signed\":" ++ rest)) ≡ signatures_text (s ∷ []) ++ rest
-signatures-spelled s rest = ?
-
 pub envelope-spelled : (e : Envelope) (rest : List ℕ) → signatures_text e.signatures ++ (e.signed ++ (codes "}" ++ rest)) ≡ envelope_text e ++ rest
 unfolding envelope_text
 envelope-spelled e rest = sym (append_assoc (signatures_text e.signatures) e.signed (codes "}" ++ rest)) ∙ sym (append_assoc (signatures_text e.signatures ++ e.signed) (codes "}") rest)
 
--- ---- reports
+-- at the end of the text
+pub envelope-ends : (e : Envelope) → signatures_text e.signatures ++ (e.signed ++ codes "}") ≡ envelope_text e
+unfolding envelope_text
+envelope-ends e = sym (append_assoc (signatures_text e.signatures) e.signed (codes "}"))
 
-pub hashes-spelled : (sha256 : List ℕ) (sha512 : Option (List ℕ)) (rest : List ℕ)
-    → codes "{\"sha256\":" ++ (quoted (encode_lower sha256) ++ (second_text sha512 ++ (codes "}" ++ rest))) ≡ text (hashes_value sha256 sha512) ++ rest
-hashes-spelled sha256 None rest = spell-behind (codes "{\"sha256\":" ∷ quoted (encode_lower sha256) ∷ codes "}" ∷ []) rest
-hashes-spelled sha256 (Some hash) rest = ?
+-- ---- reports
 
 pub installed-spelled : (i : Installed) (rest : List ℕ)
     → codes "{\"file\":" ++ (quoted i.file ++ (codes ",\"hashes\":" ++ (text (hashes_value i.sha256 i.sha512) ++ (codes ",\"length\":" ++ (decimal i.length ++ (codes "}" ++ rest)))))) ≡ text (installed_value i) ++ rest

@@ -87,7 +87,7 @@ fn reports(alloc: Global, cursor: &mut Cursor<'_>) -> Result<Listed<SignedReport
     cursor.pass("[")?;
     let mut reports = Vec::new(alloc);
     let mut separator = "";
-    for _ in 0..=MOST_REPORTS {
+    'reports: while reports.len() <= MOST_REPORTS {
         if cursor.takes("]") {
             return Ok(Listed::new(reports));
         }
