@@ -25,10 +25,18 @@ pub after-push : {X : Type 0} → (xs : List X) (x : X) → 44 ∷ [] ≡ separa
 after-push [] x = refl
 after-push (y ∷ xs) x = refl
 
-pub joined-push : {X : Type 0} → (f : X → List ℕ) (xs : List X) (x : X) → join_with_byte 44 (map f (xs ++ x ∷ [])) ≡ join_with_byte 44 (map f xs) ++ (separator_after xs ++ f x)
+joined-push : {X : Type 0} → (f : X → List ℕ) (xs : List X) (x : X) → join_with_byte 44 (map f (xs ++ x ∷ [])) ≡ join_with_byte 44 (map f xs) ++ (separator_after xs ++ f x)
 joined-push f [] x = refl
 joined-push f (y ∷ []) x = refl
 joined-push f (y ∷ z ∷ xs) x = ap (λ t. f y ++ 44 ∷ t) (joined-push f (z ∷ xs) x) ∙ sym (append_assoc (f y) (44 ∷ join_with_byte 44 (map f (z ∷ xs))) (44 ∷ f x))
+
+-- the texts so far, and one more behind its separator
+pub texts-push : (f : SignedReport → List ℕ) (rs : List SignedReport) (r : SignedReport) (rest : List ℕ)
+    → join_with_byte 44 (map f rs) ++ (separator_after rs ++ (f r ++ rest)) ≡ join_with_byte 44 (map f (rs ++ r ∷ [])) ++ rest
+texts-push f rs r rest =
+    let front = join_with_byte 44 (map f rs) in
+    let mark = separator_after rs in
+    ap (λ t. front ++ t) (sym (append_assoc mark (f r) rest)) ∙ sym (append_assoc front (mark ++ f r) rest) ∙ ap (λ t. t ++ rest) (sym (joined-push f rs r))
 
 pub reports-push : (rs : List SignedReport) (r : SignedReport) → AreReports rs → IsReportEnvelope r.envelope r.report → AreReports (rs ++ r ∷ [])
 reports-push [] r h k = (k, tt)

@@ -52,7 +52,11 @@ report-spelled r rest = spell-behind (codes "{\"attack\":" ∷ quoted r.attack �
 
 -- ---- manifests
 
+nine-behind : (a b c d e f g h i rest : List ℕ) → a ++ (b ++ (c ++ (d ++ (e ++ (f ++ (g ++ (h ++ (i ++ rest)))))))) ≡ (a ++ b ++ c ++ d ++ e ++ f ++ g ++ h ++ i) ++ rest
+nine-behind a b c d e f g h i rest = simp append_assoc
+
 pub manifest-spelled : (vehicle primary : List ℕ) (counter : ℕ) (es : List Envelope) (rest : List ℕ)
     → codes "{\"counter\":" ++ (decimal counter ++ (codes ",\"primary\":" ++ (quoted primary ++ (codes ",\"reports\":" ++ (listed (map envelope_text es) ++ (codes ",\"type\":\"manifest\",\"vehicle\":" ++ (quoted vehicle ++ (codes "}" ++ rest)))))))) ≡ manifest_text vehicle primary counter es ++ rest
 unfolding manifest_text
-manifest-spelled vehicle primary counter es rest = simp append_assoc
+manifest-spelled vehicle primary counter es rest =
+    nine-behind (codes "{\"counter\":") (decimal counter) (codes ",\"primary\":") (quoted primary) (codes ",\"reports\":") (listed (map envelope_text es)) (codes ",\"type\":\"manifest\",\"vehicle\":") (quoted vehicle) (codes "}") rest
