@@ -50,11 +50,7 @@ pub(crate) fn file_name_behind(
 }
 
 /// Takes a note.
-pub(crate) fn note_behind(
-    alloc: Global,
-    cursor: &mut Cursor<'_>,
-    key: &str,
-) -> Result<Note, Unread>
+pub(crate) fn note_behind(alloc: Global, cursor: &mut Cursor<'_>, key: &str) -> Result<Note, Unread>
     ensures { IfOk result (λ n. cursor.old.rest.now ≡ key.now ++ (quoted n ++ cursor.new.rest.now)) }
 {
     let text = text_behind(cursor, key)?.to_string(alloc)?;

@@ -17,8 +17,8 @@ returns c =
     let is : signed ≡ text = c.in_ok-signed.ensures text c.in_ok-manifest.ensures.text in
     let ends : c.manifest.new.cursor.rest.now ≡ codes "}" = search rules in
     let whole =
-        sym c.new-cursor.ensures ∙ c.in_ok-signatures.ensures.text
-        ∙ ap (λ t. signatures_text ss ++ t) (c.in_ok-manifest.ensures.text ∙ ap (λ t. text ++ t) ends ∙ ap (λ t. t ++ codes "}") (sym is))
-        ∙ envelope-ends e in
+    sym c.new-cursor.ensures ∙ c.in_ok-signatures.ensures.text
+    ∙ ap (λ t. signatures_text ss ++ t) (c.in_ok-manifest.ensures.text ∙ ap (λ t. text ++ t) ends ∙ ap (λ t. t ++ codes "}") (sym is))
+    ∙ envelope-ends e in
     plain_means c.envelope_laws.ensures.text c.moment_laws.ensures.plain c.moment_laws.ensures.read m c.in_ok-manifest.ensures.fits ss c.in_ok-signatures.ensures.fits
     signed is c.args.text.now c.utf8.text whole
