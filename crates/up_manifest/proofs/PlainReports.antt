@@ -1,22 +1,20 @@
 -- Reports that are read one after another, and what a body in the plain form means.
-use Rattle.std.proofs.Common.{◌≡◌, ℕ, suc, ◌≤◌, List, [], ◌∷◌, ◌++◌, length, map, refl, sym, ap, ap₂, ◌∙◌, subst, append_assoc, arith}
+use Rattle.std.proofs.Common.{◌≡◌, ℕ, suc, List, [], ◌∷◌, ◌++◌, length, map, refl, sym, ap, ap₂, ◌∙◌, subst, append_assoc, arith}
 use Rattle.std.specs.Prelude.{IsTrue, IsUtf8, ◌&&◌}
 use Rattle.std.specs.List.{list_all, join_with_byte}
 use Rattle.up_canon.specs.Moments.{MomentTextIsPlain, MomentsAreRead}
 use Rattle.up_canon.specs.Names.{is_from_to}
 use Rattle.up_canon.proofs.Joined.{separator_after}
-use Rattle.up_sign.specs.Formats.{signature_fits, envelope_fits, envelope_text}
+use Rattle.up_sign.specs.Formats.{signature_fits, envelope_text}
 use Rattle.up_sign.specs.Laws.{TextsAreRead}
 use Rattle.up_sign.specs.declared.envelope.Signature.{Signature}
 use Rattle.up_sign.specs.declared.envelope.Envelope.{Envelope}
-use Rattle.up_manifest.specs.Building.{IsReportEnvelope, AreReportEnvelopes, listed, manifest_text, signed_reports}
-use Rattle.up_manifest.specs.Manifests.{most_reports}
+use Rattle.up_manifest.specs.Building.{IsReportEnvelope, manifest_text, signed_reports}
 use Rattle.up_manifest.specs.Meaning.{MeansBody}
 use Rattle.up_manifest.specs.Plain.{IsOneSignature, AreReports, ManifestFits}
 use Rattle.up_manifest.specs.declared.report.Report.{Report}
 use Rattle.up_manifest.specs.declared.report.SignedReport.{SignedReport}
 use Rattle.up_manifest.specs.declared.manifest.Manifest.{Manifest}
-use Rattle.up_manifest.specs.declared.manifest.Incoming.{Incoming}
 use Rattle.up_manifest.proofs.Built.{body_means}
 
 -- ---- one more at the end

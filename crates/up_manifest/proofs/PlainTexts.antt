@@ -1,5 +1,5 @@
 -- Texts in quotes in which each byte stands for itself, and numbers without leading zeros.
-use Rattle.std.proofs.Common.{◌≡◌, ℕ, suc, ◌+◌, ◌<◌, ◌^◌, List, [], ◌∷◌, ◌++◌, Bool, true, false, cond, Option, Some, None, Result, Ok, Err, length, take, drop, slice_index, unwrap_or, IfSome, refl, sym, ap, ap₂, ◌∙◌, append_assoc, subst, arith}
+use Rattle.std.proofs.Common.{◌≡◌, ℕ, suc, ◌+◌, ◌<◌, ◌^◌, List, [], ◌∷◌, ◌++◌, Bool, true, false, cond, Some, None, Result, Ok, Err, length, take, drop, slice_index, unwrap_or, IfSome, refl, sym, ap, ap₂, ◌∙◌, append_assoc, subst, arith}
 use Rattle.std.specs.Prelude.{◌&&◌, ◌||◌, ◌==◌, not, nat_lt, flat_map, decimal, position}
 use Rattle.std.specs.List.{list_all, prefix_len}
 use Rattle.std.specs.Result.{result_ok}

@@ -1,4 +1,4 @@
-use Rattle.std.proofs.Common.{◌≡◌, ◌∙◌, true, take, unwrap_or, ap}
+use Rattle.std.proofs.Common.{◌∙◌, take, unwrap_or, ap}
 use Rattle.std.specs.List.{list_all}
 use Rattle.up_manifest.specs.Plain.{is_direct}
 use Rattle.up_manifest.proofs.PlainTexts.{front-direct}

@@ -1,4 +1,4 @@
-use Rattle.std.proofs.Common.{◌≤◌, ◌++◌, ◌∙◌, ap, map, subst, arith}
+use Rattle.std.proofs.Common.{◌++◌, ◌∙◌, ap, map, arith}
 use Rattle.std.specs.Prelude.{codes, decimal}
 use Rattle.up_canon.specs.Canon.{quoted}
 use Rattle.up_sign.specs.Formats.{envelope_text}
