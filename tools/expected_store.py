@@ -63,15 +63,15 @@ READS = [
     "file director root.json", "file director 1.root.json", "file image root.json", "file image 2.root.json",
     "file image targets.json", "file image snapshot.json", "file image timestamp.json", "file director targets.json",
     "image x/y.bin", "image a.bin", "images",
-    "campaign some", "campaign any", "campaigns v", "campaigns w",
+    "campaign some", "campaign any", "campaigns v", "campaigns w", "running",
     "vehicle v", "ecus v", "ecus w", "owner a-v", "owner a-x", "owner v",
     "kept v 3", "kept v 5", "kept w 3", "latest v", "latest w",
 ]
 
-# one of each of the twelve
+# one of each of the thirteen
 ONE_OF_EACH = [
     "founding", "founded", "file image timestamp.json", "image x/y.bin", "images", "campaign any", "campaigns v",
-    "vehicle v", "ecus v", "owner a-v", "kept v 3", "latest v",
+    "running", "vehicle v", "ecus v", "owner a-v", "kept v 3", "latest v",
 ]
 
 # ---- older schemas: their statements, as databases in the field have them
@@ -231,10 +231,13 @@ class State:
         self.ecus[vehicle] = [new if row.split()[0] == old else row for row in self.ecus[vehicle]]
         self.retired[old] = vehicle
 
+    def running(self):
+        return [row for _, row in sorted(self.campaigns.items()) if row.split()[3] == "runs"]
+
     def reaching(self, vehicle):
-        for name, row in sorted(self.campaigns.items()):
-            _, reach, _, state = row.split()
-            if state == "runs" and (reach == "*" or vehicle in reach.split(",")):
+        for row in self.running():
+            reach = row.split()[1]
+            if reach == "*" or vehicle in reach.split(","):
                 yield row
 
     def read(self, word, *rest):
@@ -244,6 +247,8 @@ class State:
             return "no" if self.founding == "none" else "yes"
         if word == "images":
             return " ; ".join(row for _, row in sorted(self.images.items())) or "no rows"
+        if word == "running":
+            return " ; ".join(self.running()) or "no rows"
         if word == "campaigns":
             return " ; ".join(self.reaching(*rest)) or "no rows"
         if word == "ecus":

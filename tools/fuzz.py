@@ -3,8 +3,9 @@
 
     fuzz.py PROGRAM [bodies] [FIRST [NUMBER]]
 
-Each seed from FIRST (1) on, NUMBER (100) of them, makes a script. It is carried out over memory, over a file, and
-over a file in pieces with a new start of the program for each. All have to print what `tools/reference.py` prints
+Each seed from FIRST (1) on, NUMBER (100) of them, makes a script, in which operators' commands stand between manifests that they
+change the answers of. It is carried out over memory, over a file, and over a file in pieces with a new start of the program for
+each. All have to print what `tools/reference.py` prints
 by the rules, and each file has to have its rows. Where they differ, the seed and the first line are told.
 
 With `bodies` each seed delivers a hundred manifests of one vehicle over memory: in the form in which Primaries write
@@ -33,7 +34,7 @@ class Script:
 
     def __init__(self, seed):
         self.rng, self.lines, self.counters, self.last, self.images = random.Random(seed), [], {}, {}, []
-        self.at, self.present, self.retired, self.sent = START, {}, [], []
+        self.at, self.present, self.retired, self.sent, self.opened, self.news = START, {}, [], [], [], 0
 
     def some(self, share):
         return self.rng.random() < share
@@ -130,8 +131,7 @@ class Script:
         if not images:
             return self.add_image()
         image, number = self.rng.choice(images), self.rng.choice([1, 2, 3])
-        items = [{"hardware": kind, "file": image["file"]} for kind in image["hardware"]]
-        self.add("open_campaign", campaign="H%d" % len(self.lines), vehicles="all", items=items)
+        self.offer("H%d" % len(self.lines), "all", image)
         told, kinds = self.manifest(number), {it["ecu"]: it["hardware"] for it in self.ecus(number)}
         for report in told["reports"]:
             if kinds.get(report["ecu"]) in image["hardware"]:
@@ -158,10 +158,19 @@ class Script:
         if self.some(0.05):
             items[0]["hardware"] = rng.choice(KINDS)
         reach = "all" if number % 2 else ["V%d" % rng.randrange(5) for _ in range(rng.randint(1, 3))]
+        self.opened.append("C%d" % number)
         self.add("open_campaign", campaign="C%d" % number, vehicles=reach, items=items)
 
+    def offer(self, name, reach, image):
+        """A campaign for one image."""
+        items = [{"hardware": kind, "file": image["file"]} for kind in image["hardware"]]
+        self.opened.append(name)
+        self.add("open_campaign", campaign=name, vehicles=reach, items=items)
+
     def close_campaign(self):
-        self.add("close_campaign", campaign="C%d" % self.rng.randrange(8))
+        """Mostly one that was opened."""
+        name = "C%d" % self.rng.randrange(8)
+        self.add("close_campaign", campaign=self.rng.choice(self.opened) if self.opened and self.some(0.8) else name)
 
     def report(self, ecu):
         rng, name = self.rng, ecu["ecu"]
@@ -236,6 +245,55 @@ class Script:
             body = damaged(rng, body.encode()).decode("utf-8", "replace")
         self.add("deliver", body=body)
 
+    # -- commands between manifests
+
+    def new_image(self, kind):
+        """An image of a greater release than all before."""
+        self.news += 1
+        image = {"file": "n/%d.bin" % self.news, "length": self.news, "sha256": fleet.digest("new %d" % self.news)}
+        return image | {"hardware": [kind], "release": 1000 + self.news}
+
+    def register(self, image):
+        self.images.append(image)
+        self.add("add_image", **image)
+
+    def reporting(self, number, image):
+        """The vehicle's next manifest, in which its last ECU reports that image."""
+        told = self.manifest(number)
+        for report in told["reports"]:
+            if report["ecu"] == self.ecus(number)[-1]["ecu"]:
+                report.pop("sha512", None)
+                report |= fleet.content(image)
+        if self.some(0.5):
+            self.add("bench", **told)
+        else:
+            self.add("deliver", body=fleet.body(told))
+
+    def between(self):
+        """A manifest, then a command that changes what the next one is answered, or might, and that one. An image is offered whose
+        release is the greatest; a newer one is offered too, or is reported and then registered."""
+        rng, number, name = self.rng, self.rng.choice([1, 2, 3]), "M%d" % self.news
+        kind, reach = self.ecus(number)[-1]["hardware"], rng.choice(["all", ["V%d" % number]])
+        offered, newer = self.new_image(kind), self.new_image(kind)
+        commands = {
+            "close": lambda: self.add("close_campaign", campaign=name),
+            "open": lambda: self.offer("N" + name, reach, newer),
+            "image": lambda: self.register(newer),
+            "rotate": self.rotate,
+            "refresh": lambda: self.add("refresh", version=rng.choice([20, 60, 100, 200])),
+            "vehicle": self.add_vehicle,
+            "replace": self.replace_ecu,
+        }
+        how = rng.choice(list(commands))
+        for image in [offered, newer] if how == "open" else [offered]:
+            self.register(image)
+        self.offer(name, reach, offered)
+        for command in [lambda: None, commands[how]]:
+            command()
+            self.reporting(number, newer if how == "image" else fleet.FACTORY)
+        for it in self.opened[-2 if how == "open" else -1 :] if self.some(0.8) else []:
+            self.add("close_campaign", campaign=it)
+
     def fetch(self):
         name = self.rng.choice(["root.json", "1.root.json", "2.root.json", "01.root.json", "targets.json",
                                 "snapshot.json", "timestamp.json", "no"])
@@ -244,11 +302,14 @@ class Script:
     def show(self):
         self.add("show", vehicle="V%d" % self.rng.randrange(7))
 
+    def rotate(self):
+        self.add("rotate", **fleet.key_set(self.rng.choice([1, 0x51, 0x61, 0xA1])))
+
     def refresh(self):
         self.add("refresh", version=self.rng.choice([1, 5, 40, 80, MOST] if self.some(0.05) else [5, 20, 40]))
 
-    WEIGHTS = {"add_vehicle": 8, "replace_ecu": 5, "add_image": 8, "second_hash": 4, "open_campaign": 6, "close_campaign": 1,
-               "bench": 30, "deliver": 16, "fetch": 5, "show": 6, "refresh": 1}
+    WEIGHTS = {"add_vehicle": 8, "replace_ecu": 5, "add_image": 8, "second_hash": 4, "open_campaign": 6, "close_campaign": 3,
+               "bench": 30, "deliver": 16, "between": 8, "fetch": 5, "show": 6, "refresh": 1}
 
     def step(self):
         rng = self.rng
@@ -272,7 +333,7 @@ class Script:
                 self.add_vehicle(number)
         for step in [self.add_image] * self.rng.randint(0, 12) + [self.open_campaign] * self.rng.randint(0, 4):
             step()
-        for _ in range(self.rng.randint(10, 90)):
+        for _ in range(self.rng.randint(10, 70)):
             self.step()
         return [line for whole in self.lines for line in whole.split(b"\n")]
 

@@ -5,8 +5,8 @@
 
 For each seed from FIRST (1) on, NUMBER (100) of them, a script of `tools/fuzz.py` founds and fills a file. The
 program serves it to one connection, which sends manifests, some of them damaged, and asks for files, in pieces
-that are cut anywhere. Then a script replaces some ECUs, and a new start serves another connection, over which earlier manifests
-come again too. Each answer has to be, byte for byte, what `tools/reference.py` answers at the moment that the program's clock
+that are cut anywhere. Then a script has operators' commands, some between manifests, and a new start serves another connection,
+over which earlier manifests come again too. Each answer has to be, byte for byte, what `tools/reference.py` answers at the moment that the program's clock
 had, and the file has to have its rows. The same is then asked for by script, each manifest at the moment that was kept: over a
 copy of the file as it was, and over memory after the script that filled it. Both have to answer alike, and the copy has to have
 the same rows, byte for byte. Five more connections send requests whose
@@ -148,11 +148,13 @@ class Stream:
         ])()
 
     def between(self):
-        """The lines that replace some ECUs."""
-        self.script.lines.clear()
+        """The lines of operators, with manifests among them: some replace ECUs, others change images, campaigns or keys."""
+        script = self.script
+        script.lines.clear()
+        kinds = [script.replace_ecu, script.between, script.open_campaign, script.close_campaign, script.rotate, script.refresh]
         for _ in range(self.rng.randint(0, 4)):
-            self.script.replace_ecu()
-        return [line.decode() for line in self.script.lines]
+            self.rng.choices(kinds, [6, 4, 2, 2, 1, 1])[0]()
+        return [line.decode() for line in script.lines]
 
     def made(self):
         kinds, number = [self.deliver, self.fetch, self.other], self.rng.randint(1, 30)
@@ -278,8 +280,8 @@ def served_as(program, path, desk, requests, rng, commands):
     return "more than the answers: %r" % told[:300] if told else None
 
 
-def replaced_as(program, path, desk, lines, commands):
-    """The same of lines that replace ECUs."""
+def ordered_as(program, path, desk, lines, commands):
+    """The same of operators' lines."""
     wanted = [desk.answer(line.encode()) for line in lines]
     commands.extend(zip(lines, wanted, strict=True))
     return None if trials.printed(program, path, lines) == wanted else "lines between"
@@ -296,7 +298,7 @@ def tried(program, seed, own):
     with closing(sqlite3.connect(rules)) as db:
         desk = reference.Desk(db)
         other = served_as(program, path, desk, stream.made(), rng, commands)
-        other = other or replaced_as(program, path, desk, stream.between(), commands)
+        other = other or ordered_as(program, path, desk, stream.between(), commands)
         other = other or served_as(program, path, desk, stream.made(), rng, commands)
     if other:
         return other

@@ -29,7 +29,9 @@ A_FOR_S2 = A | {"ecu": "S2"}
 A7_FOR_S2 = A7 | {"ecu": "S2"}
 A_FOR_S3 = A | {"ecu": "S3"}
 A_FOR_S4 = A | {"ecu": "S4"}
-S_FOR_S2 = A_FOR_S2 | {"file": "s.bin", "release": 3}
+S = A | {"file": "s.bin", "release": 3}
+S_FOR_S2 = S | {"ecu": "S2"}
+S_FOR_S3 = S | {"ecu": "S3"}
 P_FOR_P2 = A | {"ecu": "P2", "file": "p.bin", "hardware": ["HP"], "release": 5}
 A_OF_BOTH = A | {"hashes": BOTH}
 BOTH_FOR_S2 = A_OF_BOTH | {"ecu": "S2"}
@@ -53,7 +55,12 @@ REPLIES = {
     "kept_reply_after_a_rotation": [("V2", 1, 1, [A_FOR_S2]), ("V2", 2, 2, []), ("V2", 1, 1, [A_FOR_S2])],
     "commands_between_manifests": [
         ("V2", 1, 1, []), ("V2", 2, 1, []), ("V2", 3, 1, [A_FOR_S2]), ("V2", 4, 1, [S_FOR_S2]), ("V2", 5, 1, [A_FOR_S2]),
-        ("V2", 6, 2, [A_FOR_S2]), ("V2", 3, 1, [A_FOR_S2]), ("V2", 7, 2, [])
+        ("V2", 6, 2, [A_FOR_S2]), ("V2", 3, 1, [A_FOR_S2]), ("V2", 7, 2, []), ("V2", 8, 2, [S_FOR_S3]), ("V1", 1, 2, []),
+        ("V2", 9, 2, [S_FOR_S3]), ("V2", 10, 2, []), ("V2", 8, 2, [S_FOR_S3])
+    ],
+    "manifests_in_a_row": [
+        ("V2", 1, 1, [P_FOR_P2, A_FOR_S2]), ("V2", 1, 1, [P_FOR_P2, A_FOR_S2]), ("V1", 1, 1, []), ("V2", 2, 1, []),
+        ("V2", 3, 1, [A_FOR_S2]), ("V2", 1, 1, [P_FOR_P2, A_FOR_S2])
     ],
     "root_signed_by_the_old_key_too": [("V1", 1, 1, []), ("V1", 2, 2, [])],
     "each_command_under_a_second_scheme": [("V2", 1, 1, [A_FOR_S2]), ("V2", 2, 2, []), ("V2", 1, 1, [A_FOR_S2])],
@@ -77,6 +84,7 @@ REPLIES = {
 FILES = {
     "files_of_the_image_repository": [(role, 1, 0, 2, [Z]) for role in ROLES[1:]] + [("image", 1, 0)],
     "root_signed_by_the_old_key_too": [("director", 2, 0)],
+    "commands_between_manifests": [("timestamp", 2, 0, 40, [A, S])],
     "second_hash_in_the_files": [(role, 1, 0, 3, [A_OF_BOTH, Z]) for role in ROLES[1:]],
     "each_command_under_a_second_scheme": [(role, 1, 1, 9, [A, Z]) for role in ROLES[1:]]
     + [("director", 2, 2), ("image", 2, 2)]

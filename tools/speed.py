@@ -1,14 +1,16 @@
 #!/usr/bin/env python3
 """Measures the program: instructions a line, lines a second, and what a start takes. `docs/SPEED.md` has the figures.
 
-    speed.py PROGRAM fleets         instructions and compressions of SHA-256 a line, of scripts of five fleets
+    speed.py PROGRAM fleets         instructions and compressions of SHA-256 a line, of scripts of seven fleets
+    speed.py PROGRAM allocations    calls of `malloc` a line, of the same scripts
     speed.py PROGRAM functions      the five functions that take most of them, in the fleet of `fleets` that is first
     speed.py PROGRAM commands       instructions and compressions of SHA-256 of a line of each kind
     speed.py PROGRAM lines          lines a second over a file, as a ratio to the same script over memory
-    speed.py PROGRAM growth         how a manifest's time grows with kept replies, images, campaigns and vehicles
+    speed.py PROGRAM growth         how a manifest's time grows with kept replies, images, campaigns that run or are closed, vehicles
     speed.py PROGRAM growth_counts  the same in instructions, over files
     speed.py PROGRAM senders        instructions of a fresh, a repeated, a stale and a forged manifest of 4 ECUs, over files with so many
                                     campaigns and images, behind a first manifest
+    speed.py PROGRAM loading        what the first manifest behind a start takes more, over such files, and what stays in memory
     speed.py PROGRAM start          processor seconds and memory of a start over files of so many kept replies
     speed.py PROGRAM sums           instructions of a start and of a manifest over files with and without sums of pages
     speed.py PROGRAM http           requests a second over a file, beside the same by script, and instructions
@@ -40,10 +42,13 @@ FLEETS = {
     "40 of 4 ECUs": {"vehicles": 40, "ecus": 4},
     "100 of 4 ECUs": {"vehicles": 100, "ecus": 4},
     "1,000 of 1 ECU": {"vehicles": 1000, "ecus": 1, "rounds": 2},
+    "1,000 of 1 ECU, three rounds": {"vehicles": 1000, "ecus": 1, "rounds": 3},
     "10 of 32 ECUs": {"vehicles": 10, "ecus": 32},
+    "10 of 32 ECUs, ten rounds": {"vehicles": 10, "ecus": 32, "rounds": 10},
     "40 of 4 ECUs, images with two hashes": {"vehicles": 40, "ecus": 4, "second_hashes": 1},
 }
-COMPRESS = "block256::compress"
+COMPRESS = re.compile(r".*block256::compress")
+MALLOC = re.compile(r"malloc")
 MOST = 100_000
 
 
@@ -67,8 +72,8 @@ def counted(program, script, own, told, path=":memory:"):
     return collected(ran.stderr)
 
 
-def compressions(told):
-    """How often the function that hashes a block of 64 bytes was called, by callgrind's file."""
+def calls(told, function):
+    """How often a function of such a name was called, by callgrind's file."""
     names, number, called = {}, 0, None
     with open(told, encoding="utf-8", errors="replace") as lines:
         for line in lines:
@@ -76,14 +81,14 @@ def compressions(told):
             if named:
                 names.setdefault(named[2], named[3])
                 called = names[named[2]] if named[1] else called
-            elif line.startswith("calls=") and called and called.endswith(COMPRESS):
+            elif line.startswith("calls=") and called and function.fullmatch(called):
                 number += int(line[6:].split(" ")[0])
     return number
 
 
 def hashed(program, script, own):
     """The instructions that a script takes over memory, and the compressions among them."""
-    return counted(program, script, own, own / "told"), compressions(own / "told")
+    return counted(program, script, own, own / "told"), calls(own / "told", COMPRESS)
 
 
 def fleets(program, own):
@@ -91,6 +96,13 @@ def fleets(program, own):
         script = list(fleet.script(**words))
         taken, blocks = hashed(program, script, own)
         print("| %s | %d | %d | %d |" % (name, len(script), taken // len(script), blocks // len(script)), flush=True)
+
+
+def allocations(program, own):
+    for name, words in FLEETS.items():
+        script = list(fleet.script(**words))
+        counted(program, script, own, own / "told")
+        print("| %s | %d |" % (name, calls(own / "told", MALLOC) // len(script)), flush=True)
 
 
 def functions(program, own):
@@ -177,18 +189,30 @@ def manifests(vehicles, number, first=1, ecus=1):
         yield fleet.line("deliver", body=fleet.body(told))
 
 
-def prepared(vehicles, images, campaigns, ecus=1):
-    """Founding, vehicles of so many ECUs, images of other hardware, campaigns for a vehicle that sends nothing."""
+def prepared(vehicles, images, campaigns, ecus=1, ended=0, reach=("other",), is_great=False):
+    """Founding, vehicles of so many ECUs, images of other hardware, campaigns for a vehicle that sends nothing, some of them ended."""
     yield fleet.line("found", **fleet.key_set(1))
     for name in [*("v%06d" % at for at in range(vehicles)), "other"]:
         told = [{"ecu": "%s-e%d" % (name, ecu), "hardware": "HP", "key": fleet.key(7)} for ecu in range(ecus)]
         yield fleet.line("add_vehicle", vehicle=name, primary=name + "-e0", ecus=told)
     for at in range(images):
         image = {"file": "i%d" % at, "length": 1, "sha256": fleet.digest("%d" % at), "hardware": ["HS"]}
-        yield fleet.line("add_image", **image, release=at + 1)
+        yield fleet.line("add_image", **image | (greatest(at) if is_great else {}), release=at + 1)
+    items = [{"hardware": "HS", "file": "i0"}]
+    reach = reach if reach == "all" else list(reach)
     for at in range(campaigns):
-        items = [{"hardware": "HS", "file": "i0"}]
-        yield fleet.line("open_campaign", campaign="c%d" % at, vehicles=["other"], items=items)
+        yield fleet.line("open_campaign", campaign="c%d" % at, vehicles=reach, items=items)
+    for at in range(ended):
+        yield fleet.line("open_campaign", campaign="d%d" % at, vehicles=reach, items=items)
+        yield fleet.line("close_campaign", campaign="d%d" % at)
+
+
+def greatest(at):
+    """Members of an image that are as long and as many as they may be; the first one keeps its name."""
+    kinds = ["HS", *("%d-%s" % (place, 61 * "h") for place in range(10, 25))]
+    needs, files = [{"hardware": kind, "release": 1} for kind in kinds], ["%d-%s" % (place, 125 * "c") for place in range(10, 26)]
+    lists = {"hardware": kinds, "needs": needs, "conflicts": files, "sha512": fleet.second("%d" % at)}
+    return lists | ({"file": "%04d%s" % (at, 124 * "f")} if at else {})
 
 
 def asked(it, script):
@@ -222,6 +246,23 @@ def cost(program, before, script):
     return took / len(script)
 
 
+# what is there, of which a manifest of the 100 vehicles needs nothing but what is for all
+FEW = {"vehicles": 100, "images": 10, "campaigns": 10}
+MANY = ["v%06d" % at for at in range(100, 1100)]
+THERE = {
+    "10 images, 10 campaigns, 100 vehicles": FEW,
+    "no campaigns": FEW | {"campaigns": 0},
+    "200 campaigns": FEW | {"campaigns": 200},
+    "1,000 campaigns": FEW | {"campaigns": 1000},
+    "200 campaigns for all": FEW | {"campaigns": 200, "reach": "all"},
+    "10,000 closed campaigns": FEW | {"ended": 10_000},
+    "200 campaigns for 1,000 vehicles each": {"vehicles": 1100, "images": 10, "campaigns": 200, "reach": MANY},
+    "2,000 closed campaigns for 1,000 vehicles each": {"vehicles": 1100, "images": 10, "campaigns": 0, "ended": 2000, "reach": MANY},
+    "1,000 images": FEW | {"images": 1000},
+    "10,000 vehicles": FEW | {"vehicles": 10_000},
+}
+
+
 def growth(program, _):
     few, number = list(prepared(100, 10, 10)), 2000
     for kept in (1000, 10_000, 97_000):
@@ -229,11 +270,9 @@ def growth(program, _):
         print("| %d kept replies | %.0f |" % (kept, cost(program, few + told[:kept], told[kept:])), flush=True)
         repeats = cost(program, few + told[:kept], told[kept - 1000 : kept])
         print("| %d kept replies, a repeat | %.0f |" % (kept, repeats), flush=True)
-    others = {"10 images, 10 campaigns, 100 vehicles": (100, 10, 10), "1,000 images": (100, 1000, 10),
-              "1,000 campaigns": (100, 10, 1000), "10,000 vehicles": (10_000, 10, 10)}
-    for name, words in others.items():
-        told = list(manifests(100, number))
-        print("| %s | %.0f |" % (name, cost(program, list(prepared(*words)), told)), flush=True)
+    first = list(manifests(100, 100 + number))
+    for name, words in THERE.items():
+        print("| %s | %.0f |" % (name, cost(program, [*prepared(**words), *first[:100]], first[100:])), flush=True)
 
 
 def alone(program, path, script, before=(), answered=b"reply "):
@@ -268,21 +307,12 @@ def growth_counts(program, own, most=MOST):
         fresh, again = (list(manifests(100, lines, 1 + at // 100)) for at in (kept, kept - lines))
         print("| %d kept replies | %d |" % (kept, alone(program, trials.copied(path, own / "next"), fresh)), flush=True)
         print("| %d kept replies, a repeat | %d |" % (kept, alone(program, trials.copied(path, own / "same"), again)), flush=True)
-    others = {"10 images, 10 campaigns, 100 vehicles": (100, 10, 10), "1,000 images": (100, 1000, 10),
-              "1,000 campaigns": (100, 10, 1000), "10,000 vehicles": (10_000, 10, 10)}
-    for name, words in others.items():
+    for name, words in THERE.items():
         path = own / name
-        trials.printed(program, path, prepared(*words))
+        assert trials.printed(program, path, prepared(**words), 3600) is not None
         kept_replies(program, path, 0, lines)
-        print("| %s | %d |" % (name, alone(program, path, list(manifests(100, lines, 2)))), flush=True)
-
-
-def closed(number):
-    """So many campaigns that are opened and closed."""
-    for at in range(number):
-        items = [{"hardware": "HS", "file": "i0"}]
-        yield fleet.line("open_campaign", campaign="d%d" % at, vehicles=["other"], items=items)
-        yield fleet.line("close_campaign", campaign="d%d" % at)
+        first, fresh = list(manifests(100, 1)), list(manifests(100, lines, 2))
+        print("| %s | %d |" % (name, alone(program, path, fresh, first)), flush=True)
 
 
 def forged(line):
@@ -293,21 +323,48 @@ def forged(line):
     return fleet.line("deliver", body=front + '"sig":"' + other + rest[1:])
 
 
+# what the files have over which manifests of four ECUs are counted
+ONE = {"vehicles": 100, "images": 1, "campaigns": 0, "ecus": 4}
+FILES = {
+    "1 image": ONE,
+    "10 campaigns": ONE | {"campaigns": 10},
+    "200 campaigns": ONE | {"campaigns": 200},
+    "200 campaigns for all": ONE | {"campaigns": 200, "reach": "all"},
+    "10,000 closed campaigns": ONE | {"ended": 10_000},
+    "1,024 images": ONE | {"images": 1024},
+}
+
+
 def senders(program, own, lines=100):
     """Counters 1 and 3 are accepted first, so that 2 is stale and 4 is fresh."""
     told = [list(manifests(100, lines, counter, 4)) for counter in (1, 2, 3, 4)]
     signed = [forged(line) for line in told[3]]
     kinds = {"fresh": (told[3], b"reply "), "repeat": (told[0], b"reply "),
              "stale": (told[1], b"refused 13 "), "forged": (signed, b"refused 12 ")}
-    others = {"1 image": (1, 0, 0), "10 campaigns": (1, 10, 0), "200 campaigns": (1, 200, 0),
-              "10,000 closed campaigns": (1, 0, 10_000), "1,024 images": (1024, 0, 0)}
-    for name, (images, campaigns, ended) in others.items():
+    for name, words in FILES.items():
         path = own / name
-        before = [*prepared(100, images, campaigns, 4), *closed(ended), *told[0], *told[2]]
-        assert trials.printed(program, path, before, 3600) is not None
-        for kind, (script, answered) in kinds.items():
-            copy = trials.copied(path, own / "next")
-            print("| %s, %s | %d |" % (name, kind, alone(program, copy, script, told[0][:1], answered)), flush=True)
+        assert trials.printed(program, path, [*prepared(**words), *told[0], *told[2]], 3600) is not None
+        taken = []
+        for script, answered in kinds.values():
+            taken.append(alone(program, trials.copied(path, own / "next"), script, told[0][:1], answered))
+        print("| %s | %s |" % (name, " | ".join(map(str, taken))), flush=True)
+
+
+def loading(program, own):
+    """A repeat behind a start, less the same once more; and the peaks of memory of a start without it and with it."""
+    first = list(manifests(100, 1, 1, 4))
+    (own / "first").write_text(first[0] + "\n", encoding="ascii")
+    wide = {"128 images of the greatest size": ONE | {"images": 128, "is_great": True},
+            "200 campaigns for 1,000 vehicles each": ONE | {"vehicles": 1100, "campaigns": 200, "reach": MANY}}
+    for name, words in (FILES | wide).items():
+        path = own / name
+        assert trials.printed(program, path, [*prepared(**words), *first], 3600) is not None
+        whole = alone(program, trials.copied(path, own / "next"), first)
+        again = alone(program, trials.copied(path, own / "next"), first, first)
+        _, begun = used([program, "run", str(trials.copied(path, own / "next"))])
+        with open(own / "first", "rb") as given:
+            _, loaded = used([program, "run", str(trials.copied(path, own / "next"))], given)
+        print("| %s | %d | %d MB | %d MB |" % (name, whole - again, begun, loaded), flush=True)
 
 
 def used(words, given=subprocess.DEVNULL):
@@ -463,7 +520,7 @@ def bodies(program, own):
         print("| %s | %d | %d |" % (name, *taken), flush=True)
 
 
-PARTS = (fleets, functions, commands, lines, growth, growth_counts, senders, start, sums, http, head, bodies)
+PARTS = (fleets, allocations, functions, commands, lines, growth, growth_counts, senders, loading, start, sums, http, head, bodies)
 
 
 def main(program, part, *most):

@@ -4,7 +4,7 @@
     store_sweep.py PROGRAM PLACE [EVERY [FIRST [LAST]]]
 
 PLACE is `memory` or `files` (on disks that are memory). The sections whose words begin with `each disk call refused` are carried
-out, one after another: each of the eight writes, and each of the twelve reads after each; and databases of schema 1 and 2, which are
+out, one after another: each of the eight writes, and each of the thirteen reads after each; and databases of schema 1 and 2, which are
 taken, read and written. What is told has to be the same whichever call failed: a write or a raise that was refused changed nothing,
 or stands whole, and goes through when it is made again. Else the program has to end with a message, having told nothing.
 """

@@ -3,21 +3,25 @@
 
     sweeps.py PROGRAM KIND [EVERY [FIRST]]
 
-KIND is memory, disk or http. Only every EVERY-th (1) call is tried, from call FIRST (1) on. A word in place of FIRST
+KIND is memory, disk, older or http. Only every EVERY-th (1) call is tried, from call FIRST (1) on. A word in place of FIRST
 draws one of the calls 1 to EVERY, so that another part is tried each time.
 
 `memory` refuses a request for memory, `disk` fails a read, write or sync of the database's files, each over the rows of
 `rows/` that are named here, a line at a time over a file. Every answer has to be the row's, or `refused 1 Memory`, upon
 which the tables are those before the line, and the line is given again at once and has to have the row's answer; or, where
-the disk failed, `refused 2 Store`; or the program stops with its message. Then the file has to have the rows that
+the disk failed, `refused 2 Store`; or the program stops with its message. After `Store` the line is given again too: either it
+has the row's answer and the row goes on, or a fault has shut the file, and each later line is answered `Store`, or refused as
+the row has it. Then the file has to have the rows that
 `tools/reference.py` makes of just the lines that were answered, or of the next one too; the rest of the row is carried out
-over it by a new start, and has to end as the row does. Each goes over an empty file, and two of the rows are carried out
-again over files of older schemas, which have what the row does up to its first manifest: they stay of their schema until they
-are of the page's.
+over it by a new start, and has to end as the row does. Each goes over an empty file. One more row, of manifests alone, is
+carried out over a file that has what comes before its first manifest: images, running campaigns and a closed one, which the
+first manifest reads and the next ones don't. And two of the rows are carried out again over files of older schemas, which have
+what the row does up to its first manifest: they stay of their schema until they are of the page's. `older` is `memory`
+over these two alone.
 
 `http` refuses memory while a vehicle's first manifest is posted four times, a request a connection. Each answer has to be
 the kept reply, but for one, which may be a 503 for want of memory or none, and the tables those of the rules at the moment
-that was kept.
+that was kept. Images and running campaigns are there, which the first one reads.
 """
 import hashlib
 import os
@@ -36,9 +40,10 @@ import trials
 
 ROWS = ["first_manifest", "equal_and_greater_releases", "kept_reply_after_a_rotation", "images_taken",
         "files_of_the_image_repository", "campaigns", "replaced_ecu", "second_hash"]
+READING = ["manifests_in_a_row"]
 OLDER = [("equal_and_greater_releases", 1), ("kept_reply_after_a_rotation", 2)]
 REFUSED = {"memory": "refused 1 Memory", "disk": "refused 2 Store"}
-VARIABLES = {"memory": "FAIL_ALLOC", "disk": "FAIL_IO", "http": "FAIL_ALLOC"}
+VARIABLES = {"memory": "FAIL_ALLOC", "disk": "FAIL_IO", "older": "FAIL_ALLOC", "http": "FAIL_ALLOC"}
 MESSAGES = [b"", b"uptane_desk: stopped after %d lines: memory\n", trials.NO_DATABASE]
 POSTS = 4
 
@@ -112,22 +117,30 @@ class Row:
             return None
 
 
-class Older(Row):
-    """A row from its first manifest on, which is given again, over a file of an older schema that has what came before."""
+class Begun(Row):
+    """A row from its first manifest on, over a file that has what comes before it; or has that one too, so that it is given again."""
 
-    def __init__(self, program, name, number, own):
+    def __init__(self, program, name, own, is_given_again=False):
         super().__init__(name, own)
-        done = next(at for at, line in enumerate(self.lines) if '"bench"' in line) + 1
-        path = own / ("before " + name)
-        assert trials.printed(program, path, self.lines[:done]) == self.printed[:done]
-        self.begun, self.number = schemas.lowered(path, own / ("older " + name), number), number
-        self.lines, self.printed = self.lines[done - 1 :], self.printed[done - 1 :]
-        self.states = self.states[done : done + 1] + self.states[done:]
-        self.name += " over schema %d" % number
+        at = next(at for at, line in enumerate(self.lines) if '"bench"' in line)
+        done, self.begun = at + is_given_again, own / ("before " + name)
+        assert trials.printed(program, self.begun, self.lines[:done]) == self.printed[:done]
+        self.lines, self.printed = self.lines[at:], self.printed[at:]
+        self.states = self.states[done : done + is_given_again] + self.states[done:]
+        self.name += " from its first manifest on"
 
     def begin(self, path):
         super().begin(path)
         trials.copied(self.begun, path)
+
+
+class Older(Begun):
+    """The same over a file of an older schema, in which the first manifest is there."""
+
+    def __init__(self, program, name, number, own):
+        super().__init__(program, name, own, True)
+        self.begun, self.number = schemas.lowered(self.begun, own / ("older " + name), number), number
+        self.name += " over schema %d" % number
 
     def shown(self, path):
         """The tables as they are once they were raised; none where they are of neither schema."""
@@ -151,13 +164,20 @@ def answered(it, row, kind, path):
     """How many lines had the row's answers, and whether the last answer, if another, is one that there may be."""
     for count, (line, wanted) in enumerate(zip(row.lines, row.printed)):
         told = ask(it, line)
-        if kind == "memory" and told == REFUSED[kind]:
-            if row.shown(path) != row.states[count]:
+        if told == REFUSED[kind]:
+            if kind == "memory" and row.shown(path) != row.states[count]:
                 return count, False
             told = ask(it, line)
         if told != wanted:
-            return count, told == "" or (kind == "disk" and told == REFUSED[kind])
+            is_shut = kind == "disk" and told == REFUSED[kind]
+            return count, told == "" or (is_shut and stays_shut(it, row, count))
     return len(row.lines), True
+
+
+def stays_shut(it, row, count):
+    """Whether the lines behind so many are answered by the database's refusal, or are refused as the row has it."""
+    rest = list(zip(row.lines, row.printed))[count + 1 :]
+    return all(ask(it, line) in [REFUSED["disk"]] + [wanted] * wanted.startswith("refused ") for line, wanted in rest)
 
 
 def ended(it, count):
@@ -194,11 +214,23 @@ def tried(program, row, failing, kind, path):
 
 
 def over_rows(program, own, sweep):
-    for row in [Row(name, own) for name in ROWS] + [Older(program, name, number, own) for name, number in OLDER]:
-        yield sweep.over(row.name, lambda failing: tried(program, row, failing, sweep.kind, own / "swept"))
+    begun = [Older(program, name, number, own) for name, number in OLDER]
+    if sweep.kind != "older":
+        begun = [*(Row(name, own) for name in ROWS), *(Begun(program, name, own) for name in READING), *begun]
+    fails = "memory" if sweep.kind == "older" else sweep.kind
+    for row in begun:
+        yield sweep.over(row.name, lambda failing: tried(program, row, failing, fails, own / "swept"))
 
 
 # ---- HTTP
+
+
+def before_a_manifest():
+    """Lines that found, add the vehicle and some images, and open campaigns: for all, for another vehicle, and one that is closed."""
+    yield from http_cases.FIRST_PATH[:2]
+    lines = (trials.TOP / "rows" / READING[0] / "script").read_text("ascii").split("\n")
+    done = next(at for at, line in enumerate(lines) if '"bench"' in line)
+    yield from (line for line in lines[1:done] if '"vehicle":"V1"' not in line)
 
 
 def by_the_rules(path):
@@ -209,7 +241,7 @@ def by_the_rules(path):
         return None, None
     with closing(sqlite3.connect(":memory:")) as db:
         desk = reference.Desk(db)
-        for line in http_cases.FIRST_PATH[:2]:
+        for line in before_a_manifest():
             desk.answer(line)
         desk.delivered(http_cases.MANIFEST, moment[0])
         return trials.rows_in(db), desk.one("SELECT reply FROM kept")[0].encode()
@@ -239,8 +271,8 @@ def posted(program, path, failing):
 
 
 def over_http(program, own, sweep):
-    """The file was founded and has the vehicle, so that the first post is accepted and the others are repeats."""
-    assert trials.printed(program, own / "first", http_cases.FIRST_PATH[:2]) == ["done", "done"]
+    """The file was founded and has the vehicle, images and campaigns, so that the first post is accepted and the others are repeats."""
+    assert set(trials.printed(program, own / "first", before_a_manifest())) == {"done"}
 
     def attempt(failing):
         trials.log_of(own / "swept").unlink(missing_ok=True)

@@ -209,6 +209,7 @@ def older(program, own):
 
 
 DAMAGED_IMAGES, DAMAGED_CAMPAIGNS = "UPDATE image SET needs = 'x'", "UPDATE campaign SET items = 'x'"
+CLOSED_CAMPAIGNS = DAMAGED_CAMPAIGNS + " WHERE running = 0"
 OTHER_IMAGES, OTHER_CAMPAIGNS = DAMAGED_IMAGES + " WHERE file <> 'a'", DAMAGED_CAMPAIGNS + " WHERE name <> 'mine'"
 NOT_CANONICAL = '{"signatures":[{"keyid":"k","method":"m","sig":"aa"}],"signed":{"x":1.5}}'
 LATE = 4102444801
@@ -297,7 +298,7 @@ def all_damaged():
 
 
 def others_damaged():
-    """Those for which only the image and the campaigns that they name are read, where all others are damaged."""
+    """Those for which only the image and the campaigns that they name are read, where all others are damaged; for a manifest all are."""
     yield image("a"), "already"
     yield image("a", release=2), "refused 19 ImageTaken"
     yield fleet.line("add_image", LATE, **fleet.FACTORY, hardware=["HP"], release=1), "refused 3 MomentOutOfRange"
@@ -307,6 +308,30 @@ def others_damaged():
     yield campaign("new", "all", "HP", "none"), "refused 26 UnknownImage"
     yield campaign("new", "all", "HS", "a"), "refused 27 WrongHardware"
     yield campaign("new", "all", "HS", "b"), LOST
+    yield from ((line, LOST) for line, _ in deliveries())
+    yield fleet.line("deliver", body=NOT_CANONICAL), "refused 6 NotCanonical"
+    yield image("a"), "already"
+
+
+def one_damaged():
+    """A manifest reads the images and the running campaigns, whomever they are for, unless they were read before."""
+    yield fleet.line("deliver", body="{}"), "refused 7 BadShape signatures"
+    yield from ((line, LOST) for line, _ in deliveries())
+    yield vehicle("V1", "P1", "S1"), "already"
+
+
+def closed_damaged():
+    """What is read of no closed campaign, where those are damaged, each line twice."""
+    for line, wanted in deliveries():
+        yield from ((line, wanted), (line, wanted))
+    yield campaign("mine", ["V1"], "HP", "a"), "already"
+    yield campaign("over", ["V2"], "HS", "b"), LOST
+    yield close("over"), LOST
+    yield from deliveries()
+
+
+def deliveries():
+    """Manifests that are refused, and a repeat. None of them changes a row."""
     yield delivered("V9", 4, "P1", "S1"), "refused 10 UnknownVehicle"
     yield delivered("V1", 4, "P1", "S1", primary="S1"), "refused 11 WrongPrimary"
     yield delivered("V1", 4, "P1", "S1", key=8), "refused 12 BadManifestSignature"
@@ -315,8 +340,6 @@ def others_damaged():
     yield delivered("V1", 4, "P1", "P2"), "refused 14 UnknownEcu P2"
     yield delivered("V1", 4, "P1", "P1"), "refused 15 DuplicateEcu P1"
     yield delivered("V1", 4, "P1"), "refused 16 MissingEcu S1"
-    yield delivered("V1", 4, "P1", "S1", file="b"), LOST
-    yield delivered("V2", 1, "P2", primary="P2"), LOST
     yield delivered("V1", 4, "P1", "S1", report_key=8), "refused 17 BadReportSignature P1"
     yield delivered("V1", 4, "P1", "S1", of=2), "refused 18 ReportReplayed P1"
 
@@ -331,11 +354,8 @@ def second_hashes_damaged():
     yield campaign("new", "all", "HP", "a"), LOST
     yield campaign("new", "all", "HP", "none"), "refused 26 UnknownImage"
     yield campaign("new", ["V9"], "HP", "a"), LOST
-    # (the images of running campaigns are read before a manifest is looked at)
     yield delivered("V1", 4, "P1", "S1"), LOST
-    yield delivered("V1", 1, "P1", "S1"), LOST
-    yield delivered("V1", 2, "P1", "S1"), LOST
-    yield delivered("V1", 4, "P1"), LOST
+    yield from ((line, LOST) for line, _ in deliveries())
     yield close("over"), "already"
 
 
@@ -359,6 +379,9 @@ def read(program, own):
     made = {
         "all": (founded(), [DAMAGED_IMAGES, DAMAGED_CAMPAIGNS], all_damaged()),
         "others": (founded(), [OTHER_IMAGES, OTHER_CAMPAIGNS], others_damaged()),
+        "one image": (founded(), [OTHER_IMAGES], one_damaged()),
+        "one campaign": (founded(), [DAMAGED_CAMPAIGNS + " WHERE name = 'theirs'"], one_damaged()),
+        "closed campaigns": (founded(), [CLOSED_CAMPAIGNS], closed_damaged()),
         "second hashes": (founded(), ["INSERT INTO image_sha512 SELECT file, x'00' FROM image"], second_hashes_damaged()),
         "unfounded": ([], [strange], unfounded()),
         "64 roots": ([*founded(), *rotated], [DAMAGED_IMAGES], [(rotate, "refused 30 RootFull")]),

@@ -7,9 +7,10 @@ import sys
 import tempfile
 import unittest
 from pathlib import Path
+from unittest import mock
 
 sys.dont_write_bytecode = True
-from edits import lock
+from edits import kit, lock
 from edits.check import is_of, is_shown, refusals
 from edits.edit import edits_in, functions_below, groups_of
 from edits.functions import Function, functions_in
@@ -178,6 +179,88 @@ class Hashes(OnATree):
                 self.turn(f"crates/low/{path}", old, new)
                 self.assertEqual(now(), ["low", "up"])
 
+    def more(self, text):
+        """Writes a text behind the counts of the low crate."""
+        path = "crates/low/src/counts.rt"
+        self.write(path, f"{Path(path).read_text(encoding='utf-8')}\n{text}\n")
+
+    def test_a_private_function_below_is_not_read_above(self):
+        now = self.changed()
+        self.more("#[inline]\nfn halved(a: u64) -> u64\n    ensures { result ≡ a }\n{\n    a\n}")
+        self.assertEqual(now(), ["low"])
+        self.turn("crates/low/src/counts.rt", "fn halved(a: u64) -> u64\n    ensures { result ≡ a }", "fn halved(a: u8)\n    ensures { a ≡ a }")
+        self.more("pub(crate) fn third() -> u64 {\n    halved(3) as u64\n}")
+        self.more("pub(in crate::counts) fn fourth() -> u64 {\n    third()\n}")
+        self.assertEqual(now(), ["low"])
+        self.more("pub struct Held;\nimpl Held {\n}")
+        now = self.changed()
+        self.turn("crates/low/src/counts.rt", "impl Held {\n}", "impl Held {\n    fn told(&self) -> u64 {\n        3\n    }\n}")
+        self.assertEqual(now(), ["low"])
+
+    def test_a_private_function_below_that_is_named_is_read_above(self):
+        private = "fn halved(a: u64) -> u64\n    ensures { nat_le result a }\n{\n    a / 2\n}"
+        other = "fn other(a: u64) -> u64\n    ensures { result ≡ halved }\n{\n    a\n}"
+        namings = [
+            [("src/more.rt", "pub use crate::counts::halved;\n")],
+            [("specs/More.antt", "use Rattle.low.specs.contracts.counts.halved\n")],
+            [("proofs/More.antt", "use Rattle.low.proofs.counts.halved.Met.{met}\n")],
+            # (by another private one, which is named)
+            [("src/more.rt", "pub use crate::counts::other;\n")],
+        ]
+        for files in namings:
+            with self.subTest(files):
+                self.setUp()
+                self.more(private)
+                self.more(other)
+                for path, text in files:
+                    self.write(f"crates/low/{path}", text)
+                now = self.changed()
+                self.turn("crates/low/src/counts.rt", "ensures { nat_le result a }", "ensures { nat_le a result }")
+                self.assertEqual(now(), ["low", "up"])
+                now = self.changed()
+                self.turn("crates/low/src/counts.rt", "a / 2", "a / 3")
+                self.assertEqual(now(), ["low"])
+
+    def test_a_function_that_is_more_than_private_is_read_above(self):
+        texts = {
+            "of a trait's impl": "impl Counted for u8 {\n    fn count(&self) -> u64\n        ensures { result ≡ 4 }\n    {\n        4\n    }\n}",
+            "of a cycle of calls": "#[cycle(parity)]\nfn even(a: u64) -> u64\n    ensures { result ≡ 4 }\n{\n    a\n}",
+            "for C": "extern \"C\" fn made() -> u64\n    ensures { result ≡ 4 }\n{\n    4\n}",
+            "const": "const fn made() -> u64\n    ensures { result ≡ 4 }\n{\n    4\n}",
+            "public": "#[inline]\npub fn made() -> u64\n    ensures { result ≡ 4 }\n{\n    4\n}",
+        }
+        for name, text in texts.items():
+            with self.subTest(name):
+                self.setUp()
+                self.more(text)
+                now = self.changed()
+                self.turn("crates/low/src/counts.rt", "ensures { result ≡ 4 }", "ensures { 4 ≡ result }")
+                self.assertEqual(now(), ["low", "up"])
+
+    def test_what_stands_before_a_private_function_is_read_above(self):
+        before = "//! More.\n#![tactic(auto)]\n"
+        self.write("crates/low/src/more.rt", f"{before}fn halved() {{}}\n")
+        now = self.changed()
+        self.write("crates/low/src/more.rt", f"{before}fn third() {{}}\n")
+        self.assertEqual(now(), ["low"])
+        self.turn("crates/low/src/more.rt", "(auto)", "(search)")
+        self.assertEqual(now(), ["low", "up"])
+        items = ["use crate::counts::same;", "macro_rules! made { () => {} }", "struct Held { a: u8 }", "ghost use Rattle.low.specs.Numbers.{least};"]
+        for text in items:
+            with self.subTest(text):
+                now = self.changed()
+                self.turn("crates/low/src/more.rt", "fn third()", f"{text}\nfn third()")
+                self.assertEqual(now(), ["low", "up"])
+
+    def test_another_kit_of_the_same_logic_is_not_read(self):
+        now = self.changed()
+        with mock.patch.object(kit, "version", return_value=f"another-kit logic {kit.logic()}"):
+            self.assertEqual((kit.name(), now()), ("another-kit", []))
+        with mock.patch.object(kit, "version", return_value=f"{kit.name()} logic 0123456789abcdef"):
+            self.assertEqual(now(), ["low", "up"])
+        with mock.patch.object(kit, "version", return_value="a-kit-without-logic"):
+            self.assertRaises(SystemExit, now)
+
     def test_a_lemma_below_is_read_above_where_it_is_named(self):
         now = self.changed()
         self.turn("crates/low/proofs/Facts.antt", "three = 3", "three = 2")
@@ -219,6 +302,24 @@ class Hashes(OnATree):
         self.assertEqual(self.tool("--owed")[:2], (1, ["up: its edits are to be judged: tools/refused up"]))
         Path(lock.FILE).unlink()
         self.assertEqual(len(self.tool("--owed")[1]), 2)
+
+    def test_owed_tells_where_another_kit_judged(self):
+        lock.write(crates_here(), hashes(crates_here(), ["low", "up"]))
+        here, text = kit.name(), Path(lock.FILE).read_text(encoding="utf-8")
+        self.write(lock.FILE, re.sub(rf"(?m)^(low .*) {here}$", r"\1 an-older-kit", text))
+        told = f"the verdicts that stand, crates by the kit that judged them: 1 by an-older-kit, 1 by {here}"
+        self.assertEqual(self.tool("--owed"), (0, [f"{told}; the kit here, of the same logic, is {here}"], ""))
+        # the kit of a verdict that doesn't stand any more tells nothing
+        self.turn("crates/low/refused/another-least.edit", "LEAST + 1;", "LEAST + 2;")
+        self.assertEqual(self.tool("--owed")[:2], (1, ["low: its edits are to be judged: tools/refused low"]))
+        # judging one crate leaves the kit of the others
+        lock.write(crates_here(), hashes(crates_here(), ["up"]))
+        self.assertEqual({name: it.kit for name, it in lock.kept().items()}, {"low": "an-older-kit", "up": here})
+
+    def test_a_line_of_another_form_is_none(self):
+        lock.write(crates_here(), hashes(crates_here(), ["low", "up"]))
+        self.write(lock.FILE, re.sub(r"(?m)^(low .*) \S+$", r"\1", Path(lock.FILE).read_text(encoding="utf-8")))
+        self.assertEqual(self.tool("--owed")[:2], (1, ["low: its edits are to be judged: tools/refused low"]))
 
     def test_a_crate_without_edits_is_not_owed(self):
         lock.write(crates_here(), hashes(crates_here(), ["low", "up"]))

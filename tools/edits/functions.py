@@ -13,8 +13,11 @@ Token = collections.namedtuple("Token", "line start end kind word")
 # that it is in, or None, and `is_read_above` says that a crate above may read its body: that of a `const fn` or of a trait's default. `owner` is the
 # word that rattle puts before its name, or None: the name of its trait or of the type whose own `impl` it stands in; of a trait's `impl`, the names
 # of type and trait in one, as in `RefusalFromRefStr`. `is_own` says that it stands in a type's own `impl`: rattle names it by that type's module.
-# `modules` are the modules that it may stand in, each a tuple of names, or None where they aren't known yet.
-Function = collections.namedtuple("Function", "name lines opens closes cycle is_read_above owner is_own modules", defaults=[None, False, None])
+# `modules` are the modules that it may stand in, each a tuple of names, or None where they aren't known yet. `private` is the byte that the whole
+# function begins at, its attributes with it, where no crate above can read it unless what it reads names it; else None.
+Function = collections.namedtuple(
+    "Function", "name lines opens closes cycle is_read_above owner is_own modules private", defaults=[None, False, None, None]
+)
 
 ROW = re.compile(r'(?m)^(\d+) (\d+) (\d+) (\w+) "(.*)"$')
 CYCLE = re.compile(r"# \[ cycle \( (\w+) \)")
@@ -53,9 +56,13 @@ def functions_of(tokens):
                 cycle = CYCLE.search(" ".join(words[start:at]))
                 lines, is_read = (code[start].line, code[closes].line), at < trait_ends or "const" in words[start:at]
                 mine = (owner, is_own) if at < owner_ends else (None, False)
-                found.append(Function(name, lines, code[opens].end, code[closes].start, cycle and cycle[1], is_read, *mine))
+                private = code[start].start if not is_read and _is_private(words[start:at], *mine) else None
+                found.append(Function(name, lines, code[opens].end, code[closes].start, cycle and cycle[1], is_read, *mine, None, private))
                 opens = closes
             at = start = opens + 1
+        elif words[at : at + 3] == ["#", "!", "["]:
+            # (an attribute of the file is none of what follows)
+            at = start = _closing(words, at + 2) + 1
         elif words[at] == "!" and at and re.fullmatch(r"\w+", words[at - 1]):
             opens = _next(words, at, "{([")
             at = start = (_closing(words, opens) if opens < len(words) else opens) + 1
@@ -70,6 +77,13 @@ def functions_of(tokens):
             at += 1
             start = at if words[at - 1] in "{};" else start
     return found
+
+
+def _is_private(words, owner, is_own):
+    """Returns whether a function is private to its crate and to its own contract, from the words before its `fn` and whose `impl` it stands in: not
+    `pub`, or `pub(..)`, and neither of a trait's `impl`, nor in a cycle of calls, whose contracts have one proof, nor for C to call."""
+    is_public = any(word == "pub" and after != "(" for word, after in zip(words, [*words[1:], ""]))
+    return not is_public and (is_own or owner is None) and not {"cycle", "extern"} & {*words}
 
 
 def module_of(path):

@@ -1,13 +1,15 @@
 """The hash of what the verdicts on a crate's edits rest on.
 
-They rest on the crate's own texts, on the edits, on the kit, and on what the crate's check reads of the crates below. Of those rattle hands a
+They rest on the crate's own texts, on the edits, on the kit's logic, and on what the crate's check reads of the crates below. Of those rattle hands a
 library's check their public items and the private ones that these mention, "and no code", and their statements. So a hash covers
 
 - the tokens (so without comments, and of layout only the columns of antt's lines) of the crate's own src/, specs/ and proofs/, and of the file
-  that each edit turns, with the edit made; its libraries in crates.txt, and the line of `rt version`;
-- of each crate below its libraries, the tokens of its specs/, and those of its src/ without the bodies of functions. What may be computed with
-  stays: constants, types, attributes, clauses, the bodies of `const fn` and of traits' defaults, macros, and what calls of macros among items
-  hold. That the clauses and signatures of private functions stay too is more than is read;
+  that each edit turns, with the edit made; its libraries in crates.txt, and the logic's sum in `rt version`. The kit's name stands beside the hash
+  in the lock, and not in it;
+- of each crate below its libraries, the tokens of its specs/, and those of its src/ without the bodies of functions and without private functions.
+  What may be computed with stays: constants, types, attributes, clauses, the bodies of `const fn` and of traits' defaults, macros, and what calls
+  of macros among items hold. A private function whose name stands in anything that is shown, or in a lemma file, stays too, less its body. By name
+  that is more than is read;
 - the lemma files in proofs/ of a crate below, as tokens, where something of all this names that crate's `proofs`. The files Invariants, Answers
   and Proof belong to one function, and no crate above can name what they hold;
 - for a program, which is linked from the bodies below, all files of the crates below.
@@ -21,7 +23,7 @@ from pathlib import Path
 
 from .edit import edit_files
 from .functions import functions_of, tokens_of
-from .kit import identity, rt, rtlib
+from .kit import logic, rt, rtlib
 
 OF_A_FUNCTION = ("Invariants.antt", "Answers.antt", "Proof.antt")
 NEWLINE = b"\n"
@@ -54,26 +56,52 @@ def _shown(crates):
     tokens, shown = tokens_of([f"{crates[name].folder}/{path}" for name, path in read]), {it: Shown([], []) for it in crates}
     if tokens is None:
         raise SystemExit("refused: rattle can't read a text of a crate below")
+    files = {it: [] for it in crates}
     for (name, path), rows in zip(read, tokens):
-        bodies = [(it.opens, it.closes) for it in functions_of(rows) if not it.is_read_above] if path.endswith(".rt") else []
-        words = _words_outside(f"{crates[name].folder}/{path}", rows, bodies)
-        shown[name][path.startswith("proofs/")].append((path, words))
+        files[name].append((path, rows, functions_of(rows) if path.endswith(".rt") else []))
+    for name, here in files.items():
+        for (path, rows, _), parts in zip(here, _parts_left_out(here)):
+            words = _words_outside(f"{crates[name].folder}/{path}", rows, parts)
+            shown[name][path.startswith("proofs/")].append((path, words))
     return shown
 
 
-def _words_outside(file, rows, bodies):
-    """Returns the words of a file's tokens, less those inside the bodies, which are given in order as pairs of places. A word of antt that begins a
-    line stands behind its column, since antt reads that too."""
-    text, kept, bodies, line = Path(file).read_bytes(), [], iter(bodies), None
-    opens, closes = next(bodies, (None, None))
+def _parts_left_out(files):
+    """Returns for each file of a crate, given as its path, tokens and functions, the parts that it doesn't show, as pairs of places: the bodies of
+    functions, and the whole of those private ones that what is shown doesn't name."""
+    hidden = {it.name for _, _, functions in files for it in functions if it.private is not None}
+
+    def parts(functions):
+        whole = {it: it.private is not None and it.name in hidden for it in functions if not it.is_read_above}
+        return [(it.private, it.closes + 1) if whole[it] else (it.opens, it.closes) for it in whole]
+
+    named = hidden
+    while named:
+        # (one that is named may name others)
+        shown = {it.word for _, rows, functions in files for it in _outside(rows, parts(functions))}
+        named = hidden & {name for word in shown for name in re.findall(r"\w+", word)}
+        hidden = hidden - named
+    return [parts(functions) for _, _, functions in files]
+
+
+def _outside(rows, parts):
+    """Yields the tokens that lie outside the parts, which are given in order as pairs of places."""
+    parts = iter(parts)
+    opens, closes = next(parts, (None, None))
     for it in rows:
         while opens is not None and it.start >= closes:
-            opens, closes = next(bodies, (None, None))
+            opens, closes = next(parts, (None, None))
         if opens is None or it.start < opens:
-            column = f"{it.start - text.rfind(NEWLINE, 0, it.start)} " if it.kind == "Antt" and it.line != line else ""
-            kept.append(f"{column}{it.kind} {it.word}")
-        line = it.line
-    return "\n".join(kept)
+            yield it
+
+
+def _words_outside(file, rows, parts):
+    """Returns the words of a file's tokens, less those inside the parts. A word of antt that begins a line stands behind its column, since antt reads
+    that too."""
+    text = Path(file).read_bytes()
+    begins = {it.start for it, before in zip(rows, [None, *rows]) if it.kind == "Antt" and (before is None or it.line != before.line)}
+    columns = {it: f"{it - text.rfind(NEWLINE, 0, it)} " for it in begins}
+    return "\n".join(f"{columns.get(it.start, '')}{it.kind} {it.word}" for it in _outside(rows, parts))
 
 
 def _hash(crate, shown):
@@ -83,7 +111,7 @@ def _hash(crate, shown):
     below = [(it.name, it.said["deps"], shown[it.name].stated) for it in sorted(crate.below(), key=lambda it: it.name)]
     # (of the crates below alone: which others are asked about counts for nothing)
     lemmas = _lemmas([text for _, _, text in own] + [text for _, _, files in below for _, text in files], {it.name: shown[it.name] for it in crate.below()})
-    return hashlib.sha256(repr((identity(), crate.said["deps"], own, edits, below, lemmas)).encode()).hexdigest()
+    return hashlib.sha256(repr((logic(), crate.said["deps"], own, edits, below, lemmas)).encode()).hexdigest()
 
 
 def _own(folder):

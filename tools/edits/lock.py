@@ -1,29 +1,38 @@
-"""The file in the tree that keeps, for each crate whose edits were all refused, how many they are and the hash that their verdicts rest on."""
+"""The file in the tree that keeps, for each crate whose edits were all refused, how many they are, the hash that their verdicts rest on, and the kit
+that judged them."""
+import collections
 import fcntl
 import os
 from pathlib import Path
 
+from . import kit
 from .hashes import count_of
 
 FILE = "refused.lock"
-HEAD = """# For each crate whose edits the prover refused, all of them: how many they are, and the hash of all that the verdicts rest on.
-# tools/refused alone writes this file.
+HEAD = """# For each crate whose edits the prover refused, all of them: how many they are, the hash of all that the verdicts rest on, and the kit that
+# judged them. tools/refused alone writes this file.
 """
+
+# A crate's line. `rests` are the number of its edits and the hash.
+Line = collections.namedtuple("Line", "rests kit")
 
 
 def kept():
-    """Returns what the lock has: for each crate the number of its edits and the hash."""
+    """Returns the line of each crate that the lock has, by name."""
     text = Path(FILE).read_text(encoding="utf-8") if os.path.isfile(FILE) else ""
     rows = [line.split() for line in text.splitlines() if line and not line.startswith("#")]
-    return {name: (int(count), digest) for name, count, digest in rows}
+    # (what isn't in this form tells nothing)
+    return {row[0]: Line((int(row[1]), row[2]), row[3]) for row in rows if len(row) == 4}
 
 
 def write(crates, found):
-    """Gives these crates their lines in the lock, and takes out the lines of those that have no edits any more."""
+    """Gives these crates, each with the number of its edits and the hash, their lines in the lock, judged by the kit that is here, and takes out the
+    lines of those that have no edits any more."""
     with open(FILE, "a+", encoding="utf-8") as file:
         # (two runs may end at one time)
         fcntl.flock(file, fcntl.LOCK_EX)
-        rows = {**kept(), **found}
-        lines = [f"{it} {count} {digest}\n" for it, (count, digest) in sorted(rows.items()) if it in crates and count_of(crates[it].folder)]
+        rows = {**kept(), **{it: Line(rests, kit.name()) for it, rests in found.items()}}
+        there = {it: line for it, line in sorted(rows.items()) if it in crates and count_of(crates[it].folder)}
+        lines = [f"{it} {rests[0]} {rests[1]} {by}\n" for it, (rests, by) in there.items()]
         file.truncate(0)
         file.write(HEAD + "".join(lines))

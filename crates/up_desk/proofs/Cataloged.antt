@@ -27,7 +27,7 @@ use Rattle.up_machine.specs.State.{State, Vehicle}
 use Rattle.up_store.specs.Found.{values_where}
 use Rattle.up_desk.specs.Gathered.{gathered, item_files, report_files}
 use Rattle.up_desk.specs.Serving.{is_lost, IsAnswered, outcome_due}
-use Rattle.up_desk.specs.Standing.{IsOf, Fits, IsLoaded, StillFits, keeps_catalog, kept_for}
+use Rattle.up_desk.specs.Standing.{IsOf, Fits, IsLoaded, StaysLoaded, StillFits, keeps_catalog, kept_for}
 use Rattle.up_desk.specs.declared.catalog.Catalog.{Catalog}
 use Rattle.up_desk.proofs.LookedUp.{images_planned}
 use Rattle.up_desk.proofs.Serving.{next_is}
@@ -168,3 +168,13 @@ loaded_fits s (Some c) h = h
 pub there_loaded : (s : State) (catalog : Option Catalog) → is_some catalog ≡ true → Fits s catalog → IsLoaded s catalog
 there_loaded s None there h = cc
 there_loaded s (Some c) there h = h
+
+-- what is kept stays where nothing is done
+pub stays : (o : Option Catalog) → StaysLoaded o o
+stays None = tt
+stays (Some c) = refl
+
+-- and where there was nothing
+pub loaded_anew : (o new : Option Catalog) → is_some o ≡ false → StaysLoaded o new
+loaded_anew None new none = tt
+loaded_anew (Some c) new none = absurd (let no : true ≡ false = none in cc)

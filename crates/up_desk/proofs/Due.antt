@@ -14,7 +14,7 @@ use Rattle.up_machine.specs.Repositories.{decide_new_image}
 use Rattle.up_machine.specs.Decisions.{IsDone, GivesRows, GivesDecision}
 use Rattle.up_machine.specs.Due.{HasFounding, GivesNewImage}
 use Rattle.up_desk.specs.Serving.{is_store, is_lost_by, GivesOrLost}
-use Rattle.up_desk.specs.Making.{MadeOrLost}
+use Rattle.up_desk.specs.NewMetadata.{MetadataOrLost}
 use Rattle.up_desk.proofs.Steps.{lost_as}
 
 by_store : (b : Bool) {X : Type 0} → X → MatchBool b ⊤ X
@@ -24,7 +24,7 @@ by_store false h = h
 -- ---- what is due, and its rows
 
 pub rows_made : {D R : Type 0} (due : D → Type 0) (has : R → Type 0) (next : State) (new : D) (result : Result R Refusal) (computed : Result Outcome Refusal)
-    → IsDone due next new computed → (due new → MadeOrLost has result) → GivesOrLost (GivesRows has next) result computed
+    → IsDone due next new computed → (due new → MetadataOrLost has result) → GivesOrLost (GivesRows has next) result computed
 rows_made due has next new (Ok rows) computed is made = (is.0, made is.1)
 rows_made due has next new (Err r) computed is made = lost_as (is_lost_by r) (computed ≡ Err r) (made is.1)
 

@@ -1,7 +1,7 @@
 pub mod Gathered
 pub mod Serving
 pub mod Standing
-pub mod Making
+pub mod NewMetadata
 pub mod Delivering
 pub mod Calls
 pub mod Runs

@@ -1,6 +1,6 @@
 -- What a desk stands on: the connection to its tables, and what it keeps of them in memory. The tables show a state to a desk where they
 -- show it, and what the desk keeps is of that state. A new desk keeps nothing, so to it they show what they show.
-use Rattle.std.specs.Prelude.{◌≡◌, ⊤, Bool, true, false, MatchBool, if◌then◌else◌, Option, Some, None, Result, IsTrue}
+use Rattle.std.specs.Prelude.{◌≡◌, ⊤, Bool, true, false, MatchBool, if◌then◌else◌, Option, Some, None, Result, IfSome, IsTrue}
 use Rattle.sqlite.specs.Held.{Held}
 use Rattle.sqlite.specs.Held as holding
 use Rattle.sqlite.specs.State.{State as Connected}
@@ -33,6 +33,10 @@ pub record IsOf (s : State) (c : Catalog) : Type 0 where
 abbrev pub Fits : State → Option Catalog → Type 0
 Fits s None = ⊤
 Fits s (Some c) = IsOf s c
+
+-- what is kept stays as it is, whatever is answered; it may be loaded where nothing is
+abbrev pub StaysLoaded : Option Catalog → Option Catalog → Type 0
+StaysLoaded old new = IfSome old (λ c. new ≡ Some c)
 
 -- nothing is kept before founding
 abbrev pub IsLoaded : State → Option Catalog → Type 0

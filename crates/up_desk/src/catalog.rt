@@ -9,7 +9,7 @@ ghost use Rattle.up_machine.specs.State.{State};
 ghost use Rattle.up_store.specs.Connections.{KeepsState};
 ghost use Rattle.up_tables.specs.Stands.{IfClean};
 ghost use Rattle.up_desk.specs.Serving.{Reads};
-ghost use Rattle.up_desk.specs.Standing.{CanDecide, Fits, IsLoaded, kept_for, keeps_catalog as keeps_catalog_in};
+ghost use Rattle.up_desk.specs.Standing.{CanDecide, Fits, IsLoaded, StaysLoaded, kept_for, keeps_catalog as keeps_catalog_in};
 
 use crate::reads::read_founding;
 use sqlite::Alter;
@@ -63,6 +63,7 @@ pub(crate) fn load<K: Scheme, D: Alter>(
     ensures can { IfSome catalog.new (CanDecide (K.rules scheme.now)) }
     ensures fits { HasCleanDisk (state D.Store store.new) → (k : Rules) (s : State) → IfClean (KeepsState k s) (state D.Store store.old) → Fits s catalog.old → Fits s catalog.new }
     ensures loaded { HasCleanDisk (state D.Store store.new) → OnOk result ((k : Rules) (s : State) → IfClean (KeepsState k s) (state D.Store store.old) → Fits s catalog.old → IsLoaded s catalog.new) }
+    ensures kept { StaysLoaded catalog.old catalog.new }
     ensures reads { Reads (state D.Store store.old) (state D.Store store.new) }
 {
     if catalog.is_some() {

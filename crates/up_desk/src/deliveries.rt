@@ -21,7 +21,7 @@ ghost use Rattle.up_store.specs.Connections.{KeepsState};
 ghost use Rattle.up_tables.specs.Stands.{IfClean};
 ghost use Rattle.up_desk.specs.Delivering.{Decides, IsKnown, IsSent};
 ghost use Rattle.up_desk.specs.Serving.{Reads, Serves};
-ghost use Rattle.up_desk.specs.Standing.{CanDecide, Fits, IsLoaded};
+ghost use Rattle.up_desk.specs.Standing.{CanDecide, Fits, IsLoaded, StaysLoaded};
 
 use crate::catalog::{Catalog, load};
 use crate::faults::{refusal_of, replied};
@@ -61,6 +61,7 @@ pub fn deliver<K: Scheme, D: Alter>(
         → Serves (K.rules scheme.now) s (state D.Store store.old) (state D.Store store.new) result
         (and_then (incoming_in body.now) (decide_incoming (K.rules scheme.now) s at)) }
     ensures fits { HasCleanDisk (state D.Store store.new) → (k : Rules) (s : State) → IfClean (KeepsState k s) (state D.Store store.old) → Fits s catalog.old → Fits s catalog.new }
+    ensures kept { StaysLoaded catalog.old catalog.new }
     ensures can { IfSome catalog.new (CanDecide (K.rules scheme.now)) }
 {
     match read_manifest(alloc, body.as_slice()) {
@@ -84,6 +85,7 @@ fn receive<K: Scheme, D: Alter>(
     ensures serves { (s : State) → IsSound (K.rules scheme.now) s → IfClean (KeepsState (K.rules scheme.now) s) (state D.Store store.old) → (HasCleanDisk (state D.Store store.old) → Fits s catalog.old)
         → Serves (K.rules scheme.now) s (state D.Store store.old) (state D.Store store.new) result (decide_incoming (K.rules scheme.now) s at incoming.now) }
     ensures fits { HasCleanDisk (state D.Store store.new) → (k : Rules) (s : State) → IfClean (KeepsState k s) (state D.Store store.old) → Fits s catalog.old → Fits s catalog.new }
+    ensures kept { StaysLoaded catalog.old catalog.new }
     ensures can { IfSome catalog.new (CanDecide (K.rules scheme.now)) }
 {
     match load(store, catalog, alloc, scheme) {

@@ -14,7 +14,7 @@ ghost use Rattle.up_machine.specs.State.{State};
 ghost use Rattle.up_store.specs.Connections.{KeepsState};
 ghost use Rattle.up_tables.specs.Stands.{IfClean};
 ghost use Rattle.up_desk.specs.Serving.{GivesOrLost, Reads, Serves};
-ghost use Rattle.up_desk.specs.Making.{MadeOrLost};
+ghost use Rattle.up_desk.specs.NewMetadata.{MetadataOrLost};
 
 use crate::faults::{done_of, refusal_of};
 use crate::reads::read_founding;
@@ -214,7 +214,7 @@ fn make_rows<K: Scheme, D: Alter>(
 ) -> Result<RegisterRows, Refusal>
     requires { CanMakeFiles (K.rules scheme.now) founding }
     ensures made { HasCleanDisk (state D.Store store.new) → (s next : State) → IfClean (KeepsState (K.rules scheme.now) s) (state D.Store store.old)
-        → HasFounding next founding → next.images ≡ s.images → MadeOrLost (HasRegisterRows (K.rules scheme.now) next) result }
+        → HasFounding next founding → next.images ≡ s.images → MetadataOrLost (HasRegisterRows (K.rules scheme.now) next) result }
     ensures reads { Reads (state D.Store store.old) (state D.Store store.new) }
 {
     match store.images(alloc) {

@@ -13,7 +13,7 @@ ghost use Rattle.up_machine.specs.State.{State};
 ghost use Rattle.up_store.specs.Connections.{KeepsState};
 ghost use Rattle.up_tables.specs.Stands.{IfClean};
 ghost use Rattle.up_desk.specs.Serving.{GivesOrLost, Reads, Serves};
-ghost use Rattle.up_desk.specs.Making.{MadeOrLost};
+ghost use Rattle.up_desk.specs.NewMetadata.{MetadataOrLost};
 
 use crate::faults::{done_of, refusal_of};
 use crate::reads::{is_founded, read_founding};
@@ -164,7 +164,7 @@ fn make_rows<K: Scheme, D: Alter>(
 ) -> Result<RootRows, Refusal>
     requires { CanMakeRoot (K.rules scheme.now) at keys.now new.now }
     ensures made { HasCleanDisk (state D.Store store.new) → (s next : State) → IfClean (KeepsState (K.rules scheme.now) s) (state D.Store store.old)
-        → HasRoot next at keys.now new.now → next.images ≡ s.images → MadeOrLost (HasRootRows (K.rules scheme.now) next) result }
+        → HasRoot next at keys.now new.now → next.images ≡ s.images → MetadataOrLost (HasRootRows (K.rules scheme.now) next) result }
     ensures reads { Reads (state D.Store store.old) (state D.Store store.new) }
 {
     match store.images(alloc) {

@@ -14,15 +14,15 @@ use Rattle.up_desk.specs.Serving.{outright}
 use Rattle.up_service.specs.Answers.{AnswersAs, answered_as}
 
 -- a reply's or a file's text is the body
-abbrev pub found_response : List ℕ → Bool → Bool → List ℕ
-found_response text last head = response_of 200 None last head text
+abbrev pub ok_response : List ℕ → Bool → Bool → List ℕ
+ok_response text last head = response_of 200 None last head text
 
 -- the response to what a desk answers; what is done, or was done already, has no text
 unfoldable pub answer_response : Answer → Bool → Bool → List ℕ
-answer_response Done last head = found_response [] last head
-answer_response Already last head = found_response [] last head
-answer_response (Reply r) last head = found_response r.text last head
-answer_response (File text) last head = found_response text last head
+answer_response Done last head = ok_response [] last head
+answer_response Already last head = ok_response [] last head
+answer_response (Reply r) last head = ok_response r.text last head
+answer_response (File text) last head = ok_response text last head
 answer_response (Refused r) last head = refusal_response_of r last head
 
 -- a command is served at the moment, or its response is that of a refusal for want of memory or by the database

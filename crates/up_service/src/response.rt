@@ -3,7 +3,7 @@ ghost use Rattle.std.specs.Prelude.{◌≡◌, List, ℕ, IsTrue, IfOk, OnErr, s
 ghost use Rattle.up_machine.specs.Commands.{opens_running};
 ghost use Rattle.up_http.specs.Requests.{asks_running};
 ghost use Rattle.up_http.specs.declared.asked.What.TheVariants.{Call};
-ghost use Rattle.up_service.specs.Responses.{Responses, IsResponseTo, answer_response as answer_response_of, found_response};
+ghost use Rattle.up_service.specs.Responses.{Responses, IsResponseTo, answer_response as answer_response_of, ok_response};
 
 use http::StatusCode;
 use sqlite::Alter;
@@ -94,7 +94,7 @@ fn answer_response(
 
 /// The response with a reply's or a file's text.
 fn ok_response(alloc: Global, text: &str, last: bool, head: bool) -> Result<String, AllocError>
-    ensures { IfOk result (λ t. string_bytes t ≡ found_response text.now last head) }
+    ensures { IfOk result (λ t. string_bytes t ≡ ok_response text.now last head) }
 {
     response_text(alloc, StatusCode::OK, None, last, head, text)
 }

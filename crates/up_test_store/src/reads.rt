@@ -1,4 +1,4 @@
-//! The twelve reads by their words, each told as a line of text.
+//! The thirteen reads by their words, each told as a line of text.
 use crate::campaigns::{campaign_text, campaigns_text};
 use crate::fault::Fault;
 use crate::images::{image_text, images_text};
@@ -16,8 +16,8 @@ use up_plan::campaign::Campaign;
 use up_roles::repository::Repository;
 use up_store::store::{Store, StoreFault};
 
-/// What a read answers: `founding`, `founded`, `file REPOSITORY NAME`, `image FILE`, `images`, `campaign NAME`, `campaigns VEHICLE`,
-/// `vehicle VEHICLE`, `ecus VEHICLE`, `owner ECU`, `kept VEHICLE COUNTER` or `latest VEHICLE`.
+/// What a read answers: `founding`, `founded`, `file REPOSITORY NAME`, `image FILE`, `images`, `running`, `campaign NAME`,
+/// `campaigns VEHICLE`, `vehicle VEHICLE`, `ecus VEHICLE`, `owner ECU`, `kept VEHICLE COUNTER` or `latest VEHICLE`.
 pub(crate) fn read<S: Alter>(
     alloc: Global,
     store: &mut Store<S>,
@@ -30,6 +30,7 @@ pub(crate) fn read<S: Alter>(
         "file" => file(alloc, store, rest),
         "image" => image(alloc, store, rest),
         "images" => images(alloc, store),
+        "running" => running(alloc, store),
         "kept" => kept(alloc, store, rest),
         _ => read_of_name(alloc, store, word, rest),
     }
@@ -133,6 +134,13 @@ fn image_of<S: Alter>(
 fn images<S: Alter>(alloc: Global, store: &mut Store<S>) -> Result<String, Fault> {
     match store.images(alloc) {
         Ok(found) => listed(images_text(alloc, found.values())),
+        Err(fault) => Err(Fault::from(fault)),
+    }
+}
+
+fn running<S: Alter>(alloc: Global, store: &mut Store<S>) -> Result<String, Fault> {
+    match store.running(alloc) {
+        Ok(found) => listed(campaigns_text(alloc, found.values())),
         Err(fault) => Err(Fault::from(fault)),
     }
 }

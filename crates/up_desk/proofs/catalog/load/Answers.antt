@@ -1,6 +1,6 @@
 use Rattle.std.proofs.Common.{sym, ◌∙◌}
 use Rattle.sqlite.specs.Held.{state}
-use Rattle.up_desk.proofs.Cataloged.{loaded_fits, there_loaded}
+use Rattle.up_desk.proofs.Cataloged.{loaded_anew, loaded_fits, stays, there_loaded}
 use Rattle.up_desk.proofs.Steps.{reads_none}
 use Rattle.up_desk.proofs.catalog.load.Goals as goal
 
@@ -15,3 +15,12 @@ returns-in-Ok-clause-loaded g c = λ clean k s was fits. c.in-Ok.ensures.told cl
 
 pub returns-then-is_some-clause-reads : goal.returns-then-is_some-clause-reads
 returns-then-is_some-clause-reads g c = reads_none (state g.D.Store c.args.store.now)
+
+pub returns-then-is_some-clause-kept : goal.returns-then-is_some-clause-kept
+returns-then-is_some-clause-kept g c = stays c.args.catalog.now
+
+pub returns-in-Ok-clause-kept : goal.returns-in-Ok-clause-kept
+returns-in-Ok-clause-kept g c = loaded_anew c.args.catalog.now c.in-Ok.read (sym c.is_some.ensures ∙ c.if-is_some.false)
+
+pub returns-in-Err-clause-kept : goal.returns-in-Err-clause-kept
+returns-in-Err-clause-kept g c = stays c.args.catalog.now

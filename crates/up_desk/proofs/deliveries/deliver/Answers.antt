@@ -6,6 +6,7 @@ use Rattle.up_canon.proofs.Steps.{bind-ok}
 use Rattle.up_manifest.specs.Manifests.{incoming_in}
 use Rattle.up_machine.specs.Decisions.{decide_incoming}
 use Rattle.up_desk.specs.Serving.{Serves}
+use Rattle.up_desk.proofs.Cataloged.{stays}
 use Rattle.up_desk.proofs.Serving.{stopped_or_lost}
 use Rattle.up_desk.proofs.Steps.{refused, reads_none}
 use Rattle.up_desk.proofs.deliveries.deliver.Goals as goal
@@ -24,3 +25,6 @@ returns-in-Err-clause-serves g c = λ s sound was kept.
 
 pub returns-in-Err-clause-fits : goal.returns-in-Err-clause-fits
 returns-in-Err-clause-fits g c = λ clean k s was fits. fits
+
+pub returns-in-Err-clause-kept : goal.returns-in-Err-clause-kept
+returns-in-Err-clause-kept g c = stays c.args.catalog.now

@@ -1,7 +1,7 @@
 use Rattle.std.proofs.Common.{◌≡◌, inl, rules}
 use Rattle.sqlite.specs.Held.{state}
 use Rattle.up_tables.specs.declared.open.OpenFault.TheVariants.{NotOurs}
-use Rattle.up_file.proofs.Taken.{ok_after, err_after, taken_after, raised_taken}
+use Rattle.up_file.proofs.Adopted.{ok_after, err_after, taken_after, raised_taken}
 use Rattle.up_file.proofs.adopting.adopt_or_create.Goals as goal
 
 pub returns-in-Ok-clause-crash : goal.returns-in-Ok-clause-crash

@@ -4,6 +4,6 @@ use Rattle.up_canon.specs.declared.refusal.Refusal.{Refusal}
 use Rattle.up_desk.specs.Serving.{is_lost_by}
 
 -- it is made, unless memory or the database refused
-abbrev pub MadeOrLost : {R : Type 0} → (R → Type 0) → Result R Refusal → Type 0
-MadeOrLost has (Ok rows) = has rows
-MadeOrLost has (Err r) = is_lost_by r ≡ true
+abbrev pub MetadataOrLost : {R : Type 0} → (R → Type 0) → Result R Refusal → Type 0
+MetadataOrLost has (Ok rows) = has rows
+MetadataOrLost has (Err r) = is_lost_by r ≡ true

@@ -14,9 +14,9 @@ KeepsOn old new = (version : SchemaVersion) (rows : StateRows) → IfClean (Keep
 
 -- It named this product and shows the rows that it had; or it had no tables, of this product or another, and now has those of this product, which
 -- show that nothing is founded.
-abbrev pub IsTaken : State → State → Type 0
-IsTaken old new = (NamesUs old × KeepsOn old new) ⊎ (NamesOthers old × HasNoTables old × KeepsRows no_rows new)
+abbrev pub IsAdopted : State → State → Type 0
+IsAdopted old new = (NamesUs old × KeepsOn old new) ⊎ (NamesOthers old × HasNoTables old × KeepsRows no_rows new)
 
 -- what a crash may leave of a database that is being taken: tables that were raised, or made where there were none
-abbrev pub TakenIn : State → Trees → Type 0
-TakenIn old trees = RaisedRows old trees ⊎ MadeIn old trees
+abbrev pub AdoptedIn : State → Trees → Type 0
+AdoptedIn old trees = RaisedRows old trees ⊎ MadeIn old trees
