@@ -8,8 +8,8 @@
     speed.py PROGRAM lines          lines a second over a file, as a ratio to the same script over memory
     speed.py PROGRAM growth         how a manifest's time grows with kept replies, images, campaigns that run or are closed, vehicles
     speed.py PROGRAM growth_counts  the same in instructions, over files
-    speed.py PROGRAM senders        instructions of a fresh, a repeated, a stale and a forged manifest of 4 ECUs, over files with so many
-                                    campaigns and images, behind a first manifest
+    speed.py PROGRAM senders        instructions of a repeated, a stale, a forged and a new manifest of 4 ECUs, over memory and files with
+                                    so many campaigns and images, behind a first manifest
     speed.py PROGRAM loading        what the first manifest behind a start takes more, over such files, and what stays in memory
     speed.py PROGRAM start          processor seconds and memory of a start over files of so many kept replies
     speed.py PROGRAM sums           instructions of a start and of a manifest over files with and without sums of pages
@@ -30,6 +30,7 @@ import sys
 import threading
 import time
 from contextlib import closing
+from pathlib import Path
 
 sys.dont_write_bytecode = True
 
@@ -276,19 +277,26 @@ def growth(program, _):
         print("| %s | %.0f |" % (name, cost(program, [*prepared(**words), *first[:100]], first[100:])), flush=True)
 
 
-def alone(program, path, script, before=(), answered=b"reply "):
-    """The instructions that a line takes behind a start over a file and the lines before, which callgrind leaves out."""
-    told = path.parent / "told"
+def in_turn(program, path, own, before, kinds):
+    """The instructions that a line of each kind takes, behind the lines before, which callgrind leaves out."""
+    told, taken = own / "turn", []
     words = [*callgrind(told, "--instr-atstart=no"), str(program), "run", str(path)]
-    with subprocess.Popen(words, stdin=subprocess.PIPE, stdout=subprocess.PIPE, stderr=subprocess.PIPE) as it:
+    with subprocess.Popen(words, stdin=subprocess.PIPE, stdout=subprocess.PIPE, stderr=subprocess.DEVNULL) as it:
         asked(it, [fleet.line("show", vehicle="v000000"), *before])
-        subprocess.run(["callgrind_control", "-i", "on", str(it.pid)], capture_output=True, check=True)
-        answers = asked(it, script)
-        subprocess.run(["callgrind_control", "-i", "off", str(it.pid)], capture_output=True, check=True)
-        it.stdin.close()
-        taken = collected(it.stderr.read())
-    assert all(answer.startswith(answered) for answer in answers)
-    return taken // len(script)
+        for number, (script, answered) in enumerate(kinds, 1):
+            for word in ("on", "off"):
+                subprocess.run(["callgrind_control", "-i", word, str(it.pid)], capture_output=True, check=True)
+                answers = asked(it, script) if word == "on" else answers
+            subprocess.run(["callgrind_control", "-d", str(it.pid)], capture_output=True, check=True)
+            assert all(answer.startswith(answered) for answer in answers)
+            totals = re.search(r"^totals: (\d+)", Path("%s.%d" % (told, number)).read_text("utf-8", "replace"), re.M)
+            taken.append(int(totals[1]) // len(script))
+    return taken
+
+
+def alone(program, path, script, before=()):
+    """The instructions that a manifest takes behind a start over a file and the lines before, which callgrind leaves out."""
+    return in_turn(program, path, path.parent, before, [(script, b"reply ")])[0]
 
 
 def kept_replies(program, path, there, kept, ecus=1):
@@ -337,18 +345,14 @@ FILES = {
 
 
 def senders(program, own, lines=100):
-    """Counters 1 and 3 are accepted first, so that 2 is stale and 4 is fresh."""
+    """Counters 1 and 3 are accepted first, so that 2 is stale and 4 is new, which comes last."""
     told = [list(manifests(100, lines, counter, 4)) for counter in (1, 2, 3, 4)]
-    signed = [forged(line) for line in told[3]]
-    kinds = {"fresh": (told[3], b"reply "), "repeat": (told[0], b"reply "),
-             "stale": (told[1], b"refused 13 "), "forged": (signed, b"refused 12 ")}
+    kinds = [(told[0], b"reply "), (told[1], b"refused 13 "), ([forged(line) for line in told[3]], b"refused 12 "), (told[3], b"reply ")]
     for name, words in FILES.items():
-        path = own / name
-        assert trials.printed(program, path, [*prepared(**words), *told[0], *told[2]], 3600) is not None
-        taken = []
-        for script, answered in kinds.values():
-            taken.append(alone(program, trials.copied(path, own / "next"), script, told[0][:1], answered))
-        print("| %s | %s |" % (name, " | ".join(map(str, taken))), flush=True)
+        before = [*prepared(**words), *told[0], *told[2]]
+        print("| %s | %d | %d | %d | %d |" % (name, *in_turn(program, ":memory:", own, before, kinds)), flush=True)
+        assert trials.printed(program, own / name, before, 3600) is not None
+        print("| the same over a file | %d | %d | %d | %d |" % tuple(in_turn(program, own / name, own, told[0][:1], kinds)), flush=True)
 
 
 def loading(program, own):
