@@ -356,28 +356,33 @@ def senders(program, own, lines=100):
 
 
 def loading(program, own):
-    """A repeat behind a start, less the same once more; and the peaks of memory of a start without it and with it."""
+    """A repeat behind a start, less the same once more, and how much more memory there is behind it."""
     first = list(manifests(100, 1, 1, 4))
-    (own / "first").write_text(first[0] + "\n", encoding="ascii")
     wide = {"128 images of the greatest size": ONE | {"images": 128, "is_great": True},
             "200 campaigns for 1,000 vehicles each": ONE | {"vehicles": 1100, "campaigns": 200, "reach": MANY}}
     for name, words in (FILES | wide).items():
         path = own / name
         assert trials.printed(program, path, [*prepared(**words), *first], 3600) is not None
-        whole = alone(program, trials.copied(path, own / "next"), first)
-        again = alone(program, trials.copied(path, own / "next"), first, first)
-        _, begun = used([program, "run", str(trials.copied(path, own / "next"))])
-        with open(own / "first", "rb") as given:
-            _, loaded = used([program, "run", str(trials.copied(path, own / "next"))], given)
-        print("| %s | %d | %d MB | %d MB |" % (name, whole - again, begun, loaded), flush=True)
+        whole, again = (alone(program, trials.copied(path, own / "next"), first, before) for before in ((), first))
+        with subprocess.Popen([program, "run", str(path)], stdin=subprocess.PIPE, stdout=subprocess.PIPE) as it:
+            taken = [(asked(it, lines), memory(it.pid, "VmRSS"))[1] for lines in (["nothing"], first)]
+            it.stdin.close()
+        print("| %s | %d | %d kB |" % (name, whole - again, taken[1] - taken[0]), flush=True)
 
 
-def used(words, given=subprocess.DEVNULL):
-    """The processor seconds that a program takes, and its peak memory in MB."""
-    it = subprocess.Popen(words, stdin=given, stdout=subprocess.DEVNULL)
-    _, status, usage = os.wait4(it.pid, 0)
-    assert status == 0
-    return usage.ru_utime + usage.ru_stime, usage.ru_maxrss >> 10
+def memory(pid, name):
+    """The kB of memory that a program takes (VmRSS), or took at most (VmHWM)."""
+    with open("/proc/%d/status" % pid, encoding="ascii") as told:
+        return next(int(line.split()[1]) for line in told if line.startswith(name + ":"))
+
+
+def used(program, path):
+    """The processor seconds that a start over a file takes, and its peak of memory in MB."""
+    with subprocess.Popen([program, "run", str(path)], stdin=subprocess.PIPE, stdout=subprocess.PIPE) as it:
+        asked(it, ["nothing"])
+        took, peak = processor(it.pid) / 1e6, memory(it.pid, "VmHWM")
+        it.stdin.close()
+    return took, peak >> 10
 
 
 def start(program, own, most=MOST):
@@ -386,8 +391,7 @@ def start(program, own, most=MOST):
         trials.printed(program, path, prepared(100, 10, 10, ecus))
         for kept in [it for it in (1000, 10_000, 100_000) if it <= most]:
             there = kept_replies(program, path, there, kept, ecus)
-            took, memory = used([program, "run", str(path)])
-            words = kept, ecus, os.stat(path).st_size >> 20, took, memory
+            words = kept, ecus, os.stat(path).st_size >> 20, *used(program, path)
             print("| %d of %d | %d MB | %.2f | %d MB |" % words, flush=True)
 
 
