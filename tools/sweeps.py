@@ -127,7 +127,7 @@ class Begun(Row):
     def __init__(self, program, name, own, is_given_again=False):
         super().__init__(name, own)
         at = next(at for at, line in enumerate(self.lines) if '"bench"' in line)
-        done, self.begun = at + is_given_again, own / ("before " + name)
+        done, self.begun = at + is_given_again, own / ("%s before %s" % (type(self).__name__, name))
         assert trials.printed(program, self.begun, self.lines[:done]) == self.printed[:done]
         self.before, self.lines, self.printed = self.lines[:done], self.lines[at:], self.printed[at:]
         self.states = self.states[done : done + is_given_again] + self.states[done:]
