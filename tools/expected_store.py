@@ -48,6 +48,7 @@ REPLACEMENT = ("replace", "v a-v a-x hz 0c0c")
 
 # written a second time: a name, a version or a counter that is there already
 REFUSED = [
+    ("found", 1, 5, 5000, "director-6", "image-6", "targets-6 snapshot-6 timestamp-6"),
     ("rotate", 2, 5, 5000, "director-6", "image-6", "targets-6 snapshot-6 timestamp-6"),
     ("image", f"a.bin 1 {TWO} hw 9 - -", 2, 6, 5000, "targets-7 snapshot-7 timestamp-7"),
     ("vehicle", "v b-v 0 0", FRESH),

@@ -5,7 +5,7 @@
     speed.py PROGRAM functions      the five functions that take most of them, in the fleet of `fleets` that is first
     speed.py PROGRAM malloc         calls of malloc, calloc and realloc a line, of the same scripts
     speed.py PROGRAM commands       instructions and compressions of SHA-256 of a line of each kind
-    speed.py PROGRAM lines          lines a second over a file, as a ratio to the same script over memory
+    speed.py PROGRAM lines          lines for a second of a processor, over a file and over memory
     speed.py PROGRAM growth         how a manifest's time grows with kept replies, images, campaigns that run or are closed, vehicles
     speed.py PROGRAM growth_counts  the same in instructions, over files
     speed.py PROGRAM senders        instructions of a repeated, a stale, a forged and a new manifest of 4 ECUs, over memory and files with
@@ -13,7 +13,7 @@
     speed.py PROGRAM loading        what the first manifest behind a start takes more, over such files, and what stays in memory
     speed.py PROGRAM start          processor seconds and memory of a start over files of so many kept replies
     speed.py PROGRAM sums           instructions of a start and of a manifest over files with and without sums of pages
-    speed.py PROGRAM http           requests a second over a file, beside the same by script, and instructions
+    speed.py PROGRAM http           requests for a second of a processor, beside the same by script, and instructions
     speed.py PROGRAM head           instructions for a head of 16,384 bytes in one piece and a byte at a time
     speed.py PROGRAM bodies         instructions a byte to refuse bodies of 64 KiB and of 256 KiB, by their shape
 
@@ -165,18 +165,19 @@ def commands(program, own):
         print("| %s | %d | %d |" % (name, taken, blocks), flush=True)
 
 
-def seconds(program, path, script):
-    begun = time.perf_counter()
-    answers = trials.printed(program, path, script, 3600)
-    assert answers is not None and len(answers) == len(script)
-    return time.perf_counter() - begun
+def seconds(program, path, script, own):
+    """The processor seconds that a script takes. What a disk takes to synchronise isn't in them."""
+    given = own / "script of lines"
+    given.write_text("".join(line + "\n" for line in script), encoding="ascii")
+    with open(given, "rb") as lines:
+        return used([program, "run", str(path)], lines)[0]
 
 
 def lines(program, own):
     for name, words in FLEETS.items():
         script = list(fleet.script(**words))
-        memory = seconds(program, ":memory:", script)
-        file = seconds(program, own / name, script)
+        memory = seconds(program, ":memory:", script, own)
+        file = seconds(program, own / name, script, own)
         print("| %s | %d | %d | %.2f |" % (name, len(script) / file, len(script) / memory, memory / file))
 
 
@@ -443,16 +444,16 @@ def kinds(number):
 
 
 def rates(program, own, number=2000):
-    """Requests and lines a second of each kind, over files."""
+    """Requests and lines of each kind for a second of a processor, over files."""
     for name in ("served", "script"):
         trials.printed(program, own / name, prepared(100, 10, 10))
     for kind, (requests, lines) in kinds(number).items():
         with http_cases.served(program, own / "served", number // 100) as running:
-            begun = time.perf_counter()
+            begun = processor(running.pid)
             assert sent(running, requests)
-            took = time.perf_counter() - begun
+            took = (processor(running.pid) - begun) / 1_000_000
             assert http_cases.ended(running)
-        yield kind, number / took, number / seconds(program, own / "script", lines)
+        yield kind, number / took, number / seconds(program, own / "script", lines, own)
 
 
 def instructions(program, path, requests):

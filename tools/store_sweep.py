@@ -3,16 +3,24 @@
 
     store_sweep.py PROGRAM PLACE [EVERY [FIRST [LAST]]]
 
-PLACE is `memory` or `files` (on disks that are memory). The sections whose words begin with `each disk call refused` are carried
-out, one after another: each of the eight writes, and each of the thirteen reads after each; and databases of schema 1 and 2, which are
-taken, read and written. What is told has to be the same whichever call failed: a write or a raise that was refused changed nothing,
-or stands whole, and goes through when it is made again. Else the program has to end with a message, having told nothing.
+PLACE is `memory` or `files` (on disks that are memory). Only every EVERY-th (1) request is refused, from number FIRST (1) on. A word in place of
+FIRST draws one of the numbers 1 to EVERY, so that another part is tried each time.
+
+The sections whose words begin with `each disk call refused` are carried out: each of the nine writes, and each of the thirteen reads after each; and
+databases of schema 1 and 2, which are taken, read and written.
+What is told has to be the same whichever request was refused: a call that is answered `Memory` changed nothing, and goes through when it is made
+again. Over `memory` no disk can fail, and a call that is answered `Store` isn't made again: so want of memory that is told as `Store` is found.
+Else the program has to end with a message, having told nothing.
 """
-import os
 import pathlib
+import shutil
 import subprocess
 import sys
-import tempfile
+
+sys.dont_write_bytecode = True
+
+import sweeps
+import trials
 
 TOP = pathlib.Path(__file__).resolve().parents[1]
 
@@ -29,15 +37,15 @@ def carried_out(program, place, section, variables):
     return ran.returncode, ran.stdout, ran.stderr
 
 
-def swept(program, place, section, own, numbers):
-    """How many calls failed with something else told than without."""
-    mark, words = pathlib.Path(own) / "mark", section.split("\n")[0]
+def swept(program, place, section, library, numbers):
+    """How many runs told what they had to, and how many didn't."""
+    mark, words = library.parent / "mark", section.split("\n")[0]
     whole = carried_out(program, place, section, {})
     assert whole[0] == 0 and whole[1].startswith(f"{words}: ".encode()) and whole[1].count(b"\n") == 1, whole
     tries, ended, bad = 0, 0, 0
     for number in numbers:
         mark.unlink(missing_ok=True)
-        variables = {"LD_PRELOAD": f"{own}/failing.so", "FAIL_MARK": str(mark), "FAIL_ALLOC": str(number)}
+        variables = {"LD_PRELOAD": str(library), "FAIL_MARK": str(mark), "FAIL_ALLOC": str(number)}
         told = carried_out(program, place, section, variables)
         if not mark.exists():
             break
@@ -50,16 +58,19 @@ def swept(program, place, section, own, numbers):
     same = tries - ended - bad
     print(f"over {place}, {words}: {tries} calls failed in turn, to number {number}; ", end="")
     print(f"{same} told the same, {ended} ended with a message, {bad} otherwise", flush=True)
-    return bad
+    return tries - bad, bad + (tries == 0)
 
 
 def main(program, place, every="1", first="1", last="1000000000"):
-    program = str(pathlib.Path(program).resolve())
-    with tempfile.TemporaryDirectory() as own:
-        library = ["cc", "-shared", "-fPIC", "-O1", "-o", f"{own}/failing.so", str(TOP / "tools" / "failing.c"), "-ldl"]
-        subprocess.run(library, check=True)
-        numbers = range(int(first), int(last), int(every))
-        return sum([swept(program, place, section, own, numbers) for section in sections()]) > 0
+    if not shutil.which("cc"):
+        print("no C compiler, so no request for memory is refused")
+        return 0
+    program, numbers = str(pathlib.Path(program).resolve()), range(sweeps.drawn(first, int(every)), int(last), int(every))
+    with trials.folder() as own:
+        library = sweeps.built(own)
+        passed, failed = map(sum, zip(*[swept(program, place, section, library, numbers) for section in sections()]))
+    print("%d passed, %d failed" % (passed, failed))
+    return 1 if failed else 0
 
 
 if __name__ == "__main__":

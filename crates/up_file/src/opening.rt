@@ -6,6 +6,8 @@ ghost use Rattle.sqlite.specs.Start.{FindsIn};
 ghost use Rattle.sqlite.specs.State.{HasCleanDisk};
 ghost use Rattle.sqlite.specs.WalFiles.{image_at};
 ghost use Rattle.sqlite_store.specs.FileStore.{view};
+ghost use Rattle.up_tables.specs.Faults.{open_fault};
+ghost use Rattle.up_file.specs.NewFiles.{new_file_fault};
 ghost use Rattle.up_tables.specs.declared.open.OpenFault.TheVariants.{NotOurs};
 
 use sqlite::{Connection, Error, ErrorCode, FileFrom, FileStore, Start};
@@ -59,17 +61,27 @@ fn make_for_owner(rt: &HostRuntime, path: &str) -> Result<(), OpenFault>
         .open(rt, path);
     match made {
         Ok(_) => Ok(()),
-        Err(error) => match error.kind() {
-            io::ErrorKind::AlreadyExists => Ok(()),
-            io::ErrorKind::OutOfMemory => Err(OpenFault::Memory),
-            _ => Err(OpenFault::Store),
-        },
+        Err(error) => not_made(error.kind()),
     }
 }
 
-/// What is told of an error of the database where it is opened.
+/// What is told of an error where a file is made: one that is there already is no fault. `Memory` where memory was refused, else
+/// `Store`.
+fn not_made(kind: io::ErrorKind) -> Result<(), OpenFault>
+    ensures told { result ≡ new_file_fault kind }
+    ensures known { IfErr result (λ e. e ≢ NotOurs) }
+{
+    match kind {
+        io::ErrorKind::AlreadyExists => Ok(()),
+        io::ErrorKind::OutOfMemory => Err(OpenFault::Memory),
+        _ => Err(OpenFault::Store),
+    }
+}
+
+/// What is told of an error of the database where it is opened: `Memory` where memory was refused, else `Store`.
 fn opening_fault(error: Error) -> OpenFault
-    ensures { result ≢ NotOurs }
+    ensures told { result ≡ open_fault error }
+    ensures known { result ≢ NotOurs }
 {
     match error {
         Error::SqliteFailure(ErrorCode::OutOfMemory) => OpenFault::Memory,

@@ -1,6 +1,8 @@
 -- Lines, cut from bytes that come one after another.
-use Rattle.std.proofs.Common.{◌≡◌, ℕ, ◌==◌, ◌&&◌, ◌<◌, Bool, true, false, cond, not, ◌⊎◌, inl, inr, List, [], ◌∷◌, ◌++◌, length, refl, ap, sym, ◌∙◌, subst, arith}
+use Rattle.std.proofs.Common.{◌≡◌, ◌≢◌, ℕ, zero, suc, ◌+◌, ◌-◌, ◌≤◌, take, drop, get_or, take-append-drop, ◌==◌, ◌&&◌, ◌<◌, Bool, true, false, cond, not, ◌⊎◌, inl, inr, List, [], ◌∷◌, ◌++◌, length, refl, ap, sym, ◌∙◌, subst, arith}
 use Rattle.std.specs.List.{list_all}
+use Rattle.std.proofs.lemmas.Bool.{ne_eqb}
+use Rattle.std.proofs.lemmas.List.{take_all, take_rest, drop_more}
 use Rattle.up_lines.specs.Lines.{newline, begin_with, lines_of}
 use Rattle.up_lines.specs.Progress.{is_inside}
 
@@ -51,46 +53,74 @@ begins_one b (l ∷ ls) = record { rest = l; others = ls; is = refl }
 begins_more : (ended : Bool) (b : ℕ) (bs : List ℕ) (lines : List (List ℕ)) → Begins bs lines → Begins (b ∷ bs) (begin_with ended b lines)
 begins_more ended b bs lines h = record { rest = h.rest; others = h.others; is = ap (begin_with ended b) h.is }
 
--- whatever follows a line that is begun, it is a prefix of the first line
-pub lines-prefix : (line : List ℕ) (b : ℕ) (more : List ℕ) → list_all is_inside line ≡ true → is_inside b ≡ true → Begins (line ++ b ∷ []) (lines_of true (line ++ b ∷ more))
-lines-prefix [] b more h own = subst (Begins (b ∷ [])) (sym (lines-inside true b more own)) (begins_one b (lines_of true more))
-lines-prefix (c ∷ cs) b more h own =
-    let both = both_hold (is_inside c) (list_all is_inside cs) h in
-    subst (Begins (c ∷ cs ++ b ∷ [])) (sym (lines-inside true c (cs ++ b ∷ more) both.0)) (begins_more true c (cs ++ b ∷ []) _ (lines-prefix cs b more both.1 own))
+-- whatever follows bytes of a line's own, they are a prefix of the first line
+pub lines-prefix : (begun more : List ℕ) → list_all is_inside begun ≡ true → 0 < length begun → Begins begun (lines_of true (begun ++ more))
+lines-prefix [] more h some = absurd (omega arith)
+lines-prefix (b ∷ []) more h some = subst (Begins (b ∷ [])) (sym (lines-inside true b more (both_hold (is_inside b) true h).0)) (begins_one b (lines_of true more))
+lines-prefix (b ∷ c ∷ cs) more h some =
+    let both = both_hold (is_inside b) (list_all is_inside (c ∷ cs)) h in
+    subst (Begins (b ∷ c ∷ cs)) (sym (lines-inside true b (c ∷ cs ++ more) both.0)) (begins_more true b (c ∷ cs) _ (lines-prefix (c ∷ cs) more both.1 (omega arith)))
 
 begins_or_none : (b : ℕ) (lines : List (List ℕ)) → (begin_with false b lines ≡ []) ⊎ Begins (b ∷ []) (begin_with false b lines)
 begins_or_none b [] = inl refl
 begins_or_none b (l ∷ ls) = inr (record { rest = l; others = ls; is = refl })
 
 -- or there is none yet, where the line is never ended
-lines-prefix_whole : (line : List ℕ) (b : ℕ) (more : List ℕ) → list_all is_inside line ≡ true → is_inside b ≡ true
-    → (lines_of false (line ++ b ∷ more) ≡ []) ⊎ Begins (line ++ b ∷ []) (lines_of false (line ++ b ∷ more))
-lines-prefix_whole [] b more h own =
+lines-prefix_whole : (begun more : List ℕ) → list_all is_inside begun ≡ true → 0 < length begun → (lines_of false (begun ++ more) ≡ []) ⊎ Begins begun (lines_of false (begun ++ more))
+lines-prefix_whole [] more h some = absurd (omega arith)
+lines-prefix_whole (b ∷ []) more h some =
     let P : List (List ℕ) → Type 0 = λ l. (l ≡ []) ⊎ Begins (b ∷ []) l in
-    subst P (sym (lines-inside false b more own)) (begins_or_none b (lines_of false more))
-lines-prefix_whole (c ∷ cs) b more h own =
-    let both = both_hold (is_inside c) (list_all is_inside cs) h in
-    let P : List (List ℕ) → Type 0 = λ l. (l ≡ []) ⊎ Begins (c ∷ cs ++ b ∷ []) l in
-    subst P (sym (lines-inside false c (cs ++ b ∷ more) both.0))
-    (elim (lines-prefix_whole cs b more both.1 own) as (λ _. P (begin_with false c (lines_of false (cs ++ b ∷ more)))) [
-      | inl none ↦ inl (ap (begin_with false c) none)
-      | inr some ↦ inr (begins_more false c (cs ++ b ∷ []) _ some)
+    subst P (sym (lines-inside false b more (both_hold (is_inside b) true h).0)) (begins_or_none b (lines_of false more))
+lines-prefix_whole (b ∷ c ∷ cs) more h some =
+    let both = both_hold (is_inside b) (list_all is_inside (c ∷ cs)) h in
+    let P : List (List ℕ) → Type 0 = λ l. (l ≡ []) ⊎ Begins (b ∷ c ∷ cs) l in
+    subst P (sym (lines-inside false b (c ∷ cs ++ more) both.0))
+    (elim (lines-prefix_whole (c ∷ cs) more both.1 (omega arith)) as (λ _. P (begin_with false b (lines_of false (c ∷ cs ++ more)))) [
+      | inl none ↦ inl (ap (begin_with false b) none)
+      | inr some ↦ inr (begins_more false b (c ∷ cs) _ some)
     ])
 
 -- in both cases
-pub lines-begins : (ended : Bool) (line : List ℕ) (b : ℕ) (more : List ℕ) → list_all is_inside line ≡ true → is_inside b ≡ true
-    → (lines_of ended (line ++ b ∷ more) ≡ []) ⊎ Begins (line ++ b ∷ []) (lines_of ended (line ++ b ∷ more))
-lines-begins true line b more h own = inr (lines-prefix line b more h own)
-lines-begins false line b more h own = lines-prefix_whole line b more h own
+pub lines-begins : (ended : Bool) (begun more : List ℕ) → list_all is_inside begun ≡ true → 0 < length begun
+    → (lines_of ended (begun ++ more) ≡ []) ⊎ Begins begun (lines_of ended (begun ++ more))
+lines-begins true begun more h some = inr (lines-prefix begun more h some)
+lines-begins false begun more h some = lines-prefix_whole begun more h some
 
 begins_some : (b : ℕ) (lines : List (List ℕ)) → 0 < length (begin_with true b lines)
 begins_some b [] = omega arith
 begins_some b (l ∷ ls) = omega arith
 
 -- bytes at the end of an input are in some line
-pub lines-some : (b : ℕ) (bs : List ℕ) → 0 < length (lines_of true (b ∷ bs))
-lines-some b bs =
+pub lines-some : (bytes : List ℕ) → 0 < length bytes → 0 < length (lines_of true bytes)
+lines-some [] some = absurd (omega arith)
+lines-some (b ∷ bs) some =
     elim (b == newline) as (λ t. 0 < length (cond t ([] ∷ lines_of true bs) (begin_with true b (lines_of true bs)))) [
       | true ↦ omega arith
       | false ↦ begins_some b (lines_of true bs)
     ]
+
+-- a byte that is no newline is one of a line's own
+inside : (byte : ℕ) → byte ≢ newline → is_inside byte ≡ true
+inside byte h = ap not (ne_eqb byte newline h)
+
+all_inside : (bytes : List ℕ) (n : ℕ) → n ≤ length bytes → ((k : ℕ) → k < n → get_or bytes k 0 ≢ newline) → list_all is_inside (take n bytes) ≡ true
+all_inside [] zero within none = refl
+all_inside [] (suc n) within none = absurd (omega arith)
+all_inside (b ∷ bs) zero within none = refl
+all_inside (b ∷ bs) (suc n) within none =
+    ap (λ t. t && list_all is_inside (take n bs)) (inside b (none 0 (omega arith))) ∙ all_inside bs n (omega arith) (λ k below. none (suc k) (omega arith))
+
+-- bytes with no newline
+pub none_ends : (bytes : List ℕ) → ((k : ℕ) → k < length bytes → get_or bytes k 0 ≢ newline) → list_all is_inside bytes ≡ true
+none_ends bytes none = ap (list_all is_inside) (sym (take_all (length bytes) bytes (omega arith))) ∙ all_inside bytes (length bytes) (omega arith) none
+
+-- bytes, cut before and behind the first newline
+pub cut_at : (bytes : List ℕ) (at before behind : ℕ) → at < length bytes → get_or bytes at 0 ≡ newline → ((k : ℕ) → k < at → get_or bytes k 0 ≢ newline) → before ≡ at → behind ≡ at + 1
+    → (list_all is_inside (take before bytes) ≡ true) × (bytes ≡ take before bytes ++ newline ∷ take (length bytes - behind) (drop behind bytes))
+cut_at bytes at before behind below here none until from =
+    let Cut : ℕ → ℕ → Type 0 = λ i j. (list_all is_inside (take i bytes) ≡ true) × (bytes ≡ take i bytes ++ newline ∷ take (length bytes - j) (drop j bytes)) in
+    let rest : drop at bytes ≡ newline ∷ drop (at + 1) bytes = drop_more bytes at 0 below ∙ ap (λ b. b ∷ drop (at + 1) bytes) here in
+    subst (λ i. Cut i behind) (sym until) (subst (Cut at) (sym from) (
+      all_inside bytes at (omega arith) none,
+      sym (take-append-drop at bytes) ∙ ap (λ l. take at bytes ++ l) (rest ∙ ap (λ l. newline ∷ l) (sym (take_rest bytes (at + 1)))),
+    ))

@@ -1,19 +1,22 @@
 -- How far a run has come, step by step.
-use Rattle.std.proofs.Common.{◌≡◌, ◌&&◌, not, Result, Ok, Err, OnOk, IfErr, IsErrAnd, ℕ, ◌+◌, ◌<◌, true, List, [], ◌∷◌, ◌++◌, length, filter, ap, sym, ◌∙◌, subst, arith, append_assoc, append-nil, length-append}
+use Rattle.std.proofs.Common.{◌≡◌, ◌&&◌, Result, Ok, Err, OnOk, IfErr, IsErrAnd, ℕ, ◌+◌, ◌<◌, true, List, [], ◌∷◌, ◌++◌, length, filter, refl, ap, sym, ◌∙◌, subst, arith, append_assoc, append-nil, length-append}
 use Rattle.std.specs.List.{list_all}
 use Rattle.std.specs.Io.KnownBytes.{Appends}
 use Rattle.std.proofs.KnownBytes.{Appends-trans}
-use Rattle.std.proofs.lemmas.Bool.{ne_eqb}
 use Rattle.std.proofs.lemmas.Result.{err_from_is_err_and}
 use Rattle.std.proofs.lemmas.List.Elements.{filter-append}
 use Rattle.std.proofs.lemmas.List.Folds.{list_all-append}
 use Rattle.up_lines.specs.declared.progress.Progress.{Progress}
-use Rattle.up_lines.specs.Lines.{newline, most_lines, most_line_bytes, lines_of, is_short, has_bytes}
+use Rattle.up_lines.specs.Lines.{newline, most_lines, lines_of, is_short, has_bytes}
 use Rattle.up_lines.specs.Runs.{At, Run}
 use Rattle.up_lines.specs.LineRuns.{Gives, print}
-use Rattle.up_lines.specs.Progress.{Closes, Takes, is_inside}
+use Rattle.up_lines.specs.Progress.{Sofar, Closes, Grows, Takes, is_inside}
 use Rattle.up_lines.proofs.Cuts.{lines-line}
 use Rattle.up_lines.proofs.RunLaws.{has_bytes-long, is_short-le, Run-append, Run-one, printed-append}
+
+none_of : (bytes : List ℕ) → (0 < length bytes → ⊥) → bytes ≡ []
+none_of [] h = refl
+none_of (b ∷ bs) h = absurd (h (omega arith))
 
 module _ {S : Type 0} (gives : Gives S) where
   -- a line with bytes is ended
@@ -58,43 +61,51 @@ module _ {S : Type 0} (gives : Gives S) where
         wrote = subst (Appends first.held after.held) (sym (printed-append so.answers closes.answers)) (Appends-trans _ _ _ _ _ so.wrote closes.wrote);
       }
 
-  -- a byte of a line's own is taken
-  pub takes_byte : (old new : Progress) (byte : ℕ) (now : At S) → old.counted < most_lines → (length old.line.items ≡ most_line_bytes → ⊥) → is_inside byte ≡ true
-      → new.line.items ≡ old.line.items ++ byte ∷ [] → new.counted ≡ old.counted → new.answered ≡ old.answered
-      → Takes gives (byte ∷ []) old now new now
-  takes_byte old new byte now room not_full own grown counted answered = λ first came so.
+  -- bytes of a line's own are taken
+  pub takes_part : (part : List ℕ) (old new : Progress) (now : At S) → list_all is_inside part ≡ true → Grows part old new → Takes gives part old now new now
+  takes_part part old new now own grows = λ first came so.
       let line = old.line.items in
-      let one_more : length new.line.items ≡ length line + 1 = omega (arith, ap length grown, length-append line (byte ∷ [])) in
+      let longer : length new.line.items ≡ length line + length part = omega (arith, ap length grows.grown, length-append line part) in
       record {
         whole = so.whole;
         answers = so.answers;
         cut = λ ended more.
-            ap (lines_of ended) (append_assoc came (byte ∷ []) more)
-            ∙ so.cut ended (byte ∷ more)
-            ∙ ap (λ l. so.whole ++ lines_of ended l) (sym (append_assoc line (byte ∷ []) more) ∙ ap (λ l. l ++ more) (sym grown));
-        own_bytes = ap (list_all is_inside) grown ∙ list_all-append is_inside line (byte ∷ []) ∙ ap (λ t. t && (is_inside byte && true)) so.own_bytes ∙ ap (λ t. t && true) own;
+            ap (lines_of ended) (append_assoc came part more)
+            ∙ so.cut ended (part ++ more)
+            ∙ ap (λ l. so.whole ++ lines_of ended l) (sym (append_assoc line part more) ∙ ap (λ l. l ++ more) (sym grows.grown));
+        own_bytes = ap (list_all is_inside) grows.grown ∙ list_all-append is_inside line part ∙ ap (λ t. t && list_all is_inside part) so.own_bytes ∙ own;
         each_short = so.each_short;
-        counted_is = counted ∙ so.counted_is;
-        few = omega (arith, counted);
-        short = omega (arith, one_more, so.short);
-        none_past = λ full. absurd (omega (arith, counted));
-        bytes = omega (arith, so.bytes, counted, one_more, length-append came (byte ∷ []));
+        counted_is = grows.counted_is ∙ so.counted_is;
+        few = omega (arith, grows.counted_is, so.few);
+        short = grows.short;
+        none_past = λ full.
+            let before : old.counted ≡ most_lines = sym grows.counted_is ∙ full in
+            grows.grown ∙ ap (λ l. l ++ part) (so.none_past before) ∙ none_of part (λ some. let few = grows.few some in omega arith);
+        bytes = omega (arith, so.bytes, grows.counted_is, longer, length-append came part);
         run = so.run;
-        answered_is = answered ∙ so.answered_is;
+        answered_is = grows.answered_is ∙ so.answered_is;
         wrote = so.wrote;
       }
 
-  -- the same, where the byte is known by an equation
-  pub takes_newline : (byte : ℕ) → byte ≡ newline → (old new : Progress) (before after : At S) → old.counted < most_lines → Closes gives old before new after
-      → Takes gives (byte ∷ []) old before new after
-  takes_newline byte e old new before after room closes = subst (λ b. Takes gives (b ∷ []) old before new after) (sym e) (takes_end old new before after room closes)
+  -- before any of them
+  pub takes_none : (at : Progress) (now : At S) → Takes gives [] at now at now
+  takes_none at now = λ first came so. subst (λ l. Sofar gives first l at now) (sym (append-nil came)) so
+
+  -- bytes taken, and then others
+  pub takes_after : (xs ys : List ℕ) (old mid new : Progress) (before between after : At S) → Takes gives xs old before mid between → Takes gives ys mid between new after
+      → Takes gives (xs ++ ys) old before new after
+  takes_after xs ys old mid new before between after p q = λ first came so.
+      subst (λ l. Sofar gives first l new after) (append_assoc came xs ys) (q first (came ++ xs) (p first came so))
+
+  -- the front of a piece is taken, and then the rest, in which no line ends
+  pub takes_rest : (front rest piece : List ℕ) (old mid new : Progress) (before now : At S) → piece ≡ front ++ rest → list_all is_inside rest ≡ true → Takes gives front old before mid now → Grows rest mid new
+      → Takes gives piece old before new now
+  takes_rest front rest piece old mid new before now is own p grows =
+      subst (λ l. Takes gives l old before new now) (sym is) (takes_after front rest old mid new before now now p (takes_part rest mid new now own grows))
 
 pub on_ok : {T E P Q : Type 0} → (r : Result T E) → (P → Q) → OnOk r P → OnOk r Q
 on_ok (Ok _) f h = f h
 on_ok (Err _) f h = tt
-
-pub inside : (byte : ℕ) → (byte ≡ newline → ⊥) → is_inside byte ≡ true
-inside byte h = ap not (ne_eqb byte newline h)
 
 -- what the exit of a `?` passes on
 pub passed_on : {T E : Type 0} → (r : Result T E) (e : E) (Q : E → Type 0) → IsErrAnd r (λ x. x ≡ e) → Q e → IfErr r Q

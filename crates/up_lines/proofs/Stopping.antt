@@ -1,9 +1,8 @@
 -- Where a run stops among the bytes.
-use Rattle.std.proofs.Common.{◌≡◌, ◌&&◌, inl, inr, ℕ, ◌+◌, ◌-◌, ◌<◌, ◌≤◌, Bool, true, false, List, [], ◌∷◌, ◌++◌, length, take, drop, get_or, take-append-drop, filter, refl, ap, sym, ◌∙◌, subst, arith, append_assoc, append-nil, length-append}
+use Rattle.std.proofs.Common.{◌≡◌, ◌&&◌, inl, inr, ℕ, ◌-◌, ◌<◌, ◌≤◌, Bool, true, false, List, [], ◌∷◌, ◌++◌, length, filter, refl, ap, sym, ◌∙◌, subst, arith, append_assoc, append-nil, length-append}
 use Rattle.std.specs.Prelude.{Option, Some, None}
 use Rattle.std.specs.List.{list_all}
 use Rattle.std.proofs.KnownBytes.{Appends-nil, Appends-trans}
-use Rattle.std.proofs.lemmas.Grind.{common_steps}
 use Rattle.std.proofs.lemmas.List.Elements.{filter-append}
 use Rattle.std.proofs.lemmas.List.Folds.{list_all-append}
 use Rattle.up_lines.specs.declared.progress.Progress.{Progress}
@@ -12,18 +11,14 @@ use Rattle.up_lines.specs.declared.fault.ScriptCause.{ScriptCause}
 use Rattle.up_lines.specs.declared.fault.ScriptCause.TheVariants.{Memory, Read, Write, TooLong}
 use Rattle.up_lines.specs.Runs.{At, BreaksOff}
 use Rattle.up_lines.specs.LineRuns.{Gives, print, AreFirst, Stopped, Tells}
-use Rattle.up_lines.specs.Progress.{Sofar, Fails, Takes, Stops, Unanswered, is_inside}
+use Rattle.up_lines.specs.Progress.{Sofar, Fails, Refuses, Takes, Stops, Unanswered, is_inside}
 use Rattle.up_lines.proofs.Cuts.{lines-line, lines-begins, lines-prefix, lines-some}
 use Rattle.up_lines.proofs.RunLaws.{is_short-le, is_short-gt, filter-first, asked_among, asked-append, asked_none, fits-many, fits-long}
 
--- the piece, in what was taken and the rest
-piece_split : (piece : List ℕ) (i : ℕ) → i < length piece → piece ≡ take i piece ++ get_or piece i 0 ∷ drop (i + 1) piece
-piece_split piece i below = sym (take-append-drop i piece) ∙ ap (λ l. take i piece ++ l) (grind (arith, common_steps))
-
--- the byte passes a limit, behind these whole lines
-record Past (came : List ℕ) (byte : ℕ) (whole : List (List ℕ)) : Type 0 where
-  past : (more : List ℕ) → fits (lines_of true (came ++ byte ∷ more)) ≡ false
-  settled : (ended : Bool) (more : List ℕ) → asked (lines_of ended (came ++ byte ∷ more)) ≡ filter has_bytes whole
+-- these bytes pass a limit, behind these whole lines
+record Past (came bytes : List ℕ) (whole : List (List ℕ)) : Type 0 where
+  past : (more : List ℕ) → fits (lines_of true (came ++ (bytes ++ more))) ≡ false
+  settled : (ended : Bool) (more : List ℕ) → asked (lines_of ended (came ++ (bytes ++ more))) ≡ filter has_bytes whole
 
 module _ {S : Type 0} (gives : Gives S) where
   -- the whole lines are answered, and this became of the next one
@@ -48,62 +43,73 @@ module _ {S : Type 0} (gives : Gives S) where
   pub breaks_none : (cause : ScriptCause) (now : At S) → (cause ≡ Write → ⊥) → BreaksOff gives print cause None now now
   breaks_none cause now other = ([], (other, refl, refl), Appends-nil now.held)
 
-  -- nothing is taken of a byte that passes a limit
-  stops_past : (first : At S) (came : List ℕ) (at : Progress) (byte : ℕ) (more : List ℕ) (now : At S) (so : Sofar gives first came at now) → Past came byte so.whole
-      → Stopped gives (came ++ byte ∷ more) false (record { cause = TooLong; lines = at.answered }) first now
-  stops_past first came at byte more now so h =
-      stopped TooLong came false (came ++ byte ∷ more) first at now so None at.answered now ([], h.settled false more ∙ sym (append-nil (filter has_bytes so.whole))) (
-        λ others. let same : (came ++ byte ∷ more) ++ others ≡ came ++ byte ∷ (more ++ others) = append_assoc came (byte ∷ more) others in (
+  -- nothing is taken of bytes that pass a limit
+  stops_past : (first : At S) (came : List ℕ) (old new : Progress) (bytes more : List ℕ) (now : At S) (so : Sofar gives first came old now) → Past came bytes so.whole
+      → new.answered ≡ old.answered → Stopped gives (came ++ (bytes ++ more)) false (record { cause = TooLong; lines = new.answered }) first now
+  stops_past first came old new bytes more now so h answered =
+      stopped TooLong came false (came ++ (bytes ++ more)) first old now so None new.answered now ([], h.settled false more ∙ sym (append-nil (filter has_bytes so.whole))) (
+        λ others. let same : (came ++ (bytes ++ more)) ++ others ≡ came ++ (bytes ++ (more ++ others)) = append_assoc came (bytes ++ more) others ∙ ap (λ l. came ++ l) (append_assoc bytes more others) in (
           ap (λ l. fits (lines_of true l)) same ∙ h.past (more ++ others),
           ap (λ l. asked (lines_of true l)) same ∙ h.settled true (more ++ others) ∙ sym (h.settled false more),
         ),
         sym (h.settled false more),
-      ) (breaks_none TooLong now (λ e. absurd (cc))) refl
+      ) (breaks_none TooLong now (λ e. absurd (cc))) answered
 
   -- nothing is taken past the last line
-  pub stops_many : (at : Progress) (byte : ℕ) (more : List ℕ) (now : At S) → at.counted ≡ most_lines
-      → Stops gives TooLong false (byte ∷ more) at now at now
-  stops_many at byte more now full = λ first came so.
+  pub stops_many : (old new : Progress) (bytes more : List ℕ) (now : At S) → 0 < length bytes → old.counted ≡ most_lines → new.answered ≡ old.answered
+      → Stops gives TooLong false (bytes ++ more) old now new now
+  stops_many old new bytes more now some full answered = λ first came so.
       let all : length so.whole ≡ most_lines = omega (arith, so.counted_is) in
       let none : most_lines - length so.whole ≡ 0 = omega (arith, all) in
       let within : length so.whole ≤ most_lines = omega (arith, all) in
-      stops_past first came at byte more now so (record {
+      stops_past first came old new bytes more now so (record {
         past = λ rest.
-            ap fits (so.cut true (byte ∷ rest) ∙ ap (λ l. so.whole ++ lines_of true (l ++ byte ∷ rest)) (so.none_past full))
-            ∙ fits-many so.whole (lines_of true (byte ∷ rest)) all (lines-some byte rest);
+            ap fits (so.cut true (bytes ++ rest) ∙ ap (λ l. so.whole ++ lines_of true (l ++ (bytes ++ rest))) (so.none_past full))
+            ∙ fits-many so.whole (lines_of true (bytes ++ rest)) all (lines-some (bytes ++ rest) (omega (arith, length-append bytes rest)));
         settled = λ ended rest.
-            ap asked (so.cut ended (byte ∷ rest)) ∙ asked-append so.whole (lines_of ended (at.line.items ++ byte ∷ rest)) so.each_short within
-            ∙ ap (λ n. filter has_bytes so.whole ++ asked_among n (lines_of ended (at.line.items ++ byte ∷ rest))) none ∙ append-nil (filter has_bytes so.whole);
-      })
+            ap asked (so.cut ended (bytes ++ rest)) ∙ asked-append so.whole (lines_of ended (old.line.items ++ (bytes ++ rest))) so.each_short within
+            ∙ ap (λ n. filter has_bytes so.whole ++ asked_among n (lines_of ended (old.line.items ++ (bytes ++ rest)))) none ∙ append-nil (filter has_bytes so.whole);
+      }) answered
 
-  -- nothing is taken past a line's last byte
-  pub stops_long : (at : Progress) (byte : ℕ) (more : List ℕ) (now : At S) → length at.line.items ≡ most_line_bytes → is_inside byte ≡ true
-      → Stops gives TooLong false (byte ∷ more) at now at now
-  stops_long at byte more now full own = λ first came so.
-      let line = at.line.items in
-      let long : (rest : List ℕ) → is_short ((line ++ byte ∷ []) ++ rest) ≡ false =
-      (λ rest. is_short-gt _ (omega (arith, length-append (line ++ byte ∷ []) rest, length-append line (byte ∷ [])))) in
+  -- nothing is taken of a part with which the line is too long
+  stops_long : (old new : Progress) (part more : List ℕ) (now : At S) → most_line_bytes < length (old.line.items ++ part) → list_all is_inside part ≡ true → new.answered ≡ old.answered
+      → Stops gives TooLong false (part ++ more) old now new now
+  stops_long old new part more now past own answered = λ first came so.
+      let line = old.line.items in
+      let own' : list_all is_inside (line ++ part) ≡ true = list_all-append is_inside line part ∙ ap (λ t. t && list_all is_inside part) so.own_bytes ∙ own in
+      let some : 0 < length (line ++ part) = omega arith in
+      let long : (rest : List ℕ) → is_short ((line ++ part) ++ rest) ≡ false = (λ rest. is_short-gt _ (omega (arith, length-append (line ++ part) rest))) in
       let within : length so.whole ≤ most_lines = omega (arith, so.counted_is, so.few) in
-      stops_past first came at byte more now so (record {
-        past = λ rest. let prefix = lines-prefix line byte rest so.own_bytes own in
-            ap fits (so.cut true (byte ∷ rest) ∙ ap (λ l. so.whole ++ l) prefix.is) ∙ fits-long so.whole _ prefix.others (long prefix.rest);
+      stops_past first came old new part more now so (record {
+        past = λ rest. let prefix = lines-prefix (line ++ part) rest own' some in
+            ap fits (so.cut true (part ++ rest) ∙ ap (λ l. so.whole ++ l) (ap (lines_of true) (sym (append_assoc line part rest)) ∙ prefix.is)) ∙ fits-long so.whole _ prefix.others (long prefix.rest);
         settled = λ ended rest.
-            ap asked (so.cut ended (byte ∷ rest)) ∙ asked-append so.whole (lines_of ended (line ++ byte ∷ rest)) so.each_short within
-            ∙ ap (λ l. filter has_bytes so.whole ++ l) (asked_none (most_lines - length so.whole) (line ++ byte ∷ []) _ long (lines-begins ended line byte rest so.own_bytes own))
+            ap asked (so.cut ended (part ++ rest) ∙ ap (λ l. so.whole ++ lines_of ended l) (sym (append_assoc line part rest)))
+            ∙ asked-append so.whole (lines_of ended ((line ++ part) ++ rest)) so.each_short within
+            ∙ ap (λ l. filter has_bytes so.whole ++ l) (asked_none (most_lines - length so.whole) (line ++ part) _ long (lines-begins ended (line ++ part) rest own' some))
             ∙ append-nil (filter has_bytes so.whole);
-      })
+      }) answered
 
   -- what is answered of bytes behind the whole lines
   abbrev behind : List (List ℕ) → List ℕ → List (List ℕ)
   behind whole more = asked_among (most_lines - length whole) (lines_of false more)
 
-  -- no memory for a byte
+  -- no memory for bytes
   pub stops_memory : (old new : Progress) (bytes : List ℕ) (now : At S) → new.answered ≡ old.answered
       → Stops gives Memory false bytes old now new now
   stops_memory old new bytes now same = λ first came so.
       stopped Memory came false (came ++ bytes) first old now so None new.answered now
       (behind so.whole (old.line.items ++ bytes), ap asked (so.cut false bytes) ∙ asked-append so.whole (lines_of false (old.line.items ++ bytes)) so.each_short (omega (arith, so.counted_is, so.few)))
       tt (breaks_none Memory now (λ e. absurd (cc))) same
+
+  -- a part that isn't taken
+  pub stops_part : (cause : ScriptCause) (old new : Progress) (part more : List ℕ) (now : At S) → list_all is_inside part ≡ true → new.answered ≡ old.answered → Refuses cause part old
+      → Stops gives cause false (part ++ more) old now new now
+  stops_part Memory old new part more now own answered h = stops_memory old new (part ++ more) now answered
+  stops_part TooLong old new part more now own answered (inl (some, full)) = stops_many old new part more now some full answered
+  stops_part TooLong old new part more now own answered (inr past) = stops_long old new part more now past own answered
+  stops_part Read old new part more now own answered h = absurd h
+  stops_part Write old new part more now own answered h = absurd h
 
   -- the line that is begun is the next to be answered
   split_end : (whole : List (List ℕ)) (line more : List ℕ) → list_all is_short whole ≡ true → length whole < most_lines → length line ≤ most_line_bytes
@@ -143,22 +149,27 @@ module _ {S : Type 0} (gives : Gives S) where
   stops_end cause old new before after more room fails = λ first came so.
       stops_at cause came false (came ++ newline ∷ more) first old new before after so _ (ended_next came first old before so more room fails.some) fails.answered_is fails.unanswered
 
-  -- the same, where the byte is known by an equation
-  pub stops_newline : (byte : ℕ) → byte ≡ newline → (cause : ScriptCause) (old new : Progress) (before after : At S) (more : List ℕ) → old.counted < most_lines
-      → Fails gives cause old before new after → Stops gives cause false (byte ∷ more) old before new after
-  stops_newline byte e cause old new before after more room fails =
-      subst (λ b. Stops gives cause false (b ∷ more) old before new after) (sym e) (stops_end cause old new before after more room fails)
-
   -- bytes taken, and then not all of the others
   pub stops_after : (xs ys : List ℕ) (cause : ScriptCause) (ended : Bool) (old mid new : Progress) (before between after : At S) → Takes gives xs old before mid between → Stops gives cause ended ys mid between new after
       → Stops gives cause ended (xs ++ ys) old before new after
   stops_after xs ys cause ended old mid new before between after p q = λ first came so.
       subst (λ l. Stopped gives l ended (record { cause = cause; lines = new.answered }) first after) (append_assoc came xs ys) (q first (came ++ xs) (p first came so))
 
-  -- a piece that isn't all taken
-  pub stops_piece : (piece : List ℕ) (i : ℕ) (cause : ScriptCause) (old mid new : Progress) (before between after : At S) → i < length piece
-      → Takes gives (take i piece) old before mid between → ((more : List ℕ) → Stops gives cause false (get_or piece i 0 ∷ more) mid between new after)
-      → Stops gives cause false piece old before new after
-  stops_piece piece i cause old mid new before between after below p q =
-      subst (λ l. Stops gives cause false l old before new after) (sym (piece_split piece i below))
-      (stops_after (take i piece) _ cause false old mid new before between after p (q (drop (i + 1) piece)))
+  -- the front of a piece is taken, and not all of the rest
+  stops_in : (front rest piece : List ℕ) (cause : ScriptCause) (old mid new : Progress) (before between after : At S) → piece ≡ front ++ rest → Takes gives front old before mid between
+      → Stops gives cause false rest mid between new after → Stops gives cause false piece old before new after
+  stops_in front rest piece cause old mid new before between after is p q =
+      subst (λ l. Stops gives cause false l old before new after) (sym is) (stops_after front rest cause false old mid new before between after p q)
+
+  -- the next line isn't all taken
+  pub stops_line : (front rest piece line behind : List ℕ) (cause : ScriptCause) (old mid new : Progress) (before between after : At S) → piece ≡ front ++ rest → rest ≡ line ++ newline ∷ behind
+      → Takes gives front old before mid between → ((more : List ℕ) → Stops gives cause false (line ++ newline ∷ more) mid between new after) → Stops gives cause false piece old before new after
+  stops_line front rest piece line behind cause old mid new before between after is cut p q =
+      stops_in front rest piece cause old mid new before between after is p (subst (λ l. Stops gives cause false l mid between new after) (sym cut) (q behind))
+
+  -- what is behind the last newline isn't taken
+  pub stops_rest : (front rest piece : List ℕ) (cause : ScriptCause) (old mid new : Progress) (before now : At S) → piece ≡ front ++ rest → list_all is_inside rest ≡ true
+      → Takes gives front old before mid now → (new.answered ≡ mid.answered) × Refuses cause rest mid → Stops gives cause false piece old before new now
+  stops_rest front rest piece cause old mid new before now is own p (answered, why) =
+      stops_in front rest piece cause old mid new before now now is p
+      (subst (λ l. Stops gives cause false l mid now new now) (append-nil rest) (stops_part cause mid new rest [] now own answered why))

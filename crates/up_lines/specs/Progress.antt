@@ -1,5 +1,5 @@
 -- What stands while lines are read: the steps of a run.
-use Rattle.std.specs.Prelude.{◌≡◌, ◌⊎◌, ℕ, ◌+◌, ◌*◌, ◌≤◌, ◌==◌, Bool, true, not, Result, Ok, Err, Some, None, List, [], ◌∷◌, ◌++◌, length, filter}
+use Rattle.std.specs.Prelude.{◌≡◌, ◌⊎◌, ℕ, ◌+◌, ◌*◌, ◌<◌, ◌≤◌, ◌==◌, ⊤, Bool, true, not, Result, Ok, Err, Some, None, List, [], ◌∷◌, ◌++◌, length, filter}
 use Rattle.std.specs.List.{list_all}
 use Rattle.std.specs.Io.KnownBytes.{Appends}
 use Rattle.up_lines.specs.declared.fault.ScriptCause.{ScriptCause}
@@ -38,6 +38,21 @@ Takes {S} gives bytes old before new after = (first : At S) (came : List ℕ) �
 abbrev pub Stops : {S : Type 0} → Gives S → ScriptCause → Bool → List ℕ → Progress → At S → Progress → At S → Type 0
 Stops {S} gives cause ended bytes old before new after = (first : At S) (came : List ℕ) → Sofar gives first came old before
     → Stopped gives (came ++ bytes) ended (record { cause = cause; lines = new.answered }) first after
+
+-- bytes are added to the line that is begun, within the limits
+pub record Grows (part : List ℕ) (old new : Progress) : Type 0 where
+  pub grown : new.line.items ≡ old.line.items ++ part
+  pub counted_is : new.counted ≡ old.counted
+  pub answered_is : new.answered ≡ old.answered
+  pub few : 0 < length part → old.counted < most_lines
+  pub short : length new.line.items ≤ most_line_bytes
+
+-- why bytes aren't added: memory was refused, they stand behind the last line, or the line has too many with them
+abbrev pub Refuses : ScriptCause → List ℕ → Progress → Type 0
+Refuses Memory part at = ⊤
+Refuses TooLong part at = ((0 < length part) × (at.counted ≡ most_lines)) ⊎ (most_line_bytes < length (at.line.items ++ part))
+Refuses Read part at = ⊥
+Refuses Write part at = ⊥
 
 -- a line is ended: it has its answer if it has any byte, and the next one is empty
 pub record Closes {S : Type 0} (gives : Gives S) (old : Progress) (before : At S) (new : Progress) (after : At S) : Type 0 where

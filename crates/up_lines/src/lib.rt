@@ -2,12 +2,13 @@
 #![tactic(auto)]
 
 mod answered;
+mod cut;
 mod ending;
 pub mod fault;
 pub mod interpret;
 pub mod limits;
 mod lines;
-mod next_byte;
+mod part;
 mod progress;
 
 ghost use Rattle.up_lines.specs.Lines.{WholeLinesFirst};

@@ -4,11 +4,12 @@ ghost use Rattle.up_lines.specs.Lines.{lines_of, fits};
 ghost use Rattle.up_lines.specs.LineRuns.{RanLines, FinishedLines, AnswersFirst};
 ghost use Rattle.up_lines.specs.Progress.{Takes, Stops, Completes, IsFresh, told};
 
+use crate::cut::cut_line;
 use crate::ending::end_line;
 use crate::fault::{ScriptCause, ScriptFault};
 use crate::interpret::Interpret;
 use crate::limits::{MOST_BYTES, PIECE_BYTES};
-use crate::next_byte::take_byte;
+use crate::part::{take_line, take_part};
 use crate::progress::Progress;
 use std::alloc::Global;
 use up_pieces::read_piece;
@@ -32,10 +33,12 @@ fn take_piece<S, I: Interpret<S>, W: Sink>(
         progress.new (record { state = state.new; held = W.contents writer.new })) }
     ensures goes_on { OnOk result (W.can_write writer.new) }
 {
-    for byte in piece {
-        take_byte(alloc, interpreter, state, writer, progress, *byte)?;
+    let mut rest = piece;
+    while let Some((line, behind)) = cut_line(rest) {
+        take_line(alloc, interpreter, state, writer, progress, line)?;
+        rest = behind;
     }
-    Ok(())
+    take_part(progress, rest)
 }
 
 /// Ends the line that the input's end ends, if one is begun.

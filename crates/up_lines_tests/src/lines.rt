@@ -82,7 +82,7 @@ impl Write for Shaky {
     }
 }
 
-fn fault(cause: Cause, lines: u32) -> Result<u32, ScriptFault> {
+pub(crate) fn fault(cause: Cause, lines: u32) -> Result<u32, ScriptFault> {
     Err(ScriptFault { cause, lines })
 }
 

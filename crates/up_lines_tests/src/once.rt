@@ -1,5 +1,5 @@
 //! A reader and a writer that may not be used again once they failed, or gave or took nothing.
-use crate::lines::Bracket;
+use crate::lines::{Bracket, fault};
 use std::io;
 use up_lines::fault::{ScriptCause as Cause, ScriptFault};
 use up_lines::run;
@@ -75,30 +75,9 @@ fn ends_at_the_first_failure(rt: HostRuntime) {
     // What fails, the answer, how often was read, and how many bytes were written.
     let table: [((u32, u32), Result<u32, ScriptFault>, (u32, u32)); 4] = [
         ((0, 99), Ok(2), (6, 9)),
-        (
-            (3, 99),
-            Err(ScriptFault {
-                cause: Cause::Read,
-                lines: 1,
-            }),
-            (3, 4),
-        ),
-        (
-            (6, 99),
-            Err(ScriptFault {
-                cause: Cause::Read,
-                lines: 2,
-            }),
-            (6, 9),
-        ),
-        (
-            (0, 6),
-            Err(ScriptFault {
-                cause: Cause::Write,
-                lines: 1,
-            }),
-            (5, 6),
-        ),
+        ((3, 99), fault(Cause::Read, 1), (3, 4)),
+        ((6, 99), fault(Cause::Read, 2), (6, 9)),
+        ((0, 6), fault(Cause::Write, 1), (5, 6)),
     ];
     for ((reads, writes), wanted, (calls, written)) in table {
         let mut state = 0;

@@ -6,6 +6,7 @@ ghost use Rattle.up_rows.specs.StateRows.{StateRows, no_rows};
 ghost use Rattle.up_tables.specs.Ours.{NamesUs, NamesOthers};
 ghost use Rattle.up_tables.specs.Stands.{IfClean, IsInside, IsAsCommitted, LeavesOnly, HasNoTables};
 ghost use Rattle.up_tables.specs.declared.open.OpenFault.TheVariants.{NotOurs};
+ghost use Rattle.up_tables.specs.declared.open.OpenFault.TheVariants as Fault;
 ghost use Rattle.up_tables.specs.declared.open.SchemaVersion.{SchemaVersion};
 ghost use Rattle.up_store.specs.Connections.{KeepsAs, KeepsRows, HoldsRows, MadeIn, RaisedRows, Commits};
 
@@ -54,6 +55,7 @@ impl<D: Alter> Store<D> {
         ensures made { IfOk result (λ s. IfClean (KeepsRows no_rows) (state D.Store s)) }
         ensures durable { IfOk result (λ s. IfClean (LeavesOnly (HoldsRows no_rows)) (state D.Store s)) }
         ensures empty { IfOk result (λ s. HasCleanDisk (state D.Store s) → HasNoTables (state D.Store conn)) }
+        ensures full { IfErr result (λ e. IsTrue (state D.Store conn).is_open → ¬ HasNoTables (state D.Store conn) → e.1 ≡ Fault.Store) }
         ensures crash { IfOk result (λ s. Survives (state D.Store conn) (state D.Store s) (MadeIn (state D.Store conn))) }
         ensures open { IfOk result (λ s. HasCleanDisk (state D.Store s) → IsTrue (state D.Store conn).is_open) }
         ensures kept { IfErr result (λ e. IfClean (IsAsCommitted (state D.Store conn)) (state D.Store e.0)) }

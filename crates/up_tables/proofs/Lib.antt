@@ -29,6 +29,7 @@ pub mod MetaLemmas
 pub mod TransactionLemmas
 pub mod OursLemmas
 pub mod OursReads
+pub mod WhoseLemmas
 pub mod RaisedLemmas
 pub mod ReplaceLemmas
 pub mod RetiredLemmas

@@ -1,32 +1,37 @@
--- Tables of this product name it.
+-- What the query on `meta` answers over tables of this product, whichever version of its schema they have.
 use Rattle.std.proofs.Common.{◌≡◌, ◌⊎◌, inl, inr, ℕ, pos, List, [], ◌∷◌, map, filter, length, Bool, true, false, None, Ok, Err, Result, IsTrue, refl, sym, ap, subst, ◌∙◌, codes, append-nil}
 use Rattle.std.proofs.Math.Dec.{leb}
+use Rattle.std.proofs.Math.Path.{fun_ext}
+use Rattle.std.proofs.Math.Bool.{and-true}
 use Rattle.std.proofs.lemmas.Bool.{leb-true}
+use Rattle.std.proofs.lemmas.List.Sorted.{IsPermutation-refl}
+use Rattle.std.specs.List.{list_all}
 use Rattle.std.specs.List.Sorted.{IsPermutation}
-use Rattle.sqlite.specs.declared.types.Value.TheVariants.{Null, Int, Text}
+use Rattle.sqlite.specs.declared.types.Value.TheVariants.{Null}
 use Rattle.sqlite.specs.declared.error.Error.{Error}
-use Rattle.sqlite.specs.Order.{Row}
+use Rattle.sqlite.specs.Order.{Row, column}
 use Rattle.sqlite.specs.Term.{Term, col, eval_all, holds}
+use Rattle.sqlite.specs.Tree.{Trees}
 use Rattle.sqlite.specs.Command.TheVariants.{Select}
 use Rattle.sqlite.specs.Clock.{timed}
-use Rattle.sqlite.specs.Effect.{Database, RefusesToRead}
+use Rattle.sqlite.specs.Effect.{Database, Answers, Reads, RefusesToRead}
 use Rattle.sqlite.specs.Listing.{understood, reads_listing, IsSourceOf}
-use Rattle.sqlite.specs.State.{State, Shown, ShowsRows, IsUnchanged, IsNoStatement}
-use Rattle.sqlite.proofs.Callers.{IsPlain, command_of, one_permutation, reads_as}
+use Rattle.sqlite.specs.Program.{overlay}
+use Rattle.sqlite.specs.Query.{IsSureAnswer}
+use Rattle.sqlite.specs.State.{State, Shown, ShowsRows, IsUnchanged, IsNoStatement, IsStatement}
+use Rattle.sqlite.proofs.Callers.{IsPlain, command_of, reads_as}
+use Rattle.sqlite_keyed.proofs.ListLemmas.{map-map}
 use Rattle.sqlite_resolve.specs.declared.compiled.Compiled.{Compiled}
 use Rattle.sqlite_resolve.specs.declared.error.CompileError.{CompileError}
 use Rattle.sqlite_schema.specs.declared.program.Program.{Program}
 use Rattle.sqlite_tied.specs.Compute.{everything}
 use Rattle.up_tables.specs.declared.open.SchemaVersion.{SchemaVersion}
 use Rattle.up_tables.specs.declared.open.SchemaVersion.TheVariants.{One, Two, Three}
-use Rattle.up_tables.specs.Lines.{meta_row_of}
-use Rattle.up_tables.specs.Versions.{number_of, schema_of}
-use Rattle.up_tables.specs.Ours.{find_meta_text, IsOurs, NamesOthers, AnswersOthers, ListsUs}
-use Rattle.up_tables.proofs.AnswerLemmas.{over, answer_is, shows_passing, equals_int}
+use Rattle.up_tables.specs.Rows.{has_number}
+use Rattle.up_tables.specs.Versions.{schema_of}
+use Rattle.up_tables.specs.Ours.{find_meta_text}
+use Rattle.up_tables.proofs.AnswerLemmas.{over, outputs, passing, answer_is, shows_passing, equals_int}
 use Rattle.up_tables.proofs.MetaReads.{is_one}
-use Rattle.up_tables.proofs.PlaceLemmas.{itself}
-use Rattle.std.specs.List.{list_all}
-use Rattle.std.proofs.Math.Bool.{and-true}
 
 abbrev shown : List Term
 shown = col 1 2 ∷ col 1 3 ∷ []
@@ -75,7 +80,7 @@ none_of f g h (inr (inl k)) = g k.0
 none_of f g h (inr (inr k)) = h k.0
 
 -- it is a statement
-is_statement : (version : SchemaVersion) (s : State) (e : Error) → s.now.schema ≡ schema_of version → IsNoStatement s find_meta_text [] e → ⊥
+pub is_statement : (version : SchemaVersion) (s : State) (e : Error) → s.now.schema ≡ schema_of version → IsNoStatement s find_meta_text [] e → ⊥
 is_statement version s e has (inl h) = subst IsPlain (sym (ap (λ x. understood x find_meta_text) has) ∙ h.1) (find_plain version)
 is_statement version s e has (inr h) =
     let known : understood (schema_of version) find_meta_text ≡ Ok h.0 = sym (ap (λ x. understood x find_meta_text) has) ∙ h.1 in
@@ -85,30 +90,90 @@ is_statement version s e has (inr h) =
 itself_unchanged : (s : State) → IsTrue s.is_open → IsUnchanged s s
 itself_unchanged s is_open = (record { was_open = is_open; is_open = is_open; now_is = refl; committed_is = refl; mode = refl }, record { changes = refl; last_rowid = refl }, refl)
 
-shows : (s : State) (c : Compiled) (params : Row) (db : Database) (rows : List Row) → c.returning ≡ None → IsTrue s.is_open → IsSourceOf (reads_listing s.now.schema find_meta_text) s.now db
-    → Rattle.sqlite.specs.Effect.Reads c.command db params rows → ShowsRows s s find_meta_text c params rows c.returning
+pub shows : (s : State) (c : Compiled) (params : Row) (db : Database) (rows : List Row) → c.returning ≡ None → IsTrue s.is_open → IsSourceOf (reads_listing s.now.schema find_meta_text) s.now db
+    → Reads c.command db params rows → ShowsRows s s find_meta_text c params rows c.returning
 shows s c params db rows none is_open source reads = subst (ShowsRows s s find_meta_text c params rows) (sym none) (db, source, reads, itself_unchanged s is_open)
 
--- the one row passes
-one_row : (number root image_version stamp : ℕ) (rows : List Row) → rows ≡ meta_row_of number root image_version stamp ∷ []
-    → filter (λ r. list_all (holds ([] ∷ r ∷ [])) (is_one ∷ [])) rows ≡ meta_row_of number root image_version stamp ∷ []
-one_row number root image_version stamp rows is =
-    let hit : list_all (holds ([] ∷ meta_row_of number root image_version stamp ∷ [])) (is_one ∷ []) ≡ true = and-true _ ∙ equals_int (Int (pos 1)) (pos 1) ∙ itself (pos 1) in
-    rw (is, hit) refl
+-- ---- what it answers
 
--- the answer is the row with this product's name and the version's number
-pub answered : (version : SchemaVersion) (old new : State) (root image_version stamp : ℕ) (rows : List Row) → old.now.schema ≡ schema_of version → old.now.trees 0 ≡ meta_row_of (number_of version) root image_version stamp ∷ []
-    → Shown find_meta_text [] old new rows → IsOurs version rows
-answered version old new root image_version stamp rows has is h =
-    let read = reads_as find_meta_text [] old new (schema_of version) has (Select program names) (find_is version).0 (find_plain version) (find_is version).1 rows h in
-    let same = shows_passing (is_one ∷ []) shown [] (old.now.trees 0) rows (answer_is (Rattle.sqlite.specs.Program.overlay old.now.trees []) 0 (is_one ∷ []) shown [] [] rows (read.answer Null)) in (
-      Text (codes "uptane_desk") ∷ Int (pos (number_of version)) ∷ [],
-      one_permutation _ rows (subst (λ xs. IsPermutation xs rows) (ap (map (λ r. eval_all shown ([] ∷ r ∷ []))) (one_row (number_of version) root image_version stamp (old.now.trees 0) is)) same),
-      refl,
-      refl,
-    )
+-- the rows that it is asked for
+abbrev pub asked_rows : Trees → List Row
+asked_rows trees = filter (has_number 0 (pos 1)) (trees 0)
 
--- and is not refused
+-- what it shows of each
+abbrev pub name_and_schema : Row → Row
+name_and_schema r = column r 2 ∷ column r 3 ∷ []
+
+abbrev pub answer_of : Trees → List Row
+answer_of trees = map name_and_schema (asked_rows trees)
+
+hit : (r : Row) → list_all (holds ([] ∷ r ∷ [])) (is_one ∷ []) ≡ has_number 0 (pos 1) r
+hit r = and-true _ ∙ equals_int (column r 0) (pos 1)
+
+hits : (trees : Trees) → map (λ r. eval_all shown ([] ∷ r ∷ [])) (filter (λ r. list_all (holds ([] ∷ r ∷ [])) (is_one ∷ [])) (trees 0)) ≡ answer_of trees
+hits trees = ap (λ q. map name_and_schema (filter q (trees 0))) (fun_ext hit)
+
+-- an answer is these rows
+pub is_answer : (made : SchemaVersion) (old new : State) (rows : List Row) → old.now.schema ≡ schema_of made → Shown find_meta_text [] old new rows → IsPermutation (answer_of old.now.trees) rows
+is_answer made old new rows has h =
+    let read = reads_as find_meta_text [] old new (schema_of made) has (Select program names) (find_is made).0 (find_plain made) (find_is made).1 rows h in
+    subst (λ xs. IsPermutation xs rows) (hits old.now.trees)
+    (shows_passing (is_one ∷ []) shown [] (old.now.trees 0) rows (answer_is (overlay old.now.trees []) 0 (is_one ∷ []) shown [] [] rows (read.answer Null)))
+
+-- and these rows are an answer
+sure : (trees : Trees) → IsSureAnswer (over 0 (is_one ∷ []) shown []) (overlay trees []) [] (answer_of trees)
+sure trees lost = record {
+  staged = map (λ r. [] ∷ r ∷ []) (filter (λ r. list_all (holds ([] ∷ r ∷ [])) (is_one ∷ [])) (trees 0));
+  grouped = sym (passing (is_one ∷ []) [] (trees 0));
+  kept = outputs (is_one ∷ []) shown [] [] (trees 0);
+  distinct = sym (map-map _ _ _);
+  ordered = outputs (is_one ∷ []) shown [] [] (trees 0);
+  same = IsPermutation-refl _;
+  sorted = λ k d low high. refl;
+  shown = sym (map-map _ _ _ ∙ hits trees);
+}
+
+accepts : (made : SchemaVersion) (trees : Trees) → Answers (record { schema = schema_of made; trees = trees }) program [] (answer_of trees)
+unfolding everything
+accepts One trees = record { typed = refl; answer = sure trees }
+accepts Two trees = record { typed = refl; answer = sure trees }
+accepts Three trees = record { typed = refl; answer = sure trees }
+
+answers : (made : SchemaVersion) (db : Database) → db.schema ≡ schema_of made → Answers db program [] (answer_of db.trees)
+answers made db has = let known = accepts made db.trees in record { typed = rw has known.typed; answer = known.answer }
+
+the_compiled : (r : Result Compiled CompileError) → is_whole r ≡ true → (c : Compiled) × (r ≡ Ok c)
+the_compiled (Ok c) h = (c, refl)
+the_compiled (Err e) h = absurd cc
+
+-- the statement of the query, which reads the tables and answers these rows
+pub record Finds (s : State) : Type 0 where
+  pub compiled : Compiled
+  pub it : IsStatement s find_meta_text [] compiled
+  pub source : IsSourceOf (reads_listing s.now.schema find_meta_text) s.now s.now
+  pub reads : Reads compiled.command s.now (timed [] compiled.formats it.now) (answer_of s.now.trees)
+
+pub finds : (made : SchemaVersion) (s : State) → s.now.schema ≡ schema_of made → Finds s
+finds made s has =
+    let found = the_compiled (understood (schema_of made) find_meta_text) (find_whole made) in
+    let c = found.0 in
+    let known : understood (schema_of made) find_meta_text ≡ Ok c = found.1 in
+    let bare = subst IsPlain known (find_plain made) in
+    let command : c.command ≡ Select program names = ap command_of (sym known) ∙ (find_is made).0 in
+    record {
+      compiled = c;
+      it = record {
+        is = ap (λ x. understood x find_meta_text) has ∙ known;
+        whole = leb-true (length find_meta_text) c.tail (ap is_whole (sym known) ∙ find_whole made);
+        given = sym (ap count_of (sym known) ∙ find_count made);
+        now = 0;
+      };
+      source = subst (λ b. IsSourceOf b s.now s.now) (sym (ap (λ x. reads_listing x find_meta_text) has ∙ (find_is made).1)) refl;
+      reads = subst (λ m. Reads m s.now (timed [] c.formats 0) (answer_of s.now.trees)) (sym command)
+          (subst (λ formats. Reads (Select program names) s.now (timed [] formats 0) (answer_of s.now.trees)) (sym bare.1) (answers made s.now has));
+    }
+
+-- it is not refused
 refuses : (version : SchemaVersion) (trees : Rattle.sqlite.specs.Tree.Trees) (e : Error) → RefusesToRead None (Select program names) (record { schema = schema_of version; trees = trees }) [] e → ⊥
 unfolding everything
 refuses One trees e (inl h) = absurd (let accepted = h.1 in cc)
@@ -127,28 +192,11 @@ refuses Three trees e (inr (inr h)) = absurd (let some = h.1 in cc)
 refuses_none : (version : SchemaVersion) (db : Database) (e : Error) → db.schema ≡ schema_of version → RefusesToRead None (Select program names) db [] e → ⊥
 refuses_none version db e has h = refuses version db.trees e (subst (λ s. RefusesToRead None (Select program names) (record { schema = s; trees = db.trees }) [] e) has h)
 
--- tables of this product don't name another
-pub not_others : (version : SchemaVersion) (s : State) → ListsUs version s → NamesOthers s → ⊥
-unfolding AnswersOthers Shown
-not_others version s us others = go others.how
-  where
-    here : Rattle.up_tables.specs.Stands.IsWith (schema_of version) Rattle.up_tables.specs.Stands.AnyRows s.now
-    here = us.tables others.is_open
-
-    go : AnswersOthers s → ⊥
-    go (inl h) = is_statement version s h.0 here.schema_is h.1
-    go (inr h) =
-        let known : understood (schema_of version) find_meta_text ≡ Ok h.0 = sym (ap (λ x. understood x find_meta_text) here.schema_is) ∙ h.1.is in
-        let bare = subst IsPlain known (find_plain version) in
-        let found = h.2 bare.0 in
-        read h.0 h.1 bare.0 found.0 found.1 known bare.1 found.2
-      where
-        read : (c : Compiled) (it : Rattle.sqlite.specs.State.IsStatement s find_meta_text [] c) → c.returning ≡ None → (db : Database) → IsSourceOf (reads_listing s.now.schema find_meta_text) s.now db
-            → understood (schema_of version) find_meta_text ≡ Ok c → c.formats ≡ [] → Rattle.up_tables.specs.Ours.ReadsOthers c db (timed [] c.formats it.now) → ⊥
-        read c it none db source known formats (inl k) =
-            k.2 version (answered version s s us.root us.image_version us.stamp k.0 here.schema_is (us.meta others.is_open) (c, it, shows s c (timed [] c.formats it.now) db k.0 none others.is_open source k.1))
-        read c it none db source known formats (inr k) =
-            let same : db ≡ s.now = subst (λ b. IsSourceOf b s.now db) (ap (λ x. reads_listing x find_meta_text) here.schema_is ∙ (find_is version).1) source in
-            let command : c.command ≡ Select program names = ap command_of (sym known) ∙ (find_is version).0 in
-            refuses_none version db k.0 (ap (λ (d : Database). d.schema) same ∙ here.schema_is)
-            (subst (λ m. RefusesToRead None m db [] k.0) command (rw (formats, append-nil []) at k.1))
+pub not_refused : (made : SchemaVersion) (s : State) (c : Compiled) (it : IsStatement s find_meta_text [] c) (db : Database) (e : Error) → s.now.schema ≡ schema_of made
+    → IsSourceOf (reads_listing s.now.schema find_meta_text) s.now db → RefusesToRead None c.command db (timed [] c.formats it.now) e → ⊥
+not_refused made s c it db e has source refused =
+    let known : understood (schema_of made) find_meta_text ≡ Ok c = sym (ap (λ x. understood x find_meta_text) has) ∙ it.is in
+    let bare = subst IsPlain known (find_plain made) in
+    let same : db ≡ s.now = subst (λ b. IsSourceOf b s.now db) (ap (λ x. reads_listing x find_meta_text) has ∙ (find_is made).1) source in
+    let command : c.command ≡ Select program names = ap command_of (sym known) ∙ (find_is made).0 in
+    refuses_none made db e (ap (λ (d : Database). d.schema) same ∙ has) (subst (λ m. RefusesToRead None m db [] e) command (rw (bare.1, append-nil []) at refused))

@@ -18,7 +18,7 @@ use Rattle.up_tables.specs.Tables.{up_schema}
 use Rattle.up_tables.specs.Versions.{number_of, schema_of, ListsAs, StandsAs}
 use Rattle.up_tables.proofs.StepLemmas.{shown_open}
 use Rattle.up_tables.proofs.OursLemmas.{before_begun}
-use Rattle.up_tables.proofs.OursReads.{answered, not_others}
+use Rattle.up_tables.proofs.WhoseLemmas.{answered, not_others}
 use Rattle.up_tables.proofs.TransactionLemmas.{as_held, stands_after, stands_kept}
 
 -- ---- what `meta` tells

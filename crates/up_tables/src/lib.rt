@@ -8,6 +8,7 @@ pub mod ecu;
 pub mod image;
 pub mod image_sha512;
 pub mod kept;
+pub mod laws;
 pub mod meta;
 pub mod open;
 mod raise;

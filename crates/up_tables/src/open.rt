@@ -1,6 +1,6 @@
 //! Whose tables a database has: they are made in one that has none, told by the row of `meta`, and raised where they are of an older version.
 
-ghost use Rattle.std.specs.Prelude.{◌≡◌, ◌≢◌, false, [], OnOk, OnErr, None, Some, IfOk, IfErr, IfSome, IsTrue, codes, pos};
+ghost use Rattle.std.specs.Prelude.{◌≡◌, ◌≢◌, false, [], OnOk, OnErr, Err, None, Some, IfOk, IfErr, IfSome, IsTrue, codes, pos};
 ghost use Rattle.sqlite.specs.declared.types.Value.TheVariants.{Int, Text};
 ghost use Rattle.sqlite.specs.Order.{column};
 ghost use Rattle.sqlite.specs.Held.{state};
@@ -11,6 +11,7 @@ ghost use Rattle.up_tables.specs.Stands.{IfClean, IsInside, IsOpen, LeavesOnly, 
 ghost use Rattle.up_tables.specs.Listed.{TableRows, ListsTables};
 ghost use Rattle.up_tables.specs.Versions.{number_of, StandsAs};
 ghost use Rattle.up_tables.specs.Ours.{NamesUs, NamesVersion, NamesOthers, ListsUs, IsOurs, Raised, is_refused};
+ghost use Rattle.up_tables.specs.Faults.{open_fault};
 ghost use Rattle.up_tables.specs.declared.open.OpenFault.TheVariants as OpenFault;
 
 use crate::create::make_all;
@@ -58,6 +59,7 @@ pub fn create_tables<S: Alter>(conn: &mut Connection<S>) -> Result<(), OpenFault
     ensures made { OnOk result (IfClean (Stands up_schema AreNew) (state S.Store conn.new)) }
     ensures durable { OnOk result (IfClean (LeavesOnly (AreWith up_schema AreNew)) (state S.Store conn.new)) }
     ensures empty { HasCleanDisk (state S.Store conn.new) → OnOk result (HasNoTables (state S.Store conn.old)) }
+    ensures full { IsTrue (state S.Store conn.old).is_open → ¬ HasNoTables (state S.Store conn.old) → result ≡ Err OpenFault.Store }
     ensures fault { IfErr result (λ e. e ≢ OpenFault.NotOurs) }
     ensures kept { OnErr result (IfClean (IsAsCommitted (state S.Store conn.old)) (state S.Store conn.new)) }
     ensures autocommit { (state S.Store conn.new).in_transaction ≡ false }
@@ -198,6 +200,7 @@ fn version_numbered(number: i64) -> Option<SchemaVersion>
 fn not_ours(error: Error) -> Result<Option<SchemaVersion>, OpenFault>
     ensures no { IfOk result (λ found. (found ≡ None) × IsTrue (is_refused error)) }
     ensures fault { IfErr result (λ e. (e ≢ OpenFault.NotOurs) × (is_refused error ≡ false)) }
+    ensures told { IfErr result (λ e. e ≡ open_fault error) }
 {
     match error {
         Error::SqliteFailure(ErrorCode::OutOfMemory) => Err(OpenFault::Memory),
@@ -213,9 +216,10 @@ fn not_ours(error: Error) -> Result<Option<SchemaVersion>, OpenFault>
     }
 }
 
-/// What is told of an error of the database where it is made.
+/// What is told of an error of the database where its tables are made or raised: `Memory` where memory was refused, else `Store`.
 pub(crate) fn opening_fault(error: Error) -> OpenFault
-    ensures { result ≢ OpenFault.NotOurs }
+    ensures told { result ≡ open_fault error }
+    ensures known { result ≢ OpenFault.NotOurs }
 {
     match error {
         Error::SqliteFailure(ErrorCode::OutOfMemory) => OpenFault::Memory,

@@ -1,7 +1,7 @@
 //! Databases in memory.
 use crate::fault::Fault;
 use crate::held::{Held, adopted, called};
-use crate::seen::{Reads, after_memory, after_store};
+use crate::seen::{Reads, after_memory};
 use sqlite::{Connection, MemStore};
 use std::alloc::{AllocError, Global};
 use up_test_rows::calls::Calls;
@@ -54,7 +54,8 @@ impl Calls for InMemory {
     }
 }
 
-/// What a call answers, and where it is refused, what it answers once more.
+/// What a call answers, and where memory was refused, what it answers once more. No disk can fail here, so a call that the database
+/// refused isn't made again: `Store` in place of `Memory` is seen.
 fn call_again(
     alloc: Global,
     held: Held<MemStore>,
@@ -64,7 +65,6 @@ fn call_again(
     let (held, answer) = called(alloc, held, given);
     match answer {
         Err(Fault::Memory) => after_memory(alloc, held, reads, given),
-        Err(Fault::Store) => after_store(alloc, again(held), reads, given),
         other => (held, other),
     }
 }
