@@ -170,7 +170,7 @@ def seconds(program, path, script, own):
     given = own / "script of lines"
     given.write_text("".join(line + "\n" for line in script), encoding="ascii")
     with open(given, "rb") as lines:
-        return used([program, "run", str(path)], lines)[0]
+        return used([program, "run", str(path)], lines)
 
 
 def lines(program, own):
@@ -377,7 +377,15 @@ def memory(pid, name):
         return next(int(line.split()[1]) for line in told if line.startswith(name + ":"))
 
 
-def used(program, path):
+def used(words, given=subprocess.DEVNULL):
+    """The processor seconds that a program takes."""
+    it = subprocess.Popen(words, stdin=given, stdout=subprocess.DEVNULL)
+    _, status, usage = os.wait4(it.pid, 0)
+    assert status == 0
+    return usage.ru_utime + usage.ru_stime
+
+
+def started(program, path):
     """The processor seconds that a start over a file takes, and its peak of memory in MB."""
     with subprocess.Popen([program, "run", str(path)], stdin=subprocess.PIPE, stdout=subprocess.PIPE) as it:
         asked(it, ["nothing"])
@@ -392,7 +400,7 @@ def start(program, own, most=MOST):
         trials.printed(program, path, prepared(100, 10, 10, ecus))
         for kept in [it for it in (1000, 10_000, 100_000) if it <= most]:
             there = kept_replies(program, path, there, kept, ecus)
-            words = kept, ecus, os.stat(path).st_size >> 20, *used(program, path)
+            words = kept, ecus, os.stat(path).st_size >> 20, *started(program, path)
             print("| %d of %d | %d MB | %.2f | %d MB |" % words, flush=True)
 
 
