@@ -164,19 +164,16 @@ def commands(program, own):
         print("| %s | %d | %d |" % (name, taken, blocks), flush=True)
 
 
-def seconds(program, path, script, own):
+def seconds(program, path, script):
     """The processor seconds that a script takes. What a disk takes to synchronise isn't in them."""
-    given = own / "script of lines"
-    given.write_text("".join(line + "\n" for line in script), encoding="ascii")
-    with open(given, "rb") as lines:
-        return used([program, "run", str(path)], lines)[0]
+    return used([program, "run", str(path)], script)[0]
 
 
 def lines(program, own):
     for name, words in FLEETS.items():
         script = list(fleet.script(**words))
-        memory = seconds(program, ":memory:", script, own)
-        file = seconds(program, own / name, script, own)
+        memory = seconds(program, ":memory:", script)
+        file = seconds(program, own / name, script)
         print("| %s | %d | %d | %.2f |" % (name, len(script) / file, len(script) / memory, memory / file))
 
 
@@ -355,7 +352,6 @@ def senders(program, own, lines=100):
 def loading(program, own):
     """A repeat behind a start, less the same once more; and the peaks of memory of a start without it and with it."""
     first = list(manifests(100, 1, 1, 4))
-    (own / "first").write_text(first[0] + "\n", encoding="ascii")
     wide = {"128 images of the greatest size": ONE | {"images": 128, "is_great": True},
             "200 campaigns for 1,000 vehicles each": ONE | {"vehicles": 1100, "campaigns": 200, "reach": MANY}}
     for name, words in (FILES | wide).items():
@@ -364,17 +360,22 @@ def loading(program, own):
         whole = alone(program, trials.copied(path, own / "next"), first)
         again = alone(program, trials.copied(path, own / "next"), first, first)
         _, begun = used([program, "run", str(trials.copied(path, own / "next"))])
-        with open(own / "first", "rb") as given:
-            _, loaded = used([program, "run", str(trials.copied(path, own / "next"))], given)
+        _, loaded = used([program, "run", str(trials.copied(path, own / "next"))], first)
         print("| %s | %d | %d MB | %d MB |" % (name, whole - again, begun, loaded), flush=True)
 
 
-def used(words, given=subprocess.DEVNULL):
-    """The processor seconds that a program takes, and its peak memory in MB."""
-    it = subprocess.Popen(words, stdin=given, stdout=subprocess.DEVNULL)
-    _, status, usage = os.wait4(it.pid, 0)
-    assert status == 0
-    return usage.ru_utime + usage.ru_stime, usage.ru_maxrss >> 10
+def used(words, script=()):
+    """The processor seconds that a program takes for a script, and its peak memory in MB behind it. That is the kernel's own figure
+    of the program: what `wait4` tells of memory counts the process that started it too."""
+    with subprocess.Popen(words, stdin=subprocess.PIPE, stdout=subprocess.PIPE) as it:
+        answers = asked(it, [*script, "x"])
+        with open("/proc/%d/status" % it.pid, encoding="ascii") as told:
+            memory = int(re.search(r"VmHWM:\s+(\d+)", told.read())[1]) >> 10
+        it.stdin.close()
+        it.stdout.read()
+        _, status, usage = os.wait4(it.pid, 0)
+    assert status == 0 and answers[-1] == b"refused 5 NotJson\n"
+    return usage.ru_utime + usage.ru_stime, memory
 
 
 def start(program, own, most=MOST):
@@ -445,7 +446,7 @@ def rates(program, own, number=2000):
             assert sent(running, requests)
             took = (processor(running.pid) - begun) / 1_000_000
             assert http_cases.ended(running)
-        yield kind, number / took, number / seconds(program, own / "script", lines, own)
+        yield kind, number / took, number / seconds(program, own / "script", lines)
 
 
 def instructions(program, path, requests):
