@@ -8,8 +8,8 @@
     speed.py PROGRAM lines          lines for a second of a processor, over a file and over memory
     speed.py PROGRAM growth         how a manifest's time grows with kept replies, images, campaigns that run or are closed, vehicles
     speed.py PROGRAM growth_counts  the same in instructions, over files
-    speed.py PROGRAM senders        instructions of a repeated, a stale, a forged and a new manifest of 4 ECUs, over memory and files with
-                                    so many campaigns and images, behind a first manifest
+    speed.py PROGRAM senders        instructions of a fresh, a repeated, a stale and a forged manifest of 4 ECUs, over files with so many
+                                    campaigns and images, behind a first manifest
     speed.py PROGRAM loading        what the first manifest behind a start takes more, over such files, and what stays in memory
     speed.py PROGRAM start          processor seconds and memory of a start over files of so many kept replies
     speed.py PROGRAM sums           instructions of a start and of a manifest over files with and without sums of pages
@@ -30,7 +30,6 @@ import sys
 import threading
 import time
 from contextlib import closing
-from pathlib import Path
 
 sys.dont_write_bytecode = True
 
@@ -165,19 +164,16 @@ def commands(program, own):
         print("| %s | %d | %d |" % (name, taken, blocks), flush=True)
 
 
-def seconds(program, path, script, own):
+def seconds(program, path, script):
     """The processor seconds that a script takes. What a disk takes to synchronise isn't in them."""
-    given = own / "script of lines"
-    given.write_text("".join(line + "\n" for line in script), encoding="ascii")
-    with open(given, "rb") as lines:
-        return used([program, "run", str(path)], lines)
+    return used([program, "run", str(path)], script)[0]
 
 
 def lines(program, own):
     for name, words in FLEETS.items():
         script = list(fleet.script(**words))
-        memory = seconds(program, ":memory:", script, own)
-        file = seconds(program, own / name, script, own)
+        memory = seconds(program, ":memory:", script)
+        file = seconds(program, own / name, script)
         print("| %s | %d | %d | %.2f |" % (name, len(script) / file, len(script) / memory, memory / file))
 
 
@@ -278,26 +274,19 @@ def growth(program, _):
         print("| %s | %.0f |" % (name, cost(program, [*prepared(**words), *first[:100]], first[100:])), flush=True)
 
 
-def in_turn(program, path, own, before, kinds):
-    """The instructions that a line of each kind takes, behind the lines before, which callgrind leaves out."""
-    told, taken = own / "turn", []
+def alone(program, path, script, before=(), answered=b"reply "):
+    """The instructions that a line takes behind a start over a file and the lines before, which callgrind leaves out."""
+    told = path.parent / "told"
     words = [*callgrind(told, "--instr-atstart=no"), str(program), "run", str(path)]
-    with subprocess.Popen(words, stdin=subprocess.PIPE, stdout=subprocess.PIPE, stderr=subprocess.DEVNULL) as it:
+    with subprocess.Popen(words, stdin=subprocess.PIPE, stdout=subprocess.PIPE, stderr=subprocess.PIPE) as it:
         asked(it, [fleet.line("show", vehicle="v000000"), *before])
-        for number, (script, answered) in enumerate(kinds, 1):
-            for word in ("on", "off"):
-                subprocess.run(["callgrind_control", "-i", word, str(it.pid)], capture_output=True, check=True)
-                answers = asked(it, script) if word == "on" else answers
-            subprocess.run(["callgrind_control", "-d", str(it.pid)], capture_output=True, check=True)
-            assert all(answer.startswith(answered) for answer in answers)
-            totals = re.search(r"^totals: (\d+)", Path("%s.%d" % (told, number)).read_text("utf-8", "replace"), re.M)
-            taken.append(int(totals[1]) // len(script))
-    return taken
-
-
-def alone(program, path, script, before=()):
-    """The instructions that a manifest takes behind a start over a file and the lines before, which callgrind leaves out."""
-    return in_turn(program, path, path.parent, before, [(script, b"reply ")])[0]
+        subprocess.run(["callgrind_control", "-i", "on", str(it.pid)], capture_output=True, check=True)
+        answers = asked(it, script)
+        subprocess.run(["callgrind_control", "-i", "off", str(it.pid)], capture_output=True, check=True)
+        it.stdin.close()
+        taken = collected(it.stderr.read())
+    assert all(answer.startswith(answered) for answer in answers)
+    return taken // len(script)
 
 
 def kept_replies(program, path, there, kept, ecus=1):
@@ -346,52 +335,47 @@ FILES = {
 
 
 def senders(program, own, lines=100):
-    """Counters 1 and 3 are accepted first, so that 2 is stale and 4 is new, which comes last."""
+    """Counters 1 and 3 are accepted first, so that 2 is stale and 4 is fresh."""
     told = [list(manifests(100, lines, counter, 4)) for counter in (1, 2, 3, 4)]
-    kinds = [(told[0], b"reply "), (told[1], b"refused 13 "), ([forged(line) for line in told[3]], b"refused 12 "), (told[3], b"reply ")]
+    signed = [forged(line) for line in told[3]]
+    kinds = {"fresh": (told[3], b"reply "), "repeat": (told[0], b"reply "),
+             "stale": (told[1], b"refused 13 "), "forged": (signed, b"refused 12 ")}
     for name, words in FILES.items():
-        before = [*prepared(**words), *told[0], *told[2]]
-        print("| %s | %d | %d | %d | %d |" % (name, *in_turn(program, ":memory:", own, before, kinds)), flush=True)
-        assert trials.printed(program, own / name, before, 3600) is not None
-        print("| the same over a file | %d | %d | %d | %d |" % tuple(in_turn(program, own / name, own, told[0][:1], kinds)), flush=True)
+        path = own / name
+        assert trials.printed(program, path, [*prepared(**words), *told[0], *told[2]], 3600) is not None
+        taken = []
+        for script, answered in kinds.values():
+            taken.append(alone(program, trials.copied(path, own / "next"), script, told[0][:1], answered))
+        print("| %s | %s |" % (name, " | ".join(map(str, taken))), flush=True)
 
 
 def loading(program, own):
-    """A repeat behind a start, less the same once more, and how much more memory there is behind it."""
+    """A repeat behind a start, less the same once more; and the peaks of memory of a start without it and with it."""
     first = list(manifests(100, 1, 1, 4))
     wide = {"128 images of the greatest size": ONE | {"images": 128, "is_great": True},
             "200 campaigns for 1,000 vehicles each": ONE | {"vehicles": 1100, "campaigns": 200, "reach": MANY}}
     for name, words in (FILES | wide).items():
         path = own / name
         assert trials.printed(program, path, [*prepared(**words), *first], 3600) is not None
-        whole, again = (alone(program, trials.copied(path, own / "next"), first, before) for before in ((), first))
-        with subprocess.Popen([program, "run", str(path)], stdin=subprocess.PIPE, stdout=subprocess.PIPE) as it:
-            taken = [(asked(it, lines), memory(it.pid, "VmRSS"))[1] for lines in (["nothing"], first)]
-            it.stdin.close()
-        print("| %s | %d | %d kB |" % (name, whole - again, taken[1] - taken[0]), flush=True)
+        whole = alone(program, trials.copied(path, own / "next"), first)
+        again = alone(program, trials.copied(path, own / "next"), first, first)
+        _, begun = used([program, "run", str(trials.copied(path, own / "next"))])
+        _, loaded = used([program, "run", str(trials.copied(path, own / "next"))], first)
+        print("| %s | %d | %d MB | %d MB |" % (name, whole - again, begun, loaded), flush=True)
 
 
-def memory(pid, name):
-    """The kB of memory that a program takes (VmRSS), or took at most (VmHWM)."""
-    with open("/proc/%d/status" % pid, encoding="ascii") as told:
-        return next(int(line.split()[1]) for line in told if line.startswith(name + ":"))
-
-
-def used(words, given=subprocess.DEVNULL):
-    """The processor seconds that a program takes."""
-    it = subprocess.Popen(words, stdin=given, stdout=subprocess.DEVNULL)
-    _, status, usage = os.wait4(it.pid, 0)
-    assert status == 0
-    return usage.ru_utime + usage.ru_stime
-
-
-def started(program, path):
-    """The processor seconds that a start over a file takes, and its peak of memory in MB."""
-    with subprocess.Popen([program, "run", str(path)], stdin=subprocess.PIPE, stdout=subprocess.PIPE) as it:
-        asked(it, ["nothing"])
-        took, peak = processor(it.pid) / 1e6, memory(it.pid, "VmHWM")
+def used(words, script=()):
+    """The processor seconds that a program takes for a script, and its peak memory in MB behind it. That is the kernel's own figure
+    of the program: what `wait4` tells of memory counts the process that started it too."""
+    with subprocess.Popen(words, stdin=subprocess.PIPE, stdout=subprocess.PIPE) as it:
+        answers = asked(it, [*script, "x"])
+        with open("/proc/%d/status" % it.pid, encoding="ascii") as told:
+            memory = int(re.search(r"VmHWM:\s+(\d+)", told.read())[1]) >> 10
         it.stdin.close()
-    return took, peak >> 10
+        it.stdout.read()
+        _, status, usage = os.wait4(it.pid, 0)
+    assert status == 0 and answers[-1] == b"refused 5 NotJson\n"
+    return usage.ru_utime + usage.ru_stime, memory
 
 
 def start(program, own, most=MOST):
@@ -400,7 +384,8 @@ def start(program, own, most=MOST):
         trials.printed(program, path, prepared(100, 10, 10, ecus))
         for kept in [it for it in (1000, 10_000, 100_000) if it <= most]:
             there = kept_replies(program, path, there, kept, ecus)
-            words = kept, ecus, os.stat(path).st_size >> 20, *started(program, path)
+            took, memory = used([program, "run", str(path)])
+            words = kept, ecus, os.stat(path).st_size >> 20, took, memory
             print("| %d of %d | %d MB | %.2f | %d MB |" % words, flush=True)
 
 
@@ -461,7 +446,7 @@ def rates(program, own, number=2000):
             assert sent(running, requests)
             took = (processor(running.pid) - begun) / 1_000_000
             assert http_cases.ended(running)
-        yield kind, number / took, number / seconds(program, own / "script", lines, own)
+        yield kind, number / took, number / seconds(program, own / "script", lines)
 
 
 def instructions(program, path, requests):
