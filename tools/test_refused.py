@@ -166,7 +166,7 @@ class Hashes(OnATree):
         self.assertNotEqual(hashes(crates_here(), ["low"]), low)
 
     def test_what_crosses_the_boundary_is_read_above(self):
-        self.above("use low::counts::same;")
+        self.above("use low::counts::{same, LEAST};")
         texts = [
             ("src/counts.rt", "ensures { result ≡ a }", "ensures { a ≡ result }"),
             ("src/counts.rt", "LEAST: u64 = 3", "LEAST: u64 = 4"),
@@ -206,7 +206,7 @@ class Hashes(OnATree):
         other = "fn other(a: u64) -> u64\n    ensures { result ≡ halved }\n{\n    a\n}"
         namings = [
             [("src/more.rt", "pub use crate::counts::halved;\n")],
-            [("src/more.rt", "pub const HALF: fn(u64) -> u64 = halved;\n")],
+            [("src/more.rt", "pub static HALF: fn(u64) -> u64 = halved;\n")],
             [("src/more.rt", "macro_rules! half { () => { halved(2) } }\n")],
             [("specs/More.antt", "use Rattle.low.specs.contracts.counts.halved\n")],
             # (by another one, which antt names)
@@ -232,7 +232,8 @@ class Hashes(OnATree):
             "of a cycle of calls": "#[cycle(parity)]\nfn even(a: u64) -> u64\n    ensures { result ≡ 4 }\n{\n    a\n}",
             "for C": "extern \"C\" fn made() -> u64\n    ensures { result ≡ 4 }\n{\n    4\n}",
             "const": "const fn made() -> u64\n    ensures { result ≡ 4 }\n{\n    4\n}",
-            "of an operator": "impl Add for Held {\n    fn add(self, b: Held) -> Held\n        ensures { result ≡ 4 }\n    {\n        self\n    }\n}",
+            "of an operator": "impl Add for Held {\n    fn add(self, b: Held) -> Held\n        ensures { result ≡ 4 }\n    {\n        b\n    }\n}",
+            "of a name that macros call": "impl Held {\n    pub fn write_fmt(&self) -> u64\n        ensures { result ≡ 4 }\n    {\n        4\n    }\n}",
             "of a fault by ?": "impl From<Held> for u8 {\n    fn from(a: Held) -> u8\n        ensures { result ≡ 4 }\n    {\n        4\n    }\n}",
         }
         for name, text in texts.items():
@@ -260,23 +261,23 @@ class Hashes(OnATree):
 
     def test_a_public_function_below_is_read_above_where_it_is_named(self):
         halved = "#[inline]\npub fn halved(a: u64) -> u64\n    ensures { nat_le result a }\n{\n    a / 2\n}"
-        of_held = "pub struct Held;\nimpl Held {\n    pub fn halved(a: u64) -> u64\n        ensures { nat_le result a }\n    {\n        a / 2\n    }\n}"
+        begun = "pub struct Held;\nimpl Held {"
+        of_held = f"{begun}\n    pub fn halved(a: u64) -> u64\n        ensures {{ nat_le result a }}\n    {{\n        a / 2\n    }}\n}}"
         namings = [
             ("crates/up/src/more.rt", "fn calls(a: u64) -> u64 { halved(a) }"),
             ("crates/up/proofs/Lib.antt", "use Rattle.low.specs.contracts.counts.halved as f"),
             ("crates/up/refused/calls.edit", "file: src/lib.rt\nold:     2\nnew:     halved(2)\n"),
-            ("crates/low/src/more.rt", "pub const HALF: fn(u64) -> u64 = halved;"),
+            ("crates/low/src/more.rt", "pub static HALF: fn(u64) -> u64 = halved;"),
             ("crates/low/src/more.rt", "pub trait Half { fn half(a: u64) -> u64 { halved(a) } }"),
             ("crates/low/specs/More.antt", "use Rattle.low.specs.contracts.counts.halved as f"),
         ]
-        for text in (halved, of_held):
+        for text, before in ((halved, ""), (of_held, f"{begun}}}")):
             for path, naming in namings:
                 with self.subTest(naming):
                     self.setUp()
-                    self.above("pub struct Held;")
-                    self.more("pub struct Held;\nimpl Held {}" if "Held" in text else "")
+                    self.more(f"// here\n{before}")
                     now = self.changed()
-                    self.turn("crates/low/src/counts.rt", "pub struct Held;\nimpl Held {}" if "Held" in text else "pub fn same", text if "Held" in text else f"{text}\npub fn same")
+                    self.turn("crates/low/src/counts.rt", f"// here\n{before}", text)
                     self.turn("crates/low/src/counts.rt", "nat_le result a", "nat_le a result")
                     # a clause below that has its name knows a variable by it
                     self.turn("crates/low/src/counts.rt", "requires { a ≡ true }", "requires { (halved : ℕ) → a ≡ true }")
@@ -290,7 +291,7 @@ class Hashes(OnATree):
                     self.assertEqual(now(), ["low"])
 
     def test_what_stands_beside_a_function_below_is_read_above(self):
-        self.more("pub struct Held;\nimpl Held {\n    ghost view = { 4 }\n    pub fn made() -> u64 {\n        4\n    }\n    pub const MADE: u64 = 3;\n}")
+        self.more("pub struct Held;\nimpl Held {\n    ghost view = { 4 }\n    pub fn made() -> u64 {\n        4\n    }\n    const MADE: u64 = 3;\n}")
         now = self.changed()
         self.turn("crates/low/src/counts.rt", "pub fn made() -> u64 {\n        4", "pub fn made(a: u64) -> u64 {\n        a")
         self.assertEqual(now(), ["low"])
@@ -298,6 +299,29 @@ class Hashes(OnATree):
             now = self.changed()
             self.turn("crates/low/src/counts.rt", old, new)
             self.assertEqual(now(), ["low", "up"])
+
+    def test_a_constant_below_is_read_above_where_it_is_named(self):
+        made = "const MADE: [u64; 2] = [3, 4];\n"
+        namings = [
+            ("crates/up/src/more.rt", "fn calls(a: u64) -> u64 { MADE[0] }"),
+            ("crates/low/src/counts.rt", "pub const MORE: u64 = 3;\npub struct Held { a: [u64; MADE] }"),
+            ("crates/low/src/counts.rt", "pub struct Held { pub a: u64, ghost b: { MADE } }"),
+            ("crates/low/src/counts.rt", "ghost use Rattle.low.specs.declared.TheConstants.{MADE as first};"),
+            ("crates/low/specs/Numbers.antt", "use Rattle.low.specs.declared.TheConstants.{MADE as first}"),
+        ]
+        for of in ("", "pub "):
+            for path, naming in namings:
+                with self.subTest(naming):
+                    self.setUp()
+                    self.above("")
+                    now = self.changed()
+                    self.more(of + made)
+                    self.turn("crates/low/src/counts.rt", "[3, 4]", "[3, 5]")
+                    self.assertEqual(now(), ["low"])
+                    self.write(path, f"{naming}\n{Path(path).read_text(encoding='utf-8')}")
+                    now = self.changed()
+                    self.turn("crates/low/src/counts.rt", "[3, 5]", "[3, 4]")
+                    self.assertEqual(now(), ["low", "up"])
 
     def test_how_a_function_below_is_proved_is_not_read_above(self):
         self.above("use low::counts::same;")
@@ -333,7 +357,7 @@ impl Counted for Held {
             ("doubled, same as alike};", "{least_count, reaches as reach}, same as alike};", ["low"]),
             ("same as alike};", "same as alike};\nuse crate::Held as Other;", ["low"]),
             ("same as alike};", "reaches as alike};", ["low"]),
-            ("◌≤◌, ℕ}", "◌<◌, List}", ["low"]),
+            ("◌≤◌, ℕ}", "◌<◌, List, []}", ["low"]),
             ("{least as first}", "{least as first, least}", ["low"]),
             ("\nuse crate::Held as Other;", "", ["low"]),
             ("{least as first, least}", "{most as first, least}", ["low", "up"]),
@@ -426,7 +450,14 @@ impl Counted for Held {
         self.assertEqual(now(), ["low"])
         self.write("crates/up/proofs/Lib.antt", "use Rattle.low.proofs.Facts.{three}\n")
         now = self.changed()
+        self.write("crates/low/proofs/Lib.antt", "pub mod Facts\npub mod More\n")
+        self.write("crates/low/proofs/More.antt", "abbrev pub four : ℕ\nfour = 3\n")
+        self.assertEqual(now(), ["low"])
         self.turn("crates/low/proofs/Facts.antt", "three = 2", "three = 3")
+        self.assertEqual(now(), ["low", "up"])
+        self.turn("crates/low/proofs/Facts.antt", "ℕ}\n", "ℕ}\nuse Rattle.low.proofs.More.{four}\n")
+        now = self.changed()
+        self.turn("crates/low/proofs/More.antt", "four = 3", "four = 4")
         self.assertEqual(now(), ["low", "up"])
 
     def test_it_is_the_same_asked_for_alone_and_with_others(self):

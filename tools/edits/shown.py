@@ -1,29 +1,29 @@
 """What a crate shows to those above it, in parts, and which of the parts a crate above can reach.
 
-Rattle hands the check of a library, of the crates below, their public items and the private ones that these mention, "and no code", and their
+Of the crates below, rattle hands the check of a library their public items and the private ones that these mention, "and no code", and their
 statements. Of that the proof of a function reads what its own text leads to. So a part is left out where nothing leads to it:
 
-- **A function**, or a method of a type's own `impl`, with its contract, where its name stands nowhere in the text above and in nothing else that is
-  in; a private one, where it stands in nothing of its own crate that is in. Its contract is read where the function is called or passed on, and that
-  takes its name. What is called without a name (by an operator, `?`, a `for` loop, a conversion, at the end of a value's life) is a method of a
-  trait, and those are always in; macros of the kit's call methods of traits, and those written here are in, with the names that they hold. A clause
-  can't call a function, and knows it by no name: `same a` in a clause is refused as not in scope. antt names a function's contract by a path with
-  `specs.contracts` in it alone. So where some text of antt does that, all words of antt that the crates below show count as names of functions, and
-  else none does. What isn't called by name always stays: methods of traits and of their `impl`s, `const fn`, whose bodies stay too, cycles of calls
-  and functions for C.
-- **A name that a `use` or a `ghost use` brings**, where it stands nowhere else in what is in of that file: of an operator each sign, as `≡` of `◌≡◌`.
-  `pub use`, `*`, `as _` and what has an attribute stay, and all of them in a file that shows code or a macro, which may call the methods of a
+- **A function**, or a method of a type's own `impl`, with its contract, where its name stands nowhere in the text above, nor in the code of anything
+  that is in; a private one, where it stands in no code of its own crate that is in. Its contract is read where the function is called or passed
+  on, and that takes its name. What is called without a name (by an operator, `?`, a `for` loop, a conversion, at the end of a value's life) is a
+  method of a trait, and those are always in. Macros written here are in, with the names that they hold; those of the kit call methods by name on
+  what they are given, as `write!` does, and a method of such a name stays. A clause can't call a function, nor name it: `same a` in a clause is
+  refused as not in scope. antt names a function's contract by a path with `specs.contracts` in it alone. So where some text of antt has that word,
+  all words of antt that its crate shows count as names too. Methods of traits and of their `impl`s, `const fn`, cycles of calls and functions for C
+  always stay.
+- **A constant** of a module, where its name stands nowhere in the text above, nor in anything that is in, clauses and definitions too.
+- **A name that a `use` or a `ghost use` brings**, where it stands nowhere else in what is in of that file; of an operator its signs count, as `≡` of
+  `◌≡◌`. `pub use`, `*`, `as _` and what has an attribute stay, and so do all in a file that shows code or a macro, which may call the methods of a
   trait that a `use` brings.
 - **A line `mod x;`**, since it names a module to its own crate alone, and **a line `pub mod x;`** where `x` is no name in all this. What the module
   has in it is looked at by itself.
-- **A file of specs/**, with its line in Lib.antt, where nothing that is in has its path, `Rattle.CRATE.specs.FILE`. antt knows no name of another
-  file without such a line or path. A path that ends before the file's name takes in all files. What rattle makes itself, `declared` and `contracts`,
-  is made of src/.
-- **The lemma files** in proofs/ of a crate, unless something that is in names that crate's `proofs`. The files Invariants, Answers and Proof belong to
-  one function, and no crate above can name what they hold.
-- **The bodies** of functions, and attributes `#[tactic(..)]`, which say how to prove them: rattle hands over neither.
+- **A file of specs/ or proofs/**, with its line in Lib.antt, where nothing that is in has its path, `Rattle.CRATE.specs.FILE`: antt reads no name of
+  another file without. A path that ends before the file's name takes in all files. What rattle makes, `declared` and `contracts`, is made of src/.
+  The files Invariants, Answers and Proof belong to one function, and no crate above can name what they hold.
+- **The bodies** of functions, and attributes `#[tactic(..)]`, which say how to prove them: rattle hands over neither. The bodies of `const fn` and of
+  traits' defaults stay.
 
-All else is always in: constants, types, traits, `impl`s with their ghost items, attributes, macros and calls of macros among items.
+All else is always in: types, traits, `impl`s with their ghost items, attributes, macros and calls of macros among items.
 """
 import bisect
 import collections
@@ -37,16 +37,26 @@ from .kit import rtlib
 
 OF_A_FUNCTION = ("Invariants.antt", "Answers.antt", "Proof.antt")
 NEWLINE = b"\n"
-ALWAYS, NAMED, PRIVATE, BROUGHT, UNIT, LEMMAS = range(6)
+ALWAYS, NAMED, PRIVATE, CONSTANT, BROUGHT, SPECS, PROOFS = range(7)
 
-# What a text of antt names of a crate, `Rattle.CRATE.specs.FILE`, and what an attribute names, `CRATE::specs::FILE`.
+# What a text of antt names of a crate, `Rattle.CRATE.specs.FILE`, and what an attribute does, `CRATE::specs::FILE`.
 PATH = re.compile(r"\bRattle((?:\.[^\s.(){},;]+)*)")
 PATH_OF_CODE = re.compile(r"\b(\w+)\s*::\s*(specs|proofs)\b(?:\s*::\s*(\w+))?")
 ALL = ("*", "*", "*")
 
-# A part of a file that is shown: what the hash has of it, when it is in and by which name, the marks of its words, for which a `use` of its file may
-# stand, the words that may name a function or a module, and the paths of antt that stand in it.
-Part = collections.namedtuple("Part", "said when name marks names paths", defaults=[ALWAYS, None, frozenset(), frozenset(), frozenset()])
+# The methods that macros and derives of the kit call on what they are given.
+OF_MACROS = """
+action add alloc as_ as_ref as_str begin_map begin_seq borrow chars clone cmp compare_exchange custom default deref deref_mut drop duplicate end end_map
+end_seq eprint eprintln eq eq_ignore_ascii_case error expect_end expect_item fetch_add fetch_and fetch_max fetch_min fetch_nand fetch_or fetch_sub
+fetch_xor fill finish finish_endless fmt from ge gt hash help index index_mut into into_inner into_iter invalid is_done is_empty is_none is_some key
+kind le len lend load long lt map map_err mark ne next note num_args ok_or or_absent parse partial_cmp pass print println put_depth read recv release
+remove required send settle short shown_if skip store str_cased strip_prefix swap tag take_back to_digit union unit unknown_key unknown_variant
+value_name variant_key with write_fmt write_str zip
+""".split()
+
+# A part of a file that is shown: what the hash has of it, when it is in and by which name, the marks of its words, which a `use` of its file may
+# bring, the words that may name a function or a module, those that may name a constant, and the paths of antt that stand in it.
+Part = collections.namedtuple("Part", "said when name marks names words paths", defaults=[ALWAYS, None, *[frozenset()] * 4])
 
 # What a crate shows: the parts of each of its files, by path, and the words of antt that may name functions.
 Shown = collections.namedtuple("Shown", "files cites")
@@ -66,26 +76,28 @@ def shown_by(crates):
     for (name, path), rows in zip(read, tokens):
         shown[name].files[path] = _parts(name, path, rows, Path(crates[name].folder, path).read_bytes())
     for name, here in shown.items():
-        antt = {word for (crate, _), rows in zip(read, tokens) if crate == name for it in rows if it.kind == "Antt" for word in words_of(it.word)}
+        antt = words_of("\n".join({it.word for (crate, _), rows in zip(read, tokens) if crate == name for it in rows if it.kind == "Antt"}))
         here.cites.update(antt if "contracts" in antt else ())
     return shown
 
 
 def reached(texts, shown):
-    """Returns what a crate above, which has these texts, reaches of what each crate below it shows: of each file that something is in of, its path and
-    the text of that; the files of src/ and specs/, and the lemma files."""
-    words, paths = words_of("\n".join({line for text in texts for line in text.split("\n")})), set().union(*map(paths_in, texts))
+    """Returns what a crate above, which has these texts, reaches of what each crate below it shows: the path of each file and the text of what is in,
+    first those of src/ and specs/, and then the lemma files."""
+    lines, paths = {line for text in texts for line in text.split("\n")}, set().union(*map(paths_in, texts))
+    words = words_of("\n".join(lines))
     cites = set().union(*(it.cites for it in shown.values()), words if "contracts" in words else ())
-    words, own, marks = words | cites, {it: {*cites} for it in shown}, collections.defaultdict(set)
-    within, out = collections.defaultdict(set), [(crate, path, at) for crate, it in shown.items() for path in it.files for at in range(len(it.files[path]))]
+    words, own, named = words | cites, {it: {*cites} for it in shown}, words | cites
+    marks, within = collections.defaultdict(set), collections.defaultdict(set)
+    out = [(crate, path, at) for crate, it in shown.items() for path in it.files for at in range(len(it.files[path]))]
 
     def is_in(crate, path, part):
-        if part.when in (NAMED, PRIVATE):
-            return part.name in (words if part.when == NAMED else own[crate])
-        if part.when in (UNIT, LEMMAS):
-            part_of = "specs" if part.when == UNIT else "proofs"
-            return any(it in paths for it in (ALL, (crate, "*", "*"), (crate, part_of, "*"), (crate, part_of, part.name)))
-        return part.when == ALWAYS or part.name <= marks[crate, path]
+        if part.when in (SPECS, PROOFS):
+            of = "specs" if part.when == SPECS else "proofs"
+            return not paths.isdisjoint((ALL, (crate, "*", "*"), (crate, of, "*"), (crate, of, part.name)))
+        if part.when == BROUGHT:
+            return part.name <= marks[crate, path]
+        return part.when == ALWAYS or part.name in {NAMED: words, PRIVATE: own[crate], CONSTANT: named}[part.when]
 
     grown = True
     while grown:
@@ -100,6 +112,7 @@ def reached(texts, shown):
             own[crate] |= part.names
             paths |= part.paths
             marks[crate, path] |= part.marks
+            named |= part.words
         grown, out = len(left) < len(out), left
 
     def told(crate, is_lemma):
@@ -115,14 +128,14 @@ def words_of(text):
 
 
 def paths_in(text, crate=None):
-    """Returns the paths of antt that stand in a text: of each the crate, `specs` or `proofs`, and the file of specs/; `*` where it ends before. In code
-    `crate` is this one."""
+    """Returns the paths of antt that stand in a text: of each the crate, `specs` or `proofs`, and the file; `*` where it ends before.
+    In code `crate` is this one."""
     found = [(*it.split(".")[1:4], "*", "*", "*")[:3] for it in PATH.findall(text.replace("«", "").replace("»", ""))]
     if "Code specs\n" in text or "Code proofs\n" in text or "::" in text:
         # (in a text as it is, or in its words)
         code = text.replace("\nCode :\nCode :\nCode ", "::")
         found += [(crate if it == "crate" else it, part, file or "*") for it, part, file in PATH_OF_CODE.findall(code)]
-    return {(it, part, "*" if part == "proofs" else file) for it, part, file in found}
+    return {*found}
 
 
 def marks_of(word):
@@ -143,16 +156,15 @@ def _parts(crate, path, rows, text):
     lines = spelled(rows, text)
     if path.endswith(".rt"):
         return _parts_of_code(crate, rows, lines)
-    said = "\n".join(lines.values())
-    if path.startswith("proofs/"):
-        return [Part(said, LEMMAS, "*", paths=paths_in(said))]
-    unit, words = path.split("/")[1].removesuffix(".antt"), [it.word for it in rows if it.word not in ("pub", "mod")]
-    if path != "specs/Lib.antt":
-        return [Part(said, UNIT, unit, paths=paths_in(said))]
-    if re.findall(r"mod (\S+) (?:pub )?", " ".join([*(it.word for it in rows), ""])) != words:
-        # (it holds more, and may name each file by its bare name)
-        return [Part(said, paths={*paths_in(said), (crate, "specs", "*")})]
-    return [Part(f"mod {it}", UNIT, it) for it in words]
+    said, (of, _, file) = "\n".join(lines.values()), path.partition("/")
+    when, paths = SPECS if of == "specs" else PROOFS, paths_in(said)
+    if file != "Lib.antt":
+        return [Part(said, when, file.split("/")[0].removesuffix(".antt"), words=words_of(said), paths=paths)]
+    modules = re.findall(r"mod (\S+) (?:pub )?", " ".join([*(it.word for it in rows), ""]))
+    if modules == [it.word for it in rows if it.word not in ("pub", "mod")]:
+        return [Part(f"mod {it}", when, it) for it in modules]
+    # (it holds more, and may name each file by its bare name)
+    return [Part(said, words=words_of(said), paths={*paths, (crate, of, "*")})]
 
 
 def _parts_of_code(crate, rows, lines):
@@ -161,19 +173,28 @@ def _parts_of_code(crate, rows, lines):
     def part(tokens, when=ALWAYS, name=None):
         said = "\n".join(lines[it.start] for it in tokens)
         code = [it.word for it in tokens if it.kind == "Code"]
-        names = {name for before, word in zip(["", *code], code) if before != "fn" for name in words_of(word)}
-        return Part(said, when, name, {mark for it in tokens for mark in marks_of(it.word)}, names, paths_in(said, crate))
+        names = set().union(*map(words_of, {word for before, word in zip(["", *code], code) if before != "fn"}))
+        # (a sign of code is none that a `ghost use` brings)
+        marks = set().union(*map(words_of, {*code}), *map(marks_of, {it.word for it in tokens if it.kind != "Code"}))
+        return Part(said, when, name, marks, names, marks, paths_in(said, crate))
 
     functions = functions_of(rows)
     cuts = _joined([*_tactics(rows), *((it.opens, it.closes, None) for it in functions if not it.is_read_above)])
-    kept, left_out = [*_outside(rows, cuts)], [it for it in functions if it.begins is not None]
+    kept, by_name = [*_outside(rows, cuts)], [it for it in functions if it.begins is not None and _is_by_name(it)]
     shows_code = any(it.is_read_above for it in functions) or _has_macro([it.word for it in kept if it.kind == "Code"])
     places, regions = [it.start for it in kept], []
-    for it in left_out:
+    for it in by_name:
         tokens = kept[bisect.bisect_left(places, it.begins) : bisect.bisect_right(places, it.closes)]
         regions.append((it.begins, it.closes + 1, [part(tokens, PRIVATE if it.is_private else NAMED, it.name)]))
-    for tokens, made in _items([*_outside(kept, regions)], shows_code):
-        regions.append((tokens[0].start, tokens[-1].end, [part(tokens)] if made is None else made))
+    for tokens in _items([*_outside(kept, regions)]):
+        kind, name = [it.word for it in tokens if it.word != "pub"][:2]
+        if kind == "const":
+            made = [part(tokens, CONSTANT, name)]
+        elif kind == "mod":
+            made = [Part(f"pub mod {name}", NAMED, name)] if tokens[0].word == "pub" else []
+        else:
+            made = (not shows_code and _brought(tokens, kind == "ghost")) or [part(tokens)]
+        regions.append((tokens[0].start, tokens[-1].end, made))
     parts, rest, regions = [], [], iter(_joined(regions))
     start, end, made = next(regions, (math.inf, math.inf, []))
     for it in kept:
@@ -184,6 +205,11 @@ def _parts_of_code(crate, rows, lines):
         elif made:
             parts, rest, made = [*parts, *([part(rest)] if rest else []), *made], [], []
     return parts + ([part(rest)] if rest else [])
+
+
+def _is_by_name(function):
+    """Returns whether a text has to have the function's name to call it."""
+    return function.is_private or not function.is_own or function.name not in OF_MACROS
 
 
 def _joined(regions):
@@ -217,33 +243,39 @@ def _tactics(rows):
 
 def _has_macro(words):
     """Returns whether a macro is declared or called among these words of code."""
-    return any(sign == "!" and re.fullmatch(r"\w+", before) and (after in "({[" or before == "macro_rules") for before, sign, after in zip(words, words[1:], words[2:]))
+    threes = zip(words, words[1:], words[2:])
+    return any(sign == "!" and re.fullmatch(r"\w+", before) and (after in "({[" or before == "macro_rules") for before, sign, after in threes)
 
 
-def _items(rows, shows_code):
-    """Yields the tokens of each `use`, `ghost use` and `mod` line in a file of src/ that is no more than that, and the parts that it makes, or None
-    where it stays as it is."""
-    at, is_start = 0, True
+def _items(rows):
+    """Yields the tokens of each `use`, `ghost use` and `mod` line in a file of src/, and of each constant of a module, that has no attribute."""
+    at, depth, is_start = 0, 0, True
     while at < len(rows):
         words = [it.word for it in rows[at : at + 4]]
-        is_code, end = rows[at].kind == "Code", at + 1
-        while is_start and is_code and end < len(rows) and (rows[end - 1].word, rows[end - 1].kind) != (";", "Code"):
-            end += 1
-        tokens = rows[at:end]
-        if is_start and is_code and (words[0] == "use" or words[:2] == ["ghost", "use"]):
-            yield tokens, None if shows_code else _brought(tokens, words[0] == "ghost")
-            at = end
-        elif is_start and is_code and words[0] == "mod" and words[2:3] == [";"]:
-            yield tokens, []
-            at = end
-        elif is_start and is_code and words[:2] == ["pub", "mod"] and words[3:4] == [";"]:
-            yield tokens, [Part(f"pub mod {words[2]}", NAMED, words[2])]
-            at = end
-        elif is_code and words[:3] == ["#", "!", "["]:
+        bare = words[words[0] == "pub" :]
+        is_use = words[0] == "use" or words[:2] == ["ghost", "use"]
+        is_constant = depth == 0 and bare[:1] == ["const"] and bare[1:2] != ["_"] and bare[2:3] == [":"]
+        if rows[at].kind == "Code" and words[:3] == ["#", "!", "["]:
             at += closing([it.word for it in rows[at:]], 2) + 1
+        elif rows[at].kind == "Code" and is_start and (is_use or is_constant or bare[:1] == ["mod"] and bare[2:3] == [";"]):
+            end = _end(rows, at)
+            yield rows[at:end]
+            at = end
         else:
-            is_start = is_code and words[0] in "{};"
-            at += 1
+            word = words[0] if rows[at].kind == "Code" else "-"
+            depth += (word == "{") - (word == "}")
+            at, is_start = at + 1, word in "{};"
+
+
+def _end(rows, at):
+    """Returns where the item that begins at `at` has ended: behind a `;` outside brackets and braces."""
+    depth = 0
+    for here in range(at, len(rows)):
+        word = rows[here].word if rows[here].kind == "Code" else "-"
+        depth += (word in "{([") - (word in "})]")
+        if word == ";" and not depth:
+            return here + 1
+    return len(rows)
 
 
 def _brought(tokens, is_ghost):
@@ -257,7 +289,7 @@ def _brought(tokens, is_ghost):
         said = f"{'ghost use' if is_ghost else 'use'} {('.' if is_ghost else '::').join(path)} as {name}"
         # (of the path the first name alone may be one that another `use` of the file brings)
         names = set() if is_ghost else {word for it in path for word in words_of(it)}
-        parts.append(Part(said, BROUGHT, marks_of(name), marks_of(path[0].split(".")[0]), names, paths_in(said)))
+        parts.append(Part(said, BROUGHT, marks_of(name), marks_of(path[0].split(".")[0]), names, words_of(said), paths_in(said)))
     return parts
 
 
