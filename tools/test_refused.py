@@ -374,8 +374,9 @@ impl Counted for Held {
                 self.turn(path, old, new)
                 self.assertEqual(now(), crates)
 
-    def test_what_code_below_may_call_by_a_name_that_is_brought_is_read_above(self):
-        for text in ("pub trait More { fn more(&self) -> u64 { self.count() } }", "macro_rules! more { () => { 4.count() } }", "more! { 4 }"):
+    def test_what_may_use_a_name_that_is_brought_below_and_not_say_it_is_read_above(self):
+        default = "pub trait More { fn more(&self) -> u64 { self.count() } }"
+        for text in (default, "macro_rules! more { () => { 4.count() } }", "more! { 4 }", "mod third;"):
             with self.subTest(text):
                 self.write("crates/low/src/more.rt", f"{text}\n")
                 now = self.changed()

@@ -14,7 +14,7 @@ statements. Of that the proof of a function reads what its own text leads to. So
 - **A constant** of a module, where its name stands nowhere in the text above, nor in anything that is in, clauses and definitions too.
 - **A name that a `use` or a `ghost use` brings**, where it stands nowhere else in what is in of that file; of an operator its signs count, as `≡` of
   `◌≡◌`. `pub use`, `*`, `as _` and what has an attribute stay, and so do all in a file that shows code or a macro, which may call the methods of a
-  trait that a `use` brings.
+  trait that a `use` brings. The names that a `use` brings serve the modules below its own too, so they stay in a file that declares modules.
 - **A line `mod x;`**, since it names a module to its own crate alone, and **a line `pub mod x;`** where `x` is no name in all this. What the module
   has in it is looked at by itself.
 - **A file of specs/ or proofs/**, with its line in Lib.antt, where nothing that is in has its path, `Rattle.CRATE.specs.FILE`: antt reads no name of
@@ -162,7 +162,7 @@ def _parts(crate, path, rows, text):
         return [Part(said, when, file.split("/")[0].removesuffix(".antt"), words=words_of(said), paths=paths)]
     modules = re.findall(r"mod (\S+) (?:pub )?", " ".join([*(it.word for it in rows), ""]))
     if modules == [it.word for it in rows if it.word not in ("pub", "mod")]:
-        return [Part(f"mod {it}", when, it) for it in modules]
+        return [Part(f"mod {it}", when, it.strip("«»")) for it in modules]
     # (it holds more, and may name each file by its bare name)
     return [Part(said, words=words_of(said), paths={*paths, (crate, of, "*")})]
 
@@ -181,7 +181,8 @@ def _parts_of_code(crate, rows, lines):
     functions = functions_of(rows)
     cuts = _joined([*_tactics(rows), *((it.opens, it.closes, None) for it in functions if not it.is_read_above)])
     kept, by_name = [*_outside(rows, cuts)], [it for it in functions if it.begins is not None and _is_by_name(it)]
-    shows_code = any(it.is_read_above for it in functions) or _has_macro([it.word for it in kept if it.kind == "Code"])
+    code = [it.word for it in kept if it.kind == "Code"]
+    shows_code = any(it.is_read_above for it in functions) or _has_macro(code)
     places, regions = [it.start for it in kept], []
     for it in by_name:
         tokens = kept[bisect.bisect_left(places, it.begins) : bisect.bisect_right(places, it.closes)]
@@ -193,7 +194,8 @@ def _parts_of_code(crate, rows, lines):
         elif kind == "mod":
             made = [Part(f"pub mod {name}", NAMED, name)] if tokens[0].word == "pub" else []
         else:
-            made = (not shows_code and _brought(tokens, kind == "ghost")) or [part(tokens)]
+            stays = shows_code or kind == "use" and "mod" in code
+            made = (not stays and _brought(tokens, kind == "ghost")) or [part(tokens)]
         regions.append((tokens[0].start, tokens[-1].end, made))
     parts, rest, regions = [], [], iter(_joined(regions))
     start, end, made = next(regions, (math.inf, math.inf, []))
