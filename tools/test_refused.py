@@ -233,7 +233,7 @@ class Hashes(OnATree):
             "for C": "extern \"C\" fn made() -> u64\n    ensures { result ≡ 4 }\n{\n    4\n}",
             "const": "const fn made() -> u64\n    ensures { result ≡ 4 }\n{\n    4\n}",
             "of an operator": "impl Add for Held {\n    fn add(self, b: Held) -> Held\n        ensures { result ≡ 4 }\n    {\n        b\n    }\n}",
-            "of a name that macros call": "impl Held {\n    pub fn write_fmt(&self) -> u64\n        ensures { result ≡ 4 }\n    {\n        4\n    }\n}",
+            "of a name that macros call": "impl Held {\n    pub fn write_fmt(&self)\n        ensures { result ≡ 4 }\n    {\n        4\n    }\n}",
             "of a fault by ?": "impl From<Held> for u8 {\n    fn from(a: Held) -> u8\n        ensures { result ≡ 4 }\n    {\n        4\n    }\n}",
         }
         for name, text in texts.items():

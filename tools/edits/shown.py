@@ -46,12 +46,12 @@ ALL = ("*", "*", "*")
 
 # The methods that macros and derives of the kit call on what they are given.
 OF_MACROS = """
-action add alloc as_ as_ref as_str begin_map begin_seq borrow chars clone cmp compare_exchange custom default deref deref_mut drop duplicate end end_map
-end_seq eprint eprintln eq eq_ignore_ascii_case error expect_end expect_item fetch_add fetch_and fetch_max fetch_min fetch_nand fetch_or fetch_sub
-fetch_xor fill finish finish_endless fmt from ge gt hash help index index_mut into into_inner into_iter invalid is_done is_empty is_none is_some key
-kind le len lend load long lt map map_err mark ne next note num_args ok_or or_absent parse partial_cmp pass print println put_depth read recv release
-remove required send settle short shown_if skip store str_cased strip_prefix swap tag take_back to_digit union unit unknown_key unknown_variant
-value_name variant_key with write_fmt write_str zip
+action add alloc as_ as_ref as_str begin_map begin_seq borrow chars clone cmp compare_exchange custom default deref deref_mut drop duplicate
+end end_map end_seq eprint eprintln eq eq_ignore_ascii_case error expect_end expect_item fetch_add fetch_and fetch_max fetch_min fetch_nand
+fetch_or fetch_sub fetch_xor fill finish finish_endless fmt from ge gt hash help index index_mut into into_inner into_iter invalid is_done
+is_empty is_none is_some key kind le len lend load long lt map map_err mark ne next note num_args ok_or or_absent parse partial_cmp pass
+print println put_depth read recv release remove required send settle short shown_if skip store str_cased strip_prefix swap tag take_back
+to_digit union unit unknown_key unknown_variant value_name variant_key with write_fmt write_str zip
 """.split()
 
 # A part of a file that is shown: what the hash has of it, when it is in and by which name, the marks of its words, which a `use` of its file may
