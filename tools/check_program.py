@@ -23,7 +23,7 @@ TRIED = [("file_cases.py",), ("fuzz.py", "1", "50"), ("fuzz.py", "51", "50"), ("
 # what operators and integrators use
 TRIED += [("copy_cases.py", "2"), ("primary_cases.py",), ("operator_cases.py",), ("scale_cases.py",)]
 # every so manieth call of a kind
-SWEPT = {"memory": "997", "disk": "31", "http": "199"}
+SWEPT = {"memory": "997", "disk": "31", "reading": "211", "http": "199"}
 
 
 def ran(program, words):

@@ -5,7 +5,7 @@
     speed.py PROGRAM functions      the five functions that take most of them, in the fleet of `fleets` that is first
     speed.py PROGRAM malloc         calls of malloc, calloc and realloc a line, of the same scripts
     speed.py PROGRAM commands       instructions and compressions of SHA-256 of a line of each kind
-    speed.py PROGRAM lines          lines a second over a file, as a ratio to the same script over memory
+    speed.py PROGRAM lines          lines for a second of a processor, over a file and over memory
     speed.py PROGRAM growth         how a manifest's time grows with kept replies, images, campaigns that run or are closed, vehicles
     speed.py PROGRAM growth_counts  the same in instructions, over files
     speed.py PROGRAM senders        instructions of a fresh, a repeated, a stale and a forged manifest of 4 ECUs, over files with so many
@@ -13,7 +13,7 @@
     speed.py PROGRAM loading        what the first manifest behind a start takes more, over such files, and what stays in memory
     speed.py PROGRAM start          processor seconds and memory of a start over files of so many kept replies
     speed.py PROGRAM sums           instructions of a start and of a manifest over files with and without sums of pages
-    speed.py PROGRAM http           requests a second over a file, beside the same by script, and instructions
+    speed.py PROGRAM http           requests for a second of a processor, beside the same by script, and instructions
     speed.py PROGRAM head           instructions for a head of 16,384 bytes in one piece and a byte at a time
     speed.py PROGRAM bodies         instructions a byte to refuse bodies of 64 KiB and of 256 KiB, by their shape
 
@@ -165,10 +165,8 @@ def commands(program, own):
 
 
 def seconds(program, path, script):
-    begun = time.perf_counter()
-    answers = trials.printed(program, path, script, 3600)
-    assert answers is not None and len(answers) == len(script)
-    return time.perf_counter() - begun
+    """The processor seconds that a script takes. What a disk takes to synchronise isn't in them."""
+    return used([program, "run", str(path)], script)[0]
 
 
 def lines(program, own):
@@ -354,7 +352,6 @@ def senders(program, own, lines=100):
 def loading(program, own):
     """A repeat behind a start, less the same once more; and the peaks of memory of a start without it and with it."""
     first = list(manifests(100, 1, 1, 4))
-    (own / "first").write_text(first[0] + "\n", encoding="ascii")
     wide = {"128 images of the greatest size": ONE | {"images": 128, "is_great": True},
             "200 campaigns for 1,000 vehicles each": ONE | {"vehicles": 1100, "campaigns": 200, "reach": MANY}}
     for name, words in (FILES | wide).items():
@@ -363,17 +360,22 @@ def loading(program, own):
         whole = alone(program, trials.copied(path, own / "next"), first)
         again = alone(program, trials.copied(path, own / "next"), first, first)
         _, begun = used([program, "run", str(trials.copied(path, own / "next"))])
-        with open(own / "first", "rb") as given:
-            _, loaded = used([program, "run", str(trials.copied(path, own / "next"))], given)
+        _, loaded = used([program, "run", str(trials.copied(path, own / "next"))], first)
         print("| %s | %d | %d MB | %d MB |" % (name, whole - again, begun, loaded), flush=True)
 
 
-def used(words, given=subprocess.DEVNULL):
-    """The processor seconds that a program takes, and its peak memory in MB."""
-    it = subprocess.Popen(words, stdin=given, stdout=subprocess.DEVNULL)
-    _, status, usage = os.wait4(it.pid, 0)
-    assert status == 0
-    return usage.ru_utime + usage.ru_stime, usage.ru_maxrss >> 10
+def used(words, script=()):
+    """The processor seconds that a program takes for a script, and its peak memory in MB behind it. That is the kernel's own figure
+    of the program: what `wait4` tells of memory counts the process that started it too."""
+    with subprocess.Popen(words, stdin=subprocess.PIPE, stdout=subprocess.PIPE) as it:
+        answers = asked(it, [*script, "x"])
+        with open("/proc/%d/status" % it.pid, encoding="ascii") as told:
+            memory = int(re.search(r"VmHWM:\s+(\d+)", told.read())[1]) >> 10
+        it.stdin.close()
+        it.stdout.read()
+        _, status, usage = os.wait4(it.pid, 0)
+    assert status == 0 and answers[-1] == b"refused 5 NotJson\n"
+    return usage.ru_utime + usage.ru_stime, memory
 
 
 def start(program, own, most=MOST):
@@ -435,14 +437,14 @@ def kinds(number):
 
 
 def rates(program, own, number=2000):
-    """Requests and lines a second of each kind, over files."""
+    """Requests and lines of each kind for a second of a processor, over files."""
     for name in ("served", "script"):
         trials.printed(program, own / name, prepared(100, 10, 10))
     for kind, (requests, lines) in kinds(number).items():
         with http_cases.served(program, own / "served", number // 100) as running:
-            begun = time.perf_counter()
+            begun = processor(running.pid)
             assert sent(running, requests)
-            took = time.perf_counter() - begun
+            took = (processor(running.pid) - begun) / 1_000_000
             assert http_cases.ended(running)
         yield kind, number / took, number / seconds(program, own / "script", lines)
 

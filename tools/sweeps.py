@@ -15,7 +15,8 @@ the row has it. Then the file has to have the rows that
 `tools/reference.py` makes of just the lines that were answered, or of the next one too; the rest of the row is carried out
 over it by a new start, and has to end as the row does. Each goes over an empty file. One more row, of manifests alone, is
 carried out over a file that has what comes before its first manifest: images, running campaigns and a closed one, which the
-first manifest reads and the next ones don't. And two of the rows are carried out again over files of older schemas, which have
+first manifest reads and the next ones don't. `disk` goes over a large one too, of which no call of the start is made to fail: there
+the first manifest reads from the disk. And two of the rows are carried out again over files of older schemas, which have
 what the row does up to its first manifest: they stay of their schema until they are of the page's. `older` is `memory` over
 these two alone, and `reading` over the one of manifests.
 
@@ -24,6 +25,7 @@ the kept reply, but for one, which may be a 503 for want of memory or none, and 
 that was kept. Images and running campaigns are there, which the first one reads.
 """
 import hashlib
+import json
 import os
 import sqlite3
 import subprocess
@@ -33,6 +35,7 @@ from pathlib import Path
 
 sys.dont_write_bytecode = True
 
+import fleet
 import http_cases
 import reference
 import schemas
@@ -77,9 +80,10 @@ class Sweep:
         self.own, self.kind, self.every, self.first = own, kind, every, first
         self.library = built(own)
 
-    def over(self, name, attempt):
-        """Makes calls of attempts fail in turn, until one ends without; tells each that went otherwise than it has to."""
-        number, tries, bad = self.first, 0, 0
+    def over(self, name, attempt, passed=0):
+        """Makes calls of attempts behind those that are passed fail in turn, until one ends without; tells each that went otherwise
+        than it has to."""
+        number, tries, bad = passed + self.first, 0, 0
         while True:
             failing = Failing(self.library, self.own / "mark", self.kind, number)
             other = attempt(failing)
@@ -89,7 +93,7 @@ class Sweep:
             if not failing.failed():
                 break
             number, tries = number + self.every, tries + 1
-        return "%s: %d calls failed in turn, of fewer than %d" % (name, tries, number), tries > 0 and not bad
+        return "%s: %d calls failed in turn, of fewer than %d" % (name, tries, number - passed), tries > 0 and not bad
 
 
 class Row:
@@ -123,15 +127,31 @@ class Begun(Row):
     def __init__(self, program, name, own, is_given_again=False):
         super().__init__(name, own)
         at = next(at for at, line in enumerate(self.lines) if '"bench"' in line)
-        done, self.begun = at + is_given_again, own / ("before " + name)
+        done, self.begun = at + is_given_again, own / ("%s before %s" % (type(self).__name__, name))
         assert trials.printed(program, self.begun, self.lines[:done]) == self.printed[:done]
-        self.lines, self.printed = self.lines[at:], self.printed[at:]
+        self.before, self.lines, self.printed = self.lines[:done], self.lines[at:], self.printed[at:]
         self.states = self.states[done : done + is_given_again] + self.states[done:]
         self.name += " from its first manifest on"
 
     def begin(self, path):
         super().begin(path)
         trials.copied(self.begun, path)
+
+
+class Large(Begun):
+    """The same over a file of some megabytes. What a start has read of the images first isn't held any more at its end, so that the
+    first manifest reads it from the disk again. No call of the start is made to fail."""
+
+    def __init__(self, program, name, own):
+        super().__init__(program, name, own)
+        self.name += " over a large file"
+        rules, more = own / ("rules " + self.name), list(filling())
+        told = trials.printed(program, self.begun, more)
+        assert told == trials.expected(rules, self.before + more)[len(self.before) :]
+        self.states = [trials.rows(rules)]
+        for line, wanted in zip(self.lines, self.printed):
+            assert trials.expected(rules, [line]) == [wanted]
+            self.states.append(trials.rows(rules))
 
 
 class Older(Begun):
@@ -148,6 +168,31 @@ class Older(Begun):
             return schemas.rows(path) if schemas.schema_of(path) in (self.number, reference.SCHEMA) else None
         except sqlite3.DatabaseError:
             return None
+
+
+def filling(number=36):
+    """A vehicle, and manifests of it that are as long as they may be nearly."""
+    key = fleet.key(9)
+    yield fleet.line("add_vehicle", vehicle="VF", primary="PF", ecus=[{"ecu": "PF", "hardware": "HF", "key": key}])
+    for counter in range(1, number + 1):
+        report = json.loads(fleet.report_text({"ecu": "PF", "key": key, "counter": counter, "time": fleet.START, **fleet.FACTORY}))
+        told = {"counter": counter, "more": 240_000 * "~", "primary": "PF", "reports": [report], "type": "manifest", "vehicle": "VF"}
+        yield fleet.line("deliver", body=reference.sealed([bytes.fromhex(key)], reference.canonical(told)))
+
+
+def calls_of_a_start(program, row, sweep, path):
+    """How many calls a start makes before it answers a line that asks nothing of the file."""
+    few, many = 0, 1 << 20
+    while few + 1 < many:
+        middle = (few + many) // 2
+        failing = Failing(sweep.library, sweep.own / "mark", sweep.kind, middle)
+        row.begin(path)
+        it = failing.start([program, "run", path])
+        ask(it, "nothing")
+        few, many = (middle, many) if failing.failed() else (few, middle)
+        it.kill()
+        it.communicate()
+    return few
 
 
 def ask(it, line):
@@ -217,8 +262,10 @@ def over_rows(program, own, sweep):
     rows, begun = [Row(name, own) for name in ROWS], [Begun(program, name, own) for name in READING]
     older = [Older(program, name, number, own) for name, number in OLDER]
     fails = sweep.kind if sweep.kind in REFUSED else "memory"
-    for row in {"older": older, "reading": begun}.get(sweep.kind, rows + begun + older):
-        yield sweep.over(row.name, lambda failing: tried(program, row, failing, fails, own / "swept"))
+    large = [Large(program, name, own) for name in READING] if sweep.kind == "disk" else []
+    for row in {"older": older, "reading": begun}.get(sweep.kind, rows + begun + older + large):
+        passed = calls_of_a_start(program, row, sweep, own / "swept") if row in large else 0
+        yield sweep.over(row.name, lambda failing: tried(program, row, failing, fails, own / "swept"), passed)
 
 
 # ---- HTTP
