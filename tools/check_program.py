@@ -3,7 +3,7 @@
 
     check_program.py PROGRAM [WORD]
 
-Random scripts and requests are those of a hundred seeds. Each tool has fifteen minutes, many times what it takes on a machine with nothing else to do.
+Random scripts and requests are those of a hundred seeds, random bodies of ten. Each tool has fifteen minutes, many times what it takes on a machine with nothing else to do.
 Where there is a WORD it draws a part of the sweeps of `tools/sweeps.py`, some ten seconds of each kind; they need a C compiler.
 """
 import os
@@ -18,7 +18,8 @@ TOOLS = Path(__file__).resolve().parent
 LIMIT = 900
 # the longest first
 TRIED = [("file_cases.py",), ("fuzz.py", "1", "50"), ("fuzz.py", "51", "50"), ("http_fleet.py",), ("fuzz_http.py", "1", "50"),
-         ("fuzz_http.py", "51", "50"), ("http_cases.py",), ("proxy_cases.py",), ("each_line.py",), ("tables.py",)]
+         ("fuzz_http.py", "51", "50"), ("http_cases.py",), ("proxy_cases.py",), ("fuzz.py", "bodies", "1", "10"), ("each_line.py",),
+         ("tables.py",)]
 # what operators and integrators use
 TRIED += [("copy_cases.py", "2"), ("primary_cases.py",), ("operator_cases.py",), ("scale_cases.py",)]
 # every so manieth call of a kind

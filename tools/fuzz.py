@@ -1,21 +1,26 @@
 #!/usr/bin/env python3
 """Runs random scripts and compares what comes of them: mostly valid lines, some damaged at a random byte.
 
-    fuzz.py PROGRAM [FIRST [NUMBER]]
+    fuzz.py PROGRAM [bodies] [FIRST [NUMBER]]
 
 Each seed from FIRST (1) on, NUMBER (100) of them, makes a script, in which operators' commands stand between manifests that they
 change the answers of. It is carried out over memory, over a file, and over a file in pieces with a new start of the program for
 each. All have to print what `tools/reference.py` prints
 by the rules, and each file has to have its rows. Where they differ, the seed and the first line are told.
+
+With `bodies` each seed delivers a hundred manifests of one vehicle over memory: in the form in which Primaries write
+them, and with one change each, before an ECU signs, before the Primary signs, or in the whole body.
 """
 import json
 import random
+import re
 import sys
 
 sys.dont_write_bytecode = True
 
 import fleet
 import trials
+from reference import METHOD, Refused, canonical, depth, is_plain, keyid, mac, moment, read_json
 
 START = fleet.START
 MOST = 2**53 - 1
@@ -333,6 +338,115 @@ class Script:
         return [line for whole in self.lines for line in whole.split(b"\n")]
 
 
+class Bodies:
+    """Manifests of one vehicle as a Primary writes them, each of a counter of its own and with one change."""
+
+    NUMBER = 100
+
+    def __init__(self, seed):
+        self.rng = random.Random("bodies %d" % seed)
+        self.ecus = [("E%d" % i, KINDS[i], fleet.key(17 * (i + 1))) for i in range(self.rng.randint(1, 3))]
+
+    def image(self):
+        words = "image %d" % self.rng.randrange(3)
+        told = {"file": words.replace(" ", "/") + ".bin", "length": self.rng.choice([0, 7, len(words), 10**9, MOST])}
+        told["hashes"] = {"sha256": fleet.digest(words)}
+        if self.rng.random() < 0.5:
+            told["hashes"]["sha512"] = fleet.second(words)
+        return told
+
+    def report(self, ecu, counter):
+        rng = self.rng
+        attack = rng.choice(["", "", "low", "a ~ b", 256 * "~", 'a "b"', "a \\ b"])
+        told = {"attack": attack, "counter": counter, "ecu": ecu, "image": self.image()}
+        return canonical(told | {"time": moment(START + rng.choice([0, 1, 59, 86399, 253402300799 - START])), "type": "report"})
+
+    def body(self, counter):
+        """It may be without reports; each ECU's counter is the manifest's."""
+        where = self.rng.choice(["report", "manifest", "body", "nowhere"] if counter > 1 else ["nowhere"])
+        reports = [(self.report(ecu, counter), key) for ecu, _, key in self.ecus]
+        if where == "report":
+            reports[0] = changed(self.rng, reports[0][0]), reports[0][1]
+        elif self.rng.random() < 0.05:
+            reports = reports * self.rng.choice([0, 2, 64 // len(reports), 65])
+        told = counter, self.ecus[0][0], ",".join(sealed(key, text) for text, key in reports)
+        signed = '{"counter":%d,"primary":"%s","reports":[%s],"type":"manifest","vehicle":"V"}' % told
+        whole = sealed(self.ecus[0][2], changed(self.rng, signed) if where == "manifest" else signed)
+        return changed(self.rng, whole) if where == "body" else whole
+
+    def made(self):
+        ecus = [{"ecu": ecu, "hardware": kind, "key": key} for ecu, kind, key in self.ecus]
+        yield fleet.line("found", **fleet.key_set(1))
+        yield fleet.line("add_vehicle", vehicle="V", primary="E0", ecus=ecus)
+        for counter in range(1, self.NUMBER + 1):
+            yield fleet.line("deliver", body=self.body(counter))
+            yield fleet.line("show", vehicle="V")
+
+
+def sealed(key, signed):
+    """The text in an envelope whose one signature is right, wherever the text means something."""
+    try:
+        value = read_json(signed)
+        words = canonical(value) if is_plain(value) and depth(value) <= 16 else signed
+    except Refused:
+        words = signed
+    key = bytes.fromhex(key)
+    return '{"signatures":[%s],"signed":%s}' % (canonical({"keyid": keyid(key), "method": METHOD, "sig": mac(key, words)}), signed)
+
+
+def spelled(rng, text, pattern, spell):
+    """One of the places that fit the pattern is spelled otherwise."""
+    found = list(re.finditer(pattern, text))
+    if not found:
+        return text
+    at = rng.choice(found)
+    return text[: at.start()] + spell(at.group()) + text[at.end() :]
+
+
+DIGITS, COUNT, TEXT = r"[0-9a-f]{64,}", r"(?<=:)[0-9]+", r'(?<=:")[^"\\]*(?=")'
+MEMBER, SIGNATURE = r'"[a-z0-9]+":(?:"[^"\\]*"|[0-9]+)', r'\{"keyid":[^}]*\}'
+
+
+def exchanged(members):
+    """Two members the other way round."""
+    comma = members.index(',"')
+    return members[comma + 1 :] + "," + members[:comma]
+
+
+# what stands in a body, and how it may be spelled otherwise
+CHANGES = {
+    DIGITS: [str.upper, lambda it: it[:-1] + it[-1].upper(), lambda it: it[1:], lambda it: it[:-2], lambda it: it + "0",
+             lambda it: it[:-1] + "g", lambda it: ""],
+    COUNT: [lambda it: "0" + it, lambda it: "00", lambda it: "0", lambda it: "", lambda it: "-" + it, lambda it: "+" + it,
+            lambda it: it + ".0", lambda it: it + "e0", lambda it: '"%s"' % it, lambda it: str(MOST), lambda it: str(MOST + 1),
+            lambda it: str(2**64 + 1), lambda it: 40 * "1"],
+    TEXT: [lambda it: "", lambda it: it + " ", lambda it: it + "\x7f", lambda it: it + "\x1f", lambda it: it + "\u00e9",
+           lambda it: it + '\\"', lambda it: it + "\\/", lambda it: it + 257 * "x", lambda it: it.ljust(64, "x"),
+           lambda it: it.ljust(65, "x"), lambda it: it.ljust(128, "x"), lambda it: it.ljust(129, "x"),
+           lambda it: "".join("\\u%04x" % ord(c) for c in it)],
+    MEMBER + ",": [lambda it: "", lambda it: it + it, lambda it: it + '"more":1,'],
+    "," + MEMBER: [lambda it: "", lambda it: it + it, lambda it: it + ',"zz":null'],
+    MEMBER + "," + MEMBER: [exchanged],
+    r"[:,\[\]{}]": [lambda it: "", lambda it: it + " ", lambda it: it + "\n", lambda it: it + it],
+    r"[0-9]{2}Z": [lambda it: "60Z", lambda it: "00Z", lambda it: it[:-1] + "z"],
+    r"-[0-9]{2}T": [lambda it: "-31T", lambda it: "-32T", lambda it: "-00T"],
+    r'"[0-9]{4}-': [lambda it: '"1969-'],
+    SIGNATURE: [lambda it: it + "," + it, lambda it: ",".join(9 * [it]), lambda it: ""],
+    r'"sha512":"[^"]*"': [lambda it: '"sha512":7', lambda it: it + ',"sha513":"00"'],
+    r'"sha256":"[^"]*"': [lambda it: it + ',"md5":"00"'],
+    r"\Z": [lambda it: " ", lambda it: "\n", lambda it: "}", lambda it: "\x00", lambda it: "{}"],
+    r"\A": [lambda it: " ", lambda it: "\ufeff"],
+}
+
+
+def changed(rng, text):
+    """The text with one change: a known one, or a byte or more at any place."""
+    if rng.random() < 0.6:
+        pattern = rng.choice(list(CHANGES))
+        return spelled(rng, text, pattern, rng.choice(CHANGES[pattern]))
+    return damaged(rng, text.encode()).decode("utf-8", "replace")
+
+
 def damaged(rng, line):
     """One byte is changed, taken out or put in, or the line is cut there."""
     at = rng.randrange(len(line) + 1)
@@ -383,16 +497,27 @@ def tried(program, seed, own):
             yield name + ": other rows"
 
 
-def cases(program, first=1, number=100):
+def tried_bodies(program, seed, _):
+    """The same of bodies."""
+    lines = list(Bodies(seed).made())
+    wanted, found = trials.expected(":memory:", lines), trials.printed(program, ":memory:", lines)
+    if found != wanted:
+        yield first_other(lines, wanted, found)
+
+
+def cases(way, program, first=1, number=100):
     for seed in range(first, first + number):
         with trials.folder() as own:
-            told = list(tried(program, seed, own))
+            told = list(way(program, seed, own))
         for it in told:
             print("fuzz: seed %d: %s" % (seed, it))
         yield "seed %d" % seed, not told
 
 
 if __name__ == "__main__":
-    if not 2 <= len(sys.argv) <= 4:
+    words = sys.argv[1:]
+    way = tried_bodies if words[1:2] == ["bodies"] else tried
+    words = [word for word in words if word != "bodies"]
+    if not 1 <= len(words) <= 3:
         sys.exit(__doc__)
-    sys.exit(trials.judged("fuzz", cases(sys.argv[1], *map(int, sys.argv[2:]))))
+    sys.exit(trials.judged("fuzz", cases(way, words[0], *map(int, words[1:]))))

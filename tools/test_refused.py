@@ -166,6 +166,7 @@ class Hashes(OnATree):
         self.assertNotEqual(hashes(crates_here(), ["low"]), low)
 
     def test_what_crosses_the_boundary_is_read_above(self):
+        self.above("use low::counts::{same, LEAST};")
         texts = [
             ("src/counts.rt", "ensures { result ≡ a }", "ensures { a ≡ result }"),
             ("src/counts.rt", "LEAST: u64 = 3", "LEAST: u64 = 4"),
@@ -179,10 +180,13 @@ class Hashes(OnATree):
                 self.turn(f"crates/low/{path}", old, new)
                 self.assertEqual(now(), ["low", "up"])
 
-    def more(self, text):
-        """Writes a text behind the counts of the low crate."""
-        path = "crates/low/src/counts.rt"
+    def more(self, text, path="crates/low/src/counts.rt"):
+        """Writes a text behind the counts of the low crate, or behind another file."""
         self.write(path, f"{Path(path).read_text(encoding='utf-8')}\n{text}\n")
+
+    def above(self, text):
+        """Writes a file of the upper crate."""
+        self.write("crates/up/src/more.rt", f"{text}\n")
 
     def test_a_private_function_below_is_not_read_above(self):
         now = self.changed()
@@ -202,10 +206,11 @@ class Hashes(OnATree):
         other = "fn other(a: u64) -> u64\n    ensures { result ≡ halved }\n{\n    a\n}"
         namings = [
             [("src/more.rt", "pub use crate::counts::halved;\n")],
+            [("src/more.rt", "pub static HALF: fn(u64) -> u64 = halved;\n")],
+            [("src/more.rt", "macro_rules! half { () => { halved(2) } }\n")],
             [("specs/More.antt", "use Rattle.low.specs.contracts.counts.halved\n")],
-            [("proofs/More.antt", "use Rattle.low.proofs.counts.halved.Met.{met}\n")],
-            # (by another private one, which is named)
-            [("src/more.rt", "pub use crate::counts::other;\n")],
+            # (by another one, which antt names)
+            [("specs/More.antt", "use Rattle.low.specs.contracts.counts.other\n")],
         ]
         for files in namings:
             with self.subTest(files):
@@ -227,7 +232,9 @@ class Hashes(OnATree):
             "of a cycle of calls": "#[cycle(parity)]\nfn even(a: u64) -> u64\n    ensures { result ≡ 4 }\n{\n    a\n}",
             "for C": "extern \"C\" fn made() -> u64\n    ensures { result ≡ 4 }\n{\n    4\n}",
             "const": "const fn made() -> u64\n    ensures { result ≡ 4 }\n{\n    4\n}",
-            "public": "#[inline]\npub fn made() -> u64\n    ensures { result ≡ 4 }\n{\n    4\n}",
+            "of an operator": "impl Add for Held {\n    fn add(self, b: Held) -> Held\n        ensures { result ≡ 4 }\n    {\n        b\n    }\n}",
+            "of a name that macros call": "impl Held {\n    pub fn write_fmt(&self)\n        ensures { result ≡ 4 }\n    {\n        4\n    }\n}",
+            "of a fault by ?": "impl From<Held> for u8 {\n    fn from(a: Held) -> u8\n        ensures { result ≡ 4 }\n    {\n        4\n    }\n}",
         }
         for name, text in texts.items():
             with self.subTest(name):
@@ -245,12 +252,189 @@ class Hashes(OnATree):
         self.assertEqual(now(), ["low"])
         self.turn("crates/low/src/more.rt", "(auto)", "(search)")
         self.assertEqual(now(), ["low", "up"])
-        items = ["use crate::counts::same;", "macro_rules! made { () => {} }", "struct Held { a: u8 }", "ghost use Rattle.low.specs.Numbers.{least};"]
+        items = ["macro_rules! made { () => {} }", "struct Held { a: u8 }", "pub use crate::counts::same;", "use crate::counts::*;"]
         for text in items:
             with self.subTest(text):
                 now = self.changed()
                 self.turn("crates/low/src/more.rt", "fn third()", f"{text}\nfn third()")
                 self.assertEqual(now(), ["low", "up"])
+
+    def test_a_public_function_below_is_read_above_where_it_is_named(self):
+        halved = "#[inline]\npub fn halved(a: u64) -> u64\n    ensures { nat_le result a }\n{\n    a / 2\n}"
+        begun = "pub struct Held;\nimpl Held {"
+        of_held = f"{begun}\n    pub fn halved(a: u64) -> u64\n        ensures {{ nat_le result a }}\n    {{\n        a / 2\n    }}\n}}"
+        namings = [
+            ("crates/up/src/more.rt", "fn calls(a: u64) -> u64 { halved(a) }"),
+            ("crates/up/proofs/Lib.antt", "use Rattle.low.specs.contracts.counts.halved as f"),
+            ("crates/up/refused/calls.edit", "file: src/lib.rt\nold:     2\nnew:     halved(2)\n"),
+            ("crates/low/src/more.rt", "pub static HALF: fn(u64) -> u64 = halved;"),
+            ("crates/low/src/more.rt", "pub trait Half { fn half(a: u64) -> u64 { halved(a) } }"),
+            ("crates/low/specs/More.antt", "use Rattle.low.specs.contracts.counts.halved as f"),
+        ]
+        for text, before in ((halved, ""), (of_held, f"{begun}}}")):
+            for path, naming in namings:
+                with self.subTest(naming):
+                    self.setUp()
+                    self.more(f"// here\n{before}")
+                    now = self.changed()
+                    self.turn("crates/low/src/counts.rt", f"// here\n{before}", text)
+                    self.turn("crates/low/src/counts.rt", "nat_le result a", "nat_le a result")
+                    # a clause below that has its name knows a variable by it
+                    self.turn("crates/low/src/counts.rt", "requires { a ≡ true }", "requires { (halved : ℕ) → a ≡ true }")
+                    self.assertEqual(now(), ["low"])
+                    self.write(path, naming)
+                    now = self.changed()
+                    self.turn("crates/low/src/counts.rt", "nat_le a result", "nat_le result a")
+                    self.assertEqual(now(), ["low", "up"])
+                    now = self.changed()
+                    self.turn("crates/low/src/counts.rt", "a / 2", "a / 3")
+                    self.assertEqual(now(), ["low"])
+
+    def test_what_stands_beside_a_function_below_is_read_above(self):
+        self.more("pub struct Held;\nimpl Held {\n    ghost view = { 4 }\n    pub fn made() -> u64 {\n        4\n    }\n    const MADE: u64 = 3;\n}")
+        now = self.changed()
+        self.turn("crates/low/src/counts.rt", "pub fn made() -> u64 {\n        4", "pub fn made(a: u64) -> u64 {\n        a")
+        self.assertEqual(now(), ["low"])
+        for old, new in (("view = { 4 }", "view = { 5 }"), ("MADE: u64 = 3", "MADE: u64 = 4")):
+            now = self.changed()
+            self.turn("crates/low/src/counts.rt", old, new)
+            self.assertEqual(now(), ["low", "up"])
+
+    def test_a_constant_below_is_read_above_where_it_is_named(self):
+        made = "const MADE: [u64; 2] = [3, 4];\n"
+        namings = [
+            ("crates/up/src/more.rt", "fn calls(a: u64) -> u64 { MADE[0] }"),
+            ("crates/low/src/counts.rt", "pub const MORE: u64 = 3;\npub struct Held { a: [u64; MADE] }"),
+            ("crates/low/src/counts.rt", "pub struct Held { pub a: u64, ghost b: { MADE } }"),
+            ("crates/low/src/counts.rt", "ghost use Rattle.low.specs.declared.TheConstants.{MADE as first};"),
+            ("crates/low/specs/Numbers.antt", "use Rattle.low.specs.declared.TheConstants.{MADE as first}"),
+        ]
+        for of in ("", "pub "):
+            for path, naming in namings:
+                with self.subTest(naming):
+                    self.setUp()
+                    self.above("")
+                    now = self.changed()
+                    self.more(of + made)
+                    self.turn("crates/low/src/counts.rt", "[3, 4]", "[3, 5]")
+                    self.assertEqual(now(), ["low"])
+                    self.write(path, f"{naming}\n{Path(path).read_text(encoding='utf-8')}")
+                    now = self.changed()
+                    self.turn("crates/low/src/counts.rt", "[3, 5]", "[3, 4]")
+                    self.assertEqual(now(), ["low", "up"])
+
+    def test_how_a_function_below_is_proved_is_not_read_above(self):
+        self.above("use low::counts::same;")
+        now = self.changed()
+        self.turn("crates/low/src/counts.rt", "pub fn same", "#[tactic(auto, using(crate::proofs::Facts::three))]\npub fn same")
+        self.assertEqual(now(), ["low"])
+
+    HELD = """//! Held.
+use crate::counts::{Counted, same as alike};
+ghost use Rattle.std.specs.Prelude.{◌≡◌, ◌≤◌, ℕ};
+ghost use Rattle.low.specs.Numbers.{least as first};
+ghost use Rattle.low.specs.Lists as lists;
+
+pub struct Held {
+    pub count: u64,
+}
+
+impl Counted for Held {
+    fn count(&self) -> u64
+        ensures first_of { result ≡ first }
+        ensures listed { lists.all result ≡ lists.all first }
+    {
+        alike(self.count)
+    }
+}
+"""
+
+    def test_a_name_that_is_brought_below_is_read_above_where_it_stands(self):
+        path = "crates/low/src/held.rt"
+        self.write(path, self.HELD)
+        turns = [
+            ("use crate::counts::{Counted,", "use crate::counts::{Counted, doubled,", ["low"]),
+            ("doubled, same as alike};", "{least_count, reaches as reach}, same as alike};", ["low"]),
+            ("same as alike};", "same as alike};\nuse crate::Held as Other;", ["low"]),
+            ("same as alike};", "reaches as alike};", ["low"]),
+            ("◌≤◌, ℕ}", "◌<◌, List, []}", ["low"]),
+            ("{least as first}", "{least as first, least}", ["low"]),
+            ("\nuse crate::Held as Other;", "", ["low"]),
+            ("{least as first, least}", "{most as first, least}", ["low", "up"]),
+            ("{◌≡◌, ◌<◌", "{◌==◌ as ◌≡◌, ◌<◌", ["low", "up"]),
+            ("specs.Lists as lists", "specs.Lines as lists", ["low", "up"]),
+            ("use crate::counts::{Counted,", "use crate::more::{Counted,", ["low", "up"]),
+            ("use crate::more::{Counted,", "use crate::more::{self, Counted,", ["low", "up"]),
+            ("use crate::more", "use crate::counts::Read as _;\nuse crate::more", ["low", "up"]),
+            ("use crate::counts::Read", "#[cfg(test)]\nuse crate::counts::Write;\nuse crate::counts::Read", ["low", "up"]),
+        ]
+        for old, new, crates in turns:
+            with self.subTest(new):
+                now = self.changed()
+                self.turn(path, old, new)
+                self.assertEqual(now(), crates)
+
+    def test_what_may_use_a_name_that_is_brought_below_and_not_say_it_is_read_above(self):
+        default = "pub trait More { fn more(&self) -> u64 { self.count() } }"
+        for text in (default, "macro_rules! more { () => { 4.count() } }", "more! { 4 }", "mod third;"):
+            with self.subTest(text):
+                self.write("crates/low/src/more.rt", f"{text}\n")
+                now = self.changed()
+                self.write("crates/low/src/more.rt", f"use crate::counts::Counted;\n{text}\n")
+                self.assertEqual(now(), ["low", "up"])
+
+    def test_a_module_below_that_nothing_names_is_not_read_above(self):
+        for line in ("mod third;", "pub mod third;"):
+            with self.subTest(line):
+                self.setUp()
+                now = self.changed()
+                self.more(line, "crates/low/src/lib.rt")
+                self.write("crates/low/src/third.rt", "//! The third.\nuse crate::counts::same;\n\npub fn third() -> u64 {\n    same(3)\n}\n")
+                self.assertEqual(now(), ["low"])
+                self.more("pub struct Third;", "crates/low/src/third.rt")
+                self.assertEqual(now(), ["low", "up"])
+        self.above("use low::third::third;")
+        now = self.changed()
+        self.turn("crates/low/src/lib.rt", "pub mod third;", "mod third;")
+        self.assertEqual(now(), ["low", "up"])
+
+    def test_a_file_of_definitions_below_is_read_above_where_something_leads_to_it(self):
+        more = "use Rattle.std.specs.Prelude.{ℕ}\n\nabbrev pub more : ℕ\nmore = 4\n"
+        leads = [
+            ("crates/up/specs/Lib.antt", "use Rattle.low.specs.More.{more}\n"),
+            ("crates/up/src/more.rt", "ghost use Rattle.low.specs.More as more;\n"),
+            ("crates/up/src/more.rt", "#[tactic(auto, unfolding(low::specs::More::more))]\nfn third() {}\n"),
+            ("crates/up/src/more.rt", "ghost use Rattle.low.specs as s;\n"),
+            ("crates/up/src/more.rt", "ghost use Rattle.low.{specs.More.more};\n"),
+            ("crates/low/src/more.rt", "pub struct Held { pub a: u64, ghost b: { Rattle.«low».specs.More.more } }\n"),
+            ("crates/low/specs/Numbers.antt", TREE["crates/low/specs/Numbers.antt"].replace("\n\n", "\nuse Rattle.low.specs.More.{more}\n\n", 1)),
+            ("crates/low/specs/Lib.antt", "pub mod Numbers\npub mod More\npub use More.{more}\n"),
+        ]
+        for path, text in leads:
+            with self.subTest(text):
+                self.setUp()
+                now = self.changed()
+                self.write("crates/low/specs/More.antt", more)
+                self.write("crates/low/specs/Lib.antt", "pub mod Numbers\npub mod More\n")
+                self.turn("crates/low/specs/More.antt", "more = 4", "more = 5")
+                self.assertEqual(now(), ["low"])
+                self.write(path, text)
+                now = self.changed()
+                self.turn("crates/low/specs/More.antt", "more = 5", "more = 4")
+                self.assertEqual(now(), ["low", "up"])
+
+    def test_a_file_of_definitions_that_a_function_below_leads_to_is_read_with_it(self):
+        self.write("crates/low/specs/More.antt", "use Rattle.low.specs.Most.{most}\n")
+        self.write("crates/low/specs/Most.antt", "abbrev pub most : ℕ\nmost = 4\n")
+        third = "ghost use Rattle.low.specs.More.{most as third_of};\n\npub fn third() -> u64\n    ensures { result ≡ third_of }\n{\n    4\n}\n"
+        self.write("crates/low/src/more.rt", third)
+        now = self.changed()
+        self.turn("crates/low/specs/Most.antt", "most = 4", "most = 5")
+        self.assertEqual(now(), ["low"])
+        self.above("use low::more::third;")
+        now = self.changed()
+        self.turn("crates/low/specs/Most.antt", "most = 5", "most = 4")
+        self.assertEqual(now(), ["low", "up"])
 
     def test_another_kit_of_the_same_logic_is_not_read(self):
         now = self.changed()
@@ -267,7 +451,14 @@ class Hashes(OnATree):
         self.assertEqual(now(), ["low"])
         self.write("crates/up/proofs/Lib.antt", "use Rattle.low.proofs.Facts.{three}\n")
         now = self.changed()
+        self.write("crates/low/proofs/Lib.antt", "pub mod Facts\npub mod More\n")
+        self.write("crates/low/proofs/More.antt", "abbrev pub four : ℕ\nfour = 3\n")
+        self.assertEqual(now(), ["low"])
         self.turn("crates/low/proofs/Facts.antt", "three = 2", "three = 3")
+        self.assertEqual(now(), ["low", "up"])
+        self.turn("crates/low/proofs/Facts.antt", "ℕ}\n", "ℕ}\nuse Rattle.low.proofs.More.{four}\n")
+        now = self.changed()
+        self.turn("crates/low/proofs/More.antt", "four = 3", "four = 4")
         self.assertEqual(now(), ["low", "up"])
 
     def test_it_is_the_same_asked_for_alone_and_with_others(self):

@@ -1,4 +1,5 @@
 """The functions of a text of Rattle, found by rattle's own tokens."""
+import bisect
 import collections
 import re
 import subprocess
@@ -13,14 +14,16 @@ Token = collections.namedtuple("Token", "line start end kind word")
 # that it is in, or None, and `is_read_above` says that a crate above may read its body: that of a `const fn` or of a trait's default. `owner` is the
 # word that rattle puts before its name, or None: the name of its trait or of the type whose own `impl` it stands in; of a trait's `impl`, the names
 # of type and trait in one, as in `RefusalFromRefStr`. `is_own` says that it stands in a type's own `impl`: rattle names it by that type's module.
-# `modules` are the modules that it may stand in, each a tuple of names, or None where they aren't known yet. `private` is the byte that the whole
-# function begins at, its attributes with it, where no crate above can read it unless what it reads names it; else None.
+# `modules` are the modules that it may stand in, each a tuple of names, or None where they aren't known yet. `begins` is the byte that the whole
+# function begins at, its attributes with it, where no crate above can read it unless something names it; else None. `is_private` says that those
+# above can't name it.
 Function = collections.namedtuple(
-    "Function", "name lines opens closes cycle is_read_above owner is_own modules private", defaults=[None, False, None, None]
+    "Function", "name lines opens closes cycle is_read_above owner is_own modules begins is_private", defaults=[None, False, None, None, False]
 )
 
-ROW = re.compile(r'(?m)^(\d+) (\d+) (\d+) (\w+) "(.*)"$')
 CYCLE = re.compile(r"# \[ cycle \( (\w+) \)")
+ATTRIBUTE = re.compile(r"# \[ [^]]* \] ")
+VISIBLE = re.compile(r"(pub (\( [\w: ]+ \) )?)?(unsafe )?")
 
 
 def tokens_of(files):
@@ -31,7 +34,11 @@ def tokens_of(files):
     if ran.returncode:
         return None
     texts = re.split(r"(?m)^file \d+\n", ran.stdout.decode())[1:]
-    return [[Token(int(row[0]), int(row[1]), int(row[2]), row[3], row[4]) for row in ROW.findall(text)] for text in texts]
+    return [[_token(*row.split(" ", 4)) for row in text.split("\n") if row] for text in texts]
+
+
+def _token(line, start, end, kind, word):
+    return Token(int(line), int(start), int(end), kind, word[1:-1])
 
 
 def functions_in(text):
@@ -46,44 +53,52 @@ def functions_in(text):
 def functions_of(tokens):
     """Returns the functions among a text's tokens. What macros hold is passed over, and stays as it is."""
     code, found, at, start, trait_ends = [it for it in tokens if it.kind == "Code"], [], 0, 0, 0
+    ghost = [it.start for it in tokens if it.kind != "Code"]
     owner, is_own, owner_ends = None, False, 0
     words = [it.word for it in code]
     while at < len(words):
         if words[at] == "fn" and re.fullmatch(r"\w+", "".join(words[at + 1 : at + 2])):
             name, opens = words[at + 1], _next(words, at, "{;")
-            closes = _closing(words, opens) if words[opens : opens + 1] == ["{"] else len(words)
+            closes = closing(words, opens) if words[opens : opens + 1] == ["{"] else len(words)
             if closes < len(words):
                 cycle = CYCLE.search(" ".join(words[start:at]))
                 lines, is_read = (code[start].line, code[closes].line), at < trait_ends or "const" in words[start:at]
                 mine = (owner, is_own) if at < owner_ends else (None, False)
-                private = code[start].start if not is_read and _is_private(words[start:at], *mine) else None
-                found.append(Function(name, lines, code[opens].end, code[closes].start, cycle and cycle[1], is_read, *mine, None, private))
+                is_bare = bisect.bisect(ghost, code[start].start) == bisect.bisect(ghost, code[at].start)
+                begins = code[start].start if not is_read and is_bare and _is_for_callers(words[start:at], *mine) else None
+                private = not _is_public(words[start:at])
+                found.append(Function(name, lines, code[opens].end, code[closes].start, cycle and cycle[1], is_read, *mine, None, begins, private))
                 opens = closes
             at = start = opens + 1
         elif words[at : at + 3] == ["#", "!", "["]:
             # (an attribute of the file is none of what follows)
-            at = start = _closing(words, at + 2) + 1
+            at = start = closing(words, at + 2) + 1
         elif words[at] == "!" and at and re.fullmatch(r"\w+", words[at - 1]):
             opens = _next(words, at, "{([")
-            at = start = (_closing(words, opens) if opens < len(words) else opens) + 1
+            at = start = (closing(words, opens) if opens < len(words) else opens) + 1
         else:
             if words[at] == "trait":
                 opens = _next(words, at, "{;")
-                trait_ends = max(trait_ends, _closing(words, opens) if words[opens : opens + 1] == ["{"] else 0)
+                trait_ends = max(trait_ends, closing(words, opens) if words[opens : opens + 1] == ["{"] else 0)
                 owner, is_own, owner_ends = "".join(words[at + 1 : at + 2]), False, trait_ends
             if words[at] == "impl" and at >= owner_ends:
                 opens = _next(words, at, "{;")
-                (owner, is_own), owner_ends = owner_of(words[at + 1 : opens]), _closing(words, opens)
+                (owner, is_own), owner_ends = owner_of(words[at + 1 : opens]), closing(words, opens)
             at += 1
             start = at if words[at - 1] in "{};" else start
     return found
 
 
-def _is_private(words, owner, is_own):
-    """Returns whether a function is private to its crate and to its own contract, from the words before its `fn` and whose `impl` it stands in: not
-    `pub`, or `pub(..)`, and neither of a trait's `impl`, nor in a cycle of calls, whose contracts have one proof, nor for C to call."""
-    is_public = any(word == "pub" and after != "(" for word, after in zip(words, [*words[1:], ""]))
-    return not is_public and (is_own or owner is None) and not {"cycle", "extern"} & {*words}
+def _is_public(words):
+    """Returns whether the words before a function's `fn` make it public: `pub`, and not `pub(..)`."""
+    return any(word == "pub" and after != "(" for word, after in zip(words, [*words[1:], ""]))
+
+
+def _is_for_callers(words, owner, is_own):
+    """Returns whether only those who name a function learn what it promises, from the words before its `fn` and whose `impl` it stands in. It isn't
+    of a trait's `impl`, nor in a cycle of calls, whose contracts have one proof, nor for C to call; and nothing but attributes and `pub` is said."""
+    said = "".join(f"{it} " for it in words)
+    return (is_own or owner is None) and not CYCLE.search(said) and VISIBLE.fullmatch(ATTRIBUTE.sub("", said)) is not None
 
 
 def module_of(path):
@@ -123,7 +138,7 @@ def _spelled(words, parameters):
         elif word == "[":
             said += "Slice"
         elif word == "(":
-            inside = " ".join(words[at + 1 : _closing(words, at)])
+            inside = " ".join(words[at + 1 : closing(words, at)])
             said += f"Tuple{1 + _commas(inside.split())}"
         elif re.fullmatch(r"\w+", word) and after != ":" and word not in parameters:
             said += word[0].upper() + word[1:]
@@ -148,7 +163,7 @@ def _next(words, at, among):
     return at
 
 
-def _closing(words, at):
+def closing(words, at):
     """Returns where what opens at `at` closes, or the end."""
     depth = 0
     for here in range(at, len(words)):

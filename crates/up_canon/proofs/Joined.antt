@@ -1,10 +1,22 @@
--- Texts joined by commas: as they are pushed one after another, and as the text of a list.
+-- Pieces that are pushed one after another; texts joined by commas, as they are pushed and as the text of a list.
 use Rattle.std.proofs.Common.{◌≡◌, ℕ, ◌+◌, ◌<◌, List, [], ◌∷◌, ◌++◌, length, get_or, take, map, refl, ap, ◌∙◌, sym, append_assoc}
 use Rattle.std.specs.List.{join_with_byte}
 use Rattle.std.proofs.lemmas.List.{take_more, map_more}
 use Rattle.serde_json.specs.Data.{Data}
 use Rattle.serde_json.specs.View.{items_of}
 use Rattle.up_canon.specs.Canon.{text, items_text}
+
+-- two pieces that were pushed one after another
+pub pushed : (o p q a b : List ℕ) → p ≡ o ++ a → q ≡ p ++ b → q ≡ o ++ (a ++ b)
+pushed o p q a b h k = k ∙ ap (λ (t : List ℕ). t ++ b) h ∙ append_assoc o a b
+
+-- a piece that is another one
+pub pushed_as : (o p a b : List ℕ) → a ≡ b → p ≡ o ++ a → p ≡ o ++ b
+pushed_as o p a b same h = h ∙ ap (λ (t : List ℕ). o ++ t) same
+
+-- the first piece
+pub begun : (o p a : List ℕ) → o ≡ [] → p ≡ o ++ a → p ≡ a
+begun o p a none h = h ∙ ap (λ (t : List ℕ). t ++ a) none
 
 -- what stands before the next of the pieces
 abbrev pub separator_after : {X : Type 0} → List X → List ℕ

@@ -1,12 +1,17 @@
--- Hexadecimal digits in quotes.
-use Rattle.std.proofs.Common.{◌≡◌, ℕ, ◌/◌, ◌%◌, List, [], ◌∷◌, ◌++◌, Bool, true, refl, ap, inl, inr, arith}
-use Rattle.std.specs.Prelude.{◌||◌, ◌==◌, not, flat_map, slice_index}
-use Rattle.std.proofs.lemmas.Bool.{cases_lt}
+-- Texts that stand in quotes as they are: names, moments, hexadecimal digits.
+use Rattle.std.proofs.Common.{◌≡◌, ℕ, ◌+◌, ◌/◌, ◌%◌, ◌≤◌, ◌<◌, List, [], ◌∷◌, ◌++◌, Bool, true, Option, Some, None, length, refl, sym, ap, ◌∙◌, append_assoc, inl, inr, arith}
+use Rattle.std.specs.Prelude.{◌||◌, ◌==◌, not, codes, flat_map, option_map, unwrap_or, slice_index}
+use Rattle.std.specs.List.{list_all}
+use Rattle.std.proofs.lemmas.Bool.{and_parts, cases_lt}
 use Rattle.std.proofs.lemmas.Bool.Decides.{nat_tests}
 use Rattle.std.proofs.lemmas.List.{get_or_past}
 use Rattle.hex.specs.Hex.{encode_with, encode_lower, lower_digits}
-use Rattle.up_canon.proofs.Printable.{digit-below}
-use Rattle.up_canon.specs.Canon.{escaped, quoted}
+use Rattle.up_canon.proofs.MomentTexts.{moment_parts, civil_bounds}
+use Rattle.up_canon.proofs.Printable.{all-more, digit-below}
+use Rattle.up_canon.specs.Build.{hashes_value}
+use Rattle.up_canon.specs.Canon.{escaped, quoted, text}
+use Rattle.up_canon.specs.Moments.{last_moment, year_of, month_of, day_in_month, parts_text, moment_text}
+use Rattle.up_canon.specs.Names.{is_from_to, is_ident_byte, is_file_byte, is_ident, is_file_name}
 
 -- ---- digits need no backslash
 
@@ -16,6 +21,51 @@ is_special x = (x == 34) || (x == 92)
 
 not_special : (x : ℕ) → not (is_special x) ≡ true → escaped x ≡ x ∷ []
 not_special x h = grind (arith, nat_tests)
+
+pub all_straight : (t : List ℕ) → list_all (λ x. not (is_special x)) t ≡ true → flat_map escaped t ≡ t
+all_straight [] h = refl
+all_straight (x ∷ t) h =
+    let p = and_parts (not (is_special x)) _ h in
+    rw (not_special x p.0) (ap (λ (rest : List ℕ). x ∷ rest) (all_straight t p.1))
+
+-- ---- names
+
+ident_byte : (x : ℕ) → is_ident_byte x ≡ true → not (is_special x) ≡ true
+ident_byte x h = grind (arith, nat_tests)
+
+file_byte : (x : ℕ) → is_file_byte x ≡ true → not (is_special x) ≡ true
+file_byte x h = grind (arith, nat_tests)
+
+pub ident_straight : (t : List ℕ) → is_ident t ≡ true → flat_map escaped t ≡ t
+ident_straight t h = all_straight t (all-more is_ident_byte (λ x. not (is_special x)) t ident_byte (and_parts (is_from_to 1 64 (length t)) _ h).1)
+
+pub file_name_straight : (t : List ℕ) → is_file_name t ≡ true → flat_map escaped t ≡ t
+file_name_straight t h = all_straight t (all-more is_file_byte (λ x. not (is_special x)) t file_byte (and_parts (is_from_to 1 128 (length t)) _ h).1)
+
+-- ---- moments
+
+decimal_digit : (n : ℕ) → n ≤ 9 → not (is_special (48 + n)) ≡ true
+decimal_digit n h = grind (arith, nat_tests)
+
+parts_straight : (year month day hour minute second : ℕ) → year < 10000 → month < 100 → day < 100 → hour < 100 → minute < 100 → second < 100
+    → list_all (λ x. not (is_special x)) (parts_text year month day hour minute second) ≡ true
+parts_straight year month day hour minute second a b c d e f =
+    rw (decimal_digit (year / 100 / 10) (omega arith), decimal_digit (year / 100 % 10) (omega arith), decimal_digit (year % 100 / 10) (omega arith), decimal_digit (year % 100 % 10) (omega arith), decimal_digit (month / 10) (omega arith), decimal_digit (month % 10) (omega arith), decimal_digit (day / 10) (omega arith), decimal_digit (day % 10) (omega arith), decimal_digit (hour / 10) (omega arith), decimal_digit (hour % 10) (omega arith), decimal_digit (minute / 10) (omega arith), decimal_digit (minute % 10) (omega arith), decimal_digit (second / 10) (omega arith), decimal_digit (second % 10) (omega arith))
+    refl
+
+moment_is_straight : (m : ℕ) → m ≤ last_moment → list_all (λ x. not (is_special x)) (moment_text m) ≡ true
+unfolding moment_text
+moment_is_straight m h =
+    let p = (moment_parts m h).0 in
+    let small = civil_bounds _ _ _ p.civil in
+    parts_straight (year_of (m / 86_400)) (month_of (m / 86_400)) (day_in_month (m / 86_400)) (m / 3600 % 24) (m / 60 % 60) (m % 60) small.0 small.1 small.2 (omega arith) (omega arith) (omega arith)
+
+-- what a clock shows, with the sign of UTC, in quotes
+pub moment_quoted : (shown : List ℕ) (m : ℕ) → m ≤ last_moment → shown ++ 90 ∷ [] ≡ moment_text m → 34 ∷ shown ++ 90 ∷ 34 ∷ [] ≡ quoted (moment_text m)
+moment_quoted shown m h is =
+    ap (λ t. 34 ∷ t) (sym (append_assoc shown (90 ∷ []) (34 ∷ [])) ∙ ap (λ t. t ++ 34 ∷ []) (is ∙ sym (all_straight (moment_text m) (moment_is_straight m h))))
+
+-- ---- hexadecimal digits
 
 escaped_digit : (d : ℕ) → escaped (slice_index lower_digits d) ≡ slice_index lower_digits d ∷ []
 escaped_digit d = elim (cases_lt d 16) [
@@ -30,3 +80,10 @@ escaped_hex (b ∷ xs) = rw (escaped_digit (b / 16), escaped_digit (b % 16)) (ap
 
 pub quoted_hex : (xs : List ℕ) → quoted (encode_lower xs) ≡ 34 ∷ encode_lower xs ++ 34 ∷ []
 quoted_hex xs = ap (λ t. 34 ∷ t ++ 34 ∷ []) (escaped_hex xs)
+
+-- ---- hashes
+
+pub hashes_text : (sha256 : List ℕ) (sha512 : Option (List ℕ))
+    → (codes "{\"sha256\":" ++ quoted (encode_lower sha256)) ++ (unwrap_or (option_map (λ hash. codes ",\"sha512\":" ++ quoted (encode_lower hash)) sha512) [] ++ 125 ∷ []) ≡ text (hashes_value sha256 sha512)
+hashes_text sha256 None = refl
+hashes_text sha256 (Some hash) = refl

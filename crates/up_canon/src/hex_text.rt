@@ -1,9 +1,7 @@
 //! Bytes that JSON holds as hexadecimal text.
-ghost use Rattle.std.specs.Prelude.{◌≡◌, Ok, IfOk, MatchResult, OnOk, string_bytes, true};
-ghost use Rattle.hex.specs.Hex.{encode_lower};
+ghost use Rattle.std.specs.Prelude.{◌≡◌, Ok, MatchResult};
 ghost use Rattle.serde_json.specs.View.{view};
-ghost use Rattle.up_canon.specs.Build.{hashes_value as hashes_value_of};
-ghost use Rattle.up_canon.specs.HexText.{hex_of as hex_of_value, hex_in, is_hash, is_sha512, is_second_hash, sha256_in, sha512_in};
+ghost use Rattle.up_canon.specs.HexText.{hex_of as hex_of_value, hex_in, sha256_in, sha512_in};
 ghost use Rattle.up_canon.specs.Members.{IsFault, object_of_map};
 ghost use Rattle.up_canon.specs.Refusals.{Gives};
 
@@ -12,8 +10,8 @@ use crate::fields::{find, member_at};
 use crate::kinds::text_of;
 use crate::refusal::Refusal;
 use hex::FromHexError;
-use serde_json::{Map, Value, json};
-use std::alloc::{AllocError, Global};
+use serde_json::{Map, Value};
+use std::alloc::Global;
 
 /// The bytes of a text of so many hexadecimal digits, of either case; the name is that of the fault.
 #[tactic(auto, unfolding(crate::specs::HexText::hex_of, crate::specs::Steps::and_then))]
@@ -98,38 +96,4 @@ pub fn sha512_of(value: &Value, name: &'static str) -> Result<[u8; 64], &'static
         Ok(()) => Ok(bytes),
         Err(_) => Err(name),
     }
-}
-
-/// A SHA-256 and, where there is one, a SHA-512, each under the name of its hash function, in lower case digits.
-pub fn hashes_value(
-    alloc: Global,
-    sha256: &[u8; 32],
-    sha512: &Option<[u8; 64]>,
-) -> Result<Value, AllocError>
-    ensures value { IfOk result (λ v. view v ≡ hashes_value_of sha256.now sha512.now) }
-    ensures typed { is_hash sha256.now ≡ true }
-    ensures typed_second { OnOk result (is_second_hash sha512.now ≡ true) }
-{
-    let first = digits_of(alloc, sha256)?;
-    match sha512 {
-        Some(hash) => {
-            let second = more_digits_of(alloc, hash)?;
-            json!(in alloc; {"sha256": first, "sha512": second})
-        }
-        None => json!(in alloc; {"sha256": first}),
-    }
-}
-
-fn digits_of(alloc: Global, hash: &[u8; 32]) -> Result<String, AllocError>
-    ensures value { IfOk result (λ t. string_bytes t ≡ encode_lower hash.now) }
-    ensures typed { is_hash hash.now ≡ true }
-{
-    hex::encode(alloc, *hash)
-}
-
-fn more_digits_of(alloc: Global, second: &[u8; 64]) -> Result<String, AllocError>
-    ensures value { IfOk result (λ t. string_bytes t ≡ encode_lower second.now) }
-    ensures typed { is_sha512 second.now ≡ true }
-{
-    hex::encode(alloc, *second)
 }

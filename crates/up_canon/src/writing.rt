@@ -1,15 +1,51 @@
 //! Writing parts of canonical text at the end of a string.
-ghost use Rattle.std.specs.Prelude.{◌≡◌, ◌++◌, IsTrue, IfOk, string_bytes, decimal};
+ghost use Rattle.std.specs.Prelude.{◌≡◌, ◌||◌, ◌==◌, ◌≤◌, ◌++◌, [], IsTrue, IfOk, OnOk, codes, flat_map, not, option_map, unwrap_or, string_bytes, decimal, true};
 ghost use Rattle.std.specs.List.{list_all};
 ghost use Rattle.hex.specs.Hex.{encode_lower};
-ghost use Rattle.up_canon.specs.Canon.{is_printable, escaped, quoted};
+ghost use Rattle.up_canon.specs.Build.{hashes_value};
+ghost use Rattle.up_canon.specs.Canon.{is_printable, escaped, quoted, text as text_of};
+ghost use Rattle.up_canon.specs.HexText.{is_hash, is_sha512, is_second_hash};
+ghost use Rattle.up_canon.specs.Moments.{last_moment, moment_text};
 
+use crate::calendar::shown_at;
+use crate::file_name::FileName;
 use crate::ident::Ident;
+use crate::moment::Moment;
 use std::alloc::{AllocError, Global};
+use std::fmt::Write;
 
 /// Appends printable ASCII in quotes, with a backslash before each quote and backslash of it. On an error `out` may hold some
 /// of it.
 pub fn push_quoted(out: &mut String, text: &str) -> Result<(), AllocError>
+    requires { IsTrue (list_all is_printable text.now) }
+    ensures { IfOk result (λ _. string_bytes out.new ≡ string_bytes out.old ++ quoted text.now) }
+{
+    if is_straight(text.as_bytes()) {
+        push_straight(out, text)
+    } else {
+        push_each_escaped(out, text)
+    }
+}
+
+/// Whether no byte of it needs a backslash.
+fn is_straight(bytes: &[u8]) -> bool
+    ensures { result ≡ list_all (λ x. not ((x == 34) || (x == 92))) bytes.now }
+{
+    bytes.iter().all(|byte| *byte != b'"' && *byte != b'\\')
+}
+
+/// Appends a text that needs no backslash, in one piece.
+fn push_straight(out: &mut String, text: &str) -> Result<(), AllocError>
+    requires { flat_map escaped text.now ≡ text.now }
+    ensures { IfOk result (λ _. string_bytes out.new ≡ string_bytes out.old ++ quoted text.now) }
+{
+    out.push('"')?;
+    out.push_str(text)?;
+    out.push('"')?;
+    Ok(())
+}
+
+fn push_each_escaped(out: &mut String, text: &str) -> Result<(), AllocError>
     requires { IsTrue (list_all is_printable text.now) }
     ensures { IfOk result (λ _. string_bytes out.new ≡ string_bytes out.old ++ quoted text.now) }
 {
@@ -43,16 +79,83 @@ pub fn push_hex(alloc: Global, out: &mut String, bytes: &[u8]) -> Result<(), All
 }
 
 /// Appends the digits of a number. On an error `out` may hold some of it.
-pub fn push_number(alloc: Global, out: &mut String, number: u64) -> Result<(), AllocError>
+pub fn push_number(out: &mut String, number: u64) -> Result<(), AllocError>
     ensures { IfOk result (λ _. string_bytes out.new ≡ string_bytes out.old ++ decimal number) }
 {
-    out.push_str(number.to_string(alloc)?.as_str())
+    write!(out, "{number}")
 }
 
 /// Appends an identifier in quotes. On an error `out` may hold some of it.
-#[tactic(auto, using(crate::proofs::Printable::ident_prints))]
+#[tactic(auto, using(crate::proofs::Written::ident_straight))]
 pub fn push_ident(out: &mut String, ident: &Ident) -> Result<(), AllocError>
     ensures { IfOk result (λ _. string_bytes out.new ≡ string_bytes out.old ++ quoted ident.now) }
 {
-    push_quoted(out, ident.text())
+    push_straight(out, ident.text())
+}
+
+/// Appends a filename in quotes. On an error `out` may hold some of it.
+#[tactic(auto, using(crate::proofs::Written::file_name_straight))]
+pub fn push_file_name(out: &mut String, name: &FileName) -> Result<(), AllocError>
+    ensures { IfOk result (λ _. string_bytes out.new ≡ string_bytes out.old ++ quoted name.now) }
+{
+    push_straight(out, name.text())
+}
+
+/// Appends the text of a moment in quotes. On an error `out` may hold some of it.
+pub fn push_moment(out: &mut String, moment: Moment) -> Result<(), AllocError>
+    ensures value { IfOk result (λ _. string_bytes out.new ≡ string_bytes out.old ++ quoted (moment_text moment)) }
+    ensures typed { moment ≤ last_moment }
+{
+    let shown = shown_at(moment.get());
+    write!(out, "\"{shown}Z\"")
+}
+
+/// Appends the object of a SHA-256 and, where there is one, a SHA-512, each under the name of its hash function. On an error
+/// `out` may hold some of it.
+pub fn push_hashes(
+    alloc: Global,
+    out: &mut String,
+    sha256: &[u8; 32],
+    sha512: &Option<[u8; 64]>,
+) -> Result<(), AllocError>
+    ensures value { IfOk result (λ _. string_bytes out.new ≡ string_bytes out.old ++ text_of (hashes_value sha256.now sha512.now)) }
+    ensures typed { is_hash sha256.now ≡ true }
+    ensures typed_second { OnOk result (is_second_hash sha512.now ≡ true) }
+{
+    push_first_hash(alloc, out, sha256)?;
+    push_second_hash(alloc, out, sha512)?;
+    out.push('}')?;
+    Ok(())
+}
+
+fn push_first_hash(alloc: Global, out: &mut String, hash: &[u8; 32]) -> Result<(), AllocError>
+    ensures value { IfOk result (λ _. string_bytes out.new ≡ string_bytes out.old ++ (codes "{\"sha256\":" ++ quoted (encode_lower hash.now))) }
+    ensures typed { is_hash hash.now ≡ true }
+{
+    out.push_str("{\"sha256\":")?;
+    push_hex(alloc, out, &hash[..])
+}
+
+/// Appends the SHA-512 where there is one.
+fn push_second_hash(
+    alloc: Global,
+    out: &mut String,
+    sha512: &Option<[u8; 64]>,
+) -> Result<(), AllocError>
+    ensures value { IfOk result (λ _. string_bytes out.new
+        ≡ string_bytes out.old ++ unwrap_or (option_map (λ hash. codes ",\"sha512\":" ++ quoted (encode_lower hash)) sha512.now) []) }
+    ensures typed { OnOk result (is_second_hash sha512.now ≡ true) }
+{
+    match sha512 {
+        Some(hash) => push_sha512(alloc, out, hash),
+        None => Ok(()),
+    }
+}
+
+fn push_sha512(alloc: Global, out: &mut String, hash: &[u8; 64]) -> Result<(), AllocError>
+    ensures value { IfOk result (λ _. string_bytes out.new ≡ string_bytes out.old ++ (codes ",\"sha512\":" ++ quoted (encode_lower hash.now))) }
+    ensures typed { is_sha512 hash.now ≡ true }
+{
+    out.push_str(",\"sha512\":")?;
+    push_hex(alloc, out, &hash[..])
 }

@@ -135,7 +135,7 @@ installed-length r h =
     let sum = ap length (installed-spelled r) ∙ sum-seven (codes "{\"file\":") (quoted r.image.file) (codes ",\"hashes\":") (text (hashes_value r.image.sha256 r.image.sha512)) (codes ",\"length\":") (decimal r.image.length) (codes "}") in
     omega (arith, sum, file, hash, number)
 
-report-spelled : (r : Report) → report_text r ≡ codes "{\"attack\":" ++ (quoted r.attack ++ (codes ",\"counter\":" ++ (decimal r.counter ++ (codes ",\"ecu\":" ++ (quoted r.ecu ++ (codes ",\"image\":" ++
+pub report-spelled : (r : Report) → report_text r ≡ codes "{\"attack\":" ++ (quoted r.attack ++ (codes ",\"counter\":" ++ (decimal r.counter ++ (codes ",\"ecu\":" ++ (quoted r.ecu ++ (codes ",\"image\":" ++
     (text (installed_value r.image) ++ (codes ",\"time\":" ++ (quoted (moment_text r.time) ++ codes ",\"type\":\"report\"}")))))))))
 unfolding report_text
 report-spelled r = refl

@@ -7,3 +7,7 @@ pub mod Lengths
 pub mod Built
 pub mod Parts
 pub mod NoReport
+pub mod PlainTexts
+pub mod LowerDigits
+pub mod Spelled
+pub mod PlainReports

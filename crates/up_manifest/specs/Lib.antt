@@ -3,3 +3,4 @@ pub mod Meaning
 pub mod Laws
 pub mod Building
 pub mod Bodies
+pub mod Plain

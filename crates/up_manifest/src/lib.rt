@@ -3,8 +3,12 @@
 
 pub mod body;
 pub mod building;
+mod cursor;
 pub mod manifest;
 pub mod manifest_read;
+mod plain;
+mod plain_members;
+mod plain_report;
 pub mod report;
 mod writing;
 

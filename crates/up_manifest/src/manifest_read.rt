@@ -7,7 +7,9 @@ ghost use Rattle.up_canon.specs.declared.refusal.Refusal.TheVariants.{TooLarge};
 ghost use Rattle.up_manifest.specs.Manifests.{largest_body, installed_in, report_in, reports_in, manifest_in, incoming_in, report_text_in, report_sha512_of};
 
 use crate::body::LARGEST_BODY;
+use crate::body_laws;
 use crate::manifest::{Incoming, Manifest};
+use crate::plain::plain_manifest;
 use crate::report::{Installed, Report, SignedReport};
 use serde_json::{Map, Value};
 use std::alloc::{AllocError, Global};
@@ -23,14 +25,28 @@ use up_canon::refusal::Refusal;
 use up_sign::envelope_read::open;
 
 /// How many reports a manifest may have.
-const MOST_REPORTS: usize = 64;
+pub(crate) const MOST_REPORTS: usize = 64;
 
 /// The vehicle version manifest that a body means, with the envelope that its Primary signed. The faults, in their
 /// order: `TooLarge` above 262,144 bytes; `NotJson`; `BadShape` of the envelope; `NotCanonical` of the signed value;
 /// `BadShape` of the manifest's own members, then report by report of a report's envelope, and of its members.
 /// `Memory` where memory was refused, though never in place of `TooLarge`.
-#[tactic(auto, unfolding(crate::specs::Manifests::incoming_in, up_canon::specs::Steps::and_then))]
 pub fn read_manifest(alloc: Global, body: &[u8]) -> Result<Incoming, Refusal>
+    ensures value { Gives result (incoming_in body.now) }
+    ensures large { largest_body < length body.now → result ≡ Err TooLarge }
+{
+    body_laws();
+    if body.len() <= LARGEST_BODY {
+        if let Some(incoming) = plain_manifest(alloc, body)? {
+            return Ok(incoming);
+        }
+    }
+    manifest_of_json(alloc, body)
+}
+
+/// The same of a body of any form, by the tree of its values.
+#[tactic(auto, unfolding(crate::specs::Manifests::incoming_in, up_canon::specs::Steps::and_then))]
+fn manifest_of_json(alloc: Global, body: &[u8]) -> Result<Incoming, Refusal>
     ensures value { Gives result (incoming_in body.now) }
     ensures large { largest_body < length body.now → result ≡ Err TooLarge }
 {

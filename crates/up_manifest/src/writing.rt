@@ -1,54 +1,63 @@
 //! Writing reports and manifests.
 ghost use Rattle.std.specs.Prelude.{◌≡◌, ◌++◌, IsTrue, IfOk, length, string_bytes, map};
 ghost use Rattle.std.specs.List.{list_all};
-ghost use Rattle.serde_json.specs.View.{view};
+ghost use Rattle.up_canon.specs.Canon.{text};
 ghost use Rattle.up_canon.specs.HexText.{is_second_hash};
 ghost use Rattle.up_sign.specs.Formats.{envelope_fits, envelope_text};
 ghost use Rattle.up_sign.specs.Schemes.{is_byte};
-ghost use Rattle.up_manifest.specs.Building.{ReportFits, installed_value as installed_value_of, report_value as report_value_of, primary_text, listed, report_text as report_text_of, manifest_text as manifest_text_of};
+ghost use Rattle.up_manifest.specs.Building.{ReportFits, installed_value, primary_text, listed, report_text as report_text_of, manifest_text as manifest_text_of};
 
 use crate::report::{Installed, Report};
-use serde_json::{Value, json};
 use std::alloc::{AllocError, Global};
-use up_canon::canonical::canonical_text;
-use up_canon::hex_text::hashes_value;
 use up_canon::ident::Ident;
-use up_canon::moment::moment_laws;
-use up_canon::writing::{push_ident, push_number};
+use up_canon::writing::{
+    push_file_name, push_hashes, push_ident, push_moment, push_number, push_quoted,
+};
 use up_sign::envelope::Envelope;
 
+/// Bytes of room that a report's text gets, so that it seldom grows while it is written.
+const ROOM_OF_A_REPORT: usize = 320;
+
 /// The canonical text of a report.
-#[tactic(auto, unfolding(crate::specs::Building::report_text))]
+#[tactic(auto, using(up_canon::proofs::Printable::note_prints))]
 pub(crate) fn report_text(alloc: Global, report: &Report) -> Result<String, AllocError>
     requires { ReportFits report.now }
     ensures { IfOk result (λ t. string_bytes t ≡ report_text_of report.now) }
 {
-    moment_laws();
-    let value = report_value(alloc, report)?;
-    canonical_text(alloc, &value)
+    let mut out = String::with_capacity(alloc, ROOM_OF_A_REPORT)?;
+    out.push_str("{\"attack\":")?;
+    push_quoted(&mut out, report.attack.text())?;
+    out.push_str(",\"counter\":")?;
+    push_number(&mut out, report.counter.get())?;
+    out.push_str(",\"ecu\":")?;
+    push_ident(&mut out, &report.ecu)?;
+    out.push_str(",\"image\":")?;
+    push_installed(alloc, &mut out, &report.image)?;
+    out.push_str(",\"time\":")?;
+    push_moment(&mut out, report.time)?;
+    out.push_str(",\"type\":\"report\"}")?;
+    Ok(out)
 }
 
-fn report_value(alloc: Global, report: &Report) -> Result<Value, AllocError>
-    ensures { IfOk result (λ v. view v ≡ report_value_of report.now) }
+/// Appends the image.
+fn push_installed(alloc: Global, out: &mut String, image: &Installed) -> Result<(), AllocError>
+    ensures { IfOk result (λ _. string_bytes out.new ≡ string_bytes out.old ++ text (installed_value image.now)) }
 {
-    let image = installed_value(alloc, &report.image)?;
-    let time = report.time.text(alloc)?;
-    json!(in alloc; {
-        "attack": report.attack.text(),
-        "counter": report.counter.get(),
-        "ecu": report.ecu.text(),
-        "image": image,
-        "time": time,
-        "type": "report"
-    })
+    out.push_str("{\"file\":")?;
+    push_file_name(out, &image.file)?;
+    out.push_str(",\"hashes\":")?;
+    push_hashes(alloc, out, &image.sha256, &image.sha512)?;
+    out.push_str(",\"length\":")?;
+    push_number(out, image.length.get())?;
+    out.push('}')?;
+    Ok(())
 }
 
-fn installed_value(alloc: Global, image: &Installed) -> Result<Value, AllocError>
-    ensures { IfOk result (λ v. view v ≡ installed_value_of image.now) }
-{
-    let hashes = hashes_value(alloc, &image.sha256, &image.sha512)?;
-    json!(in alloc; {"file": image.file.text(), "hashes": hashes, "length": image.length.get()})
-}
+/// Bytes of room that a manifest's text gets.
+const ROOM_OF_A_MANIFEST: usize = 256;
+
+/// Bytes of room that it gets beside for each report.
+const ROOM_OF_AN_ENVELOPE: usize = 640;
 
 /// The text that a Primary signs, in which the reports' envelopes stand as they are.
 #[tactic(auto, unfolding(crate::specs::Building::manifest_text))]
@@ -62,8 +71,9 @@ pub(crate) fn manifest_text(
     requires { IsTrue (list_all envelope_fits reports.now) }
     ensures { IfOk result (λ t. string_bytes t ≡ manifest_text_of vehicle.now primary.now counter reports.now) }
 {
-    let mut out = String::new(alloc);
-    push_primary(alloc, &mut out, primary, counter)?;
+    let room = ROOM_OF_AN_ENVELOPE.saturating_mul(reports.len());
+    let mut out = String::with_capacity(alloc, room.saturating_add(ROOM_OF_A_MANIFEST))?;
+    push_primary(&mut out, primary, counter)?;
     out.push_str(",\"reports\":")?;
     push_envelopes(alloc, &mut out, reports)?;
     out.push_str(",\"type\":\"manifest\",\"vehicle\":")?;
@@ -73,16 +83,11 @@ pub(crate) fn manifest_text(
 }
 
 /// The first two members of a manifest.
-fn push_primary(
-    alloc: Global,
-    out: &mut String,
-    primary: &Ident,
-    counter: u64,
-) -> Result<(), AllocError>
+fn push_primary(out: &mut String, primary: &Ident, counter: u64) -> Result<(), AllocError>
     ensures { IfOk result (λ _. string_bytes out.new ≡ string_bytes out.old ++ primary_text primary.now counter) }
 {
     out.push_str("{\"counter\":")?;
-    push_number(alloc, out, counter)?;
+    push_number(out, counter)?;
     out.push_str(",\"primary\":")?;
     push_ident(out, primary)?;
     Ok(())

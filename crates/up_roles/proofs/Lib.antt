@@ -2,6 +2,7 @@ pub mod Entries
 pub mod Keys
 pub mod Oks
 pub mod PlainFiles
+pub mod Spelled
 pub mod Writing
 pub mod Repeats
 pub mod ReadAgain

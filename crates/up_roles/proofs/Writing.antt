@@ -3,7 +3,9 @@ use Rattle.std.proofs.Common.{◌≡◌, ℕ, List, Bool, true, Result, refl, ap
 use Rattle.std.specs.Prelude.{String, IfOk, OnOk}
 use Rattle.std.proofs.lemmas.Result.{IfOk-weaker}
 use Rattle.serde_json.specs.Data.{Data}
-use Rattle.up_canon.specs.Canon.{has_canon}
+use Rattle.up_canon.specs.Canon.{has_canon, text}
+use Rattle.up_sign.specs.Envelopes.{sealed}
+use Rattle.up_sign.specs.Formats.{envelope_text}
 use Rattle.up_sign.specs.Schemes.{Rules}
 use Rattle.up_roles.specs.Payload.{IsCanonical, sealed_text}
 use Rattle.up_roles.specs.Root.{root_payload, root_text_of, root_fits, root_is_typed}
@@ -13,10 +15,10 @@ use Rattle.up_roles.specs.Timestamp.{timestamp_payload, timestamp_text_of, times
 use Rattle.up_roles.proofs.Oks.{on_ok}
 use Rattle.up_roles.proofs.PlainFiles.{canon_is, root-canon, targets-canon, snapshot-canon, timestamp-canon}
 
--- the payload of a file within its limits has a canonical text, and the file's text is that payload sealed
+-- the payload of a file within its limits has a canonical text, and the file's text is that text sealed
 pub record Writes {F : Type 0} (payload : F → Data) (text_of : Rules → List (List ℕ) → F → List ℕ) (fits typed : F → Bool) : Type 0 where
   pub canon : (file : F) → fits file ≡ true → typed file ≡ true → has_canon (payload file) ≡ true
-  pub text_is : (k : Rules) (secrets : List (List ℕ)) (file : F) → sealed_text k secrets (payload file) ≡ text_of k secrets file
+  pub text_is : (k : Rules) (secrets : List (List ℕ)) (file : F) → envelope_text (sealed k secrets (text (payload file))) ≡ text_of k secrets file
 
 pub record RolesWrite : Type 0 where
   pub root : Writes root_payload root_text_of root_fits root_is_typed
@@ -25,7 +27,7 @@ pub record RolesWrite : Type 0 where
   pub timestamp : Writes timestamp_payload timestamp_text_of timestamp_fits timestamp_is_typed
 
 pub roles_write : RolesWrite
-unfolding root_text_of targets_text_of snapshot_text_of timestamp_text_of
+unfolding sealed_text root_text_of targets_text_of snapshot_text_of timestamp_text_of
 roles_write = record {
   root = record { canon = root-canon; text_is = λ k secrets file. refl };
   targets = record { canon = targets-canon; text_is = λ k secrets file. refl };
@@ -40,13 +42,11 @@ pub record IsWritten {A E : Type 0} (payload : Data) (text : List ℕ) (kept : B
   pub typed : OnOk r (kept ≡ true)
 
 module _ {F : Type 0} {payload : F → Data} {text_of : Rules → List (List ℕ) → F → List ℕ} {fits typed : F → Bool} (role : Writes payload text_of fits typed)
-    (file : F) (value : Data) (is : value ≡ payload file) (within : fits file ≡ true) (kept : typed file ≡ true) where
-  pub can_seal : has_canon value ≡ true
-  can_seal = ap has_canon is ∙ role.canon file within kept
-
-  pub is_written : {A E : Type 0} (k : Rules) (secrets : List (List ℕ)) (r : Result (String A) E) → IfOk r (λ t. string_bytes t ≡ sealed_text k secrets value) → IsWritten (payload file) (text_of k secrets file) (typed file) r
-  is_written k secrets r sealed = record {
-    value = IfOk-weaker r _ _ (λ t h. h ∙ ap (sealed_text k secrets) is ∙ role.text_is k secrets file) sealed;
+    (file : F) (within : fits file ≡ true) (kept : typed file ≡ true) where
+  pub is_written : {A E : Type 0} (signed : List ℕ) → signed ≡ text (payload file) → (k : Rules) (secrets : List (List ℕ)) (r : Result (String A) E)
+      → IfOk r (λ t. string_bytes t ≡ envelope_text (sealed k secrets signed)) → IsWritten (payload file) (text_of k secrets file) (typed file) r
+  is_written signed is k secrets r written = record {
+    value = IfOk-weaker r _ _ (λ t h. h ∙ ap (λ (s : List ℕ). envelope_text (sealed k secrets s)) is ∙ role.text_is k secrets file) written;
     canonical = on_ok r _ (canon_is (payload file) (role.canon file within kept));
     typed = on_ok r _ kept;
   }

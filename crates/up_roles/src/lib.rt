@@ -7,6 +7,7 @@ pub mod lifetimes;
 mod limits;
 mod parts;
 pub mod payload;
+mod pieces;
 pub mod repository;
 pub mod root;
 mod root_keys;

@@ -1,14 +1,14 @@
 //! What the payloads of the four roles have in common.
-ghost use Rattle.std.specs.Prelude.{◌≡◌, ℕ, List, Ok, true, IfOk, OnOk, MatchResult, codes};
+ghost use Rattle.std.specs.Prelude.{◌≡◌, ℕ, List, None, Ok, true, IfOk, OnOk, MatchResult, codes};
 ghost use Rattle.serde_json.specs.Data.{Data, string};
 ghost use Rattle.serde_json.specs.View.{view, members_view};
 ghost use Rattle.up_canon.specs.Build.{members_with};
 ghost use Rattle.up_canon.specs.Members.{IsFault, object_of_map};
 ghost use Rattle.up_canon.specs.Refusals.{Gives};
-ghost use Rattle.up_roles.specs.Payload.{payload, repository_text, is_moment, is_named, repository_in, vehicle_in, expires_in, head_in};
+ghost use Rattle.up_roles.specs.Payload.{payload, repository_text, is_moment, repository_in, vehicle_in, expires_in, head_in};
 
 use crate::repository::Repository;
-use crate::values::{moment_value, with_vehicle};
+use crate::values::moment_value;
 use serde_json::{Map, Value, put};
 use std::alloc::{AllocError, Global};
 use up_canon::fields::text_at;
@@ -83,20 +83,17 @@ fn expires_at(map: &Map<String, Value>) -> Result<Moment, &'static str>
     }
 }
 
-/// The payload of that type with these members of its role.
+/// The payload of that type with these members of its role. It names no vehicle.
 pub(crate) fn payload_value(
     alloc: Global,
     kind: &str,
     head: &Head,
-    vehicle: &Option<Ident>,
-    more: Map<String, Value>,
+    mut members: Map<String, Value>,
 ) -> Result<Value, AllocError>
-    ensures value { IfOk result (λ v. (ms : List (List ℕ × Data)) → members_view more.entries ≡ members_with ms
-        → view v ≡ payload kind.now head.now.repository head.now.version head.now.expires vehicle.now ms) }
+    ensures value { IfOk result (λ v. (ms : List (List ℕ × Data)) → members_view members.entries ≡ members_with ms
+        → view v ≡ payload kind.now head.now.repository head.now.version head.now.expires None ms) }
     ensures typed { OnOk result (is_moment head.now.expires ≡ true) }
-    ensures named { OnOk result (is_named vehicle.now ≡ true) }
 {
-    let mut members = with_vehicle(alloc, vehicle, more)?;
     let kind = Value::try_from_str(alloc, kind)?;
     let repository = repository_value(alloc, head.repository)?;
     let expires = moment_value(alloc, head.expires)?;

@@ -4,6 +4,7 @@ ghost use Rattle.std.specs.List.{list_all};
 ghost use Rattle.serde_json.specs.Data.{string};
 ghost use Rattle.serde_json.specs.View.{view, members_view};
 ghost use Rattle.up_canon.specs.Build.{list_with, members_with, object_with};
+ghost use Rattle.up_canon.specs.Canon.{text};
 ghost use Rattle.up_sign.specs.Envelopes.{key_block};
 ghost use Rattle.up_roles.specs.Payload.{IsCanonical};
 ghost use Rattle.up_roles.specs.Root.{all_keys, key_member, put_keys, role_value as role_value_of, roles_value as roles_value_of, root_more, root_payload, root_text_of, root_fits, root_is_typed};
@@ -15,6 +16,7 @@ use crate::values::one_member;
 use serde_json::{Map, Value, json, put};
 use std::alloc::{AllocError, Global};
 use up_canon::bytes::Bytes;
+use up_canon::canonical::canonical_text;
 use up_sign::key_id::HashedKey;
 use up_sign::scheme::Scheme;
 use up_sign::seal::hashed_keys;
@@ -54,8 +56,18 @@ pub fn root_text_by<K: Scheme>(
     ensures canonical { OnOk result (IsCanonical (root_payload file.now)) }
     ensures typed { OnOk result (root_is_typed file.now ≡ true) }
 {
+    let signed = root_signed(alloc, file)?;
+    sealed_text(alloc, scheme, secrets, keys, signed)
+}
+
+/// The canonical text of the payload.
+fn root_signed(alloc: Global, file: &RootFile) -> Result<String, AllocError>
+    requires { IsTrue (root_fits file.now) }
+    ensures value { IfOk result (λ t. string_bytes t ≡ text (root_payload file.now)) }
+    ensures typed { OnOk result (root_is_typed file.now ≡ true) }
+{
     let payload = root_value(alloc, file)?;
-    sealed_text(alloc, scheme, secrets, keys, &payload)
+    canonical_text(alloc, &payload)
 }
 
 fn root_value(alloc: Global, file: &RootFile) -> Result<Value, AllocError>
@@ -68,7 +80,7 @@ fn root_value(alloc: Global, file: &RootFile) -> Result<Value, AllocError>
         expires: file.expires,
     };
     let more = root_members(alloc, file)?;
-    payload_value(alloc, "root", &head, &None, more)
+    payload_value(alloc, "root", &head, more)
 }
 
 fn root_members(alloc: Global, file: &RootFile) -> Result<Map<String, Value>, AllocError>

@@ -1,8 +1,7 @@
 //! Snapshot files: the version of the Targets file.
-ghost use Rattle.std.specs.Prelude.{◌≡◌, ◌<◌, ◌≤◌, ◌∷◌, [], Ok, Err, IsTrue, IfOk, OnOk, MatchResult, codes, length, map, string_bytes, true};
+ghost use Rattle.std.specs.Prelude.{◌≡◌, ◌<◌, ◌≤◌, ◌++◌, Ok, Err, IsTrue, IfOk, OnOk, MatchResult, codes, length, map, string_bytes, true};
 ghost use Rattle.std.specs.List.{list_all};
-ghost use Rattle.serde_json.specs.View.{view, members_view};
-ghost use Rattle.up_canon.specs.Build.{members_with};
+ghost use Rattle.up_canon.specs.Canon.{text};
 ghost use Rattle.up_canon.specs.Members.{IsFault, object_of_map};
 ghost use Rattle.up_canon.specs.Refusals.{Gives};
 ghost use Rattle.up_canon.specs.declared.refusal.Refusal.TheVariants.{TooLarge};
@@ -12,11 +11,11 @@ ghost use Rattle.up_roles.specs.Snapshot.{snapshot_meta, snapshot_payload, snaps
 
 use crate::file::{RoleFile, read_file};
 use crate::parts::{object_part, positive_part};
-use crate::payload::{Head, head_at, payload_value, vehicle_at};
+use crate::payload::{head_at, vehicle_at};
+use crate::pieces::{push_end, push_expires, push_repository};
 use crate::repository::Repository;
 use crate::sealing::sealed_text;
-use crate::values::one_member;
-use serde_json::{Map, Value, json};
+use serde_json::{Map, Value};
 use std::alloc::{AllocError, Global};
 use up_canon::bytes::Bytes;
 use up_canon::fields::object_at;
@@ -24,10 +23,14 @@ use up_canon::ident::Ident;
 use up_canon::listed::Duplicate;
 use up_canon::moment::Moment;
 use up_canon::refusal::Refusal;
+use up_canon::writing::push_number;
 use up_sign::envelope::Envelope;
 use up_sign::key_id::HashedKey;
 use up_sign::scheme::Scheme;
 use up_sign::seal::hashed_keys;
+
+/// Bytes of room that the text of a payload gets, so that it seldom grows while it is written.
+const ROOM: usize = 256;
 
 /// Snapshot metadata: the version of the Targets file. The Director's is for one vehicle, which it names. The type keeps no
 /// limits; `fits` tells.
@@ -136,26 +139,30 @@ pub fn snapshot_text_by<K: Scheme>(
     ensures canonical { OnOk result (IsCanonical (snapshot_payload file.now)) }
     ensures typed { OnOk result (snapshot_is_typed file.now ≡ true) }
 {
-    let payload = snapshot_value(alloc, file)?;
-    sealed_text(alloc, scheme, secrets, keys, &payload)
+    let signed = snapshot_signed(alloc, file)?;
+    sealed_text(alloc, scheme, secrets, keys, signed)
 }
 
-fn snapshot_value(alloc: Global, file: &SnapshotFile) -> Result<Value, AllocError>
-    ensures value { IfOk result (λ v. view v ≡ snapshot_payload file.now) }
+/// The canonical text of the payload.
+fn snapshot_signed(alloc: Global, file: &SnapshotFile) -> Result<String, AllocError>
+    ensures value { IfOk result (λ t. string_bytes t ≡ text (snapshot_payload file.now)) }
     ensures typed { OnOk result (snapshot_is_typed file.now ≡ true) }
 {
-    let head = Head {
-        repository: file.repository,
-        version: file.version,
-        expires: file.expires,
-    };
-    let more = snapshot_members(alloc, file)?;
-    payload_value(alloc, "snapshot", &head, &file.vehicle, more)
+    let mut out = String::with_capacity(alloc, ROOM)?;
+    push_expires(&mut out, file.expires)?;
+    push_meta(&mut out, file)?;
+    push_repository(&mut out, file.repository)?;
+    out.push_str(",\"type\":\"snapshot\"")?;
+    push_end(&mut out, &file.vehicle, file.version)?;
+    Ok(out)
 }
 
-fn snapshot_members(alloc: Global, file: &SnapshotFile) -> Result<Map<String, Value>, AllocError>
-    ensures { IfOk result (λ m. members_view m.entries ≡ members_with ((codes "meta", snapshot_meta file.now) ∷ [])) }
+/// Appends the entry of the Targets file.
+fn push_meta(out: &mut String, file: &SnapshotFile) -> Result<(), AllocError>
+    ensures { IfOk result (λ _. string_bytes out.new ≡ string_bytes out.old ++ (codes ",\"meta\":" ++ text (snapshot_meta file.now))) }
 {
-    let meta = json!(in alloc; {"targets.json": {"version": file.targets_version}})?;
-    one_member(alloc, "meta", meta)
+    out.push_str(",\"meta\":{\"targets.json\":{\"version\":")?;
+    push_number(out, file.targets_version)?;
+    out.push_str("}}")?;
+    Ok(())
 }

@@ -1,25 +1,30 @@
 //! Writing Targets files.
-ghost use Rattle.std.specs.Prelude.{◌≡◌, ◌≤◌, IsTrue, IfOk, OnOk, codes, length, map, option_map, option_to_list, string_bytes, true};
+ghost use Rattle.std.specs.Prelude.{◌≡◌, ◌≤◌, ◌++◌, [], IsTrue, IfOk, OnOk, codes, length, map, option_map, string_bytes, true, unwrap_or};
 ghost use Rattle.std.specs.List.{list_all};
 ghost use Rattle.serde_json.specs.Data.{string};
-ghost use Rattle.serde_json.specs.View.{view, members_view};
-ghost use Rattle.up_canon.specs.Build.{list_with, members_with};
+ghost use Rattle.up_canon.specs.Build.{list_with};
+ghost use Rattle.up_canon.specs.Canon.{quoted, text};
+ghost use Rattle.up_canon.specs.Names.{is_ident};
 ghost use Rattle.up_sign.specs.Envelopes.{key_block};
 ghost use Rattle.up_roles.specs.Payload.{IsCanonical, is_named};
-ghost use Rattle.up_roles.specs.Targets.{target_value as target_value_of, targets_payload, targets_text_of, targets_fits, target_is_typed, targets_is_typed};
+ghost use Rattle.up_roles.specs.Targets.{target_value, targets_payload, targets_text_of, targets_fits, target_is_typed, targets_is_typed};
 
-use crate::payload::{Head, payload_value};
+use crate::pieces::{push_end, push_expires, push_name, push_repository};
 use crate::sealing::sealed_text;
 use crate::targets::{Target, TargetsFile};
-use crate::values::{name_value, names_value, one_member};
-use serde_json::{Map, Value, put};
 use std::alloc::{AllocError, Global};
 use up_canon::bytes::Bytes;
-use up_canon::hex_text::hashes_value;
 use up_canon::ident::Ident;
+use up_canon::writing::{push_file_name, push_hashes, push_number};
 use up_sign::key_id::HashedKey;
 use up_sign::scheme::Scheme;
 use up_sign::seal::hashed_keys;
+
+/// Bytes of room that the text of a payload gets, so that it seldom grows while it is written.
+const ROOM: usize = 384;
+
+/// Bytes of room that it gets beside for each target.
+const ROOM_OF_A_TARGET: usize = 512;
 
 /// The text of the Targets file, which is within its limits (`fits`): its envelope, signed with each of 1 to 8 secrets that
 /// fit, in order.
@@ -56,71 +61,91 @@ pub fn targets_text_by<K: Scheme>(
     ensures canonical { OnOk result (IsCanonical (targets_payload file.now)) }
     ensures typed { OnOk result (targets_is_typed file.now ≡ true) }
 {
-    let payload = targets_value(alloc, file)?;
-    sealed_text(alloc, scheme, secrets, keys, &payload)
+    let signed = targets_signed(alloc, file)?;
+    sealed_text(alloc, scheme, secrets, keys, signed)
 }
 
-fn targets_value(alloc: Global, file: &TargetsFile) -> Result<Value, AllocError>
-    ensures value { IfOk result (λ v. view v ≡ targets_payload file.now) }
+/// The canonical text of the payload.
+fn targets_signed(alloc: Global, file: &TargetsFile) -> Result<String, AllocError>
+    ensures value { IfOk result (λ t. string_bytes t ≡ text (targets_payload file.now)) }
     ensures typed { OnOk result (targets_is_typed file.now ≡ true) }
 {
-    let head = Head {
-        repository: file.repository,
-        version: file.version,
-        expires: file.expires,
-    };
-    let targets = target_values(alloc, file.targets.as_slice())?;
-    let more = one_member(alloc, "targets", targets)?;
-    payload_value(alloc, "targets", &head, &file.vehicle, more)
+    let targets = file.targets.as_slice();
+    let room = ROOM_OF_A_TARGET.saturating_mul(targets.len());
+    let mut out = String::with_capacity(alloc, room.saturating_add(ROOM))?;
+    push_expires(&mut out, file.expires)?;
+    push_repository(&mut out, file.repository)?;
+    out.push_str(",\"targets\":")?;
+    push_targets(alloc, &mut out, targets)?;
+    out.push_str(",\"type\":\"targets\"")?;
+    push_end(&mut out, &file.vehicle, file.version)?;
+    Ok(out)
 }
 
-fn target_values(alloc: Global, targets: &[Target]) -> Result<Value, AllocError>
-    ensures value { IfOk result (λ v. view v ≡ list_with (map target_value_of targets.now)) }
+/// Appends the list of the targets.
+fn push_targets(alloc: Global, out: &mut String, targets: &[Target]) -> Result<(), AllocError>
+    ensures value { IfOk result (λ _. string_bytes out.new ≡ string_bytes out.old ++ text (list_with (map target_value targets.now))) }
     ensures typed { OnOk result (list_all target_is_typed targets.now ≡ true) }
 {
-    let mut values = Vec::with_capacity(alloc, targets.len())?;
-    for target in targets {
-        values.push(target_value(alloc, target)?)?;
+    out.push('[')?;
+    let mut separator = "";
+    for target in targets.iter() {
+        out.push_str(separator)?;
+        push_target(alloc, out, target)?;
+        separator = ",";
     }
-    Ok(Value::Array(values))
+    out.push(']')?;
+    Ok(())
 }
 
 #[tactic(auto, using(crate::proofs::PlainFiles::target_typed))]
-fn target_value(alloc: Global, target: &Target) -> Result<Value, AllocError>
-    ensures value { IfOk result (λ v. view v ≡ target_value_of target.now) }
+fn push_target(alloc: Global, out: &mut String, target: &Target) -> Result<(), AllocError>
+    ensures value { IfOk result (λ _. string_bytes out.new ≡ string_bytes out.old ++ text (target_value target.now)) }
     ensures typed { OnOk result (target_is_typed target.now ≡ true) }
 {
-    let mut members = ecu_members(alloc, &target.ecu)?;
-    let hardware = names_value(alloc, target.hardware.as_slice())?;
-    let hashes = hashes_value(alloc, &target.sha256, &target.sha512)?;
-    let file = Value::try_from_str(alloc, target.file.text())?;
-    put(
-        &mut members,
-        alloc,
-        "release",
-        Value::from(target.release.get()),
-    )?;
-    put(
-        &mut members,
-        alloc,
-        "length",
-        Value::from(target.length.get()),
-    )?;
-    put(&mut members, alloc, "hashes", hashes)?;
-    put(&mut members, alloc, "hardware", hardware)?;
-    put(&mut members, alloc, "file", file)?;
-    Ok(Value::Object(members))
+    target.file.text();
+    push_ecu(out, &target.ecu)?;
+    out.push_str("\"file\":")?;
+    push_file_name(out, &target.file)?;
+    out.push_str(",\"hardware\":")?;
+    push_names(out, target.hardware.as_slice())?;
+    out.push_str(",\"hashes\":")?;
+    push_hashes(alloc, out, &target.sha256, &target.sha512)?;
+    out.push_str(",\"length\":")?;
+    push_number(out, target.length.get())?;
+    out.push_str(",\"release\":")?;
+    push_number(out, target.release.get())?;
+    out.push_str("}")?;
+    Ok(())
 }
 
-/// The ECU, where there is one.
-fn ecu_members(alloc: Global, ecu: &Option<Ident>) -> Result<Map<String, Value>, AllocError>
-    ensures value { IfOk result (λ m. members_view m.entries ≡ members_with (option_to_list (option_map (λ name. (codes "ecu", string name)) ecu.now))) }
+/// Begins an object with the ECU, where there is one.
+fn push_ecu(out: &mut String, ecu: &Option<Ident>) -> Result<(), AllocError>
+    ensures value { IfOk result (λ _. string_bytes out.new ≡ string_bytes out.old
+        ++ (codes "{" ++ unwrap_or (option_map (λ name. codes "\"ecu\":" ++ (quoted name ++ codes ",")) ecu.now) [])) }
     ensures typed { OnOk result (is_named ecu.now ≡ true) }
 {
-    let mut members = Map::new(alloc);
+    out.push('{')?;
     if let Some(name) = ecu {
-        let value = name_value(alloc, name)?;
-        put(&mut members, alloc, "ecu", value)?;
+        out.push_str("\"ecu\":")?;
+        push_name(out, name)?;
+        out.push(',')?;
     }
-    Ok(members)
+    Ok(())
+}
+
+/// Appends the list of the names.
+fn push_names(out: &mut String, names: &[Ident]) -> Result<(), AllocError>
+    ensures value { IfOk result (λ _. string_bytes out.new ≡ string_bytes out.old ++ text (list_with (map string names.now))) }
+    ensures typed { OnOk result (list_all is_ident names.now ≡ true) }
+{
+    out.push('[')?;
+    let mut separator = "";
+    for name in names.iter() {
+        out.push_str(separator)?;
+        push_name(out, name)?;
+        separator = ",";
+    }
+    out.push(']')?;
+    Ok(())
 }

@@ -1,34 +1,37 @@
 //! Timestamp files: the version and the hash of the Snapshot file.
-ghost use Rattle.std.specs.Prelude.{◌≡◌, ◌<◌, ◌≤◌, ◌∷◌, [], Ok, Err, IsTrue, IfOk, OnOk, MatchResult, codes, length, map, string_bytes, true};
+ghost use Rattle.std.specs.Prelude.{◌≡◌, ◌<◌, ◌≤◌, ◌++◌, Ok, Err, IsTrue, IfOk, OnOk, MatchResult, codes, length, map, string_bytes, true};
 ghost use Rattle.std.specs.List.{list_all};
-ghost use Rattle.serde_json.specs.View.{view, members_view};
-ghost use Rattle.up_canon.specs.Build.{members_with};
+ghost use Rattle.up_canon.specs.Canon.{text};
+ghost use Rattle.up_canon.specs.HexText.{is_hash};
 ghost use Rattle.up_canon.specs.Members.{IsFault, object_of_map};
 ghost use Rattle.up_canon.specs.Refusals.{Gives};
 ghost use Rattle.up_canon.specs.declared.refusal.Refusal.TheVariants.{TooLarge};
 ghost use Rattle.up_sign.specs.Envelopes.{key_block};
 ghost use Rattle.up_roles.specs.Payload.{largest_file, IsCanonical};
-ghost use Rattle.up_roles.specs.Timestamp.{meta_of, timestamp_payload, timestamp_text_of, timestamp_fits, timestamp_is_typed, timestamp_in, timestamp_of, timestamp_entry_in};
+ghost use Rattle.up_roles.specs.Timestamp.{timestamp_meta, timestamp_payload, timestamp_text_of, timestamp_fits, timestamp_is_typed, timestamp_in, timestamp_of, timestamp_entry_in};
 
 use crate::file::{RoleFile, read_file};
 use crate::parts::{object_part, positive_part, sha256_part};
-use crate::payload::{Head, head_at, payload_value, vehicle_at};
+use crate::payload::{head_at, vehicle_at};
+use crate::pieces::{push_end, push_expires, push_repository};
 use crate::repository::Repository;
 use crate::sealing::sealed_text;
-use crate::values::one_member;
-use serde_json::{Map, Value, json};
+use serde_json::{Map, Value};
 use std::alloc::{AllocError, Global};
 use up_canon::bytes::Bytes;
 use up_canon::fields::object_at;
-use up_canon::hex_text::hashes_value;
 use up_canon::ident::Ident;
 use up_canon::listed::Duplicate;
 use up_canon::moment::Moment;
 use up_canon::refusal::Refusal;
+use up_canon::writing::{push_hashes, push_number};
 use up_sign::envelope::Envelope;
 use up_sign::key_id::HashedKey;
 use up_sign::scheme::Scheme;
 use up_sign::seal::hashed_keys;
+
+/// Bytes of room that the text of a payload gets, so that it seldom grows while it is written.
+const ROOM: usize = 384;
 
 /// Timestamp metadata: the version of the Snapshot file, and the SHA-256 of that file's whole text. The Director's is
 /// for one vehicle, which it names. The type keeps no limits; `fits` tells.
@@ -140,31 +143,33 @@ pub fn timestamp_text_by<K: Scheme>(
     ensures canonical { OnOk result (IsCanonical (timestamp_payload file.now)) }
     ensures typed { OnOk result (timestamp_is_typed file.now ≡ true) }
 {
-    let payload = timestamp_value(alloc, file)?;
-    sealed_text(alloc, scheme, secrets, keys, &payload)
+    let signed = timestamp_signed(alloc, file)?;
+    sealed_text(alloc, scheme, secrets, keys, signed)
 }
 
-fn timestamp_value(alloc: Global, file: &TimestampFile) -> Result<Value, AllocError>
-    ensures value { IfOk result (λ v. view v ≡ timestamp_payload file.now) }
+/// The canonical text of the payload.
+fn timestamp_signed(alloc: Global, file: &TimestampFile) -> Result<String, AllocError>
+    ensures value { IfOk result (λ t. string_bytes t ≡ text (timestamp_payload file.now)) }
     ensures typed { OnOk result (timestamp_is_typed file.now ≡ true) }
 {
-    let head = Head {
-        repository: file.repository,
-        version: file.version,
-        expires: file.expires,
-    };
-    let hashes = hashes_value(alloc, &file.snapshot_sha256, &None)?;
-    let more = timestamp_members(alloc, file.snapshot_version, hashes)?;
-    payload_value(alloc, "timestamp", &head, &file.vehicle, more)
+    let mut out = String::with_capacity(alloc, ROOM)?;
+    push_expires(&mut out, file.expires)?;
+    push_meta(alloc, &mut out, file)?;
+    push_repository(&mut out, file.repository)?;
+    out.push_str(",\"type\":\"timestamp\"")?;
+    push_end(&mut out, &file.vehicle, file.version)?;
+    Ok(out)
 }
 
-fn timestamp_members(
-    alloc: Global,
-    version: u64,
-    hashes: Value,
-) -> Result<Map<String, Value>, AllocError>
-    ensures { IfOk result (λ m. members_view m.entries ≡ members_with ((codes "meta", meta_of (view hashes) version) ∷ [])) }
+/// Appends the entry of the Snapshot file.
+fn push_meta(alloc: Global, out: &mut String, file: &TimestampFile) -> Result<(), AllocError>
+    ensures value { IfOk result (λ _. string_bytes out.new ≡ string_bytes out.old ++ (codes ",\"meta\":" ++ text (timestamp_meta file.now))) }
+    ensures typed { OnOk result (is_hash file.now.snapshot_sha256 ≡ true) }
 {
-    let meta = json!(in alloc; {"snapshot.json": {"hashes": hashes, "version": version}})?;
-    one_member(alloc, "meta", meta)
+    out.push_str(",\"meta\":{\"snapshot.json\":{\"hashes\":")?;
+    push_hashes(alloc, out, &file.snapshot_sha256, &None)?;
+    out.push_str(",\"version\":")?;
+    push_number(out, file.snapshot_version)?;
+    out.push_str("}}")?;
+    Ok(())
 }

@@ -30,9 +30,9 @@ fn reply_text(alloc: Global, reply: &Reply) -> Result<String, AllocError>
     let mut out = "reply ".to_string(alloc)?;
     out.push_str(reply.vehicle.text())?;
     out.push_str(" version ")?;
-    push_number(alloc, &mut out, reply.version)?;
+    push_number(&mut out, reply.version)?;
     out.push_str(" targets ")?;
-    push_number(alloc, &mut out, u64::from(reply.targets))?;
+    push_number(&mut out, u64::from(reply.targets))?;
     push_withheld(&mut out, &reply.withheld)?;
     Ok(out)
 }
@@ -81,7 +81,7 @@ pub fn vehicle_text(alloc: Global, vehicle: &Ident, version: u64) -> Result<Stri
     let mut out = "vehicle ".to_string(alloc)?;
     out.push_str(vehicle.text())?;
     out.push_str(" version ")?;
-    push_number(alloc, &mut out, version)?;
+    push_number(&mut out, version)?;
     Ok(out)
 }
 

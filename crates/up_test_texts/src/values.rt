@@ -58,7 +58,7 @@ pub(crate) fn count_written(alloc: Global, value: &Value) -> Result<String, Allo
 
 fn digits(alloc: Global, count: Count) -> Result<String, AllocError> {
     let mut out = String::new(alloc);
-    push_number(alloc, &mut out, count.get())?;
+    push_number(&mut out, count.get())?;
     Ok(out)
 }
 

@@ -1,7 +1,34 @@
-use Rattle.std.proofs.Common.{ap, ◌∙◌}
-use Rattle.up_canon.specs.Canon.{has_canon}
-use Rattle.up_manifest.proofs.Values.{report_has_canon}
+use Rattle.std.proofs.Common.{sym, ap, ◌∙◌}
+use Rattle.std.specs.Prelude.{codes, decimal}
+use Rattle.up_canon.proofs.Joined.{begun, pushed, pushed_as}
+use Rattle.up_canon.specs.Canon.{quoted, text}
+use Rattle.up_canon.specs.Moments.{moment_text}
+use Rattle.up_manifest.specs.Building.{installed_value}
+use Rattle.up_manifest.proofs.Lengths.{report-spelled}
 use Rattle.up_manifest.proofs.writing.report_text.Goals as goal
 
-pub canonical_text-requires : goal.canonical_text-requires
-canonical_text-requires c = ap has_canon c.in_ok-value.ensures ∙ report_has_canon c.moment_laws.ensures.plain c.args.report.now c.requires
+pub returns : goal.returns
+returns c =
+    let r = c.args.report.now in
+    begun _ _ _ c.in_ok-out.ensures.bytes (
+    pushed _ _ _ (codes "{\"attack\":") _ c.in_ok-push_str.ensures.bytes (
+    pushed _ _ _ (quoted r.attack) _ (pushed_as _ _ _ _ (ap quoted c.text.ensures.value) c.in_ok-push_quoted.ensures) (
+    pushed _ _ _ (codes ",\"counter\":") _ c.in_ok-push_str-2.ensures.bytes (
+    pushed _ _ _ (decimal r.counter) _ (pushed_as _ _ _ _ (ap decimal c.get.ensures.value) c.in_ok-push_number.ensures) (
+    pushed _ _ _ (codes ",\"ecu\":") _ c.in_ok-push_str-3.ensures.bytes (
+    pushed _ _ _ (quoted r.ecu) _ c.in_ok-push_ident.ensures (
+    pushed _ _ _ (codes ",\"image\":") _ c.in_ok-push_str-4.ensures.bytes (
+    pushed _ _ _ (text (installed_value r.image)) _ c.in_ok-push_installed.ensures (
+    pushed _ _ _ (codes ",\"time\":") _ c.in_ok-push_str-5.ensures.bytes (
+    pushed _ _ _ (quoted (moment_text r.time)) (codes ",\"type\":\"report\"}") c.in_ok-push_moment.ensures.value c.in_ok-push_str-6.ensures.bytes
+    )
+    )
+    )
+    )
+    )
+    )
+    )
+    )
+    )
+    )
+    ∙ sym (report-spelled r)
