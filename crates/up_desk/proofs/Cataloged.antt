@@ -26,7 +26,7 @@ use Rattle.up_machine.specs.Sound.{IsSound}
 use Rattle.up_machine.specs.State.{State, Vehicle}
 use Rattle.up_store.specs.Found.{values_where}
 use Rattle.up_desk.specs.Gathered.{gathered, item_files, report_files}
-use Rattle.up_desk.specs.Serving.{is_lost, IsAnswered, outcome_due}
+use Rattle.up_desk.specs.Serving.{is_failed, IsAnswered, outcome_due}
 use Rattle.up_desk.specs.Standing.{IsOf, Fits, IsLoaded, StaysLoaded, StillFits, keeps_catalog, kept_for}
 use Rattle.up_desk.specs.declared.catalog.Catalog.{Catalog}
 use Rattle.up_desk.proofs.LookedUp.{images_planned}
@@ -72,7 +72,7 @@ by_loss s next catalog o a vehicles is true h fits = subst (λ (t : State). Fits
 by_loss s next catalog o a vehicles is false h fits = fits_rest s next catalog vehicles (h.1 ∙ is) fits
 
 kept_by : (k : Rules) (s next : State) (at : ℕ) (c : Command) (a : Answer) (catalog : Option Catalog) → KeepsRest s (outcome_due k s at c) → IsAnswered a s next (serve k s at c) → Fits s catalog → Fits next catalog
-kept_by k s next at c a catalog rest h fits = by_loss s next catalog (serve k s at c) a rest.0 (sym (next_is k s at c) ∙ rest.1) (is_lost a) h fits
+kept_by k s next at c a catalog rest h fits = by_loss s next catalog (serve k s at c) a rest.0 (sym (next_is k s at c) ∙ rest.1) (is_failed a) h fits
 
 dropped : (s : State) (catalog : Option Catalog) → catalog ≡ None → Fits s catalog
 dropped s catalog is = subst (Fits s) (sym is) tt

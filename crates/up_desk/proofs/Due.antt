@@ -13,9 +13,9 @@ use Rattle.up_machine.specs.Deciding.{Outcome, already}
 use Rattle.up_machine.specs.Repositories.{decide_new_image}
 use Rattle.up_machine.specs.Decisions.{IsDone, GivesRows, GivesDecision}
 use Rattle.up_machine.specs.Due.{HasFounding, GivesNewImage}
-use Rattle.up_desk.specs.Serving.{is_store, is_lost_by, GivesOrLost}
-use Rattle.up_desk.specs.NewMetadata.{MetadataOrLost}
-use Rattle.up_desk.proofs.Steps.{lost_as}
+use Rattle.up_desk.specs.Serving.{is_store, is_fault, GivesOrFails}
+use Rattle.up_desk.specs.NewMetadata.{MetadataOrFails}
+use Rattle.up_desk.proofs.Steps.{failed_as}
 
 by_store : (b : Bool) {X : Type 0} → X → MatchBool b ⊤ X
 by_store true h = tt
@@ -24,20 +24,20 @@ by_store false h = h
 -- ---- what is due, and its rows
 
 pub rows_made : {D R : Type 0} (due : D → Type 0) (has : R → Type 0) (next : State) (new : D) (result : Result R Refusal) (computed : Result Outcome Refusal)
-    → IsDone due next new computed → (due new → MetadataOrLost has result) → GivesOrLost (GivesRows has next) result computed
+    → IsDone due next new computed → (due new → MetadataOrFails has result) → GivesOrFails (GivesRows has next) result computed
 rows_made due has next new (Ok rows) computed is made = (is.0, made is.1)
-rows_made due has next new (Err r) computed is made = lost_as (is_lost_by r) (computed ≡ Err r) (made is.1)
+rows_made due has next new (Err r) computed is made = failed_as (is_fault r) (computed ≡ Err r) (made is.1)
 
 -- a refusal that is due, or want of memory
-pub due_refused : (r : Refusal) (computed : Result Outcome Refusal) → MatchBool (is_memory r) ⊤ (computed ≡ Err r) → MatchBool (is_lost_by r) ⊤ (computed ≡ Err r)
+pub due_refused : (r : Refusal) (computed : Result Outcome Refusal) → MatchBool (is_memory r) ⊤ (computed ≡ Err r) → MatchBool (is_fault r) ⊤ (computed ≡ Err r)
 due_refused r computed h = by_memory (is_memory r) h
   where
     by_memory : (m : Bool) → MatchBool m ⊤ (computed ≡ Err r) → MatchBool (m || is_store r) ⊤ (computed ≡ Err r)
     by_memory true h = tt
     by_memory false h = by_store (is_store r) h
 
-pub surely_refused : (r : Refusal) (computed : Result Outcome Refusal) → computed ≡ Err r → MatchBool (is_lost_by r) ⊤ (computed ≡ Err r)
-surely_refused r computed h = by_loss (is_lost_by r)
+pub surely_refused : (r : Refusal) (computed : Result Outcome Refusal) → computed ≡ Err r → MatchBool (is_fault r) ⊤ (computed ≡ Err r)
+surely_refused r computed h = by_loss (is_fault r)
   where
     by_loss : (b : Bool) → MatchBool b ⊤ (computed ≡ Err r)
     by_loss true = tt
@@ -60,6 +60,6 @@ pub new_rows_made : {R : Type 0} (has : R → Type 0) (next : State) (rows : R) 
 new_rows_made has next rows computed decided is h = (is ∙ h.0, h.1)
 
 pub new_rows_refused : {R : Type 0} (has : R → Type 0) (s next : State) (result : Result (Decision R) Refusal) (e : Refusal) (computed decided : Result Outcome Refusal) → computed ≡ decided
-    → IsErrAnd result (λ x. x ≡ e) → MatchBool (is_lost_by e) ⊤ (decided ≡ Err e) → GivesOrLost (GivesDecision has s next) result computed
+    → IsErrAnd result (λ x. x ≡ e) → MatchBool (is_fault e) ⊤ (decided ≡ Err e) → GivesOrFails (GivesDecision has s next) result computed
 new_rows_refused has s next (Ok d) e computed decided is none h = absurd none
-new_rows_refused has s next (Err r) e computed decided is same h = subst (λ r. MatchBool (is_lost_by r) ⊤ (computed ≡ Err r)) (sym same) (subst (λ o. MatchBool (is_lost_by e) ⊤ (o ≡ Err e)) (sym is) h)
+new_rows_refused has s next (Err r) e computed decided is same h = subst (λ r. MatchBool (is_fault r) ⊤ (computed ≡ Err r)) (sym same) (subst (λ o. MatchBool (is_fault e) ⊤ (o ≡ Err e)) (sym is) h)

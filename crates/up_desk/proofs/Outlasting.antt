@@ -10,7 +10,7 @@ use Rattle.up_machine.specs.RepeatLaws.{ServedIsThinned}
 use Rattle.up_machine.specs.Replies.{kept_reply}
 use Rattle.up_machine.specs.Sound.{IsSound}
 use Rattle.up_machine.specs.State.{State}
-use Rattle.up_desk.specs.Serving.{is_lost, IsAnswered, RepliesStay}
+use Rattle.up_desk.specs.Serving.{is_failed, IsAnswered, RepliesStay}
 
 abbrev item : ℕ → Command → Sent
 item at c = record { item = record { at = at; command = c }; lost = false }
@@ -25,4 +25,4 @@ by_loss k s new at c a false thin outlast sound is = λ vehicle number reply kep
 -- whatever a command is answered, the replies stay
 pub answered_stays : (k : Rules) (s new : State) (at : ℕ) (c : Command) (a : Answer) → ServedIsThinned → KeptRepliesOutlastRuns → IsSound k s
     → IsAnswered a s new (serve k s at c) → RepliesStay k s new
-answered_stays k s new at c a thin outlast sound is = by_loss k s new at c a (is_lost a) thin outlast sound is
+answered_stays k s new at c a thin outlast sound is = by_loss k s new at c a (is_failed a) thin outlast sound is

@@ -21,9 +21,9 @@ use Rattle.up_machine.specs.ApartLaws.{VehiclesStandApart, DeliveriesCommute, Ar
 use Rattle.up_machine.specs.Laws.{KeptRepliesOutlastRuns}
 use Rattle.up_machine.specs.Replies.{kept_reply}
 use Rattle.up_desk.specs.Standing.{Standing, HasCleanDisk, IfClean, KeepsState, Survives, LeavesOnly}
-use Rattle.up_desk.specs.Serving.{HoldsState, IsCommit, is_lost, IsAnswered, outright}
+use Rattle.up_desk.specs.Serving.{HoldsState, IsCommit, is_failed, IsAnswered, outright}
 use Rattle.up_desk.specs.Calls.{CommitsCall, IsServed, ServesCall, SparesCall}
-use Rattle.up_desk.specs.Runs.{AreOutright, AreNeighbours, timed, sent, unless_lost, IsRun, RunsCalls, ComesTo, SparesCalls, IsLastCommit, CommitsCalls}
+use Rattle.up_desk.specs.Runs.{AreOutright, AreNeighbours, timed, sent, unless_failed, IsRun, RunsCalls, ComesTo, SparesCalls, IsLastCommit, CommitsCalls}
 
 -- the calls one after another, of which some may be lost
 abbrev pub Ran : Rules → State → List (ℕ × Command) → List Answer → State → Type 0
@@ -54,12 +54,12 @@ abbrev item : Bool → ℕ × Command → Sent
 item lost c = record { item = timed c; lost = lost }
 
 record IsRunBy (k : Rules) (old : State) (c : ℕ × Command) (a : Answer) (lost : Bool) (ms : List Sent) (answers : List Answer) (new : State) : Type 0 where
-  told : (if lost then None else Some a) ∷ map unless_lost answers ≡ expected k old (item lost c ∷ ms)
+  told : (if lost then None else Some a) ∷ map unless_failed answers ≡ expected k old (item lost c ∷ ms)
   state : new ≡ after k old (item lost c ∷ ms)
 
 by_loss : (k : Rules) (old mid new : State) (c : ℕ × Command) (a : Answer) (ms : List Sent) (answers : List Answer) (lost : Bool)
     → MatchBool lost (mid ≡ old) ((a ≡ (serve k old c.0 c.1).answer) × (mid ≡ (serve k old c.0 c.1).next))
-    → map unless_lost answers ≡ expected k mid ms → new ≡ after k mid ms → IsRunBy k old c a lost ms answers new
+    → map unless_failed answers ≡ expected k mid ms → new ≡ after k mid ms → IsRunBy k old c a lost ms answers new
 by_loss k old mid new c a ms answers true is told state = record {
   told = ap (λ (es : List (Option Answer)). None ∷ es) (told ∙ ap (λ (s : State). expected k s ms) is);
   state = state ∙ ap (λ (s : State). after k s ms) is;
@@ -71,7 +71,7 @@ by_loss k old mid new c a ms answers false is told state = record {
 
 record IsServedAll (k : Rules) (old : State) (cs : List (ℕ × Command)) (answers : List Answer) (new : State) : Type 0 where
   count : length answers ≡ length cs
-  told : map unless_lost answers ≡ expected k old (sent cs answers)
+  told : map unless_failed answers ≡ expected k old (sent cs answers)
   state : new ≡ after k old (sent cs answers)
   fits : AreCommands (sent cs answers)
 
@@ -81,7 +81,7 @@ ran_served k old [] (a ∷ answers) new ran = absurd ran
 ran_served k old (c ∷ cs) [] new ran = absurd ran
 ran_served k old (c ∷ cs) (a ∷ answers) new ran =
     let rest = ran_served k ran.0 cs answers new ran.3 in
-    let whole = by_loss k old ran.0 new c a (sent cs answers) answers (is_lost a) ran.1 rest.told rest.state in
+    let whole = by_loss k old ran.0 new c a (sent cs answers) answers (is_failed a) ran.1 rest.told rest.state in
     record { count = ap suc rest.count; told = whole.told; state = whole.state; fits = (ran.2, rest.fits) }
 
 -- ---- lists that grow at their end
@@ -109,11 +109,11 @@ all_split P [] y all = (tt, all.0)
 all_split P (z ∷ ys) y all = let rest = all_split P ys y all.1 in ((all.0, rest.0), rest.1)
 
 sent_next : (k : Rules) (cs : List (ℕ × Command)) (answers : List Answer) (c : ℕ × Command) (a : Answer) → AreOutright k cs answers
-    → sent (cs ++ c ∷ []) (answers ++ a ∷ []) ≡ sent cs answers ++ item (is_lost a) c ∷ []
+    → sent (cs ++ c ∷ []) (answers ++ a ∷ []) ≡ sent cs answers ++ item (is_failed a) c ∷ []
 sent_next k [] [] c a all = refl
 sent_next k [] (b ∷ answers) c a all = absurd all
 sent_next k (d ∷ cs) [] c a all = absurd all
-sent_next k (d ∷ cs) (b ∷ answers) c a all = ap (λ (ms : List Sent). item (is_lost b) d ∷ ms) (sent_next k cs answers c a all.1)
+sent_next k (d ∷ cs) (b ∷ answers) c a all = ap (λ (ms : List Sent). item (is_failed b) d ∷ ms) (sent_next k cs answers c a all.1)
 
 after_append : (k : Rules) (s : State) (ms ns : List Sent) → after k s (ms ++ ns) ≡ after k (after k s ms) ns
 after_append k s [] ns = refl
@@ -127,18 +127,18 @@ met k s m b = if b then record { sent = m; is_repeat = false; answer = None; nex
 
 -- the state after one command, which was lost or not
 met_by : (k : Rules) (s next : State) (m : Sent) (lost : Bool) → m.lost ≡ lost → MatchBool lost (s ≡ next) ((serve k s m.item.at m.item.command).next ≡ next) → (meet k s m).next ≡ next
-met_by k s next m lost is = by_lost lost (ap (met k s m) is)
+met_by k s next m lost is = by_fault lost (ap (met k s m) is)
   where
-    by_lost : (b : Bool) → met k s m m.lost ≡ met k s m b → MatchBool b (s ≡ next) ((serve k s m.item.at m.item.command).next ≡ next) → (met k s m m.lost).next ≡ next
-    by_lost true same h = ap (λ (r : Met). r.next) same ∙ h
-    by_lost false same h = ap (λ (r : Met). r.next) same ∙ h
+    by_fault : (b : Bool) → met k s m m.lost ≡ met k s m b → MatchBool b (s ≡ next) ((serve k s m.item.at m.item.command).next ≡ next) → (met k s m m.lost).next ≡ next
+    by_fault true same h = ap (λ (r : Met). r.next) same ∙ h
+    by_fault false same h = ap (λ (r : Met). r.next) same ∙ h
 
 met_unchanged : (k : Rules) (s : State) (m : Sent) → (serve k s m.item.at m.item.command).next ≡ s → (meet k s m).next ≡ s
-met_unchanged k s m h = met_by k s s m m.lost refl (by_lost m.lost)
+met_unchanged k s m h = met_by k s s m m.lost refl (by_fault m.lost)
   where
-    by_lost : (b : Bool) → MatchBool b (s ≡ s) ((serve k s m.item.at m.item.command).next ≡ s)
-    by_lost true = refl
-    by_lost false = h
+    by_fault : (b : Bool) → MatchBool b (s ≡ s) ((serve k s m.item.at m.item.command).next ≡ s)
+    by_fault true = refl
+    by_fault false = h
 
 after_unchanged : (k : Rules) (s : State) (ms : List Sent) → AllByRecursion (λ n. (serve k s n.item.at n.item.command).next ≡ s) ms → after k s ms ≡ s
 after_unchanged k s [] all = refl
@@ -179,7 +179,7 @@ spares_next : (k : Rules) (old mid new : Standing) (cs : List (ℕ × Command)) 
     → SparesCalls k (cs ++ c ∷ []) (answers ++ a ∷ []) old new
 spares_next k old mid new cs c answers a far runs due clean spares = λ s sound was.
     let b = between k old mid cs answers runs s sound was in
-    let x = item (is_lost a) c in
+    let x = item (is_failed a) c in
     let more : sent (cs ++ c ∷ []) (answers ++ a ∷ []) ≡ sent cs answers ++ x ∷ [] = sent_next k cs answers c a due in
     survives_then old.connection mid.connection new.connection (λ trees. (at : State) × ComesTo k s (sent cs answers) at × HoldsState k at trees) (HoldsState k (serve k b.at c.0 c.1).next)
     (λ trees. (at : State) × ComesTo k s (sent (cs ++ c ∷ []) (answers ++ a ∷ [])) at × HoldsState k at trees)
@@ -196,10 +196,10 @@ spares_next k old mid new cs c answers a far runs due clean spares = λ s sound 
     (far s sound was) (spares b.at b.sound b.shown)
 
 -- the last call was a commit that was answered
-commit_last : (k : Rules) (s at next : State) (c : ℕ × Command) (a : Answer) (ms : List Sent) (mid new : Standing) → at ≡ after k s ms → is_lost a ≡ false
+commit_last : (k : Rules) (s at next : State) (c : ℕ × Command) (a : Answer) (ms : List Sent) (mid new : Standing) → at ≡ after k s ms → is_failed a ≡ false
     → IsAnswered a at next (serve k at c.0 c.1)
     → IsCommit (after k s ms) (serve k (after k s ms) c.0 c.1).answer (serve k (after k s ms) c.0 c.1).next
-    → CommitsCall k c.0 c.1 a mid new → IsSound k at → IfClean (KeepsState k at) mid → HasCleanDisk new → LeavesOnly (HoldsState k (after k s (ms ++ item (is_lost a) c ∷ []))) new
+    → CommitsCall k c.0 c.1 a mid new → IsSound k at → IfClean (KeepsState k at) mid → HasCleanDisk new → LeavesOnly (HoldsState k (after k s (ms ++ item (is_failed a) c ∷ []))) new
 commit_last k s at next c a ms mid new here told answered commit commits sound shown now =
     let same : a ≡ (serve k at c.0 c.1).answer =
     (let it : MatchBool false (next ≡ at) ((a ≡ (serve k at c.0 c.1).answer) × (next ≡ (serve k at c.0 c.1).next)) =
@@ -207,18 +207,18 @@ commit_last k s at next c a ms mid new here told answered commit commits sound s
     let made : IsCommit at a (serve k at c.0 c.1).next =
     subst (λ (b : Answer). IsCommit at b (serve k at c.0 c.1).next) (sym same)
     (subst (λ (t : State). IsCommit t (serve k t c.0 c.1).answer (serve k t c.0 c.1).next) (sym here) commit) in
-    let end : after k s (ms ++ item (is_lost a) c ∷ []) ≡ (serve k at c.0 c.1).next =
-    after_append k s ms (item (is_lost a) c ∷ []) ∙ met_by k (after k s ms) (serve k (after k s ms) c.0 c.1).next (item (is_lost a) c) false told refl
+    let end : after k s (ms ++ item (is_failed a) c ∷ []) ≡ (serve k at c.0 c.1).next =
+    after_append k s ms (item (is_failed a) c ∷ []) ∙ met_by k (after k s ms) (serve k (after k s ms) c.0 c.1).next (item (is_failed a) c) false told refl
     ∙ ap (λ (t : State). (serve k t c.0 c.1).next) (sym here) in
     subst (λ (t : State). LeavesOnly (HoldsState k t) new) (sym end) (commits at sound shown made now)
 
 -- the last call changes nothing
 still_last : (k : Rules) (s at : State) (c : ℕ × Command) (a : Answer) (ms : List Sent) (mid new : Standing) → at ≡ after k s ms
     → (serve k (after k s ms) c.0 c.1).next ≡ after k s ms → LeavesOnly (HoldsState k (after k s ms)) mid
-    → Survives mid new (HoldsState k (serve k at c.0 c.1).next) → HasCleanDisk new → LeavesOnly (HoldsState k (after k s (ms ++ item (is_lost a) c ∷ []))) new
+    → Survives mid new (HoldsState k (serve k at c.0 c.1).next) → HasCleanDisk new → LeavesOnly (HoldsState k (after k s (ms ++ item (is_failed a) c ∷ []))) new
 still_last k s at c a ms mid new here same before spares now =
-    let end : after k s (ms ++ item (is_lost a) c ∷ []) ≡ after k s ms =
-    after_append k s ms (item (is_lost a) c ∷ []) ∙ met_unchanged k (after k s ms) (item (is_lost a) c) same in
+    let end : after k s (ms ++ item (is_failed a) c ∷ []) ≡ after k s ms =
+    after_append k s ms (item (is_failed a) c ∷ []) ∙ met_unchanged k (after k s ms) (item (is_failed a) c) same in
     let next : (serve k at c.0 c.1).next ≡ after k s ms = ap (λ (t : State). (serve k t c.0 c.1).next) here ∙ same in
     subst (λ (t : State). LeavesOnly (HoldsState k t) new) (sym end) (λ trees left. by_call trees next (spares.crash now trees left))
   where
@@ -233,7 +233,7 @@ commits_next : (k : Rules) (old mid new : Standing) (cs : List (ℕ × Command))
 commits_next k old mid new cs c answers a far runs due clean serves spares commits = λ s sound was before rest m last now.
     let b = between k old mid cs answers runs s sound was in
     let ms = sent cs answers in
-    let x = item (is_lost a) c in
+    let x = item (is_failed a) c in
     let here : b.at ≡ after k s ms = (ran_served k s cs answers b.at (b.ran (clean now))).state in
     let more : sent (cs ++ c ∷ []) (answers ++ a ∷ []) ≡ ms ++ x ∷ [] = sent_next k cs answers c a due in
     let served = serves now b.at b.sound b.shown in
@@ -241,17 +241,17 @@ commits_next k old mid new cs c answers a far runs due clean serves spares commi
     (by_rest s sound was before rest m last now b here more served (last_of rest))
   where
     by_rest : (s : State) → IsSound k s → IfClean (KeepsState k s) old → (before rest : List Sent) (m : Sent) → IsLastCommit k s (sent (cs ++ c ∷ []) (answers ++ a ∷ [])) before rest m → HasCleanDisk new
-        → (b : Between k s mid cs answers) → b.at ≡ after k s (sent cs answers) → sent (cs ++ c ∷ []) (answers ++ a ∷ []) ≡ sent cs answers ++ item (is_lost a) c ∷ []
+        → (b : Between k s mid cs answers) → b.at ≡ after k s (sent cs answers) → sent (cs ++ c ∷ []) (answers ++ a ∷ []) ≡ sent cs answers ++ item (is_failed a) c ∷ []
         → IsServed k b.at c.0 c.1 a new → (rest ≡ []) ⊎ ((ys : List Sent) × (y : Sent) × (rest ≡ ys ++ y ∷ []))
-        → LeavesOnly (HoldsState k (after k s (sent cs answers ++ item (is_lost a) c ∷ []))) new
+        → LeavesOnly (HoldsState k (after k s (sent cs answers ++ item (is_failed a) c ∷ []))) new
     by_rest s sound was before rest m last now b here more served (inl none) =
-        let ends = snoc_ends (sent cs answers) before (item (is_lost a) c) m (sym more ∙ last.list ∙ ap (λ (l : List Sent). before ++ m ∷ l) none) in
+        let ends = snoc_ends (sent cs answers) before (item (is_failed a) c) m (sym more ∙ last.list ∙ ap (λ (l : List Sent). before ++ m ∷ l) none) in
         commit_last k s b.at served.0 c a (sent cs answers) mid new here (ap (λ (n : Sent). n.lost) ends.1 ∙ last.answered) served.1
         (subst (λ (l : List Sent). IsCommit (after k s l) (serve k (after k s l) c.0 c.1).answer (serve k (after k s l) c.0 c.1).next) (sym ends.0)
         (subst (λ (n : Sent). IsCommit (after k s before) (serve k (after k s before) n.item.at n.item.command).answer (serve k (after k s before) n.item.at n.item.command).next) (sym ends.1) last.commit))
         commits b.sound b.shown now
     by_rest s sound was before rest m last now b here more served (inr (ys, y, is)) =
-        let ends = snoc_ends (sent cs answers) (before ++ m ∷ ys) (item (is_lost a) c) y
+        let ends = snoc_ends (sent cs answers) (before ++ m ∷ ys) (item (is_failed a) c) y
         (sym more ∙ last.list ∙ ap (λ (l : List Sent). before ++ m ∷ l) is ∙ sym (append_assoc before (m ∷ ys) (y ∷ []))) in
         let o = serve k (after k s before) m.item.at m.item.command in
         let quiet = all_split (λ (n : Sent). (serve k o.next n.item.at n.item.command).next ≡ o.next) ys y (subst (λ (l : List Sent). AllByRecursion (λ (n : Sent). (serve k o.next n.item.at n.item.command).next ≡ o.next) l) is last.unchanged) in
@@ -336,7 +336,7 @@ pub record ListLaws : Type 0 where
 
 swapped : (laws : ListLaws) (k : Rules) (old : State) (cs : List (ℕ × Command)) (answers : List Answer) (new : State) → IsServedAll k old cs answers new
     → (before rest : List Sent) (m n : Sent) → AreNeighbours (sent cs answers) before rest m n
-    → (new ≡ run k old (thinned k old (before ++ n ∷ m ∷ rest))) × AreExchanged (length before) (map unless_lost answers) (expected k old (before ++ n ∷ m ∷ rest))
+    → (new ≡ run k old (thinned k old (before ++ n ∷ m ∷ rest))) × AreExchanged (length before) (map unless_failed answers) (expected k old (before ++ n ∷ m ∷ rest))
 swapped laws k old cs answers new whole before rest m n there =
     let swap = laws.exchanged k old before rest m n there.first there.second there.first_is there.second_is there.differ in (
       whole.state ∙ ap (λ (ms : List Sent). after k old ms) there.list ∙ swap.0 ∙ laws.served k old (before ++ n ∷ m ∷ rest),

@@ -36,7 +36,7 @@ use Rattle.up_machine.proofs.Fetched.{in_time}
 use Rattle.sqlite.specs.State.{State as Connected, HasCleanDisk, Survives}
 use Rattle.up_tables.specs.Stands.{IfClean, LeavesOnly}
 use Rattle.up_store.specs.Connections.{KeepsState}
-use Rattle.up_desk.specs.Serving.{is_store, is_lost_by, is_lost, IsAnswered, told, outcome_due, outright_in_time, outright, HoldsState, Leaves, IsCommit, Serves}
+use Rattle.up_desk.specs.Serving.{is_store, is_fault, is_failed, IsAnswered, told, outcome_due, outright_in_time, outright, HoldsState, Leaves, IsCommit, Serves}
 
 -- ---- the moment
 
@@ -50,8 +50,8 @@ too_late : (at : ℕ) → last_command_moment < at → check_moment at ≡ Err M
 too_late at h = ap (λ t. refuse_if t MomentOutOfRange) (late_test at h)
 
 -- what is refused stays so, unless it is lost
-pub stopped_or_lost : {A B : Type 0} (m : Result A Refusal) (f : A → Result B Refusal) (r : Refusal) → MatchBool (is_memory r) ⊤ (m ≡ Err r) → MatchBool (is_lost_by r) ⊤ (and_then m f ≡ Err r)
-stopped_or_lost m f r h = by_loss (is_memory r) (is_store r) h
+pub stopped_or_failed : {A B : Type 0} (m : Result A Refusal) (f : A → Result B Refusal) (r : Refusal) → MatchBool (is_memory r) ⊤ (m ≡ Err r) → MatchBool (is_fault r) ⊤ (and_then m f ≡ Err r)
+stopped_or_failed m f r h = by_loss (is_memory r) (is_store r) h
   where
     by_loss : (a b : Bool) → MatchBool a ⊤ (m ≡ Err r) → MatchBool (a || b) ⊤ (and_then m f ≡ Err r)
     by_loss true b h = tt
@@ -95,8 +95,8 @@ pub unfit_ecu : (k : Rules) (s : State) (at : ℕ) (new : Replacement) → at �
 unfolding decide_replace
 unfit_ecu k s at new h none = bind-ok _ _ tt (in_time at h) ∙ bind-err _ _ _ (ap (λ b. unless b (BadShape (codes "key"))) none)
 
-pub by_key : (r : Refusal) (computed : Result Outcome Refusal) → computed ≡ Err (BadShape (codes "key")) → r ≡ BadShape (codes "key") → MatchBool (is_lost_by r) ⊤ (computed ≡ Err r)
-by_key r computed is same = subst (λ q. MatchBool (is_lost_by q) ⊤ (computed ≡ Err q)) (sym same) is
+pub by_key : (r : Refusal) (computed : Result Outcome Refusal) → computed ≡ Err (BadShape (codes "key")) → r ≡ BadShape (codes "key") → MatchBool (is_fault r) ⊤ (computed ≡ Err r)
+by_key r computed is same = subst (λ q. MatchBool (is_fault q) ⊤ (computed ≡ Err q)) (sym same) is
 
 -- ---- repeats
 
@@ -174,11 +174,11 @@ answered k s new at c (Ok a) stays fits sound h =
     let is : serve k s at c ≡ record { answer = a; next = next } = due_is k s at c ∙ ap (outcome_of s) h.1.1 in
     record {
       next = next;
-      answered = done_as k s next at c a is (is_lost a) h.0;
+      answered = done_as k s next at c a is (is_failed a) h.0;
       sound = subst (λ (o : Outcome). IsSound k o.next) is (stays k s at c fits sound);
       keeps = h.1.2;
     }
-answered k s new at c (Err r) stays fits sound h = record { next = s; answered = by_loss k s at c r (is_lost_by r) h.1; sound = sound; keeps = h.0 }
+answered k s new at c (Err r) stays fits sound h = record { next = s; answered = by_loss k s at c r (is_fault r) h.1; sound = sound; keeps = h.0 }
 
 pub next_is : (k : Rules) (s : State) (at : ℕ) (c : Command) → (outcome_of s (outcome_due k s at c)).next ≡ (serve k s at c).next
 next_is k s at c = sym (ap (λ (o : Outcome). o.next) (due_is k s at c))

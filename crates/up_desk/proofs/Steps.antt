@@ -21,7 +21,7 @@ use Rattle.up_tables.specs.Tables.{up_schema}
 use Rattle.up_tables.proofs.TransactionLemmas.{stands_kept}
 use Rattle.up_store.specs.Connections.{KeepsState, KeepsRows, HoldsRows, MayWrite, TakesRows, CommitsRows, SparesRows}
 use Rattle.up_store.specs.Listing.{ListsRows}
-use Rattle.up_desk.specs.Serving.{is_store, is_lost_by, is_lost, told, HoldsState, Leaves, IsCommit, Serves, Reads, GivesOrLost, refusal_told, answer_written}
+use Rattle.up_desk.specs.Serving.{is_store, is_fault, is_failed, told, HoldsState, Leaves, IsCommit, Serves, Reads, GivesOrFails, refusal_told, answer_written}
 
 -- ---- reads
 
@@ -59,7 +59,7 @@ spared P old new reads = survives_weaker old new (λ _. ⊥) P (λ clean db none
 
 -- it is refused, or lost
 pub refused : {k : Rules} {s : State} {old new : Connected} {r : Refusal} {computed : Result Outcome Refusal} → IfClean (KeepsState k s) old → Reads old new
-    → (HasCleanDisk new → MatchBool (is_lost_by r) ⊤ (computed ≡ Err r)) → Serves k s old new (Err r) computed
+    → (HasCleanDisk new → MatchBool (is_fault r) ⊤ (computed ≡ Err r)) → Serves k s old new (Err r) computed
 refused {k} {s} {old} {new} {r} {computed} was reads due = record {
   leaves = λ clean. (keeps_after k s was reads clean, due clean);
   crash = spared (HoldsState k (outcome_of s computed).next) old new reads;
@@ -67,7 +67,7 @@ refused {k} {s} {old} {new} {r} {computed} was reads due = record {
 }
 
 -- its answer leaves the state as it is
-pub unchanged : {k : Rules} {s : State} {old new : Connected} {answer : Answer} {computed : Result Outcome Refusal} → is_lost answer ≡ false
+pub unchanged : {k : Rules} {s : State} {old new : Connected} {answer : Answer} {computed : Result Outcome Refusal} → is_failed answer ≡ false
     → ((next : State) → IsCommit s answer next → next ≡ s → ⊥) → IfClean (KeepsState k s) old → Reads old new
     → (HasCleanDisk new → computed ≡ Ok (record { answer = answer; next = s })) → Serves k s old new (Ok answer) computed
 unchanged {k} {s} {old} {new} {answer} {computed} given never was reads is = record {
@@ -93,21 +93,21 @@ pub record WillWrite (k : Rules) (s : State) (fits : StateRows → Type 0) (chan
   pub fit : fits (rows_of_state k s)
   pub rows : change (rows_of_state k s) ≡ rows_of_state k next
 
-lost_fault : (f : StoreFault) → is_lost_by (refusal_told f) ≡ true
-lost_fault fault.Memory = refl
-lost_fault fault.Store = refl
+failed_fault : (f : StoreFault) → is_fault (refusal_told f) ≡ true
+failed_fault fault.Memory = refl
+failed_fault fault.Store = refl
 
-pub lost_as : (b : Bool) (X : Type 0) → b ≡ true → MatchBool b ⊤ X
-lost_as true X is = tt
-lost_as false X is = cc
+pub failed_as : (b : Bool) (X : Type 0) → b ≡ true → MatchBool b ⊤ X
+failed_as true X is = tt
+failed_as false X is = cc
 
 -- a fault of the store is told as a refusal
-pub fault_lost : (f : StoreFault) (X : Type 0) → MatchBool (is_lost_by (refusal_told f)) ⊤ X
-fault_lost fault.Memory X = tt
-fault_lost fault.Store X = tt
+pub fault_failed : (f : StoreFault) (X : Type 0) → MatchBool (is_fault (refusal_told f)) ⊤ X
+fault_failed fault.Memory X = tt
+fault_failed fault.Store X = tt
 
 pub written : (k : Rules) (s : State) (old mid new : Connected) (answer : Answer) (w : Result ⊤ StoreFault) (fits : StateRows → Type 0) (change : StateRows → StateRows) (computed : Result Outcome Refusal)
-    → is_lost answer ≡ false → IfClean (KeepsState k s) old → Reads old mid → (HasCleanDisk mid → WillWrite k s fits change answer computed)
+    → is_failed answer ≡ false → IfClean (KeepsState k s) old → Reads old mid → (HasCleanDisk mid → WillWrite k s fits change answer computed)
     → TakesRows fits change mid new w → CommitsRows fits change mid new w → OnErr w (IfClean (IsAsCommitted mid) new) → SparesRows fits change mid new → (HasCleanDisk new → HasCleanDisk mid)
     → Serves k s old new (answer_written answer w) computed
 written k s old mid new answer w fits change computed given was reads will takes commits kept spares clean = record {
@@ -131,7 +131,7 @@ written k s old mid new answer w fits change computed given was reads will takes
 
     leaves : (w : Result ⊤ StoreFault) → TakesRows fits change mid new w → OnErr w (IfClean (IsAsCommitted mid) new) → HasCleanDisk new → Leaves k s new (answer_written answer w) computed
     leaves (Ok done) takes kept now = let it = will (clean now) in (given, (it.next, it.computed_is, subst (λ r. KeepsRows r new) it.rows (takes rows may now)))
-    leaves (Err f) takes kept now = (stands_kept up_schema (ListsRows rows) mid new stands clean kept now, fault_lost f (computed ≡ Err (refusal_told f)))
+    leaves (Err f) takes kept now = (stands_kept up_schema (ListsRows rows) mid new stands clean kept now, fault_failed f (computed ≡ Err (refusal_told f)))
 
     durable : (w : Result ⊤ StoreFault) → CommitsRows fits change mid new w → IsCommit s (told (answer_written answer w)) (outcome_of s computed).next
         → IfClean (LeavesOnly (HoldsState k (outcome_of s computed).next)) new
@@ -148,15 +148,15 @@ done_written {k} {s} {old} {mid} {new} {r} {computed} w fits change is was reads
 
 -- ---- decisions
 
-memory_is_lost : (a b : Bool) (X : Type 0) → MatchBool a ⊤ X → MatchBool (a || b) ⊤ X
-memory_is_lost true b X h = tt
-memory_is_lost false true X h = tt
-memory_is_lost false false X h = h
+memory_fails : (a b : Bool) (X : Type 0) → MatchBool a ⊤ X → MatchBool (a || b) ⊤ X
+memory_fails true b X h = tt
+memory_fails false true X h = tt
+memory_fails false false X h = h
 
-pub gives_or_lost : {R : Type 0} (gives : Result R Refusal → Result Outcome Refusal → Type 0) (result : Result R Refusal) (computed : Result Outcome Refusal)
-    → ((r : Refusal) → gives (Err r) computed → MatchBool (is_memory r) ⊤ (computed ≡ Err r)) → gives result computed → GivesOrLost gives result computed
-gives_or_lost gives (Ok x) computed due h = h
-gives_or_lost gives (Err r) computed due h = memory_is_lost (is_memory r) (is_store r) (computed ≡ Err r) (due r h)
+pub gives_or_fails : {R : Type 0} (gives : Result R Refusal → Result Outcome Refusal → Type 0) (result : Result R Refusal) (computed : Result Outcome Refusal)
+    → ((r : Refusal) → gives (Err r) computed → MatchBool (is_memory r) ⊤ (computed ≡ Err r)) → gives result computed → GivesOrFails gives result computed
+gives_or_fails gives (Ok x) computed due h = h
+gives_or_fails gives (Err r) computed due h = memory_fails (is_memory r) (is_store r) (computed ≡ Err r) (due r h)
 
 -- ---- calls of the store
 
@@ -166,12 +166,12 @@ store_reads {old} {new} kept crash = record {
   survives = crash;
 }
 
-pub lost_told : (r : Refusal) (f : StoreFault) (X : Type 0) → r ≡ refusal_told f → MatchBool (is_lost_by r) ⊤ X
-lost_told r f X is = subst (λ q. MatchBool (is_lost_by q) ⊤ X) (sym is) (fault_lost f X)
+pub failed_told : (r : Refusal) (f : StoreFault) (X : Type 0) → r ≡ refusal_told f → MatchBool (is_fault r) ⊤ X
+failed_told r f X is = subst (λ q. MatchBool (is_fault q) ⊤ X) (sym is) (fault_failed f X)
 
-pub file_or_lost : (s : State) (result : Result (List ℕ) Refusal) (computed : Result Outcome Refusal) → GivesFile s result computed → GivesOrLost (GivesFile s) result computed
-file_or_lost s (Ok text) computed h = h
-file_or_lost s (Err r) computed h = by_loss (is_lost_by r) h
+pub file_or_fault : (s : State) (result : Result (List ℕ) Refusal) (computed : Result Outcome Refusal) → GivesFile s result computed → GivesOrFails (GivesFile s) result computed
+file_or_fault s (Ok text) computed h = h
+file_or_fault s (Err r) computed h = by_loss (is_fault r) h
   where
     by_loss : (b : Bool) → computed ≡ Err r → MatchBool b ⊤ (computed ≡ Err r)
     by_loss true h = tt

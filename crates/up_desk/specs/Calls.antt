@@ -9,7 +9,7 @@ use Rattle.up_machine.specs.Sound.{IsSound}
 use Rattle.up_desk.specs.Standing.{Standing, HasCleanDisk, IfClean, KeepsState, Survives, LeavesOnly}
 use Rattle.up_desk.specs.Serving.{HoldsState, IsAnswered, IsCommit, RepliesStay}
 
--- The answer and the next state are those of what is served, and where the command was lost the state is as it was. Kept replies are
+-- The answer and the next state are those of what is served, and where the command failed the state is as it was. Kept replies are
 -- kept on, the state stays sound, and the tables show it.
 abbrev pub IsServed : Rules → State → ℕ → Command → Answer → Standing → Type 0
 IsServed k s at c a new = (next : State) × IsAnswered a s next (serve k s at c) × RepliesStay k s next × IsSound k next × KeepsState k next new

@@ -15,7 +15,7 @@ use Rattle.up_machine.specs.State.{State}
 use Rattle.up_tables.specs.Stands.{IfClean}
 use Rattle.up_store.specs.Connections.{KeepsState}
 use Rattle.up_desk.specs.declared.catalog.Catalog.{Catalog}
-use Rattle.up_desk.specs.Serving.{GivesOrLost}
+use Rattle.up_desk.specs.Serving.{GivesOrFails}
 use Rattle.up_desk.specs.Standing.{IsOf}
 
 -- what is kept in memory is of the state, and the rows of this vehicle are its
@@ -31,4 +31,4 @@ pub record IsSent (k : Rules) (s : State) (incoming : Incoming) (catalog : Catal
 -- what the rule gives is decided, over each sound state of which this is known and that the tables showed
 abbrev pub Decides : Rules → ℕ → Incoming → (State → Type 0) → Connected → Connected → Result Delivered Refusal → Type 0
 Decides k at incoming is_known old new result = HasCleanDisk new → (s : State) → IsSound k s → is_known s → IfClean (KeepsState k s) old
-    → GivesOrLost (GivesDelivered k s incoming.manifest.vehicle) result (decide_incoming k s at incoming)
+    → GivesOrFails (GivesDelivered k s incoming.manifest.vehicle) result (decide_incoming k s at incoming)

@@ -14,21 +14,21 @@ use Rattle.up_machine.specs.Repeats.{Sent, serve, after, thinned, expected, not_
 use Rattle.up_machine.specs.ApartLaws.{AreExchanged}
 use Rattle.up_machine.specs.Sound.{IsSound}
 use Rattle.up_desk.specs.Standing.{Standing, HasCleanDisk, IfClean, KeepsState, Survives, LeavesOnly}
-use Rattle.up_desk.specs.Serving.{HoldsState, IsCommit, is_lost, outright, RepliesStay}
+use Rattle.up_desk.specs.Serving.{HoldsState, IsCommit, is_failed, outright, RepliesStay}
 
 -- a command with its moment
 abbrev pub timed : ℕ × Command → Timed
 timed c = record { at = c.0; command = c.1 }
 
--- each command with whether it was lost, which its answer tells
+-- each command with whether it counts as lost, since it failed, which its answer tells
 abbrev pub sent : List (ℕ × Command) → List Answer → List Sent
 sent [] answers = []
 sent (c ∷ cs) [] = []
-sent (c ∷ cs) (a ∷ answers) = record { item = timed c; lost = is_lost a } ∷ sent cs answers
+sent (c ∷ cs) (a ∷ answers) = record { item = timed c; lost = is_failed a } ∷ sent cs answers
 
--- the answer, unless the command was lost
-abbrev pub unless_lost : Answer → Option Answer
-unless_lost a = if is_lost a then None else Some a
+-- the answer, unless the command failed
+abbrev pub unless_failed : Answer → Option Answer
+unless_failed a = if is_failed a then None else Some a
 
 -- one answer for each command, and what is refused whether or not there is memory is answered so
 abbrev pub AreOutright : Rules → List (ℕ × Command) → List Answer → Type 0
@@ -46,13 +46,13 @@ pub record AreNeighbours (ms before rest : List Sent) (m n : Sent) : Type 0 wher
   pub second_is : vehicle_of n.item.command ≡ Some second
   pub differ : first ≢ second
 
--- One answer for each command; each that isn't lost is the expected one; the state is the plain machine's after the list without what
--- was lost and without the repeats, which is also that after the list with them; each reply that was kept is kept on; each vehicle, and
+-- One answer for each command; each that didn't fail is the expected one; the state is the plain machine's after the list without what
+-- failed and without the repeats, which is also that after the list with them; each reply that was kept is kept on; each vehicle, and
 -- the answers to its own deliveries, are those of the list without other vehicles' deliveries; and with two neighbouring deliveries of
 -- different vehicles exchanged, the state and the answer to each command are the same.
 pub record IsRun (k : Rules) (old : State) (cs : List (ℕ × Command)) (answers : List Answer) (new : State) : Type 0 where
   pub count : length answers ≡ length cs
-  pub told : map unless_lost answers ≡ expected k old (sent cs answers)
+  pub told : map unless_failed answers ≡ expected k old (sent cs answers)
   pub state : new ≡ run k old (thinned k old (sent cs answers))
   pub with_repeats : new ≡ run k old (not_lost (sent cs answers))
   pub stays : RepliesStay k old new
@@ -60,7 +60,7 @@ pub record IsRun (k : Rules) (old : State) (cs : List (ℕ × Command)) (answers
       × (own_answers k old name (sent cs answers) ≡ own_answers k old name (without_others name (sent cs answers)))
   pub exchanged : (before rest : List Sent) (m n : Sent) → AreNeighbours (sent cs answers) before rest m n
       → (new ≡ run k old (thinned k old (before ++ n ∷ m ∷ rest)))
-      × AreExchanged (length before) (map unless_lost answers) (expected k old (before ++ n ∷ m ∷ rest))
+      × AreExchanged (length before) (map unless_failed answers) (expected k old (before ++ n ∷ m ∷ rest))
 
 -- so from each sound state that the tables showed, where the disk is clean then; and the tables show the state
 abbrev pub RunsCalls : Rules → List (ℕ × Command) → List Answer → Standing → Standing → Type 0
@@ -69,7 +69,7 @@ RunsCalls k cs answers old new =
 
 -- ---- what a crash leaves after a list
 
--- what a command of a list comes to, behind those before it that were not lost
+-- what a command of a list comes to, behind those before it that didn't fail
 abbrev pub outcome_behind : Rules → State → List Sent → Sent → Outcome
 outcome_behind k s before m = serve k (after k s before) m.item.at m.item.command
 

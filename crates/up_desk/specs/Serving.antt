@@ -36,17 +36,17 @@ abbrev pub is_store : Refusal → Bool
 is_store Store = true
 is_store _ = false
 
--- memory or the database refused
-abbrev pub is_lost_by : Refusal → Bool
-is_lost_by r = is_memory r || is_store r
+-- a fault: memory or the database refused
+abbrev pub is_fault : Refusal → Bool
+is_fault r = is_memory r || is_store r
 
-abbrev pub is_lost : Answer → Bool
-is_lost (Refused r) = is_lost_by r
-is_lost _ = false
+abbrev pub is_failed : Answer → Bool
+is_failed (Refused r) = is_fault r
+is_failed _ = false
 
 -- the answer and the state are those of the outcome; where memory or the database refused the state is as before
 abbrev pub IsAnswered : Answer → State → State → Outcome → Type 0
-IsAnswered a old new o = MatchBool (is_lost a) (new ≡ old) ((a ≡ o.answer) × (new ≡ o.next))
+IsAnswered a old new o = MatchBool (is_failed a) (new ≡ old) ((a ≡ o.answer) × (new ≡ o.next))
 
 -- each reply that was kept is kept on, the same
 abbrev pub RepliesStay : Rules → State → State → Type 0
@@ -84,11 +84,11 @@ outcome_due k s at c = decide k s at c
 abbrev pub HoldsState : Rules → State → Trees → Type 0
 HoldsState k s = HoldsRows (rows_of_state k s)
 
--- the tables show the state of the outcome that was computed; of a refusal, or where the command was lost, the state as it was
+-- the tables show the state of the outcome that was computed; of a refusal, or where the command failed, the state as it was
 abbrev pub Leaves : Rules → State → Connected → Result Answer Refusal → Result Outcome Refusal → Type 0
 Leaves k s new (Ok answer) computed =
-    (is_lost answer ≡ false) × ((next : State) × (computed ≡ Ok (record { answer = answer; next = next })) × KeepsState k next new)
-Leaves k s new (Err r) computed = KeepsState k s new × MatchBool (is_lost_by r) ⊤ (computed ≡ Err r)
+    (is_failed answer ≡ false) × ((next : State) × (computed ≡ Ok (record { answer = answer; next = next })) × KeepsState k next new)
+Leaves k s new (Err r) computed = KeepsState k s new × MatchBool (is_fault r) ⊤ (computed ≡ Err r)
 
 -- it was done, or is a reply with which the state changed: that to a newly accepted manifest
 abbrev pub IsCommit : State → Answer → State → Type 0
@@ -117,9 +117,9 @@ abbrev pub Tells : {A E : Type 0} → (Rules → State → A) → Connected → 
 Tells of_state old new result = HasCleanDisk new → IfOk result (λ found. (k : Rules) (s : State) → IfClean (KeepsState k s) old → found ≡ of_state k s)
 
 -- what is decided is what a decision gives, but that the database may refuse too
-abbrev pub GivesOrLost : {R : Type 0} → (Result R Refusal → Result Outcome Refusal → Type 0) → Result R Refusal → Result Outcome Refusal → Type 0
-GivesOrLost gives (Ok x) computed = gives (Ok x) computed
-GivesOrLost gives (Err r) computed = MatchBool (is_lost_by r) ⊤ (computed ≡ Err r)
+abbrev pub GivesOrFails : {R : Type 0} → (Result R Refusal → Result Outcome Refusal → Type 0) → Result R Refusal → Result Outcome Refusal → Type 0
+GivesOrFails gives (Ok x) computed = gives (Ok x) computed
+GivesOrFails gives (Err r) computed = MatchBool (is_fault r) ⊤ (computed ≡ Err r)
 
 -- a fault of the store as a refusal
 abbrev pub refusal_told : StoreFault → Refusal

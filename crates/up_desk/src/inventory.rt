@@ -14,7 +14,7 @@ ghost use Rattle.up_machine.specs.Sound.{IsSound};
 ghost use Rattle.up_machine.specs.State.{State, added, is_taken as is_taken_in};
 ghost use Rattle.up_store.specs.Connections.{KeepsState};
 ghost use Rattle.up_tables.specs.Stands.{IfClean};
-ghost use Rattle.up_desk.specs.Serving.{GivesOrLost, Reads, Serves, Tells};
+ghost use Rattle.up_desk.specs.Serving.{GivesOrFails, Reads, Serves, Tells};
 
 use crate::faults::{done_of, refusal_of};
 use crate::reads::{is_founded, read_vehicle};
@@ -85,7 +85,7 @@ fn decide<K: Scheme, D: Alter>(
 ) -> Result<Decision<VehicleRows>, Refusal>
     requires { at ≤ last_command_moment }
     ensures decided { HasCleanDisk (state D.Store store.new) → (s : State) → IsSound (K.rules scheme.now) s → IfClean (KeepsState (K.rules scheme.now) s) (state D.Store store.old)
-        → GivesOrLost (GivesDecision (λ rows. rows ≡ rows_of new.now.vehicle (added new.now)) s (with_vehicle s new.now)) result
+        → GivesOrFails (GivesDecision (λ rows. rows ≡ rows_of new.now.vehicle (added new.now)) s (with_vehicle s new.now)) result
         (decide_vehicle_in (K.rules scheme.now) s at new.now) }
     ensures reads { Reads (state D.Store store.old) (state D.Store store.new) }
 {
@@ -106,7 +106,7 @@ fn decide_founded<K: Scheme, D: Alter>(
 ) -> Result<Decision<VehicleRows>, Refusal>
     requires { at ≤ last_command_moment }
     ensures decided { HasCleanDisk (state D.Store store.new) → (s : State) → IsSound (K.rules scheme.now) s → founded ≡ is_some (founding_row s) → IfClean (KeepsState (K.rules scheme.now) s) (state D.Store store.old)
-        → GivesOrLost (GivesDecision (λ rows. rows ≡ rows_of new.now.vehicle (added new.now)) s (with_vehicle s new.now)) result
+        → GivesOrFails (GivesDecision (λ rows. rows ≡ rows_of new.now.vehicle (added new.now)) s (with_vehicle s new.now)) result
         (decide_vehicle_in (K.rules scheme.now) s at new.now) }
     ensures reads { Reads (state D.Store store.old) (state D.Store store.new) }
 {
@@ -128,7 +128,7 @@ fn decide_named<K: Scheme, D: Alter>(
 ) -> Result<Decision<VehicleRows>, Refusal>
     requires { at ≤ last_command_moment }
     ensures decided { HasCleanDisk (state D.Store store.new) → (s : State) → IsSound (K.rules scheme.now) s → founded ≡ is_some (founding_row s) → option_copied old.entry ≡ vehicle_rows s new.now.vehicle → IfClean (KeepsState (K.rules scheme.now) s) (state D.Store store.old)
-        → GivesOrLost (GivesDecision (λ rows. rows ≡ rows_of new.now.vehicle (added new.now)) s (with_vehicle s new.now)) result
+        → GivesOrFails (GivesDecision (λ rows. rows ≡ rows_of new.now.vehicle (added new.now)) s (with_vehicle s new.now)) result
         (decide_vehicle_in (K.rules scheme.now) s at new.now) }
     ensures reads { Reads (state D.Store store.old) (state D.Store store.new) }
 {

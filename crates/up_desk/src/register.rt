@@ -13,8 +13,8 @@ ghost use Rattle.up_machine.specs.Sound.{IsSound};
 ghost use Rattle.up_machine.specs.State.{State};
 ghost use Rattle.up_store.specs.Connections.{KeepsState};
 ghost use Rattle.up_tables.specs.Stands.{IfClean};
-ghost use Rattle.up_desk.specs.Serving.{GivesOrLost, Reads, Serves};
-ghost use Rattle.up_desk.specs.NewMetadata.{MetadataOrLost};
+ghost use Rattle.up_desk.specs.Serving.{GivesOrFails, Reads, Serves};
+ghost use Rattle.up_desk.specs.NewMetadata.{MetadataOrFails};
 
 use crate::faults::{done_of, refusal_of};
 use crate::reads::read_founding;
@@ -63,7 +63,7 @@ fn decide_adding<K: Scheme, D: Alter>(
 ) -> Result<Decision<RegisterRows>, Refusal>
     requires { at ≤ last_command_moment }
     ensures decided { HasCleanDisk (state D.Store store.new) → (s : State) → IsSound (K.rules scheme.now) s → IfClean (KeepsState (K.rules scheme.now) s) (state D.Store store.old)
-        → GivesOrLost (GivesDecision (HasRegisterRows (K.rules scheme.now) (stamped (with_image s image.now) at (s.image_version + 1))) s (stamped (with_image s image.now) at (s.image_version + 1))) result
+        → GivesOrFails (GivesDecision (HasRegisterRows (K.rules scheme.now) (stamped (with_image s image.now) at (s.image_version + 1))) s (stamped (with_image s image.now) at (s.image_version + 1))) result
         (decide_image_in s at image.now) }
     ensures reads { Reads (state D.Store store.old) (state D.Store store.new) }
 {
@@ -85,7 +85,7 @@ fn decide_adding_after<K: Scheme, D: Alter>(
     requires moment { at ≤ last_command_moment }
     requires keys { IfSome founding (λ f. IsTrue (founding_fits (K.rules scheme.now) f)) }
     ensures decided { HasCleanDisk (state D.Store store.new) → (s : State) → IsSound (K.rules scheme.now) s → founding ≡ founding_row s → IfClean (KeepsState (K.rules scheme.now) s) (state D.Store store.old)
-        → GivesOrLost (GivesDecision (HasRegisterRows (K.rules scheme.now) (stamped (with_image s image.now) at (s.image_version + 1))) s (stamped (with_image s image.now) at (s.image_version + 1))) result
+        → GivesOrFails (GivesDecision (HasRegisterRows (K.rules scheme.now) (stamped (with_image s image.now) at (s.image_version + 1))) s (stamped (with_image s image.now) at (s.image_version + 1))) result
         (decide_image_in s at image.now) }
     ensures reads { Reads (state D.Store store.old) (state D.Store store.new) }
 {
@@ -108,7 +108,7 @@ fn decide_named<K: Scheme, D: Alter>(
     requires moment { at ≤ last_command_moment }
     requires keys { IfSome founding (λ f. IsTrue (founding_fits (K.rules scheme.now) f)) }
     ensures decided { HasCleanDisk (state D.Store store.new) → (s : State) → IsSound (K.rules scheme.now) s → founding ≡ founding_row s → option_copied old.entry ≡ table.get s.images image.now.file → IfClean (KeepsState (K.rules scheme.now) s) (state D.Store store.old)
-        → GivesOrLost (GivesDecision (HasRegisterRows (K.rules scheme.now) (stamped (with_image s image.now) at (s.image_version + 1))) s (stamped (with_image s image.now) at (s.image_version + 1))) result
+        → GivesOrFails (GivesDecision (HasRegisterRows (K.rules scheme.now) (stamped (with_image s image.now) at (s.image_version + 1))) s (stamped (with_image s image.now) at (s.image_version + 1))) result
         (decide_image_in s at image.now) }
     ensures reads { Reads (state D.Store store.old) (state D.Store store.new) }
 {
@@ -133,7 +133,7 @@ fn decide_new<K: Scheme, D: Alter>(
     requires moment { at ≤ last_command_moment }
     requires keys { IsTrue (founding_fits (K.rules scheme.now) founding) }
     ensures decided { HasCleanDisk (state D.Store store.new) → (s : State) → IsSound (K.rules scheme.now) s → HasFounding s founding → table.get s.images image.now.file ≡ None → IfClean (KeepsState (K.rules scheme.now) s) (state D.Store store.old)
-        → GivesOrLost (GivesRows (HasRegisterRows (K.rules scheme.now) (stamped (with_image s image.now) at (s.image_version + 1))) (stamped (with_image s image.now) at (s.image_version + 1))) result
+        → GivesOrFails (GivesRows (HasRegisterRows (K.rules scheme.now) (stamped (with_image s image.now) at (s.image_version + 1))) (stamped (with_image s image.now) at (s.image_version + 1))) result
         (decide_new_image_in s at image.now) }
     ensures reads { Reads (state D.Store store.old) (state D.Store store.new) }
 {
@@ -172,7 +172,7 @@ fn decide_refreshing<K: Scheme, D: Alter>(
 ) -> Result<RegisterRows, Refusal>
     requires { at ≤ last_command_moment }
     ensures decided { HasCleanDisk (state D.Store store.new) → (s : State) → IsSound (K.rules scheme.now) s → IfClean (KeepsState (K.rules scheme.now) s) (state D.Store store.old)
-        → GivesOrLost (GivesRows (HasRegisterRows (K.rules scheme.now) (stamped s at version)) (stamped s at version)) result
+        → GivesOrFails (GivesRows (HasRegisterRows (K.rules scheme.now) (stamped s at version)) (stamped s at version)) result
         (decide_refresh_in s at version) }
     ensures reads { Reads (state D.Store store.old) (state D.Store store.new) }
 {
@@ -194,7 +194,7 @@ fn decide_refreshing_after<K: Scheme, D: Alter>(
     requires moment { at ≤ last_command_moment }
     requires keys { IfSome founding (λ f. IsTrue (founding_fits (K.rules scheme.now) f)) }
     ensures decided { HasCleanDisk (state D.Store store.new) → (s : State) → founding ≡ founding_row s → IfClean (KeepsState (K.rules scheme.now) s) (state D.Store store.old)
-        → GivesOrLost (GivesRows (HasRegisterRows (K.rules scheme.now) (stamped s at version)) (stamped s at version)) result
+        → GivesOrFails (GivesRows (HasRegisterRows (K.rules scheme.now) (stamped s at version)) (stamped s at version)) result
         (decide_refresh_in s at version) }
     ensures reads { Reads (state D.Store store.old) (state D.Store store.new) }
 {
@@ -214,7 +214,7 @@ fn make_rows<K: Scheme, D: Alter>(
 ) -> Result<RegisterRows, Refusal>
     requires { CanMakeFiles (K.rules scheme.now) founding }
     ensures made { HasCleanDisk (state D.Store store.new) → (s next : State) → IfClean (KeepsState (K.rules scheme.now) s) (state D.Store store.old)
-        → HasFounding next founding → next.images ≡ s.images → MetadataOrLost (HasRegisterRows (K.rules scheme.now) next) result }
+        → HasFounding next founding → next.images ≡ s.images → MetadataOrFails (HasRegisterRows (K.rules scheme.now) next) result }
     ensures reads { Reads (state D.Store store.old) (state D.Store store.new) }
 {
     match store.images(alloc) {

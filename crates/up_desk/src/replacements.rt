@@ -12,7 +12,7 @@ ghost use Rattle.up_machine.specs.Sound.{IsSound};
 ghost use Rattle.up_machine.specs.State.{State};
 ghost use Rattle.up_store.specs.Connections.{KeepsState};
 ghost use Rattle.up_tables.specs.Stands.{IfClean};
-ghost use Rattle.up_desk.specs.Serving.{GivesOrLost, Reads, Serves};
+ghost use Rattle.up_desk.specs.Serving.{GivesOrFails, Reads, Serves};
 
 use crate::faults::{done_of, refusal_of};
 use crate::inventory::is_taken;
@@ -80,7 +80,7 @@ fn decide<K: Scheme, D: Alter>(
 ) -> Result<(), Refusal>
     requires { at ≤ last_command_moment }
     ensures decided { HasCleanDisk (state D.Store store.new) → (s : State) → IsSound (K.rules scheme.now) s → IfClean (KeepsState (K.rules scheme.now) s) (state D.Store store.old)
-        → GivesOrLost (GivesReplacement s new.now) result (decide_replace_in (K.rules scheme.now) s at new.now) }
+        → GivesOrFails (GivesReplacement s new.now) result (decide_replace_in (K.rules scheme.now) s at new.now) }
     ensures reads { Reads (state D.Store store.old) (state D.Store store.new) }
 {
     match is_founded(store) {
@@ -100,7 +100,7 @@ fn decide_founded<K: Scheme, D: Alter>(
 ) -> Result<(), Refusal>
     requires { at ≤ last_command_moment }
     ensures decided { HasCleanDisk (state D.Store store.new) → (s : State) → IsSound (K.rules scheme.now) s → founded ≡ is_some (founding_row s) → IfClean (KeepsState (K.rules scheme.now) s) (state D.Store store.old)
-        → GivesOrLost (GivesReplacement s new.now) result (decide_replace_in (K.rules scheme.now) s at new.now) }
+        → GivesOrFails (GivesReplacement s new.now) result (decide_replace_in (K.rules scheme.now) s at new.now) }
     ensures reads { Reads (state D.Store store.old) (state D.Store store.new) }
 {
     match read_vehicle(store, alloc, &new.vehicle) {
@@ -121,7 +121,7 @@ fn decide_in<K: Scheme, D: Alter>(
 ) -> Result<(), Refusal>
     requires { at ≤ last_command_moment }
     ensures decided { HasCleanDisk (state D.Store store.new) → (s : State) → IsSound (K.rules scheme.now) s → founded ≡ is_some (founding_row s) → option_copied vehicle.entry ≡ vehicle_rows s new.now.vehicle → IfClean (KeepsState (K.rules scheme.now) s) (state D.Store store.old)
-        → GivesOrLost (GivesReplacement s new.now) result (decide_replace_in (K.rules scheme.now) s at new.now) }
+        → GivesOrFails (GivesReplacement s new.now) result (decide_replace_in (K.rules scheme.now) s at new.now) }
     ensures reads { Reads (state D.Store store.old) (state D.Store store.new) }
 {
     match is_taken(store, alloc, &new.ecu.ecu) {

@@ -12,8 +12,8 @@ ghost use Rattle.up_machine.specs.Sound.{IsSound};
 ghost use Rattle.up_machine.specs.State.{State};
 ghost use Rattle.up_store.specs.Connections.{KeepsState};
 ghost use Rattle.up_tables.specs.Stands.{IfClean};
-ghost use Rattle.up_desk.specs.Serving.{GivesOrLost, Reads, Serves};
-ghost use Rattle.up_desk.specs.NewMetadata.{MetadataOrLost};
+ghost use Rattle.up_desk.specs.Serving.{GivesOrFails, Reads, Serves};
+ghost use Rattle.up_desk.specs.NewMetadata.{MetadataOrFails};
 
 use crate::faults::{done_of, refusal_of};
 use crate::reads::{is_founded, read_founding};
@@ -60,7 +60,7 @@ fn decide_founding<K: Scheme, D: Alter>(
 ) -> Result<RootRows, Refusal>
     requires { at ≤ last_command_moment }
     ensures decided { HasCleanDisk (state D.Store store.new) → (s : State) → IsSound (K.rules scheme.now) s → IfClean (KeepsState (K.rules scheme.now) s) (state D.Store store.old)
-        → GivesOrLost (GivesRows (HasRootRows (K.rules scheme.now) (stamped (with_root s at keys.now) at 1)) (stamped (with_root s at keys.now) at 1)) result
+        → GivesOrFails (GivesRows (HasRootRows (K.rules scheme.now) (stamped (with_root s at keys.now) at 1)) (stamped (with_root s at keys.now) at 1)) result
         (decide_found_in (K.rules scheme.now) s at keys.now) }
     ensures reads { Reads (state D.Store store.old) (state D.Store store.new) }
 {
@@ -81,7 +81,7 @@ fn decide_founding_after<K: Scheme, D: Alter>(
 ) -> Result<RootRows, Refusal>
     requires { at ≤ last_command_moment }
     ensures decided { HasCleanDisk (state D.Store store.new) → (s : State) → founded ≡ is_some (founding_row s) → IfClean (KeepsState (K.rules scheme.now) s) (state D.Store store.old)
-        → GivesOrLost (GivesRows (HasRootRows (K.rules scheme.now) (stamped (with_root s at keys.now) at 1)) (stamped (with_root s at keys.now) at 1)) result
+        → GivesOrFails (GivesRows (HasRootRows (K.rules scheme.now) (stamped (with_root s at keys.now) at 1)) (stamped (with_root s at keys.now) at 1)) result
         (decide_found_in (K.rules scheme.now) s at keys.now) }
     ensures reads { Reads (state D.Store store.old) (state D.Store store.new) }
 {
@@ -120,7 +120,7 @@ fn decide_rotation<K: Scheme, D: Alter>(
 ) -> Result<RootRows, Refusal>
     requires { at ≤ last_command_moment }
     ensures decided { HasCleanDisk (state D.Store store.new) → (s : State) → IsSound (K.rules scheme.now) s → IfClean (KeepsState (K.rules scheme.now) s) (state D.Store store.old)
-        → GivesOrLost (GivesRows (HasRootRows (K.rules scheme.now) (stamped (with_root s at keys.now) at (s.image_version + 1))) (stamped (with_root s at keys.now) at (s.image_version + 1))) result
+        → GivesOrFails (GivesRows (HasRootRows (K.rules scheme.now) (stamped (with_root s at keys.now) at (s.image_version + 1))) (stamped (with_root s at keys.now) at (s.image_version + 1))) result
         (decide_rotate_in (K.rules scheme.now) s at keys.now) }
     ensures reads { Reads (state D.Store store.old) (state D.Store store.new) }
 {
@@ -142,7 +142,7 @@ fn decide_rotation_after<K: Scheme, D: Alter>(
     requires moment { at ≤ last_command_moment }
     requires keys { IfSome founding (λ f. IsTrue (founding_fits (K.rules scheme.now) f)) }
     ensures decided { HasCleanDisk (state D.Store store.new) → (s : State) → founding ≡ founding_row s → IfClean (KeepsState (K.rules scheme.now) s) (state D.Store store.old)
-        → GivesOrLost (GivesRows (HasRootRows (K.rules scheme.now) (stamped (with_root s at keys.now) at (s.image_version + 1))) (stamped (with_root s at keys.now) at (s.image_version + 1))) result
+        → GivesOrFails (GivesRows (HasRootRows (K.rules scheme.now) (stamped (with_root s at keys.now) at (s.image_version + 1))) (stamped (with_root s at keys.now) at (s.image_version + 1))) result
         (decide_rotate_in (K.rules scheme.now) s at keys.now) }
     ensures reads { Reads (state D.Store store.old) (state D.Store store.new) }
 {
@@ -164,7 +164,7 @@ fn make_rows<K: Scheme, D: Alter>(
 ) -> Result<RootRows, Refusal>
     requires { CanMakeRoot (K.rules scheme.now) at keys.now new.now }
     ensures made { HasCleanDisk (state D.Store store.new) → (s next : State) → IfClean (KeepsState (K.rules scheme.now) s) (state D.Store store.old)
-        → HasRoot next at keys.now new.now → next.images ≡ s.images → MetadataOrLost (HasRootRows (K.rules scheme.now) next) result }
+        → HasRoot next at keys.now new.now → next.images ≡ s.images → MetadataOrFails (HasRootRows (K.rules scheme.now) next) result }
     ensures reads { Reads (state D.Store store.old) (state D.Store store.new) }
 {
     match store.images(alloc) {

@@ -26,7 +26,7 @@ use Rattle.up_machine.specs.declared.decision.AcceptedRows.{AcceptedRows}
 use Rattle.up_machine.specs.declared.vehicle.NewEcu.{NewEcu}
 use Rattle.up_machine.specs.State.{Entry, Vehicle, State, root_at, version, last_counter, newest, report_of, last_report}
 use Rattle.up_machine.specs.Deliveries.{Received, fitted, plan_in, entry_of}
-use Rattle.up_machine.specs.Replies.{reply_making, reply_json, reply_text}
+use Rattle.up_machine.specs.Replies.{reply_metadata, reply_json, reply_text}
 use Rattle.up_machine.specs.Rows.{founding_row, ecu_row, vehicle_row, rows_of, kept_row}
 use Rattle.up_machine.specs.Decisions.{HasAcceptedRows}
 use Rattle.up_machine.specs.ManifestRows.{fitted_in, reported_row, accepted_row, reply_of, kept_of, plan_by_rows, accepted_rows, target_for}
@@ -118,7 +118,7 @@ reply_same : (k : Rules) (s : State) (at : ℕ) (d : Received) (root : Root) →
     ≡ reply_text k s d.incoming.manifest.vehicle (version d.vehicle.entries + 1) (entry_of s at d)
 unfolding reply_text
 reply_same k s at d root there =
-    sym (ap (λ o. unwrap_or (option_map (λ (r : Root). reply_json d.incoming.manifest.vehicle (version d.vehicle.entries + 1) (length s.roots) (role_texts k (reply_making s d.incoming.manifest.vehicle (version d.vehicle.entries + 1) (entry_of s at d) r))) o) (codes "")) there)
+    sym (ap (λ o. unwrap_or (option_map (λ (r : Root). reply_json d.incoming.manifest.vehicle (version d.vehicle.entries + 1) (length s.roots) (role_texts k (reply_metadata s d.incoming.manifest.vehicle (version d.vehicle.entries + 1) (entry_of s at d) r))) o) (codes "")) there)
 
 kept_same : (k : Rules) (s : State) (at : ℕ) (d : Received) (root : Root) → root_at s (length s.roots) ≡ Some root
     → kept_of k (founding_of s root) (vehicle_row d.incoming.manifest.vehicle d.vehicle) at d.incoming s.images (plan_in s d)

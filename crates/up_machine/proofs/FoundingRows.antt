@@ -11,13 +11,13 @@ use Rattle.up_plan.specs.Images.{ImageData}
 use Rattle.up_metadata.specs.declared.hashed_keys.HashedKeySet.{HashedKeySet}
 use Rattle.up_metadata.specs.declared.keys.KeySet.{KeySet}
 use Rattle.up_metadata.specs.declared.role_files.RoleTexts.{RoleTexts}
-use Rattle.up_metadata.specs.Files.{Root, Making, root_text, role_texts}
+use Rattle.up_metadata.specs.Files.{Root, MetadataSet, root_text, role_texts}
 use Rattle.up_machine.specs.declared.rows.Founding.{Founding}
 use Rattle.up_machine.specs.declared.decision.NextRoot.{NextRoot}
 use Rattle.up_machine.specs.declared.decision.RegisterRows.{RegisterRows}
 use Rattle.up_machine.specs.declared.decision.RootRows.{RootRows}
 use Rattle.up_machine.specs.State.{State, nth, root_at}
-use Rattle.up_machine.specs.Files.{image_making, target_of}
+use Rattle.up_machine.specs.Files.{image_metadata, target_of}
 use Rattle.up_machine.specs.Rows.{founding_row}
 use Rattle.up_machine.specs.Repositories.{stamped, with_root}
 use Rattle.up_machine.specs.Decisions.{HasRootRows, HasRegisterRows}
@@ -129,17 +129,17 @@ files_are_due s images at version f h =
 -- ---- the rows of what is due
 
 -- the image repository's files
-abbrev pub making_of : Founding → List Target → Making
-making_of f targets = record { repository = Image; keys = f.keys; vehicle = None; version = f.image_version; at = f.stamp; targets = targets }
+abbrev pub metadata_of : Founding → List Target → MetadataSet
+metadata_of f targets = record { repository = Image; keys = f.keys; vehicle = None; version = f.image_version; at = f.stamp; targets = targets }
 
 abbrev pub files_of : Rules → Founding → List ImageData → RoleTexts
-files_of k f images = role_texts k (making_of f (map (target_of None) images))
+files_of k f images = role_texts k (metadata_of f (map (target_of None) images))
 
 pub register_rows_hold : (k : Rules) (next : State) (f : Founding) → HasFounding next f → HasRegisterRows k next (record { founding = f; files = files_of k f (table.values next.images) })
 register_rows_hold k next f has =
     let of = founding_of next f (sym has) in record {
       founding = has;
-      files = ap (option_map (λ r. role_texts k (image_making next r))) of.there ∙ ap (λ f. Some (files_of k f (table.values next.images))) (sym of.is);
+      files = ap (option_map (λ r. role_texts k (image_metadata next r))) of.there ∙ ap (λ f. Some (files_of k f (table.values next.images))) (sym of.is);
     }
 
 abbrev pub root_rows_of : Rules → ℕ → KeySet → NextRoot → Option Root → List ImageData → RootRows
@@ -167,8 +167,8 @@ root_rows_hold k next at keys new has =
 
 -- what is made of the targets of these images
 pub of_targets : {E : Type 0} (k : Rules) (f : Founding) (images : List ImageData) (targets : List Target) → targets ≡ map (target_of None) images → (result : Result RegisterRows E)
-    → IfOk result (λ rows. rows ≡ record { founding = f; files = role_texts k (making_of f targets) }) → IfOk result (λ rows. rows ≡ record { founding = f; files = files_of k f images })
-of_targets k f images targets are (Ok rows) is = is ∙ ap (λ ts. record { founding = f; files = role_texts k (making_of f ts) }) are
+    → IfOk result (λ rows. rows ≡ record { founding = f; files = role_texts k (metadata_of f targets) }) → IfOk result (λ rows. rows ≡ record { founding = f; files = files_of k f images })
+of_targets k f images targets are (Ok rows) is = is ∙ ap (λ ts. record { founding = f; files = role_texts k (metadata_of f ts) }) are
 of_targets k f images targets are (Err e) is = tt
 
 -- what is made of these images

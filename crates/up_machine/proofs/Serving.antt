@@ -7,7 +7,7 @@ use Rattle.up_roles.specs.declared.repository.Repository.{Repository}
 use Rattle.up_roles.specs.declared.repository.Repository.TheVariants.{Director, Image}
 use Rattle.up_metadata.specs.Files.{Root, role_texts}
 use Rattle.up_machine.specs.State.{State, root_at}
-use Rattle.up_machine.specs.Files.{File, numbered_root_name, root_text_at, numbered_roots, latest_root, image_making, texts_in, image_texts, files}
+use Rattle.up_machine.specs.Files.{File, numbered_root_name, root_text_at, numbered_roots, latest_root, image_metadata, texts_in, image_texts, files}
 use Rattle.up_machine.specs.SignedLaws.{IsRootText, IsImageText, IsServedText, ServedFilesAreKnown}
 use Rattle.up_canon.proofs.Lists.{each_of_both}
 use Rattle.up_canon.proofs.Steps.{map_some}
@@ -49,7 +49,7 @@ each_root_is k s [] h = tt
 each_root_is k s (f ∷ fs) h = (inl h.0, each_root_is k s fs h.1)
 
 image_known : (k : Rules) (s : State) (o : Option Root) → root_at s (length s.roots) ≡ o
-    → AllByRecursion (IsImageFile k s) (texts_in (option_map (λ root. role_texts k (image_making s root)) o))
+    → AllByRecursion (IsImageFile k s) (texts_in (option_map (λ root. role_texts k (image_metadata s root)) o))
 image_known k s None h = tt
 image_known k s (Some root) h = (inr (root, h, inl refl), (inr (root, h, inr (inl refl)), (inr (root, h, inr (inr refl)), tt)))
 

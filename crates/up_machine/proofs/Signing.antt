@@ -12,8 +12,8 @@ use Rattle.up_metadata.specs.Files.{keys_of, Root, role_texts}
 use Rattle.up_metadata.specs.Signed.{HasFittingKeys, RootFilesAreSigned, RoleFilesAreSigned}
 use Rattle.up_metadata.proofs.Lists.{and_left, and_right}
 use Rattle.up_machine.specs.State.{Entry, State, nth, root_at}
-use Rattle.up_machine.specs.Files.{image_making}
-use Rattle.up_machine.specs.Replies.{reply_making, reply_json, reply_text}
+use Rattle.up_machine.specs.Files.{image_metadata}
+use Rattle.up_machine.specs.Replies.{reply_metadata, reply_json, reply_text}
 use Rattle.up_machine.specs.Sound.{IsSoundRoot, IsGrounded, IsSound}
 use Rattle.up_machine.specs.SignedLaws.{RootsAreSigned, ImageFilesAreSigned, RepliesAreSigned}
 use Rattle.up_machine.proofs.Keeping.{nth_at}
@@ -41,7 +41,7 @@ roots_signed files k s repository i root law sound there =
 -- ---- the image repository's files
 
 pub images_signed : RoleFilesAreSigned → ImageFilesAreSigned
-images_signed files k s root law sound there = files k (image_making s root) law (sound_keys k s Image (length s.roots) root sound there)
+images_signed files k s root law sound there = files k (image_metadata s root) law (sound_keys k s Image (length s.roots) root sound there)
 
 -- ---- replies
 
@@ -59,10 +59,10 @@ nth_there xs (suc i) low high =
     (found.0, rw some (ap (slice_get xs) before ∙ found.1))
 
 reply_is : (k : Rules) (s : State) (vehicle : Name) (number : ℕ) (e : Entry) (root : Root) → root_at s e.root ≡ Some root
-    → reply_text k s vehicle number e ≡ reply_json vehicle number e.root (role_texts k (reply_making s vehicle number e root))
+    → reply_text k s vehicle number e ≡ reply_json vehicle number e.root (role_texts k (reply_metadata s vehicle number e root))
 unfolding reply_text
 reply_is k s vehicle number e root there =
-    ap (λ o. unwrap_or (option_map (λ root. reply_json vehicle number e.root (role_texts k (reply_making s vehicle number e root))) o) (codes "")) there
+    ap (λ o. unwrap_or (option_map (λ root. reply_json vehicle number e.root (role_texts k (reply_metadata s vehicle number e root))) o) (codes "")) there
 
 pub replies_signed : RoleFilesAreSigned → RepliesAreSigned
 replies_signed files k s vehicle v number e law sound there entry =
@@ -72,5 +72,5 @@ replies_signed files k s vehicle v number e law sound there entry =
       root = root.0;
       there = root.1;
       made = reply_is k s vehicle number e root.0 root.1;
-      signed = files k (reply_making s vehicle number e root.0) law (sound_keys k s Director e.root root.0 sound root.1);
+      signed = files k (reply_metadata s vehicle number e root.0) law (sound_keys k s Director e.root root.0 sound root.1);
     }

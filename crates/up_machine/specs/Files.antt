@@ -8,7 +8,7 @@ use Rattle.up_roles.specs.declared.repository.Repository.{Repository}
 use Rattle.up_roles.specs.declared.repository.Repository.TheVariants.{Director, Image}
 use Rattle.up_roles.specs.declared.targets.Target.{Target}
 use Rattle.up_metadata.specs.declared.role_files.RoleTexts.{RoleTexts}
-use Rattle.up_metadata.specs.Files.{Root, root_text, Making, role_texts}
+use Rattle.up_metadata.specs.Files.{Root, root_text, MetadataSet, role_texts}
 use Rattle.up_plan.specs.Images.{ImageData}
 use Rattle.up_machine.specs.State.{State, root_at}
 
@@ -25,8 +25,8 @@ target_of ecu image = record {
 }
 
 -- the image repository's files are of all images in the order of their filenames, under the last root's keys
-abbrev pub image_making : State → Root → Making
-image_making s root = record {
+abbrev pub image_metadata : State → Root → MetadataSet
+image_metadata s root = record {
   repository = Image;
   keys = root.keys;
   vehicle = None;
@@ -64,7 +64,7 @@ texts_in None = []
 texts_in (Some texts) = latest_texts texts
 
 abbrev pub image_texts : Rules → State → Option RoleTexts
-image_texts k s = option_map (λ root. role_texts k (image_making s root)) (root_at s (length s.roots))
+image_texts k s = option_map (λ root. role_texts k (image_metadata s root)) (root_at s (length s.roots))
 
 -- each repository's files; before founding there are none
 unfoldable pub files : Rules → State → Repository → List File

@@ -20,7 +20,7 @@ use Rattle.up_plan.specs.declared.assigned.Plan.{Plan}
 use Rattle.up_plan.specs.Campaigns.{CampaignData}
 use Rattle.up_plan.specs.Images.{ImageData}
 use Rattle.up_plan.specs.Planning.{plan_of}
-use Rattle.up_metadata.specs.Files.{Making, role_texts}
+use Rattle.up_metadata.specs.Files.{MetadataSet, role_texts}
 use Rattle.up_machine.specs.declared.rows.EcuRow.{EcuRow}
 use Rattle.up_machine.specs.declared.rows.Founding.{Founding}
 use Rattle.up_machine.specs.declared.rows.Kept.{Kept}
@@ -113,8 +113,8 @@ abbrev pub accepted_row : VehicleRow → ℕ → VehicleRow
 accepted_row row counter = record row { version = row.version + 1; last = counter }
 
 -- the Director's files for the vehicle's new version
-abbrev pub making_of : Founding → VehicleRow → ℕ → List Target → Making
-making_of founding row at targets = record {
+abbrev pub metadata_of : Founding → VehicleRow → ℕ → List Target → MetadataSet
+metadata_of founding row at targets = record {
   repository = Director;
   keys = founding.keys;
   vehicle = Some row.vehicle;
@@ -124,7 +124,7 @@ making_of founding row at targets = record {
 }
 
 abbrev pub reply_of : Rules → Founding → VehicleRow → ℕ → List Target → List ℕ
-reply_of k founding row at targets = reply_json row.vehicle (row.version + 1) founding.root (role_texts k (making_of founding row at targets))
+reply_of k founding row at targets = reply_json row.vehicle (row.version + 1) founding.root (role_texts k (metadata_of founding row at targets))
 
 abbrev pub kept_of : Rules → Founding → VehicleRow → ℕ → Incoming → Table ImageData → Plan → Kept
 kept_of k founding row at incoming images plan = record {

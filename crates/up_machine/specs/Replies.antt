@@ -9,7 +9,7 @@ use Rattle.up_roles.specs.declared.repository.Repository.TheVariants.{Director}
 use Rattle.up_roles.specs.declared.targets.Target.{Target}
 use Rattle.up_plan.specs.declared.assigned.Assigned.{Assigned}
 use Rattle.up_metadata.specs.declared.role_files.RoleTexts.{RoleTexts}
-use Rattle.up_metadata.specs.Files.{Root, Making, role_texts}
+use Rattle.up_metadata.specs.Files.{Root, MetadataSet, role_texts}
 use Rattle.up_machine.specs.declared.answer.Reply.{Reply}
 use Rattle.up_machine.specs.State.{Entry, State, nth, root_at}
 use Rattle.up_machine.specs.Files.{target_of}
@@ -19,8 +19,8 @@ abbrev pub assigned_target : State → Assigned → Option Target
 assigned_target s a = option_map (target_of (Some a.ecu)) (table.get s.images a.file)
 
 -- the Director's files for a vehicle's entry: its version is the entry's number, its moment the entry's, its keys those of the entry's root
-abbrev pub reply_making : State → Name → ℕ → Entry → Root → Making
-reply_making s vehicle number e root = record {
+abbrev pub reply_metadata : State → Name → ℕ → Entry → Root → MetadataSet
+reply_metadata s vehicle number e root = record {
   repository = Director;
   keys = root.keys;
   vehicle = Some vehicle;
@@ -38,7 +38,7 @@ reply_json vehicle number root files =
 -- empty where the entry's root version isn't there, which no sound state has
 unfoldable pub reply_text : Rules → State → Name → ℕ → Entry → List ℕ
 reply_text k s vehicle number e =
-    unwrap_or (option_map (λ root. reply_json vehicle number e.root (role_texts k (reply_making s vehicle number e root))) (root_at s e.root)) (codes "")
+    unwrap_or (option_map (λ root. reply_json vehicle number e.root (role_texts k (reply_metadata s vehicle number e root))) (root_at s e.root)) (codes "")
 
 -- the reply to the vehicle's entry of this number
 abbrev pub reply_to : Rules → State → Name → ℕ → Entry → Reply

@@ -9,8 +9,8 @@ use Rattle.up_roles.specs.Root.{root_payload}
 use Rattle.up_metadata.specs.Files.{Root, root_file, role_texts}
 use Rattle.up_metadata.specs.Signed.{IsSignedFor, root_role, AreSignedFor}
 use Rattle.up_machine.specs.State.{Entry, Vehicle, State, nth, root_at}
-use Rattle.up_machine.specs.Files.{root_text_at, image_making, file}
-use Rattle.up_machine.specs.Replies.{reply_making, reply_json, reply_text}
+use Rattle.up_machine.specs.Files.{root_text_at, image_metadata, file}
+use Rattle.up_machine.specs.Replies.{reply_metadata, reply_json, reply_text}
 use Rattle.up_machine.specs.Sound.{IsSound}
 
 -- root version i is signed for its own root role and for that of the version before
@@ -21,14 +21,14 @@ RootsAreSigned = (k : Rules) (s : State) (repository : Repository) (i : ℕ) (ro
 -- the image repository's files are signed for the roles of the last root version
 abbrev pub ImageFilesAreSigned : Type 0
 ImageFilesAreSigned = (k : Rules) (s : State) (root : Root) → IsScheme k → IsSound k s → root_at s (length s.roots) ≡ Some root
-    → AreSignedFor k (image_making s root)
+    → AreSignedFor k (image_metadata s root)
 
--- the files in the reply to a vehicle's entry are those of its making, which are signed for the Director's roles of the entry's root version
+-- the files in the reply to a vehicle's entry are those of its metadata set, which are signed for the Director's roles of the entry's root version
 pub record HasSignedFiles (k : Rules) (s : State) (vehicle : Name) (number : ℕ) (e : Entry) : Type 0 where
   pub root : Root
   pub there : root_at s e.root ≡ Some root
-  pub made : reply_text k s vehicle number e ≡ reply_json vehicle number e.root (role_texts k (reply_making s vehicle number e root))
-  pub signed : AreSignedFor k (reply_making s vehicle number e root)
+  pub made : reply_text k s vehicle number e ≡ reply_json vehicle number e.root (role_texts k (reply_metadata s vehicle number e root))
+  pub signed : AreSignedFor k (reply_metadata s vehicle number e root)
 
 abbrev pub RepliesAreSigned : Type 0
 RepliesAreSigned = (k : Rules) (s : State) (vehicle : Name) (v : Vehicle) (number : ℕ) (e : Entry) → IsScheme k → IsSound k s
@@ -43,7 +43,7 @@ IsRootText k s repository served = (i : ℕ) × (root : Root) × (root_at s i �
 -- one of the image repository's files
 abbrev pub IsImageText : Rules → State → List ℕ → Type 0
 IsImageText k s served = (root : Root) × (root_at s (length s.roots) ≡ Some root)
-    × ((served ≡ (role_texts k (image_making s root)).targets) ⊎ ((served ≡ (role_texts k (image_making s root)).snapshot) ⊎ (served ≡ (role_texts k (image_making s root)).timestamp)))
+    × ((served ≡ (role_texts k (image_metadata s root)).targets) ⊎ ((served ≡ (role_texts k (image_metadata s root)).snapshot) ⊎ (served ≡ (role_texts k (image_metadata s root)).timestamp)))
 
 abbrev pub IsServedText : Rules → State → Repository → List ℕ → Type 0
 IsServedText k s Director served = IsRootText k s Director served

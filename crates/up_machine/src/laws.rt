@@ -86,7 +86,7 @@ pub fn vehicles_stand_apart()
 
 /// Every Root file, every file of the image repository and every file in a kept reply is an envelope over the text of its
 /// payload, and is accepted under the keys and the threshold of its role in its root version, and a later Root file also
-/// under those of the version before. A kept reply has the three files of its making.
+/// under those of the version before. A kept reply has the three files of its metadata set.
 pub fn files_are_signed()
     ensures roots { RootsAreSigned }
     ensures images { ImageFilesAreSigned }

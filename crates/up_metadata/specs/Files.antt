@@ -72,7 +72,7 @@ root_text k repository number root before = root_text_of k (root_signers reposit
 -- ---- Targets, Snapshot and Timestamp files, which are made together
 
 -- what the three files are made of: repository, keys, vehicle in the Director's, their version, the moment, and the targets
-pub record Making : Type 0 where
+pub record MetadataSet : Type 0 where
   pub repository : Repository
   pub keys : KeySet
   pub vehicle : Option Name
@@ -80,7 +80,7 @@ pub record Making : Type 0 where
   pub at : ℕ
   pub targets : List Target
 
-abbrev pub targets_file : Making → TargetsFile
+abbrev pub targets_file : MetadataSet → TargetsFile
 targets_file m = record {
   repository = m.repository;
   version = m.version;
@@ -89,10 +89,10 @@ targets_file m = record {
   targets = m.targets;
 }
 
-unfoldable pub targets_text : Rules → Making → List ℕ
+unfoldable pub targets_text : Rules → MetadataSet → List ℕ
 targets_text k m = targets_text_of k (keys_of m.repository m.keys).targets.keys (targets_file m)
 
-abbrev pub snapshot_file : Making → SnapshotFile
+abbrev pub snapshot_file : MetadataSet → SnapshotFile
 snapshot_file m = record {
   repository = m.repository;
   version = m.version;
@@ -101,11 +101,11 @@ snapshot_file m = record {
   targets_version = m.version;
 }
 
-unfoldable pub snapshot_text : Rules → Making → List ℕ
+unfoldable pub snapshot_text : Rules → MetadataSet → List ℕ
 snapshot_text k m = snapshot_text_of k (keys_of m.repository m.keys).snapshot.keys (snapshot_file m)
 
 -- it names the hash of the Snapshot file's text
-abbrev pub timestamp_file : Rules → Making → TimestampFile
+abbrev pub timestamp_file : Rules → MetadataSet → TimestampFile
 timestamp_file k m = record {
   repository = m.repository;
   version = m.version;
@@ -115,8 +115,8 @@ timestamp_file k m = record {
   snapshot_sha256 = sha256 (snapshot_text k m);
 }
 
-unfoldable pub timestamp_text : Rules → Making → List ℕ
+unfoldable pub timestamp_text : Rules → MetadataSet → List ℕ
 timestamp_text k m = timestamp_text_of k (keys_of m.repository m.keys).timestamp.keys (timestamp_file k m)
 
-abbrev pub role_texts : Rules → Making → RoleTexts
+abbrev pub role_texts : Rules → MetadataSet → RoleTexts
 role_texts k m = record { targets = targets_text k m; snapshot = snapshot_text k m; timestamp = timestamp_text k m }

@@ -14,7 +14,7 @@ use Rattle.up_roles.specs.Targets.{targets_payload}
 use Rattle.up_roles.specs.Timestamp.{timestamp_payload}
 use Rattle.up_metadata.specs.declared.keys.RoleSecrets.{RoleSecrets}
 use Rattle.up_metadata.specs.Keys.{repository_fits}
-use Rattle.up_metadata.specs.Files.{keys_of, Root, root_file, root_text, Making, targets_file, targets_text, snapshot_file, snapshot_text, timestamp_file, timestamp_text}
+use Rattle.up_metadata.specs.Files.{keys_of, Root, root_file, root_text, MetadataSet, targets_file, targets_text, snapshot_file, snapshot_text, timestamp_file, timestamp_text}
 
 -- the envelope is accepted under the role's keys and threshold
 abbrev pub IsAcceptedBy : Rules → Envelope → RoleSecrets → Type 0
@@ -39,11 +39,11 @@ abbrev pub RootFilesAreSigned : Type 0
 RootFilesAreSigned = (k : Rules) (repository : Repository) (number : ℕ) (root : Root) (before : Option Root) → IsScheme k → HasFittingKeys k repository root → IfSome before (HasFittingKeys k repository)
     → IsSignedFor k (root_role repository root ∷ option_to_list (option_map (root_role repository) before)) (root_payload (root_file k repository number root)) (root_text k repository number root before)
 
--- the three files of a making are signed for their roles
-pub record AreSignedFor (k : Rules) (m : Making) : Type 0 where
+-- the three files of a set are signed for their roles
+pub record AreSignedFor (k : Rules) (m : MetadataSet) : Type 0 where
   pub targets : IsSignedFor k ((keys_of m.repository m.keys).targets ∷ []) (targets_payload (targets_file m)) (targets_text k m)
   pub snapshot : IsSignedFor k ((keys_of m.repository m.keys).snapshot ∷ []) (snapshot_payload (snapshot_file m)) (snapshot_text k m)
   pub timestamp : IsSignedFor k ((keys_of m.repository m.keys).timestamp ∷ []) (timestamp_payload (timestamp_file k m)) (timestamp_text k m)
 
 abbrev pub RoleFilesAreSigned : Type 0
-RoleFilesAreSigned = (k : Rules) (m : Making) → IsScheme k → IsTrue (repository_fits k (keys_of m.repository m.keys)) → AreSignedFor k m
+RoleFilesAreSigned = (k : Rules) (m : MetadataSet) → IsScheme k → IsTrue (repository_fits k (keys_of m.repository m.keys)) → AreSignedFor k m

@@ -13,7 +13,7 @@ use Rattle.up_machine.specs.declared.command.Command.{Command}
 use Rattle.up_machine.specs.Deciding.{Outcome}
 use Rattle.up_machine.specs.Repeats.{serve}
 use Rattle.up_machine.specs.State.{State}
-use Rattle.up_desk.specs.Serving.{is_store, is_lost_by, is_lost}
+use Rattle.up_desk.specs.Serving.{is_store, is_fault, is_failed}
 use Rattle.up_desk.specs.Standing.{DeskView, Standing, HasCleanDisk}
 use Rattle.up_desk.specs.Calls.{ServesCall}
 use Rattle.up_script.specs.AskedLines.{asked_in}
@@ -23,36 +23,36 @@ use Rattle.up_heads.specs.Responses.{check_response_of, refusal_response_of}
 use Rattle.up_heads.specs.declared.check.Check.{Check}
 use Rattle.up_http.specs.declared.asked.What.{What}
 use Rattle.up_http.specs.declared.asked.What.TheVariants.{Fixed}
-use Rattle.up_service.specs.Answers.{answered_as, IsLost, IsAnswerOrLost, AnswersAs}
+use Rattle.up_service.specs.Answers.{answered_as, IsFailed, IsAnswerOrFailed, AnswersAs}
 use Rattle.up_service.specs.LineAnswers.{line_answer, answer_to, carried_out, command_answer, viewed, shown_in, shown_text, Sees, AnswersLine}
 use Rattle.up_service.specs.Responses.{answer_response, AnswersCall, IsResponseTo}
 
 -- ---- what says that memory or the database refused
 
-refused_by : (r : Refusal) → is_lost_by r ≡ true → (r ≡ Memory) ⊎ (r ≡ Store)
+refused_by : (r : Refusal) → is_fault r ≡ true → (r ≡ Memory) ⊎ (r ≡ Store)
 refused_by Memory h = inl refl
 refused_by Store h = inr refl
 refused_by other h = cc
 
-lost_refusal : (tell : Refusal → List ℕ) (r : Refusal) (t : List ℕ) → is_lost_by r ≡ true → t ≡ tell r → IsLost tell t
-lost_refusal tell r t h is = by_case (refused_by r h)
+failed_refusal : (tell : Refusal → List ℕ) (r : Refusal) (t : List ℕ) → is_fault r ≡ true → t ≡ tell r → IsFailed tell t
+failed_refusal tell r t h is = by_case (refused_by r h)
   where
-    by_case : (r ≡ Memory) ⊎ (r ≡ Store) → IsLost tell t
+    by_case : (r ≡ Memory) ⊎ (r ≡ Store) → IsFailed tell t
     by_case (inl same) = inl (is ∙ ap tell same)
     by_case (inr same) = inr (is ∙ ap tell same)
 
-lost_answer : (tell : Refusal → List ℕ) (tell_answer : Answer → List ℕ) → ((r : Refusal) → tell_answer (Refused r) ≡ tell r) → (a : Answer) (t : List ℕ) → is_lost a ≡ true → t ≡ tell_answer a → IsLost tell t
-lost_answer tell tell_answer same Done t h is = cc
-lost_answer tell tell_answer same Already t h is = cc
-lost_answer tell tell_answer same (Reply r) t h is = cc
-lost_answer tell tell_answer same (File f) t h is = cc
-lost_answer tell tell_answer same (Refused r) t h is = lost_refusal tell r t h (is ∙ same r)
+failed_answer : (tell : Refusal → List ℕ) (tell_answer : Answer → List ℕ) → ((r : Refusal) → tell_answer (Refused r) ≡ tell r) → (a : Answer) (t : List ℕ) → is_failed a ≡ true → t ≡ tell_answer a → IsFailed tell t
+failed_answer tell tell_answer same Done t h is = cc
+failed_answer tell tell_answer same Already t h is = cc
+failed_answer tell tell_answer same (Reply r) t h is = cc
+failed_answer tell tell_answer same (File f) t h is = cc
+failed_answer tell tell_answer same (Refused r) t h is = failed_refusal tell r t h (is ∙ same r)
 
 -- ---- commands
 
 by_loss : (tell : Refusal → List ℕ) (tell_answer : Answer → List ℕ) → ((r : Refusal) → tell_answer (Refused r) ≡ tell r) → (lost : Bool) (a : Answer) (old new : State) (o : Outcome) (t : List ℕ)
-    → is_lost a ≡ lost → MatchBool lost (new ≡ old) ((a ≡ o.answer) × (new ≡ o.next)) → t ≡ tell_answer a → IsAnswerOrLost tell (record { text = tell_answer o.answer; next = o.next }) old t new
-by_loss tell tell_answer same true a old new o t is h e = inr (lost_answer tell tell_answer same a t is e, h)
+    → is_failed a ≡ lost → MatchBool lost (new ≡ old) ((a ≡ o.answer) × (new ≡ o.next)) → t ≡ tell_answer a → IsAnswerOrFailed tell (record { text = tell_answer o.answer; next = o.next }) old t new
+by_loss tell tell_answer same true a old new o t is h e = inr (failed_answer tell tell_answer same a t is e, h)
 by_loss tell tell_answer same false a old new o t is h e = inl (e ∙ ap tell_answer h.0, h.1)
 
 -- what is told of what the desk answered a command
@@ -61,7 +61,7 @@ called : (tell : Refusal → List ℕ) (tell_answer : Answer → List ℕ) → (
     → t ≡ tell_answer a → AnswersAs tell (λ s. answered_as tell_answer k s at c) k t old new
 called tell tell_answer same k at c a t old new clean answered is = record {
   clean = clean;
-  answered = λ now s sound was. let it = answered now s sound was in (it.0, by_loss tell tell_answer same (is_lost a) a s it.0 (serve k s at c) t refl it.1 is, it.3, it.4);
+  answered = λ now s sound was. let it = answered now s sound was in (it.0, by_loss tell tell_answer same (is_failed a) a s it.0 (serve k s at c) t refl it.1 is, it.3, it.4);
 }
 
 -- as a line
@@ -83,11 +83,11 @@ pub refused_line : (k : Rules) (line : List ℕ) (r : Refusal) (t : List ℕ) (s
 unfolding line_answer
 refused_line k line r t s due is = record { clean = λ now. now; answered = λ now q sound was. (q, by_memory q (is_memory r) refl due, sound, was now) }
   where
-    memory_lost : is_memory r ≡ true → is_lost_by r ≡ true
-    memory_lost h = ap (λ b. b || is_store r) h
+    memory_failed : is_memory r ≡ true → is_fault r ≡ true
+    memory_failed h = ap (λ b. b || is_store r) h
 
-    by_memory : (q : State) (b : Bool) → is_memory r ≡ b → MatchBool b ⊤ (asked_in k line ≡ Err r) → IsAnswerOrLost refused_text (answer_to k q (asked_in k line)) q t q
-    by_memory q true same due = inr (lost_refusal refused_text r t (memory_lost same) is, refl)
+    by_memory : (q : State) (b : Bool) → is_memory r ≡ b → MatchBool b ⊤ (asked_in k line ≡ Err r) → IsAnswerOrFailed refused_text (answer_to k q (asked_in k line)) q t q
+    by_memory q true same due = inr (failed_refusal refused_text r t (memory_failed same) is, refl)
     by_memory q false same due = inl (is ∙ sym (ap (λ a. (answer_to k q a).text) due), sym (ap (λ a. (answer_to k q a).next) due))
 
 -- a line that asks this is answered as that is
@@ -96,7 +96,7 @@ pub asked_line : (k : Rules) (line : List ℕ) (asked : Asked) (t : List ℕ) (o
 unfolding line_answer
 asked_line k line asked t old new is h = record {
   clean = h.clean;
-  answered = λ now s sound was. let it = h.answered now s sound was in (it.0, subst (λ a. IsAnswerOrLost refused_text (answer_to k s a) s t it.0) (sym is) it.1, it.2, it.3);
+  answered = λ now s sound was. let it = h.answered now s sound was in (it.0, subst (λ a. IsAnswerOrFailed refused_text (answer_to k s a) s t it.0) (sym is) it.1, it.2, it.3);
 }
 
 -- a view is told, or its refusal
@@ -106,15 +106,15 @@ told_view k vehicle t old new sees = record {
   answered = λ now s sound was. let it = sees.seen now k s sound was in (s, inl (sym (ap shown_text it.0), refl), sound, it.1);
 }
 
-pub told_refusal : (k : Rules) (vehicle : Name) (r : Refusal) (t : List ℕ) (old new : Standing) → Sees (λ s. MatchBool (is_lost_by r) ⊤ (shown_in s vehicle ≡ Err r)) old new → t ≡ refused_text r
+pub told_refusal : (k : Rules) (vehicle : Name) (r : Refusal) (t : List ℕ) (old new : Standing) → Sees (λ s. MatchBool (is_fault r) ⊤ (shown_in s vehicle ≡ Err r)) old new → t ≡ refused_text r
     → AnswersLine (λ s. viewed s vehicle) k t old new
 told_refusal k vehicle r t old new sees is = record {
   clean = sees.clean;
-  answered = λ now s sound was. let it = sees.seen now k s sound was in (s, by_loss_of s (is_lost_by r) refl it.0, sound, it.1);
+  answered = λ now s sound was. let it = sees.seen now k s sound was in (s, by_loss_of s (is_fault r) refl it.0, sound, it.1);
 }
   where
-    by_loss_of : (s : State) (b : Bool) → is_lost_by r ≡ b → MatchBool b ⊤ (shown_in s vehicle ≡ Err r) → IsAnswerOrLost refused_text (viewed s vehicle) s t s
-    by_loss_of s true same due = inr (lost_refusal refused_text r t same is, refl)
+    by_loss_of : (s : State) (b : Bool) → is_fault r ≡ b → MatchBool b ⊤ (shown_in s vehicle ≡ Err r) → IsAnswerOrFailed refused_text (viewed s vehicle) s t s
+    by_loss_of s true same due = inr (failed_refusal refused_text r t same is, refl)
     by_loss_of s false same due = inl (is ∙ sym (ap shown_text due), refl)
 
 -- a fixed answer leaves the desk as it is

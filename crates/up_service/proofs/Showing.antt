@@ -24,7 +24,7 @@ use Rattle.up_machine.specs.Vehicles.{has_ecu, ecu_names}
 use Rattle.up_rows.specs.StateRows.{rows_of_state}
 use Rattle.up_tables.specs.declared.values.StoreFault.{StoreFault}
 use Rattle.up_tables.specs.declared.values.StoreFault.TheVariants as fault
-use Rattle.up_desk.specs.Serving.{is_lost_by, refusal_told}
+use Rattle.up_desk.specs.Serving.{is_fault, refusal_told}
 use Rattle.up_desk.specs.Standing.{Standing, HasCleanDisk, IfClean, KeepsState, Fits, Reads, Tells}
 use Rattle.up_script.specs.PrintedLines.{ecu_text, vehicle_text}
 use Rattle.up_service.specs.LineAnswers.{Sees, ecus_text, row_text, rows_text, line_of, shown_in, shown_with}
@@ -70,10 +70,10 @@ sees_weaker P Q old new first weaker = record {
 
 -- ---- what is shown
 
-pub fault_shown : (r : Refusal) (f : StoreFault) (computed : Result (List ℕ) Refusal) → r ≡ refusal_told f → MatchBool (is_lost_by r) ⊤ (computed ≡ Err r)
-fault_shown r f computed is = subst (λ q. MatchBool (is_lost_by q) ⊤ (computed ≡ Err q)) (sym is) (by_fault f)
+pub fault_shown : (r : Refusal) (f : StoreFault) (computed : Result (List ℕ) Refusal) → r ≡ refusal_told f → MatchBool (is_fault r) ⊤ (computed ≡ Err r)
+fault_shown r f computed is = subst (λ q. MatchBool (is_fault q) ⊤ (computed ≡ Err q)) (sym is) (by_fault f)
   where
-    by_fault : (f : StoreFault) → MatchBool (is_lost_by (refusal_told f)) ⊤ (computed ≡ Err (refusal_told f))
+    by_fault : (f : StoreFault) → MatchBool (is_fault (refusal_told f)) ⊤ (computed ≡ Err (refusal_told f))
     by_fault fault.Memory = tt
     by_fault fault.Store = tt
 

@@ -20,16 +20,16 @@ abbrev pub answered_as : (Answer → List ℕ) → Rules → State → ℕ → C
 answered_as tell k s at command = let o = serve k s at command in record { text = tell o.answer; next = o.next }
 
 -- the text tells, as refusals are told, that memory or the database refused
-abbrev pub IsLost : (Refusal → List ℕ) → List ℕ → Type 0
-IsLost tell text = (text ≡ tell Memory) ⊎ (text ≡ tell Store)
+abbrev pub IsFailed : (Refusal → List ℕ) → List ℕ → Type 0
+IsFailed tell text = (text ≡ tell Memory) ⊎ (text ≡ tell Store)
 
--- it is answered so, or it is lost: the text says so, and the state is as before
-abbrev pub IsAnswerOrLost : (Refusal → List ℕ) → Answered → State → List ℕ → State → Type 0
-IsAnswerOrLost tell a old text new = ((text ≡ a.text) × (new ≡ a.next)) ⊎ (IsLost tell text × (new ≡ old))
+-- it is answered so, or it failed: the text says so, and the state is as before
+abbrev pub IsAnswerOrFailed : (Refusal → List ℕ) → Answered → State → List ℕ → State → Type 0
+IsAnswerOrFailed tell a old text new = ((text ≡ a.text) × (new ≡ a.next)) ⊎ (IsFailed tell text × (new ≡ old))
 
 -- of each state that the tables show, over a disk that has returned what was written so far: the text is its answer or tells
--- that it is lost, and the tables show the next state
+-- that it failed, and the tables show the next state
 pub record AnswersAs (tell : Refusal → List ℕ) (answer : State → Answered) (k : Rules) (text : List ℕ) (old new : Standing) : Type 0 where
   pub clean : HasCleanDisk new → HasCleanDisk old
   pub answered : HasCleanDisk new → (s : State) → IsSound k s → IfClean (KeepsState k s) old
-      → (next : State) × IsAnswerOrLost tell (answer s) s text next × IsSound k next × KeepsState k next new
+      → (next : State) × IsAnswerOrFailed tell (answer s) s text next × IsSound k next × KeepsState k next new

@@ -13,7 +13,7 @@ use Rattle.up_machine.specs.declared.rows.VehicleRows.{VehicleRows}
 use Rattle.up_machine.specs.Reads.{ecus_of, version_of, installed, assigned_to}
 use Rattle.up_machine.specs.Sound.{IsSound}
 use Rattle.up_machine.specs.State.{State}
-use Rattle.up_desk.specs.Serving.{is_lost_by}
+use Rattle.up_desk.specs.Serving.{is_fault}
 use Rattle.up_desk.specs.Standing.{DeskView, Standing, HasCleanDisk, IfClean, KeepsState, state}
 use Rattle.up_script.specs.AskedLines.{asked_in}
 use Rattle.up_script.specs.PrintedLines.{answer_text, refused_text, vehicle_text, ecu_text}
@@ -53,7 +53,7 @@ shown_in s vehicle = do
 -- the line, or the refusal that is due, unless memory or the database refused
 abbrev pub GivesShown : {S : Type 0} → (S → List ℕ) → Result S Refusal → Result (List ℕ) Refusal → Type 0
 GivesShown bytes (Ok text) computed = computed ≡ Ok (bytes text)
-GivesShown bytes (Err r) computed = MatchBool (is_lost_by r) ⊤ (computed ≡ Err r)
+GivesShown bytes (Err r) computed = MatchBool (is_fault r) ⊤ (computed ≡ Err r)
 
 -- the text that is told of it
 abbrev pub shown_text : Result (List ℕ) Refusal → List ℕ

@@ -6,12 +6,12 @@ use Rattle.up_plan.specs.declared.campaign.Item.{Item}
 use Rattle.up_desk.specs.Gathered.{gathered, item_files}
 use Rattle.std.specs.FinMap as table
 use Rattle.up_desk.proofs.LookedUp.{images_known}
-use Rattle.up_desk.proofs.Steps.{gives_or_lost, lost_told}
+use Rattle.up_desk.proofs.Steps.{gives_or_fails, failed_told}
 use Rattle.up_desk.proofs.campaigns.decide_known.Goals as goal
 
 pub returns-in-Ok-clause-decided : goal.returns-in-Ok-clause-decided
 returns-in-Ok-clause-decided g c clean = λ k s founded old known was.
-    gives_or_lost (GivesDecision (λ (r : CampaignData). r ≡ c.args.campaign.now) s (with_campaign s c.args.campaign.now)) c.decide_open.result _ (λ r h. h)
+    gives_or_fails (GivesDecision (λ (r : CampaignData). r ≡ c.args.campaign.now) s (with_campaign s c.args.campaign.now)) c.decide_open.result _ (λ r h. h)
     (c.decide_open.ensures s founded old (record {
       of_vehicles = known;
       of_images = images_known s.images _ c.args.campaign.now.items (c.in-Ok.ensures.told clean k s was
@@ -19,4 +19,4 @@ returns-in-Ok-clause-decided g c clean = λ k s founded old known was.
     }))
 
 pub returns-in-Err-clause-decided : goal.returns-in-Err-clause-decided
-returns-in-Err-clause-decided g c = λ clean k s founded old known was. lost_told c.refusal_of.result c.in-Err.fault _ c.refusal_of.ensures
+returns-in-Err-clause-decided g c = λ clean k s founded old known was. failed_told c.refusal_of.result c.in-Err.fault _ c.refusal_of.ensures

@@ -5,7 +5,7 @@ use Rattle.up_canon.specs.declared.refusal.Refusal.TheVariants.{NotFounded}
 use Rattle.up_machine.specs.RowsFit.{rows_fit}
 use Rattle.up_machine.proofs.Senders.{no_founding, refused_first}
 use Rattle.up_desk.specs.Standing.{CanDecide, IsLoaded}
-use Rattle.up_desk.proofs.Steps.{following, lost_told, reads_none}
+use Rattle.up_desk.proofs.Steps.{following, failed_told, reads_none}
 use Rattle.up_desk.proofs.deliveries.decide.Goals as goal
 
 pub returns-in_default-clause-decided : goal.returns-in_default-clause-decided
@@ -25,7 +25,7 @@ returns-in-Ok g c = let it = following c.read_fitting_vehicle.ensures.reads c.de
     }
 
 pub returns-in-Err : goal.returns-in-Err
-returns-in-Err g c = record { decided = λ clean s sound loaded was. lost_told c.refusal_of.result c.in-Err.fault _ c.refusal_of.ensures; reads = c.read_fitting_vehicle.ensures.reads }
+returns-in-Err g c = record { decided = λ clean s sound loaded was. failed_told c.refusal_of.result c.in-Err.fault _ c.refusal_of.ensures; reads = c.read_fitting_vehicle.ensures.reads }
 
 pub decide_known-requires-clause-can : goal.decide_known-requires-clause-can
 decide_known-requires-clause-can g c = subst (λ o. IfSome o (CanDecide (g.K.Scheme.rules c.args.scheme.now))) (ap option_copied c.in-Some.is) c.requires.can

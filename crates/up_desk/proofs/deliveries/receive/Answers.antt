@@ -1,7 +1,7 @@
 use Rattle.std.proofs.Common.{sym, subst}
 use Rattle.std.specs.Prelude.{IfSome}
 use Rattle.up_desk.specs.Standing.{CanDecide, IsLoaded}
-use Rattle.up_desk.proofs.Steps.{after_reads, clean_before, keeps_after, lost_told, refused}
+use Rattle.up_desk.proofs.Steps.{after_reads, clean_before, keeps_after, failed_told, refused}
 use Rattle.up_desk.proofs.deliveries.receive.Goals as goal
 
 pub returns-in-Ok-clause-serves : goal.returns-in-Ok-clause-serves
@@ -16,7 +16,7 @@ returns-in-Ok-clause-fits g c = λ clean k s was fits. c.load.ensures.fits (c.re
 
 pub returns-in-Err-clause-serves : goal.returns-in-Err-clause-serves
 returns-in-Err-clause-serves g c = λ s sound was kept.
-    refused was c.load.ensures.reads (λ clean. lost_told c.refusal_of.result c.in-Err.fault _ c.refusal_of.ensures)
+    refused was c.load.ensures.reads (λ clean. failed_told c.refusal_of.result c.in-Err.fault _ c.refusal_of.ensures)
 
 pub receive_loaded-requires-clause-can : goal.receive_loaded-requires-clause-can
 receive_loaded-requires-clause-can g c = subst (λ o. IfSome o (CanDecide (g.K.Scheme.rules c.args.scheme.now))) (sym c.as_ref.ensures.value) c.load.ensures.can

@@ -1,5 +1,5 @@
 use Rattle.std.proofs.Common.{◌∙◌}
-use Rattle.up_desk.proofs.Steps.{following, lost_told}
+use Rattle.up_desk.proofs.Steps.{following, failed_told}
 use Rattle.up_desk.proofs.replacements.decide_founded.Goals as goal
 
 pub returns-in-Ok : goal.returns-in-Ok
@@ -7,4 +7,4 @@ returns-in-Ok g c = let it = following c.read_vehicle.ensures.reads c.decide_in.
     record { decided = λ clean s sound founded was. c.decide_in.ensures.decided clean s sound founded (c.as_ref.ensures.value ∙ c.in-Ok.ensures.told (it.clean clean) (g.K.Scheme.rules c.args.scheme.now) s was) (it.keeps (g.K.Scheme.rules c.args.scheme.now) s was); reads = it.reads }
 
 pub returns-in-Err : goal.returns-in-Err
-returns-in-Err g c = record { decided = λ clean s sound founded was. lost_told c.refusal_of.result c.in-Err.fault _ c.refusal_of.ensures; reads = c.read_vehicle.ensures.reads }
+returns-in-Err g c = record { decided = λ clean s sound founded was. failed_told c.refusal_of.result c.in-Err.fault _ c.refusal_of.ensures; reads = c.read_vehicle.ensures.reads }
