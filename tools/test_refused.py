@@ -323,6 +323,16 @@ class Hashes(OnATree):
                     self.turn("crates/low/src/counts.rt", "[3, 5]", "[3, 4]")
                     self.assertEqual(now(), ["low", "up"])
 
+    def test_a_constant_below_that_its_crate_alone_may_name_is_read_above_where_it_is_named(self):
+        self.more("pub(crate) const MOST: u64 = 4;")
+        now = self.changed()
+        self.turn("crates/low/src/counts.rt", "MOST: u64 = 4", "MOST: u64 = 5")
+        self.assertEqual(now(), ["low"])
+        self.more("pub const fn most() -> u64 {\n    MOST\n}")
+        now = self.changed()
+        self.turn("crates/low/src/counts.rt", "MOST: u64 = 5", "MOST: u64 = 6")
+        self.assertEqual(now(), ["low", "up"])
+
     def test_how_a_function_below_is_proved_is_not_read_above(self):
         self.above("use low::counts::same;")
         now = self.changed()
@@ -392,11 +402,39 @@ impl Counted for Held {
                 self.write("crates/low/src/third.rt", "//! The third.\nuse crate::counts::same;\n\npub fn third() -> u64 {\n    same(3)\n}\n")
                 self.assertEqual(now(), ["low"])
                 self.more("pub struct Third;", "crates/low/src/third.rt")
-                self.assertEqual(now(), ["low", "up"])
+                self.assertEqual(now(), ["low", "up"] if "pub" in line else ["low"])
         self.above("use low::third::third;")
         now = self.changed()
         self.turn("crates/low/src/lib.rt", "pub mod third;", "mod third;")
         self.assertEqual(now(), ["low", "up"])
+
+    def test_a_file_of_a_private_module_below_is_read_above_where_something_leads_to_it(self):
+        third = "pub(crate) struct Third { a: u8 }\n\nimpl Third {\n    pub fn a(&self) -> u8 {\n        3\n    }\n}\n\nimpl From<u8> for Third {}\n\npub(crate) const MOST: u8 = 4;\n"
+        declared = "Rattle.low.specs.declared"
+        leads = [
+            ("crates/low/src/held.rt", "use crate::third::Third;\n\npub struct Held { pub a: Third }\n"),
+            ("crates/low/src/held.rt", "pub struct Held { pub a: crate::third::Third }\n"),
+            ("crates/low/src/third.rt", f"{third}\nimpl<'a> From<&'a Third> for crate::counts::Held {{}}\n"),
+            ("crates/low/src/third.rt", f"{third}\nimpl<T> Held<T> {{}}\n"),
+            ("crates/low/src/third.rt", f"{third}\nmacro_rules! third {{ () => {{}} }}\n"),
+            ("crates/low/specs/Numbers.antt", f"use {declared}.third.Third.{{Third}}\n" + TREE["crates/low/specs/Numbers.antt"]),
+            ("crates/up/specs/Lib.antt", f"use {declared}.third.Third.{{Third}}\n"),
+            ("crates/up/specs/Lib.antt", f"use {declared}.{{third}}\n"),
+            ("crates/up/src/more.rt", f"ghost use {declared}.third as third;\n"),
+            ("crates/up/src/more.rt", "#[tactic(auto, unfolding(low::specs::declared::third::Third))]\nfn other() {}\n"),
+        ]
+        for path, text in leads:
+            with self.subTest(text):
+                self.setUp()
+                now = self.changed()
+                self.more("mod third;", "crates/low/src/lib.rt")
+                self.write("crates/low/src/third.rt", third)
+                self.turn("crates/low/src/third.rt", "struct Third { a: u8 }", "struct Third { a: u16 }")
+                self.assertEqual(now(), ["low"])
+                self.write(path, text)
+                now = self.changed()
+                self.turn("crates/low/src/third.rt", "struct Third {", "struct Third { b: u8,")
+                self.assertEqual(now(), ["low", "up"])
 
     def test_a_file_of_definitions_below_is_read_above_where_something_leads_to_it(self):
         more = "use Rattle.std.specs.Prelude.{ℕ}\n\nabbrev pub more : ℕ\nmore = 4\n"

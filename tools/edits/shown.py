@@ -20,6 +20,8 @@ statements. Of that the proof of a function reads what its own text leads to. So
 - **A file of specs/ or proofs/**, with its line in Lib.antt, where nothing that is in has its path, `Rattle.CRATE.specs.FILE`: antt reads no name of
   another file without. A path that ends before the file's name takes in all files. What rattle makes, `declared` and `contracts`, is made of src/.
   The files Invariants, Answers and Proof belong to one function, and no crate above can name what they hold.
+- **A file of a private module**, `mod x;` in lib.rt, whose `impl`s are all of types that it declares, where `x` is no word of what is in of its crate,
+  and no path in antt has it behind `declared` or `contracts`: what stands in it has no name that doesn't begin with `x`.
 - **The bodies** of functions, and attributes `#[tactic(..)]`, which say how to prove them: rattle hands over neither. The bodies of `const fn` and of
   traits' defaults stay.
 
@@ -55,11 +57,13 @@ to_digit union unit unknown_key unknown_variant value_name variant_key with writ
 """.split()
 
 # A part of a file that is shown: what the hash has of it, when it is in and by which name, the marks of its words, which a `use` of its file may
-# bring, the words that may name a function or a module, those that may name a constant, and the paths of antt that stand in it.
-Part = collections.namedtuple("Part", "said when name marks names words paths", defaults=[ALWAYS, None, *[frozenset()] * 4])
+# bring, the words that may name a function or a module, those that may name a constant, the paths of antt that stand in it, and the modules that
+# paths of antt name behind `declared` or `contracts`.
+Part = collections.namedtuple("Part", "said when name marks names words paths modules", defaults=[ALWAYS, None, *[frozenset()] * 5])
 
-# What a crate shows: the parts of each of its files, by path, and the words of antt that may name functions.
-Shown = collections.namedtuple("Shown", "files cites")
+# What a crate shows: the parts of each of its files, by path, the words of antt that may name functions, and of each file that a private module closes
+# off, by path, the module's name.
+Shown = collections.namedtuple("Shown", "files cites closed")
 
 
 def files_in(folder, parts):
@@ -70,11 +74,16 @@ def files_in(folder, parts):
 def shown_by(crates):
     """Returns what each of these crates shows, by name."""
     read = [(name, it) for name in crates for it in files_in(crates[name].folder, rtlib.PARTS) if os.path.basename(it) not in OF_A_FUNCTION]
-    tokens, shown = tokens_of([f"{crates[name].folder}/{path}" for name, path in read]), {it: Shown({}, set()) for it in crates}
+    tokens, shown = tokens_of([f"{crates[name].folder}/{path}" for name, path in read]), {it: Shown({}, set(), {}) for it in crates}
     if tokens is None:
         raise SystemExit("refused: rattle can't read a text of a crate below")
     for (name, path), rows in zip(read, tokens):
         shown[name].files[path] = _parts(name, path, rows, Path(crates[name].folder, path).read_bytes())
+    private = {(name, it) for (name, path), rows in zip(read, tokens) if path == "src/lib.rt" for it in _private_modules(rows)}
+    for (name, path), rows in zip(read, tokens):
+        module = path.removeprefix("src/").removesuffix(".rt")
+        if (name, module) in private and _is_closed(rows):
+            shown[name].closed[path] = module
     for name, here in shown.items():
         antt = words_of("\n".join({it.word for (crate, _), rows in zip(read, tokens) if crate == name for it in rows if it.kind == "Antt"}))
         here.cites.update(antt if "contracts" in antt else ())
@@ -88,10 +97,14 @@ def reached(texts, shown):
     words = words_of("\n".join(lines))
     cites = set().union(*(it.cites for it in shown.values()), words if "contracts" in words else ())
     words, own, named = words | cites, {it: {*cites} for it in shown}, words | cites
+    modules, within_crate = set().union(*map(modules_in, texts)), {it: {*cites} for it in shown}
     marks, within = collections.defaultdict(set), collections.defaultdict(set)
     out = [(crate, path, at) for crate, it in shown.items() for path in it.files for at in range(len(it.files[path]))]
 
     def is_in(crate, path, part):
+        module = shown[crate].closed.get(path)
+        if module and module not in within_crate[crate] and modules.isdisjoint(((crate, module), (crate, "*"), ("*", "*"))):
+            return False
         if part.when in (SPECS, PROOFS):
             of = "specs" if part.when == SPECS else "proofs"
             return not paths.isdisjoint((ALL, (crate, "*", "*"), (crate, of, "*"), (crate, of, part.name)))
@@ -110,6 +123,8 @@ def reached(texts, shown):
             within[crate, path].add(at)
             words |= part.names
             own[crate] |= part.names
+            within_crate[crate] |= part.names | part.words
+            modules |= part.modules
             paths |= part.paths
             marks[crate, path] |= part.marks
             named |= part.words
@@ -138,6 +153,15 @@ def paths_in(text, crate=None):
     return {*found}
 
 
+def modules_in(text):
+    """Returns the modules of src/ that paths of antt in a text name, each with its crate: behind `declared` or `contracts`, which rattle makes of src/.
+    `*` where a path ends before, or where code names such a file."""
+    paths = [it.split(".")[1:5] for it in PATH.findall(text.replace("«", "").replace("»", ""))]
+    of_code = [it for it in paths_in(text) if it[2] in ("declared", "contracts") and [*it] not in [its[:3] for its in paths]]
+    found = {(*it, "*", "*", "*", "*")[:4] for it in paths} | {(*it, "*") for it in of_code}
+    return {(crate, module) for crate, part, file, module in found if part in ("*", "specs") and file in ("*", "declared", "contracts")}
+
+
 def marks_of(word):
     """Returns the marks that tell a word: the runs of letters in it, and each other sign, less the places of arguments."""
     return {*re.findall(r"\w+|[^\w\s◌.«»]", word)}
@@ -157,14 +181,14 @@ def _parts(crate, path, rows, text):
     if path.endswith(".rt"):
         return _parts_of_code(crate, rows, lines)
     said, (of, _, file) = "\n".join(lines.values()), path.partition("/")
-    when, paths = SPECS if of == "specs" else PROOFS, paths_in(said)
+    when, paths, modules = SPECS if of == "specs" else PROOFS, paths_in(said), modules_in(said)
     if file != "Lib.antt":
-        return [Part(said, when, file.split("/")[0].removesuffix(".antt"), words=words_of(said), paths=paths)]
-    modules = re.findall(r"mod (\S+) (?:pub )?", " ".join([*(it.word for it in rows), ""]))
-    if modules == [it.word for it in rows if it.word not in ("pub", "mod")]:
-        return [Part(f"mod {it}", when, it.strip("«»")) for it in modules]
+        return [Part(said, when, file.split("/")[0].removesuffix(".antt"), words=words_of(said), paths=paths, modules=modules)]
+    files = re.findall(r"mod (\S+) (?:pub )?", " ".join([*(it.word for it in rows), ""]))
+    if files == [it.word for it in rows if it.word not in ("pub", "mod")]:
+        return [Part(f"mod {it}", when, it.strip("«»")) for it in files]
     # (it holds more, and may name each file by its bare name)
-    return [Part(said, words=words_of(said), paths={*paths, (crate, of, "*")})]
+    return [Part(said, words=words_of(said), paths={*paths, (crate, of, "*")}, modules=modules)]
 
 
 def _parts_of_code(crate, rows, lines):
@@ -176,7 +200,7 @@ def _parts_of_code(crate, rows, lines):
         names = set().union(*map(words_of, {word for before, word in zip(["", *code], code) if before != "fn"}))
         # (a sign of code is none that a `ghost use` brings)
         marks = set().union(*map(words_of, {*code}), *map(marks_of, {it.word for it in tokens if it.kind != "Code"}))
-        return Part(said, when, name, marks, names, marks, paths_in(said, crate))
+        return Part(said, when, name, marks, names, marks, paths_in(said, crate), modules_in(said))
 
     functions = functions_of(rows)
     cuts = _joined([*_tactics(rows), *((it.opens, it.closes, None) for it in functions if not it.is_read_above)])
@@ -188,11 +212,11 @@ def _parts_of_code(crate, rows, lines):
         tokens = kept[bisect.bisect_left(places, it.begins) : bisect.bisect_right(places, it.closes)]
         regions.append((it.begins, it.closes + 1, [part(tokens, PRIVATE if it.is_private else NAMED, it.name)]))
     for tokens in _items([*_outside(kept, regions)]):
-        kind, name = [it.word for it in tokens if it.word != "pub"][:2]
+        kind, name = [it.word for it in tokens[_visible(tokens, 0) :]][:2]
         if kind == "const":
             made = [part(tokens, CONSTANT, name)]
         elif kind == "mod":
-            made = [Part(f"pub mod {name}", NAMED, name)] if tokens[0].word == "pub" else []
+            made = [Part(f"pub mod {name}", NAMED, name)] if _visible(tokens, 0) == 1 else []
         else:
             stays = shows_code or kind == "use" and "mod" in code
             made = (not stays and _brought(tokens, kind == "ghost")) or [part(tokens)]
@@ -249,12 +273,42 @@ def _has_macro(words):
     return any(sign == "!" and re.fullmatch(r"\w+", before) and (after in "({[" or before == "macro_rules") for before, sign, after in threes)
 
 
+def _private_modules(rows):
+    """Yields the name of each module that a file declares by `mod x;`, and not by `pub mod x;`."""
+    words = ["", *(it.word for it in rows if it.kind == "Code")]
+    for before, word, name, end in zip(words, words[1:], words[2:], words[3:]):
+        if word == "mod" and end == ";" and before not in ("pub", ")"):
+            yield name
+
+
+def _is_closed(rows):
+    """Returns whether a file declares no macro and no module, brings nothing by `pub use`, and has no `impl` but of types that it declares."""
+    words = [it.word for it in rows if it.kind == "Code"]
+    declared = {name for word, name in zip(words, words[1:]) if word in ("struct", "enum", "union")}
+    if {"macro_rules", "mod", "extern"} & {*words} or ("pub", "use") in zip(words, words[1:]):
+        return False
+    for at, word in enumerate(words):
+        if word != "impl" or (at and words[at - 1] in "(<,:&>=+"):
+            continue
+        head = words[at + 1 : next((it for it in range(at, len(words)) if words[it] in ("{", "where")), len(words))]
+        depth, of = 0, []
+        for it in head:
+            depth += (it == "<") - (it == ">")
+            if it == "for" and not depth:
+                of = []
+            elif not depth and it != ">":
+                of.append(it)
+        if not of or of[0] not in declared:
+            return False
+    return True
+
+
 def _items(rows):
     """Yields the tokens of each `use`, `ghost use` and `mod` line in a file of src/, and of each constant of a module, that has no attribute."""
     at, depth, is_start = 0, 0, True
     while at < len(rows):
         words = [it.word for it in rows[at : at + 4]]
-        bare = words[words[0] == "pub" :]
+        bare = [it.word for it in rows[at + _visible(rows, at) :][:4]]
         is_use = words[0] == "use" or words[:2] == ["ghost", "use"]
         is_constant = depth == 0 and bare[:1] == ["const"] and bare[1:2] != ["_"] and bare[2:3] == [":"]
         if rows[at].kind == "Code" and words[:3] == ["#", "!", "["]:
@@ -267,6 +321,12 @@ def _items(rows):
             word = words[0] if rows[at].kind == "Code" else "-"
             depth += (word == "{") - (word == "}")
             at, is_start = at + 1, word in "{};"
+
+
+def _visible(rows, at):
+    """Returns how many tokens say at `at` who sees an item: `pub`, or `pub(crate)` and the like."""
+    words = [it.word for it in rows[at : at + 2]]
+    return 0 if words[:1] != ["pub"] else 1 if words[1:] != ["("] else closing([it.word for it in rows[at:]], 1) + 1
 
 
 def _end(rows, at):
@@ -291,7 +351,7 @@ def _brought(tokens, is_ghost):
         said = f"{'ghost use' if is_ghost else 'use'} {('.' if is_ghost else '::').join(path)} as {name}"
         # (of the path the first name alone may be one that another `use` of the file brings)
         names = set() if is_ghost else {word for it in path for word in words_of(it)}
-        parts.append(Part(said, BROUGHT, marks_of(name), marks_of(path[0].split(".")[0]), names, words_of(said), paths_in(said)))
+        parts.append(Part(said, BROUGHT, marks_of(name), marks_of(path[0].split(".")[0]), names, words_of(said), paths_in(said), modules_in(said)))
     return parts
 
 
