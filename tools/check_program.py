@@ -3,8 +3,9 @@
 
     check_program.py PROGRAM [WORD]
 
-Random scripts and requests are those of a hundred seeds, random bodies of ten. Each tool has fifteen minutes, many times what it takes on a machine with nothing else to do.
-Where there is a WORD it draws a part of the sweeps of `tools/sweeps.py`, some ten seconds of each kind; they need a C compiler.
+Random scripts and requests are those of a hundred seeds, random bodies of ten. Each tool has fifteen minutes, many times what it
+takes on a machine with nothing else to do. Where there is a WORD it draws a part of the sweeps of `tools/sweeps.py`, some ten
+seconds of each kind; they need a C compiler.
 """
 import os
 import re

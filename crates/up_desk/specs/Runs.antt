@@ -20,7 +20,7 @@ use Rattle.up_desk.specs.Serving.{HoldsState, IsCommit, is_failed, outright, Rep
 abbrev pub timed : ℕ × Command → Timed
 timed c = record { at = c.0; command = c.1 }
 
--- each command with whether it counts as lost, since it failed, which its answer tells
+-- each command, which counts as lost where its answer tells that it failed
 abbrev pub sent : List (ℕ × Command) → List Answer → List Sent
 sent [] answers = []
 sent (c ∷ cs) [] = []

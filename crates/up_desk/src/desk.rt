@@ -111,10 +111,10 @@ impl<K: Scheme, D: Alter> Desk<K, D> {
     }
 
     /// Answers commands one after another, each with its moment, and appends one answer for each: where some commands are
-    /// repeated or lost (never come, or answered `Refused(Memory)` or `Refused(Store)`), the state is the plain machine's after the list
-    /// without them, and each other answer is the expected one; each kept reply stays. Only a fault of the disk shuts the
-    /// connection. A crash leaves what it could leave before, or the state after some of the first commands; where the last
-    /// commit was answered, the state after all of them. An error means that nothing was done.
+    /// repeats or fail (are answered `Refused(Memory)` or `Refused(Store)`), the state is the plain machine's after the list
+    /// without these, and each command that didn't fail has the expected answer; each kept reply stays. Only a fault of the
+    /// disk shuts the connection. A crash leaves what it could leave before, or the state after some of the first commands;
+    /// where the last commit was answered, the state after all of them. An error means that nothing was done.
     pub fn run(
         &mut self,
         alloc: Global,
