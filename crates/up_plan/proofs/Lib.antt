@@ -1,11 +1,12 @@
 pub mod Above
 pub mod BestOffers
+pub mod ByFile
 pub mod Causes
 pub mod Due
 pub mod FirstUnmet
 pub mod Firsts
 pub mod Greatest
-pub mod Items
+pub mod Offering
 pub mod Members
 pub mod Orders
 pub mod OtherImages

@@ -4,6 +4,7 @@
 pub mod assigned;
 pub mod campaign;
 pub mod image;
+pub mod items;
 pub mod laws;
 mod offers;
 pub mod plan;

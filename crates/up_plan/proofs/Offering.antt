@@ -1,6 +1,7 @@
 -- Images of files, and what items offer, one after another.
 use Rattle.std.proofs.Common.{◌≡◌, ℕ, ◌+◌, ◌<◌, List, [], ◌∷◌, ◌++◌, Bool, true, false, cond, length, get_or, take, map, refl, ap, sym, ◌∙◌, bytes_eq, nat_cmp}
-use Rattle.std.specs.Prelude.{Some, None, filter, option_copied}
+use Rattle.std.specs.Prelude.{Option, Some, None, filter, option_copied}
+use Rattle.std.specs.List.{filter_map}
 use Rattle.std.specs.BTreeMap.{BTreeMap, get_by}
 use Rattle.std.specs.Cmp.Lexicographic.{slice_cmp, bytes_decides}
 use Rattle.std.specs.Map.{update}
@@ -8,7 +9,7 @@ use Rattle.std.proofs.lemmas.List.{take_more, map-append, append-nil}
 use Rattle.std.proofs.lemmas.List.Elements.{filter_map-append}
 use Rattle.up_canon.specs.Names.{Name}
 use Rattle.up_plan.specs.Images.{ImageData}
-use Rattle.up_plan.specs.Offers.{OfferData, greatest_of_file, offer_of, offers_of}
+use Rattle.up_plan.specs.Offers.{OfferData, greatest_of_file}
 use Rattle.up_plan.specs.Planning.{greatest, greater}
 use Rattle.up_plan.specs.declared.campaign.Item.{Item}
 use Rattle.up_plan.proofs.Greatest.{greatest_more, filter_more, filter_less}
@@ -37,11 +38,10 @@ module _ (files new : BTreeMap (Bor Name) (Bor ImageData)) (images : List ImageD
       ap option_copied (put ∙ ap (λ n. cond (bytes_eq n q) (Some best) (get_by (λ k. slice_cmp nat_cmp q k.now) files)) named)
       ∙ by_test q (bytes_eq x.file q) refl (is ∙ ap (λ n. greater (option_copied (get_by (λ k. slice_cmp nat_cmp n k.now) files)) x) named)
 
--- one more item
-module _ (images : List ImageData) (items : List (Bor Item)) (i : ℕ) (x : Bor Item) (h : i < length items) (at : x ≡ get_or items i x) where
-  pub offers_more : (o : OfferData) → offer_of images x.now ≡ Some o
-      → offers_of images (map (λ j. j.now) (take (i + 1) items)) ≡ offers_of images (map (λ j. j.now) (take i items)) ++ o ∷ []
+-- one more item, of whichever way an item offers
+module _ (f : Item → Option OfferData) (items : List (Bor Item)) (i : ℕ) (x : Bor Item) (h : i < length items) (at : x ≡ get_or items i x) where
+  pub offers_more : (o : OfferData) → f x.now ≡ Some o → filter_map f (map (λ j. j.now) (take (i + 1) items)) ≡ filter_map f (map (λ j. j.now) (take i items)) ++ o ∷ []
   offers_more o e = rw (take_more items i x h, ← at, map-append, filter_map-append, e) refl
 
-  pub offers_less : offer_of images x.now ≡ None → offers_of images (map (λ j. j.now) (take (i + 1) items)) ≡ offers_of images (map (λ j. j.now) (take i items))
+  pub offers_less : f x.now ≡ None → filter_map f (map (λ j. j.now) (take (i + 1) items)) ≡ filter_map f (map (λ j. j.now) (take i items))
   offers_less e = rw (take_more items i x h, ← at, map-append, filter_map-append, e, append-nil) refl
