@@ -25,7 +25,6 @@ ghost use Rattle.up_desk.specs.Standing.{CanDecide, Fits, IsLoaded, StaysLoaded}
 
 use crate::catalog::{Catalog, load};
 use crate::faults::{refusal_of, replied};
-use crate::planned::images_for;
 use crate::reads::read_fitting_vehicle;
 use sqlite::Alter;
 use std::alloc::Global;
@@ -40,6 +39,7 @@ use up_machine::rows::VehicleRows;
 use up_machine::sender::{Sender, decide_sender, is_later};
 use up_manifest::manifest::Incoming;
 use up_manifest::manifest_read::read_manifest;
+use up_plan::items::items_for;
 use up_rows::laws::{ecus_tell_their_hash, manifests_are_added, rows_are_found};
 use up_sign::scheme::Scheme;
 use up_store::store::Store;
@@ -237,7 +237,8 @@ fn decide_earlier<D: Alter>(
     }
 }
 
-/// Of a manifest whose counter is above the last: what is new, by the running campaigns and the images.
+/// Of a manifest whose counter is above the last: what is new, by the items that the running campaigns have for its vehicle and
+/// by the images, which are looked up and not copied.
 fn decide_later<K: Scheme>(
     catalog: &Catalog,
     alloc: Global,
@@ -254,16 +255,16 @@ fn decide_later<K: Scheme>(
     ensures { (s : State) → IsSound (K.rules scheme.now) s → IsSent (K.rules scheme.now) s incoming.now catalog.now sender.now
         → GivesDelivered (K.rules scheme.now) s incoming.now.manifest.vehicle result (decide_incoming (K.rules scheme.now) s at incoming.now) }
 {
-    let (hashed, campaigns) = (&catalog.hashed, catalog.campaigns.values());
-    let (vehicle, reports) = (&incoming.manifest.vehicle, &incoming.manifest.reports);
-    let images = images_for(
-        alloc,
-        &catalog.images,
-        campaigns,
-        vehicle,
-        reports.as_slice(),
-    )?;
+    let campaigns = catalog.campaigns.values();
+    let items = items_for(alloc, campaigns, &incoming.manifest.vehicle)?;
     decide_new(
-        alloc, scheme, at, incoming, sender, hashed, &images, campaigns,
+        alloc,
+        scheme,
+        at,
+        incoming,
+        sender,
+        &catalog.hashed,
+        &catalog.images,
+        items.as_slice(),
     )
 }
