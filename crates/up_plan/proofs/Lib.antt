@@ -12,4 +12,6 @@ pub mod Orders
 pub mod OtherImages
 pub mod Parts
 pub mod PlanLaws
+pub mod Ranges
+pub mod Reaching
 pub mod Updates

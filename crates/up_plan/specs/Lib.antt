@@ -5,3 +5,4 @@ pub mod Offers
 pub mod ByOffers
 pub mod ByFile
 pub mod Laws
+pub mod Running

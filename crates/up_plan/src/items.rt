@@ -23,7 +23,7 @@ pub fn items_for<'a>(
     Ok(items)
 }
 
-fn push_items<'a>(items: &mut Vec<&'a Item>, more: &'a [Item]) -> Result<(), AllocError>
+pub(crate) fn push_items<'a>(items: &mut Vec<&'a Item>, more: &'a [Item]) -> Result<(), AllocError>
     ensures { IfOk result (λ _. map (λ i. i.now) items.new.items ≡ map (λ i. i.now) items.old.items ++ more.now) }
 {
     for item in more {

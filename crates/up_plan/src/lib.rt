@@ -9,5 +9,6 @@ pub mod laws;
 mod offers;
 pub mod plan;
 mod resulting;
+pub mod running;
 mod unmet;
 mod wanted;
