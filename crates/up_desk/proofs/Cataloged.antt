@@ -12,7 +12,8 @@ use Rattle.up_manifest.specs.declared.manifest.Manifest.{Manifest}
 use Rattle.up_plan.specs.declared.campaign.Item.{Item}
 use Rattle.up_plan.specs.Campaigns.{CampaignData}
 use Rattle.up_plan.specs.Images.{ImageData}
-use Rattle.up_plan.specs.Planning.{is_offered, items_for, reaches}
+use Rattle.up_plan.specs.Offers.{OffersSame}
+use Rattle.up_plan.specs.Planning.{items_for, reaches}
 use Rattle.up_machine.specs.declared.answer.Answer.{Answer}
 use Rattle.up_machine.specs.declared.command.Command.{Command}
 use Rattle.up_machine.specs.declared.command.Command.TheVariants.{Found, Rotate, AddImage, Refresh, AddVehicle, ReplaceEcu, OpenCampaign, CloseCampaign, Deliver, Fetch}
@@ -147,20 +148,20 @@ items_run campaigns vehicle =
     ap (λ cs. items_for cs vehicle) (values_are campaigns)
     ∙ ap (flat_map (λ (c : CampaignData). c.items)) (ran_again (λ c. reaches vehicle c.reach) (table.values campaigns))
 
-same_at : (images : Table ImageData) (files : List Name) → AllByRecursion (λ file. table.get images file ≡ table.get images file) files
-same_at images [] = tt
-same_at images (file ∷ files) = (refl, same_at images files)
+-- at each file a table has what it has
+alike : {X : Type 0} (t : Table X) (files : List Name) → AllByRecursion (λ file. table.get t file ≡ table.get t file) files
+alike t [] = tt
+alike t (file ∷ files) = (refl, alike t files)
 
--- all images, and the items that the running campaigns have for the vehicle, are what a plan needs
-pub are_planned : (k : Rules) (s : State) (manifest : Manifest) (c : Catalog) (items : List Item) → IsSound k s → IsOf s c
-    → items ≡ items_for (table.values c.campaigns) manifest.vehicle → ArePlanned s manifest c.images items
-are_planned k s manifest c items sound is found =
+-- all images, and items that offer what those for the vehicle offer, are what a plan needs
+pub are_planned : (k : Rules) (s : State) (manifest : Manifest) (c : Catalog) (items : List Item) → IsSound k s → IsOf s c → OffersSame items (items_for (table.values c.campaigns) manifest.vehicle)
+    → ArePlanned s manifest c.images items
+are_planned k s manifest c items sound is same =
     let files = files_named (table.values s.campaigns) manifest.vehicle manifest.reports in
-    let all : AreImagesOf files s.images s.images = record { named = λ file image there. (sound.repositories.each_image file image there).named; same = same_at s.images files } in
-    let same = found ∙ ap (λ (t : Table CampaignData). items_for (table.values t) manifest.vehicle) is.campaigns ∙ items_run s.campaigns manifest.vehicle in
+    let whole : AreImagesOf files s.images s.images = record { named = λ file image found. (sound.repositories.each_image file image found).named; same = alike s.images files } in
     record {
-      images_are = subst (λ (t : Table ImageData). AreImagesOf files t s.images) (sym is.images) all;
-      items_are = λ hardware image. ap (λ (is : List Item). is_offered is hardware image) same;
+      images_are = subst (λ (t : Table ImageData). AreImagesOf files t s.images) (sym is.images) whole;
+      items_are = subst (OffersSame items) (ap (λ (t : Table CampaignData). items_for (table.values t) manifest.vehicle) is.campaigns ∙ items_run s.campaigns manifest.vehicle) same;
     }
 
 -- ---- what is loaded

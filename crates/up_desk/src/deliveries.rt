@@ -39,7 +39,6 @@ use up_machine::rows::VehicleRows;
 use up_machine::sender::{Sender, decide_sender, is_later};
 use up_manifest::manifest::Incoming;
 use up_manifest::manifest_read::read_manifest;
-use up_plan::items::items_for;
 use up_rows::laws::{ecus_tell_their_hash, manifests_are_added, rows_are_found};
 use up_sign::scheme::Scheme;
 use up_store::store::Store;
@@ -237,8 +236,7 @@ fn decide_earlier<D: Alter>(
     }
 }
 
-/// Of a manifest whose counter is above the last: what is new, by the items that the running campaigns have for its vehicle and
-/// by the images, which are looked up and not copied.
+/// Of a manifest whose counter is above the last: what is new, by the running campaigns that reach its vehicle, and the images.
 fn decide_later<K: Scheme>(
     catalog: &Catalog,
     alloc: Global,
@@ -255,8 +253,9 @@ fn decide_later<K: Scheme>(
     ensures { (s : State) → IsSound (K.rules scheme.now) s → IsSent (K.rules scheme.now) s incoming.now catalog.now sender.now
         → GivesDelivered (K.rules scheme.now) s incoming.now.manifest.vehicle result (decide_incoming (K.rules scheme.now) s at incoming.now) }
 {
-    let campaigns = catalog.campaigns.values();
-    let items = items_for(alloc, campaigns, &incoming.manifest.vehicle)?;
+    let items = catalog
+        .campaigns
+        .items_for(alloc, &incoming.manifest.vehicle)?;
     decide_new(
         alloc,
         scheme,

@@ -19,10 +19,10 @@ use std::marker::Model;
 use up_canon::ident::Ident;
 use up_canon::table::Table;
 
-/// Campaigns by name. Those that run and reach a vehicle are found without a look at the others: a look-up takes as many steps
-/// as they are, and as many comparisons as it takes to halve the number of names twice over. Beside the campaigns this keeps 8
-/// bytes for each that is for all vehicles, and 16 bytes for each name of a vehicle in the others, but for those that are
-/// closed. It copies no name, and has nothing of its own for a vehicle.
+/// Campaigns by name. Those that run and reach a vehicle are found without a look at the others: a look-up costs by them, and
+/// by the logarithm of the number of names of vehicles. Beside the campaigns this keeps 8 bytes for each that runs for all
+/// vehicles, and 16 bytes for each name of a vehicle in the others that run. It copies no name, and has nothing of its own for
+/// a vehicle.
 #[derive(Drop)]
 pub struct Running {
     campaigns: Table<Campaign>,
@@ -57,8 +57,8 @@ impl Model for Running {
 }
 
 impl Running {
-    /// The campaigns, made ready for look-ups: it takes about as many steps as the names of vehicles in them are, times the
-    /// logarithm of their number.
+    /// The campaigns, made ready for look-ups: this costs by the number of campaigns and names, times the logarithm of the
+    /// latter.
     pub fn new(alloc: Global, campaigns: Table<Campaign>) -> Result<Running, AllocError>
         ensures { IfOk result (λ running. running ≡ campaigns) }
     {
