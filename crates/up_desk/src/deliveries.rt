@@ -25,7 +25,6 @@ ghost use Rattle.up_desk.specs.Standing.{CanDecide, Fits, IsLoaded, StaysLoaded}
 
 use crate::catalog::{Catalog, load};
 use crate::faults::{refusal_of, replied};
-use crate::planned::images_for;
 use crate::reads::read_fitting_vehicle;
 use sqlite::Alter;
 use std::alloc::Global;
@@ -237,7 +236,7 @@ fn decide_earlier<D: Alter>(
     }
 }
 
-/// Of a manifest whose counter is above the last: what is new, by the running campaigns and the images.
+/// Of a manifest whose counter is above the last: what is new, by the running campaigns that reach its vehicle, and the images.
 fn decide_later<K: Scheme>(
     catalog: &Catalog,
     alloc: Global,
@@ -254,16 +253,17 @@ fn decide_later<K: Scheme>(
     ensures { (s : State) → IsSound (K.rules scheme.now) s → IsSent (K.rules scheme.now) s incoming.now catalog.now sender.now
         → GivesDelivered (K.rules scheme.now) s incoming.now.manifest.vehicle result (decide_incoming (K.rules scheme.now) s at incoming.now) }
 {
-    let (hashed, campaigns) = (&catalog.hashed, catalog.campaigns.values());
-    let (vehicle, reports) = (&incoming.manifest.vehicle, &incoming.manifest.reports);
-    let images = images_for(
-        alloc,
-        &catalog.images,
-        campaigns,
-        vehicle,
-        reports.as_slice(),
-    )?;
+    let items = catalog
+        .campaigns
+        .items_for(alloc, &incoming.manifest.vehicle)?;
     decide_new(
-        alloc, scheme, at, incoming, sender, hashed, &images, campaigns,
+        alloc,
+        scheme,
+        at,
+        incoming,
+        sender,
+        &catalog.hashed,
+        &catalog.images,
+        items.as_slice(),
     )
 }

@@ -11,7 +11,6 @@ mod files;
 mod images;
 mod inventory;
 pub mod laws;
-mod planned;
 mod reads;
 mod register;
 mod replacements;

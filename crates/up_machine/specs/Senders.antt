@@ -7,8 +7,9 @@ use Rattle.up_sign.specs.Hmac.{block_key}
 use Rattle.up_sign.specs.Schemes.{Rules}
 use Rattle.up_manifest.specs.declared.manifest.Incoming.{Incoming}
 use Rattle.up_manifest.specs.declared.manifest.Manifest.{Manifest}
-use Rattle.up_plan.specs.Campaigns.{CampaignData}
+use Rattle.up_plan.specs.declared.campaign.Item.{Item}
 use Rattle.up_plan.specs.Images.{ImageData}
+use Rattle.up_plan.specs.Offers.{OffersSame}
 use Rattle.up_plan.specs.Planning.{items_for}
 use Rattle.up_machine.specs.declared.rows.Founding.{Founding}
 use Rattle.up_machine.specs.declared.rows.VehicleRows.{VehicleRows}
@@ -43,8 +44,8 @@ pub record CanAnswer (k : Rules) (sender : SenderData) : Type 0 where
   pub rows : IsTrue (rows_fit sender.vehicle)
   pub key : sender.key ≡ block_key (public_of_row sender.vehicle.ecus sender.vehicle.vehicle.primary)
 
--- the images and campaigns are those of the state that the plan for this manifest needs: of the campaigns the items for its vehicle
--- count alone, and of the images those of the files that these items and the reports name
-pub record ArePlanned (s : State) (manifest : Manifest) (images : Table ImageData) (campaigns : List CampaignData) : Type 0 where
-  pub images_are : AreImagesOf (files_named campaigns manifest.vehicle manifest.reports) images s.images
-  pub items : items_for campaigns manifest.vehicle ≡ items_for (table.values s.campaigns) manifest.vehicle
+-- the images and items are those of the state that the plan for this manifest needs: the items offer what those of the state's
+-- campaigns for its vehicle do, and of the images those of the files that the latter and the reports name count alone
+pub record ArePlanned (s : State) (manifest : Manifest) (images : Table ImageData) (items : List Item) : Type 0 where
+  pub images_are : AreImagesOf (files_named (table.values s.campaigns) manifest.vehicle manifest.reports) images s.images
+  pub items_are : OffersSame items (items_for (table.values s.campaigns) manifest.vehicle)
