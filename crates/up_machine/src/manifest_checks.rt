@@ -113,12 +113,7 @@ fn is_reported(reports: &[SignedReport], row: &EcuRow) -> bool
 }
 
 /// Whether the ECU that it names signed the report.
-fn is_signed<K: Scheme>(
-    scheme: &K,
-    rows: &[EcuRow],
-    keys: &KeyCache,
-    report: &SignedReport,
-) -> bool
+fn is_signed<K: Scheme>(scheme: &K, rows: &[EcuRow], keys: &KeyCache, report: &SignedReport) -> bool
     ensures { result ≡ is_signed_by_row (K.rules scheme.now) rows.now (report_name report.now) report.now.envelope }
 {
     is_signed_by(scheme, rows, keys, &report.report.ecu, &report.envelope)
