@@ -6,6 +6,7 @@ pub mod catalog;
 mod deliveries;
 pub mod desk;
 mod dispatch;
+mod ecu_keys;
 pub mod faults;
 mod files;
 mod images;

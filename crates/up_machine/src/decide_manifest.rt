@@ -29,6 +29,7 @@ use up_plan::campaign::{Campaign, Item};
 use up_plan::image::Image;
 use up_plan::items::items_for;
 use up_plan::laws::{offers_alone_count, other_images_change_nothing};
+use up_sign::key_cache::KeyCache;
 use up_sign::scheme::Scheme;
 
 /// The rows that the decision on a manifest reads: the founding's, those of its vehicle, the one kept with its counter,
@@ -77,7 +78,8 @@ pub fn decide_manifest<K: Scheme>(
         → GivesDelivered (K.rules scheme.now) s incoming.now.manifest.vehicle result
         (decide_incoming (K.rules scheme.now) s at incoming.now) }
 {
-    let sender = decide_sender(scheme, incoming, rows.founding, rows.vehicle)?;
+    let keys = KeyCache::new();
+    let sender = decide_sender(scheme, incoming, rows.founding, rows.vehicle, &keys)?;
     if !is_later(incoming, &sender) {
         return decide_again(alloc, incoming, &sender, rows.kept);
     }
@@ -90,6 +92,7 @@ pub fn decide_manifest<K: Scheme>(
         incoming,
         &sender,
         &hashed,
+        &keys,
         rows.images,
         items.as_slice(),
     )
@@ -118,8 +121,8 @@ pub fn decide_again(
 
 /// Decides on a manifest whose counter is above the last one, so that no row is kept with it: `UnknownEcu`, `DuplicateEcu`,
 /// `MissingEcu`, `BadReportSignature`, `ReportReplayed`, and then what it changes, by the plan of this moment; `Memory`.
-/// `hashed` has the keys of the Director's roles. Images are looked up by the files that the items and the reports name; the
-/// items may come in any order.
+/// `hashed` has the keys of the Director's roles, and an ECU's key that isn't among `keys` is hashed. Images are looked up by the
+/// files that the items and the reports name; the items may come in any order.
 pub fn decide_new<K: Scheme>(
     alloc: Global,
     scheme: &K,
@@ -127,6 +130,7 @@ pub fn decide_new<K: Scheme>(
     incoming: &Incoming,
     sender: &Sender,
     hashed: &HashedRoleKeys,
+    keys: &KeyCache,
     images: &Table<Image>,
     items: &[&Item],
 ) -> Result<Delivered, Refusal>
@@ -146,8 +150,7 @@ pub fn decide_new<K: Scheme>(
         alloc,
         scheme,
         vehicle.ecus.as_slice(),
-        &vehicle.vehicle.primary,
-        &sender.key,
+        keys,
         incoming.manifest.reports.as_slice(),
     )?;
     let accepted = accepted_rows(
