@@ -10,7 +10,8 @@ use Rattle.hex.proofs.HexLemmas.{decode_of-ok, decode_of-even, decode_sized-ok, 
 use Rattle.hex.proofs.Pairs.{cons_byte, decode_pairs-ok_pair}
 use Rattle.up_canon.specs.Names.{is_from_to}
 use Rattle.up_canon.proofs.ByteTests.{bytes_tested}
-use Rattle.up_manifest.specs.Plain.{is_lower_digit}
+use Rattle.up_canon.proofs.Printable.{all-more}
+use Rattle.up_manifest.specs.Plain.{is_direct, is_lower_digit}
 
 -- ---- the table of digits
 
@@ -68,6 +69,13 @@ digit c h = by_test (is_from_to 48 57 c) refl
           reads = grind (arith, nat_tests);
           is = in_table (c - 87) small ∙ ap (λ b. cond b (48 + (c - 87)) (87 + (c - 87))) test ∙ least;
         }
+
+-- a digit stands for itself in quotes
+lower-direct : (x : ℕ) → is_lower_digit x ≡ true → is_direct x ≡ true
+lower-direct x h = grind (arith, nat_tests)
+
+pub digits-direct : (s : List ℕ) → list_all is_lower_digit s ≡ true → list_all is_direct s ≡ true
+digits-direct s h = all-more is_lower_digit is_direct s lower-direct h
 
 -- ---- pairs of digits
 
