@@ -8,10 +8,11 @@ use Rattle.hex.specs.Hex.{decode_of, decode_sized, decode_pairs, pair_value, enc
 use Rattle.hex.specs.declared.error.FromHexError.{FromHexError}
 use Rattle.hex.proofs.HexLemmas.{decode_of-ok, decode_of-even, decode_sized-ok, decode_sized-twice}
 use Rattle.hex.proofs.Pairs.{cons_byte, decode_pairs-ok_pair}
+use Rattle.up_canon.specs.HexText.{is_lower_digit}
 use Rattle.up_canon.specs.Names.{is_from_to}
 use Rattle.up_canon.proofs.ByteTests.{bytes_tested}
 use Rattle.up_canon.proofs.Printable.{all-more}
-use Rattle.up_manifest.specs.Plain.{is_direct, is_lower_digit}
+use Rattle.up_manifest.specs.Plain.{is_direct}
 
 -- ---- the table of digits
 

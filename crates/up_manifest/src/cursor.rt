@@ -3,12 +3,14 @@ ghost use Rattle.std.specs.Prelude.{◌≡◌, ◌++◌, IsTrue, IfSome, IfOk, O
 ghost use Rattle.std.specs.List.{list_all};
 ghost use Rattle.hex.specs.Hex.{encode_lower};
 ghost use Rattle.up_canon.specs.Canon.{is_printable_text, escaped as escaped_of, quoted};
-ghost use Rattle.up_manifest.specs.Plain.{is_direct as is_direct_of, is_lower_digit as is_lower_digit_of};
+ghost use Rattle.up_canon.specs.HexText.{is_lower_digit as is_lower_digit_of};
+ghost use Rattle.up_manifest.specs.Plain.{is_direct as is_direct_of};
 ghost use Rattle.up_sign.specs.Schemes.{is_byte};
 
 use hex::FromHexError;
 use std::alloc::{AllocError, AllocFailed, Global};
 use up_canon::count::Count;
+use up_canon::hex_text::is_lower_digit;
 use up_canon::note::is_printable;
 
 /// Why nothing was read.
@@ -213,13 +215,6 @@ fn first_no_digit(bytes: &[u8]) -> Option<usize>
     ensures { result ≡ position (λ b. not (is_lower_digit_of b)) bytes.now }
 {
     bytes.iter().position(|b| !is_lower_digit(*b))
-}
-
-/// Whether the byte is a hexadecimal digit in lower case.
-fn is_lower_digit(byte: u8) -> bool
-    ensures { result ≡ is_lower_digit_of byte }
-{
-    (byte >= b'0' && byte <= b'9') || (byte >= b'a' && byte <= b'f')
 }
 
 /// How many bytes in front of the first that doesn't stand for itself; 0 where there is none.

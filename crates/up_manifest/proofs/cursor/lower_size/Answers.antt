@@ -1,6 +1,6 @@
 use Rattle.std.proofs.Common.{◌∙◌, take, unwrap_or, ap}
 use Rattle.std.specs.List.{list_all}
-use Rattle.up_manifest.specs.Plain.{is_lower_digit}
+use Rattle.up_canon.specs.HexText.{is_lower_digit}
 use Rattle.up_manifest.proofs.PlainTexts.{front-of}
 use Rattle.up_manifest.proofs.cursor.lower_size.Goals as goal
 

@@ -3,7 +3,7 @@ use Rattle.std.proofs.lemmas.Str.{IsUtf8-string_bytes}
 use Rattle.up_sign.specs.Envelopes.{sealed}
 use Rattle.up_sign.specs.Formats.{envelope_text}
 use Rattle.up_manifest.proofs.Built as built
-use Rattle.up_manifest.proofs.building.build_manifest.Goals as goal
+use Rattle.up_manifest.proofs.building.build_manifest_by.Goals as goal
 
 pub returns-clause-means : goal.returns-clause-means
 returns-clause-means g c = λ rs h.
