@@ -157,13 +157,20 @@ def envelope_fields(given):
     return "".join("%s by %s: %s; " % (s["keyid"], s["method"], s["sig"].lower()) for s in v["signatures"]) + canon(v["signed"])
 
 
+def keys_kept(given):
+    """The identifiers of the public parts that are found once all were kept in turn: the last of each slot."""
+    publics = [bytes.fromhex(word) for word in json.loads(given)]
+    last = {int.from_bytes(public, "big") % 4093: public for public in publics}
+    return "; ".join(keyid(public) if public in last.values() else "none" for public in publics)
+
+
 CALLS = {
     "moment text": lambda g: time(int(g)), "moment read": lambda g: str(second(g)), "moment a week later": lambda g: str(int(g) + 7 * 86400),
     "canonical": lambda g: canon(json.loads(g)), "sha256": lambda g: hashlib.sha256(g.encode()).hexdigest(),
     "sha512": lambda g: hashlib.sha512(g.encode()).hexdigest(), "sha512 of a member": member_hash, "second hash of a report": report_hash,
     "hmac": lambda g: by_hmac(*(bytes.fromhex(json.loads(g)[name]) for name in ("key", "message"))),
     "key identifier": lambda g: "{0}, as text {0}".format(keyid(bytes.fromhex(json.loads(g)))), "envelope": envelope_fields,
-    "manifest": manifest, "signed text of a manifest": lambda g: canon(json.loads(g)["signed"]),
+    "keys kept": keys_kept, "manifest": manifest, "signed text of a manifest": lambda g: canon(json.loads(g)["signed"]),
 }
 UNDER = {
     "key": key_fields, "signature": lambda s, g: s.sign(key_of(g.split(" ", 1)[0]), g.split(" ", 1)[1].encode()), "verified": verified,

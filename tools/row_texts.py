@@ -26,13 +26,18 @@ Z = {"file": "z.bin", "hardware": ["HS"], "hashes": {"sha256": NOTHING}, "length
 A = {"file": "a.bin", "hardware": ["HS"], "hashes": {"sha256": ABC}, "length": 3, "release": 2}
 A7 = A | {"file": "a7.bin", "release": 7}
 A_FOR_S2 = A | {"ecu": "S2"}
+A_FOR_S1 = A | {"ecu": "S1"}
 A7_FOR_S2 = A7 | {"ecu": "S2"}
+A7_FOR_S3 = A7 | {"ecu": "S3"}
 A_FOR_S3 = A | {"ecu": "S3"}
 A_FOR_S4 = A | {"ecu": "S4"}
 S = A | {"file": "s.bin", "release": 3}
+S_FOR_S1 = S | {"ecu": "S1"}
 S_FOR_S2 = S | {"ecu": "S2"}
 S_FOR_S3 = S | {"ecu": "S3"}
+S_FOR_S4 = S | {"ecu": "S4"}
 P_FOR_P2 = A | {"ecu": "P2", "file": "p.bin", "hardware": ["HP"], "release": 5}
+P_FOR_P3 = P_FOR_P2 | {"ecu": "P3"}
 A_OF_BOTH = A | {"hashes": BOTH}
 BOTH_FOR_S2 = A_OF_BOTH | {"ecu": "S2"}
 A7_FOR_31 = [A7 | {"ecu": "E%d" % number} for number in range(1, 32)]
@@ -52,6 +57,10 @@ REPLIES = {
     "replayed_reports": [("V2", 1, 1, []), ("V2", 2, 1, []), ("V2", 3, 1, [])],
     "equal_and_greater_releases": [("V2", 1, 1, []), ("V2", 2, 1, [A_FOR_S2])],
     "tie_by_the_least_filename": [("V2", 1, 1, [A7_FOR_S2])],
+    "campaigns_by_vehicle": [
+        ("V2", 1, 1, [P_FOR_P2, S_FOR_S2]), ("V3", 1, 1, [P_FOR_P3, A7_FOR_S3]), ("V4", 1, 1, [S_FOR_S4]), ("V1", 1, 1, [A_FOR_S1]),
+        ("V1", 2, 1, [S_FOR_S1])
+    ],
     "kept_reply_after_a_rotation": [("V2", 1, 1, [A_FOR_S2]), ("V2", 2, 2, []), ("V2", 1, 1, [A_FOR_S2])],
     "commands_between_manifests": [
         ("V2", 1, 1, []), ("V2", 2, 1, []), ("V2", 3, 1, [A_FOR_S2]), ("V2", 4, 1, [S_FOR_S2]), ("V2", 5, 1, [A_FOR_S2]),

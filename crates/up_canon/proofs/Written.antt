@@ -1,15 +1,18 @@
 -- Texts that stand in quotes as they are: names, moments, hexadecimal digits.
-use Rattle.std.proofs.Common.{◌≡◌, ℕ, ◌+◌, ◌/◌, ◌%◌, ◌≤◌, ◌<◌, List, [], ◌∷◌, ◌++◌, Bool, true, Option, Some, None, length, refl, sym, ap, ◌∙◌, append_assoc, inl, inr, arith}
-use Rattle.std.specs.Prelude.{◌||◌, ◌==◌, not, codes, flat_map, option_map, unwrap_or, slice_index}
+use Rattle.std.proofs.Common.{◌≡◌, ℕ, ◌+◌, ◌/◌, ◌%◌, ◌≤◌, ◌<◌, List, [], ◌∷◌, ◌++◌, Bool, true, Option, Some, None, Result, Ok, Err, length, refl, sym, ap, ◌∙◌, append_assoc, append-nil, inl, inr, lit<, arith}
+use Rattle.std.specs.Prelude.{◌||◌, ◌==◌, not, codes, flat_map, nat_lt, slice_index, IsUtf8, IsOk, MatchResult}
 use Rattle.std.specs.List.{list_all}
 use Rattle.std.proofs.lemmas.Bool.{and_parts, cases_lt}
 use Rattle.std.proofs.lemmas.Bool.Decides.{nat_tests}
 use Rattle.std.proofs.lemmas.List.{get_or_past}
+use Rattle.std.proofs.lemmas.Str.{IsUtf8-from_ascii}
 use Rattle.hex.specs.Hex.{encode_with, encode_lower, lower_digits}
+use Rattle.hex.proofs.HexLemmas.{IsAscii-encode_with}
 use Rattle.up_canon.proofs.MomentTexts.{moment_parts, civil_bounds}
 use Rattle.up_canon.proofs.Printable.{all-more, digit-below}
 use Rattle.up_canon.specs.Build.{hashes_value}
 use Rattle.up_canon.specs.Canon.{escaped, quoted, text}
+use Rattle.up_canon.specs.HexText.{second_hash_text}
 use Rattle.up_canon.specs.Moments.{last_moment, year_of, month_of, day_in_month, parts_text, moment_text}
 use Rattle.up_canon.specs.Names.{is_from_to, is_ident_byte, is_file_byte, is_ident, is_file_name}
 
@@ -78,12 +81,36 @@ unfolding encode_with
 escaped_hex [] = refl
 escaped_hex (b ∷ xs) = rw (escaped_digit (b / 16), escaped_digit (b % 16)) (ap (λ t. slice_index lower_digits (b / 16) ∷ slice_index lower_digits (b % 16) ∷ t) (escaped_hex xs))
 
+pub hex-append : (xs ys : List ℕ) → encode_lower (xs ++ ys) ≡ encode_lower xs ++ encode_lower ys
+unfolding encode_with
+hex-append [] ys = refl
+hex-append (b ∷ xs) ys = ap (λ t. slice_index lower_digits (b / 16) ∷ slice_index lower_digits (b % 16) ∷ t) (hex-append xs ys)
+
+pub hex-ends : (before xs : List ℕ) → length xs ≡ 0 → before ++ encode_lower xs ≡ before
+unfolding encode_with
+hex-ends before [] h = append-nil before
+hex-ends before (b ∷ xs) h = absurd (omega arith)
+
+digit-ascii : (d : ℕ) → slice_index lower_digits d < 128
+digit-ascii d = elim (cases_lt d 16) [
+  | inl below ↦ let small = digit-below (λ x. nat_lt x 128) 16 d refl below in grind (arith, nat_tests)
+  | inr past ↦ rw (get_or_past lower_digits d 0 past) (lit< tt)
+]
+
+pub hex-utf8 : (xs : List ℕ) → IsUtf8 (encode_lower xs)
+hex-utf8 xs = IsUtf8-from_ascii (encode_lower xs) (IsAscii-encode_with lower_digits xs digit-ascii)
+
+-- a text that is tested for UTF-8 and is UTF-8
+pub passes_utf8 : {T E : Type 0} (bs : List ℕ) (P : T → Type 0) (Q : E → Type 0) (r : Result T E) → MatchResult r P (λ e. ¬ (IsUtf8 bs) × Q e) → IsUtf8 bs → IsOk r
+passes_utf8 bs P Q (Ok text) h utf8 = refl
+passes_utf8 bs P Q (Err e) h utf8 = absurd (h.0 utf8)
+
 pub quoted_hex : (xs : List ℕ) → quoted (encode_lower xs) ≡ 34 ∷ encode_lower xs ++ 34 ∷ []
 quoted_hex xs = ap (λ t. 34 ∷ t ++ 34 ∷ []) (escaped_hex xs)
 
 -- ---- hashes
 
 pub hashes_text : (sha256 : List ℕ) (sha512 : Option (List ℕ))
-    → (codes "{\"sha256\":" ++ quoted (encode_lower sha256)) ++ (unwrap_or (option_map (λ hash. codes ",\"sha512\":" ++ quoted (encode_lower hash)) sha512) [] ++ 125 ∷ []) ≡ text (hashes_value sha256 sha512)
+    → (codes "{\"sha256\":" ++ quoted (encode_lower sha256)) ++ (second_hash_text sha512 ++ 125 ∷ []) ≡ text (hashes_value sha256 sha512)
 hashes_text sha256 None = refl
 hashes_text sha256 (Some hash) = refl

@@ -1,8 +1,9 @@
 -- Bytes that JSON holds as hexadecimal text (base 16 of RFC 4648).
-use Rattle.std.specs.Prelude.{ℕ, ◌&&◌, ◌==◌, List, Bool, true, nat_lt, length, codes, Option, Some, None, Result}
+use Rattle.std.specs.Prelude.{ℕ, ◌++◌, ◌&&◌, ◌||◌, ◌==◌, List, [], Bool, true, nat_lt, length, codes, Option, Some, None, Result}
 use Rattle.std.specs.List.{list_all}
-use Rattle.hex.specs.Hex.{decode_of}
+use Rattle.hex.specs.Hex.{decode_of, encode_lower}
 use Rattle.serde_json.specs.Data.{Data}
+use Rattle.up_canon.specs.Canon.{quoted}
 use Rattle.up_canon.specs.Members.{member_in, text_of}
 use Rattle.up_canon.specs.Names.{is_from_to}
 use Rattle.up_canon.specs.Readers.{fitting}
@@ -22,6 +23,15 @@ is_sha512 hash = (length hash == 64) && list_all (λ x. nat_lt x 256) hash
 abbrev pub is_second_hash : Option (List ℕ) → Bool
 is_second_hash None = true
 is_second_hash (Some hash) = is_sha512 hash
+
+-- the canonical text of the member of a second hash, where there is one, with the comma before it
+abbrev pub second_hash_text : Option (List ℕ) → List ℕ
+second_hash_text None = []
+second_hash_text (Some hash) = codes ",\"sha512\":" ++ quoted (encode_lower hash)
+
+-- a hexadecimal digit in lower case: `0` to `9` and `a` to `f`
+abbrev pub is_lower_digit : ℕ → Bool
+is_lower_digit x = is_from_to 48 57 x || is_from_to 97 102 x
 
 -- the bytes of so many digits, of either case
 unfoldable pub hex_of : ℕ → ℕ → List ℕ → Data → Result (List ℕ) Refusal

@@ -1,7 +1,7 @@
 //! Bytes that JSON holds as hexadecimal text.
 ghost use Rattle.std.specs.Prelude.{◌≡◌, Ok, MatchResult};
 ghost use Rattle.serde_json.specs.View.{view};
-ghost use Rattle.up_canon.specs.HexText.{hex_of as hex_of_value, hex_in, sha256_in, sha512_in};
+ghost use Rattle.up_canon.specs.HexText.{hex_of as hex_of_value, hex_in, sha256_in, sha512_in, is_lower_digit as is_lower_digit_of};
 ghost use Rattle.up_canon.specs.Members.{IsFault, object_of_map};
 ghost use Rattle.up_canon.specs.Refusals.{Gives};
 
@@ -96,4 +96,11 @@ pub fn sha512_of(value: &Value, name: &'static str) -> Result<[u8; 64], &'static
         Ok(()) => Ok(bytes),
         Err(_) => Err(name),
     }
+}
+
+/// Whether the byte is a hexadecimal digit in lower case.
+pub fn is_lower_digit(byte: u8) -> bool
+    ensures { result ≡ is_lower_digit_of byte }
+{
+    byte.is_ascii_digit() || (byte >= b'a' && byte <= b'f')
 }

@@ -1,10 +1,10 @@
 //! Writing parts of canonical text at the end of a string.
-ghost use Rattle.std.specs.Prelude.{◌≡◌, ◌||◌, ◌==◌, ◌≤◌, ◌++◌, [], IsTrue, IfOk, OnOk, codes, flat_map, not, option_map, unwrap_or, string_bytes, decimal, true};
+ghost use Rattle.std.specs.Prelude.{◌≡◌, ◌||◌, ◌==◌, ◌≤◌, ◌++◌, IsTrue, IfOk, OnOk, Some, codes, flat_map, length, not, string_bytes, decimal, true};
 ghost use Rattle.std.specs.List.{list_all};
 ghost use Rattle.hex.specs.Hex.{encode_lower};
 ghost use Rattle.up_canon.specs.Build.{hashes_value};
 ghost use Rattle.up_canon.specs.Canon.{is_printable, escaped, quoted, text as text_of};
-ghost use Rattle.up_canon.specs.HexText.{is_hash, is_sha512, is_second_hash};
+ghost use Rattle.up_canon.specs.HexText.{is_hash, is_sha512, is_second_hash, second_hash_text};
 ghost use Rattle.up_canon.specs.Moments.{last_moment, moment_text};
 
 use crate::calendar::shown_at;
@@ -13,6 +13,7 @@ use crate::ident::Ident;
 use crate::moment::Moment;
 use std::alloc::{AllocError, Global};
 use std::fmt::Write;
+use std::str;
 
 /// Appends printable ASCII in quotes, with a backslash before each quote and backslash of it. On an error `out` may hold some
 /// of it.
@@ -68,14 +69,41 @@ fn push_escaped(out: &mut String, byte: u8) -> Result<(), AllocError>
     Ok(())
 }
 
-/// Appends the bytes as lower case hexadecimal digits in quotes. On an error `out` may hold some of it.
-pub fn push_hex(alloc: Global, out: &mut String, bytes: &[u8]) -> Result<(), AllocError>
+/// Appends the bytes as lower case hexadecimal digits in quotes, without memory of its own. On an error `out` may hold some of
+/// it.
+pub fn push_hex(_alloc: Global, out: &mut String, bytes: &[u8]) -> Result<(), AllocError>
     ensures { IfOk result (λ _. string_bytes out.new ≡ string_bytes out.old ++ quoted (encode_lower bytes.now)) }
 {
     out.push('"')?;
-    out.push_str(hex::encode(alloc, bytes)?.as_str())?;
+    push_digits(out, bytes)?;
     out.push('"')?;
     Ok(())
+}
+
+/// How many bytes are written at a time.
+const AT_A_TIME: usize = 32;
+
+/// Appends the digits of the bytes, some at a time.
+fn push_digits(out: &mut String, bytes: &[u8]) -> Result<(), AllocError>
+    ensures { IfOk result (λ _. string_bytes out.new ≡ string_bytes out.old ++ encode_lower bytes.now) }
+{
+    let mut rest = bytes;
+    'pieces: while !rest.is_empty() {
+        let (few, behind) = rest.split_at(rest.len().min(AT_A_TIME));
+        push_few_digits(out, few)?;
+        rest = behind;
+    }
+    Ok(())
+}
+
+fn push_few_digits(out: &mut String, bytes: &[u8]) -> Result<(), AllocError>
+    requires { length bytes.now ≤ 32 }
+    ensures { IfOk result (λ _. string_bytes out.new ≡ string_bytes out.old ++ encode_lower bytes.now) }
+{
+    let mut room = [0; 2 * AT_A_TIME];
+    let digits = &mut room[..2 * bytes.len()];
+    hex::encode_to_slice(bytes, digits).unwrap();
+    out.push_str(str::from_utf8(digits).unwrap())
 }
 
 /// Appends the digits of a number. On an error `out` may hold some of it.
@@ -101,7 +129,7 @@ pub fn push_file_name(out: &mut String, name: &FileName) -> Result<(), AllocErro
     push_straight(out, name.text())
 }
 
-/// Appends the text of a moment in quotes. On an error `out` may hold some of it.
+/// Appends the text of a moment, `YYYY-MM-DDTHH:MM:SSZ`, in quotes. On an error `out` may hold some of it.
 pub fn push_moment(out: &mut String, moment: Moment) -> Result<(), AllocError>
     ensures value { IfOk result (λ _. string_bytes out.new ≡ string_bytes out.old ++ quoted (moment_text moment)) }
     ensures typed { moment ≤ last_moment }
@@ -110,8 +138,8 @@ pub fn push_moment(out: &mut String, moment: Moment) -> Result<(), AllocError>
     write!(out, "\"{shown}Z\"")
 }
 
-/// Appends the object of a SHA-256 and, where there is one, a SHA-512, each under the name of its hash function. On an error
-/// `out` may hold some of it.
+/// Appends the object of a SHA-256 and, where there is one, a SHA-512, each under the name of its hash function, in lower case
+/// digits. On an error `out` may hold some of it.
 pub fn push_hashes(
     alloc: Global,
     out: &mut String,
@@ -122,13 +150,13 @@ pub fn push_hashes(
     ensures typed { is_hash sha256.now ≡ true }
     ensures typed_second { OnOk result (is_second_hash sha512.now ≡ true) }
 {
-    push_first_hash(alloc, out, sha256)?;
+    push_sha256(alloc, out, sha256)?;
     push_second_hash(alloc, out, sha512)?;
     out.push('}')?;
     Ok(())
 }
 
-fn push_first_hash(alloc: Global, out: &mut String, hash: &[u8; 32]) -> Result<(), AllocError>
+fn push_sha256(alloc: Global, out: &mut String, hash: &[u8; 32]) -> Result<(), AllocError>
     ensures value { IfOk result (λ _. string_bytes out.new ≡ string_bytes out.old ++ (codes "{\"sha256\":" ++ quoted (encode_lower hash.now))) }
     ensures typed { is_hash hash.now ≡ true }
 {
@@ -142,8 +170,7 @@ fn push_second_hash(
     out: &mut String,
     sha512: &Option<[u8; 64]>,
 ) -> Result<(), AllocError>
-    ensures value { IfOk result (λ _. string_bytes out.new
-        ≡ string_bytes out.old ++ unwrap_or (option_map (λ hash. codes ",\"sha512\":" ++ quoted (encode_lower hash)) sha512.now) []) }
+    ensures value { IfOk result (λ _. string_bytes out.new ≡ string_bytes out.old ++ second_hash_text sha512.now) }
     ensures typed { OnOk result (is_second_hash sha512.now ≡ true) }
 {
     match sha512 {
@@ -153,7 +180,7 @@ fn push_second_hash(
 }
 
 fn push_sha512(alloc: Global, out: &mut String, hash: &[u8; 64]) -> Result<(), AllocError>
-    ensures value { IfOk result (λ _. string_bytes out.new ≡ string_bytes out.old ++ (codes ",\"sha512\":" ++ quoted (encode_lower hash.now))) }
+    ensures value { IfOk result (λ _. string_bytes out.new ≡ string_bytes out.old ++ second_hash_text (Some hash.now)) }
     ensures typed { is_sha512 hash.now ≡ true }
 {
     out.push_str(",\"sha512\":")?;

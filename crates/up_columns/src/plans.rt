@@ -1,26 +1,30 @@
 //! Plans: the images that a vehicle gets, or why it gets none.
-ghost use Rattle.std.specs.Prelude.{◌≡◌, codes, Ok, IfOk, OnOk, string_bytes, true};
+ghost use Rattle.std.specs.Prelude.{◌≡◌, ◌++◌, codes, Ok, Some, IfOk, OnOk, map, string_bytes, true};
+ghost use Rattle.std.specs.List.{list_all};
 ghost use Rattle.serde_json.specs.Find.{get};
 ghost use Rattle.serde_json.specs.View.{view};
+ghost use Rattle.up_canon.specs.Build.{list_with};
+ghost use Rattle.up_canon.specs.Canon.{text};
 ghost use Rattle.up_canon.specs.Members.{object_of_map};
 ghost use Rattle.up_canon.specs.Refusals.{Gives};
-ghost use Rattle.up_columns.specs.PlanColumns.{plan_data, plan_column, cause_data, is_null as is_null_value, demand_of, cause_of, some_cause_of, withheld_in, assigned_in, plan_of, plan_in};
-ghost use Rattle.up_columns.specs.Typed.{is_typed_cause, is_typed_plan};
+ghost use Rattle.up_columns.specs.PlanColumns.{assigned_data, plan_column, cause_data, is_null as is_null_value, demand_of, cause_of, some_cause_of, withheld_in, assigned_in, plan_of, plan_in};
+ghost use Rattle.up_columns.specs.Typed.{is_typed_assigned, is_typed_cause, is_typed_plan};
+ghost use Rattle.up_plan.specs.declared.assigned.Cause.TheVariants.{Need, Conflict};
 ghost use Rattle.up_plan.specs.declared.assigned.Plan.{Plan as PlanData};
 
-use crate::lists::{ToValue, list_value};
 use crate::values::column_value;
-use serde_json::{Map, Value, json};
+use serde_json::{Map, Value};
 use std::alloc::{AllocError, Global};
-use up_canon::canonical::canonical_text;
 use up_canon::canonical_laws;
 use up_canon::each::{Reading, each_of};
 use up_canon::fields::{find, list_at, member_at};
+use up_canon::file_name::FileName;
 use up_canon::ident::Ident;
 use up_canon::kinds::object_of;
 use up_canon::listed::Listed;
 use up_canon::readers::{file_name_at, ident_at, ident_of};
 use up_canon::refusal::Refusal;
+use up_canon::writing::{push_file_name, push_ident};
 use up_plan::assigned::{Assigned, Cause, Plan};
 
 struct AssignedReading;
@@ -41,18 +45,11 @@ impl Reading for AssignedReading {
     }
 }
 
-impl ToValue for Assigned {
-    ghost use Rattle.up_columns.specs.PlanColumns.{assigned_data};
-    ghost use Rattle.up_columns.specs.Typed.{is_typed_assigned};
+/// Bytes of room that the text of a plan gets, so that it seldom grows while it is written.
+const ROOM: usize = 224;
 
-    ghost data_of = { assigned_data };
-
-    ghost is_typed = { is_typed_assigned };
-
-    fn value(&self, alloc: Global) -> Result<Value, AllocError> {
-        json!(in alloc; {"ecu": self.ecu.text(), "file": self.file.text()})
-    }
-}
+/// Bytes of room that it gets beside for each image that is assigned.
+const ROOM_OF_AN_IMAGE: usize = 96;
 
 /// The column of a plan.
 #[tactic(auto, unfolding(crate::specs::PlanColumns::plan_column))]
@@ -60,31 +57,81 @@ pub fn plan_text(alloc: Global, plan: &Plan) -> Result<String, AllocError>
     ensures column { IfOk result (λ t. string_bytes t ≡ plan_column plan.now) }
     ensures typed { OnOk result (is_typed_plan plan.now ≡ true) }
 {
-    let value = plan_value(alloc, plan)?;
-    canonical_text(alloc, &value)
+    let assigned = plan.assigned.as_slice();
+    let room = ROOM_OF_AN_IMAGE.saturating_mul(assigned.len());
+    let mut out = String::with_capacity(alloc, room.saturating_add(ROOM))?;
+    out.push_str("{\"assigned\":")?;
+    push_assigned(&mut out, assigned)?;
+    out.push_str(",\"withheld\":")?;
+    push_withheld(&mut out, &plan.withheld)?;
+    out.push_str("}")?;
+    Ok(out)
 }
 
-fn plan_value(alloc: Global, plan: &Plan) -> Result<Value, AllocError>
-    ensures value { IfOk result (λ v. view v ≡ plan_data plan.now) }
-    ensures typed { OnOk result (is_typed_plan plan.now ≡ true) }
+/// Appends the list of what is assigned.
+fn push_assigned(out: &mut String, assigned: &[Assigned]) -> Result<(), AllocError>
+    ensures value { IfOk result (λ _. string_bytes out.new ≡ string_bytes out.old ++ text (list_with (map assigned_data assigned.now))) }
+    ensures typed { OnOk result (list_all is_typed_assigned assigned.now ≡ true) }
 {
-    let assigned = list_value(alloc, plan.assigned.as_slice())?;
-    let withheld = withheld_value(alloc, &plan.withheld)?;
-    json!(in alloc; {"assigned": assigned, "withheld": withheld})
+    out.push('[')?;
+    let mut separator = "";
+    for image in assigned.iter() {
+        out.push_str(separator)?;
+        push_item(out, image)?;
+        separator = ",";
+    }
+    out.push(']')?;
+    Ok(())
 }
 
-fn withheld_value(alloc: Global, withheld: &Option<Cause>) -> Result<Value, AllocError>
-    ensures value { IfOk result (λ v. view v ≡ cause_data withheld.now) }
+fn push_item(out: &mut String, image: &Assigned) -> Result<(), AllocError>
+    ensures value { IfOk result (λ _. string_bytes out.new ≡ string_bytes out.old ++ text (assigned_data image.now)) }
+    ensures typed { OnOk result (is_typed_assigned image.now ≡ true) }
+{
+    push_image(out, &image.ecu, &image.file)
+}
+
+/// Appends the object of an ECU and a file.
+fn push_image(out: &mut String, ecu: &Ident, file: &FileName) -> Result<(), AllocError>
+    ensures value { IfOk result (λ _. string_bytes out.new ≡ string_bytes out.old ++ text (cause_data (Some (Conflict ecu.now file.now)))) }
+    ensures typed { OnOk result (is_typed_cause (Some (Conflict ecu.now file.now)) ≡ true) }
+{
+    // Noted for the proof: what names are.
+    ecu.text();
+    file.text();
+    out.push_str("{\"ecu\":")?;
+    push_ident(out, ecu)?;
+    out.push_str(",\"file\":")?;
+    push_file_name(out, file)?;
+    out.push_str("}")?;
+    Ok(())
+}
+
+/// Appends the object of the ECU of that name and the hardware that it needs.
+fn push_need(out: &mut String, name: &Ident, hardware: &Ident) -> Result<(), AllocError>
+    ensures value { IfOk result (λ _. string_bytes out.new ≡ string_bytes out.old ++ text (cause_data (Some (Need name.now hardware.now)))) }
+    ensures typed { OnOk result (is_typed_cause (Some (Need name.now hardware.now)) ≡ true) }
+{
+    // Noted for the proof: what identifiers are.
+    name.text();
+    hardware.text();
+    out.push_str("{\"ecu\":")?;
+    push_ident(out, name)?;
+    out.push_str(",\"hardware\":")?;
+    push_ident(out, hardware)?;
+    out.push_str("}")?;
+    Ok(())
+}
+
+/// Appends the cause for which all is withheld, or `null`.
+fn push_withheld(out: &mut String, withheld: &Option<Cause>) -> Result<(), AllocError>
+    ensures value { IfOk result (λ _. string_bytes out.new ≡ string_bytes out.old ++ text (cause_data withheld.now)) }
     ensures typed { OnOk result (is_typed_cause withheld.now ≡ true) }
 {
     match withheld {
-        None => Ok(Value::Null),
-        Some(Cause::Need { ecu, hardware }) => {
-            json!(in alloc; {"ecu": ecu.text(), "hardware": hardware.text()})
-        }
-        Some(Cause::Conflict { ecu, file }) => {
-            json!(in alloc; {"ecu": ecu.text(), "file": file.text()})
-        }
+        None => out.push_str("null"),
+        Some(Cause::Need { ecu, hardware }) => push_need(out, ecu, hardware),
+        Some(Cause::Conflict { ecu, file }) => push_image(out, ecu, file),
     }
 }
 

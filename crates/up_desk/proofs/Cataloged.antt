@@ -1,6 +1,7 @@
 -- What is kept in memory, and what keeps it.
 use Rattle.std.proofs.Common.{◌≡◌, ℕ, List, [], ◌∷◌, Bool, true, false, cond, Option, Some, None, Result, Ok, Err, filter, refl, sym, ap, ◌∙◌, subst}
 use Rattle.std.specs.Prelude.{◌&&◌, if◌then◌else◌, IfSome, MatchBool, flat_map, is_some}
+use Rattle.std.specs.List.{AllByRecursion}
 use Rattle.std.specs.FinMap as table
 use Rattle.up_canon.specs.Names.{Name, Table}
 use Rattle.up_canon.specs.Steps.{and_then}
@@ -8,15 +9,16 @@ use Rattle.up_canon.specs.declared.refusal.Refusal.{Refusal}
 use Rattle.up_sign.specs.Schemes.{Rules}
 use Rattle.up_manifest.specs.declared.manifest.Incoming.{Incoming}
 use Rattle.up_manifest.specs.declared.manifest.Manifest.{Manifest}
-use Rattle.up_manifest.specs.declared.report.SignedReport.{SignedReport}
+use Rattle.up_plan.specs.declared.campaign.Item.{Item}
 use Rattle.up_plan.specs.Campaigns.{CampaignData}
 use Rattle.up_plan.specs.Images.{ImageData}
+use Rattle.up_plan.specs.Offers.{OffersSame}
 use Rattle.up_plan.specs.Planning.{items_for, reaches}
 use Rattle.up_machine.specs.declared.answer.Answer.{Answer}
 use Rattle.up_machine.specs.declared.command.Command.{Command}
 use Rattle.up_machine.specs.declared.command.Command.TheVariants.{Found, Rotate, AddImage, Refresh, AddVehicle, ReplaceEcu, OpenCampaign, CloseCampaign, Deliver, Fetch}
 use Rattle.up_machine.specs.Deciding.{Outcome}
-use Rattle.up_machine.specs.Decisions.{decide_incoming, resolve}
+use Rattle.up_machine.specs.Decisions.{AreImagesOf, decide_incoming, files_named, resolve}
 use Rattle.up_machine.specs.Deliveries.{Received, accepted, decide_received}
 use Rattle.up_machine.specs.Machine.{outcome_of}
 use Rattle.up_machine.specs.Repeats.{KeptEntry, repeat_in, serve}
@@ -25,11 +27,9 @@ use Rattle.up_machine.specs.Senders.{ArePlanned}
 use Rattle.up_machine.specs.Sound.{IsSound}
 use Rattle.up_machine.specs.State.{State, Vehicle}
 use Rattle.up_store.specs.Found.{values_where}
-use Rattle.up_desk.specs.Gathered.{gathered, item_files, report_files}
 use Rattle.up_desk.specs.Serving.{is_failed, IsAnswered, outcome_due}
 use Rattle.up_desk.specs.Standing.{IsOf, Fits, IsLoaded, StaysLoaded, StillFits, keeps_catalog, kept_for}
 use Rattle.up_desk.specs.declared.catalog.Catalog.{Catalog}
-use Rattle.up_desk.proofs.LookedUp.{images_planned}
 use Rattle.up_desk.proofs.Serving.{next_is}
 use Rattle.up_desk.proofs.Told.{running_sorted}
 
@@ -148,16 +148,21 @@ items_run campaigns vehicle =
     ap (λ cs. items_for cs vehicle) (values_are campaigns)
     ∙ ap (flat_map (λ (c : CampaignData). c.items)) (ran_again (λ c. reaches vehicle c.reach) (table.values campaigns))
 
--- the running campaigns, and the images that are gathered for them and the reports, are what a plan needs
-pub are_planned : (k : Rules) (s : State) (manifest : Manifest) (c : Catalog) (campaigns : List CampaignData) (reports : List SignedReport) (images : Table ImageData) → IsSound k s → IsOf s c
-    → campaigns ≡ table.values c.campaigns → reports ≡ manifest.reports
-    → images ≡ gathered c.images (report_files reports) (gathered c.images (item_files (items_for campaigns manifest.vehicle)) table.empty) → ArePlanned s manifest images campaigns
-are_planned k s manifest c campaigns reports images sound is same reported found = record {
-  images_are = images_planned k s campaigns manifest.vehicle manifest.reports images sound
-      (found ∙ ap (λ (t : Table ImageData). gathered t (report_files reports) (gathered t (item_files (items_for campaigns manifest.vehicle)) table.empty)) is.images
-      ∙ ap (λ (rs : List SignedReport). gathered s.images (report_files rs) (gathered s.images (item_files (items_for campaigns manifest.vehicle)) table.empty)) reported);
-  items = ap (λ cs. items_for cs manifest.vehicle) (same ∙ ap table.values is.campaigns) ∙ items_run s.campaigns manifest.vehicle;
-}
+-- at each file a table has what it has
+alike : {X : Type 0} (t : Table X) (files : List Name) → AllByRecursion (λ file. table.get t file ≡ table.get t file) files
+alike t [] = tt
+alike t (file ∷ files) = (refl, alike t files)
+
+-- all images, and items that offer what those for the vehicle offer, are what a plan needs
+pub are_planned : (k : Rules) (s : State) (manifest : Manifest) (c : Catalog) (items : List Item) → IsSound k s → IsOf s c → OffersSame items (items_for (table.values c.campaigns) manifest.vehicle)
+    → ArePlanned s manifest c.images items
+are_planned k s manifest c items sound is same =
+    let files = files_named (table.values s.campaigns) manifest.vehicle manifest.reports in
+    let whole : AreImagesOf files s.images s.images = record { named = λ file image found. (sound.repositories.each_image file image found).named; same = alike s.images files } in
+    record {
+      images_are = subst (λ (t : Table ImageData). AreImagesOf files t s.images) (sym is.images) whole;
+      items_are = subst (OffersSame items) (ap (λ (t : Table CampaignData). items_for (table.values t) manifest.vehicle) is.campaigns ∙ items_run s.campaigns manifest.vehicle) same;
+    }
 
 -- ---- what is loaded
 

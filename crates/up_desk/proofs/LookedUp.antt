@@ -1,29 +1,17 @@
 -- Images that are looked up one after another.
-use Rattle.std.proofs.Common.{◌≡◌, ℕ, ◌+◌, ◌<◌, length, take, get_or, List, [], ◌∷◌, ◌++◌, Bool, true, false, cond, Option, Some, None, map, append-nil, refl, sym, ap, ◌∙◌, subst}
-use Rattle.std.specs.Prelude.{◌&&◌, filter, flat_map, is_some}
+use Rattle.std.proofs.Common.{◌≡◌, List, [], ◌∷◌, ◌++◌, Bool, true, false, cond, Option, Some, None, map, refl, sym, ap, ◌∙◌, subst}
+use Rattle.std.specs.Prelude.{is_some}
 use Rattle.std.specs.List.{AllByRecursion}
 use Rattle.std.specs.FinMap as table
 use Rattle.std.specs.FinMap.{get-empty, same_map, nat_cmp-IsAntisymmetric, slice_cmp-IsAntisymmetric}
 use Rattle.std.proofs.lemmas.Cmp.{nat_list_cmp_total}
-use Rattle.std.proofs.lemmas.List.{take_more}
-use Rattle.std.proofs.lemmas.List.Elements.{filter-append}
-use Rattle.std.proofs.lemmas.Grind.{flat_map-append}
 use Rattle.std.specs.Ordering.{nat_cmp, eq_by_cmp}
 use Rattle.std.specs.Cmp.Lexicographic.{slice_cmp}
 use Rattle.up_canon.specs.Names.{Name, Table}
-use Rattle.up_canon.proofs.Lists.{each_of_both}
-use Rattle.up_sign.specs.Schemes.{Rules}
-use Rattle.up_manifest.specs.declared.report.SignedReport.{SignedReport}
 use Rattle.up_plan.specs.declared.campaign.Item.{Item}
-use Rattle.up_plan.specs.Campaigns.{CampaignData}
 use Rattle.up_plan.specs.Images.{ImageData}
-use Rattle.up_plan.specs.Planning.{items_for, reaches}
-use Rattle.up_machine.specs.Decisions.{AreImagesOf, files_named}
-use Rattle.up_machine.specs.State.{State}
-use Rattle.up_machine.specs.Sound.{IsSound}
-use Rattle.up_metadata.proofs.Lists.{each_weaker}
 use Rattle.up_machine.proofs.Tables.{get_new, get_same, get_after-insert, one_name}
-use Rattle.up_desk.specs.Gathered.{IsPart, with_image_found, with_found, gathered, item_files, report_files}
+use Rattle.up_desk.specs.Gathered.{IsPart, with_image_found, with_found, gathered, item_files}
 
 -- at this filename there is what is registered
 abbrev Has : Table ImageData → Table ImageData → Name → Type 0
@@ -96,40 +84,6 @@ each_of_map : {A B : Type 0} (f : A → B) (P : B → Type 0) (xs : List A) → 
 each_of_map f P [] h = tt
 each_of_map f P (x ∷ xs) h = (h.0, each_of_map f P xs h.1)
 
-each_front : {A : Type 0} (P : A → Type 0) (xs ys : List A) → AllByRecursion P (xs ++ ys) → AllByRecursion P xs
-each_front P [] ys h = tt
-each_front P (x ∷ xs) ys h = (h.0, each_front P xs ys h.1)
-
-each_rest : {A : Type 0} (P : A → Type 0) (xs ys : List A) → AllByRecursion P (xs ++ ys) → AllByRecursion P ys
-each_rest P [] ys h = h
-each_rest P (x ∷ xs) ys h = each_rest P xs ys h.1
-
-map_both : (xs ys : List Item) → item_files (xs ++ ys) ≡ item_files xs ++ item_files ys
-map_both [] ys = refl
-map_both (x ∷ xs) ys = ap (λ fs. x.file ∷ fs) (map_both xs ys)
-
--- of one campaign
-items_chosen : (c : CampaignData) (b : Bool) → flat_map (λ (d : CampaignData). d.items) (cond b (c ∷ []) []) ≡ cond b c.items []
-items_chosen c true = append-nil c.items
-items_chosen c false = refl
-
-pub one_for : (c : CampaignData) (vehicle : Name) → (c.running && reaches vehicle c.reach) ≡ true → items_for (c ∷ []) vehicle ≡ c.items
-one_for c vehicle is = items_chosen c (c.running && reaches vehicle c.reach) ∙ ap (λ b. cond b c.items []) is
-
-pub none_for : (c : CampaignData) (vehicle : Name) → (c.running && reaches vehicle c.reach) ≡ false → items_for (c ∷ []) vehicle ≡ []
-none_for c vehicle is = items_chosen c (c.running && reaches vehicle c.reach) ∙ ap (λ b. cond b c.items []) is
-
--- one more campaign
-pub items_more : (campaigns : List CampaignData) (vehicle : Name) (i : ℕ) (c : CampaignData) → i < length campaigns → c ≡ get_or campaigns i c
-    → item_files (items_for (take (i + 1) campaigns) vehicle) ≡ item_files (items_for (take i campaigns) vehicle) ++ item_files (items_for (c ∷ []) vehicle)
-items_more campaigns vehicle i c within is =
-    let test = λ (d : CampaignData). d.running && reaches vehicle d.reach in
-    let before = take i campaigns in
-    ap (λ cs. item_files (items_for cs vehicle)) (take_more campaigns i c within ∙ ap (λ d. before ++ d ∷ []) (sym is))
-    ∙ ap (λ cs. item_files (flat_map (λ (d : CampaignData). d.items) cs)) (filter-append test before (c ∷ []))
-    ∙ ap item_files (flat_map-append (λ (d : CampaignData). d.items) (filter test before) (filter test (c ∷ [])))
-    ∙ map_both (items_for before vehicle) (items_for (c ∷ []) vehicle)
-
 -- ---- what decisions ask
 
 -- the images that a new campaign names
@@ -138,23 +92,6 @@ pub images_known : (registered images : Table ImageData) (items : List Item) →
 images_known registered images items is =
     each_of_map (λ (i : Item). i.file) (Has registered images) items
     (subst (λ (t : Table ImageData). AllByRecursion (Has registered t) (item_files items)) (sym is) (all_gathered registered (item_files items) table.empty (none_part registered)))
-
--- the images that the items for a vehicle and its reports name
-pub images_planned : (k : Rules) (s : State) (campaigns : List CampaignData) (vehicle : Name) (reports : List SignedReport) (images : Table ImageData) → IsSound k s
-    → images ≡ gathered s.images (report_files reports) (gathered s.images (item_files (items_for campaigns vehicle)) table.empty) → AreImagesOf (files_named campaigns vehicle reports) images s.images
-images_planned k s campaigns vehicle reports images sound is =
-    let files = item_files (items_for campaigns vehicle) in
-    let some = gathered s.images files table.empty in
-    let all = gathered s.images (report_files reports) some in
-    let part : IsPart s.images some = part_gathered s.images files table.empty (none_part s.images) in
-    let whole : AreImagesOf (files_named campaigns vehicle reports) all s.images = record {
-      named = λ file image found. (sound.repositories.each_image file image (part_gathered s.images (report_files reports) some part file image found)).named;
-      same = each_of_both (Has s.images all) files (report_files reports)
-          (each_weaker (Has s.images some) (Has s.images all) (λ file has. stays_gathered s.images (report_files reports) some file has) files
-          (all_gathered s.images files table.empty (none_part s.images)))
-          (all_gathered s.images (report_files reports) some part);
-    } in
-    subst (λ (t : Table ImageData). AreImagesOf (files_named campaigns vehicle reports) t s.images) (sym is) whole
 
 -- ---- step by step
 

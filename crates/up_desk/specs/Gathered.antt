@@ -2,7 +2,6 @@
 use Rattle.std.specs.Prelude.{◌≡◌, List, [], ◌∷◌, Option, None, Some, map}
 use Rattle.std.specs.FinMap as table
 use Rattle.up_canon.specs.Names.{Name, Table}
-use Rattle.up_manifest.specs.declared.report.SignedReport.{SignedReport}
 use Rattle.up_plan.specs.declared.campaign.Item.{Item}
 use Rattle.up_plan.specs.Images.{ImageData}
 
@@ -28,6 +27,3 @@ gathered registered (file ∷ files) images = gathered registered files (with_fo
 
 abbrev pub item_files : List Item → List Name
 item_files items = map (λ i. i.file) items
-
-abbrev pub report_files : List SignedReport → List Name
-report_files reports = map (λ r. r.report.image.file) reports

@@ -2,13 +2,15 @@
 ghost use Rattle.std.specs.Prelude.{◌≡◌, Some, IfOk, IfSome, IsTrue, OnOk};
 ghost use Rattle.sqlite.specs.Held.{state};
 ghost use Rattle.sqlite.specs.State.{HasCleanDisk};
+ghost use Rattle.up_plan.specs.Campaigns.{CampaignData};
 ghost use Rattle.up_sign.specs.Schemes.{Rules};
 ghost use Rattle.up_machine.specs.Rows.{founding_row};
 ghost use Rattle.up_machine.specs.RowsFit.{founding_fits};
 ghost use Rattle.up_machine.specs.State.{State};
 ghost use Rattle.up_store.specs.Connections.{KeepsState};
+ghost use Rattle.up_store.specs.Found.{values_where};
 ghost use Rattle.up_tables.specs.Stands.{IfClean};
-ghost use Rattle.up_desk.specs.Serving.{Reads};
+ghost use Rattle.up_desk.specs.Serving.{Reads, Tells};
 ghost use Rattle.up_desk.specs.Standing.{CanDecide, Fits, IsLoaded, StaysLoaded, kept_for, keeps_catalog as keeps_catalog_in};
 
 use crate::reads::read_founding;
@@ -18,18 +20,18 @@ use up_canon::table::Table;
 use up_machine::command::Command;
 use up_machine::rows::Founding;
 use up_metadata::hashed_keys::{HashedRoleKeys, hashed_roles};
-use up_plan::campaign::Campaign;
 use up_plan::image::Image;
+use up_plan::running::Running;
 use up_sign::scheme::Scheme;
 use up_store::store::{Store, StoreFault};
 
-/// What every delivery needs: the founding, the keys of the Director's roles, hashed, the running campaigns and the images by
-/// their names. Deliveries change none of it. The type doesn't say of which state it is.
+/// What every delivery needs: the founding, the keys of the Director's roles, hashed, the running campaigns, ready for look-ups
+/// by vehicle, and the images by their names. Deliveries change none of it. The type doesn't say of which state it is.
 #[derive(Drop)]
 pub struct Catalog {
     pub founding: Founding,
     pub hashed: HashedRoleKeys,
-    pub campaigns: Table<Campaign>,
+    pub campaigns: Running,
     pub images: Table<Image>,
 }
 
@@ -111,7 +113,7 @@ fn read_registers<K: Scheme, D: Alter>(
         Ok(hashed) => hashed,
         Err(_) => return Err(StoreFault::Memory),
     };
-    let campaigns = match store.running(alloc) {
+    let campaigns = match read_running(store, alloc) {
         Ok(campaigns) => campaigns,
         Err(fault) => return Err(fault),
     };
@@ -122,6 +124,20 @@ fn read_registers<K: Scheme, D: Alter>(
             campaigns,
             images,
         })),
+        Err(fault) => Err(fault),
+    }
+}
+
+/// Reads the running campaigns, and makes them ready for look-ups.
+fn read_running<D: Alter>(store: &mut Store<D>, alloc: Global) -> Result<Running, StoreFault>
+    ensures told { Tells (λ k s. values_where (λ (c : CampaignData). c.running) s.campaigns) (state D.Store store.old) (state D.Store store.new) result }
+    ensures reads { Reads (state D.Store store.old) (state D.Store store.new) }
+{
+    match store.running(alloc) {
+        Ok(campaigns) => match Running::new(alloc, campaigns) {
+            Ok(running) => Ok(running),
+            Err(_) => Err(StoreFault::Memory),
+        },
         Err(fault) => Err(fault),
     }
 }

@@ -24,8 +24,8 @@ ghost use Rattle.up_desk.specs.Serving.{Reads, Serves};
 ghost use Rattle.up_desk.specs.Standing.{CanDecide, Fits, IsLoaded, StaysLoaded};
 
 use crate::catalog::{Catalog, load};
+use crate::ecu_keys::{keep_ecus, keep_primary};
 use crate::faults::{refusal_of, replied};
-use crate::planned::images_for;
 use crate::reads::read_fitting_vehicle;
 use sqlite::Alter;
 use std::alloc::Global;
@@ -41,14 +41,16 @@ use up_machine::sender::{Sender, decide_sender, is_later};
 use up_manifest::manifest::Incoming;
 use up_manifest::manifest_read::read_manifest;
 use up_rows::laws::{ecus_tell_their_hash, manifests_are_added, rows_are_found};
+use up_sign::key_cache::KeyCache;
 use up_sign::scheme::Scheme;
 use up_store::store::Store;
 
-/// Takes in a manifest, or answers a repeat by the reply that was kept for it. What is kept in memory is loaded where nothing
-/// is, and kept whatever is answered.
+/// Takes in a manifest, or answers a repeat by the reply that was kept for it. What is kept in memory of the tables is loaded
+/// where nothing is, and kept whatever is answered. `keys` gets the keys of ECUs that are met, and no answer depends on it.
 pub fn deliver<K: Scheme, D: Alter>(
     store: &mut Store<D>,
     catalog: &mut Option<Catalog>,
+    keys: &mut KeyCache,
     alloc: Global,
     scheme: &K,
     at: Moment,
@@ -65,7 +67,7 @@ pub fn deliver<K: Scheme, D: Alter>(
     ensures can { IfSome catalog.new (CanDecide (K.rules scheme.now)) }
 {
     match read_manifest(alloc, body.as_slice()) {
-        Ok(incoming) => receive(store, catalog, alloc, scheme, at, &incoming),
+        Ok(incoming) => receive(store, catalog, keys, alloc, scheme, at, &incoming),
         Err(refusal) => Err(refusal),
     }
 }
@@ -74,6 +76,7 @@ pub fn deliver<K: Scheme, D: Alter>(
 fn receive<K: Scheme, D: Alter>(
     store: &mut Store<D>,
     catalog: &mut Option<Catalog>,
+    keys: &mut KeyCache,
     alloc: Global,
     scheme: &K,
     at: Moment,
@@ -89,7 +92,7 @@ fn receive<K: Scheme, D: Alter>(
     ensures can { IfSome catalog.new (CanDecide (K.rules scheme.now)) }
 {
     match load(store, catalog, alloc, scheme) {
-        Ok(()) => receive_loaded(store, catalog.as_ref(), alloc, scheme, at, incoming),
+        Ok(()) => receive_loaded(store, catalog.as_ref(), keys, alloc, scheme, at, incoming),
         Err(fault) => Err(refusal_of(fault)),
     }
 }
@@ -98,6 +101,7 @@ fn receive<K: Scheme, D: Alter>(
 fn receive_loaded<K: Scheme, D: Alter>(
     store: &mut Store<D>,
     catalog: Option<&Catalog>,
+    keys: &mut KeyCache,
     alloc: Global,
     scheme: &K,
     at: Moment,
@@ -110,7 +114,7 @@ fn receive_loaded<K: Scheme, D: Alter>(
         → Serves (K.rules scheme.now) s (state D.Store store.old) (state D.Store store.new) result (decide_incoming (K.rules scheme.now) s at incoming.now) }
     ensures clean { HasCleanDisk (state D.Store store.new) → HasCleanDisk (state D.Store store.old) }
 {
-    match decide(store, catalog, alloc, scheme, at, incoming) {
+    match decide(store, catalog, keys, alloc, scheme, at, incoming) {
         Ok(Delivered::Repeat(reply)) => Ok(Answer::Reply(reply)),
         Ok(Delivered::Accepted(rows)) => accept(store, alloc, rows),
         Err(refusal) => Err(refusal),
@@ -145,6 +149,7 @@ fn accept<D: Alter>(
 fn decide<K: Scheme, D: Alter>(
     store: &mut Store<D>,
     catalog: Option<&Catalog>,
+    keys: &mut KeyCache,
     alloc: Global,
     scheme: &K,
     at: Moment,
@@ -162,7 +167,7 @@ fn decide<K: Scheme, D: Alter>(
     match read_fitting_vehicle(store, alloc, &incoming.manifest.vehicle) {
         Ok(vehicle) => {
             let rows = vehicle.as_ref();
-            decide_known(store, catalog, alloc, scheme, at, incoming, rows)
+            decide_known(store, catalog, keys, alloc, scheme, at, incoming, rows)
         }
         Err(fault) => Err(refusal_of(fault)),
     }
@@ -172,6 +177,7 @@ fn decide<K: Scheme, D: Alter>(
 fn decide_known<K: Scheme, D: Alter>(
     store: &mut Store<D>,
     catalog: &Catalog,
+    keys: &mut KeyCache,
     alloc: Global,
     scheme: &K,
     at: Moment,
@@ -185,8 +191,9 @@ fn decide_known<K: Scheme, D: Alter>(
     ensures decided { Decides (K.rules scheme.now) at incoming.now (λ s. IsKnown s incoming.now.manifest.vehicle catalog.now (option_copied vehicle.entry)) (state D.Store store.old) (state D.Store store.new) result }
     ensures reads { Reads (state D.Store store.old) (state D.Store store.new) }
 {
-    match decide_sender(scheme, incoming, Some(&catalog.founding), vehicle) {
-        Ok(sender) => decide_sent(store, catalog, alloc, scheme, at, incoming, &sender),
+    keep_primary(keys, alloc, vehicle);
+    match decide_sender(scheme, incoming, Some(&catalog.founding), vehicle, keys) {
+        Ok(sender) => decide_sent(store, catalog, keys, alloc, scheme, at, incoming, &sender),
         Err(refusal) => Err(refusal),
     }
 }
@@ -195,6 +202,7 @@ fn decide_known<K: Scheme, D: Alter>(
 fn decide_sent<K: Scheme, D: Alter>(
     store: &mut Store<D>,
     catalog: &Catalog,
+    keys: &mut KeyCache,
     alloc: Global,
     scheme: &K,
     at: Moment,
@@ -209,7 +217,7 @@ fn decide_sent<K: Scheme, D: Alter>(
     ensures reads { Reads (state D.Store store.old) (state D.Store store.new) }
 {
     if is_later(incoming, sender) {
-        decide_later(catalog, alloc, scheme, at, incoming, sender)
+        decide_later(catalog, keys, alloc, scheme, at, incoming, sender)
     } else {
         decide_earlier(store, alloc, at, incoming, sender)
     }
@@ -237,9 +245,10 @@ fn decide_earlier<D: Alter>(
     }
 }
 
-/// Of a manifest whose counter is above the last: what is new, by the running campaigns and the images.
+/// Of a manifest whose counter is above the last: what is new, by the running campaigns that reach its vehicle, and the images.
 fn decide_later<K: Scheme>(
     catalog: &Catalog,
+    keys: &mut KeyCache,
     alloc: Global,
     scheme: &K,
     at: Moment,
@@ -254,16 +263,19 @@ fn decide_later<K: Scheme>(
     ensures { (s : State) → IsSound (K.rules scheme.now) s → IsSent (K.rules scheme.now) s incoming.now catalog.now sender.now
         → GivesDelivered (K.rules scheme.now) s incoming.now.manifest.vehicle result (decide_incoming (K.rules scheme.now) s at incoming.now) }
 {
-    let (hashed, campaigns) = (&catalog.hashed, catalog.campaigns.values());
-    let (vehicle, reports) = (&incoming.manifest.vehicle, &incoming.manifest.reports);
-    let images = images_for(
-        alloc,
-        &catalog.images,
-        campaigns,
-        vehicle,
-        reports.as_slice(),
-    )?;
+    keep_ecus(keys, alloc, sender);
+    let items = catalog
+        .campaigns
+        .items_for(alloc, &incoming.manifest.vehicle)?;
     decide_new(
-        alloc, scheme, at, incoming, sender, hashed, &images, campaigns,
+        alloc,
+        scheme,
+        at,
+        incoming,
+        sender,
+        &catalog.hashed,
+        keys,
+        &catalog.images,
+        items.as_slice(),
     )
 }

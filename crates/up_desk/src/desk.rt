@@ -28,6 +28,7 @@ use up_machine::laws::{
 use up_machine::rows::VehicleRows;
 use up_manifest::report::Installed;
 use up_plan::assigned::Plan;
+use up_sign::key_cache::KeyCache;
 use up_sign::scheme::Scheme;
 use up_store::store::{Store, StoreFault};
 
@@ -37,6 +38,7 @@ pub struct Desk<K: Scheme, D: Alter> {
     scheme: K,
     store: Store<D>,
     catalog: Option<Catalog>,
+    keys: KeyCache,
 }
 
 impl<K: Scheme, D: Alter> Model for Desk<K, D> {
@@ -65,6 +67,7 @@ impl<K: Scheme, D: Alter> Desk<K, D> {
             scheme,
             store,
             catalog: None,
+            keys: KeyCache::new(),
         }
     }
 
@@ -103,6 +106,7 @@ impl<K: Scheme, D: Alter> Desk<K, D> {
         answer_of(dispatch(
             &mut self.store,
             &mut self.catalog,
+            &mut self.keys,
             alloc,
             &self.scheme,
             at,

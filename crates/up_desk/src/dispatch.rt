@@ -26,6 +26,7 @@ use up_canon::moment::{LAST_COMMAND_MOMENT, Moment};
 use up_canon::refusal::Refusal;
 use up_machine::answer::Answer;
 use up_machine::command::Command;
+use up_sign::key_cache::KeyCache;
 use up_sign::scheme::Scheme;
 use up_store::store::Store;
 
@@ -34,6 +35,7 @@ use up_store::store::Store;
 pub fn dispatch<K: Scheme, D: Alter>(
     store: &mut Store<D>,
     catalog: &mut Option<Catalog>,
+    keys: &mut KeyCache,
     alloc: Global,
     scheme: &K,
     at: u64,
@@ -48,7 +50,7 @@ pub fn dispatch<K: Scheme, D: Alter>(
 {
     drop_before(command, catalog);
     match command_moment(at) {
-        Some(at) => dispatch_at(store, catalog, alloc, scheme, at, command),
+        Some(at) => dispatch_at(store, catalog, keys, alloc, scheme, at, command),
         None => Err(Refusal::MomentOutOfRange),
     }
 }
@@ -57,6 +59,7 @@ pub fn dispatch<K: Scheme, D: Alter>(
 fn dispatch_at<K: Scheme, D: Alter>(
     store: &mut Store<D>,
     catalog: &mut Option<Catalog>,
+    keys: &mut KeyCache,
     alloc: Global,
     scheme: &K,
     at: Moment,
@@ -80,7 +83,7 @@ fn dispatch_at<K: Scheme, D: Alter>(
         Command::ReplaceEcu(new) => replace_ecu(store, alloc, scheme, at, new),
         Command::OpenCampaign(campaign) => open(store, alloc, at, campaign),
         Command::CloseCampaign(name) => close(store, alloc, at, name),
-        Command::Deliver(body) => deliver(store, catalog, alloc, scheme, at, body),
+        Command::Deliver(body) => deliver(store, catalog, keys, alloc, scheme, at, body),
         Command::Fetch(repository, name) => fetch(store, alloc, at, *repository, name),
     }
 }

@@ -11,10 +11,10 @@ use Rattle.up_manifest.specs.declared.manifest.Incoming.{Incoming}
 use Rattle.up_manifest.specs.declared.manifest.Manifest.{Manifest}
 use Rattle.up_manifest.specs.declared.report.SignedReport.{SignedReport}
 use Rattle.up_manifest.specs.Manifests.{manifest_of}
-use Rattle.up_plan.specs.declared.assigned.Fitted.{Fitted}
 use Rattle.up_plan.specs.declared.assigned.Plan.{Plan}
-use Rattle.up_plan.specs.Campaigns.{CampaignData}
+use Rattle.up_plan.specs.declared.campaign.Item.{Item}
 use Rattle.up_plan.specs.Images.{ImageData}
+use Rattle.up_plan.specs.Offers.{OffersSame, OffersAloneCount}
 use Rattle.up_plan.specs.Planning.{items_for, resulting, plan_from, plan_of}
 use Rattle.up_metadata.specs.Files.{Root, role_texts}
 use Rattle.up_machine.specs.declared.rows.EcuRow.{EcuRow}
@@ -84,30 +84,33 @@ row_accepted name v e later =
 
 -- ---- the plan
 
--- it depends on the campaigns through their items for the vehicle alone
-same_items : (images : List ImageData) (campaigns others : List CampaignData) (vehicle : Name) (fitted : List Fitted) → items_for campaigns vehicle ≡ items_for others vehicle
-    → plan_of images campaigns vehicle fitted ≡ plan_of images others vehicle fitted
-unfolding plan_of
-same_items images campaigns others vehicle fitted same = ap (λ items. plan_from (resulting images items fitted)) same
+-- it depends on the items through what they offer alone
+same_plan : OffersAloneCount → (images : Table ImageData) (items others : List Item) (rows : VehicleRows) (reports : List SignedReport) → OffersSame items others
+    → plan_by_rows images items rows reports ≡ plan_by_rows images others rows reports
+unfolding plan_by_rows
+same_plan law images items others rows reports same = law (table.values images) items others (fitted_in reports rows.ecus) same
 
-pub accepted_alike : (k : Rules) (f : Founding) (rows : VehicleRows) (at : ℕ) (incoming : Incoming) (images : Table ImageData) (campaigns others : List CampaignData)
-    → items_for campaigns rows.vehicle.vehicle ≡ items_for others rows.vehicle.vehicle
-    → accepted_rows k f rows at incoming images campaigns ≡ accepted_rows k f rows at incoming images others
-accepted_alike k f rows at incoming images campaigns others same =
+pub accepted_alike : OffersAloneCount → (k : Rules) (f : Founding) (rows : VehicleRows) (at : ℕ) (incoming : Incoming) (images : Table ImageData) (items others : List Item)
+    → OffersSame items others → accepted_rows k f rows at incoming images items ≡ accepted_rows k f rows at incoming images others
+accepted_alike law k f rows at incoming images items others same =
     ap {B = AcceptedRows} (λ (plan : Plan). record {
       vehicle = record { vehicle = accepted_row rows.vehicle incoming.manifest.counter; ecus = map (reported_row incoming.manifest.reports) rows.ecus };
       kept = kept_of k f rows.vehicle at incoming images plan;
-    }) (same_items (table.values images) campaigns others rows.vehicle.vehicle (fitted_in incoming.manifest.reports rows.ecus) same)
+    }) (same_plan law images items others rows incoming.manifest.reports same)
 
 -- ---- the kept row
+
+-- the items of the state's campaigns for the vehicle
+abbrev items_in : State → Received → List Item
+items_in s d = items_for (table.values s.campaigns) d.incoming.manifest.vehicle
 
 fitted_same : (v : Vehicle) (reports : List SignedReport) (ecus : List NewEcu) → fitted_in reports (map (ecu_row v) ecus) ≡ filter_map (fitted reports) ecus
 fitted_same v reports [] = refl
 fitted_same v reports (n ∷ ecus) = ap (cons_option (fitted reports n)) (fitted_same v reports ecus)
 
-plan_same : (s : State) (d : Received) → plan_by_rows s.images (table.values s.campaigns) (rows_of d.incoming.manifest.vehicle d.vehicle) d.incoming.manifest.reports ≡ plan_in s d
-unfolding plan_in
-plan_same s d = ap (plan_of (table.values s.images) (table.values s.campaigns) d.incoming.manifest.vehicle) (fitted_same d.vehicle d.incoming.manifest.reports d.vehicle.ecus)
+plan_same : (s : State) (d : Received) → plan_by_rows s.images (items_in s d) (rows_of d.incoming.manifest.vehicle d.vehicle) d.incoming.manifest.reports ≡ plan_in s d
+unfolding plan_in plan_of plan_by_rows
+plan_same s d = ap (λ fitted. plan_from (resulting (table.values s.images) (items_in s d) fitted)) (fitted_same d.vehicle d.incoming.manifest.reports d.vehicle.ecus)
 
 -- the founding's row of the last root version
 abbrev founding_of : State → Root → Founding
@@ -140,7 +143,7 @@ kept_same k s at d root there =
 by_root : (k : Rules) (s : State) (at : ℕ) (d : Received) (root : Root) → root_at s (length s.roots) ≡ Some root
     → last_counter d.vehicle.entries < d.incoming.manifest.counter → manifest_of d.incoming.envelope.signed ≡ Some d.incoming.manifest
     → HasAcceptedRows k s d.incoming.manifest.vehicle d.vehicle (entry_of s at d)
-    (accepted_rows k (founding_of s root) (rows_of d.incoming.manifest.vehicle d.vehicle) at d.incoming s.images (table.values s.campaigns))
+    (accepted_rows k (founding_of s root) (rows_of d.incoming.manifest.vehicle d.vehicle) at d.incoming s.images (items_in s d))
 by_root k s at d root there later read =
     let name = d.incoming.manifest.vehicle in
     let e = entry_of s at d in
@@ -155,8 +158,8 @@ by_root k s at d root there later read =
 pub accepted_are : (k : Rules) (s : State) (at : ℕ) (d : Received) (f : Founding) → founding_row s ≡ Some f
     → last_counter d.vehicle.entries < d.incoming.manifest.counter → manifest_of d.incoming.envelope.signed ≡ Some d.incoming.manifest
     → HasAcceptedRows k s d.incoming.manifest.vehicle d.vehicle (entry_of s at d)
-    (accepted_rows k f (rows_of d.incoming.manifest.vehicle d.vehicle) at d.incoming s.images (table.values s.campaigns))
+    (accepted_rows k f (rows_of d.incoming.manifest.vehicle d.vehicle) at d.incoming s.images (items_in s d))
 accepted_are k s at d f founded later read =
     let root = map_some (founding_of s) (root_at s (length s.roots)) f founded in
-    subst (λ (f : Founding). HasAcceptedRows k s d.incoming.manifest.vehicle d.vehicle (entry_of s at d) (accepted_rows k f (rows_of d.incoming.manifest.vehicle d.vehicle) at d.incoming s.images (table.values s.campaigns))) root.2
+    subst (λ (f : Founding). HasAcceptedRows k s d.incoming.manifest.vehicle d.vehicle (entry_of s at d) (accepted_rows k f (rows_of d.incoming.manifest.vehicle d.vehicle) at d.incoming s.images (items_in s d))) root.2
     (by_root k s at d root.0 root.1 later read)

@@ -1,8 +1,9 @@
 -- What the decision on a manifest comes to at each of its ends, over the rows of a state.
-use Rattle.std.proofs.Common.{◌≡◌, ℕ, ◌<◌, ◌≤◌, Option, Some, None, Ok, Err, refl, sym, ap, ◌∙◌, subst}
+use Rattle.std.proofs.Common.{◌≡◌, ℕ, ◌<◌, ◌≤◌, List, Option, Some, None, Ok, Err, refl, sym, ap, ◌∙◌, subst}
 use Rattle.std.specs.Prelude.{⊤, option_map}
 use Rattle.std.specs.FinMap as table
 use Rattle.up_canon.specs.Moments.{last_command_moment}
+use Rattle.up_canon.specs.Names.{Table}
 use Rattle.up_canon.specs.Steps.{and_then, ◌>>=◌, or_error}
 use Rattle.up_canon.specs.declared.refusal.Refusal.{Refusal}
 use Rattle.up_canon.specs.declared.refusal.Refusal.TheVariants.{NotFounded, UnknownVehicle}
@@ -10,7 +11,11 @@ use Rattle.up_sign.specs.Schemes.{Rules}
 use Rattle.up_manifest.specs.declared.manifest.Incoming.{Incoming}
 use Rattle.up_manifest.specs.Laws.{BodiesAreRead, SignedTextsMean}
 use Rattle.up_manifest.specs.Manifests.{manifest_of}
+use Rattle.up_plan.specs.declared.campaign.Item.{Item}
+use Rattle.up_plan.specs.Images.{ImageData}
 use Rattle.up_plan.specs.Laws.{OtherImagesChangeNothing}
+use Rattle.up_plan.specs.Offers.{OffersAloneCount}
+use Rattle.up_plan.specs.Planning.{items_for}
 use Rattle.up_machine.specs.declared.answer.Answer.TheVariants.{Reply as Replied}
 use Rattle.up_machine.specs.declared.rows.Founding.{Founding}
 use Rattle.up_machine.specs.declared.rows.Kept.{Kept}
@@ -22,6 +27,7 @@ use Rattle.up_machine.specs.Deliveries.{Received, receive_manifest, accepted, de
 use Rattle.up_machine.specs.Repeats.{repeat_in}
 use Rattle.up_machine.specs.Rows.{founding_row, rows_of, vehicle_rows, reply_kept}
 use Rattle.up_machine.specs.Sound.{IsSound}
+use Rattle.up_machine.specs.Senders.{ArePlanned}
 use Rattle.up_machine.specs.Decisions.{IsRead, DeliveryData, AreRowsFor, resolve, decide_incoming, GivesDelivered}
 use Rattle.up_machine.specs.ManifestRows.{check_primary, repeated, check_new_of, accepted_rows}
 use Rattle.up_canon.proofs.Steps.{bind-ok, bind-err, map_some}
@@ -141,21 +147,22 @@ bad_manifest bodies texts k s at incoming rows f vehicle x e given there is good
     let h = by_vehicle s incoming rows.vehicle vehicle given.of_state.vehicle is in
     as_new bodies texts k s at incoming rows f vehicle x given there h good fresh ∙ bind-err _ _ e bad
 
-pub is_accepted : OtherImagesChangeNothing → BodiesAreRead → SignedTextsMean → (k : Rules) (s : State) (at : ℕ) (incoming : Incoming) (rows : DeliveryData) (f : Founding) (vehicle : VehicleRows) (x y : ⊤)
-    → Given k s at incoming rows → rows.founding ≡ Some f → rows.vehicle ≡ Some vehicle → check_primary k vehicle incoming ≡ Ok x → repeated incoming rows.kept ≡ None
+pub is_accepted : OtherImagesChangeNothing → OffersAloneCount → BodiesAreRead → SignedTextsMean → (k : Rules) (s : State) (at : ℕ) (incoming : Incoming) (rows : DeliveryData) (f : Founding) (vehicle : VehicleRows) (x y : ⊤)
+    (images : Table ImageData) (items : List Item) → ArePlanned s incoming.manifest images items → Given k s at incoming rows → rows.founding ≡ Some f → rows.vehicle ≡ Some vehicle → check_primary k vehicle incoming ≡ Ok x → repeated incoming rows.kept ≡ None
     → check_new_of k vehicle incoming.manifest ≡ Ok y → vehicle.vehicle.last < incoming.manifest.counter
-    → GivesDelivered k s incoming.manifest.vehicle (Ok (Accepted (accepted_rows k f vehicle at incoming rows.images rows.campaigns))) (decide_incoming k s at incoming)
-is_accepted others bodies texts k s at incoming rows f vehicle x y given there is good fresh passes later =
+    → GivesDelivered k s incoming.manifest.vehicle (Ok (Accepted (accepted_rows k f vehicle at incoming images items))) (decide_incoming k s at incoming)
+is_accepted others offers bodies texts k s at incoming rows f vehicle x y images items planned given there is good fresh passes later =
     let h = by_vehicle s incoming rows.vehicle vehicle given.of_state.vehicle is in
     let d : Received = record { vehicle = h.v; incoming = incoming } in
     let above : last_counter h.v.entries < incoming.manifest.counter = subst (λ (r : VehicleRows). r.vehicle.last < incoming.manifest.counter) (sym h.same) later in
     let read : manifest_of incoming.envelope.signed ≡ Some incoming.manifest = texts given.read.0 incoming given.read.1 in
     let has = accepted_are k s at d f (sym given.of_state.founding ∙ there) above read in
     let comes = as_new bodies texts k s at incoming rows f vehicle x given there h good fresh ∙ bind-ok _ _ y passes in
-    let same : accepted_rows k f (rows_of incoming.manifest.vehicle h.v) at incoming s.images (table.values s.campaigns) ≡ accepted_rows k f vehicle at incoming rows.images rows.campaigns =
-    accepted_alike k f (rows_of incoming.manifest.vehicle h.v) at incoming s.images (table.values s.campaigns) rows.campaigns (sym given.of_state.campaigns)
-    ∙ images_alike others rows.campaigns (rows_of incoming.manifest.vehicle h.v) incoming k f at rows.images s.images given.of_state.images
+    let all = items_for (table.values s.campaigns) incoming.manifest.vehicle in
+    let same : accepted_rows k f (rows_of incoming.manifest.vehicle h.v) at incoming s.images all ≡ accepted_rows k f vehicle at incoming images items =
+    images_alike others (table.values s.campaigns) (rows_of incoming.manifest.vehicle h.v) incoming k f at images s.images planned.images_are
     (λ file image is. (given.sound.repositories.each_image file image is).named)
-    ∙ ap (λ r. accepted_rows k f r at incoming rows.images rows.campaigns) h.same in
+    ∙ accepted_alike offers k f (rows_of incoming.manifest.vehicle h.v) at incoming images all items (λ hardware image. sym (planned.items_are hardware image))
+    ∙ ap (λ r. accepted_rows k f r at incoming images items) h.same in
     subst (λ a. GivesDelivered k s incoming.manifest.vehicle (Ok (Accepted a)) (decide_incoming k s at incoming)) same
     (h.v, entry_of s at d, h.there, comes ∙ ap (λ reply. Ok (record { answer = Replied reply; next = with_entry s incoming.manifest.vehicle h.v (entry_of s at d) })) (sym (ap reply_kept has.kept)), has)

@@ -14,14 +14,15 @@ use Rattle.up_plan.specs.declared.assigned.Assigned.{Assigned}
 use Rattle.up_plan.specs.declared.assigned.Cause.{Cause}
 use Rattle.up_plan.specs.declared.assigned.Fitted.{Fitted}
 use Rattle.up_plan.specs.declared.campaign.Item.{Item}
-use Rattle.up_plan.specs.Campaigns.{CampaignData}
+use Rattle.up_plan.specs.ByFile.{offers_at, registered_at, resulting_at}
+use Rattle.up_plan.specs.ByOffers.{wanted_by, with_wanted_by}
 use Rattle.up_plan.specs.Images.{ImageData, image_fits}
-use Rattle.up_plan.specs.Planning.{Resulting, with_wanted, wanted, resulting, updates, unmet, plan_with, plan_of, items_for}
+use Rattle.up_plan.specs.Planning.{Resulting, updates, unmet, plan_with, plan_from}
 use Rattle.up_machine.specs.declared.rows.EcuRow.{EcuRow}
 use Rattle.up_machine.specs.declared.rows.VehicleRows.{VehicleRows}
 use Rattle.up_machine.specs.Files.{target_of}
 use Rattle.up_machine.specs.State.{report_of}
-use Rattle.up_machine.specs.ManifestRows.{fitted_of, fitted_in, target_for, plan_by_rows}
+use Rattle.up_machine.specs.ManifestRows.{fitted_of, fitted_in, target_for}
 use Rattle.up_machine.proofs.DistinctNames.{Distinct, distinct, once_of, distinct_some}
 
 -- ---- a target of an image that fits
@@ -77,13 +78,15 @@ fitted_same reports row f h = by_report (report_of row.ecu reports) h
     by_report None h = cc
     by_report (Some r) h = let same : ◌≡◌ {A = Fitted} (record { ecu = row.ecu; hardware = row.hardware; image = r.report.image }) f = cc in sym (ap (λ (x : Fitted). x.ecu) same)
 
-wanted_ecu : (images : List ImageData) (e : Fitted) (o : Option ImageData) → (with_wanted images e o).ecu ≡ e.ecu
-wanted_ecu images e None = refl
-wanted_ecu images e (Some image) = refl
+wanted_ecu : (e : Fitted) (known o : Option ImageData) → (with_wanted_by e known o).ecu ≡ e.ecu
+wanted_ecu e known None = refl
+wanted_ecu e known (Some image) = refl
 
-resulting_ecus : (images : List ImageData) (items : List Item) (fitted : List Fitted) → map (λ r. r.ecu) (resulting images items fitted) ≡ map (λ e. e.ecu) fitted
+resulting_ecus : (images : Table ImageData) (items : List Item) (fitted : List Fitted) → map (λ r. r.ecu) (resulting_at images items fitted) ≡ map (λ e. e.ecu) fitted
 resulting_ecus images items [] = refl
-resulting_ecus images items (e ∷ fitted) = ap₂ (λ name names. name ∷ names) (wanted_ecu images e (wanted images items e)) (resulting_ecus images items fitted)
+resulting_ecus images items (e ∷ fitted) =
+    let known = registered_at images e in
+    ap₂ (λ name names. name ∷ names) (wanted_ecu e known (wanted_by (offers_at images items) e known)) (resulting_ecus images items fitted)
 
 none_updated : (p : Name → Bool) (set : List Resulting) → list_any p (map (λ r. r.ecu) set) ≡ false → list_any p (named (updates set)) ≡ false
 none_updated p [] h = refl
@@ -108,13 +111,11 @@ plan_apart [] cause h = tt
 plan_apart (a ∷ rest) None h = h
 plan_apart (a ∷ rest) (Some cause) h = tt
 
-pub planned_once : (images : Table ImageData) (campaigns : List CampaignData) (rows : VehicleRows) (reports : List SignedReport) → first_repeated (map (λ row. row.ecu) rows.ecus) ≡ None
-    → first_repeated (map (λ a. a.ecu) (plan_by_rows images campaigns rows reports).assigned) ≡ None
-unfolding plan_of
-planned_once images campaigns rows reports once =
+pub planned_once : (images : Table ImageData) (items : List Item) (rows : VehicleRows) (reports : List SignedReport) → first_repeated (map (λ row. row.ecu) rows.ecus) ≡ None
+    → first_repeated (map (λ a. a.ecu) (plan_from (resulting_at images items (fitted_in reports rows.ecus))).assigned) ≡ None
+planned_once images items rows reports once =
     let fitted = fitted_in reports rows.ecus in
-    let items = items_for campaigns rows.vehicle.vehicle in
-    let set = resulting (table.values images) items fitted in
+    let set = resulting_at images items fitted in
     let apart : Distinct (map (λ (f : Fitted). f.ecu) fitted) = distinct_some (fitted_of reports) (λ (row : EcuRow). row.ecu) (λ (f : Fitted). f.ecu) (fitted_same reports) rows.ecus (distinct (rows_named rows.ecus) once) in
-    let resulting_apart : Distinct (map (λ (r : Resulting). r.ecu) set) = subst Distinct (sym (resulting_ecus (table.values images) items fitted)) apart in
+    let resulting_apart : Distinct (map (λ (r : Resulting). r.ecu) set) = subst Distinct (sym (resulting_ecus images items fitted)) apart in
     once_of _ (plan_apart (updates set) (first_or_none (unmet set)) (updates_apart set resulting_apart))

@@ -19,10 +19,11 @@ use Rattle.up_plan.specs.declared.assigned.Assigned.{Assigned}
 use Rattle.up_plan.specs.declared.assigned.Fitted.{Fitted}
 use Rattle.up_plan.specs.declared.assigned.Plan.{Plan}
 use Rattle.up_plan.specs.declared.campaign.Item.{Item}
+use Rattle.up_plan.specs.ByFile.{AreByFile}
 use Rattle.up_plan.specs.Campaigns.{CampaignData}
 use Rattle.up_plan.specs.Images.{ImageData}
 use Rattle.up_plan.specs.Laws.{OtherImagesChangeNothing}
-use Rattle.up_plan.specs.Planning.{items_for}
+use Rattle.up_plan.specs.Planning.{items_for, plan_of}
 use Rattle.up_machine.specs.declared.rows.EcuRow.{EcuRow}
 use Rattle.up_machine.specs.declared.rows.Founding.{Founding}
 use Rattle.up_machine.specs.declared.rows.Kept.{Kept}
@@ -98,9 +99,6 @@ same_entries p t u same =
     ∙ ap table.entries (same_passing p t u same)
     ∙ table.entries-from_sorted (slice_cmp nat_cmp) (entries_passing p u) (sorted_passing p u)
 
-abbrev IsNamed : Table ImageData → Type 0
-IsNamed t = (file : Name) (image : ImageData) → table.get t file ≡ Some image → image.file ≡ file
-
 values_passing : (p : Name → Bool) (es : List (Name × ImageData)) → AllByRecursion (λ e. e.1.file ≡ e.0) es → filter (λ image. p image.file) (map (λ e. e.1) es) ≡ map (λ e. e.1) (filter (λ e. p e.0) es)
 values_passing p [] h = refl
 values_passing p (e ∷ es) h =
@@ -112,10 +110,10 @@ values_passing p (e ∷ es) h =
     by_test true rest = ap (λ images. e.1 ∷ images) rest
     by_test false rest = rest
 
-values_named : (p : Name → Bool) (t : Table ImageData) → IsNamed t → filter (λ image. p image.file) (table.values t) ≡ map (λ e. e.1) (entries_passing p t)
+values_named : (p : Name → Bool) (t : Table ImageData) → AreByFile t → filter (λ image. p image.file) (table.values t) ≡ map (λ e. e.1) (entries_passing p t)
 values_named p t named = values_passing p (table.entries t) (each_weaker _ _ (λ e there. named e.0 e.1 there) (table.entries t) (each_found t))
 
-same_values : (p : Name → Bool) (t u : Table ImageData) → IsNamed t → IsNamed u → ((q : Name) → p q ≡ true → table.get t q ≡ table.get u q)
+same_values : (p : Name → Bool) (t u : Table ImageData) → AreByFile t → AreByFile u → ((q : Name) → p q ≡ true → table.get t q ≡ table.get u q)
     → filter (λ image. p image.file) (table.values t) ≡ filter (λ image. p image.file) (table.values u)
 same_values p t u t_named u_named same =
     values_named p t t_named ∙ ap (map (λ (e : Name × ImageData). e.1)) (same_entries p t u same) ∙ sym (values_named p u u_named)
@@ -174,16 +172,22 @@ module _ (law : OtherImagesChangeNothing) (campaigns : List CampaignData) (rows 
   reports_pass =
       all_weaker _ _ (λ r h. among_after (map (λ (i : Item). i.file) items) _ r.report.image.file h) reports (each_among (λ (r : SignedReport). r.report.image.file) reports)
 
-  plan_alike : (images others : Table ImageData) → filter (λ image. is_among files image.file) (table.values images) ≡ filter (λ image. is_among files image.file) (table.values others)
-      → plan_by_rows images campaigns rows reports ≡ plan_by_rows others campaigns rows reports
-  plan_alike images others same =
-      law (is_among files) (table.values images) (table.values others) campaigns rows.vehicle.vehicle (fitted_in reports rows.ecus) items_pass (fitted_pass (is_among files) reports rows.ecus reports_pass) same
+  by_campaigns : (images : Table ImageData) → plan_by_rows images items rows reports ≡ plan_of (table.values images) campaigns rows.vehicle.vehicle (fitted_in reports rows.ecus)
+  unfolding plan_by_rows plan_of
+  by_campaigns images = refl
 
-  assigned_pass : (images : Table ImageData) → AllByRecursion (λ (a : Assigned). is_among files a.file ≡ true) (plan_by_rows images campaigns rows reports).assigned
+  plan_alike : (images others : Table ImageData) → filter (λ image. is_among files image.file) (table.values images) ≡ filter (λ image. is_among files image.file) (table.values others)
+      → plan_by_rows images items rows reports ≡ plan_by_rows others items rows reports
+  plan_alike images others same =
+      by_campaigns images
+      ∙ law (is_among files) (table.values images) (table.values others) campaigns rows.vehicle.vehicle (fitted_in reports rows.ecus) items_pass (fitted_pass (is_among files) reports rows.ecus reports_pass) same
+      ∙ sym (by_campaigns others)
+
+  assigned_pass : (images : Table ImageData) → AllByRecursion (λ (a : Assigned). is_among files a.file ≡ true) (plan_by_rows images items rows reports).assigned
   assigned_pass images =
       let few = filter (λ image. is_among files image.file) (table.values images) in
       subst (λ (plan : Plan). AllByRecursion (λ (a : Assigned). is_among files a.file ≡ true) plan.assigned)
-      (sym (law (is_among files) (table.values images) few campaigns rows.vehicle.vehicle (fitted_in reports rows.ecus) items_pass
+      (sym (by_campaigns images ∙ law (is_among files) (table.values images) few campaigns rows.vehicle.vehicle (fitted_in reports rows.ecus) items_pass
       (fitted_pass (is_among files) reports rows.ecus reports_pass) (filter_twice (λ image. is_among files image.file) (table.values images))))
       (plan_passes (is_among files) few campaigns rows.vehicle.vehicle (fitted_in reports rows.ecus) (filter_passes (λ image. is_among files image.file) (table.values images)))
 
@@ -193,13 +197,13 @@ module _ (law : OtherImagesChangeNothing) (campaigns : List CampaignData) (rows 
   targets_alike images others same (a ∷ assigned) h =
       ap₂ cons_option (ap (option_map (target_of (Some a.ecu))) (same a.file h.0)) (targets_alike images others same assigned h.1)
 
-  pub images_alike : (k : Rules) (f : Founding) (at : ℕ) (images others : Table ImageData) → AreImagesOf files images others → IsNamed others
-      → accepted_rows k f rows at incoming others campaigns ≡ accepted_rows k f rows at incoming images campaigns
+  pub images_alike : (k : Rules) (f : Founding) (at : ℕ) (images others : Table ImageData) → AreImagesOf files images others → AreByFile others
+      → accepted_rows k f rows at incoming others items ≡ accepted_rows k f rows at incoming images items
   images_alike k f at images others are named =
       let same : (q : Name) → is_among files q ≡ true → table.get others q ≡ table.get images q = λ q h. sym (agree_at images others files q are.same h) in
       let plan = plan_alike others images (same_values (is_among files) others images named are.named same) in
-      let targets = targets_alike others images same (plan_by_rows images campaigns rows reports).assigned (assigned_pass images) in
-      let kept : kept_of k f rows.vehicle at incoming others (plan_by_rows others campaigns rows reports) ≡ kept_of k f rows.vehicle at incoming images (plan_by_rows images campaigns rows reports) =
+      let targets = targets_alike others images same (plan_by_rows images items rows reports).assigned (assigned_pass images) in
+      let kept : kept_of k f rows.vehicle at incoming others (plan_by_rows others items rows reports) ≡ kept_of k f rows.vehicle at incoming images (plan_by_rows images items rows reports) =
       ap (kept_of k f rows.vehicle at incoming others) plan
       ∙ ap {B = Kept} (λ targets. record {
         vehicle = rows.vehicle.vehicle;
@@ -208,7 +212,7 @@ module _ (law : OtherImagesChangeNothing) (campaigns : List CampaignData) (rows 
         at = at;
         root = f.root;
         signed = incoming.envelope.signed;
-        plan = plan_by_rows images campaigns rows reports;
+        plan = plan_by_rows images items rows reports;
         reply = reply_of k f rows.vehicle at targets;
       }) targets in
       ap {B = AcceptedRows} (λ (kept : Kept). record {

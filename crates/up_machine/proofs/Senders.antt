@@ -1,22 +1,23 @@
 -- The steps of the decision on a manifest, over the rows of a state.
-use Rattle.std.proofs.Common.{◌≡◌, ℕ, ◌+◌, ◌<◌, ◌≤◌, List, [], ◌∷◌, Bool, true, false, cond, max, Option, Some, None, Result, Ok, Err, refl, sym, ap, ◌∙◌, subst, arith}
+use Rattle.std.proofs.Common.{◌≡◌, ℕ, ◌+◌, ◌<◌, ◌≤◌, List, [], ◌∷◌, true, false, Option, Some, None, Result, Ok, Err, refl, sym, ap, ◌∙◌, subst, arith}
 use Rattle.std.proofs.lemmas.Bool.Decides.{nat_tests}
 use Rattle.std.proofs.lemmas.Result.{err_from_is_err_and}
-use Rattle.std.specs.Prelude.{⊤, ◌==◌, ◌≢◌, bytes_eq, find, nat_le, nat_lt, option_and_then, option_map, IsErrAnd}
+use Rattle.std.specs.Prelude.{⊤, ◌==◌, find, nat_le, option_and_then, option_map, IsErrAnd}
 use Rattle.std.specs.List.{AllByRecursion, enumerate_from}
 use Rattle.std.specs.FinMap as table
 use Rattle.up_canon.specs.Moments.{last_command_moment}
 use Rattle.up_canon.specs.Names.{Name, Table}
-use Rattle.up_canon.specs.Steps.{and_then, ◌>>=◌, or_error, refuse_if, if_passes}
+use Rattle.up_canon.specs.Steps.{◌>>=◌, or_error, refuse_if}
 use Rattle.up_canon.specs.declared.refusal.Refusal.{Refusal}
 use Rattle.up_canon.specs.declared.refusal.Refusal.TheVariants.{NotFounded, UnknownVehicle, Stale}
 use Rattle.up_sign.specs.Schemes.{Rules}
 use Rattle.up_manifest.specs.declared.manifest.Incoming.{Incoming}
 use Rattle.up_manifest.specs.declared.manifest.Manifest.{Manifest}
 use Rattle.up_manifest.specs.Laws.{BodiesAreRead, SignedTextsMean}
-use Rattle.up_plan.specs.Campaigns.{CampaignData}
+use Rattle.up_plan.specs.declared.campaign.Item.{Item}
 use Rattle.up_plan.specs.Images.{ImageData}
 use Rattle.up_plan.specs.Laws.{OtherImagesChangeNothing}
+use Rattle.up_plan.specs.Offers.{OffersAloneCount}
 use Rattle.up_machine.specs.declared.answer.Answer.TheVariants.{Reply as Replied}
 use Rattle.up_machine.specs.declared.decision.Delivered.TheVariants.{Accepted}
 use Rattle.up_machine.specs.declared.rows.Founding.{Founding}
@@ -25,8 +26,8 @@ use Rattle.up_machine.specs.declared.rows.VehicleRows.{VehicleRows}
 use Rattle.up_machine.specs.State.{Entry, Vehicle, State, last_counter}
 use Rattle.up_machine.specs.Sound.{IsSound}
 use Rattle.up_machine.specs.Deciding.{check_founded}
-use Rattle.up_machine.specs.Deliveries.{Received, receive_manifest}
-use Rattle.up_machine.specs.Decisions.{IsRead, DeliveryData, AreImagesOf, AreRowsFor, decide_incoming, files_named, GivesDelivered}
+use Rattle.up_machine.specs.Deliveries.{receive_manifest}
+use Rattle.up_machine.specs.Decisions.{IsRead, DeliveryData, decide_incoming, files_named, GivesDelivered}
 use Rattle.up_machine.specs.ManifestRows.{accepted_rows, check_primary, check_new_of, check_reports_of, repeated}
 use Rattle.up_machine.specs.Rows.{founding_row, kept_at, kept_row, reply_kept, rows_of, vehicle_rows}
 use Rattle.up_machine.specs.Senders.{ArePlanned, GivesSender, IsSenderOf, SenderData}
@@ -194,23 +195,11 @@ new_refused bodies texts k s at incoming sender e sound moment read from later b
     bad_manifest bodies texts k s at incoming (all_rows k s incoming.manifest) sender.founding sender.vehicle tt e (all_given k s at incoming sound moment read)
     from.founding from.vehicle (signed_by k s incoming sender from) (not_repeated k s incoming sender from later) (later_of k sender.vehicle incoming.manifest later ∙ bad)
 
-pub new_accepted : OtherImagesChangeNothing → BodiesAreRead → SignedTextsMean → (k : Rules) (s : State) (at : ℕ) (incoming : Incoming) (sender : SenderData) (images : Table ImageData) (campaigns : List CampaignData)
-    → IsSound k s → at ≤ last_command_moment → IsRead incoming → IsSenderOf k s incoming sender → ArePlanned s incoming.manifest images campaigns → sender.vehicle.vehicle.last < incoming.manifest.counter
+pub new_accepted : OtherImagesChangeNothing → OffersAloneCount → BodiesAreRead → SignedTextsMean → (k : Rules) (s : State) (at : ℕ) (incoming : Incoming) (sender : SenderData) (images : Table ImageData) (items : List Item)
+    → IsSound k s → at ≤ last_command_moment → IsRead incoming → IsSenderOf k s incoming sender → ArePlanned s incoming.manifest images items → sender.vehicle.vehicle.last < incoming.manifest.counter
     → check_reports_of k sender.vehicle.ecus incoming.manifest.reports ≡ Ok tt
-    → GivesDelivered k s incoming.manifest.vehicle (Ok (Accepted (accepted_rows k sender.founding sender.vehicle at incoming images campaigns))) (decide_incoming k s at incoming)
-new_accepted others bodies texts k s at incoming sender images campaigns sound moment read from planned later passes =
-    let rows : DeliveryData = record {
-      founding = founding_row s;
-      vehicle = vehicle_rows s incoming.manifest.vehicle;
-      kept = kept_at k s incoming.manifest.vehicle incoming.manifest.counter;
-      images = images;
-      campaigns = campaigns;
-    } in
-    let given : Given k s at incoming rows = record {
-      sound = sound;
-      moment = moment;
-      read = read;
-      of_state = record { founding = refl; vehicle = refl; kept = refl; images = planned.images_are; campaigns = planned.items };
-    } in
-    is_accepted others bodies texts k s at incoming rows sender.founding sender.vehicle tt tt given from.founding from.vehicle (signed_by k s incoming sender from)
+    → GivesDelivered k s incoming.manifest.vehicle (Ok (Accepted (accepted_rows k sender.founding sender.vehicle at incoming images items))) (decide_incoming k s at incoming)
+new_accepted others offers bodies texts k s at incoming sender images items sound moment read from planned later passes =
+    is_accepted others offers bodies texts k s at incoming (all_rows k s incoming.manifest) sender.founding sender.vehicle tt tt images items planned (all_given k s at incoming sound moment read)
+    from.founding from.vehicle (signed_by k s incoming sender from)
     (not_repeated k s incoming sender from later) (later_of k sender.vehicle incoming.manifest later ∙ passes) later

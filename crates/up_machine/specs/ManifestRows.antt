@@ -17,9 +17,9 @@ use Rattle.up_roles.specs.declared.targets.Target.{Target}
 use Rattle.up_plan.specs.declared.assigned.Assigned.{Assigned}
 use Rattle.up_plan.specs.declared.assigned.Fitted.{Fitted}
 use Rattle.up_plan.specs.declared.assigned.Plan.{Plan}
-use Rattle.up_plan.specs.Campaigns.{CampaignData}
+use Rattle.up_plan.specs.declared.campaign.Item.{Item}
 use Rattle.up_plan.specs.Images.{ImageData}
-use Rattle.up_plan.specs.Planning.{plan_of}
+use Rattle.up_plan.specs.Planning.{plan_from, resulting}
 use Rattle.up_metadata.specs.Files.{MetadataSet, role_texts}
 use Rattle.up_machine.specs.declared.rows.EcuRow.{EcuRow}
 use Rattle.up_machine.specs.declared.rows.Founding.{Founding}
@@ -138,11 +138,12 @@ kept_of k founding row at incoming images plan = record {
   reply = reply_of k founding row at (filter_map (target_for images) plan.assigned);
 }
 
-abbrev pub plan_by_rows : Table ImageData → List CampaignData → VehicleRows → List SignedReport → Plan
-plan_by_rows images campaigns rows reports = plan_of (table.values images) campaigns rows.vehicle.vehicle (fitted_in reports rows.ecus)
+-- the plan for the vehicle's ECUs with what they report, over the items for it
+unfoldable pub plan_by_rows : Table ImageData → List Item → VehicleRows → List SignedReport → Plan
+plan_by_rows images items rows reports = plan_from (resulting (table.values images) items (fitted_in reports rows.ecus))
 
-abbrev pub accepted_rows : Rules → Founding → VehicleRows → ℕ → Incoming → Table ImageData → List CampaignData → AcceptedRows
-accepted_rows k founding rows at incoming images campaigns = record {
+abbrev pub accepted_rows : Rules → Founding → VehicleRows → ℕ → Incoming → Table ImageData → List Item → AcceptedRows
+accepted_rows k founding rows at incoming images items = record {
   vehicle = record { vehicle = accepted_row rows.vehicle incoming.manifest.counter; ecus = map (reported_row incoming.manifest.reports) rows.ecus };
-  kept = kept_of k founding rows.vehicle at incoming images (plan_by_rows images campaigns rows incoming.manifest.reports);
+  kept = kept_of k founding rows.vehicle at incoming images (plan_by_rows images items rows incoming.manifest.reports);
 }

@@ -1,29 +1,27 @@
 -- The decision on a manifest in steps: who sent it, whether it was there before, and what is new.
-use Rattle.std.specs.Prelude.{◌≡◌, ℕ, List, Some, Result, Ok, Err, IsTrue}
+use Rattle.std.specs.Prelude.{◌≡◌, List, Some, Result, Ok, Err, IsTrue}
 use Rattle.std.specs.FinMap as table
 use Rattle.up_canon.specs.Names.{Table}
 use Rattle.up_canon.specs.declared.refusal.Refusal.{Refusal}
-use Rattle.up_sign.specs.Hmac.{block_key}
 use Rattle.up_sign.specs.Schemes.{Rules}
 use Rattle.up_manifest.specs.declared.manifest.Incoming.{Incoming}
 use Rattle.up_manifest.specs.declared.manifest.Manifest.{Manifest}
-use Rattle.up_plan.specs.Campaigns.{CampaignData}
+use Rattle.up_plan.specs.declared.campaign.Item.{Item}
 use Rattle.up_plan.specs.Images.{ImageData}
+use Rattle.up_plan.specs.Offers.{OffersSame}
 use Rattle.up_plan.specs.Planning.{items_for}
 use Rattle.up_machine.specs.declared.rows.Founding.{Founding}
 use Rattle.up_machine.specs.declared.rows.VehicleRows.{VehicleRows}
 use Rattle.up_machine.specs.State.{State}
 use Rattle.up_machine.specs.Deliveries.{Received, receive_manifest}
 use Rattle.up_machine.specs.Decisions.{files_named, AreImagesOf}
-use Rattle.up_machine.specs.ManifestRows.{public_of_row}
 use Rattle.up_machine.specs.Rows.{founding_row, vehicle_rows}
 use Rattle.up_machine.specs.RowsFit.{founding_fits, rows_fit}
 
--- a founding, the rows of a vehicle, and what is computed once of its Primary's key
+-- a founding and the rows of a vehicle
 pub record SenderData : Type 0 where
   pub founding : Founding
   pub vehicle : VehicleRows
-  pub key : List ℕ
 
 -- they are those of the state, and no check up to the Primary's signature refuses the manifest
 pub record IsSenderOf (k : Rules) (s : State) (incoming : Incoming) (sender : SenderData) : Type 0 where
@@ -37,14 +35,13 @@ abbrev pub GivesSender : Rules → State → Incoming → Result SenderData Refu
 GivesSender k s incoming (Ok sender) = IsSenderOf k s incoming sender
 GivesSender k s incoming (Err r) = receive_manifest k s incoming ≡ Err r
 
--- what an answer asks of them: keys that can sign, rows that fit, and the key is the Primary's
+-- what an answer asks of them: keys that can sign, and rows that fit
 pub record CanAnswer (k : Rules) (sender : SenderData) : Type 0 where
   pub keys : IsTrue (founding_fits k sender.founding)
   pub rows : IsTrue (rows_fit sender.vehicle)
-  pub key : sender.key ≡ block_key (public_of_row sender.vehicle.ecus sender.vehicle.vehicle.primary)
 
--- the images and campaigns are those of the state that the plan for this manifest needs: of the campaigns the items for its vehicle
--- count alone, and of the images those of the files that these items and the reports name
-pub record ArePlanned (s : State) (manifest : Manifest) (images : Table ImageData) (campaigns : List CampaignData) : Type 0 where
-  pub images_are : AreImagesOf (files_named campaigns manifest.vehicle manifest.reports) images s.images
-  pub items : items_for campaigns manifest.vehicle ≡ items_for (table.values s.campaigns) manifest.vehicle
+-- the images and items are those of the state that the plan for this manifest needs: the items offer what those of the state's
+-- campaigns for its vehicle do, and of the images those of the files that the latter and the reports name count alone
+pub record ArePlanned (s : State) (manifest : Manifest) (images : Table ImageData) (items : List Item) : Type 0 where
+  pub images_are : AreImagesOf (files_named (table.values s.campaigns) manifest.vehicle manifest.reports) images s.images
+  pub items_are : OffersSame items (items_for (table.values s.campaigns) manifest.vehicle)

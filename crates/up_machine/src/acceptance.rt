@@ -3,6 +3,7 @@ ghost use Rattle.std.specs.Prelude.{◌≡◌, ◌<◌, ◌≤◌, ◌+◌, None
 ghost use Rattle.up_canon.specs.Canon.{max_count};
 ghost use Rattle.up_canon.specs.Moments.{last_command_moment};
 ghost use Rattle.up_canon.specs.Names.{first_repeated};
+ghost use Rattle.up_plan.specs.ByFile.{AreByFile};
 ghost use Rattle.up_metadata.specs.Keys.{hashed_roles, roles_can_sign};
 ghost use Rattle.up_machine.specs.ManifestRows.{accepted_row as accepted_row_of, accepted_rows as accepted_rows_of, kept_of, plan_by_rows};
 
@@ -19,9 +20,9 @@ use up_manifest::manifest::Incoming;
 use up_manifest::report::SignedReport;
 use up_metadata::hashed_keys::HashedRoleKeys;
 use up_plan::assigned::Plan;
-use up_plan::campaign::Campaign;
+use up_plan::campaign::Item;
 use up_plan::image::Image;
-use up_plan::plan::plan;
+use up_plan::plan::plan_over;
 use up_sign::scheme::Scheme;
 
 /// The rows of the manifest's vehicle with one version more, and the row that is kept for the manifest: the plan of this
@@ -35,17 +36,17 @@ pub(crate) fn accepted_rows<K: Scheme>(
     hashed: &HashedRoleKeys,
     rows: &VehicleRows,
     images: &Table<Image>,
-    campaigns: &[Campaign],
+    items: &[&Item],
 ) -> Result<AcceptedRows, AllocError>
     requires keys { IsTrue (roles_can_sign (K.rules scheme.now) founding.now.keys.director) }
     requires hashed { hashed.now ≡ hashed_roles (K.rules scheme.now) founding.now.keys.director }
     requires version { rows.now.vehicle.version < max_count }
     requires moment { at ≤ last_command_moment }
     requires once { first_repeated (map (λ row. row.ecu) rows.now.ecus) ≡ None }
-    ensures { IfOk result (λ accepted. accepted ≡ accepted_rows_of (K.rules scheme.now) founding.now rows.now at incoming.now images.now campaigns.now) }
+    ensures { AreByFile images.now → IfOk result (λ accepted. accepted ≡ accepted_rows_of (K.rules scheme.now) founding.now rows.now at incoming.now images.now (map (λ i. i.now) items.now)) }
 {
     let reports = incoming.manifest.reports.as_slice();
-    let plan = plan_for(alloc, rows, reports, images, campaigns)?;
+    let plan = plan_for(alloc, rows, reports, images, items)?;
     let kept = kept_row(
         alloc,
         scheme,
@@ -69,19 +70,14 @@ fn plan_for(
     rows: &VehicleRows,
     reports: &[SignedReport],
     images: &Table<Image>,
-    campaigns: &[Campaign],
+    items: &[&Item],
 ) -> Result<Plan, AllocError>
-    ensures { IfOk result (λ plan. plan ≡ plan_by_rows images.now campaigns.now rows.now reports.now) }
+    requires { first_repeated (map (λ row. row.ecu) rows.now.ecus) ≡ None }
+    ensures planned { AreByFile images.now → IfOk result (λ plan. plan ≡ plan_by_rows images.now (map (λ i. i.now) items.now) rows.now reports.now) }
+    ensures once { IfOk result (λ plan. first_repeated (map (λ a. a.ecu) plan.assigned) ≡ None) }
 {
     let fitted = fitted_ecus(alloc, rows.ecus.as_slice(), reports)?;
-    let vehicle = &rows.vehicle.vehicle;
-    plan(
-        alloc,
-        images.values(),
-        campaigns,
-        vehicle,
-        fitted.as_slice(),
-    )
+    plan_over(alloc, images, items, fitted.as_slice())
 }
 
 #[tactic(auto, using(crate::proofs::DirectorTargets::targets_apart))]

@@ -1,5 +1,5 @@
 //! The decision on a manifest that a vehicle delivers.
-ghost use Rattle.std.specs.Prelude.{◌≡◌, ◌≤◌, ◌<◌, ℕ, IfSome, IsTrue, option_copied};
+ghost use Rattle.std.specs.Prelude.{◌≡◌, ◌≤◌, ◌<◌, ℕ, map, IfSome, IsTrue, option_copied};
 ghost use Rattle.up_canon.specs.Moments.{last_command_moment};
 ghost use Rattle.up_sign.specs.Schemes.{Rules};
 ghost use Rattle.up_metadata.specs.Keys.{hashed_roles as hashed_roles_of};
@@ -25,9 +25,11 @@ use up_canon::table::Table;
 use up_manifest::body_laws;
 use up_manifest::manifest::Incoming;
 use up_metadata::hashed_keys::{HashedRoleKeys, hashed_roles};
-use up_plan::campaign::Campaign;
+use up_plan::campaign::{Campaign, Item};
 use up_plan::image::Image;
-use up_plan::laws::other_images_change_nothing;
+use up_plan::items::items_for;
+use up_plan::laws::{offers_alone_count, other_images_change_nothing};
+use up_sign::key_cache::KeyCache;
 use up_sign::scheme::Scheme;
 
 /// The rows that the decision on a manifest reads: the founding's, those of its vehicle, the one kept with its counter,
@@ -76,14 +78,23 @@ pub fn decide_manifest<K: Scheme>(
         → GivesDelivered (K.rules scheme.now) s incoming.now.manifest.vehicle result
         (decide_incoming (K.rules scheme.now) s at incoming.now) }
 {
-    let sender = decide_sender(scheme, incoming, rows.founding, rows.vehicle)?;
+    let keys = KeyCache::new();
+    let sender = decide_sender(scheme, incoming, rows.founding, rows.vehicle, &keys)?;
     if !is_later(incoming, &sender) {
         return decide_again(alloc, incoming, &sender, rows.kept);
     }
     let hashed = hashed_roles(alloc, scheme, &sender.founding.keys.director)?;
-    let (images, campaigns) = (rows.images, rows.campaigns);
+    let items = items_for(alloc, rows.campaigns, &incoming.manifest.vehicle)?;
     decide_new(
-        alloc, scheme, at, incoming, &sender, &hashed, images, campaigns,
+        alloc,
+        scheme,
+        at,
+        incoming,
+        &sender,
+        &hashed,
+        &keys,
+        rows.images,
+        items.as_slice(),
     )
 }
 
@@ -110,7 +121,8 @@ pub fn decide_again(
 
 /// Decides on a manifest whose counter is above the last one, so that no row is kept with it: `UnknownEcu`, `DuplicateEcu`,
 /// `MissingEcu`, `BadReportSignature`, `ReportReplayed`, and then what it changes, by the plan of this moment; `Memory`.
-/// `hashed` has the keys of the Director's roles.
+/// `hashed` has the keys of the Director's roles, and an ECU's key that isn't among `keys` is hashed. Images are looked up by the
+/// files that the items and the reports name; the items may come in any order.
 pub fn decide_new<K: Scheme>(
     alloc: Global,
     scheme: &K,
@@ -118,30 +130,31 @@ pub fn decide_new<K: Scheme>(
     incoming: &Incoming,
     sender: &Sender,
     hashed: &HashedRoleKeys,
+    keys: &KeyCache,
     images: &Table<Image>,
-    campaigns: &[Campaign],
+    items: &[&Item],
 ) -> Result<Delivered, Refusal>
     requires moment { at ≤ last_command_moment }
     requires read { IsRead incoming.now }
     requires later { sender.now.vehicle.vehicle.last < incoming.now.manifest.counter }
     requires can { CanAnswer (K.rules scheme.now) sender.now }
     requires hashed { hashed.now ≡ hashed_roles_of (K.rules scheme.now) sender.now.founding.keys.director }
-    ensures { (s : State) → IsSound (K.rules scheme.now) s → IsSenderOf (K.rules scheme.now) s incoming.now sender.now → ArePlanned s incoming.now.manifest images.now campaigns.now
+    ensures { (s : State) → IsSound (K.rules scheme.now) s → IsSenderOf (K.rules scheme.now) s incoming.now sender.now → ArePlanned s incoming.now.manifest images.now (map (λ i. i.now) items.now)
         → GivesDelivered (K.rules scheme.now) s incoming.now.manifest.vehicle result (decide_incoming (K.rules scheme.now) s at incoming.now) }
 {
     body_laws();
     other_images_change_nothing();
+    offers_alone_count();
     let (founding, vehicle) = (sender.founding, sender.vehicle);
     check_reports(
         alloc,
         scheme,
         vehicle.ecus.as_slice(),
-        &vehicle.vehicle.primary,
-        &sender.key,
+        keys,
         incoming.manifest.reports.as_slice(),
     )?;
     let accepted = accepted_rows(
-        alloc, scheme, at, incoming, founding, hashed, vehicle, images, campaigns,
+        alloc, scheme, at, incoming, founding, hashed, vehicle, images, items,
     )?;
     Ok(Delivered::Accepted(accepted))
 }

@@ -18,7 +18,7 @@ use up_canon::listed::{Duplicate, Listed};
 use up_canon::moment::Moment;
 use up_canon::table::Table;
 use up_canon::text::Text;
-use up_canon::writing::push_ident;
+use up_canon::writing::{push_ident, push_number};
 use up_metadata::hashed_keys::HashedRoleKeys;
 use up_metadata::role_files::{RoleTexts, role_texts};
 use up_plan::assigned::Assigned;
@@ -97,6 +97,9 @@ pub(crate) fn reply_text<K: Scheme>(
     reply_json(alloc, &row.vehicle, version, founding.root, &files)
 }
 
+/// Bytes of room that a reply gets beside its files, so that it doesn't grow while it is written.
+const ROOM: usize = 192;
+
 /// The three files as they are, in one object.
 fn reply_json(
     alloc: Global,
@@ -107,18 +110,20 @@ fn reply_json(
 ) -> Result<Text, AllocError>
     ensures { IfOk result (λ text. text ≡ reply_json_of vehicle.now version root files.now) }
 {
-    let mut out = String::new(alloc);
-    push_two(&mut out, "{\"root\":", root.to_string(alloc)?.as_str())?;
+    let room = ROOM
+        .saturating_add(files.snapshot.as_str().len())
+        .saturating_add(files.targets.as_str().len())
+        .saturating_add(files.timestamp.as_str().len());
+    let mut out = String::with_capacity(alloc, room)?;
+    out.push_str("{\"root\":")?;
+    push_number(&mut out, root)?;
     push_two(&mut out, ",\"snapshot\":", files.snapshot.as_str())?;
     push_two(&mut out, ",\"targets\":", files.targets.as_str())?;
     push_two(&mut out, ",\"timestamp\":", files.timestamp.as_str())?;
     out.push_str(",\"vehicle\":")?;
     push_ident(&mut out, vehicle)?;
-    push_two(
-        &mut out,
-        ",\"version\":",
-        version.to_string(alloc)?.as_str(),
-    )?;
+    out.push_str(",\"version\":")?;
+    push_number(&mut out, version)?;
     out.push('}')?;
     Ok(Text::new(out))
 }

@@ -5,21 +5,20 @@ ghost use Rattle.up_machine.specs.RowsFit.{founding_fits, rows_fit};
 ghost use Rattle.up_machine.specs.Senders.{CanAnswer, GivesSender};
 ghost use Rattle.up_machine.specs.State.{State};
 
-use crate::manifest_checks::{check_primary, primary_key};
+use crate::manifest_checks::check_primary;
 use crate::rows::{Founding, VehicleRows};
 use std::marker::Model;
 use up_canon::refusal::Refusal;
 use up_manifest::manifest::Incoming;
-use up_sign::key_id::HashedKey;
+use up_sign::key_cache::KeyCache;
 use up_sign::scheme::Scheme;
 
-/// A founding, the rows of a vehicle whose Primary signed a manifest, and what is computed once of the Primary's key. The type
-/// doesn't say whose they are; the contract of `decide_sender` does.
+/// A founding, and the rows of a vehicle whose Primary signed a manifest. The type doesn't say whose they are; the contract of
+/// `decide_sender` does.
 #[derive(Drop)]
 pub struct Sender<'a> {
     pub founding: &'a Founding,
     pub vehicle: &'a VehicleRows,
-    pub key: HashedKey,
 }
 
 impl<'a> Model for Sender<'a> {
@@ -31,16 +30,18 @@ impl<'a> Model for Sender<'a> {
 
     ghost coded = { Prim.hlevel codes };
 
-    ghost view = { λ a. record { founding = a.founding.now; vehicle = a.vehicle.now; key = a.key } };
+    ghost view = { λ a. record { founding = a.founding.now; vehicle = a.vehicle.now } };
 }
 
 /// Tests who sent a manifest, over the founding's row and those of its vehicle: `NotFounded`; `UnknownVehicle`;
-/// `WrongPrimary`; `BadManifestSignature`. It needs nothing else, and takes no memory.
+/// `WrongPrimary`; `BadManifestSignature`. It needs nothing else, and takes no memory. Where the Primary's key isn't among
+/// `keys`, it is hashed.
 pub fn decide_sender<'a, K: Scheme>(
     scheme: &K,
     incoming: &Incoming,
     founding: Option<&'a Founding>,
     vehicle: Option<&'a VehicleRows>,
+    keys: &KeyCache,
 ) -> Result<Sender<'a>, Refusal>
     requires keys { IfSome (option_copied founding) (λ f. IsTrue (founding_fits (K.rules scheme.now) f)) }
     requires rows { IfSome (option_copied vehicle) (λ v. IsTrue (rows_fit v)) }
@@ -55,13 +56,8 @@ pub fn decide_sender<'a, K: Scheme>(
     let Some(vehicle) = vehicle else {
         return Err(Refusal::UnknownVehicle);
     };
-    let key = primary_key(vehicle);
-    check_primary(scheme, vehicle, &key, incoming)?;
-    Ok(Sender {
-        founding,
-        vehicle,
-        key,
-    })
+    check_primary(scheme, vehicle, keys, incoming)?;
+    Ok(Sender { founding, vehicle })
 }
 
 /// Whether the manifest's counter is above the last one that was accepted of its vehicle.

@@ -8,9 +8,11 @@ use Rattle.hex.specs.Hex.{decode_of, decode_sized, decode_pairs, pair_value, enc
 use Rattle.hex.specs.declared.error.FromHexError.{FromHexError}
 use Rattle.hex.proofs.HexLemmas.{decode_of-ok, decode_of-even, decode_sized-ok, decode_sized-twice}
 use Rattle.hex.proofs.Pairs.{cons_byte, decode_pairs-ok_pair}
+use Rattle.up_canon.specs.HexText.{is_lower_digit}
 use Rattle.up_canon.specs.Names.{is_from_to}
 use Rattle.up_canon.proofs.ByteTests.{bytes_tested}
-use Rattle.up_manifest.specs.Plain.{is_lower_digit}
+use Rattle.up_canon.proofs.Printable.{all-more}
+use Rattle.up_manifest.specs.Plain.{is_direct}
 
 -- ---- the table of digits
 
@@ -68,6 +70,13 @@ digit c h = by_test (is_from_to 48 57 c) refl
           reads = grind (arith, nat_tests);
           is = in_table (c - 87) small ∙ ap (λ b. cond b (48 + (c - 87)) (87 + (c - 87))) test ∙ least;
         }
+
+-- a digit stands for itself in quotes
+lower-direct : (x : ℕ) → is_lower_digit x ≡ true → is_direct x ≡ true
+lower-direct x h = grind (arith, nat_tests)
+
+pub digits-direct : (s : List ℕ) → list_all is_lower_digit s ≡ true → list_all is_direct s ≡ true
+digits-direct s h = all-more is_lower_digit is_direct s lower-direct h
 
 -- ---- pairs of digits
 

@@ -7,6 +7,7 @@ use Rattle.std.specs.Str.Parse.{ParsesUnsigned, AllDigits, IsNumeral, digits_val
 use Rattle.std.proofs.lemmas.Bool.{and_parts}
 use Rattle.std.proofs.lemmas.Bool.Decides.{nat_tests}
 use Rattle.std.proofs.lemmas.Fmt.{decimal-digits_value}
+use Rattle.std.proofs.lemmas.Grind.{flat_map-append}
 use Rattle.std.proofs.lemmas.Str.Parse.{IsNumeralModel}
 use Rattle.up_canon.specs.Canon.{is_printable, is_printable_text, escaped, quoted}
 use Rattle.up_canon.proofs.Printable.{all-more}
@@ -34,6 +35,20 @@ direct-prints t h = all-more is_direct is_printable t (λ x k. (and_parts (is_pr
 pub direct-quoted : (t rest : List ℕ) → list_all is_direct t ≡ true → 34 ∷ (t ++ 34 ∷ rest) ≡ quoted t ++ rest
 direct-quoted t rest h = ap (λ (l : List ℕ). 34 ∷ l) (ap (λ (s : List ℕ). s ++ 34 ∷ rest) (sym (unescaped t h)) ∙ sym (append_assoc (flat_map escaped t) (34 ∷ []) rest))
 
+-- a piece behind a text that was read: as it stands escaped, or of bytes that stand for themselves
+pub escaped-more : (before t rest : List ℕ) → flat_map escaped before ++ (flat_map escaped t ++ rest) ≡ flat_map escaped (before ++ t) ++ rest
+escaped-more before t rest =
+    sym (append_assoc (flat_map escaped before) (flat_map escaped t) rest) ∙ ap (λ (s : List ℕ). s ++ rest) (sym (flat_map-append escaped before t))
+
+pub direct-more : (before t rest : List ℕ) → list_all is_direct t ≡ true → flat_map escaped before ++ (t ++ rest) ≡ flat_map escaped (before ++ t) ++ rest
+direct-more before t rest h =
+    let front = flat_map escaped before in
+    ap (λ (s : List ℕ). front ++ (s ++ rest)) (sym (unescaped t h)) ∙ escaped-more before t rest
+
+-- the closing quote
+pub escaped-ends : (t rest : List ℕ) → 34 ∷ (flat_map escaped t ++ 34 ∷ rest) ≡ quoted t ++ rest
+escaped-ends t rest = ap (λ (l : List ℕ). 34 ∷ l) (sym (append_assoc (flat_map escaped t) (34 ∷ []) rest))
+
 -- what stands in front of the first that fails
 pub front-passes : (p : ℕ → Bool) (xs : List ℕ) → list_all p (take (prefix_len p xs) xs) ≡ true
 front-passes p [] = refl
@@ -46,21 +61,21 @@ front-passes p (x ∷ xs) = by_test (p x) refl (front-passes p xs)
     by_test false e rest = refl
 
 -- what stands in front of the first byte that isn't such a one
-pub front-direct : (xs : List ℕ) → list_all is_direct (take (unwrap_or (position (λ b. not (is_direct b)) xs) 0) xs) ≡ true
-front-direct xs = by_test (nat_lt (prefix_len twice xs) (length xs))
+pub front-of : (p : ℕ → Bool) (xs : List ℕ) → list_all p (take (unwrap_or (position (λ b. not (p b)) xs) 0) xs) ≡ true
+front-of p xs = by_test (nat_lt (prefix_len twice xs) (length xs))
   where
     twice : ℕ → Bool
-    twice b = not (not (is_direct b))
+    twice b = not (not (p b))
 
-    once : (x : ℕ) → twice x ≡ true → is_direct x ≡ true
-    once x h = by_bool (is_direct x) h
+    once : (x : ℕ) → twice x ≡ true → p x ≡ true
+    once x h = by_bool (p x) h
       where
         by_bool : (b : Bool) → not (not b) ≡ true → b ≡ true
         by_bool true e = refl
         by_bool false e = cc
 
-    by_test : (b : Bool) → list_all is_direct (take (unwrap_or (cond b (Some (prefix_len twice xs)) None) 0) xs) ≡ true
-    by_test true = all-more twice is_direct (take (prefix_len twice xs) xs) once (front-passes twice xs)
+    by_test : (b : Bool) → list_all p (take (unwrap_or (cond b (Some (prefix_len twice xs)) None) 0) xs) ≡ true
+    by_test true = all-more twice p (take (prefix_len twice xs) xs) once (front-passes twice xs)
     by_test false = refl
 
 -- ---- numbers

@@ -1,10 +1,9 @@
 -- The form in which Primaries write manifests, as it is read without a tree of their values.
-use Rattle.std.specs.Prelude.{◌≡◌, ℕ, ◌≤◌, ◌++◌, ◌&&◌, ◌||◌, ◌==◌, List, [], not, Bool, IsTrue, length, map, codes, Option, Some, None}
+use Rattle.std.specs.Prelude.{◌≡◌, ℕ, ◌≤◌, ◌++◌, ◌&&◌, ◌||◌, ◌==◌, List, not, Bool, IsTrue, length, map, codes}
 use Rattle.std.specs.List.{list_all}
-use Rattle.hex.specs.Hex.{encode_lower}
 use Rattle.up_canon.specs.Build.{list_with}
-use Rattle.up_canon.specs.Canon.{max_count, is_printable, text, quoted}
-use Rattle.up_canon.specs.Names.{is_from_to, is_ident}
+use Rattle.up_canon.specs.Canon.{max_count, is_printable, text}
+use Rattle.up_canon.specs.Names.{is_ident}
 use Rattle.up_sign.specs.Formats.{signature_fits, signature_value}
 use Rattle.up_sign.specs.Schemes.{is_byte}
 use Rattle.up_sign.specs.declared.envelope.Signature.{Signature}
@@ -13,15 +12,11 @@ use Rattle.up_manifest.specs.Manifests.{most_reports}
 use Rattle.up_manifest.specs.declared.report.SignedReport.{SignedReport}
 use Rattle.up_manifest.specs.declared.manifest.Manifest.{Manifest}
 
--- ---- texts and digits
+-- ---- texts
 
 -- a byte that stands for itself in a text in quotes: printable ASCII but the quote and the backslash
 abbrev pub is_direct : ℕ → Bool
 is_direct x = is_printable x && not ((x == 34) || (x == 92))
-
--- a hexadecimal digit in lower case
-abbrev pub is_lower_digit : ℕ → Bool
-is_lower_digit x = is_from_to 48 57 x || is_from_to 97 102 x
 
 -- ---- envelopes and reports
 
@@ -34,11 +29,6 @@ pub record IsOneSignature (ss : List Signature) : Type 0 where
   pub one : length ss ≡ 1
   pub fits : IsTrue (list_all signature_fits ss)
   pub bytes : IsTrue (list_all (λ s. list_all is_byte s.sig) ss)
-
--- the member of a SHA-512 behind that of a SHA-256
-abbrev pub second_text : Option (List ℕ) → List ℕ
-second_text None = []
-second_text (Some hash) = codes ",\"sha512\":" ++ quoted (encode_lower hash)
 
 -- each with the envelope that is signed over its text
 abbrev pub AreReports : List SignedReport → Type 0

@@ -4,7 +4,7 @@ ghost use Rattle.std.specs.List.{list_all};
 ghost use Rattle.serde_json.specs.Data.{Data};
 ghost use Rattle.serde_json.specs.Read.{read};
 ghost use Rattle.up_canon.specs.Canon.{max_count};
-ghost use Rattle.up_sign.specs.Envelopes.{sealed};
+ghost use Rattle.up_sign.specs.Envelopes.{key_block, sealed};
 ghost use Rattle.up_sign.specs.Formats.{envelope_fits, envelope_text};
 ghost use Rattle.up_manifest.specs.Building.{IsReportEnvelope, AreReportEnvelopes, report_text as report_text_of, sealed_manifest, built};
 ghost use Rattle.up_manifest.specs.Manifests.{most_reports};
@@ -14,13 +14,13 @@ ghost use Rattle.up_manifest.specs.declared.report.Report.{Report as ReportData}
 use crate::report::Report;
 use crate::writing::{keeps_limits, manifest_text, report_text};
 use std::alloc::{AllocError, Global};
-use up_canon::bytes::Bytes;
 use up_canon::ident::Ident;
 use up_canon::moment::moment_laws;
 use up_sign::envelope::Envelope;
+use up_sign::key_id::HashedKey;
 use up_sign::laws::envelope_laws;
 use up_sign::scheme::Scheme;
-use up_sign::seal::seal;
+use up_sign::seal::{hashed_key_of, seal_one};
 
 /// The report in an envelope that the ECU's secret signs. What its text reads as means the report.
 pub fn build_report<K: Scheme>(
@@ -35,11 +35,30 @@ pub fn build_report<K: Scheme>(
     ensures limits { IfOk result (λ e. IsTrue (envelope_fits e)) }
     ensures means { IfOk result (λ e. (d : Data) × (read (envelope_text e) ≡ Some d) × MeansSignedReport d (record { report = report.now; envelope = e })) }
 {
+    let key = hashed_key_of(alloc, scheme, secret)?;
+    build_report_by(alloc, scheme, secret, &key, report)
+}
+
+/// As `build_report`, with the secret's key hashed already (`up_sign::seal::hashed_key_of`).
+pub fn build_report_by<K: Scheme>(
+    alloc: Global,
+    scheme: &K,
+    secret: &[u8],
+    key: &HashedKey,
+    report: &Report,
+) -> Result<Envelope, AllocError>
+    requires fits { IsTrue ((K.rules scheme.now).secret_fits secret.now) }
+    requires hashed { key.now ≡ key_block (K.rules scheme.now) secret.now }
+    ensures value { IfOk result (λ e. e ≡ sealed (K.rules scheme.now) (secret.now ∷ []) (report_text_of report.now)) }
+    ensures envelope { IfOk result (λ e. IsReportEnvelope e report.now) }
+    ensures limits { IfOk result (λ e. IsTrue (envelope_fits e)) }
+    ensures means { IfOk result (λ e. (d : Data) × (read (envelope_text e) ≡ Some d) × MeansSignedReport d (record { report = report.now; envelope = e })) }
+{
     envelope_laws();
     moment_laws();
     keeps_limits(report);
     let signed = report_text(alloc, report)?;
-    let envelope = seal_one(alloc, scheme, secret, signed)?;
+    let envelope = seal_one(alloc, scheme, secret, key, signed)?;
     Ok(envelope)
 }
 
@@ -63,26 +82,39 @@ pub fn build_manifest<K: Scheme>(
     ensures means { (rs : List ReportData) → AreReportEnvelopes reports.now rs
         → IfOk result (λ t. MeansBody (string_bytes t) (built (K.rules scheme.now) secret.now vehicle.now primary.now counter rs reports.now)) }
 {
-    envelope_laws();
-    moment_laws();
-    vehicle.text();
-    primary.text();
-    let signed = manifest_text(alloc, vehicle, primary, counter, reports)?;
-    let envelope = seal_one(alloc, scheme, secret, signed)?;
-    let body = envelope.text(alloc)?;
-    Ok(body)
+    let key = hashed_key_of(alloc, scheme, secret)?;
+    build_manifest_by(
+        alloc, scheme, secret, &key, vehicle, primary, counter, reports,
+    )
 }
 
-fn seal_one<K: Scheme>(
+/// As `build_manifest`, with the secret's key hashed already.
+pub fn build_manifest_by<K: Scheme>(
     alloc: Global,
     scheme: &K,
     secret: &[u8],
-    signed: String,
-) -> Result<Envelope, AllocError>
-    requires { IsTrue ((K.rules scheme.now).secret_fits secret.now) }
-    ensures value { IfOk result (λ e. e ≡ sealed (K.rules scheme.now) (secret.now ∷ []) (string_bytes signed)) }
-    ensures limits { IfOk result (λ e. IsTrue (envelope_fits e)) }
+    key: &HashedKey,
+    vehicle: &Ident,
+    primary: &Ident,
+    counter: u64,
+    reports: &[Envelope],
+) -> Result<String, AllocError>
+    requires fits { IsTrue ((K.rules scheme.now).secret_fits secret.now) }
+    requires hashed { key.now ≡ key_block (K.rules scheme.now) secret.now }
+    requires counter { (1 ≤ counter) × (counter ≤ max_count) }
+    requires number { length reports.now ≤ most_reports }
+    requires limits { IsTrue (list_all envelope_fits reports.now) }
+    ensures value { IfOk result (λ t. string_bytes t ≡ envelope_text (sealed_manifest (K.rules scheme.now) secret.now vehicle.now primary.now counter reports.now)) }
+    ensures means { (rs : List ReportData) → AreReportEnvelopes reports.now rs
+        → IfOk result (λ t. MeansBody (string_bytes t) (built (K.rules scheme.now) secret.now vehicle.now primary.now counter rs reports.now)) }
 {
-    let secrets = [Bytes::new(secret.to_vec(alloc)?)];
-    seal(alloc, scheme, &secrets, signed)
+    envelope_laws();
+    moment_laws();
+    // Noted for the proof: what identifiers are.
+    vehicle.text();
+    primary.text();
+    let signed = manifest_text(alloc, vehicle, primary, counter, reports)?;
+    let envelope = seal_one(alloc, scheme, secret, key, signed)?;
+    let body = envelope.text(alloc)?;
+    Ok(body)
 }

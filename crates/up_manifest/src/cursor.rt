@@ -1,14 +1,16 @@
 //! Reading a canonical text piece by piece, from its front.
-ghost use Rattle.std.specs.Prelude.{◌≡◌, ◌++◌, IsTrue, IfSome, IfOk, OnOk, MatchBool, true, not, decimal, length, take, slice_index, position};
+ghost use Rattle.std.specs.Prelude.{◌≡◌, ◌++◌, IsTrue, IfSome, IfOk, OnOk, MatchBool, true, not, decimal, flat_map, length, string_bytes, take, slice_index, position};
 ghost use Rattle.std.specs.List.{list_all};
 ghost use Rattle.hex.specs.Hex.{encode_lower};
-ghost use Rattle.up_canon.specs.Canon.{is_printable_text, quoted};
-ghost use Rattle.up_manifest.specs.Plain.{is_direct as is_direct_of, is_lower_digit as is_lower_digit_of};
+ghost use Rattle.up_canon.specs.Canon.{is_printable_text, escaped as escaped_of, quoted};
+ghost use Rattle.up_canon.specs.HexText.{is_lower_digit as is_lower_digit_of};
+ghost use Rattle.up_manifest.specs.Plain.{is_direct as is_direct_of};
 ghost use Rattle.up_sign.specs.Schemes.{is_byte};
 
 use hex::FromHexError;
 use std::alloc::{AllocError, AllocFailed, Global};
 use up_canon::count::Count;
+use up_canon::hex_text::is_lower_digit;
 use up_canon::note::is_printable;
 
 /// Why nothing was read.
@@ -95,6 +97,36 @@ impl<'a> Cursor<'a> {
         Ok(text)
     }
 
+    /// Takes a text in quotes in which a backslash stands before each quote and each backslash, as in canonical text. It gives
+    /// up where more than so many bytes were read.
+    pub(crate) fn escaped(&mut self, alloc: Global, most: usize) -> Result<String, Unread>
+        ensures { IfOk result (λ t. self.old.rest.now ≡ quoted (string_bytes t) ++ self.new.rest.now) }
+    {
+        self.pass("\"")?;
+        let mut text = String::new(alloc);
+        'pieces: while text.len() <= most {
+            let direct = self.direct()?;
+            text.push_str(direct)?;
+            if self.takes("\"") {
+                return Ok(text);
+            }
+            let special = self.escape()?;
+            text.push_str(special)?;
+        }
+        Err(Unread::Form)
+    }
+
+    /// Takes a backslash and the quote or the backslash behind it, which it answers.
+    fn escape(&mut self) -> Result<&'static str, Unread>
+        ensures { IfOk result (λ t. (self.old.rest.now ≡ flat_map escaped_of t.now ++ self.new.rest.now) × (length t.now ≡ 1)) }
+    {
+        if self.takes("\\\"") {
+            return Ok("\"");
+        }
+        self.pass("\\\\")?;
+        Ok("\\")
+    }
+
     /// Takes bytes that stand for themselves.
     fn direct(&mut self) -> Result<&'a str, Unread>
         ensures { IfOk result (λ t. (self.old.rest.now ≡ t.now ++ self.new.rest.now) × (list_all is_direct_of t.now ≡ true)) }
@@ -157,26 +189,32 @@ impl<'a> Cursor<'a> {
         ensures value { IfOk result (λ t. self.old.rest.now ≡ quoted t.now ++ self.new.rest.now) }
         ensures lower { IfOk result (λ t. list_all is_lower_digit_of t.now ≡ true) }
     {
-        let digits = self.quoted()?;
-        if are_lower_digits(digits.as_bytes()) {
-            Ok(digits)
-        } else {
-            Err(Unread::Form)
-        }
+        self.pass("\"")?;
+        let digits = self.bare_digits()?;
+        self.pass("\"")?;
+        Ok(digits)
+    }
+
+    /// Takes hexadecimal digits in lower case, without quotes.
+    fn bare_digits(&mut self) -> Result<&'a str, Unread>
+        ensures { IfOk result (λ t. (self.old.rest.now ≡ t.now ++ self.new.rest.now) × (list_all is_lower_digit_of t.now ≡ true)) }
+    {
+        self.cut(lower_size(self.rest.as_bytes()))
     }
 }
 
-fn are_lower_digits(bytes: &[u8]) -> bool
-    ensures { result ≡ list_all is_lower_digit_of bytes.now }
+/// How many hexadecimal digits in lower case stand in front of the first other byte; 0 where there is none.
+fn lower_size(bytes: &[u8]) -> usize
+    ensures { list_all is_lower_digit_of (take result bytes.now) ≡ true }
 {
-    bytes.iter().all(|b| is_lower_digit(*b))
+    first_no_digit(bytes).unwrap_or(0)
 }
 
-/// Whether the byte is a hexadecimal digit in lower case.
-fn is_lower_digit(byte: u8) -> bool
-    ensures { result ≡ is_lower_digit_of byte }
+/// The place of the first byte that is no hexadecimal digit in lower case.
+fn first_no_digit(bytes: &[u8]) -> Option<usize>
+    ensures { result ≡ position (λ b. not (is_lower_digit_of b)) bytes.now }
 {
-    (byte >= b'0' && byte <= b'9') || (byte >= b'a' && byte <= b'f')
+    bytes.iter().position(|b| !is_lower_digit(*b))
 }
 
 /// How many bytes in front of the first that doesn't stand for itself; 0 where there is none.

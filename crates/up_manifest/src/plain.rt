@@ -20,7 +20,8 @@ use up_sign::envelope::Envelope;
 use up_sign::laws::envelope_laws;
 
 /// The manifest that a body means, where the body has the form in which Primaries write it: the canonical text, with no
-/// member but those of the format, one signature in each envelope, and hexadecimal digits in lower case.
+/// member but those of the format, one signature in each envelope, hexadecimal digits in lower case, and no quote or
+/// backslash in a text but a note. Of any other body, none, whether or not it means a manifest.
 pub(crate) fn plain_manifest(alloc: Global, body: &[u8]) -> Result<Option<Incoming>, AllocError>
     ensures { IfOk result (λ found. IfSome found (λ i. MeansBody body.now i)) }
 {
@@ -68,6 +69,7 @@ fn manifest(alloc: Global, cursor: &mut Cursor<'_>) -> Result<Manifest, Unread>
     if number < 1 {
         return Err(Unread::Form);
     }
+    // Noted for the proof: what identifiers are.
     vehicle.text();
     primary.text();
     Ok(Manifest {

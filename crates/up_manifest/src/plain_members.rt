@@ -1,4 +1,5 @@
-//! Members of objects in the form in which Primaries write manifests: a piece that ends with the key's colon, and the value behind it.
+//! Members of objects in the form in which Primaries write manifests: a piece that ends with the key's colon, and the value
+//! behind it.
 ghost use Rattle.std.specs.Prelude.{◌≡◌, ◌++◌, IsTrue, IfOk, decimal, length};
 ghost use Rattle.std.specs.List.{list_all};
 ghost use Rattle.hex.specs.Hex.{encode_lower};
@@ -49,11 +50,12 @@ pub(crate) fn file_name_behind(
     FileName::new(text).ok_or(Unread::Form)
 }
 
-/// Takes a note.
+/// Takes a note, in which there may be quotes and backslashes.
 pub(crate) fn note_behind(alloc: Global, cursor: &mut Cursor<'_>, key: &str) -> Result<Note, Unread>
     ensures { IfOk result (λ n. cursor.old.rest.now ≡ key.now ++ (quoted n ++ cursor.new.rest.now)) }
 {
-    let text = text_behind(cursor, key)?.to_string(alloc)?;
+    cursor.pass(key)?;
+    let text = cursor.escaped(alloc, 256)?;
     Note::new(text).ok_or(Unread::Form)
 }
 

@@ -3,10 +3,11 @@ ghost use Rattle.std.specs.Prelude.{◌≡◌, ◌++◌, List, ℕ, IsTrue, IfOk
 ghost use Rattle.std.specs.List.{list_all};
 ghost use Rattle.up_canon.specs.Build.{hashes_value};
 ghost use Rattle.up_canon.specs.Canon.{text};
+ghost use Rattle.up_canon.specs.HexText.{second_hash_text};
 ghost use Rattle.up_sign.specs.Formats.{signature_fits, signature_value, envelope_text};
 ghost use Rattle.up_sign.specs.Schemes.{is_byte};
 ghost use Rattle.up_manifest.specs.Building.{ReportFits, IsReportEnvelope, installed_value, report_text};
-ghost use Rattle.up_manifest.specs.Plain.{IsOneSignature, signatures_text, second_text};
+ghost use Rattle.up_manifest.specs.Plain.{IsOneSignature, signatures_text};
 
 use crate::cursor::{Cursor, Unread};
 use crate::plain_members::{
@@ -123,7 +124,7 @@ fn hashes(cursor: &mut Cursor<'_>) -> Result<([u8; 32], Option<[u8; 64]>), Unrea
 
 /// Takes the SHA-512 behind the SHA-256, where there is one.
 fn second_hash(cursor: &mut Cursor<'_>) -> Result<Option<[u8; 64]>, Unread>
-    ensures { IfOk result (λ hash. cursor.old.rest.now ≡ second_text hash ++ cursor.new.rest.now) }
+    ensures { IfOk result (λ hash. cursor.old.rest.now ≡ second_hash_text hash ++ cursor.new.rest.now) }
 {
     if cursor.takes(",\"sha512\":") {
         return Ok(Some(cursor.sha512()?));

@@ -101,7 +101,7 @@ fn push_envelopes(alloc: Global, out: &mut String, envelopes: &[Envelope]) -> Re
     let mut separator = "";
     for envelope in envelopes.iter() {
         out.push_str(separator)?;
-        out.push_str(envelope.text(alloc)?.as_str())?;
+        envelope.push_to(alloc, out)?;
         separator = ",";
     }
     out.push(']')?;

@@ -12,9 +12,9 @@ use Rattle.up_plan.specs.declared.assigned.Fitted.{Fitted}
 use Rattle.up_plan.specs.declared.campaign.Item.{Item}
 use Rattle.up_plan.proofs.Above.{greatest_in, greatest_none_above, greatest_of_none, same_file}
 use Rattle.up_plan.proofs.Members.{In, in_filter, filter_in, both_of}
-use Rattle.up_plan.proofs.Items.{filter_same}
+use Rattle.up_plan.proofs.Offering.{filter_same}
 
-map_same : {A B : Type 0} (f g : A → B) → ((x : A) → f x ≡ g x) → (xs : List A) → map f xs ≡ map g xs
+pub map_same : {A B : Type 0} (f g : A → B) → ((x : A) → f x ≡ g x) → (xs : List A) → map f xs ≡ map g xs
 map_same f g same [] = refl
 map_same f g same (x ∷ xs) = rw (same x, map_same f g same xs) refl
 

@@ -25,7 +25,7 @@ module _ {A : Type 0} (p q : A → Bool) (weaker : (x : A) → q x ≡ true → 
       by_test false true pass also rest = let both : false ≡ true = sym pass ∙ weaker x also in cc
       by_test false false pass also rest = rest
 
-  find_within : (xs : List A) → find q (filter p xs) ≡ find q xs
+  pub find_within : (xs : List A) → find q (filter p xs) ≡ find q xs
   find_within [] = refl
   find_within (x ∷ xs) = by_test (p x) (q x) refl refl (find_within xs)
     where

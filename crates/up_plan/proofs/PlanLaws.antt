@@ -9,6 +9,7 @@ use Rattle.up_plan.specs.Campaigns.{CampaignData}
 use Rattle.up_plan.specs.Images.{ImageData}
 use Rattle.up_plan.specs.Planning.{is_offered, items_for, plan_from, plan_of, plan_with, resulting, unmet, updates}
 use Rattle.up_plan.specs.Laws.{AllOrNone, AssignedIsConsistent, AssignedIsDue, CampaignsInAnyOrder, ImagesInAnyOrder, IsOffered, IsUpdate, NothingWanted, OthersChangeNothing, WantedIsDue, WithheldHasCause, WithheldIsFirstUnmet, demands}
+use Rattle.up_plan.specs.Offers.{OffersAloneCount}
 use Rattle.up_plan.proofs.Due.{due_of, of_offer, offer_of, wanted_due}
 use Rattle.up_plan.proofs.FirstUnmet.{first_splits, none_unmet, unmet_is}
 use Rattle.up_plan.proofs.Members.{all_from, contains_from, in_from}
@@ -120,3 +121,6 @@ images_in_any_order images others campaigns vehicle fitted distinct order =
     (λ x h. in_from images x (Contains-permutation others images x (IsPermutation-sym images others order) (contains_from others x h)))
     (λ a b h k same. distinct a b (contains_from images a h) (contains_from images b k) same)
     (items_for campaigns vehicle) fitted)
+
+pub offers_alone_count : OffersAloneCount
+offers_alone_count images items others fitted same = ap plan_from (same_offers images items others fitted same)

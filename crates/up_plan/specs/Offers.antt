@@ -1,10 +1,11 @@
--- What items offer, item by item: another way to the same greatest image.
-use Rattle.std.specs.Prelude.{List, Option, filter, map, option_map, bytes_eq}
+-- What items offer: item by item, another way to the same greatest image; and items that offer alike.
+use Rattle.std.specs.Prelude.{◌≡◌, List, Option, filter, map, option_map, bytes_eq}
 use Rattle.std.specs.List.{filter_map}
 use Rattle.up_canon.specs.Names.{Name}
+use Rattle.up_plan.specs.declared.assigned.Fitted.{Fitted}
 use Rattle.up_plan.specs.declared.campaign.Item.{Item}
 use Rattle.up_plan.specs.Images.{ImageData}
-use Rattle.up_plan.specs.Planning.{greatest}
+use Rattle.up_plan.specs.Planning.{greatest, is_offered, plan_from, resulting}
 
 -- an image, and the hardware for which an item has it
 pub record OfferData : Type 0 where
@@ -25,3 +26,11 @@ offers_of images items = filter_map (offer_of images) items
 -- the greatest of those for the hardware
 abbrev pub greatest_offer : List OfferData → Name → Option ImageData
 greatest_offer offers hardware = greatest (map (λ o. o.image) (filter (λ o. bytes_eq o.hardware hardware) offers))
+
+-- the same images for the same hardware, whatever the items' order and number
+abbrev pub OffersSame : List Item → List Item → Type 0
+OffersSame items others = (hardware : Name) (image : ImageData) → is_offered items hardware image ≡ is_offered others hardware image
+
+abbrev pub OffersAloneCount : Type 0
+OffersAloneCount = (images : List ImageData) (items others : List Item) (fitted : List Fitted)
+    → OffersSame items others → plan_from (resulting images items fitted) ≡ plan_from (resulting images others fitted)

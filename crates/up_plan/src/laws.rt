@@ -1,5 +1,6 @@
 //! What plans promise, in an operator's words. Each function is empty: its contract is a theorem on the rule.
 ghost use Rattle.up_plan.specs.Laws.{AllOrNone, AssignedIsConsistent, AssignedIsDue, CampaignsInAnyOrder, ImagesInAnyOrder, NothingWanted, OtherImagesChangeNothing, OthersChangeNothing, WantedIsDue, WithheldHasCause, WithheldIsFirstUnmet};
+ghost use Rattle.up_plan.specs.Offers.{OffersAloneCount};
 
 /// What an ECU wants is registered, offered for its hardware by a running campaign that reaches the vehicle, and above its
 /// level, and nothing above it is offered; an ECU that wants nothing has nothing above its level offered.
@@ -44,4 +45,9 @@ pub fn order_changes_nothing()
 /// and of the reported images, the images that fail it may be left out, or others put in their place.
 pub fn other_images_change_nothing()
     ensures { OtherImagesChangeNothing }
+{}
+
+/// A plan depends on items only through what they offer.
+pub fn offers_alone_count()
+    ensures { OffersAloneCount }
 {}

@@ -4,9 +4,11 @@
 pub mod assigned;
 pub mod campaign;
 pub mod image;
+pub mod items;
 pub mod laws;
 mod offers;
 pub mod plan;
 mod resulting;
+pub mod running;
 mod unmet;
 mod wanted;

@@ -3,6 +3,7 @@ ghost use Rattle.std.specs.Prelude.{◌≡◌, ℕ, List, map, option_copied, If
 ghost use Rattle.std.specs.BTreeMap.{get_by};
 ghost use Rattle.std.specs.Cmp.Lexicographic.{slice_cmp};
 ghost use Rattle.std.specs.Ordering.{nat_cmp};
+ghost use Rattle.up_plan.specs.ByFile.{offers_at};
 ghost use Rattle.up_plan.specs.Offers.{greatest_of_file, greatest_offer, offers_of};
 ghost use Rattle.up_plan.specs.Planning.{greater as greater_of, is_above as is_above_of};
 
@@ -12,6 +13,7 @@ use std::alloc::{AllocError, Global};
 use std::collections::BTreeMap;
 use std::marker::Model;
 use up_canon::ident::Ident;
+use up_canon::table::Table;
 
 /// An image that an item has for the hardware.
 #[derive(Drop)]
@@ -40,6 +42,26 @@ pub(crate) fn offers<'a>(
     let mut offers = Vec::new(alloc);
     for item in items {
         if let Some(image) = files.get(item.file.text()) {
+            offers.push(Offer {
+                hardware: &item.hardware,
+                image,
+            })?;
+        }
+    }
+    Ok(offers)
+}
+
+/// The same of images that are looked up by their filenames.
+pub(crate) fn offers_over<'a>(
+    alloc: Global,
+    images: &'a Table<Image>,
+    items: &[&'a Item],
+) -> Result<Vec<Offer<'a>>, AllocError>
+    ensures { IfOk result (λ offers. offers.items ≡ offers_at images.now (map (λ i. i.now) items.now)) }
+{
+    let mut offers = Vec::new(alloc);
+    for item in items {
+        if let Some(image) = images.get(item.file.text()) {
             offers.push(Offer {
                 hardware: &item.hardware,
                 image,

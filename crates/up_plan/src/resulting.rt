@@ -1,16 +1,19 @@
 //! The resulting set: each ECU as it is where each gets its wanted image.
 ghost use Rattle.std.specs.Prelude.{◌≡◌, map, option_copied, IfOk};
-ghost use Rattle.up_plan.specs.Planning.{level as level_of, resulting as resulting_of, wanted as wanted_image, with_wanted as with_wanted_image};
+ghost use Rattle.up_plan.specs.ByFile.{resulting_at};
+ghost use Rattle.up_plan.specs.ByOffers.{resulting_by, with_wanted_by};
+ghost use Rattle.up_plan.specs.Planning.{resulting as resulting_of};
 
 use crate::assigned::Fitted;
 use crate::campaign::Item;
 use crate::image::Image;
-use crate::offers::offers;
-use crate::wanted::{level, registered, wanted};
+use crate::offers::{Offer, offers, offers_over};
+use crate::wanted::{level, registered, registered_over, wanted};
 use std::alloc::{AllocError, Global};
 use std::marker::Model;
 use up_canon::file_name::FileName;
 use up_canon::ident::Ident;
+use up_canon::table::Table;
 
 /// An ECU as it is where each gets its wanted image: whether it is updated, its file, its level, and its registered image.
 #[derive(Drop)]
@@ -43,16 +46,37 @@ pub(crate) fn resulting_set<'a>(
     let offers = offers(alloc, images, items)?;
     let mut set = Vec::with_capacity(alloc, fitted.len())?;
     for e in fitted {
-        let image = wanted(images, offers.as_slice(), e);
-        set.push(with_wanted(images, e, image))?;
+        set.push(resulting_ecu(offers.as_slice(), e, registered(images, e)))?;
     }
     Ok(set)
 }
 
-fn with_wanted<'a>(images: &'a [Image], e: &'a Fitted, wanted: Option<&'a Image>) -> Resulting<'a>
-    ensures { result ≡ with_wanted_image images.now e.now (option_copied wanted.entry) }
+/// The same of images that are looked up by their filenames.
+pub(crate) fn resulting_over<'a>(
+    alloc: Global,
+    images: &'a Table<Image>,
+    items: &[&'a Item],
+    fitted: &'a [Fitted],
+) -> Result<Vec<Resulting<'a>>, AllocError>
+    ensures { IfOk result (λ set. set.items ≡ resulting_at images.now (map (λ i. i.now) items.now) fitted.now) }
 {
-    match wanted {
+    let offers = offers_over(alloc, images, items)?;
+    let mut set = Vec::with_capacity(alloc, fitted.len())?;
+    for e in fitted {
+        set.push(resulting_ecu(offers.as_slice(), e, registered_over(images, e)))?;
+    }
+    Ok(set)
+}
+
+/// An ECU by what is offered, and by the registered image of what it reports.
+fn resulting_ecu<'a>(
+    offers: &[Offer<'a>],
+    e: &'a Fitted,
+    registered: Option<&'a Image>,
+) -> Resulting<'a>
+    ensures { result ≡ resulting_by offers.now e.now (option_copied registered.entry) }
+{
+    match wanted(offers, e, registered) {
         Some(image) => Resulting {
             ecu: &e.ecu,
             hardware: &e.hardware,
@@ -61,20 +85,19 @@ fn with_wanted<'a>(images: &'a [Image], e: &'a Fitted, wanted: Option<&'a Image>
             level: image.release.get(),
             image: Some(image),
         },
-        None => as_reported(images, e),
+        None => as_reported(e, registered),
     }
 }
 
-fn as_reported<'a>(images: &'a [Image], e: &'a Fitted) -> Resulting<'a>
-    ensures { result ≡ with_wanted_image images.now e.now None }
+fn as_reported<'a>(e: &'a Fitted, registered: Option<&'a Image>) -> Resulting<'a>
+    ensures { result ≡ with_wanted_by e.now (option_copied registered.entry) None }
 {
-    let image = registered(images, e);
     Resulting {
         ecu: &e.ecu,
         hardware: &e.hardware,
         updated: false,
         file: &e.image.file,
-        level: level(image),
-        image,
+        level: level(registered),
+        image: registered,
     }
 }

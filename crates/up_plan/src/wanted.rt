@@ -1,22 +1,30 @@
 //! Levels, and the image that an ECU wants.
-ghost use Rattle.std.specs.Prelude.{◌≡◌, ◌++◌, map, nat_lt, option_copied, option_map, unwrap_or, IfOk};
-ghost use Rattle.up_canon.specs.Steps.{if_passes};
-ghost use Rattle.up_plan.specs.Offers.{greatest_offer};
-ghost use Rattle.up_plan.specs.Planning.{agrees as agrees_as, is_reported as is_reported_as, items_for as items_of, level as level_of, registered as registered_image};
+ghost use Rattle.std.specs.Prelude.{◌≡◌, option_copied};
+ghost use Rattle.up_plan.specs.ByFile.{registered_at};
+ghost use Rattle.up_plan.specs.ByOffers.{level_by, wanted_by};
+ghost use Rattle.up_plan.specs.Planning.{agrees as agrees_as, is_reported as is_reported_as, registered as registered_image};
 
 use crate::assigned::Fitted;
-use crate::campaign::{Campaign, Item};
 use crate::image::Image;
 use crate::offers::{Offer, greatest_for};
-use std::alloc::{AllocError, Global};
-use up_canon::ident::Ident;
 use up_canon::named::has_name;
+use up_canon::table::Table;
 
 /// The registered image of what the ECU reports.
 pub(crate) fn registered<'a>(images: &'a [Image], e: &Fitted) -> Option<&'a Image>
     ensures { option_copied result ≡ registered_image images.now e.now }
 {
     images.iter().find(|image| is_reported(image, e))
+}
+
+/// The same of images that are looked up by their filenames.
+pub(crate) fn registered_over<'a>(images: &'a Table<Image>, e: &Fitted) -> Option<&'a Image>
+    ensures { option_copied result ≡ registered_at images.now e.now }
+{
+    match images.get(e.image.file.text()) {
+        Some(image) if is_reported(image, e) => Some(image),
+        _ => None,
+    }
 }
 
 fn is_reported(image: &Image, e: &Fitted) -> bool
@@ -41,7 +49,7 @@ fn agrees(registered: &Option<[u8; 64]>, reported: &Option<[u8; 64]>) -> bool
 
 /// The release counter of the image, 0 where there is none.
 pub(crate) fn level(registered: Option<&Image>) -> u64
-    ensures { result ≡ unwrap_or (option_map (λ image. image.release) (option_copied registered.entry)) 0 }
+    ensures { result ≡ level_by (option_copied registered.entry) }
 {
     match registered {
         Some(image) => image.release.get(),
@@ -49,38 +57,16 @@ pub(crate) fn level(registered: Option<&Image>) -> u64
     }
 }
 
-/// The items of running campaigns that reach the vehicle.
-pub(crate) fn items_for<'a>(
-    alloc: Global,
-    campaigns: &'a [Campaign],
-    vehicle: &Ident,
-) -> Result<Vec<&'a Item>, AllocError>
-    ensures { IfOk result (λ items. map (λ i. i.now) items.items ≡ items_of campaigns.now vehicle.now) }
-{
-    let mut items = Vec::new(alloc);
-    for campaign in campaigns {
-        if campaign.running && campaign.reach.reaches(vehicle) {
-            push_items(&mut items, campaign.items.as_slice())?;
-        }
-    }
-    Ok(items)
-}
-
-fn push_items<'a>(items: &mut Vec<&'a Item>, more: &'a [Item]) -> Result<(), AllocError>
-    ensures { IfOk result (λ _. map (λ i. i.now) items.new.items ≡ map (λ i. i.now) items.old.items ++ more.now) }
-{
-    for item in more {
-        items.push(item)?;
-    }
-    Ok(())
-}
-
-/// The greatest image that is offered for the ECU's hardware, where it is above the ECU's level.
-pub(crate) fn wanted<'a>(images: &'a [Image], offers: &[Offer<'a>], e: &Fitted) -> Option<&'a Image>
-    ensures { option_copied result ≡ if_passes (λ image. nat_lt (level_of images.now e.now) image.release) (greatest_offer offers.now e.now.hardware) }
+/// The greatest image that is offered for the ECU's hardware, where it is above the level of the registered image.
+pub(crate) fn wanted<'a>(
+    offers: &[Offer<'a>],
+    e: &Fitted,
+    registered: Option<&Image>,
+) -> Option<&'a Image>
+    ensures { option_copied result ≡ wanted_by offers.now e.now (option_copied registered.entry) }
 {
     let image = greatest_for(offers, &e.hardware)?;
-    if level(registered(images, e)) < image.release.get() {
+    if level(registered) < image.release.get() {
         Some(image)
     } else {
         None

@@ -9,6 +9,7 @@ use Rattle.serde_json.specs.Find as json
 use Rattle.serde_json.specs.View.{items_of}
 use Rattle.up_canon.specs.Build.{count_value, hashes_value}
 use Rattle.up_canon.specs.Canon.{max_count}
+use Rattle.up_canon.specs.HexText.{is_lower_digit, is_hash, is_second_hash}
 use Rattle.up_canon.specs.Meaning.{HasText, HasCount, MeansIfAny, EachMeans}
 use Rattle.up_canon.specs.Moments.{moment_text}
 use Rattle.up_canon.specs.Names.{Name}
@@ -18,8 +19,6 @@ use Rattle.up_canon.proofs.Hashes.{first_hash, spelled_hash, sha512_size}
 use Rattle.up_canon.proofs.Printable.{both, all-hex}
 use Rattle.up_canon.proofs.Steps.{bind-ok}
 use Rattle.up_roles.specs.Meaning.{HasPositive, HasName, HasSha256, HasSha512, MeansHead}
-use Rattle.up_roles.specs.Parts.{is_lower_digit}
-use Rattle.up_canon.specs.HexText.{is_hash, is_second_hash}
 use Rattle.up_roles.specs.Payload.{repository_text, version_fits, name_fits, is_named, is_moment}
 use Rattle.up_roles.specs.declared.repository.Repository.{Repository}
 use Rattle.up_roles.specs.declared.repository.Repository.TheVariants.{Director, Image}

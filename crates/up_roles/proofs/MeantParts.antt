@@ -9,6 +9,7 @@ use Rattle.hex.proofs.HexLemmas.{decode_sized-ok, decode_sized-twice}
 use Rattle.serde_json.specs.Data.{unsigned, Data, number, string, array, object, Items}
 use Rattle.serde_json.specs.Find as json
 use Rattle.up_canon.specs.Canon.{max_count}
+use Rattle.up_canon.specs.HexText.{is_lower_digit}
 use Rattle.up_canon.specs.Meaning.{HasText, HasCount, HasObject, MeansIfAny}
 use Rattle.up_canon.specs.Members.{items_list, text_of, count_of, list_of, object_of}
 use Rattle.up_canon.specs.Moments.{moment_text, MomentsAreRead, OnlyTextsAreRead}
@@ -21,7 +22,7 @@ use Rattle.up_canon.proofs.Faults.{Fails, AllowsShapes, then_fails, ok_fails, or
 use Rattle.up_canon.proofs.Members.{is_text, is_number, is_list, is_some_object, text_read, text_there, ident_read, ident_there, word_read, word_there, positive_read, positive_there, fits_read, fits_there, if_any_read, if_any_there}
 use Rattle.up_canon.proofs.Steps.{first_ok, bind-ok, same_ok, or_error_ok, value_of_some}
 use Rattle.up_roles.specs.Meaning.{HasPositive, HasName, HasHash, HasSha256, HasSha512, MeansHead}
-use Rattle.up_roles.specs.Parts.{part_in, object_part, few_part, text_part, count_part, positive_part, ident_part, file_name_part, is_lower_digit, digits_part, hash_part, sha256_part, sha512_part}
+use Rattle.up_roles.specs.Parts.{part_in, object_part, few_part, text_part, count_part, positive_part, ident_part, file_name_part, digits_part, hash_part, sha256_part, sha512_part}
 use Rattle.up_roles.specs.Payload.{repository_text, repository_of, repository_in, expires_in, head_in, vehicle_in}
 use Rattle.up_roles.specs.declared.payload.Head.{Head}
 use Rattle.up_roles.specs.declared.repository.Repository.{Repository}

@@ -4,12 +4,12 @@ use Rattle.std.specs.Prelude.{◌≡◌, ℕ, ◌≤◌, List, IsTrue, bytes_eq,
 use Rattle.std.specs.List.{AllByRecursion, list_all, list_any}
 use Rattle.serde_json.specs.Data.{Data, string, array, Items}
 use Rattle.serde_json.specs.Find as json
+use Rattle.up_canon.specs.HexText.{is_lower_digit}
 use Rattle.up_canon.specs.Meaning.{MeansValue, HasText, HasCount, HasObject, HasHex, MeansIfAny, EachMeans}
 use Rattle.up_canon.specs.Moments.{last_moment, moment_text}
 use Rattle.up_canon.specs.Names.{Name, is_ident, is_file_name, are_distinct, hardware_fits}
 use Rattle.up_sign.specs.Meaning.{MeansEnvelope}
 use Rattle.up_sign.specs.declared.envelope.Envelope.{Envelope}
-use Rattle.up_roles.specs.Parts.{is_lower_digit}
 use Rattle.up_roles.specs.Payload.{largest_file, repository_text}
 use Rattle.up_roles.specs.Root.{all_keys, role_fits}
 use Rattle.up_roles.specs.Targets.{ecus_of}

@@ -1,9 +1,10 @@
 -- Parts of a member, whose faults go by that member's name.
-use Rattle.std.specs.Prelude.{ℕ, ◌||◌, List, Bool, nat_le, length, codes, Option, Result}
+use Rattle.std.specs.Prelude.{ℕ, List, nat_le, length, codes, Option, Result}
 use Rattle.std.specs.List.{list_all}
 use Rattle.hex.specs.Hex.{decode_sized}
 use Rattle.serde_json.specs.Data.{Data}
 use Rattle.serde_json.specs.Find as json
+use Rattle.up_canon.specs.HexText.{is_lower_digit}
 use Rattle.up_canon.specs.Members.{text_of, count_of, list_of, object_of}
 use Rattle.up_canon.specs.Names.{Name, is_from_to}
 use Rattle.up_canon.specs.Readers.{ident_of, file_name_of, fitting}
@@ -48,10 +49,6 @@ ident_part = part_as ident_of
 
 unfoldable pub file_name_part : List ℕ → List ℕ → Data → Result Name Refusal
 file_name_part = part_as file_name_of
-
--- `0` to `9` and `a` to `f`
-abbrev pub is_lower_digit : ℕ → Bool
-is_lower_digit x = is_from_to 48 57 x || is_from_to 97 102 x
 
 -- the text of that name among the hashes, of lower case hexadecimal digits
 unfoldable pub digits_part : List ℕ → List ℕ → Data → Result (List ℕ) Refusal

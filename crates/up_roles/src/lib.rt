@@ -18,4 +18,3 @@ pub mod snapshot;
 pub mod targets;
 pub mod targets_text;
 pub mod timestamp;
-mod values;

@@ -2,9 +2,10 @@
 ghost use Rattle.std.specs.Prelude.{◌≡◌, ◌≤◌, Ok, IfOk, MatchResult, length};
 ghost use Rattle.std.specs.List.{list_all};
 ghost use Rattle.serde_json.specs.View.{view};
+ghost use Rattle.up_canon.specs.HexText.{is_lower_digit as is_lower_digit_of};
 ghost use Rattle.up_canon.specs.Members.{IsFault, object_of_map, values_of};
 ghost use Rattle.up_canon.specs.Refusals.{Gives};
-ghost use Rattle.up_roles.specs.Parts.{part_in, object_part as object_part_of, few_part as few_part_of, text_part as text_part_of, count_part as count_part_of, positive_part as positive_part_of, ident_part as ident_part_of, file_name_part as file_name_part_of, digits_part as digits_part_of, sha256_part as sha256_part_of, sha512_part as sha512_part_of, is_lower_digit as is_lower_digit_of};
+ghost use Rattle.up_roles.specs.Parts.{part_in, object_part as object_part_of, few_part as few_part_of, text_part as text_part_of, count_part as count_part_of, positive_part as positive_part_of, ident_part as ident_part_of, file_name_part as file_name_part_of, digits_part as digits_part_of, sha256_part as sha256_part_of, sha512_part as sha512_part_of};
 
 use hex::FromHex;
 use serde_json::{Map, Value};
@@ -12,6 +13,7 @@ use std::alloc::Global;
 use up_canon::count::Count;
 use up_canon::fields::find;
 use up_canon::file_name::FileName;
+use up_canon::hex_text::is_lower_digit;
 use up_canon::ident::Ident;
 use up_canon::kinds::{count_of, list_of, object_of, text_of};
 use up_canon::readers::{file_name_of, ident_of};
@@ -186,10 +188,4 @@ fn has_lower_digits(bytes: &[u8]) -> bool
     ensures { result ≡ list_all is_lower_digit_of bytes.now }
 {
     bytes.iter().all(|b| is_lower_digit(*b))
-}
-
-fn is_lower_digit(byte: u8) -> bool
-    ensures { result ≡ is_lower_digit_of byte }
-{
-    byte.is_ascii_digit() || (byte >= b'a' && byte <= b'f')
 }

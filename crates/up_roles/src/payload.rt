@@ -1,16 +1,12 @@
 //! What the payloads of the four roles have in common.
-ghost use Rattle.std.specs.Prelude.{◌≡◌, ℕ, List, None, Ok, true, IfOk, OnOk, MatchResult, codes};
-ghost use Rattle.serde_json.specs.Data.{Data, string};
-ghost use Rattle.serde_json.specs.View.{view, members_view};
-ghost use Rattle.up_canon.specs.Build.{members_with};
+ghost use Rattle.std.specs.Prelude.{◌≡◌, Ok, MatchResult, codes};
 ghost use Rattle.up_canon.specs.Members.{IsFault, object_of_map};
 ghost use Rattle.up_canon.specs.Refusals.{Gives};
-ghost use Rattle.up_roles.specs.Payload.{payload, repository_text, is_moment, repository_in, vehicle_in, expires_in, head_in};
+ghost use Rattle.up_roles.specs.Payload.{repository_in, vehicle_in, expires_in, head_in};
 
 use crate::repository::Repository;
-use crate::values::moment_value;
-use serde_json::{Map, Value, put};
-use std::alloc::{AllocError, Global};
+use serde_json::{Map, Value};
+use std::alloc::Global;
 use up_canon::fields::text_at;
 use up_canon::ident::Ident;
 use up_canon::limits::{positive_at, word_at};
@@ -80,35 +76,5 @@ fn expires_at(map: &Map<String, Value>) -> Result<Moment, &'static str>
     match Moment::read(text) {
         Some(moment) => Ok(moment),
         None => Err("expires"),
-    }
-}
-
-/// The payload of that type with these members of its role. It names no vehicle.
-pub(crate) fn payload_value(
-    alloc: Global,
-    kind: &str,
-    head: &Head,
-    mut members: Map<String, Value>,
-) -> Result<Value, AllocError>
-    ensures value { IfOk result (λ v. (ms : List (List ℕ × Data)) → members_view members.entries ≡ members_with ms
-        → view v ≡ payload kind.now head.now.repository head.now.version head.now.expires None ms) }
-    ensures typed { OnOk result (is_moment head.now.expires ≡ true) }
-{
-    let kind = Value::try_from_str(alloc, kind)?;
-    let repository = repository_value(alloc, head.repository)?;
-    let expires = moment_value(alloc, head.expires)?;
-    put(&mut members, alloc, "version", Value::from(head.version))?;
-    put(&mut members, alloc, "type", kind)?;
-    put(&mut members, alloc, "repository", repository)?;
-    put(&mut members, alloc, "expires", expires)?;
-    Ok(Value::Object(members))
-}
-
-fn repository_value(alloc: Global, repository: Repository) -> Result<Value, AllocError>
-    ensures { IfOk result (λ v. view v ≡ string (repository_text repository)) }
-{
-    match repository {
-        Repository::Director => Value::try_from_str(alloc, "director"),
-        Repository::Image => Value::try_from_str(alloc, "image"),
     }
 }

@@ -34,7 +34,7 @@ pub(crate) fn push_repository(out: &mut String, repository: Repository) -> Resul
     Ok(())
 }
 
-/// Appends the vehicle that a file is for, where there is one, and its version, and ends the object.
+/// Appends the vehicle that a file is for, where there is one, and the file's version, and ends the object.
 pub(crate) fn push_end(
     out: &mut String,
     vehicle: &Option<Ident>,
@@ -69,6 +69,7 @@ pub(crate) fn push_name(out: &mut String, name: &Ident) -> Result<(), AllocError
     ensures value { IfOk result (λ _. string_bytes out.new ≡ string_bytes out.old ++ quoted name.now) }
     ensures typed { is_ident name.now ≡ true }
 {
+    // Noted for the proof: what an identifier is.
     name.text();
     push_ident(out, name)
 }

@@ -1,22 +1,24 @@
 //! Writing Root files.
-ghost use Rattle.std.specs.Prelude.{◌≡◌, ◌≤◌, IsTrue, IfOk, OnOk, length, map, string_bytes, true};
+ghost use Rattle.std.specs.Prelude.{◌≡◌, ◌≤◌, ◌∷◌, [], ℕ, List, None, IsTrue, IfOk, OnOk, codes, length, map, string_bytes, true};
 ghost use Rattle.std.specs.List.{list_all};
-ghost use Rattle.serde_json.specs.Data.{string};
+ghost use Rattle.serde_json.specs.Data.{Data, string};
 ghost use Rattle.serde_json.specs.View.{view, members_view};
 ghost use Rattle.up_canon.specs.Build.{list_with, members_with, object_with};
 ghost use Rattle.up_canon.specs.Canon.{text};
+ghost use Rattle.up_canon.specs.Moments.{moment_text};
 ghost use Rattle.up_sign.specs.Envelopes.{key_block};
-ghost use Rattle.up_roles.specs.Payload.{IsCanonical};
+ghost use Rattle.up_roles.specs.Payload.{IsCanonical, payload, repository_text, is_moment};
 ghost use Rattle.up_roles.specs.Root.{all_keys, key_member, put_keys, role_value as role_value_of, roles_value as roles_value_of, root_more, root_payload, root_text_of, root_fits, root_is_typed};
 
-use crate::payload::{Head, payload_value};
+use crate::payload::Head;
+use crate::repository::Repository;
 use crate::root::{RoleKeys, RootFile, RootKey};
 use crate::sealing::sealed_text;
-use crate::values::one_member;
 use serde_json::{Map, Value, json, put};
 use std::alloc::{AllocError, Global};
 use up_canon::bytes::Bytes;
 use up_canon::canonical::canonical_text;
+use up_canon::moment::{LAST_MOMENT, Moment};
 use up_sign::key_id::HashedKey;
 use up_sign::scheme::Scheme;
 use up_sign::seal::hashed_keys;
@@ -80,7 +82,7 @@ fn root_value(alloc: Global, file: &RootFile) -> Result<Value, AllocError>
         expires: file.expires,
     };
     let more = root_members(alloc, file)?;
-    payload_value(alloc, "root", &head, more)
+    payload_value(alloc, &head, more)
 }
 
 fn root_members(alloc: Global, file: &RootFile) -> Result<Map<String, Value>, AllocError>
@@ -156,4 +158,56 @@ fn ids_value(alloc: Global, keys: &[RootKey]) -> Result<Value, AllocError>
         values.push(Value::try_from_str(alloc, key.keyid.as_str())?)?;
     }
     Ok(Value::Array(values))
+}
+
+/// The payload of a Root file with these members of its role. It names no vehicle.
+fn payload_value(
+    alloc: Global,
+    head: &Head,
+    mut members: Map<String, Value>,
+) -> Result<Value, AllocError>
+    ensures value { IfOk result (λ v. (ms : List (List ℕ × Data)) → members_view members.entries ≡ members_with ms
+        → view v ≡ payload (codes "root") head.now.repository head.now.version head.now.expires None ms) }
+    ensures typed { OnOk result (is_moment head.now.expires ≡ true) }
+{
+    let kind = Value::try_from_str(alloc, "root")?;
+    let repository = repository_value(alloc, head.repository)?;
+    let expires = moment_value(alloc, head.expires)?;
+    put(&mut members, alloc, "version", Value::from(head.version))?;
+    put(&mut members, alloc, "type", kind)?;
+    put(&mut members, alloc, "repository", repository)?;
+    put(&mut members, alloc, "expires", expires)?;
+    Ok(Value::Object(members))
+}
+
+fn repository_value(alloc: Global, repository: Repository) -> Result<Value, AllocError>
+    ensures { IfOk result (λ v. view v ≡ string (repository_text repository)) }
+{
+    match repository {
+        Repository::Director => Value::try_from_str(alloc, "director"),
+        Repository::Image => Value::try_from_str(alloc, "image"),
+    }
+}
+
+/// A moment as its text.
+fn moment_value(alloc: Global, moment: Moment) -> Result<Value, AllocError>
+    ensures value { IfOk result (λ v. view v ≡ string (moment_text moment)) }
+    ensures typed { is_moment moment ≡ true }
+{
+    let second = moment.get();
+    prove!(second <= LAST_MOMENT);
+    Ok(Value::String(moment.text(alloc)?))
+}
+
+/// The object of one member.
+fn one_member(
+    alloc: Global,
+    name: &str,
+    value: Value,
+) -> Result<Map<String, Value>, AllocError>
+    ensures { IfOk result (λ m. members_view m.entries ≡ members_with ((name.now, view value) ∷ [])) }
+{
+    let mut members = Map::new(alloc);
+    put(&mut members, alloc, name, value)?;
+    Ok(members)
 }

@@ -103,6 +103,7 @@ fn push_target(alloc: Global, out: &mut String, target: &Target) -> Result<(), A
     ensures value { IfOk result (λ _. string_bytes out.new ≡ string_bytes out.old ++ text (target_value target.now)) }
     ensures typed { OnOk result (target_is_typed target.now ≡ true) }
 {
+    // Noted for the proof: what a filename is.
     target.file.text();
     push_ecu(out, &target.ecu)?;
     out.push_str("\"file\":")?;

@@ -24,10 +24,14 @@ pub fn answer_text(alloc: Global, answer: &Answer) -> Result<String, AllocError>
     }
 }
 
+/// Bytes of room that the line of a reply gets, so that it seldom grows while it is written.
+const ROOM_OF_A_REPLY: usize = 128;
+
 fn reply_text(alloc: Global, reply: &Reply) -> Result<String, AllocError>
     ensures { IfOk result (λ t. string_bytes t ≡ reply_text_of reply.now) }
 {
-    let mut out = "reply ".to_string(alloc)?;
+    let mut out = String::with_capacity(alloc, ROOM_OF_A_REPLY)?;
+    out.push_str("reply ")?;
     out.push_str(reply.vehicle.text())?;
     out.push_str(" version ")?;
     push_number(&mut out, reply.version)?;
@@ -74,11 +78,15 @@ pub fn refused_text(alloc: Global, refusal: &Refusal) -> Result<String, AllocErr
     format!(in alloc; "refused {} {}", refusal.number(), text)
 }
 
+/// Bytes of room that the line of a view gets.
+const ROOM_OF_A_VIEW: usize = 256;
+
 /// The beginning of the line that shows a vehicle: its name and version.
 pub fn vehicle_text(alloc: Global, vehicle: &Ident, version: u64) -> Result<String, AllocError>
     ensures { IfOk result (λ t. string_bytes t ≡ vehicle_text_of vehicle.now version) }
 {
-    let mut out = "vehicle ".to_string(alloc)?;
+    let mut out = String::with_capacity(alloc, ROOM_OF_A_VIEW)?;
+    out.push_str("vehicle ")?;
     out.push_str(vehicle.text())?;
     out.push_str(" version ")?;
     push_number(&mut out, version)?;

@@ -6,4 +6,5 @@ pub mod Meaning
 pub mod Faults
 pub mod Texts
 pub mod Accepted
+pub mod KeyCaches
 pub mod Limits

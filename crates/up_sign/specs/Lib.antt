@@ -1,6 +1,7 @@
 pub mod Hmac
 pub mod HmacKeys
 pub mod HmacLaws
+pub mod KeyCaches
 pub mod Schemes
 pub mod Envelopes
 pub mod Formats

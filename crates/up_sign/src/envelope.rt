@@ -1,5 +1,5 @@
 //! Envelopes: a signed text with its signatures.
-ghost use Rattle.std.specs.Prelude.{◌≡◌, IsTrue, IfOk, OnOk, string_bytes, true};
+ghost use Rattle.std.specs.Prelude.{◌≡◌, ◌++◌, IsTrue, IfOk, OnOk, string_bytes, true};
 ghost use Rattle.up_sign.specs.Formats.{envelope_fits, has_bytes, envelope_text};
 
 use crate::writing::push_signatures;
@@ -42,7 +42,6 @@ pub struct Envelope {
 impl Envelope {
     /// Its JSON text, in which the signed text stands as it is. Its signatures are bytes, so that by `envelope_laws` the
     /// text is read as the same envelope.
-    #[tactic(auto, unfolding(crate::specs::Formats::envelope_text))]
     pub fn text(&self, alloc: Global) -> Result<String, AllocError>
         requires limits { IsTrue (envelope_fits self.now) }
         ensures value { IfOk result (λ text. string_bytes text ≡ envelope_text self.now) }
@@ -53,12 +52,23 @@ impl Envelope {
             .len()
             .saturating_add(ROOM_OF_A_SIGNATURE * signatures.len());
         let mut out = String::with_capacity(alloc, room)?;
-        out.push_str("{\"signatures\":")?;
-        push_signatures(alloc, &mut out, signatures)?;
-        out.push_str(",\"signed\":")?;
-        out.push_str(signed)?;
-        out.push('}')?;
+        self.push_to(alloc, &mut out)?;
         Ok(out)
+    }
+
+    /// Appends its JSON text. On an error `out` may hold some of it.
+    #[tactic(auto, unfolding(crate::specs::Formats::envelope_text))]
+    pub fn push_to(&self, alloc: Global, out: &mut String) -> Result<(), AllocError>
+        requires limits { IsTrue (envelope_fits self.now) }
+        ensures value { IfOk result (λ _. string_bytes out.new ≡ string_bytes out.old ++ envelope_text self.now) }
+        ensures bytes { OnOk result (has_bytes self.now ≡ true) }
+    {
+        out.push_str("{\"signatures\":")?;
+        push_signatures(alloc, out, self.signatures.as_slice())?;
+        out.push_str(",\"signed\":")?;
+        out.push_str(self.signed.as_str())?;
+        out.push('}')?;
+        Ok(())
     }
 }
 

@@ -119,6 +119,13 @@ impl HmacKey {
         outer.update(&inner.finalize()[..]);
         outer.finalize()
     }
+
+    /// Whether it is the key of these bytes.
+    pub(crate) fn is_of(&self, key: &[u8]) -> bool
+        ensures { result ≡ bytes_eq self.now (block_key key.now) }
+    {
+        self.block[..] == block_of(key)[..]
+    }
 }
 
 impl Duplicate for HmacKey {

@@ -1,5 +1,5 @@
 //! Identifiers of keys.
-ghost use Rattle.std.specs.Prelude.{◌≡◌, List, ℕ, IfOk, codes};
+ghost use Rattle.std.specs.Prelude.{◌≡◌, List, ℕ, IfOk, bytes_eq, codes};
 ghost use Rattle.hex.specs.Hex.{encode_lower};
 ghost use Rattle.up_sign.specs.Hmac.{hmac as hmac_of, hmac_under, block_key, key_id as key_id_of};
 
@@ -57,6 +57,13 @@ impl HashedKey {
         ensures { (public : List ℕ) → self.now ≡ block_key public → IfOk result (λ id. id ≡ key_id_of public) }
     {
         Ok(Text::new(hex::encode(alloc, self.id)?))
+    }
+
+    /// Whether it is of this public part.
+    pub(crate) fn is_of(&self, public: &[u8]) -> bool
+        ensures { result ≡ bytes_eq self.now (block_key public.now) }
+    {
+        self.mac.is_of(public)
     }
 
     /// The HMAC key.

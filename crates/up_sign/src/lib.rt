@@ -4,6 +4,7 @@
 pub mod envelope;
 pub mod envelope_read;
 pub mod hmac_sha256;
+pub mod key_cache;
 pub mod key_id;
 pub mod laws;
 pub mod scheme;

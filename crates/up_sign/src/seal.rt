@@ -1,5 +1,5 @@
 //! Sealing: signing a text with each of a list of secrets.
-ghost use Rattle.std.specs.Prelude.{◌≡◌, ◌≤◌, IsTrue, IfOk, length, map, string_bytes};
+ghost use Rattle.std.specs.Prelude.{◌≡◌, ◌≤◌, ◌∷◌, [], IsTrue, IfOk, length, map, string_bytes};
 ghost use Rattle.std.specs.List.{list_all};
 ghost use Rattle.up_sign.specs.Envelopes.{key_block, signature_of as signature_of_secret, sealed};
 ghost use Rattle.up_sign.specs.Formats.{envelope_fits};
@@ -53,6 +53,28 @@ pub fn seal_by<K: Scheme>(
             &keys[i],
         )?)?;
     }
+    Ok(Envelope {
+        signatures: Listed::new(signatures),
+        signed: Text::new(signed),
+    })
+}
+
+/// As `seal_by` with this one secret, without lists of secrets and keys.
+pub fn seal_one<K: Scheme>(
+    alloc: Global,
+    scheme: &K,
+    secret: &[u8],
+    key: &HashedKey,
+    signed: String,
+) -> Result<Envelope, AllocError>
+    requires fits { IsTrue ((K.rules scheme.now).secret_fits secret.now) }
+    requires hashed { key.now ≡ key_block (K.rules scheme.now) secret.now }
+    ensures value { IfOk result (λ e. e ≡ sealed (K.rules scheme.now) (secret.now ∷ []) (string_bytes signed)) }
+    ensures limits { IfOk result (λ e. IsTrue (envelope_fits e)) }
+{
+    let signature = signature_of(alloc, scheme, signed.as_str().as_bytes(), secret, key)?;
+    let mut signatures = Vec::with_capacity(alloc, 1)?;
+    signatures.push(signature)?;
     Ok(Envelope {
         signatures: Listed::new(signatures),
         signed: Text::new(signed),

@@ -1,6 +1,7 @@
 //! The calls by their words.
 use crate::envelopes::{envelope_of, key_identifier, opened};
 use crate::fits::{root_fits, snapshot_fits, targets_fit, timestamp_fits};
+use crate::key_caches::keys_kept;
 use crate::manifests::{manifest, manifest_of_bytes, prefixes, second_hash, signed_text};
 use crate::members::{
     count, ecu, ecus, file, files, note, object, sha256, sha512, signature, vehicle,
@@ -83,6 +84,7 @@ fn of_value(alloc: Global, call: &str, value: &Value) -> Result<String, AllocErr
         "hex written" => hex_written(alloc, value),
         "order of names" => order_of_names(alloc, value),
         "key identifier" => key_identifier(alloc, value),
+        "keys kept" => keys_kept(alloc, value),
         "envelope" => envelope_of(alloc, value),
         "opened" => opened(alloc, value),
         "manifest of bytes" => manifest_of_bytes(alloc, value),

@@ -5,6 +5,7 @@ mod calls;
 mod envelopes;
 mod file_fields;
 mod fits;
+mod key_caches;
 mod manifests;
 mod members;
 mod moments;

@@ -5,22 +5,18 @@ use Rattle.up_desk.proofs.catalog.read_registers.Goals as goal
 
 pub returns-in-Ok-images-clause-told : goal.returns-in-Ok-images-clause-told
 returns-in-Ok-images-clause-told g c = λ clean k s was founding.
-    let first = store_reads c.running.ensures.kept c.running.ensures.crash in
     let next = store_reads c.images.ensures.kept c.images.ensures.crash in
     record {
       founding = founding;
-      campaigns = c.in-Ok-running.ensures.told (clean_before next clean) (rows_of_state k s) was;
-      images = c.in-Ok-images.ensures.told clean (rows_of_state k s) (keeps_after k s was first);
+      campaigns = c.in-Ok-read_running.ensures.told (clean_before next clean) k s was;
+      images = c.in-Ok-images.ensures.told clean (rows_of_state k s) (keeps_after k s was c.read_running.ensures.reads);
     }
 
 pub returns-in-Ok-images-clause-reads : goal.returns-in-Ok-images-clause-reads
-returns-in-Ok-images-clause-reads g c = reads_then (store_reads c.running.ensures.kept c.running.ensures.crash) (store_reads c.images.ensures.kept c.images.ensures.crash)
+returns-in-Ok-images-clause-reads g c = reads_then c.read_running.ensures.reads (store_reads c.images.ensures.kept c.images.ensures.crash)
 
 pub returns-in-Err-images-clause-reads : goal.returns-in-Err-images-clause-reads
-returns-in-Err-images-clause-reads g c = reads_then (store_reads c.running.ensures.kept c.running.ensures.crash) (store_reads c.images.ensures.kept c.images.ensures.crash)
-
-pub returns-in-Err-running-clause-reads : goal.returns-in-Err-running-clause-reads
-returns-in-Err-running-clause-reads g c = store_reads c.running.ensures.kept c.running.ensures.crash
+returns-in-Err-images-clause-reads g c = reads_then c.read_running.ensures.reads (store_reads c.images.ensures.kept c.images.ensures.crash)
 
 pub returns-in-Err-clause-reads : goal.returns-in-Err-clause-reads
 returns-in-Err-clause-reads g c = reads_none (state g.D.Store c.args.store.now)

@@ -1,5 +1,8 @@
-use Rattle.std.proofs.Common.{ap, sym, subst, ◌∙◌}
-use Rattle.up_machine.specs.Decisions.{DeliveryData}
+use Rattle.std.proofs.Common.{◌++◌, ap, map, sym, subst, ◌∙◌}
+use Rattle.up_manifest.specs.declared.report.SignedReport.{SignedReport}
+use Rattle.up_plan.specs.declared.campaign.Item.{Item}
+use Rattle.up_plan.specs.Planning.{is_offered, items_for}
+use Rattle.up_machine.specs.Decisions.{AreImagesOf, DeliveryData}
 use Rattle.up_machine.specs.Senders.{ArePlanned}
 use Rattle.up_machine.proofs.Passing.{delivery_refused, surely}
 use Rattle.up_machine.proofs.Senders.{refused_first}
@@ -26,7 +29,12 @@ pub returns : goal.returns
 returns g c = λ s sound rows.
     let founding = ap (λ (d : DeliveryData). d.founding) c.rows.view_is ∙ rows.founding in
     let vehicle = ap (λ (d : DeliveryData). d.vehicle) c.rows.view_is ∙ rows.vehicle in
+    let manifest = c.args.incoming.now.manifest in
     let images = ap (λ (d : DeliveryData). d.images) (sym c.rows.view_is) in
-    let campaigns = ap (λ (d : DeliveryData). d.campaigns) (sym c.rows.view_is) in
+    let campaigns = ap (λ (d : DeliveryData). d.campaigns) c.rows.view_is in
+    let items = ap (map (λ i. i.now)) c.as_slice.ensures.value ∙ c.in_ok-items.ensures ∙ ap (λ cs. items_for cs manifest.vehicle) campaigns ∙ rows.campaigns in
     c.decide_new.ensures s sound (c.in_ok-sender.ensures.from s founding vehicle)
-    (subst (λ is. ArePlanned s c.args.incoming.now.manifest is c.rows.inside.campaigns.now) images (subst (λ cs. ArePlanned s c.args.incoming.now.manifest c.args.rows.now.images cs) campaigns (record { images_are = rows.images; items = rows.campaigns })))
+    (subst (λ is. ArePlanned s manifest is (map (λ i. i.now) c.as_slice.result.now)) images (record {
+      images_are = subst (λ is. AreImagesOf (map (λ (i : Item). i.file) is ++ map (λ (r : SignedReport). r.report.image.file) manifest.reports) c.args.rows.now.images s.images) rows.campaigns rows.images;
+      items_are = λ hardware image. ap (λ is. is_offered is hardware image) items;
+    }))

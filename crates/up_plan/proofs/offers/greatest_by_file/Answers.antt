@@ -2,7 +2,7 @@ use Rattle.std.proofs.Common.{ap, ◌∙◌}
 use Rattle.std.specs.Prelude.{Some, option_copied}
 use Rattle.std.proofs.lemmas.Map.Text.{btree_map_updates_str}
 use Rattle.up_plan.specs.Planning.{greater}
-use Rattle.up_plan.proofs.Items.{file_more}
+use Rattle.up_plan.proofs.Offering.{file_more}
 use Rattle.up_plan.proofs.offers.greatest_by_file.Goals as goal
 
 pub loop-image-preserved : goal.loop-image-preserved

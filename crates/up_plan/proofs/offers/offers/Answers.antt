@@ -1,7 +1,7 @@
 use Rattle.std.proofs.Common.{◌≡◌, ap, sym, ◌∙◌, ◌++◌, ◌∷◌, []}
 use Rattle.std.specs.Prelude.{option_copied, option_map}
-use Rattle.up_plan.specs.Offers.{OfferData, greatest_of_file}
-use Rattle.up_plan.proofs.Items.{offers_more, offers_less}
+use Rattle.up_plan.specs.Offers.{OfferData, greatest_of_file, offer_of}
+use Rattle.up_plan.proofs.Offering.{offers_more, offers_less}
 use Rattle.up_plan.proofs.offers.offers.Goals as goal
 use Rattle.up_plan.proofs.offers.offers.Goals.{in-Some+in_ok-push, in_default}
 
@@ -15,10 +15,10 @@ loop-item-preserved c =
       | in-Some+in_ok-push w ↦
           let o : OfferData = record { hardware = item.now.hardware; image = w.in-Some.image.now.now } in
           ap (λ v. v.items) w.offers-is ∙ w.in_ok-push.ensures.items ∙ ap (λ os. os ++ o ∷ []) c.loop-item.invariant
-          ∙ sym (offers_more images c.args.items.now c.loop-item.item-index item c.loop-item-test.true c.item-item.is o
+          ∙ sym (offers_more (offer_of images) c.args.items.now c.loop-item.item-index item c.loop-item-test.true c.item-item.is o
           (ap (option_map (λ image. record { hardware = item.now.hardware; image = image })) (sym found ∙ ap (λ r. option_copied (option_copied r)) w.in-Some.is)))
       | in_default w ↦
           ap (λ v. v.items) w.offers-is ∙ c.loop-item.invariant
-          ∙ sym (offers_less images c.args.items.now c.loop-item.item-index item c.loop-item-test.true c.item-item.is
+          ∙ sym (offers_less (offer_of images) c.args.items.now c.loop-item.item-index item c.loop-item-test.true c.item-item.is
           (ap (option_map (λ image. record { hardware = item.now.hardware; image = image })) (sym found ∙ ap (λ r. option_copied (option_copied r)) w.in_default.is)))
     ]
