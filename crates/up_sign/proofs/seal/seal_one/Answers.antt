@@ -10,7 +10,8 @@ returns-clause-limits g c =
     let t = string_bytes c.args.signed in
     let secrets = c.args.secret.now ∷ [] in
     let fits = sealed_fits k (g.met.K.Scheme.lawful c.args.scheme.now) secrets t (both _ _ c.requires.fits refl) (omega arith) (omega arith) in
+    let text : c.as_bytes.result.now ≡ t = c.as_bytes.ensures.value ∙ c.as_str.ensures.value in
     let all : c.new.result ≡ map (signature_of k t) secrets =
     c.new.ensures ∙ c.in_ok-push.ensures.items ∙ ap (λ made. made ++ c.in_ok-signature.signature ∷ []) c.in_ok-signatures.ensures.items
-    ∙ ap (λ s. s ∷ []) c.in_ok-signature.ensures in
+    ∙ ap (λ s. s ∷ []) (c.in_ok-signature.ensures ∙ ap (λ s. signature_of k s c.args.secret.now) text) in
     rw all fits
