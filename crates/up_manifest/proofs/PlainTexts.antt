@@ -7,6 +7,7 @@ use Rattle.std.specs.Str.Parse.{ParsesUnsigned, AllDigits, IsNumeral, digits_val
 use Rattle.std.proofs.lemmas.Bool.{and_parts}
 use Rattle.std.proofs.lemmas.Bool.Decides.{nat_tests}
 use Rattle.std.proofs.lemmas.Fmt.{decimal-digits_value}
+use Rattle.std.proofs.lemmas.List.Folds.{list_all-append}
 use Rattle.std.proofs.lemmas.Grind.{flat_map-append}
 use Rattle.std.proofs.lemmas.Str.Parse.{IsNumeralModel}
 use Rattle.up_canon.specs.Canon.{is_printable, is_printable_text, escaped, quoted}
@@ -30,6 +31,9 @@ unescaped (x ∷ t) h =
 
 pub direct-prints : (t : List ℕ) → list_all is_direct t ≡ true → is_printable_text t ≡ true
 direct-prints t h = all-more is_direct is_printable t (λ x k. (and_parts (is_printable x) _ k).0) h
+
+pub printable-more : (before t : List ℕ) → is_printable_text before ≡ true → is_printable_text t ≡ true → is_printable_text (before ++ t) ≡ true
+printable-more before t b h = list_all-append is_printable before t ∙ ap₂ (λ x y. x && y) b h
 
 -- a text between its quotes, with what stands behind them
 pub direct-quoted : (t rest : List ℕ) → list_all is_direct t ≡ true → 34 ∷ (t ++ 34 ∷ rest) ≡ quoted t ++ rest

@@ -15,7 +15,7 @@ use up_canon::note::is_printable;
 
 /// Why nothing was read.
 #[derive(Clone, Copy, Debug)]
-pub(crate) enum Unread {
+pub enum Unread {
     /// Memory was refused.
     Memory,
     /// The text has another form.
@@ -36,21 +36,21 @@ impl<T: Drop> From<AllocFailed<T>> for Unread {
 
 /// A text that is read from its front. Each step says what it takes; where it answers an error, what is left is any text.
 #[derive(Drop)]
-pub(crate) struct Cursor<'a> {
+pub struct Cursor<'a> {
     /// What is left.
-    pub(crate) rest: &'a str,
+    pub rest: &'a str,
 }
 
 impl<'a> Cursor<'a> {
     /// In front of the text.
-    pub(crate) fn new(text: &'a str) -> Cursor<'a>
+    pub fn new(text: &'a str) -> Cursor<'a>
         ensures { result.rest.now ≡ text.now }
     {
         Cursor { rest: text }
     }
 
     /// Takes a piece, where it stands in front, and tells whether it does.
-    pub(crate) fn takes(&mut self, piece: &str) -> bool
+    pub fn takes(&mut self, piece: &str) -> bool
         ensures { MatchBool result (self.old.rest.now ≡ piece.now ++ self.new.rest.now) (self.new.rest.now ≡ self.old.rest.now) }
     {
         match self.rest.strip_prefix(piece) {
@@ -63,7 +63,7 @@ impl<'a> Cursor<'a> {
     }
 
     /// Takes a piece, which has to stand in front.
-    pub(crate) fn pass(&mut self, piece: &str) -> Result<(), Unread>
+    pub fn pass(&mut self, piece: &str) -> Result<(), Unread>
         ensures { OnOk result (self.old.rest.now ≡ piece.now ++ self.new.rest.now) }
     {
         if self.takes(piece) {
@@ -74,7 +74,7 @@ impl<'a> Cursor<'a> {
     }
 
     /// Takes so many bytes, where there are so many.
-    pub(crate) fn cut(&mut self, size: usize) -> Result<&'a str, Unread>
+    pub fn cut(&mut self, size: usize) -> Result<&'a str, Unread>
         ensures { IfOk result (λ t. (self.old.rest.now ≡ t.now ++ self.new.rest.now) × (length t.now ≡ size)) }
     {
         match self.rest.split_at_checked(size) {
@@ -87,7 +87,7 @@ impl<'a> Cursor<'a> {
     }
 
     /// Takes a text in quotes in which each byte stands for itself: printable ASCII but quotes and backslashes.
-    pub(crate) fn quoted(&mut self) -> Result<&'a str, Unread>
+    pub fn quoted(&mut self) -> Result<&'a str, Unread>
         ensures value { IfOk result (λ t. self.old.rest.now ≡ quoted t.now ++ self.new.rest.now) }
         ensures printable { IfOk result (λ t. IsTrue (is_printable_text t.now)) }
     {
@@ -99,8 +99,9 @@ impl<'a> Cursor<'a> {
 
     /// Takes a text in quotes in which a backslash stands before each quote and each backslash, as in canonical text. It gives
     /// up where more than so many bytes were read.
-    pub(crate) fn escaped(&mut self, alloc: Global, most: usize) -> Result<String, Unread>
-        ensures { IfOk result (λ t. self.old.rest.now ≡ quoted (string_bytes t) ++ self.new.rest.now) }
+    pub fn escaped(&mut self, alloc: Global, most: usize) -> Result<String, Unread>
+        ensures value { IfOk result (λ t. self.old.rest.now ≡ quoted (string_bytes t) ++ self.new.rest.now) }
+        ensures printable { IfOk result (λ t. IsTrue (is_printable_text (string_bytes t))) }
     {
         self.pass("\"")?;
         let mut text = String::new(alloc);
@@ -118,7 +119,9 @@ impl<'a> Cursor<'a> {
 
     /// Takes a backslash and the quote or the backslash behind it, which it answers.
     fn escape(&mut self) -> Result<&'static str, Unread>
-        ensures { IfOk result (λ t. (self.old.rest.now ≡ flat_map escaped_of t.now ++ self.new.rest.now) × (length t.now ≡ 1)) }
+        ensures value { IfOk result (λ t. self.old.rest.now ≡ flat_map escaped_of t.now ++ self.new.rest.now) }
+        ensures one { IfOk result (λ t. length t.now ≡ 1) }
+        ensures printable { IfOk result (λ t. IsTrue (is_printable_text t.now)) }
     {
         if self.takes("\\\"") {
             return Ok("\"");
@@ -135,7 +138,7 @@ impl<'a> Cursor<'a> {
     }
 
     /// Takes the digits of a count, which begin with no zero but in `0` itself.
-    pub(crate) fn count(&mut self) -> Result<Count, Unread>
+    pub fn count(&mut self) -> Result<Count, Unread>
         ensures { IfOk result (λ n. self.old.rest.now ≡ decimal n ++ self.new.rest.now) }
     {
         let digits = self.cut(digits_size(self.rest.as_bytes()))?;
@@ -154,7 +157,7 @@ impl<'a> Cursor<'a> {
     }
 
     /// Takes the digits of a SHA-256 in quotes.
-    pub(crate) fn sha256(&mut self) -> Result<[u8; 32], Unread>
+    pub fn sha256(&mut self) -> Result<[u8; 32], Unread>
         ensures { IfOk result (λ hash. self.old.rest.now ≡ quoted (encode_lower hash) ++ self.new.rest.now) }
     {
         let mut hash = [0; 32];
@@ -163,7 +166,7 @@ impl<'a> Cursor<'a> {
     }
 
     /// Takes the digits of a SHA-512 in quotes.
-    pub(crate) fn sha512(&mut self) -> Result<[u8; 64], Unread>
+    pub fn sha512(&mut self) -> Result<[u8; 64], Unread>
         ensures { IfOk result (λ hash. self.old.rest.now ≡ quoted (encode_lower hash) ++ self.new.rest.now) }
     {
         let mut hash = [0; 64];
@@ -172,7 +175,7 @@ impl<'a> Cursor<'a> {
     }
 
     /// Takes bytes in hexadecimal digits, in quotes and in lower case.
-    pub(crate) fn bytes(&mut self, alloc: Global) -> Result<Vec<u8>, Unread>
+    pub fn bytes(&mut self, alloc: Global) -> Result<Vec<u8>, Unread>
         ensures value { IfOk result (λ bytes. self.old.rest.now ≡ quoted (encode_lower bytes.items) ++ self.new.rest.now) }
         ensures typed { IfOk result (λ bytes. IsTrue (list_all is_byte bytes.items)) }
     {

@@ -3,7 +3,7 @@
 
 pub mod body;
 pub mod building;
-mod cursor;
+pub mod cursor;
 pub mod manifest;
 pub mod manifest_read;
 mod plain;
