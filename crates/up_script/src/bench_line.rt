@@ -106,14 +106,7 @@ fn read_report<K: Scheme>(
         attack,
         image,
     };
-    Ok(sealed_report(
-        alloc,
-        scheme,
-        primary,
-        hashed,
-        key.as_slice(),
-        &report,
-    )?)
+    Ok(sealed_report(alloc, scheme, primary, hashed, key.as_slice(), &report)?)
 }
 
 /// The report in the envelope that the key signs. Where it is the Primary's, it is hashed already.
