@@ -200,11 +200,7 @@ fn moment_value(alloc: Global, moment: Moment) -> Result<Value, AllocError>
 }
 
 /// The object of one member.
-fn one_member(
-    alloc: Global,
-    name: &str,
-    value: Value,
-) -> Result<Map<String, Value>, AllocError>
+fn one_member(alloc: Global, name: &str, value: Value) -> Result<Map<String, Value>, AllocError>
     ensures { IfOk result (λ m. members_view m.entries ≡ members_with ((name.now, view value) ∷ [])) }
 {
     let mut members = Map::new(alloc);

@@ -15,7 +15,7 @@ returns-clause-column c =
     let p = c.args.plan.now in
     begun _ _ _ c.in_ok-out.ensures.bytes (
     pushed _ _ _ (codes "{\"assigned\":") _ c.in_ok-push_str.ensures.bytes (
-    pushed _ _ _ (text (list_with (map assigned_data p.assigned))) _ (pushed_as _ _ _ _ (ap (λ as. text (list_with (map assigned_data as))) c.as_slice-assigned.ensures) c.in_ok-push_assigned.ensures.value) (
+    pushed _ _ _ (text (list_with (map assigned_data p.assigned))) _ (pushed_as _ _ _ _ (ap (λ xs. text (list_with (map assigned_data xs))) c.as_slice-assigned.ensures) c.in_ok-push_assigned.ensures.value) (
     pushed _ _ _ (codes ",\"withheld\":") _ c.in_ok-push_str-2.ensures.bytes (
     pushed _ _ _ (text (cause_data p.withheld)) (codes "}") c.in_ok-push_withheld.ensures.value c.in_ok-push_str-3.ensures.bytes
     )

@@ -1,4 +1,4 @@
-use Rattle.std.proofs.Common.{◌≡◌, ◌∷◌, ◌++◌, ◌∙◌, true, sym, ap}
+use Rattle.std.proofs.Common.{◌≡◌, ◌∷◌, ◌++◌, ◌∙◌, sym, ap}
 use Rattle.std.specs.Prelude.{flat_map}
 use Rattle.up_canon.specs.Canon.{escaped, quoted, is_printable_text}
 use Rattle.up_manifest.proofs.PlainTexts.{direct-more, direct-prints, escaped-more, escaped-ends, printable-more}
@@ -10,13 +10,14 @@ pieces-preserved c =
     let direct = c.in_ok-direct.direct.now in
     let special = c.in_ok-special.special.now in
     let rest = c.escape.new.self.rest.now in
-    let all : c.push_str-in-pieces.new.self.bytes.items ≡ (before ++ direct) ++ special = c.in_ok-push_str-2.ensures.bytes ∙ ap (λ t. t ++ special) c.in_ok-push_str.ensures.bytes in
-    (c.pieces.invariant.0
-    ∙ ap (λ t. 34 ∷ (flat_map escaped before ++ t)) (c.in_ok-direct.ensures.0 ∙ ap (λ t. direct ++ t) (sym c.if-takes.ensures ∙ c.in_ok-special.ensures.value))
-    ∙ ap (λ t. 34 ∷ t) (direct-more before direct (flat_map escaped special ++ rest) c.in_ok-direct.ensures.1 ∙ escaped-more (before ++ direct) special rest)
-    ∙ ap (λ t. 34 ∷ (flat_map escaped t ++ rest)) (sym all),
-    ap is_printable_text all
-    ∙ printable-more (before ++ direct) special (printable-more before direct c.pieces.invariant.1 (direct-prints direct c.in_ok-direct.ensures.1)) c.in_ok-special.ensures.printable)
+    let all : c.push_str-in-pieces.new.self.bytes.items ≡ (before ++ direct) ++ special = c.in_ok-push_str-2.ensures.bytes ∙ ap (λ t. t ++ special) c.in_ok-push_str.ensures.bytes in (
+      c.pieces.invariant.0
+          ∙ ap (λ t. 34 ∷ (flat_map escaped before ++ t)) (c.in_ok-direct.ensures.0 ∙ ap (λ t. direct ++ t) (sym c.if-takes.ensures ∙ c.in_ok-special.ensures.value))
+          ∙ ap (λ t. 34 ∷ t) (direct-more before direct (flat_map escaped special ++ rest) c.in_ok-direct.ensures.1 ∙ escaped-more (before ++ direct) special rest)
+          ∙ ap (λ t. 34 ∷ (flat_map escaped t ++ rest)) (sym all),
+      ap is_printable_text all
+          ∙ printable-more (before ++ direct) special (printable-more before direct c.pieces.invariant.1 (direct-prints direct c.in_ok-direct.ensures.1)) c.in_ok-special.ensures.printable,
+    )
 
 pub returns-then-takes-clause-value : goal.returns-then-takes-clause-value
 returns-then-takes-clause-value c =

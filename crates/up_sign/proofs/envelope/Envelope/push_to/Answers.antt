@@ -19,4 +19,4 @@ returns-clause-value c =
     let signed = pushed_as _ _ _ e.signed c.as_str.ensures c.in_ok-push_str-3.ensures.bytes in
     let end = pushed_as _ _ _ (codes "}") (c.in_ok-push.ensures.ascii (omega arith)) c.in_ok-push.ensures.bytes in
     pushed o _ _ (a ++ s ++ b ++ e.signed) (codes "}") (pushed o _ _ (a ++ s ++ b) e.signed (pushed o _ _ (a ++ s) b (pushed o _ _ a s c.in_ok-push_str.ensures.bytes signatures)
-        c.in_ok-push_str-2.ensures.bytes) signed) end
+    c.in_ok-push_str-2.ensures.bytes) signed) end
