@@ -1,26 +1,25 @@
 -- The canonical text of a line that has a body delivered, and what it asks.
-use Rattle.std.proofs.Common.{◌≡◌, ℕ, ◌≤◌, lit≤, List, [], ◌∷◌, ◌++◌, Bool, true, false, Some, Ok, Err, refl, ap, ◌∙◌, ⊥, arith}
-use Rattle.std.specs.Prelude.{◌&&◌, IsUtf8, nat_le, codes, decimal}
+use Rattle.std.proofs.Common.{◌≡◌, ℕ, ◌≤◌, lit≤, List, [], ◌∷◌, ◌++◌, Bool, true, Some, Ok, Err, refl, ap, ◌∙◌, arith}
+use Rattle.std.specs.Prelude.{◌&&◌, IsUtf8, nat_le, flat_map, codes, decimal}
 use Rattle.std.proofs.lemmas.Bool.Decides.{nat_tests}
 use Rattle.std.proofs.lemmas.Str.{is_utf8-from_IsUtf8}
 use Rattle.serde_json.specs.Data.{Data, string}
 use Rattle.serde_json.specs.Read.{read}
 use Rattle.up_canon.specs.Build.{object_with, count_value}
-use Rattle.up_canon.specs.Canon.{max_count, is_printable_text, is_plain, text, quoted, PlainIsRead}
+use Rattle.up_canon.specs.Canon.{max_count, is_printable_text, is_plain, escaped, text, PlainIsRead}
 use Rattle.up_canon.specs.JsonText.{value_in}
 use Rattle.up_canon.specs.Steps.{or_error}
-use Rattle.up_canon.specs.declared.refusal.Refusal.{Refusal}
 use Rattle.up_canon.specs.declared.refusal.Refusal.TheVariants.{BadShape, NotJson}
 use Rattle.up_sign.specs.Schemes.{Rules}
 use Rattle.up_machine.specs.declared.command.Command.TheVariants as command
 use Rattle.up_script.specs.AskedLines.{deliver_in, asked_of, asked_in}
 use Rattle.up_script.specs.Words.{word_in, word_of}
-use Rattle.up_script.specs.declared.asked.Asked.{Asked}
 use Rattle.up_script.specs.declared.asked.What.TheVariants.{Call}
 use Rattle.up_script.specs.declared.word.Word.TheVariants as word
 use Rattle.up_canon.proofs.JsonTexts.{value_in-some, value_in-none}
 use Rattle.up_canon.proofs.Members.{text_there, count_there, self_there}
 use Rattle.up_canon.proofs.Steps.{bind-ok, bind-err}
+use Rattle.up_manifest.proofs.PlainTexts.{escaped-ends}
 
 -- ---- the text
 
@@ -29,8 +28,8 @@ abbrev delivery_value : ℕ → List ℕ → Data
 delivery_value at body = object_with ((codes "at", count_value at) ∷ (codes "body", string body) ∷ (codes "do", string (codes "deliver")) ∷ [])
 
 spelled : (at : ℕ) (body : List ℕ)
-    → codes "{\"at\":" ++ (decimal at ++ (codes ",\"body\":" ++ (quoted body ++ codes ",\"do\":\"deliver\"}"))) ≡ text (delivery_value at body)
-spelled at body = refl
+    → codes "{\"at\":" ++ (decimal at ++ (codes ",\"body\":\"" ++ (flat_map escaped body ++ codes "\",\"do\":\"deliver\"}"))) ≡ text (delivery_value at body)
+spelled at body = ap (λ t. codes "{\"at\":" ++ (decimal at ++ (codes ",\"body\":" ++ t))) (escaped-ends body (codes ",\"do\":\"deliver\"}"))
 
 and_three : (a b c : Bool) → a ≡ true → b ≡ true → c ≡ true → (a && (b && (c && true))) ≡ true
 and_three a b c p q r = rw (p, q, r) refl
@@ -52,7 +51,7 @@ delivery_of k at body small =
     ∙ bind-ok _ _ (Call (command.Deliver body)) (bind-ok _ _ body (text_there (codes "body") d body refl))
 
 pub delivery_in : PlainIsRead → (k : Rules) (at : ℕ) (body : List ℕ) → at ≤ max_count → is_printable_text body ≡ true → (line : List ℕ) → IsUtf8 line
-    → line ≡ codes "{\"at\":" ++ (decimal at ++ (codes ",\"body\":" ++ (quoted body ++ codes ",\"do\":\"deliver\"}")))
+    → line ≡ codes "{\"at\":" ++ (decimal at ++ (codes ",\"body\":\"" ++ (flat_map escaped body ++ codes "\",\"do\":\"deliver\"}")))
     → asked_in k line ≡ Ok (record { at = at; what = Call (command.Deliver body) })
 unfolding asked_in
 delivery_in law k at body small prints line utf8 same =

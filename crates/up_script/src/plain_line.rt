@@ -1,12 +1,15 @@
 //! Deliveries in the form in which lines are written, read without a tree of their values.
-ghost use Rattle.std.specs.Prelude.{◌≡◌, Ok, IsTrue, IfOk, IfSome};
+ghost use Rattle.std.specs.Prelude.{◌≡◌, ◌<◌, ◌++◌, ◌∷◌, [], Ok, IsTrue, IfOk, IfSome, flat_map, length};
+ghost use Rattle.up_canon.specs.Canon.{is_printable_text, escaped};
 ghost use Rattle.up_sign.specs.Schemes.{Rules};
 ghost use Rattle.up_script.specs.AskedLines.{asked_in, asks_running};
 
 use crate::asked::{Asked, What};
+use memchr::memchr2;
 use std::alloc::{AllocError, Global};
 use up_canon::bytes::Bytes;
 use up_canon::canonical_laws;
+use up_canon::note::is_printable;
 use up_machine::command::Command;
 use up_manifest::cursor::{Cursor, Unread};
 
@@ -31,13 +34,67 @@ fn delivery(alloc: Global, line: &str) -> Result<Asked, Unread>
     let mut cursor = Cursor::new(line);
     cursor.pass("{\"at\":")?;
     let at = cursor.count()?;
-    cursor.pass(",\"body\":")?;
-    let body = cursor.escaped(alloc, line.len())?;
-    if cursor.rest != ",\"do\":\"deliver\"}" {
+    cursor.pass(",\"body\":\"")?;
+    let text = text_before(&mut cursor, "\",\"do\":\"deliver\"}")?;
+    let body = unescaped(alloc, text.as_bytes())?;
+    if !are_printable(body.as_slice()) {
         return Err(Unread::Form);
     }
     Ok(Asked {
         at,
-        what: What::Call(Command::Deliver(Bytes::new(body.into_bytes()))),
+        what: What::Call(Command::Deliver(Bytes::new(body))),
     })
+}
+
+/// The text in front of the last piece.
+fn text_before<'a>(cursor: &mut Cursor<'a>, last: &str) -> Result<&'a str, Unread>
+    ensures { IfOk result (λ text. cursor.old.rest.now ≡ text.now ++ last.now) }
+{
+    let text = cursor.cut(cursor.rest.len().saturating_sub(last.len()))?;
+    if cursor.rest != last {
+        return Err(Unread::Form);
+    }
+    Ok(text)
+}
+
+/// The bytes of a text in which a backslash stands before each quote and each backslash.
+fn unescaped(alloc: Global, text: &[u8]) -> Result<Vec<u8>, Unread>
+    ensures { IfOk result (λ bytes. text.now ≡ flat_map escaped bytes.items) }
+{
+    let mut bytes = Vec::with_capacity(alloc, text.len())?;
+    let mut rest = text;
+    'escapes: while let Some(place) = memchr2(b'"', b'\\', rest) {
+        let (direct, behind) = rest.split_at(place);
+        let Some((special, left)) = escape(behind) else {
+            return Err(Unread::Form);
+        };
+        bytes.extend_from_slice(direct)?;
+        bytes.push(special)?;
+        rest = left;
+    }
+    bytes.extend_from_slice(rest)?;
+    Ok(bytes)
+}
+
+/// The quote or the backslash behind a backslash in front, and what is left.
+fn escape(bytes: &[u8]) -> Option<(u8, &[u8])>
+    ensures value { IfSome result (λ e. bytes.now ≡ flat_map escaped (e.0 ∷ []) ++ e.1.now) }
+    ensures shorter { IfSome result (λ e. length e.1.now < length bytes.now) }
+{
+    match bytes {
+        [b'\\', b'"', left @ ..] => Some((b'"', left)),
+        [b'\\', b'\\', left @ ..] => Some((b'\\', left)),
+        _ => None,
+    }
+}
+
+/// Whether each byte is printable ASCII. It looks at all of them, so that one step of the processor takes many.
+fn are_printable(bytes: &[u8]) -> bool
+    ensures { result ≡ is_printable_text bytes.now }
+{
+    let mut fits = true;
+    for byte in bytes {
+        fits = fits & is_printable(*byte);
+    }
+    fits
 }

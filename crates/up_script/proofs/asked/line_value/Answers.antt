@@ -1,4 +1,4 @@
-use Rattle.std.proofs.Common.{ap, sym, subst}
+use Rattle.std.proofs.Common.{sym, subst}
 use Rattle.serde_json.specs.View.{view}
 use Rattle.up_canon.specs.Refusals.{GivesAs}
 use Rattle.up_canon.specs.Steps.{or_error}
