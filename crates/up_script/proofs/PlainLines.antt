@@ -27,6 +27,7 @@ use Rattle.up_manifest.proofs.PlainTexts.{escaped-ends}
 abbrev delivery_value : ℕ → List ℕ → Data
 delivery_value at body = object_with ((codes "at", count_value at) ∷ (codes "body", string body) ∷ (codes "do", string (codes "deliver")) ∷ [])
 
+-- the pieces that are taken
 spelled : (at : ℕ) (body : List ℕ)
     → codes "{\"at\":" ++ (decimal at ++ (codes ",\"body\":\"" ++ (flat_map escaped body ++ codes "\",\"do\":\"deliver\"}"))) ≡ text (delivery_value at body)
 spelled at body = ap (λ t. codes "{\"at\":" ++ (decimal at ++ (codes ",\"body\":" ++ t))) (escaped-ends body (codes ",\"do\":\"deliver\"}"))
@@ -50,6 +51,7 @@ delivery_of k at body small =
     ∙ bind-ok _ _ at (count_there (codes "at") d at (refl, small))
     ∙ bind-ok _ _ (Call (command.Deliver body)) (bind-ok _ _ body (text_there (codes "body") d body refl))
 
+-- what the line asks
 pub delivery_in : PlainIsRead → (k : Rules) (at : ℕ) (body : List ℕ) → at ≤ max_count → is_printable_text body ≡ true → (line : List ℕ) → IsUtf8 line
     → line ≡ codes "{\"at\":" ++ (decimal at ++ (codes ",\"body\":\"" ++ (flat_map escaped body ++ codes "\",\"do\":\"deliver\"}")))
     → asked_in k line ≡ Ok (record { at = at; what = Call (command.Deliver body) })
@@ -63,12 +65,12 @@ delivery_in law k at body small prints line utf8 same =
 
 -- ---- lines of any form
 
--- a text has no more to pass than the reader's own test
+-- of a text, the value is what the reader makes of it
 pub value_of_utf8 : (line : List ℕ) → IsUtf8 line → value_in line ≡ read line
 unfolding value_in
 value_of_utf8 line utf8 = rw (is_utf8-from_IsUtf8 line utf8) refl
 
--- what is no text asks nothing
+-- what is no text is no JSON
 pub nothing_in : (k : Rules) (line : List ℕ) → (IsUtf8 line → ⊥) → asked_in k line ≡ Err NotJson
 unfolding asked_in
 nothing_in k line broken = bind-err _ _ NotJson (ap (or_error NotJson) (value_in-none line (λ utf8. absurd (broken utf8))))
