@@ -94,7 +94,7 @@ fn are_printable(bytes: &[u8]) -> bool
 {
     let mut fits = true;
     for byte in bytes {
-        fits = fits & is_printable(*byte);
+        fits &= is_printable(*byte);
     }
     fits
 }
