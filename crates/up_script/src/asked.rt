@@ -48,7 +48,7 @@ pub fn asked_by<K: Scheme>(alloc: Global, scheme: &K, line: &[u8]) -> Result<Ask
     let Ok(text) = str::from_utf8(line) else {
         return Err(Refusal::NotJson);
     };
-    if let Some(asked) = plain_delivery(alloc, text)? {
+    if let Some(asked) = plain_delivery(alloc, text) {
         return Ok(asked);
     }
     asked_of_json(alloc, scheme, text)

@@ -6,7 +6,7 @@ ghost use Rattle.up_script.specs.AskedLines.{asked_in, asks_running};
 
 use crate::asked::{Asked, What};
 use memchr::memchr2;
-use std::alloc::{AllocError, Global};
+use std::alloc::Global;
 use up_canon::bytes::Bytes;
 use up_canon::canonical_laws;
 use up_canon::note::is_printable;
@@ -14,15 +14,14 @@ use up_machine::command::Command;
 use up_manifest::cursor::{Cursor, Unread};
 
 /// What a line asks, where it is the canonical text of a delivery with no member but `at`, `body` and `do`. Of any other
-/// line, none, whether or not it asks something.
-pub(crate) fn plain_delivery(alloc: Global, line: &str) -> Result<Option<Asked>, AllocError>
-    ensures value { IfOk result (λ found. IfSome found (λ asked. (k : Rules) → asked_in k line.now ≡ Ok asked)) }
-    ensures running { IfOk result (λ found. IfSome found (λ asked. IsTrue (asks_running asked.what))) }
+/// line, none, whether or not it asks something; none too where memory was refused, so that the general way says so.
+pub(crate) fn plain_delivery(alloc: Global, line: &str) -> Option<Asked>
+    ensures value { IfSome result (λ asked. (k : Rules) → asked_in k line.now ≡ Ok asked) }
+    ensures running { IfSome result (λ asked. IsTrue (asks_running asked.what)) }
 {
     match delivery(alloc, line) {
-        Ok(asked) => Ok(Some(asked)),
-        Err(Unread::Memory) => Err(AllocError),
-        Err(Unread::Form) => Ok(None),
+        Ok(asked) => Some(asked),
+        Err(_) => None,
     }
 }
 
