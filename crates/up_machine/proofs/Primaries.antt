@@ -5,12 +5,13 @@ use Rattle.std.specs.FinMap as table
 use Rattle.std.specs.Ordering.{nat_cmp, eq_by_cmp}
 use Rattle.std.specs.Cmp.Lexicographic.{slice_cmp}
 use Rattle.up_canon.specs.Names.{Name}
-use Rattle.up_canon.specs.Steps.{◌>>=◌, unless}
+use Rattle.up_canon.specs.Steps.{and_then, ◌>>=◌, unless}
 use Rattle.up_canon.specs.declared.refusal.Refusal.{Refusal}
 use Rattle.up_canon.specs.declared.refusal.Refusal.TheVariants.{WrongPrimary, BadManifestSignature}
 use Rattle.up_sign.specs.Schemes.{Rules}
 use Rattle.up_sign.specs.Envelopes.{is_accepted}
 use Rattle.up_manifest.specs.declared.manifest.Incoming.{Incoming}
+use Rattle.up_machine.specs.declared.command.Command.TheVariants.{Deliver}
 use Rattle.up_machine.specs.declared.primary.Primary.{Primary}
 use Rattle.up_machine.specs.declared.rows.EcuRow.{EcuRow}
 use Rattle.up_machine.specs.declared.rows.Founding.{Founding}
@@ -18,12 +19,15 @@ use Rattle.up_machine.specs.declared.rows.VehicleRows.{VehicleRows}
 use Rattle.up_machine.specs.declared.vehicle.NewEcu.{NewEcu}
 use Rattle.up_machine.specs.Vehicles.{ecu_in}
 use Rattle.up_machine.specs.State.{Entry, State, Vehicle}
-use Rattle.up_machine.specs.Deliveries.{Received, receive_manifest, with_entry}
+use Rattle.up_machine.specs.Deliveries.{Received, accepted, check_new, decide_delivery, decide_received, entry_of, receive, receive_manifest, with_entry}
+use Rattle.up_machine.specs.Machine.{outcome_of, step}
 use Rattle.up_machine.specs.ManifestRows.{check_primary, row_of}
-use Rattle.up_machine.specs.Primaries.{GivesSent, check_sent, primary_in, primary_of}
+use Rattle.up_machine.specs.Primaries.{DeliveriesKeepPrimaries, GivesSent, check_sent, primary_in, primary_of}
+use Rattle.up_machine.specs.Repeats.{KeptEntry, repeat_of, serve, served_as}
 use Rattle.up_machine.specs.Rows.{ecu_row, founding_row, rows_of, vehicle_rows}
 use Rattle.up_canon.proofs.Steps.{and_then_some, bind-ok, bind-err, map_some}
 use Rattle.up_machine.proofs.CheckedRows.{primary_same, received_same, row_found}
+use Rattle.up_machine.proofs.Receiving.{received}
 use Rattle.up_machine.proofs.Senders.{is_founded}
 use Rattle.up_machine.proofs.Tables.{get_new, one_name}
 
@@ -97,11 +101,35 @@ gives_sent k s incoming f primary (Err r) founded is checked = (tested_by k s in
 -- ---- deliveries
 
 -- one entry more leaves the Primary of every vehicle as it is
-pub primaries_stay : (s : State) (name : Name) (v : Vehicle) (e : Entry) (other : Name) → table.get s.vehicles name ≡ Some v → primary_of (with_entry s name v e) other ≡ primary_of s other
-primaries_stay s name v e other there =
+one_more : (s : State) (name : Name) (v : Vehicle) (e : Entry) (other : Name) → table.get s.vehicles name ≡ Some v → primary_of (with_entry s name v e) other ≡ primary_of s other
+one_more s name v e other there =
     ap (option_and_then primary_in) (get_new s.vehicles name other (record v { entries = v.entries ++ e ∷ [] })) ∙ by_name (eq_by_cmp (slice_cmp nat_cmp) other name) refl
   where
     by_name : (b : Bool) → eq_by_cmp (slice_cmp nat_cmp) other name ≡ b
         → option_and_then primary_in (cond b (Some (record v { entries = v.entries ++ e ∷ [] })) (table.get s.vehicles other)) ≡ primary_of s other
     by_name true same = ap (option_and_then primary_in) (sym there ∙ ap (table.get s.vehicles) (sym (one_name other name same)))
     by_name false same = refl
+
+checked_stay : (k : Rules) (s : State) (at : ℕ) (r : Received) (name : Name) → table.get s.vehicles r.incoming.manifest.vehicle ≡ Some r.vehicle → (m : Result ⊤ Refusal)
+    → primary_of (outcome_of s (m >>= (λ _. Ok (accepted k s at r)))).next name ≡ primary_of s name
+unfolding and_then
+checked_stay k s at r name there (Ok passed) = one_more s r.incoming.manifest.vehicle r.vehicle (entry_of s at r) name there
+checked_stay k s at r name there (Err e) = refl
+
+received_stay : (k : Rules) (s : State) (at : ℕ) (body : List ℕ) (name : Name) (m : Result Received Refusal) → receive k s at body ≡ m
+    → primary_of (outcome_of s (m >>= (λ r. decide_received k s at r))).next name ≡ primary_of s name
+unfolding and_then decide_received
+received_stay k s at body name (Ok r) is = checked_stay k s at r name (received k s at body r is).vehicle (check_new k r)
+received_stay k s at body name (Err e) is = refl
+
+step_stays : (k : Rules) (s : State) (at : ℕ) (body : List ℕ) (name : Name) → primary_of (step k s at (Deliver body)).next name ≡ primary_of s name
+unfolding step decide_delivery
+step_stays k s at body name = received_stay k s at body name (receive k s at body) refl
+
+pub deliveries_keep : DeliveriesKeepPrimaries
+unfolding serve
+deliveries_keep k s at body name = by_kind (repeat_of k s at (Deliver body))
+  where
+    by_kind : (o : Option KeptEntry) → primary_of (served_as k s at (Deliver body) o).next name ≡ primary_of s name
+    by_kind None = step_stays k s at body name
+    by_kind (Some r) = refl

@@ -1,6 +1,6 @@
 -- Who sent a manifest, told by its vehicle's Primary alone. No delivery changes a Primary or its key, so what was once read of them serves
 -- until a vehicle is added or an ECU replaced.
-use Rattle.std.specs.Prelude.{◌≡◌, [], ◌∷◌, Option, option_map, option_and_then, bytes_eq, ⊤, Result, Ok, Err}
+use Rattle.std.specs.Prelude.{◌≡◌, ℕ, List, [], ◌∷◌, Option, option_map, option_and_then, bytes_eq, ⊤, Result, Ok, Err}
 use Rattle.std.specs.FinMap as table
 use Rattle.up_canon.specs.Names.{Name}
 use Rattle.up_canon.specs.Steps.{◌>>=◌, unless}
@@ -9,10 +9,12 @@ use Rattle.up_canon.specs.declared.refusal.Refusal.TheVariants.{WrongPrimary, Ba
 use Rattle.up_sign.specs.Schemes.{Rules}
 use Rattle.up_sign.specs.Envelopes.{is_accepted}
 use Rattle.up_manifest.specs.declared.manifest.Incoming.{Incoming}
+use Rattle.up_machine.specs.declared.command.Command.TheVariants.{Deliver}
 use Rattle.up_machine.specs.declared.primary.Primary.{Primary}
 use Rattle.up_machine.specs.Vehicles.{ecu_in}
 use Rattle.up_machine.specs.State.{State, Vehicle}
 use Rattle.up_machine.specs.Deliveries.{Received, receive_manifest}
+use Rattle.up_machine.specs.Repeats.{serve}
 
 -- the vehicle's Primary, with the public part of its key; none where it is none of its ECUs
 abbrev pub primary_in : Vehicle → Option Primary
@@ -32,3 +34,7 @@ check_sent k primary incoming = do
 abbrev pub GivesSent : Rules → State → Incoming → Result ⊤ Refusal → Type 0
 GivesSent k s incoming (Ok passed) = (received : Received) × (receive_manifest k s incoming ≡ Ok received)
 GivesSent k s incoming (Err r) = receive_manifest k s incoming ≡ Err r
+
+-- whatever is delivered, every vehicle keeps its Primary, and the Primary its key
+abbrev pub DeliveriesKeepPrimaries : Type 0
+DeliveriesKeepPrimaries = (k : Rules) (s : State) (at : ℕ) (body : List ℕ) (name : Name) → primary_of (serve k s at (Deliver body)).next name ≡ primary_of s name
