@@ -1,5 +1,6 @@
 #!/usr/bin/env python3
 """Tests of tools/refused: on texts, on hashes of small trees, and by the prover on a tiny crate."""
+import itertools
 import os
 import re
 import subprocess
@@ -16,6 +17,7 @@ from edits.edit import edits_in, functions_below, groups_of
 from edits.functions import Function, functions_in
 from edits.hashes import hashes
 from edits.kit import crates as crates_here
+from edits.shown import OF_MACROS
 
 TOOL = Path(__file__).resolve().parent / "refused"
 
@@ -708,6 +710,36 @@ class Texts(OnATree):
         self.assertTrue(is_of("up::more::fn::Held::any_is::inner", "src/more.rt", held))
         self.assertFalse(is_of("up::held::fn::any_is::any", "src/more.rt", held))
         self.assertFalse(is_of("up::more::Held::any_is", "src/more.rt", held))
+
+
+class Macros(unittest.TestCase):
+    """The kit's macros."""
+
+    def test_the_methods_that_they_call_are_listed(self):
+        called = set()
+        for file in Path(kit.rtlib.KIT, "rattle").rglob("src/**/*.rt"):
+            text = file.read_text(encoding="utf-8")
+            if "macro_rules" in text and "uses" not in file.parts:
+                called |= set().union(*map(methods_called, macros_in(text)))
+        self.assertIn("write_fmt", called)
+        self.assertEqual(sorted(called - {*OF_MACROS}), [])
+
+    def test_what_they_call_is_found(self):
+        text = "fn a() { b.c() }\nmacro_rules! d { ($e:expr) => { $e.f(\"}\").g::<u8>(); /* .h() */ // .i()\n $e . j () } }\nfn k() { l.m() }"
+        self.assertEqual([*map(methods_called, macros_in(text))], [{"f", "g", "j"}])
+
+
+def macros_in(text):
+    """Yields what each macro that a text declares has in its braces, without comments and texts."""
+    code = re.sub(r'//[^\n]*|/\*.*?\*/|"(?:[^"\\]|\\.)*"|\'(?:[^\'\\]|\\.)\'', " ", text, flags=re.DOTALL)
+    for found in re.finditer(r"\bmacro_rules\s*!\s*\w+\s*(?=\{)", code):
+        depths = itertools.accumulate((it == "{") - (it == "}") for it in code[found.end() :])
+        yield code[found.end() :][: next((at for at, depth in enumerate(depths) if not depth), len(code))]
+
+
+def methods_called(code):
+    """Returns the names of the methods that are called in code."""
+    return {*re.findall(r"\.\s*([a-z_]\w*)\s*(?:::\s*<[^()]*>\s*)?\(", code)}
 
 
 class Verdicts(OnATree):
