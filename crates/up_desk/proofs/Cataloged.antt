@@ -1,6 +1,6 @@
 -- What is kept in memory, and what keeps it.
 use Rattle.std.proofs.Common.{◌≡◌, ℕ, List, [], ◌∷◌, Bool, true, false, cond, Option, Some, None, Result, Ok, Err, filter, refl, sym, ap, ◌∙◌, subst}
-use Rattle.std.specs.Prelude.{◌&&◌, if◌then◌else◌, IfSome, MatchBool, flat_map, is_some}
+use Rattle.std.specs.Prelude.{⊤, ◌&&◌, if◌then◌else◌, IfSome, OnErr, OnOk, MatchBool, flat_map, is_some}
 use Rattle.std.specs.FinMap.{get-empty}
 use Rattle.std.specs.Ordering.{nat_cmp}
 use Rattle.std.specs.Cmp.Lexicographic.{slice_cmp}
@@ -33,10 +33,10 @@ use Rattle.up_machine.specs.Repositories.{decide_fetch}
 use Rattle.up_machine.specs.Senders.{ArePlanned}
 use Rattle.up_machine.specs.Sound.{IsSound}
 use Rattle.up_machine.specs.State.{State, Vehicle}
-use Rattle.up_machine.proofs.Tables.{get_after-insert}
+use Rattle.up_machine.proofs.Tables.{get_after-insert, kept_by_insert}
 use Rattle.up_store.specs.Found.{values_where}
 use Rattle.up_desk.specs.Serving.{is_failed, IsAnswered, outcome_due}
-use Rattle.up_desk.specs.Standing.{ArePrimaries, CanDecide, IsOf, Fits, IsLoaded, KeepsMore, StaysLoaded, StillFits, keeps_catalog, kept_for}
+use Rattle.up_desk.specs.Standing.{ArePrimaries, CanDecide, IsOf, Fits, IsLoaded, KeepsMore, StayKept, StaysLoaded, StillFits, keeps_catalog, kept_for}
 use Rattle.up_desk.specs.declared.catalog.Catalog.{Catalog}
 use Rattle.up_desk.proofs.Serving.{next_is}
 use Rattle.up_desk.proofs.Told.{running_sorted}
@@ -232,6 +232,14 @@ are_none s vehicle primary kept = absurd (let e = sym (get-empty (slice_cmp nat_
 pub are_more : (s : State) (kept : Table Primary) (vehicle : Name) (primary : Primary) → primary_of s vehicle ≡ Some primary → ArePrimaries s kept → ArePrimaries s (table.insert kept vehicle primary)
 are_more s kept vehicle primary is are = λ other found there.
     get_after-insert (λ name p. primary_of s name ≡ Some p) kept vehicle other found primary there is (are other found)
+
+pub stay_more : (kept : Table Primary) (vehicle : Name) (primary : Primary) → table.get kept vehicle ≡ None → StayKept kept (table.insert kept vehicle primary)
+stay_more kept vehicle primary none = λ other found there. kept_by_insert kept vehicle other primary found none there
+
+-- what holds of the table before and after an insertion holds of what the call leaves
+pub put_or_not : {E : Type 0} (P : Table Primary → Type 0) (result : Result ⊤ E) (old new put : Table Primary) → OnOk result (new ≡ put) → OnErr result (new ≡ old) → P old → P put → P new
+put_or_not P (Ok done) old new put ok err before after = subst P (sym ok) after
+put_or_not P (Err e) old new put ok err before after = subst P (sym err) before
 
 -- what is kept stays where nothing is done
 pub stays : (o : Option Catalog) → StaysLoaded o o
