@@ -1,5 +1,5 @@
 -- Who sent a manifest, by the Primary that is kept and by the rows of its vehicle.
-use Rattle.std.proofs.Common.{◌≡◌, ℕ, Bool, true, false, Option, None, Some, Result, Ok, Err, sym, ap, ◌∙◌, subst}
+use Rattle.std.proofs.Common.{◌≡◌, ℕ, Bool, true, false, Option, None, Some, Result, Ok, Err, refl, sym, ap, ◌∙◌, subst}
 use Rattle.std.specs.Prelude.{⊤, IfSome, MatchBool, option_and_then}
 use Rattle.std.specs.FinMap as table
 use Rattle.up_canon.specs.Names.{Table}
@@ -17,7 +17,7 @@ use Rattle.up_machine.specs.Deliveries.{receive_manifest}
 use Rattle.up_machine.specs.Primaries.{GivesSent, check_sent}
 use Rattle.up_machine.specs.Rows.{founding_row, vehicle_rows}
 use Rattle.up_machine.proofs.Senders.{no_vehicle, refused_first}
-use Rattle.up_desk.specs.Delivering.{GivesSenderRows, GivesVehicle, refused_by}
+use Rattle.up_desk.specs.Delivering.{GivesSenderRows, GivesVehicle, RefusesUnread, refused_by}
 use Rattle.up_desk.specs.Serving.{is_fault}
 
 -- ---- what the kept Primary refuses
@@ -36,13 +36,19 @@ pub not_sent_refused : (k : Rules) (kept : Table Primary) (incoming : Incoming) 
 not_sent_refused k kept incoming primary r P there bad h =
     subst (λ o. IfSome (option_and_then (λ primary. error_of (check_sent k primary incoming)) o) P) (sym there) (subst (λ q. IfSome (error_of q) P) (sym bad) h)
 
-pub if_refused : (o : Option Refusal) (P Q : Refusal → Type 0) → IfSome o P → ((r : Refusal) → P r → Q r) → IfSome o Q
-if_refused None P Q h f = tt
-if_refused (Some r) P Q h f = f r h
+-- a refusal that is told stays one, with nothing read
+pub refused_unread : {S A B : Type 0} (o : Option Refusal) (store : S) (q : Refusal) → IfSome o (λ r. ◌≡◌ {A = Result A Refusal} (Err q) (Err r)) → IfSome o (RefusesUnread {A = B} store store (Err q))
+refused_unread None store q h = tt
+refused_unread (Some r) store q h = let same : q ≡ r = cc in record { refused = ap (λ x. Err x) same; unread = refl }
+
+pub refused_on : {S A B : Type 0} (o : Option Refusal) (old new : S) (q : Refusal) → IfSome o (RefusesUnread {A = A} old new (Err q)) → IfSome o (RefusesUnread {A = B} old new (Err q))
+refused_on None old new q h = tt
+refused_on {A = A} (Some r) old new q h = let is : ◌≡◌ {A = Result A Refusal} (Err q) (Err r) = h.refused in let same : q ≡ r = cc in record { refused = ap (λ x. Err x) same; unread = h.unread }
 
 -- what passed was refused by nothing
-pub passed : {A : Type 0} (o : Option Refusal) (x : A) (Q : Refusal → Type 0) → IfSome o (λ r. ◌≡◌ {A = Result A Refusal} (Ok x) (Err r)) → IfSome o Q
-passed o x Q h = if_refused o _ Q h (λ r is. absurd cc)
+pub passed_on : {S A : Type 0} (o : Option Refusal) (old new : S) (x : A) (P : Refusal → Type 0) → IfSome o (RefusesUnread old new (Ok x)) → IfSome o P
+passed_on None old new x P h = tt
+passed_on {A = A} (Some r) old new x P h = absurd (let is : ◌≡◌ {A = Result A Refusal} (Ok x) (Err r) = h.refused in cc)
 
 -- ---- the rows of its vehicle
 
