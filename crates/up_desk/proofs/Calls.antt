@@ -8,6 +8,7 @@ use Rattle.up_machine.specs.declared.answer.Answer.{Answer}
 use Rattle.up_machine.specs.declared.answer.Answer.TheVariants.{Refused}
 use Rattle.up_machine.specs.Commands.{is_command}
 use Rattle.up_machine.specs.Laws.{EmptyIsSound, KeptRepliesOutlastRuns}
+use Rattle.up_machine.specs.Primaries.{DeliveriesKeepPrimaries}
 use Rattle.up_machine.specs.RepeatLaws.{ServedIsThinned, ServedStaysSound}
 use Rattle.up_machine.specs.Repeats.{serve}
 use Rattle.up_machine.specs.Sound.{IsSound}
@@ -27,6 +28,7 @@ pub record CallLaws : Type 0 where
   pub sound : ServedStaysSound
   pub served : ServedIsThinned
   pub replies : KeptRepliesOutlastRuns
+  pub primaries : DeliveriesKeepPrimaries
 
 -- what a command over the store comes to, from each sound state that the tables showed and of which what is kept in memory is
 abbrev pub Obeys : Rules → ℕ → Command → Result Answer Refusal → Standing → Standing → Type 0
@@ -63,7 +65,7 @@ serves laws k at c r old new fits obeys keeps = λ now s sound was.
       it.answered,
       answered_stays k s it.next at c (told r) laws.served laws.replies sound it.answered,
       it.sound,
-      record { tables = it.keeps; memory = still_fits k s it.next at c (told r) new.catalog it.answered still },
+      record { tables = it.keeps; memory = still_fits laws.primaries k s it.next at c (told r) new.catalog it.answered still },
     )
 
 told_call : (laws : CallLaws) (k : Rules) (at : ℕ) (c : Command) (r : Result Answer Refusal) (old new : Standing) → IsTrue (is_command c) → Obeys k at c r old new → Keeps c old new

@@ -1,6 +1,9 @@
 -- What is kept in memory, and what keeps it.
 use Rattle.std.proofs.Common.{◌≡◌, ℕ, List, [], ◌∷◌, Bool, true, false, cond, Option, Some, None, Result, Ok, Err, filter, refl, sym, ap, ◌∙◌, subst}
-use Rattle.std.specs.Prelude.{◌&&◌, if◌then◌else◌, IfSome, MatchBool, flat_map, is_some}
+use Rattle.std.specs.Prelude.{⊤, ◌&&◌, if◌then◌else◌, IfSome, OnErr, OnOk, MatchBool, flat_map, is_some}
+use Rattle.std.specs.FinMap.{get-empty}
+use Rattle.std.specs.Ordering.{nat_cmp}
+use Rattle.std.specs.Cmp.Lexicographic.{slice_cmp}
 use Rattle.std.specs.List.{AllByRecursion}
 use Rattle.std.specs.FinMap as table
 use Rattle.up_canon.specs.Names.{Name, Table}
@@ -9,6 +12,7 @@ use Rattle.up_canon.specs.declared.refusal.Refusal.{Refusal}
 use Rattle.up_sign.specs.Schemes.{Rules}
 use Rattle.up_manifest.specs.declared.manifest.Incoming.{Incoming}
 use Rattle.up_manifest.specs.declared.manifest.Manifest.{Manifest}
+use Rattle.up_roles.specs.declared.repository.Repository.{Repository}
 use Rattle.up_plan.specs.declared.campaign.Item.{Item}
 use Rattle.up_plan.specs.Campaigns.{CampaignData}
 use Rattle.up_plan.specs.Images.{ImageData}
@@ -16,24 +20,28 @@ use Rattle.up_plan.specs.Offers.{OffersSame}
 use Rattle.up_plan.specs.Planning.{items_for, reaches}
 use Rattle.up_machine.specs.declared.answer.Answer.{Answer}
 use Rattle.up_machine.specs.declared.command.Command.{Command}
+use Rattle.up_machine.specs.declared.primary.Primary.{Primary}
 use Rattle.up_machine.specs.declared.command.Command.TheVariants.{Found, Rotate, AddImage, Refresh, AddVehicle, ReplaceEcu, OpenCampaign, CloseCampaign, Deliver, Fetch}
 use Rattle.up_machine.specs.Deciding.{Outcome}
 use Rattle.up_machine.specs.Decisions.{AreImagesOf, decide_incoming, files_named, resolve}
 use Rattle.up_machine.specs.Deliveries.{Received, accepted, decide_received}
 use Rattle.up_machine.specs.Machine.{outcome_of}
+use Rattle.up_machine.specs.Primaries.{DeliveriesKeepPrimaries, primary_of}
+use Rattle.up_machine.specs.Rows.{founding_row}
 use Rattle.up_machine.specs.Repeats.{KeptEntry, repeat_in, serve}
 use Rattle.up_machine.specs.Repositories.{decide_fetch}
 use Rattle.up_machine.specs.Senders.{ArePlanned}
 use Rattle.up_machine.specs.Sound.{IsSound}
 use Rattle.up_machine.specs.State.{State, Vehicle}
+use Rattle.up_machine.proofs.Tables.{get_after-insert, kept_by_insert}
 use Rattle.up_store.specs.Found.{values_where}
 use Rattle.up_desk.specs.Serving.{is_failed, IsAnswered, outcome_due}
-use Rattle.up_desk.specs.Standing.{IsOf, Fits, IsLoaded, StaysLoaded, StillFits, keeps_catalog, kept_for}
+use Rattle.up_desk.specs.Standing.{ArePrimaries, CanDecide, IsOf, Fits, IsLoaded, KeepsMore, StayKept, StaysLoaded, StillFits, keeps_catalog, kept_for}
 use Rattle.up_desk.specs.declared.catalog.Catalog.{Catalog}
 use Rattle.up_desk.proofs.Serving.{next_is}
 use Rattle.up_desk.proofs.Told.{running_sorted}
 
--- ---- deliveries and fetches change vehicles alone
+-- ---- deliveries change vehicles alone, and fetches nothing
 
 -- the next state is this one with other vehicles
 abbrev KeepsRest : State → Result Outcome Refusal → Type 0
@@ -59,39 +67,62 @@ incoming_keeps k s at incoming = bound_keeps s _ (λ r. resolve k s at r (repeat
 delivery_keeps : (k : Rules) (s : State) (at : ℕ) (body : List ℕ) → KeepsRest s (outcome_due k s at (Deliver body))
 delivery_keeps k s at body = bound_keeps s _ _ (λ _. bound_keeps s _ _ (λ incoming. incoming_keeps k s at incoming))
 
+bound_leaves : {A : Type 0} (s : State) (m : Result A Refusal) (f : A → Result Outcome Refusal) → ((x : A) → (outcome_of s (f x)).next ≡ s) → (outcome_of s (and_then m f)).next ≡ s
+unfolding and_then
+bound_leaves s (Ok x) f each = each x
+bound_leaves s (Err e) f each = refl
+
+fetch_leaves : (k : Rules) (s : State) (at : ℕ) (repository : Repository) (name : Name) → (outcome_of s (outcome_due k s at (Fetch repository name))).next ≡ s
+unfolding decide_fetch
+fetch_leaves k s at repository name = bound_leaves s _ _ (λ _. bound_leaves s _ _ (λ _. bound_leaves s _ _ (λ text. refl)))
+
 -- ---- what fits a state fits the next
 
--- what is kept says nothing of vehicles
-fits_rest : (s t : State) (catalog : Option Catalog) (vehicles : Table Vehicle) → t ≡ record s { vehicles = vehicles } → Fits s catalog → Fits t catalog
-fits_rest s t None vehicles is h = tt
-fits_rest s t (Some c) vehicles is h = subst (λ (u : State). IsOf u c) (sym is) (record { founding = h.founding; campaigns = h.campaigns; images = h.images })
+-- of vehicles what is kept says no more than their Primaries
+fits_rest : (s t : State) (catalog : Option Catalog) (vehicles : Table Vehicle) → t ≡ record s { vehicles = vehicles } → ((name : Name) → primary_of t name ≡ primary_of s name)
+    → Fits s catalog → Fits t catalog
+fits_rest s t None vehicles is same h = tt
+fits_rest s t (Some c) vehicles is same h = record {
+  founding = subst (λ (u : State). founding_row u ≡ Some c.founding) (sym is) h.founding;
+  campaigns = subst (λ (u : State). c.campaigns ≡ values_where (λ (x : CampaignData). x.running) u.campaigns) (sym is) h.campaigns;
+  images = subst (λ (u : State). c.images ≡ u.images) (sym is) h.images;
+  primaries = λ name primary kept. same name ∙ h.primaries name primary kept;
+}
 
-by_loss : (s next : State) (catalog : Option Catalog) (o : Outcome) (a : Answer) (vehicles : Table Vehicle) → o.next ≡ record s { vehicles = vehicles } → (lost : Bool)
+by_loss : (s next : State) (catalog : Option Catalog) (o : Outcome) (a : Answer) → (Fits s catalog → Fits o.next catalog) → (lost : Bool)
     → MatchBool lost (next ≡ s) ((a ≡ o.answer) × (next ≡ o.next)) → Fits s catalog → Fits next catalog
-by_loss s next catalog o a vehicles is true h fits = subst (λ (t : State). Fits t catalog) (sym h) fits
-by_loss s next catalog o a vehicles is false h fits = fits_rest s next catalog vehicles (h.1 ∙ is) fits
+by_loss s next catalog o a fit true h fits = subst (λ (t : State). Fits t catalog) (sym h) fits
+by_loss s next catalog o a fit false h fits = subst (λ (t : State). Fits t catalog) (sym h.1) (fit fits)
 
-kept_by : (k : Rules) (s next : State) (at : ℕ) (c : Command) (a : Answer) (catalog : Option Catalog) → KeepsRest s (outcome_due k s at c) → IsAnswered a s next (serve k s at c) → Fits s catalog → Fits next catalog
-kept_by k s next at c a catalog rest h fits = by_loss s next catalog (serve k s at c) a rest.0 (sym (next_is k s at c) ∙ rest.1) (is_failed a) h fits
+delivered_fits : DeliveriesKeepPrimaries → (k : Rules) (s next : State) (at : ℕ) (body : List ℕ) (a : Answer) (catalog : Option Catalog) → IsAnswered a s next (serve k s at (Deliver body))
+    → Fits s catalog → Fits next catalog
+delivered_fits stay k s next at body a catalog h fits =
+    let rest = delivery_keeps k s at body in
+    let served = serve k s at (Deliver body) in
+    by_loss s next catalog served a (fits_rest s served.next catalog rest.0 (sym (next_is k s at (Deliver body)) ∙ rest.1) (stay k s at body)) (is_failed a) h fits
+
+fetched_fits : (k : Rules) (s next : State) (at : ℕ) (repository : Repository) (name : Name) (a : Answer) (catalog : Option Catalog) → IsAnswered a s next (serve k s at (Fetch repository name))
+    → Fits s catalog → Fits next catalog
+fetched_fits k s next at repository name a catalog h fits =
+    by_loss s next catalog (serve k s at (Fetch repository name)) a
+    (subst (λ (t : State). Fits t catalog) (sym (sym (next_is k s at (Fetch repository name)) ∙ fetch_leaves k s at repository name))) (is_failed a) h fits
 
 dropped : (s : State) (catalog : Option Catalog) → catalog ≡ None → Fits s catalog
 dropped s catalog is = subst (Fits s) (sym is) tt
 
 -- what is left in memory after a command fits the state that it leaves
-pub still_fits : (k : Rules) (s next : State) (at : ℕ) (c : Command) (a : Answer) (catalog : Option Catalog) → IsAnswered a s next (serve k s at c) → StillFits s c catalog → Fits next catalog
-unfolding decide_fetch
-still_fits k s next at (Deliver body) a catalog h still = kept_by k s next at (Deliver body) a catalog (delivery_keeps k s at body) h still
-still_fits k s next at (Fetch repository name) a catalog h still =
-    kept_by k s next at (Fetch repository name) a catalog
-    (bound_keeps s _ _ (λ _. bound_keeps s _ _ (λ _. bound_keeps s _ _ (λ text. (s.vehicles, refl))))) h still
-still_fits k s next at (Found keys) a catalog h still = dropped next catalog still
-still_fits k s next at (Rotate keys) a catalog h still = dropped next catalog still
-still_fits k s next at (AddImage image) a catalog h still = dropped next catalog still
-still_fits k s next at (Refresh version) a catalog h still = dropped next catalog still
-still_fits k s next at (AddVehicle new) a catalog h still = dropped next catalog still
-still_fits k s next at (ReplaceEcu new) a catalog h still = dropped next catalog still
-still_fits k s next at (OpenCampaign campaign) a catalog h still = dropped next catalog still
-still_fits k s next at (CloseCampaign name) a catalog h still = dropped next catalog still
+pub still_fits : DeliveriesKeepPrimaries → (k : Rules) (s next : State) (at : ℕ) (c : Command) (a : Answer) (catalog : Option Catalog) → IsAnswered a s next (serve k s at c)
+    → StillFits s c catalog → Fits next catalog
+still_fits stay k s next at (Deliver body) a catalog h still = delivered_fits stay k s next at body a catalog h still
+still_fits stay k s next at (Fetch repository name) a catalog h still = fetched_fits k s next at repository name a catalog h still
+still_fits stay k s next at (Found keys) a catalog h still = dropped next catalog still
+still_fits stay k s next at (Rotate keys) a catalog h still = dropped next catalog still
+still_fits stay k s next at (AddImage image) a catalog h still = dropped next catalog still
+still_fits stay k s next at (Refresh version) a catalog h still = dropped next catalog still
+still_fits stay k s next at (AddVehicle new) a catalog h still = dropped next catalog still
+still_fits stay k s next at (ReplaceEcu new) a catalog h still = dropped next catalog still
+still_fits stay k s next at (OpenCampaign campaign) a catalog h still = dropped next catalog still
+still_fits stay k s next at (CloseCampaign name) a catalog h still = dropped next catalog still
 
 -- the state and the answer are those of the command
 pub still_of : (s : State) (c d : Command) (catalog : Option Catalog) → c ≡ d → StillFits s d catalog → StillFits s c catalog
@@ -174,10 +205,52 @@ pub there_loaded : (s : State) (catalog : Option Catalog) → is_some catalog �
 there_loaded s None there h = cc
 there_loaded s (Some c) there h = h
 
+-- ---- what comes to it
+
+pub none_more : (c : Catalog) → KeepsMore c c
+none_more c = record { rest = refl; primaries = λ vehicle primary kept. kept }
+
+more_then : (a b c : Catalog) → KeepsMore a b → KeepsMore b c → KeepsMore a c
+more_then a b c ab bc = record {
+  rest = bc.rest ∙ ap (λ (x : Catalog). record x { primaries = c.primaries }) ab.rest;
+  primaries = λ vehicle primary kept. bc.primaries vehicle primary (ab.primaries vehicle primary kept);
+}
+
+-- whether one can decide by it depends on the rest
+pub can_more : (k : Rules) (c d : Catalog) → KeepsMore c d → CanDecide k c → CanDecide k d
+can_more k c d more can = subst (CanDecide k) (sym more.rest) (record { keys = can.keys; hashed = can.hashed })
+
+pub of_more : (s : State) (c d : Catalog) → KeepsMore c d → ArePrimaries s d.primaries → IsOf s c → IsOf s d
+of_more s c d more are is = subst (IsOf s) (sym more.rest) (record { founding = is.founding; campaigns = is.campaigns; images = is.images; primaries = are })
+
+pub founding_more : (s : State) (c d : Catalog) → KeepsMore c d → founding_row s ≡ Some c.founding → founding_row s ≡ Some d.founding
+founding_more s c d more there = there ∙ ap (λ (x : Catalog). Some x.founding) (sym more.rest)
+
+pub are_none : (s : State) → ArePrimaries s table.empty
+are_none s vehicle primary kept = absurd (let e = sym (get-empty (slice_cmp nat_cmp) vehicle) ∙ kept in cc)
+
+pub are_more : (s : State) (kept : Table Primary) (vehicle : Name) (primary : Primary) → primary_of s vehicle ≡ Some primary → ArePrimaries s kept → ArePrimaries s (table.insert kept vehicle primary)
+are_more s kept vehicle primary is are = λ other found there.
+    get_after-insert (λ name p. primary_of s name ≡ Some p) kept vehicle other found primary there is (are other found)
+
+pub stay_more : (kept : Table Primary) (vehicle : Name) (primary : Primary) → table.get kept vehicle ≡ None → StayKept kept (table.insert kept vehicle primary)
+stay_more kept vehicle primary none = λ other found there. kept_by_insert kept vehicle other primary found none there
+
+-- what holds of the table before and after an insertion holds of what the call leaves
+pub put_or_not : {E : Type 0} (P : Table Primary → Type 0) (result : Result ⊤ E) (old new put : Table Primary) → OnOk result (new ≡ put) → OnErr result (new ≡ old) → P old → P put → P new
+put_or_not P (Ok done) old new put ok err before after = subst P (sym ok) after
+put_or_not P (Err e) old new put ok err before after = subst P (sym err) before
+
 -- what is kept stays where nothing is done
 pub stays : (o : Option Catalog) → StaysLoaded o o
 stays None = tt
-stays (Some c) = refl
+stays (Some c) = none_more c
+
+pub stays_then : (a b c : Option Catalog) → StaysLoaded a b → StaysLoaded b c → StaysLoaded a c
+stays_then None b c ab bc = tt
+stays_then (Some x) None c ab bc = absurd ab
+stays_then (Some x) (Some y) None ab bc = absurd bc
+stays_then (Some x) (Some y) (Some z) ab bc = more_then x y z ab bc
 
 -- and where there was nothing
 pub loaded_anew : (o new : Option Catalog) → is_some o ≡ false → StaysLoaded o new

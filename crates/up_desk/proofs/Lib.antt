@@ -9,6 +9,7 @@ pub mod Marks
 pub mod Serving
 pub mod Outlasting
 pub mod Cataloged
+pub mod SentBy
 pub mod Viewed
 pub mod Calls
 pub mod Runs

@@ -1,13 +1,20 @@
 -- What a desk decides on a manifest, by what it knows so far.
-use Rattle.std.specs.Prelude.{◌≡◌, ℕ, Option, Result}
+use Rattle.std.specs.Prelude.{◌≡◌, ◌⊎◌, ℕ, Bool, Option, None, Some, option_and_then, Result, Ok, Err, MatchBool, ⊤}
+use Rattle.std.specs.FinMap as table
 use Rattle.sqlite.specs.State.{State as Connected, HasCleanDisk}
-use Rattle.up_canon.specs.Names.{Name}
+use Rattle.up_canon.specs.Names.{Name, Table}
+use Rattle.up_canon.specs.Steps.{error_of}
 use Rattle.up_canon.specs.declared.refusal.Refusal.{Refusal}
+use Rattle.up_canon.specs.declared.refusal.Refusal.TheVariants.{Memory, UnknownVehicle}
 use Rattle.up_sign.specs.Schemes.{Rules}
 use Rattle.up_manifest.specs.declared.manifest.Incoming.{Incoming}
 use Rattle.up_machine.specs.declared.decision.Delivered.{Delivered}
+use Rattle.up_machine.specs.declared.primary.Primary.{Primary}
+use Rattle.up_machine.specs.declared.rows.Founding.{Founding}
 use Rattle.up_machine.specs.declared.rows.VehicleRows.{VehicleRows}
 use Rattle.up_machine.specs.Decisions.{decide_incoming, GivesDelivered}
+use Rattle.up_machine.specs.Deliveries.{receive_manifest}
+use Rattle.up_machine.specs.Primaries.{GivesSent, check_sent}
 use Rattle.up_machine.specs.Rows.{vehicle_rows}
 use Rattle.up_machine.specs.Senders.{IsSenderOf, SenderData}
 use Rattle.up_machine.specs.Sound.{IsSound}
@@ -15,15 +22,47 @@ use Rattle.up_machine.specs.State.{State}
 use Rattle.up_tables.specs.Stands.{IfClean}
 use Rattle.up_store.specs.Connections.{KeepsState}
 use Rattle.up_desk.specs.declared.catalog.Catalog.{Catalog}
-use Rattle.up_desk.specs.Serving.{GivesOrFails}
+use Rattle.up_desk.specs.Serving.{GivesOrFails, is_fault}
 use Rattle.up_desk.specs.Standing.{IsOf}
 
--- what is kept in memory is of the state, and the rows of this vehicle are its
-pub record IsKnown (s : State) (name : Name) (catalog : Catalog) (vehicle : Option VehicleRows) : Type 0 where
-  pub kept : IsOf s catalog
-  pub rows : vehicle ≡ vehicle_rows s name
+-- ---- who sent it
 
--- and the vehicle's Primary sent the manifest
+-- the refusal by what is kept of its vehicle's Primary, if it is kept and didn't send the manifest
+abbrev pub refused_by : Rules → Table Primary → Incoming → Option Refusal
+refused_by k kept incoming = option_and_then (λ primary. error_of (check_sent k primary incoming)) (table.get kept incoming.manifest.vehicle)
+
+abbrev pub refused_in : Rules → Option Catalog → Incoming → Option Refusal
+refused_in k None incoming = None
+refused_in k (Some c) incoming = refused_by k c.primaries incoming
+
+-- it is refused so, whatever the database does, and nothing is read of the tables
+pub record RefusesUnread {S A : Type 0} (old new : S) (result : Result A Refusal) (r : Refusal) : Type 0 where
+  pub refused : result ≡ Err r
+  pub unread : new ≡ old
+
+-- the same, but that there may be no memory to read its body
+pub record RefusesRead {S A : Type 0} (old new : S) (result : Result A Refusal) (r : Refusal) : Type 0 where
+  pub refused : (result ≡ Err r) ⊎ (result ≡ Err Memory)
+  pub unread : new ≡ old
+
+-- whether the Primary of the vehicle is kept, and so sent the manifest, or the refusal that is due
+abbrev pub GivesKept : Rules → State → Incoming → Result Bool Refusal → Type 0
+GivesKept k s incoming (Ok is_kept) = MatchBool is_kept (GivesSent k s incoming (Ok tt)) ⊤
+GivesKept k s incoming (Err r) = GivesSent k s incoming (Err r)
+
+-- the rows of a vehicle, or the refusal of an unknown one; the database may refuse too
+abbrev pub GivesVehicle : State → Name → Result VehicleRows Refusal → Type 0
+GivesVehicle s name (Ok vehicle) = vehicle_rows s name ≡ Some vehicle
+GivesVehicle s name (Err r) = MatchBool (is_fault r) ⊤ ((vehicle_rows s name ≡ None) × (r ≡ UnknownVehicle))
+
+-- the rows of the vehicle whose Primary sent the manifest, or the refusal that is due; the database may refuse too
+abbrev pub GivesSenderRows : Rules → State → Incoming → Founding → Result VehicleRows Refusal → Type 0
+GivesSenderRows k s incoming founding (Ok vehicle) = IsSenderOf k s incoming (record { founding = founding; vehicle = vehicle })
+GivesSenderRows k s incoming founding (Err r) = MatchBool (is_fault r) ⊤ (receive_manifest k s incoming ≡ Err r)
+
+-- ---- what is decided
+
+-- what is kept in memory is of the state, and the vehicle's Primary sent the manifest
 pub record IsSent (k : Rules) (s : State) (incoming : Incoming) (catalog : Catalog) (sender : SenderData) : Type 0 where
   pub kept : IsOf s catalog
   pub from : IsSenderOf k s incoming sender

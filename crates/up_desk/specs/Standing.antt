@@ -1,17 +1,21 @@
 -- What a desk stands on: the connection to its tables, and what it keeps of them in memory. The tables show a state to a desk where they
 -- show it, and what the desk keeps is of that state. A new desk keeps nothing, so to it they show what they show.
 use Rattle.std.specs.Prelude.{◌≡◌, ⊤, Bool, true, false, MatchBool, if◌then◌else◌, Option, Some, None, Result, IfSome, IsTrue}
+use Rattle.std.specs.FinMap as table
 use Rattle.sqlite.specs.Held.{Held}
 use Rattle.sqlite.specs.Held as holding
 use Rattle.sqlite.specs.State.{State as Connected}
 use Rattle.sqlite.specs.State as connected
 use Rattle.sqlite.specs.Tree.{Trees}
 use Rattle.sqlite_trees.specs.declared.store.Store.{Ghosts}
+use Rattle.up_canon.specs.Names.{Name, Table}
 use Rattle.up_plan.specs.Campaigns.{CampaignData}
 use Rattle.up_sign.specs.Schemes.{Rules}
 use Rattle.up_metadata.specs.Keys.{hashed_roles}
 use Rattle.up_machine.specs.declared.command.Command.{Command}
 use Rattle.up_machine.specs.declared.command.Command.TheVariants.{Deliver, Fetch}
+use Rattle.up_machine.specs.declared.primary.Primary.{Primary}
+use Rattle.up_machine.specs.Primaries.{primary_of}
 use Rattle.up_machine.specs.Rows.{founding_row}
 use Rattle.up_machine.specs.RowsFit.{founding_fits}
 use Rattle.up_machine.specs.State.{State}
@@ -23,20 +27,36 @@ use Rattle.up_desk.specs.declared.catalog.Catalog.{Catalog}
 
 -- ---- what is kept in memory
 
--- it is of the state: its founding, its running campaigns, and its images
+-- each is the Primary of its vehicle; not every vehicle's has to be kept
+abbrev pub ArePrimaries : State → Table Primary → Type 0
+ArePrimaries s kept = (vehicle : Name) (primary : Primary) → table.get kept vehicle ≡ Some primary → primary_of s vehicle ≡ Some primary
+
+-- it is of the state: its founding, its running campaigns, its images, and Primaries of its vehicles
 pub record IsOf (s : State) (c : Catalog) : Type 0 where
   pub founding : founding_row s ≡ Some c.founding
   pub campaigns : c.campaigns ≡ values_where (λ (x : CampaignData). x.running) s.campaigns
   pub images : c.images ≡ s.images
+  pub primaries : ArePrimaries s c.primaries
 
 -- what is kept, if anything, is of the state
 abbrev pub Fits : State → Option Catalog → Type 0
 Fits s None = ⊤
 Fits s (Some c) = IsOf s c
 
--- what is kept stays as it is, whatever is answered; it may be loaded where nothing is
+-- each Primary that was kept is kept on
+abbrev pub StayKept : Table Primary → Table Primary → Type 0
+StayKept old new = (vehicle : Name) (primary : Primary) → table.get old vehicle ≡ Some primary → table.get new vehicle ≡ Some primary
+
+-- Primaries of further vehicles may be kept, and all else stays
+pub record KeepsMore (old new : Catalog) : Type 0 where
+  pub rest : new ≡ record old { primaries = new.primaries }
+  pub primaries : StayKept old.primaries new.primaries
+
+-- what is kept stays, whatever is answered, and Primaries may come to it; it may be loaded where nothing is
 abbrev pub StaysLoaded : Option Catalog → Option Catalog → Type 0
-StaysLoaded old new = IfSome old (λ c. new ≡ Some c)
+StaysLoaded None new = ⊤
+StaysLoaded (Some c) None = ⊥
+StaysLoaded (Some c) (Some d) = KeepsMore c d
 
 -- nothing is kept before founding
 abbrev pub IsLoaded : State → Option Catalog → Type 0

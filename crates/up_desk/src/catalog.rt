@@ -1,5 +1,5 @@
 //! What a desk keeps in memory of its tables, so that deliveries needn't read it again.
-ghost use Rattle.std.specs.Prelude.{◌≡◌, Some, IfOk, IfSome, IsTrue, OnOk};
+ghost use Rattle.std.specs.Prelude.{◌≡◌, Some, Ok, IfOk, IfSome, IsSome, IsTrue, OnOk};
 ghost use Rattle.sqlite.specs.Held.{state};
 ghost use Rattle.sqlite.specs.State.{HasCleanDisk};
 ghost use Rattle.up_plan.specs.Campaigns.{CampaignData};
@@ -18,6 +18,7 @@ use sqlite::Alter;
 use std::alloc::Global;
 use up_canon::table::Table;
 use up_machine::command::Command;
+use up_machine::primary::Primary;
 use up_machine::rows::Founding;
 use up_metadata::hashed_keys::{HashedRoleKeys, hashed_roles};
 use up_plan::image::Image;
@@ -26,13 +27,15 @@ use up_sign::scheme::Scheme;
 use up_store::store::{Store, StoreFault};
 
 /// What every delivery needs: the founding, the keys of the Director's roles, hashed, the running campaigns, ready for look-ups
-/// by vehicle, and the images by their names. Deliveries change none of it. The type doesn't say of which state it is.
+/// by vehicle, the images by their names, and the Primaries of vehicles that delivered since, by the vehicles' names. Deliveries
+/// only add Primaries. The type doesn't say of which state it is.
 #[derive(Drop)]
 pub struct Catalog {
     pub founding: Founding,
     pub hashed: HashedRoleKeys,
     pub campaigns: Running,
     pub images: Table<Image>,
+    pub primaries: Table<Primary>,
 }
 
 /// Whether the command leaves all that a catalog has as it is.
@@ -66,6 +69,7 @@ pub(crate) fn load<K: Scheme, D: Alter>(
     ensures fits { HasCleanDisk (state D.Store store.new) → (k : Rules) (s : State) → IfClean (KeepsState k s) (state D.Store store.old) → Fits s catalog.old → Fits s catalog.new }
     ensures loaded { HasCleanDisk (state D.Store store.new) → OnOk result ((k : Rules) (s : State) → IfClean (KeepsState k s) (state D.Store store.old) → Fits s catalog.old → IsLoaded s catalog.new) }
     ensures kept { StaysLoaded catalog.old catalog.new }
+    ensures there { IsSome catalog.old → (result ≡ Ok tt) × (catalog.new ≡ catalog.old) × (store.new ≡ store.old) }
     ensures reads { Reads (state D.Store store.old) (state D.Store store.new) }
 {
     if catalog.is_some() {
@@ -123,6 +127,7 @@ fn read_registers<K: Scheme, D: Alter>(
             hashed,
             campaigns,
             images,
+            primaries: Table::new(alloc),
         })),
         Err(fault) => Err(fault),
     }

@@ -1,5 +1,5 @@
 //! Manifests that vehicles deliver.
-ghost use Rattle.std.specs.Prelude.{◌≡◌, ◌≤◌, ◌<◌, length, Result, Ok, Err, IfSome, IsTrue, option_copied};
+ghost use Rattle.std.specs.Prelude.{◌≡◌, ◌≤◌, ◌<◌, length, Result, Ok, Err, IfSome};
 ghost use Rattle.sqlite.specs.Held.{state};
 ghost use Rattle.sqlite.specs.State.{HasCleanDisk};
 ghost use Rattle.up_canon.specs.Moments.{last_command_moment};
@@ -9,24 +9,24 @@ ghost use Rattle.up_canon.specs.declared.refusal.Refusal.TheVariants.{TooLarge};
 ghost use Rattle.up_canon.specs.Steps.{and_then};
 ghost use Rattle.up_sign.specs.Schemes.{Rules};
 ghost use Rattle.up_manifest.specs.Manifests.{largest_body, incoming_in};
+ghost use Rattle.up_manifest.specs.declared.manifest.Incoming.{Incoming};
 ghost use Rattle.up_metadata.specs.Keys.{hashed_roles};
 ghost use Rattle.up_machine.specs.declared.decision.Delivered.TheVariants.{Accepted};
 ghost use Rattle.up_machine.specs.Deciding.{Outcome};
 ghost use Rattle.up_machine.specs.Decisions.{IsRead, decide_incoming, GivesDelivered};
-ghost use Rattle.up_machine.specs.RowsFit.{rows_fit};
 ghost use Rattle.up_machine.specs.Senders.{CanAnswer, IsSenderOf};
 ghost use Rattle.up_machine.specs.Sound.{IsSound};
 ghost use Rattle.up_machine.specs.State.{State};
 ghost use Rattle.up_store.specs.Connections.{KeepsState};
 ghost use Rattle.up_tables.specs.Stands.{IfClean};
-ghost use Rattle.up_desk.specs.Delivering.{Decides, IsKnown, IsSent};
+ghost use Rattle.up_desk.specs.Delivering.{Decides, IsSent, RefusesRead, RefusesUnread, refused_by, refused_in};
 ghost use Rattle.up_desk.specs.Serving.{Reads, Serves};
-ghost use Rattle.up_desk.specs.Standing.{CanDecide, Fits, IsLoaded, StaysLoaded};
+ghost use Rattle.up_desk.specs.Standing.{CanDecide, Fits, IsLoaded, IsOf, KeepsMore, StaysLoaded};
 
 use crate::catalog::{Catalog, load};
-use crate::ecu_keys::{keep_ecus, keep_primary};
+use crate::ecu_keys::keep_ecus;
 use crate::faults::{refusal_of, replied};
-use crate::reads::read_fitting_vehicle;
+use crate::senders::read_sender;
 use sqlite::Alter;
 use std::alloc::Global;
 use up_canon::bytes::Bytes;
@@ -36,8 +36,7 @@ use up_machine::answer::Answer;
 use up_machine::decide_manifest::{decide_again, decide_new};
 use up_machine::decision::{AcceptedRows, Delivered};
 use up_machine::kept_reply::{reply_in, targets_in};
-use up_machine::rows::VehicleRows;
-use up_machine::sender::{Sender, decide_sender, is_later};
+use up_machine::sender::{Sender, is_later};
 use up_manifest::manifest::Incoming;
 use up_manifest::manifest_read::read_manifest;
 use up_rows::laws::{ecus_tell_their_hash, manifests_are_added, rows_are_found};
@@ -65,6 +64,7 @@ pub fn deliver<K: Scheme, D: Alter>(
     ensures fits { HasCleanDisk (state D.Store store.new) → (k : Rules) (s : State) → IfClean (KeepsState k s) (state D.Store store.old) → Fits s catalog.old → Fits s catalog.new }
     ensures kept { StaysLoaded catalog.old catalog.new }
     ensures can { IfSome catalog.new (CanDecide (K.rules scheme.now)) }
+    ensures forged { (incoming : Incoming) → incoming_in body.now ≡ Ok incoming → IfSome (refused_in (K.rules scheme.now) catalog.old incoming) (RefusesRead store.old store.new result) }
 {
     match read_manifest(alloc, body.as_slice()) {
         Ok(incoming) => receive(store, catalog, keys, alloc, scheme, at, &incoming),
@@ -90,9 +90,10 @@ fn receive<K: Scheme, D: Alter>(
     ensures fits { HasCleanDisk (state D.Store store.new) → (k : Rules) (s : State) → IfClean (KeepsState k s) (state D.Store store.old) → Fits s catalog.old → Fits s catalog.new }
     ensures kept { StaysLoaded catalog.old catalog.new }
     ensures can { IfSome catalog.new (CanDecide (K.rules scheme.now)) }
+    ensures forged { IfSome (refused_in (K.rules scheme.now) catalog.old incoming.now) (RefusesUnread store.old store.new result) }
 {
     match load(store, catalog, alloc, scheme) {
-        Ok(()) => receive_loaded(store, catalog.as_ref(), keys, alloc, scheme, at, incoming),
+        Ok(()) => receive_loaded(store, catalog, keys, alloc, scheme, at, incoming),
         Err(fault) => Err(refusal_of(fault)),
     }
 }
@@ -100,7 +101,7 @@ fn receive<K: Scheme, D: Alter>(
 /// The same, once the catalog is loaded; there is none before founding.
 fn receive_loaded<K: Scheme, D: Alter>(
     store: &mut Store<D>,
-    catalog: Option<&Catalog>,
+    catalog: &mut Option<Catalog>,
     keys: &mut KeyCache,
     alloc: Global,
     scheme: &K,
@@ -109,10 +110,14 @@ fn receive_loaded<K: Scheme, D: Alter>(
 ) -> Result<Answer, Refusal>
     requires moment { at ≤ last_command_moment }
     requires read { IsRead incoming.now }
-    requires can { IfSome (option_copied catalog) (CanDecide (K.rules scheme.now)) }
-    ensures serves { (s : State) → IsSound (K.rules scheme.now) s → IfClean (KeepsState (K.rules scheme.now) s) (state D.Store store.old) → (HasCleanDisk (state D.Store store.old) → IsLoaded s (option_copied catalog.entry))
+    requires can { IfSome catalog.old (CanDecide (K.rules scheme.now)) }
+    ensures serves { (s : State) → IsSound (K.rules scheme.now) s → IfClean (KeepsState (K.rules scheme.now) s) (state D.Store store.old) → (HasCleanDisk (state D.Store store.old) → IsLoaded s catalog.old)
         → Serves (K.rules scheme.now) s (state D.Store store.old) (state D.Store store.new) result (decide_incoming (K.rules scheme.now) s at incoming.now) }
     ensures clean { HasCleanDisk (state D.Store store.new) → HasCleanDisk (state D.Store store.old) }
+    ensures fits { HasCleanDisk (state D.Store store.new) → (k : Rules) (s : State) → IfClean (KeepsState k s) (state D.Store store.old) → Fits s catalog.old → Fits s catalog.new }
+    ensures kept { StaysLoaded catalog.old catalog.new }
+    ensures can { IfSome catalog.new (CanDecide (K.rules scheme.now)) }
+    ensures forged { IfSome (refused_in (K.rules scheme.now) catalog.old incoming.now) (RefusesUnread store.old store.new result) }
 {
     match decide(store, catalog, keys, alloc, scheme, at, incoming) {
         Ok(Delivered::Repeat(reply)) => Ok(Answer::Reply(reply)),
@@ -145,10 +150,10 @@ fn accept<D: Alter>(
     }
 }
 
-/// Decides on a manifest: what is known of its vehicle, who sent it, whether it was there before, and what is new.
+/// Decides on a manifest: who sent it, whether it was there before, and what is new.
 fn decide<K: Scheme, D: Alter>(
     store: &mut Store<D>,
-    catalog: Option<&Catalog>,
+    catalog: &mut Option<Catalog>,
     keys: &mut KeyCache,
     alloc: Global,
     scheme: &K,
@@ -157,43 +162,47 @@ fn decide<K: Scheme, D: Alter>(
 ) -> Result<Delivered, Refusal>
     requires moment { at ≤ last_command_moment }
     requires read { IsRead incoming.now }
-    requires can { IfSome (option_copied catalog) (CanDecide (K.rules scheme.now)) }
-    ensures decided { Decides (K.rules scheme.now) at incoming.now (λ s. IsLoaded s (option_copied catalog.entry)) (state D.Store store.old) (state D.Store store.new) result }
+    requires can { IfSome catalog.old (CanDecide (K.rules scheme.now)) }
+    ensures decided { Decides (K.rules scheme.now) at incoming.now (λ s. IsLoaded s catalog.old) (state D.Store store.old) (state D.Store store.new) result }
+    ensures fits { HasCleanDisk (state D.Store store.new) → (k : Rules) (s : State) → IfClean (KeepsState k s) (state D.Store store.old) → Fits s catalog.old → Fits s catalog.new }
+    ensures kept { StaysLoaded catalog.old catalog.new }
+    ensures can { IfSome catalog.new (CanDecide (K.rules scheme.now)) }
+    ensures forged { IfSome (refused_in (K.rules scheme.now) catalog.old incoming.now) (RefusesUnread store.old store.new result) }
     ensures reads { Reads (state D.Store store.old) (state D.Store store.new) }
 {
-    let Some(catalog) = catalog else {
-        return Err(Refusal::NotFounded);
-    };
-    match read_fitting_vehicle(store, alloc, &incoming.manifest.vehicle) {
-        Ok(vehicle) => {
-            let rows = vehicle.as_ref();
-            decide_known(store, catalog, keys, alloc, scheme, at, incoming, rows)
-        }
-        Err(fault) => Err(refusal_of(fault)),
+    match catalog {
+        Some(catalog) => decide_founded(store, catalog, keys, alloc, scheme, at, incoming),
+        None => Err(Refusal::NotFounded),
     }
 }
 
-/// The same, once the vehicle's rows were read: who sent it. A manifest that its vehicle's Primary didn't sign costs no more.
-fn decide_known<K: Scheme, D: Alter>(
+/// The same of founded repositories. A manifest that its vehicle's Primary didn't sign costs no more than the test of who sent it.
+fn decide_founded<K: Scheme, D: Alter>(
     store: &mut Store<D>,
-    catalog: &Catalog,
+    catalog: &mut Catalog,
     keys: &mut KeyCache,
     alloc: Global,
     scheme: &K,
     at: Moment,
     incoming: &Incoming,
-    vehicle: Option<&VehicleRows>,
 ) -> Result<Delivered, Refusal>
     requires moment { at ≤ last_command_moment }
     requires read { IsRead incoming.now }
-    requires can { CanDecide (K.rules scheme.now) catalog.now }
-    requires rows { IfSome (option_copied vehicle) (λ v. IsTrue (rows_fit v)) }
-    ensures decided { Decides (K.rules scheme.now) at incoming.now (λ s. IsKnown s incoming.now.manifest.vehicle catalog.now (option_copied vehicle.entry)) (state D.Store store.old) (state D.Store store.new) result }
+    requires can { CanDecide (K.rules scheme.now) catalog.old }
+    ensures decided { Decides (K.rules scheme.now) at incoming.now (λ s. IsOf s catalog.old) (state D.Store store.old) (state D.Store store.new) result }
+    ensures of { HasCleanDisk (state D.Store store.new) → (k : Rules) (s : State) → IfClean (KeepsState k s) (state D.Store store.old) → IsOf s catalog.old → IsOf s catalog.new }
+    ensures more { KeepsMore catalog.old catalog.new }
+    ensures forged { IfSome (refused_by (K.rules scheme.now) catalog.old.primaries incoming.now) (RefusesUnread store.old store.new result) }
     ensures reads { Reads (state D.Store store.old) (state D.Store store.new) }
 {
-    keep_primary(keys, alloc, vehicle);
-    match decide_sender(scheme, incoming, Some(&catalog.founding), vehicle, keys) {
-        Ok(sender) => decide_sent(store, catalog, keys, alloc, scheme, at, incoming, &sender),
+    match read_sender(store, catalog, keys, alloc, scheme, incoming) {
+        Ok(rows) => {
+            let sender = Sender {
+                founding: &catalog.founding,
+                vehicle: &rows,
+            };
+            decide_sent(store, catalog, keys, alloc, scheme, at, incoming, &sender)
+        }
         Err(refusal) => Err(refusal),
     }
 }

@@ -23,7 +23,8 @@ use up_canon::listed::Listed;
 use up_machine::answer::Answer;
 use up_machine::command::Command;
 use up_machine::laws::{
-    kept_replies_stay, repeats_change_nothing, states_stay_sound, vehicles_stand_apart,
+    deliveries_keep_primaries, kept_replies_stay, repeats_change_nothing, states_stay_sound,
+    vehicles_stand_apart,
 };
 use up_machine::rows::VehicleRows;
 use up_manifest::report::Installed;
@@ -103,6 +104,7 @@ impl<K: Scheme, D: Alter> Desk<K, D> {
         states_stay_sound();
         repeats_change_nothing();
         kept_replies_stay();
+        deliveries_keep_primaries();
         answer_of(dispatch(
             &mut self.store,
             &mut self.catalog,

@@ -90,7 +90,7 @@ fn put_image(
 }
 
 /// The same text in memory of its own.
-fn text_of(alloc: Global, text: &str) -> Result<Text, AllocError>
+pub(crate) fn text_of(alloc: Global, text: &str) -> Result<Text, AllocError>
     ensures { IfOk result (λ made. made ≡ text.now) }
 {
     Ok(Text::new(text.to_string(alloc)?))

@@ -16,4 +16,5 @@ mod reads;
 mod register;
 mod replacements;
 mod roots;
+mod senders;
 mod views;

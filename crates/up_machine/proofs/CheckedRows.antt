@@ -65,7 +65,7 @@ bind_assoc (Err e) f g = refl
 
 -- ---- signatures
 
-row_found : (v : Vehicle) (ecus : List NewEcu) (name : Name) → row_of (map (ecu_row v) ecus) name ≡ option_map (ecu_row v) (ecu_in ecus name)
+pub row_found : (v : Vehicle) (ecus : List NewEcu) (name : Name) → row_of (map (ecu_row v) ecus) name ≡ option_map (ecu_row v) (ecu_in ecus name)
 row_found v ecus name = find_made (ecu_row v) (λ row. bytes_eq row.ecu name) ecus
 
 signed_same : (k : Rules) (v : Vehicle) (ecus : List NewEcu) (name : Name) (envelope : Envelope) → is_signed_by_row k (map (ecu_row v) ecus) name envelope ≡ is_signed_by k ecus name envelope
@@ -162,7 +162,7 @@ pub new_same : (k : Rules) (r : Received) → check_new_of k (rows_of r.incoming
 unfolding check_new_of check_new
 new_same k r = ap (λ checked. refuse_if (nat_le r.incoming.manifest.counter (last_counter r.vehicle.entries)) (Stale (last_counter r.vehicle.entries)) >>= (λ _. checked)) (reports_same k r.vehicle r.incoming.manifest.reports)
 
-primary_same : (k : Rules) (v : Vehicle) (incoming : Incoming) → check_primary k (rows_of incoming.manifest.vehicle v) incoming
+pub primary_same : (k : Rules) (v : Vehicle) (incoming : Incoming) → check_primary k (rows_of incoming.manifest.vehicle v) incoming
     ≡ (unless (bytes_eq incoming.manifest.primary v.primary) WrongPrimary >>= (λ _. unless (is_signed_by k v.ecus v.primary incoming.envelope) BadManifestSignature))
 unfolding check_primary
 primary_same k v incoming = ap (λ b. unless (bytes_eq incoming.manifest.primary v.primary) WrongPrimary >>= (λ _. unless b BadManifestSignature)) (signed_same k v v.ecus v.primary incoming.envelope)

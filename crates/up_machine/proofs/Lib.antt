@@ -42,4 +42,5 @@ pub mod NamedImages
 pub mod DecidedManifests
 pub mod SoundRows
 pub mod Senders
+pub mod Primaries
 pub mod TwoSteps

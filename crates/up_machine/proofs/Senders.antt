@@ -42,7 +42,7 @@ pub no_founding : (k : Rules) (s : State) (incoming : Incoming) → founding_row
 unfolding receive_manifest
 no_founding k s incoming none = bind-err _ _ NotFounded (founded_by_row s ∙ ap check_by_row none)
 
-is_founded : (s : State) (f : Founding) → founding_row s ≡ Some f → check_founded s ≡ Ok tt
+pub is_founded : (s : State) (f : Founding) → founding_row s ≡ Some f → check_founded s ≡ Ok tt
 is_founded s f there = founded_by_row s ∙ ap check_by_row there
 
 no_rows : (name : Name) (o : Option Vehicle) → option_map (rows_of name) o ≡ None → o ≡ None

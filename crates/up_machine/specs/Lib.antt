@@ -17,6 +17,7 @@ pub mod Decisions
 pub mod Due
 pub mod ManifestRows
 pub mod Senders
+pub mod Primaries
 pub mod Reads
 pub mod Laws
 pub mod RepeatLaws

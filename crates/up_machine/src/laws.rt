@@ -2,6 +2,7 @@
 ghost use Rattle.up_machine.specs.Laws.{RefusalsChangeNothing, AlreadyChangesNothing, EmptyIsSound, StepsStaySound, RunsStaySound, CountersTellEntries, VersionsAreCounts, LaterIsReflexive, LaterIsTransitive, StepsGrow, RunsGrow, RetiredStayRetired, RetiredAreNoEcus, RetiredAreNeverRecorded, KeptRepliesStay, KeptRepliesOutlastRuns};
 ghost use Rattle.up_machine.specs.RepeatLaws.{RepeatsAreStale, RepeatsGetKeptReplies, CountersFindRepeats, OlderCountersAreStale, RepeatsChangeNothing, ServedIsThinned, ServedStaysSound};
 ghost use Rattle.up_machine.specs.ApartLaws.{VehiclesStandApart, DeliveriesCommute, InstalledIsOfTheVehicle};
+ghost use Rattle.up_machine.specs.Primaries.{DeliveriesKeepPrimaries};
 ghost use Rattle.up_machine.specs.RowLaws.{FoundingRowFits, VehicleRowsFit};
 ghost use Rattle.up_machine.specs.SignedLaws.{RootsAreSigned, ImageFilesAreSigned, RepliesAreSigned, ServedFilesAreKnown};
 ghost use Rattle.up_machine.specs.TwoSteps.{FoundedInTwoSteps, RotatedInTwoSteps, RegisteredInTwoSteps, RefreshedInTwoSteps};
@@ -48,6 +49,12 @@ pub fn retired_stay_retired()
 {
     body_laws();
 }
+
+/// Whatever is delivered, every vehicle keeps its Primary, and the Primary its key. So what was once read of them stays true until an
+/// operator adds a vehicle or replaces an ECU.
+pub fn deliveries_keep_primaries()
+    ensures { DeliveriesKeepPrimaries }
+{}
 
 /// The reply that was kept for an accepted manifest is the same text in every later state, whatever keys were rotated,
 /// images added and campaigns closed since.

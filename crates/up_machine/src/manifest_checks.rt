@@ -3,8 +3,10 @@ ghost use Rattle.std.specs.Prelude.{◌≡◌, ◌∷◌, [], find, not, option_
 ghost use Rattle.up_canon.specs.Refusals.{Gives};
 ghost use Rattle.up_sign.specs.Envelopes.{is_accepted};
 ghost use Rattle.up_machine.specs.Deliveries.{report_name};
+ghost use Rattle.up_machine.specs.Primaries.{check_sent};
 ghost use Rattle.up_machine.specs.ManifestRows.{row_of as row_in, has_row as has_row_in, is_signed_by_row, is_reported_in, follows as follows_row, follows_its_row, check_primary as check_primary_in, check_reports_of};
 
+use crate::primary::Primary;
 use crate::rows::{EcuRow, VehicleRows};
 use std::alloc::Global;
 use up_canon::ident::Ident;
@@ -35,6 +37,25 @@ pub(crate) fn check_primary<K: Scheme>(
     }
     let ecus = rows.ecus.as_slice();
     if !is_signed_by(scheme, ecus, keys, primary, &incoming.envelope) {
+        return Err(Refusal::BadManifestSignature);
+    }
+    Ok(())
+}
+
+/// The same by what is kept of the vehicle's Primary, without its rows.
+#[tactic(auto, unfolding(crate::specs::Primaries::check_sent, up_canon::specs::Steps::and_then))]
+pub(crate) fn check_kept_primary<K: Scheme>(
+    scheme: &K,
+    primary: &Primary,
+    keys: &KeyCache,
+    incoming: &Incoming,
+) -> Result<(), Refusal>
+    ensures { result ≡ check_sent (K.rules scheme.now) primary.now incoming.now }
+{
+    if incoming.manifest.primary != primary.ecu {
+        return Err(Refusal::WrongPrimary);
+    }
+    if !is_signed_with(scheme, keys, primary.public.as_slice(), &incoming.envelope) {
         return Err(Refusal::BadManifestSignature);
     }
     Ok(())
@@ -150,7 +171,7 @@ fn is_signed_with<K: Scheme>(
     }
 }
 
-fn row_of<'a>(rows: &'a [EcuRow], name: &Ident) -> Option<&'a EcuRow>
+pub(crate) fn row_of<'a>(rows: &'a [EcuRow], name: &Ident) -> Option<&'a EcuRow>
     ensures { option_copied result ≡ row_in rows.now name.now }
 {
     rows.iter().find(|row| row.ecu == *name)

@@ -1,5 +1,8 @@
+use Rattle.std.proofs.Common.{sym, subst}
 use Rattle.sqlite.specs.Held.{state}
 use Rattle.up_rows.specs.StateRows.{rows_of_state}
+use Rattle.up_desk.specs.Standing.{ArePrimaries}
+use Rattle.up_desk.proofs.Cataloged.{are_none}
 use Rattle.up_desk.proofs.Steps.{clean_before, keeps_after, reads_none, reads_then, store_reads}
 use Rattle.up_desk.proofs.catalog.read_registers.Goals as goal
 
@@ -10,6 +13,7 @@ returns-in-Ok-images-clause-told g c = λ clean k s was founding.
       founding = founding;
       campaigns = c.in-Ok-read_running.ensures.told (clean_before next clean) k s was;
       images = c.in-Ok-images.ensures.told clean (rows_of_state k s) (keeps_after k s was c.read_running.ensures.reads);
+      primaries = subst (ArePrimaries s) (sym c.new.ensures) (are_none s);
     }
 
 pub returns-in-Ok-images-clause-reads : goal.returns-in-Ok-images-clause-reads

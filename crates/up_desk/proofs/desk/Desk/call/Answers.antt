@@ -10,6 +10,7 @@ returns g c =
       sound = c.repeats_change_nothing.ensures.sound;
       served = c.repeats_change_nothing.ensures.served;
       replies = c.kept_replies_stay.ensures.run;
+      primaries = c.deliveries_keep_primaries.ensures;
     } in
     let left : Stored _ = record { held = c.dispatch.new.store; catalog = c.dispatch.new.catalog } in
     let inside = called laws (g.K.Scheme.rules c.self.inside.scheme) c.args.at c.args.command.now c.dispatch.result c.answer_of.result

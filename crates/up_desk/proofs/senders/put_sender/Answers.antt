@@ -1,0 +1,19 @@
+use Rattle.std.proofs.Common.{sym, ◌∙◌, subst}
+use Rattle.std.specs.FinMap as table
+use Rattle.up_desk.specs.Standing.{ArePrimaries, StayKept}
+use Rattle.up_desk.proofs.Cataloged.{are_more, put_or_not, stay_more}
+use Rattle.up_desk.proofs.senders.put_sender.Goals as goal
+
+pub returns-clause-of : goal.returns-clause-of
+returns-clause-of c = λ s is are.
+    let kept = c.args.kept.now in
+    put_or_not (ArePrimaries s) c.insert.result kept c.insert.new.self _ c.insert.ensures.ok c.insert.ensures.err are
+    (subst (λ name. ArePrimaries s (table.insert kept name c.in-Some.primary)) (sym (c.in_ok-text_of.ensures ∙ c.text.ensures.value))
+    (are_more s kept c.args.vehicle.now c.in-Some.primary (sym (c.in_ok-primary.ensures s c.args.vehicle.now is) ∙ c.in-Some.is) are))
+
+pub returns-clause-stay : goal.returns-clause-stay
+returns-clause-stay c =
+    let kept = c.args.kept.now in
+    put_or_not (StayKept kept) c.insert.result kept c.insert.new.self _ c.insert.ensures.ok c.insert.ensures.err (λ vehicle primary there. there)
+    (subst (λ name. StayKept kept (table.insert kept name c.in-Some.primary)) (sym (c.in_ok-text_of.ensures ∙ c.text.ensures.value))
+    (stay_more kept c.args.vehicle.now c.in-Some.primary c.requires))

@@ -1,0 +1,15 @@
+use Rattle.std.proofs.Common.{refl, sym}
+use Rattle.up_desk.proofs.Cataloged.{none_more}
+use Rattle.up_desk.proofs.senders.test_by_rows.Goals as goal
+
+pub returns-in-Ok-clause-sent : goal.returns-in-Ok-clause-sent
+returns-in-Ok-clause-sent g c = λ s there is. let it = c.in-Ok.ensures.from s (sym there) (sym is) in (it.received, it.receives)
+
+pub returns-in-Ok-clause-more : goal.returns-in-Ok-clause-more
+returns-in-Ok-clause-more g c = record { rest = refl; primaries = c.keep_sender.ensures.stay }
+
+pub returns-in-Err-clause-sent : goal.returns-in-Err-clause-sent
+returns-in-Err-clause-sent g c = λ s there is. c.in-Err.ensures.from s (sym there) (sym is)
+
+pub returns-in-Err-clause-more : goal.returns-in-Err-clause-more
+returns-in-Err-clause-more g c = none_more c.args.catalog.now
