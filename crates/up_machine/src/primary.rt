@@ -18,7 +18,7 @@ use up_sign::key_cache::KeyCache;
 use up_sign::scheme::Scheme;
 
 /// A vehicle's Primary, and the public part of its key. The type doesn't say of which vehicle.
-#[derive(Debug, Drop)]
+#[derive(Drop)]
 pub struct Primary {
     pub ecu: Ident,
     pub public: Bytes,
