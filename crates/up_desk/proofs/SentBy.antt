@@ -1,11 +1,12 @@
 -- Who sent a manifest, by the Primary that is kept and by the rows of its vehicle.
-use Rattle.std.proofs.Common.{◌≡◌, ℕ, Bool, true, false, Option, None, Some, Result, Ok, Err, refl, sym, ap, ◌∙◌, subst}
-use Rattle.std.specs.Prelude.{⊤, IfSome, MatchBool, option_and_then}
+use Rattle.std.proofs.Common.{◌≡◌, ℕ, Bool, true, false, Option, None, Some, Result, Ok, Err, inl, inr, refl, sym, ap, ◌∙◌, subst}
+use Rattle.std.specs.Prelude.{⊤, IfSome, MatchBool, is_some, option_and_then}
 use Rattle.std.specs.FinMap as table
 use Rattle.up_canon.specs.Names.{Table}
+use Rattle.up_canon.specs.Refusals.{is_memory}
 use Rattle.up_canon.specs.Steps.{error_of}
 use Rattle.up_canon.specs.declared.refusal.Refusal.{Refusal}
-use Rattle.up_canon.specs.declared.refusal.Refusal.TheVariants.{UnknownVehicle}
+use Rattle.up_canon.specs.declared.refusal.Refusal.TheVariants.{Memory, UnknownVehicle}
 use Rattle.up_sign.specs.Schemes.{Rules}
 use Rattle.up_manifest.specs.declared.manifest.Incoming.{Incoming}
 use Rattle.up_machine.specs.declared.primary.Primary.{Primary}
@@ -17,7 +18,8 @@ use Rattle.up_machine.specs.Deliveries.{receive_manifest}
 use Rattle.up_machine.specs.Primaries.{GivesSent, check_sent}
 use Rattle.up_machine.specs.Rows.{founding_row, vehicle_rows}
 use Rattle.up_machine.proofs.Senders.{no_vehicle, refused_first}
-use Rattle.up_desk.specs.Delivering.{GivesSenderRows, GivesVehicle, RefusesUnread, refused_by}
+use Rattle.up_desk.specs.declared.catalog.Catalog.{Catalog}
+use Rattle.up_desk.specs.Delivering.{GivesSenderRows, GivesVehicle, RefusesRead, RefusesUnread, refused_by, refused_in}
 use Rattle.up_desk.specs.Serving.{is_fault}
 
 -- ---- what the kept Primary refuses
@@ -37,18 +39,56 @@ not_sent_refused k kept incoming primary r P there bad h =
     subst (λ o. IfSome (option_and_then (λ primary. error_of (check_sent k primary incoming)) o) P) (sym there) (subst (λ q. IfSome (error_of q) P) (sym bad) h)
 
 -- a refusal that is told stays one, with nothing read
-pub refused_unread : {S A B : Type 0} (o : Option Refusal) (store : S) (q : Refusal) → IfSome o (λ r. ◌≡◌ {A = Result A Refusal} (Err q) (Err r)) → IfSome o (RefusesUnread {A = B} store store (Err q))
-refused_unread None store q h = tt
-refused_unread (Some r) store q h = let same : q ≡ r = cc in record { refused = ap (λ x. Err x) same; unread = refl }
+pub refused_unread : {S : Type 0} (A B : Type 0) (o : Option Refusal) (store : S) (q : Refusal) → IfSome o (λ r. ◌≡◌ {A = Result A Refusal} (Err q) (Err r)) → IfSome o (RefusesUnread {A = B} store store (Err q))
+refused_unread A B None store q h = tt
+refused_unread A B (Some r) store q h = let same : q ≡ r = cc in record { refused = ap (λ x. Err x) same; unread = refl }
 
-pub refused_on : {S A B : Type 0} (o : Option Refusal) (old new : S) (q : Refusal) → IfSome o (RefusesUnread {A = A} old new (Err q)) → IfSome o (RefusesUnread {A = B} old new (Err q))
-refused_on None old new q h = tt
-refused_on {A = A} (Some r) old new q h = let is : ◌≡◌ {A = Result A Refusal} (Err q) (Err r) = h.refused in let same : q ≡ r = cc in record { refused = ap (λ x. Err x) same; unread = h.unread }
+pub refused_on : {S : Type 0} (A B : Type 0) (o : Option Refusal) (old new : S) (q : Refusal) → IfSome o (RefusesUnread {A = A} old new (Err q)) → IfSome o (RefusesUnread {A = B} old new (Err q))
+refused_on A B None old new q h = tt
+refused_on A B (Some r) old new q h = let is : ◌≡◌ {A = Result A Refusal} (Err q) (Err r) = h.refused in let same : q ≡ r = cc in record { refused = ap (λ x. Err x) same; unread = h.unread }
 
 -- what passed was refused by nothing
 pub passed_on : {S A : Type 0} (o : Option Refusal) (old new : S) (x : A) (P : Refusal → Type 0) → IfSome o (RefusesUnread old new (Ok x)) → IfSome o P
 passed_on None old new x P h = tt
 passed_on {A = A} (Some r) old new x P h = absurd (let is : ◌≡◌ {A = Result A Refusal} (Ok x) (Err r) = h.refused in cc)
+
+-- before founding nothing is refused so
+pub unloaded : (k : Rules) (incoming : Incoming) (o : Option Catalog) (P : Refusal → Type 0) → o ≡ None → IfSome (refused_in k o incoming) P
+unloaded k incoming o P none = subst (λ q. IfSome (refused_in k q incoming) P) (sym none) tt
+
+-- where nothing is loaded yet nothing is refused so, and what was there is still there
+pub still_refused : {S A : Type 0} (k : Rules) (incoming : Incoming) (old mid : Option Catalog) (before after last : S) (result : Result A Refusal) (P : Type 0)
+    → (is_some old ≡ true → P × (mid ≡ old) × (after ≡ before)) → IfSome (refused_in k mid incoming) (RefusesUnread after last result) → IfSome (refused_in k old incoming) (RefusesUnread before last result)
+still_refused k incoming None mid before after last result P there h = tt
+still_refused k incoming (Some c) mid before after last result P there h =
+    let it = there refl in
+    subst (λ x. IfSome (refused_in k (Some c) incoming) (RefusesUnread x last result)) it.2 (subst (λ o. IfSome (refused_in k o incoming) (RefusesUnread after last result)) it.1 h)
+
+pub none_loaded : {E : Type 0} (k : Rules) (incoming : Incoming) (old : Option Catalog) (fault : E) (Q : Type 0) (P : Refusal → Type 0)
+    → (is_some old ≡ true → (◌≡◌ {A = Result ⊤ E} (Err fault) (Ok tt)) × Q) → IfSome (refused_in k old incoming) P
+none_loaded k incoming None fault Q P there = tt
+none_loaded {E = E} k incoming (Some c) fault Q P there = absurd (let no : ◌≡◌ {A = Result ⊤ E} (Err fault) (Ok tt) = (there refl).0 in cc)
+
+pub read_refused : {S A : Type 0} (o : Option Refusal) (old new : S) (result : Result A Refusal) → IfSome o (RefusesUnread old new result) → IfSome o (RefusesRead old new result)
+read_refused None old new result h = tt
+read_refused (Some r) old new result h = record { refused = inl h.refused; unread = h.unread }
+
+memory_is : (r : Refusal) → is_memory r ≡ true → r ≡ Memory
+memory_is Memory h = refl
+memory_is _ h = cc
+
+-- a body that can be read is refused for want of memory alone
+pub unread_body : {S : Type 0} (A : Type 0) (o : Option Refusal) (store : S) (read : Result Incoming Refusal) (incoming : Incoming) (r : Refusal) → MatchBool (is_memory r) ⊤ (read ≡ Err r) → read ≡ Ok incoming
+    → IfSome o (RefusesRead {A = A} store store (Err r))
+unread_body A o store read incoming r h reads = by_refusal o
+  where
+    by_memory : (b : Bool) → is_memory r ≡ b → MatchBool b ⊤ (read ≡ Err r) → r ≡ Memory
+    by_memory true is h = memory_is r is
+    by_memory false is h = let no : ◌≡◌ {A = Result Incoming Refusal} (Ok incoming) (Err r) = sym reads ∙ h in cc
+
+    by_refusal : (o : Option Refusal) → IfSome o (RefusesRead {A = A} store store (Err r))
+    by_refusal None = tt
+    by_refusal (Some q) = record { refused = inr (ap (λ x. Err x) (by_memory (is_memory r) refl h)); unread = refl }
 
 -- ---- the rows of its vehicle
 

@@ -1,5 +1,5 @@
 //! What a desk keeps in memory of its tables, so that deliveries needn't read it again.
-ghost use Rattle.std.specs.Prelude.{◌≡◌, Some, Ok, IfOk, IfSome, IsSome, IsTrue, OnOk};
+ghost use Rattle.std.specs.Prelude.{◌≡◌, Some, Ok, IfOk, IfSome, IsTrue, OnOk, is_some, true};
 ghost use Rattle.sqlite.specs.Held.{state};
 ghost use Rattle.sqlite.specs.State.{HasCleanDisk};
 ghost use Rattle.up_plan.specs.Campaigns.{CampaignData};
@@ -69,7 +69,7 @@ pub(crate) fn load<K: Scheme, D: Alter>(
     ensures fits { HasCleanDisk (state D.Store store.new) → (k : Rules) (s : State) → IfClean (KeepsState k s) (state D.Store store.old) → Fits s catalog.old → Fits s catalog.new }
     ensures loaded { HasCleanDisk (state D.Store store.new) → OnOk result ((k : Rules) (s : State) → IfClean (KeepsState k s) (state D.Store store.old) → Fits s catalog.old → IsLoaded s catalog.new) }
     ensures kept { StaysLoaded catalog.old catalog.new }
-    ensures there { IsSome catalog.old → (result ≡ Ok tt) × (catalog.new ≡ catalog.old) × (store.new ≡ store.old) }
+    ensures there { is_some catalog.old ≡ true → (result ≡ Ok tt) × (catalog.new ≡ catalog.old) × (store.new ≡ store.old) }
     ensures reads { Reads (state D.Store store.old) (state D.Store store.new) }
 {
     if catalog.is_some() {

@@ -1,4 +1,4 @@
-use Rattle.std.proofs.Common.{sym, ◌∙◌}
+use Rattle.std.proofs.Common.{◌≡◌, true, false, sym, ◌∙◌}
 use Rattle.sqlite.specs.Held.{state}
 use Rattle.up_desk.proofs.Cataloged.{loaded_anew, loaded_fits, stays, there_loaded}
 use Rattle.up_desk.proofs.Steps.{reads_none}
@@ -24,3 +24,9 @@ returns-in-Ok-clause-kept g c = loaded_anew c.args.catalog.now c.in-Ok.read (sym
 
 pub returns-in-Err-clause-kept : goal.returns-in-Err-clause-kept
 returns-in-Err-clause-kept g c = stays c.args.catalog.now
+
+pub returns-in-Ok-clause-there : goal.returns-in-Ok-clause-there
+returns-in-Ok-clause-there g c = λ there. absurd (let no : true ≡ false = sym there ∙ sym c.is_some.ensures ∙ c.if-is_some.false in cc)
+
+pub returns-in-Err-clause-there : goal.returns-in-Err-clause-there
+returns-in-Err-clause-there g c = λ there. absurd (let no : true ≡ false = sym there ∙ sym c.is_some.ensures ∙ c.if-is_some.false in cc)

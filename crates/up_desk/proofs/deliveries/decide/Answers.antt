@@ -1,37 +1,47 @@
-use Rattle.std.proofs.Common.{sym, ap, subst, ◌∙◌}
-use Rattle.std.specs.Prelude.{IfSome, IsTrue, option_copied}
+use Rattle.std.proofs.Common.{Some, sym, subst}
+use Rattle.std.specs.Prelude.{IfSome}
 use Rattle.sqlite.specs.Held.{state}
 use Rattle.up_canon.specs.declared.refusal.Refusal.TheVariants.{NotFounded}
-use Rattle.up_machine.specs.RowsFit.{rows_fit}
 use Rattle.up_machine.proofs.Senders.{no_founding, refused_first}
-use Rattle.up_desk.specs.Standing.{CanDecide, IsLoaded}
-use Rattle.up_desk.proofs.Steps.{following, failed_told, reads_none}
+use Rattle.up_desk.specs.Delivering.{RefusesUnread, refused_in}
+use Rattle.up_desk.specs.Standing.{CanDecide, Fits, IsLoaded, StaysLoaded}
+use Rattle.up_desk.proofs.Cataloged.{can_more, stays}
+use Rattle.up_desk.proofs.SentBy.{unloaded}
+use Rattle.up_desk.proofs.Steps.{reads_none}
 use Rattle.up_desk.proofs.deliveries.decide.Goals as goal
 
-pub returns-in_default-clause-decided : goal.returns-in_default-clause-decided
-returns-in_default-clause-decided g c = λ clean s sound loaded was.
+pub returns-in-Some-clause-decided : goal.returns-in-Some-clause-decided
+returns-in-Some-clause-decided g c = λ clean s sound loaded was. c.decide_founded.ensures.decided clean s sound (subst (IsLoaded s) c.in-Some.is loaded) was
+
+pub returns-in-Some-clause-fits : goal.returns-in-Some-clause-fits
+returns-in-Some-clause-fits g c = λ clean k s was fits. c.decide_founded.ensures.of clean k s was (subst (Fits s) c.in-Some.is fits)
+
+pub returns-in-Some-clause-kept : goal.returns-in-Some-clause-kept
+returns-in-Some-clause-kept g c = subst (λ o. StaysLoaded o (Some c.decide_founded.new.catalog)) (sym c.in-Some.is) c.decide_founded.ensures.more
+
+pub returns-in-Some-clause-can : goal.returns-in-Some-clause-can
+returns-in-Some-clause-can g c =
     let k = g.K.Scheme.rules c.args.scheme.now in
-    refused_first k s c.args.at c.args.incoming.now NotFounded (no_founding k s c.args.incoming.now (subst (IsLoaded s) (ap option_copied c.in_default.is) loaded))
+    can_more k _ _ c.decide_founded.ensures.more (subst (λ o. IfSome o (CanDecide k)) c.in-Some.is c.requires.can)
 
-pub returns-in-Ok : goal.returns-in-Ok
-returns-in-Ok g c = let it = following c.read_fitting_vehicle.ensures.reads c.decide_known.ensures.reads in
+pub returns-in-Some-clause-forged : goal.returns-in-Some-clause-forged
+returns-in-Some-clause-forged g c =
+    subst (λ o. IfSome (refused_in (g.K.Scheme.rules c.args.scheme.now) o c.args.incoming.now) (RefusesUnread c.args.store.now c.decide_founded.new.store c.decide_founded.result)) (sym c.in-Some.is)
+    c.decide_founded.ensures.forged
+
+pub decide_founded-requires-clause-can : goal.decide_founded-requires-clause-can
+decide_founded-requires-clause-can g c = subst (λ o. IfSome o (CanDecide (g.K.Scheme.rules c.args.scheme.now))) c.in-Some.is c.requires.can
+
+pub returns-in-None-clause-decided : goal.returns-in-None-clause-decided
+returns-in-None-clause-decided g c = λ clean s sound loaded was.
     let k = g.K.Scheme.rules c.args.scheme.now in
-    record {
-      decided = λ clean s sound loaded was.
-          c.decide_known.ensures.decided clean s sound
-          (record { kept = subst (IsLoaded s) (ap option_copied c.in-Some.is) loaded; rows = c.as_ref-rows.ensures.value ∙ c.in-Ok.ensures.told (it.clean clean) k s was })
-          (it.keeps k s was);
-      reads = it.reads;
-    }
+    refused_first k s c.args.at c.args.incoming.now NotFounded (no_founding k s c.args.incoming.now (subst (IsLoaded s) c.in-None.is loaded))
 
-pub returns-in-Err : goal.returns-in-Err
-returns-in-Err g c = record { decided = λ clean s sound loaded was. failed_told c.refusal_of.result c.in-Err.fault _ c.refusal_of.ensures; reads = c.read_fitting_vehicle.ensures.reads }
+pub returns-in-None-clause-kept : goal.returns-in-None-clause-kept
+returns-in-None-clause-kept g c = stays c.args.catalog.now
 
-pub decide_known-requires-clause-can : goal.decide_known-requires-clause-can
-decide_known-requires-clause-can g c = subst (λ o. IfSome o (CanDecide (g.K.Scheme.rules c.args.scheme.now))) (ap option_copied c.in-Some.is) c.requires.can
+pub returns-in-None-clause-forged : goal.returns-in-None-clause-forged
+returns-in-None-clause-forged g c = unloaded (g.K.Scheme.rules c.args.scheme.now) c.args.incoming.now c.args.catalog.now _ c.in-None.is
 
-pub decide_known-requires-clause-rows : goal.decide_known-requires-clause-rows
-decide_known-requires-clause-rows g c = subst (λ o. IfSome o (λ v. IsTrue (rows_fit v))) (sym c.as_ref-rows.ensures.value) c.in-Ok.ensures.fits
-
-pub returns-in_default-clause-reads : goal.returns-in_default-clause-reads
-returns-in_default-clause-reads g c = reads_none (state g.D.Store c.args.store.now)
+pub returns-in-None-clause-reads : goal.returns-in-None-clause-reads
+returns-in-None-clause-reads g c = reads_none (state g.D.Store c.args.store.now)

@@ -1,5 +1,5 @@
-use Rattle.std.proofs.Common.{sym, ap, ◌∙◌, subst}
-use Rattle.sqlite.specs.Held.{state}
+use Rattle.up_machine.specs.declared.decision.Delivered.{Delivered}
+use Rattle.up_machine.specs.declared.rows.VehicleRows.{VehicleRows}
 use Rattle.up_desk.specs.Delivering.{refused_by}
 use Rattle.up_desk.proofs.Cataloged.{can_more}
 use Rattle.up_desk.proofs.Steps.{clean_before, keeps_after, reads_then}
@@ -30,7 +30,7 @@ returns-in-Err-clause-decided g c = λ clean s sound is was.
 
 pub returns-in-Err-clause-forged : goal.returns-in-Err-clause-forged
 returns-in-Err-clause-forged g c =
-    refused_on (refused_by (g.K.Scheme.rules c.args.scheme.now) c.args.catalog.now.primaries c.args.incoming.now) c.args.store.now c.read_sender.new.store c.in-Err.refusal c.in-Err.ensures.forged
+    refused_on VehicleRows Delivered (refused_by (g.K.Scheme.rules c.args.scheme.now) c.args.catalog.now.primaries c.args.incoming.now) c.args.store.now c.read_sender.new.store c.in-Err.refusal c.in-Err.ensures.forged
 
 pub read_sender-requires : goal.read_sender-requires
 read_sender-requires g c = c.requires.can.keys

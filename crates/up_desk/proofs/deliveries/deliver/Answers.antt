@@ -1,12 +1,16 @@
 use Rattle.std.proofs.Common.{◌≡◌, Err, sym, ap, ◌∙◌, subst}
-use Rattle.std.specs.Prelude.{⊤, MatchBool}
+use Rattle.std.specs.Prelude.{⊤, IfSome, MatchBool}
 use Rattle.up_canon.specs.Refusals.{is_memory}
 use Rattle.sqlite.specs.Held.{state}
-use Rattle.up_canon.proofs.Steps.{bind-ok}
+use Rattle.up_canon.proofs.Steps.{bind-ok, same_ok}
+use Rattle.up_manifest.specs.declared.manifest.Incoming.{Incoming}
 use Rattle.up_manifest.specs.Manifests.{incoming_in}
+use Rattle.up_machine.specs.declared.answer.Answer.{Answer}
 use Rattle.up_machine.specs.Decisions.{decide_incoming}
+use Rattle.up_desk.specs.Delivering.{RefusesRead, refused_in}
 use Rattle.up_desk.specs.Serving.{Serves}
 use Rattle.up_desk.proofs.Cataloged.{stays}
+use Rattle.up_desk.proofs.SentBy.{read_refused, unread_body}
 use Rattle.up_desk.proofs.Serving.{stopped_or_failed}
 use Rattle.up_desk.proofs.Steps.{refused, reads_none}
 use Rattle.up_desk.proofs.deliveries.deliver.Goals as goal
@@ -28,3 +32,15 @@ returns-in-Err-clause-fits g c = λ clean k s was fits. fits
 
 pub returns-in-Err-clause-kept : goal.returns-in-Err-clause-kept
 returns-in-Err-clause-kept g c = stays c.args.catalog.now
+
+pub returns-in-Ok-clause-forged : goal.returns-in-Ok-clause-forged
+returns-in-Ok-clause-forged g c = λ incoming reads.
+    let k = g.K.Scheme.rules c.args.scheme.now in
+    let same : c.in-Ok.incoming ≡ incoming = same_ok c.in-Ok.incoming incoming (sym (sym (ap incoming_in c.as_slice.ensures) ∙ c.in-Ok.ensures.value) ∙ reads) in
+    subst (λ (i : Incoming). IfSome (refused_in k c.args.catalog.now i) (RefusesRead c.args.store.now c.receive.new.store c.receive.result)) same
+    (read_refused (refused_in k c.args.catalog.now c.in-Ok.incoming) c.args.store.now c.receive.new.store c.receive.result c.receive.ensures.forged)
+
+pub returns-in-Err-clause-forged : goal.returns-in-Err-clause-forged
+returns-in-Err-clause-forged g c = λ incoming reads.
+    unread_body Answer (refused_in (g.K.Scheme.rules c.args.scheme.now) c.args.catalog.now incoming) c.args.store.now (incoming_in c.args.body.now) incoming c.in-Err.refusal
+    (subst (λ b. MatchBool (is_memory c.in-Err.refusal) ⊤ (incoming_in b ≡ Err c.in-Err.refusal)) c.as_slice.ensures c.in-Err.ensures.value) reads

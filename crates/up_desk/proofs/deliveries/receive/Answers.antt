@@ -1,6 +1,5 @@
-use Rattle.std.proofs.Common.{sym, subst}
-use Rattle.std.specs.Prelude.{IfSome}
-use Rattle.up_desk.specs.Standing.{CanDecide, IsLoaded}
+use Rattle.up_desk.proofs.Cataloged.{stays_then}
+use Rattle.up_desk.proofs.SentBy.{none_loaded, still_refused}
 use Rattle.up_desk.proofs.Steps.{after_reads, clean_before, keeps_after, failed_told, refused}
 use Rattle.up_desk.proofs.deliveries.receive.Goals as goal
 
@@ -9,14 +8,24 @@ returns-in-Ok-clause-serves g c = λ s sound was kept.
     let k = g.K.Scheme.rules c.args.scheme.now in
     after_reads c.load.ensures.reads
     (c.receive_loaded.ensures.serves s sound (keeps_after k s was c.load.ensures.reads)
-    (λ mid. subst (IsLoaded s) (sym c.as_ref.ensures.value) (c.in-Ok.ensures.loaded mid k s was (kept (clean_before c.load.ensures.reads mid)))))
+    (λ mid. c.in-Ok.ensures.loaded mid k s was (kept (clean_before c.load.ensures.reads mid))))
 
 pub returns-in-Ok-clause-fits : goal.returns-in-Ok-clause-fits
-returns-in-Ok-clause-fits g c = λ clean k s was fits. c.load.ensures.fits (c.receive_loaded.ensures.clean clean) k s was fits
+returns-in-Ok-clause-fits g c = λ clean k s was fits.
+    c.receive_loaded.ensures.fits clean k s (keeps_after k s was c.load.ensures.reads) (c.load.ensures.fits (c.receive_loaded.ensures.clean clean) k s was fits)
+
+pub returns-in-Ok-clause-kept : goal.returns-in-Ok-clause-kept
+returns-in-Ok-clause-kept g c = stays_then c.args.catalog.now c.load.new.catalog c.receive_loaded.new.catalog c.load.ensures.kept c.receive_loaded.ensures.kept
+
+pub returns-in-Ok-clause-forged : goal.returns-in-Ok-clause-forged
+returns-in-Ok-clause-forged g c =
+    still_refused (g.K.Scheme.rules c.args.scheme.now) c.args.incoming.now c.args.catalog.now c.load.new.catalog c.args.store.now c.load.new.store c.receive_loaded.new.store c.receive_loaded.result _
+    c.load.ensures.there c.receive_loaded.ensures.forged
 
 pub returns-in-Err-clause-serves : goal.returns-in-Err-clause-serves
 returns-in-Err-clause-serves g c = λ s sound was kept.
     refused was c.load.ensures.reads (λ clean. failed_told c.refusal_of.result c.in-Err.fault _ c.refusal_of.ensures)
 
-pub receive_loaded-requires-clause-can : goal.receive_loaded-requires-clause-can
-receive_loaded-requires-clause-can g c = subst (λ o. IfSome o (CanDecide (g.K.Scheme.rules c.args.scheme.now))) (sym c.as_ref.ensures.value) c.load.ensures.can
+pub returns-in-Err-clause-forged : goal.returns-in-Err-clause-forged
+returns-in-Err-clause-forged g c =
+    none_loaded (g.K.Scheme.rules c.args.scheme.now) c.args.incoming.now c.args.catalog.now c.in-Err.fault _ _ (λ there. (let it = c.in-Err.ensures.there there in (it.0, it.1)))

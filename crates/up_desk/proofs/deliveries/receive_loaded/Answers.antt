@@ -1,7 +1,11 @@
 use Rattle.std.proofs.Common.{Ok, refl, subst}
+use Rattle.up_machine.specs.declared.answer.Answer.{Answer}
+use Rattle.up_machine.specs.declared.decision.Delivered.{Delivered}
 use Rattle.up_machine.specs.Decisions.{decide_incoming, GivesDelivered}
+use Rattle.up_desk.specs.Delivering.{refused_in}
 use Rattle.up_desk.proofs.Decided.{when_repeated}
 use Rattle.up_desk.proofs.Steps.{after_reads, clean_before, keeps_after, refused, unchanged}
+use Rattle.up_desk.proofs.SentBy.{passed_on, refused_on}
 use Rattle.up_desk.proofs.deliveries.receive_loaded.Goals as goal
 
 pub returns-in-Ok-Repeat-clause-serves : goal.returns-in-Ok-Repeat-clause-serves
@@ -34,3 +38,18 @@ returns-in-Err-clause-serves g c = λ s sound was loaded.
 
 pub returns-in-Err-clause-clean : goal.returns-in-Err-clause-clean
 returns-in-Err-clause-clean g c = clean_before c.decide.ensures.reads
+
+pub returns-in-Ok-Repeat-clause-forged : goal.returns-in-Ok-Repeat-clause-forged
+returns-in-Ok-Repeat-clause-forged g c =
+    passed_on (refused_in (g.K.Scheme.rules c.args.scheme.now) c.args.catalog.now c.args.incoming.now) c.args.store.now c.decide.new.store c.in-Ok-Repeat.field-0 _ c.in-Ok-Repeat.ensures.forged
+
+pub returns-in-Ok-Accepted-clause-fits : goal.returns-in-Ok-Accepted-clause-fits
+returns-in-Ok-Accepted-clause-fits g c = λ clean k s was fits. c.decide.ensures.fits (c.accept.ensures.clean clean) k s was fits
+
+pub returns-in-Ok-Accepted-clause-forged : goal.returns-in-Ok-Accepted-clause-forged
+returns-in-Ok-Accepted-clause-forged g c =
+    passed_on (refused_in (g.K.Scheme.rules c.args.scheme.now) c.args.catalog.now c.args.incoming.now) c.args.store.now c.decide.new.store c.in-Ok-Accepted.field-0 _ c.in-Ok-Accepted.ensures.forged
+
+pub returns-in-Err-clause-forged : goal.returns-in-Err-clause-forged
+returns-in-Err-clause-forged g c =
+    refused_on Delivered Answer (refused_in (g.K.Scheme.rules c.args.scheme.now) c.args.catalog.now c.args.incoming.now) c.args.store.now c.decide.new.store c.in-Err.refusal c.in-Err.ensures.forged

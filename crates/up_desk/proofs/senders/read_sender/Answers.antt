@@ -1,6 +1,7 @@
-use Rattle.std.proofs.Common.{true, subst}
+use Rattle.std.proofs.Common.{Bool, subst}
 use Rattle.std.specs.Prelude.{⊤, MatchBool, Ok}
 use Rattle.sqlite.specs.Held.{state}
+use Rattle.up_machine.specs.declared.rows.VehicleRows.{VehicleRows}
 use Rattle.up_machine.specs.Primaries.{GivesSent}
 use Rattle.up_desk.specs.Delivering.{refused_by}
 use Rattle.up_desk.specs.Serving.{is_fault}
@@ -12,7 +13,7 @@ use Rattle.up_desk.proofs.senders.read_sender.Goals as goal
 pub returns-in-Ok-true-clause-from : goal.returns-in-Ok-true-clause-from
 returns-in-Ok-true-clause-from g c = λ clean s was is.
     let k = g.K.Scheme.rules c.args.scheme.now in
-    let sent = subst (λ b. MatchBool b (GivesSent k s c.args.incoming.now (Ok tt)) ⊤) c.in-Ok-true.field-0-is (c.in-Ok-true.ensures.sent s is) in
+    let sent = subst (λ b. MatchBool b (GivesSent k s c.args.incoming.now (Ok tt)) ⊤) c.in-Ok-true.field-0-test (c.in-Ok-true.ensures.sent s is) in
     sent_rows k s c.args.incoming.now c.args.catalog.now.founding c.read_rows.result is.founding sent (c.read_rows.ensures.told clean k s was)
 
 pub returns-in-Err-clause-from : goal.returns-in-Err-clause-from
@@ -26,4 +27,4 @@ returns-in-Err-clause-reads g c = reads_none (state g.D.Store c.args.store.now)
 
 pub returns-in-Err-clause-forged : goal.returns-in-Err-clause-forged
 returns-in-Err-clause-forged g c =
-    refused_unread (refused_by (g.K.Scheme.rules c.args.scheme.now) c.args.catalog.now.primaries c.args.incoming.now) c.args.store.now c.in-Err.refusal c.in-Err.ensures.forged
+    refused_unread Bool VehicleRows (refused_by (g.K.Scheme.rules c.args.scheme.now) c.args.catalog.now.primaries c.args.incoming.now) c.args.store.now c.in-Err.refusal c.in-Err.ensures.forged
