@@ -76,7 +76,7 @@ unfolding check_sent
 test_same k v incoming e primary there is =
     primary_same k v incoming
     ∙ ap (λ (o : Option NewEcu). unless (bytes_eq incoming.manifest.primary v.primary) WrongPrimary
-        >>= (λ _. unless (unwrap_or (option_map (λ (e : NewEcu). is_accepted k (e.public ∷ []) 1 incoming.envelope) o) false) BadManifestSignature)) there
+    >>= (λ _. unless (unwrap_or (option_map (λ (e : NewEcu). is_accepted k (e.public ∷ []) 1 incoming.envelope) o) false) BadManifestSignature)) there
     ∙ ap (λ (p : Primary). check_sent k p incoming) is
 
 tested_by : (k : Rules) (s : State) (incoming : Incoming) (f : Founding) (primary : Primary) → founding_row s ≡ Some f → primary_of s incoming.manifest.vehicle ≡ Some primary
