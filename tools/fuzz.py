@@ -9,7 +9,7 @@ each. All have to print what `tools/reference.py` prints
 by the rules, and each file has to have its rows. Where they differ, the seed and the first line are told.
 
 With `bodies` each seed delivers a hundred manifests of one vehicle over memory: in the form in which Primaries write
-them, and with one change each, before an ECU signs, before the Primary signs, or in the whole body.
+them, and with one change each, before an ECU signs, before the Primary signs, in the whole body, or in the line itself.
 """
 import json
 import random
@@ -374,12 +374,17 @@ class Bodies:
         whole = sealed(self.ecus[0][2], changed(self.rng, signed) if where == "manifest" else signed)
         return changed(self.rng, whole) if where == "body" else whole
 
+    def line(self, counter):
+        """One of five is changed too, but stays one line."""
+        line = fleet.line("deliver", body=self.body(counter))
+        return changed(self.rng, line).replace("\n", " ") if counter > 1 and self.rng.random() < 0.2 else line
+
     def made(self):
         ecus = [{"ecu": ecu, "hardware": kind, "key": key} for ecu, kind, key in self.ecus]
         yield fleet.line("found", **fleet.key_set(1))
         yield fleet.line("add_vehicle", vehicle="V", primary="E0", ecus=ecus)
         for counter in range(1, self.NUMBER + 1):
-            yield fleet.line("deliver", body=self.body(counter))
+            yield self.line(counter)
             yield fleet.line("show", vehicle="V")
 
 

@@ -8,14 +8,16 @@ ghost use Rattle.up_canon.specs.Steps.{or_error};
 ghost use Rattle.up_canon.specs.declared.refusal.Refusal.TheVariants.{NotJson};
 ghost use Rattle.up_script.specs.AskedLines.{asked_in, asked_of, asks_running};
 
+use crate::plain_line::plain_delivery;
 use crate::what::what_at;
 use crate::word::word_at;
 use serde_json::{Map, Value};
 use std::alloc::Global;
+use std::str;
 use up_canon::count::Count;
 use up_canon::fields::count_at;
 use up_canon::ident::Ident;
-use up_canon::json_text::value_within;
+use up_canon::json_text::value_of_text;
 use up_canon::kinds::object_of;
 use up_canon::refusal::Refusal;
 use up_machine::command::Command;
@@ -39,8 +41,22 @@ pub enum What {
 
 /// What a line asks, or its first fault: that it is no JSON, then of `do`, `at` and the members of its word, in this order.
 /// A `bench` line has a signed manifest delivered.
-#[tactic(auto, unfolding(crate::specs::AskedLines::asked_in, up_canon::specs::Steps::and_then))]
 pub fn asked_by<K: Scheme>(alloc: Global, scheme: &K, line: &[u8]) -> Result<Asked, Refusal>
+    ensures value { Gives result (asked_in (K.rules scheme.now) line.now) }
+    ensures running { IfOk result (λ asked. IsTrue (asks_running asked.what)) }
+{
+    let Ok(text) = str::from_utf8(line) else {
+        return Err(Refusal::NotJson);
+    };
+    if let Some(asked) = plain_delivery(alloc, text) {
+        return Ok(asked);
+    }
+    asked_of_json(alloc, scheme, text)
+}
+
+/// The same of a text of any form, by the tree of its values.
+#[tactic(auto, unfolding(crate::specs::AskedLines::asked_in, up_canon::specs::Steps::and_then))]
+fn asked_of_json<K: Scheme>(alloc: Global, scheme: &K, line: &str) -> Result<Asked, Refusal>
     ensures value { Gives result (asked_in (K.rules scheme.now) line.now) }
     ensures running { IfOk result (λ asked. IsTrue (asks_running asked.what)) }
 {
@@ -64,9 +80,8 @@ fn asked_at<K: Scheme>(
     Ok(Asked { at, what })
 }
 
-#[tactic(auto, unfolding(up_canon::specs::JsonText::value_within, up_canon::specs::Steps::and_then))]
-fn line_value(alloc: Global, line: &[u8]) -> Result<Value, Refusal>
+fn line_value(alloc: Global, line: &str) -> Result<Value, Refusal>
     ensures { GivesAs view result (or_error NotJson (value_in line.now)) }
 {
-    value_within(alloc, line, line.len())
+    value_of_text(alloc, line)
 }

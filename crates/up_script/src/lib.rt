@@ -7,6 +7,7 @@ pub mod campaign_line;
 pub mod image_line;
 pub mod key_line;
 pub mod optional;
+mod plain_line;
 pub mod printed;
 pub mod vehicle_line;
 mod what;

@@ -1,0 +1,44 @@
+-- Texts in which a backslash stands before each quote and each backslash, read up to the next of them.
+use Rattle.std.proofs.Common.{◌≡◌, ℕ, zero, suc, ◌≤◌, List, [], ◌∷◌, ◌++◌, Bool, true, false, cond, length, take, refl, sym, ap, ap₂, ◌∙◌, arith}
+use Rattle.std.specs.Prelude.{◌||◌, ◌==◌, flat_map}
+use Rattle.std.proofs.lemmas.Grind.{flat_map-append}
+use Rattle.memchr.specs.Find.{is_byte2, Passes, Nowhere}
+use Rattle.up_canon.specs.Canon.{escaped}
+use Rattle.up_manifest.proofs.PlainTexts.{escaped-more}
+
+-- a quote or a backslash
+abbrev pub is_special : ℕ → Bool
+is_special = is_byte2 34 92
+
+escaped_itself : (x : ℕ) → (is_special x ≡ true → ⊥) → escaped x ≡ x ∷ []
+escaped_itself x other = by_test ((x == 34) || (x == 92)) other
+  where
+    by_test : (b : Bool) → (b ≡ true → ⊥) → cond b (92 ∷ x ∷ []) (x ∷ []) ≡ x ∷ []
+    by_test true other = absurd (other refl)
+    by_test false other = refl
+
+-- bytes in front of the first such one stand for themselves
+pub front_itself : (bytes : List ℕ) (n : ℕ) → n ≤ length bytes → Nowhere (Passes is_special bytes) 0 n → flat_map escaped (take n bytes) ≡ take n bytes
+front_itself bytes zero short none = refl
+front_itself [] (suc n) short none = refl
+front_itself (x ∷ bytes) (suc n) short none =
+    ap₂ (λ (a b : List ℕ). a ++ b) (escaped_itself x (none 0 (omega arith) (omega arith)))
+    (front_itself bytes n (omega arith) (λ j low high passes. none (suc j) (omega arith) (omega arith) passes))
+
+-- and so do all where there is none
+pub all_itself : (bytes : List ℕ) → Nowhere (Passes is_special bytes) 0 (length bytes) → flat_map escaped bytes ≡ bytes
+all_itself [] none = refl
+all_itself (x ∷ bytes) none =
+    ap₂ (λ (a b : List ℕ). a ++ b) (escaped_itself x (none 0 (omega arith) (omega arith)))
+    (all_itself bytes (λ j low high passes. none (suc j) (omega arith) (omega arith) passes))
+
+-- a piece that stands for itself, and one more byte behind it
+pub escape-more : (before direct special left : List ℕ) → flat_map escaped direct ≡ direct
+    → flat_map escaped before ++ (direct ++ (flat_map escaped special ++ left)) ≡ flat_map escaped ((before ++ direct) ++ special) ++ left
+escape-more before direct special left itself =
+    let rest = flat_map escaped special ++ left in
+    ap (λ t. flat_map escaped before ++ (t ++ rest)) (sym itself) ∙ escaped-more before direct rest ∙ escaped-more (before ++ direct) special left
+
+-- the last piece
+pub last-more : (before last : List ℕ) → flat_map escaped last ≡ last → flat_map escaped before ++ last ≡ flat_map escaped (before ++ last)
+last-more before last itself = ap (λ t. flat_map escaped before ++ t) (sym itself) ∙ sym (flat_map-append escaped before last)
