@@ -1,6 +1,6 @@
 -- What a desk stands on: the connection to its tables, and what it keeps of them in memory. The tables show a state to a desk where they
 -- show it, and what the desk keeps is of that state. A new desk keeps nothing, so to it they show what they show.
-use Rattle.std.specs.Prelude.{◌≡◌, ⊤, Bool, true, false, MatchBool, if◌then◌else◌, Option, Some, None, Result, IfSome, IsTrue}
+use Rattle.std.specs.Prelude.{◌≡◌, ⊤, Bool, true, false, MatchBool, if◌then◌else◌, Option, Some, None, Result, IsTrue}
 use Rattle.std.specs.FinMap as table
 use Rattle.sqlite.specs.Held.{Held}
 use Rattle.sqlite.specs.Held as holding

@@ -149,7 +149,12 @@ fn test_by_rows<K: Scheme>(
     keep_primary(keys, alloc, rows);
     match decide_sender(scheme, incoming, Some(&catalog.founding), Some(rows), keys) {
         Ok(_) => {
-            keep_sender(&mut catalog.primaries, alloc, &incoming.manifest.vehicle, rows);
+            keep_sender(
+                &mut catalog.primaries,
+                alloc,
+                &incoming.manifest.vehicle,
+                rows,
+            );
             Ok(())
         }
         Err(refusal) => Err(refusal),

@@ -1,5 +1,5 @@
--- Who sent a manifest, told by its vehicle's Primary alone. No delivery changes a Primary or its key, so what was once read of them serves
--- until a vehicle is added or an ECU replaced.
+-- Who sent a manifest, told by its vehicle's Primary alone. No delivery changes a Primary or its key, so what was once read of them holds
+-- over deliveries.
 use Rattle.std.specs.Prelude.{◌≡◌, ℕ, List, [], ◌∷◌, Option, option_map, option_and_then, bytes_eq, ⊤, Result, Ok, Err}
 use Rattle.std.specs.FinMap as table
 use Rattle.up_canon.specs.Names.{Name}

@@ -50,8 +50,7 @@ pub fn retired_stay_retired()
     body_laws();
 }
 
-/// Whatever is delivered, every vehicle keeps its Primary, and the Primary its key. So what was once read of them stays true until an
-/// operator adds a vehicle or replaces an ECU.
+/// Whatever is delivered, every vehicle keeps its Primary, and the Primary its key. So what was once read of them stays true.
 pub fn deliveries_keep_primaries()
     ensures { DeliveriesKeepPrimaries }
 {}
