@@ -9,7 +9,7 @@
     speed.py PROGRAM growth         how a manifest's time grows with kept replies, images, campaigns that run or are closed, vehicles
     speed.py PROGRAM growth_counts  the same in instructions, over files
     speed.py PROGRAM senders        instructions of a fresh, a repeated, a stale and a forged manifest of 4 ECUs, over files with so many
-                                    campaigns and images, behind a first manifest
+                                    campaigns and images, behind a manifest of the same vehicle; and of a forged one behind one of another
     speed.py PROGRAM loading        what the first manifest behind a start takes more, over such files, and what stays in memory
     speed.py PROGRAM start          processor seconds and memory of a start over files of so many kept replies
     speed.py PROGRAM sums           instructions of a start and of a manifest over files with and without sums of pages
@@ -335,17 +335,16 @@ FILES = {
 
 
 def senders(program, own, lines=100):
-    """Counters 1 and 3 are accepted first, so that 2 is stale and 4 is fresh."""
+    """Counters 1 and 3 are accepted first, so that 2 is stale and 4 is fresh. Before the lines that are counted each vehicle's first
+    manifest comes again; before the last kind that of one vehicle alone."""
     told = [list(manifests(100, lines, counter, 4)) for counter in (1, 2, 3, 4)]
-    signed = [forged(line) for line in told[3]]
-    kinds = {"fresh": (told[3], b"reply "), "repeat": (told[0], b"reply "),
-             "stale": (told[1], b"refused 13 "), "forged": (signed, b"refused 12 ")}
+    signed, met = [forged(line) for line in told[3]], told[0]
+    kinds = [(told[3], met, b"reply "), (told[0], met, b"reply "), (told[1], met, b"refused 13 "), (signed, met, b"refused 12 "),
+             (signed, met[:1], b"refused 12 ")]
     for name, words in FILES.items():
         path = own / name
         assert trials.printed(program, path, [*prepared(**words), *told[0], *told[2]], 3600) is not None
-        taken = []
-        for script, answered in kinds.values():
-            taken.append(alone(program, trials.copied(path, own / "next"), script, told[0][:1], answered))
+        taken = [alone(program, trials.copied(path, own / "next"), *kind) for kind in kinds]
         print("| %s | %s |" % (name, " | ".join(map(str, taken))), flush=True)
 
 
