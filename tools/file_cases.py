@@ -53,6 +53,15 @@ def modes(program, own):
     path = own / "empty"
     path.touch(0o640)
     yield "an empty file is taken", trials.printed(program, path, DAY[:1]) == ["done"]
+    # a new file by its name alone, in the working folder; and one by a URI, of which nothing may be left there
+    there = os.getcwd()
+    os.chdir(own)
+    try:
+        yield "a new file in the working folder", trials.printed(program, "alone", DAY[:1]) == ["done"] and mode("alone") == 0o600
+        yield "a URI is refused", trials.run(program, "file:named", DAY[:1]) == (3, b"", trials.NO_DATABASE)
+        yield "and no file is made of it", not [name for name in os.listdir() if "named" in name]
+    finally:
+        os.chdir(there)
     (own / "link").symlink_to("nowhere")
     yield "a link to nothing is refused", trials.run(program, own / "link", DAY[:1]) == (3, b"", trials.NO_DATABASE)
     (own / "folder").mkdir()
@@ -311,4 +320,4 @@ def cases(program, number=100):
 if __name__ == "__main__":
     if len(sys.argv) not in (2, 3):
         sys.exit(__doc__)
-    sys.exit(trials.judged("file", cases(sys.argv[1], *map(int, sys.argv[2:]))))
+    sys.exit(trials.judged("file", cases(os.path.abspath(sys.argv[1]), *map(int, sys.argv[2:]))))

@@ -13,8 +13,8 @@ the disk failed, `refused 2 Store`; or the program stops with its message. After
 has the row's answer and the row goes on, or a fault has shut the file, and each later line is answered `Store`, or refused as
 the row has it. Then the file has to have the rows that
 `tools/reference.py` makes of just the lines that were answered, or of the next one too; the rest of the row is carried out
-over it by a new start, and has to end as the row does. Each goes over an empty file. One more row, of manifests alone, is
-carried out over a file that has what comes before its first manifest: images, running campaigns and a closed one, which the
+over it by a new start, and has to end as the row does. Each goes over a new file, which has to be its owner's alone. One more
+row, of manifests alone, is carried out over a file that has what comes before its first manifest: images, running campaigns and a closed one, which the
 first manifest reads and the next ones don't. `disk` goes over a large one too, of which no call of the start is made to fail: there
 the first manifest reads from the disk. And two of the rows are carried out again over files of older schemas, which have
 what the row does up to its first manifest: they stay of their schema until they are of the page's. `older` is `memory` over
@@ -28,6 +28,7 @@ import hashlib
 import json
 import os
 import sqlite3
+import stat
 import subprocess
 import sys
 from contextlib import closing
@@ -120,6 +121,10 @@ class Row:
         except sqlite3.DatabaseError:
             return None
 
+    def is_private(self, path):
+        """Whether the file and its log, where they were made, are their owner's alone."""
+        return all(stat.S_IMODE(part.stat().st_mode) == 0o600 for part in (path, trials.log_of(path)) if part.exists())
+
 
 class Begun(Row):
     """A row from its first manifest on, over a file that has what comes before it; or has that one too, so that it is given again."""
@@ -136,6 +141,9 @@ class Begun(Row):
     def begin(self, path):
         super().begin(path)
         trials.copied(self.begun, path)
+
+    def is_private(self, path):
+        return True
 
 
 class Large(Begun):
@@ -248,6 +256,8 @@ def tried(program, row, failing, kind, path):
     count, well = answered(it, row, kind, path)
     if not ended(it, count) or not well:
         return "another answer or end after %d lines" % count
+    if not row.is_private(path):
+        return "a file that others may open after %d lines" % count
     if not failing.failed():
         return None
     at = found(path, row, count)

@@ -1,6 +1,6 @@
 //! Opening a database file.
 
-ghost use Rattle.std.specs.Prelude.{◌≡◌, ◌≢◌, false, true, IfOk, IfErr, codes, Err};
+ghost use Rattle.std.specs.Prelude.{◌≡◌, ◌≢◌, ◌++◌, ℕ, List, false, true, IfOk, IfErr, codes, Err};
 ghost use Rattle.sqlite.specs.Files.{file_state, IsBlankAs, IsOpened};
 ghost use Rattle.sqlite.specs.Start.{FindsIn};
 ghost use Rattle.sqlite.specs.State.{HasCleanDisk};
@@ -38,6 +38,7 @@ pub fn open_file<S: Start>(
     ensures shielded { IfOk result (λ c. HasCleanDisk (file_state c) → (file_state c).IsShielded) }
     ensures fault { IfErr result (λ e. e ≢ NotOurs) }
     ensures memory { path.now ≡ codes ":memory:" → result ≡ Err OpenFault.Store }
+    ensures uri { (rest : List ℕ) → path.now ≡ codes "file:" ++ rest → result ≡ Err OpenFault.Store }
 {
     if path == ":memory:" || path.starts_with("file:") {
         return Err(OpenFault::Store);
