@@ -47,7 +47,7 @@ insert_is = (refl, (refl, refl))
 
 pub campaign_inserts : (r : Result ℕ Error) (old new : State) (c : CampaignRow) → Survives old new (λ _. ⊥) → IfClean IsInside old
     → (HasCleanDisk new → IsTrue old.in_transaction → ExecutesInside 0 insert_campaign_text (campaign_row c) old new r)
-    → HasCleanDisk new → OnOk r ((rows_of : List ℕ → List Row) → HasTables old → Lists 1 rows_of (old.now.trees 7) → Alters campaign_table (Lists 1 (with_row (string_bytes c.name) (campaign_row c) rows_of)) old new)
+    → HasCleanDisk new → OnOk r ((rows_of : List ℕ → List Row) → HasTables old → Lists 1 rows_of (old.now.trees campaign_table.tree) → Alters campaign_table (Lists 1 (with_row (string_bytes c.name) (campaign_row c) rows_of)) old new)
 campaign_inserts r old new c survives inside ran clean =
     listed_in campaign_table 1 (string_bytes c.name) (campaign_row c) old new r (λ x n. text_is (string_bytes c.name) n)
     (inserts_in insert_campaign_text 4 campaign_table (given 4) 5 (campaign_row c) (campaign_row c) insert_is.0 insert_is.1 refl refl (append-nil _) refl (casts c) r old new survives inside ran clean)
@@ -72,7 +72,7 @@ find_is = (refl, refl, (refl, refl))
 
 pub finds_campaign : {X : Type 0} (items : X → List Row) (answer : Result X Error) (r : Result (Option CampaignRow) StoreFault) (old new : State) (name : List ℕ)
     → IfOk r (λ found. IsOkAnd answer (λ v. map part (items v) ≡ map campaign_row (option_to_list found))) → IfOk answer (λ v. Shown find_campaign_text (Text name ∷ []) old new (items v))
-    → IfOk r (λ found. (rows_of : List ℕ → List Row) → HasTables old → Lists 1 rows_of (old.now.trees 7) → map part (rows_of name) ≡ map campaign_row (option_to_list found))
+    → IfOk r (λ found. (rows_of : List ℕ → List Row) → HasTables old → Lists 1 rows_of (old.now.trees campaign_table.tree) → map part (rows_of name) ≡ map campaign_row (option_to_list found))
 finds_campaign items answer r old new name h ran =
     named_in items campaign_table 0 find_campaign_text (all_columns 4) names part campaign_row name find_is (λ db. refl) (shows (Text name ∷ [])) (λ x. refl) answer r old new h ran
 
@@ -88,7 +88,7 @@ running_is = (refl, refl, (refl, refl))
 
 pub finds_running : {X R : Type 0} (items : X → List Row) (list : R → List CampaignRow) (answer : Result X Error) (r : Result R StoreFault) (old new : State)
     → IfOk r (λ found. IsOkAnd answer (λ v. map part (items v) ≡ map campaign_row (list found))) → IfOk answer (λ v. Shown running_text [] old new (items v))
-    → IfOk r (λ found. (rows_of : List ℕ → List Row) → HasTables old → Lists 1 rows_of (old.now.trees 7)
+    → IfOk r (λ found. (rows_of : List ℕ → List Row) → HasTables old → Lists 1 rows_of (old.now.trees campaign_table.tree)
     → (name : List ℕ) → map part (filter (has_number 3 (pos 1)) (rows_of name)) ≡ map campaign_row (filter (λ c. bytes_eq (string_bytes c.name) name) (list found)))
 finds_running items list answer r old new h ran =
     all_in items list campaign_table running_text part campaign_row (λ c. string_bytes c.name) (has_number 3 (pos 1)) (λ x. refl) (λ x n. refl) (λ x n. text_is (string_bytes x.name) n) answer r old new

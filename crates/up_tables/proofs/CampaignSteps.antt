@@ -65,21 +65,21 @@ update_rows db name reach items running id rows listed there h =
 -- in a transaction: the row of a campaign that is listed says that it doesn't run
 pub closes_in : (r : Result ℕ Error) (old new : State) (name : List ℕ) → Survives old new (λ _. ⊥) → IfClean IsInside old
     → (HasCleanDisk new → IsTrue old.in_transaction → ExecutesInside 0 close_text (Text name ∷ []) old new r)
-    → HasCleanDisk new → OnOk r ((rows_of : List ℕ → List Row) (reach items : List ℕ) (running : ℤ) → HasTables old → Lists 1 rows_of (old.now.trees 7) → rows_of name ≡ campaign_line name reach items running ∷ []
+    → HasCleanDisk new → OnOk r ((rows_of : List ℕ → List Row) (reach items : List ℕ) (running : ℤ) → HasTables old → Lists 1 rows_of (old.now.trees campaign_table.tree) → rows_of name ≡ campaign_line name reach items running ∷ []
     → Alters campaign_table (Lists 1 (with_only name (campaign_line name reach items (pos 0)) rows_of)) old new)
 closes_in r old new name survives inside ran clean = then_ok r closes (run_in close_text (Text name ∷ []) old new r survives inside ran clean)
   where
-    closes : IsRun close_text (Text name ∷ []) old new → (rows_of : List ℕ → List Row) (reach items : List ℕ) (running : ℤ) → HasTables old → Lists 1 rows_of (old.now.trees 7) → rows_of name ≡ campaign_line name reach items running ∷ []
+    closes : IsRun close_text (Text name ∷ []) old new → (rows_of : List ℕ → List Row) (reach items : List ℕ) (running : ℤ) → HasTables old → Lists 1 rows_of (old.now.trees campaign_table.tree) → rows_of name ≡ campaign_line name reach items running ∷ []
         → Alters campaign_table (Lists 1 (with_only name (campaign_line name reach items (pos 0)) rows_of)) old new
     closes run rows_of reach items running has lists is =
-        let rows = old.now.trees 7 in
+        let rows = old.now.trees campaign_table.tree in
         let was = campaign_line name reach items running in
         let row = campaign_line name reach items (pos 0) in
         let listed = lists.parts name ∙ is in
         let it = row_in 1 name rows was lists.shaped (subst (λ xs. Has xs was) (sym listed) (inl refl)) in
         let done = updates_row up_schema close_text 4 campaign_table program (Text name ∷ []) close_is.0 close_is.1 refl (idle 7) old new run.count it.0 row (has run.was_open).schema_is (casts it.0 name reach items (pos 0))
         (λ rows. update_rows old.now.trees name reach items running it.0 rows listed it.1) run.went in
-        let now : Lists 1 (with_only name row rows_of) (new.now.trees 7) = record {
+        let now : Lists 1 (with_only name row rows_of) (new.now.trees campaign_table.tree) = record {
           shaped = subst (IsShaped Table) (sym done.rows) (rewritten_shaped it.0 was row rows lists.shaped it.1);
           parts = λ n. ap (rows_with 1 n) done.rows ∙ rewritten_parts it.0 was row rows lists.shaped it.1 1 name rows_of (λ n. text_is name n) (λ n. text_is name n) lists.parts is n;
         } in

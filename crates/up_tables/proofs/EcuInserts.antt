@@ -31,7 +31,7 @@ insert_is = (refl, (refl, refl))
 
 pub ecu_inserts : (r : Result ℕ Error) (old new : State) (e : EcuLine) → IsKept e → Survives old new (λ _. ⊥) → IfClean IsInside old
     → (HasCleanDisk new → IsTrue old.in_transaction → ExecutesInside 0 insert_ecu_text (ecu_row e) old new r)
-    → HasCleanDisk new → OnOk r ((rows_of : List ℕ → List Row) → HasTables old → Lists 2 rows_of (old.now.trees 11) → Alters ecu_table (Lists 2 (with_row e.vehicle (ecu_row e) rows_of)) old new)
+    → HasCleanDisk new → OnOk r ((rows_of : List ℕ → List Row) → HasTables old → Lists 2 rows_of (old.now.trees ecu_table.tree) → Alters ecu_table (Lists 2 (with_row e.vehicle (ecu_row e) rows_of)) old new)
 ecu_inserts r old new e kept survives inside ran clean =
     listed_in ecu_table 2 e.vehicle (ecu_row e) old new r (λ x n. text_is e.vehicle n)
     (inserts_in insert_ecu_text 6 ecu_table terms 11 (ecu_row e) (ecu_row e) insert_is.0 insert_is.1 refl refl (append-nil _) refl (casts Null e kept cast_null) r old new survives inside ran clean)
@@ -40,7 +40,7 @@ ecu_inserts r old new e kept survives inside ran clean =
 
 -- what a loop over the ECUs has put in when it comes to one of them
 abbrev pub PutSoFar : List ℕ → List EcuLine → ℕ → State → State → Type 0
-PutSoFar vehicle es i old new = (rows_of : List ℕ → List Row) → HasTables old → Lists 2 rows_of (old.now.trees 11)
+PutSoFar vehicle es i old new = (rows_of : List ℕ → List Row) → HasTables old → Lists 2 rows_of (old.now.trees ecu_table.tree)
     → Alters ecu_table (Lists 2 (changed_at vehicle (λ were. were ++ map ecu_row (take i es)) rows_of)) old new
 
 none_more : (vehicle : List ℕ) (es : List EcuLine) (rows_of : List ℕ → List Row) (n : List ℕ) → rows_of n ≡ changed_at vehicle (λ were. were ++ map ecu_row (take 0 es)) rows_of n
@@ -68,17 +68,17 @@ one_more vehicle es i e rows_of there n = go (bytes_eq vehicle n)
     go false = refl
 
 pub none_put : (vehicle : List ℕ) (es : List EcuLine) (s : State) → IsInside s → IsOpen s → PutSoFar vehicle es 0 s s
-none_put vehicle es s inside is_open rows_of has lists = alters_none ecu_table _ s inside is_open has (lists_same 2 rows_of _ (s.now.trees 11) (none_more vehicle es rows_of) lists)
+none_put vehicle es s inside is_open rows_of has lists = alters_none ecu_table _ s inside is_open has (lists_same 2 rows_of _ (s.now.trees ecu_table.tree) (none_more vehicle es rows_of) lists)
 
 pub next_put : (vehicle : List ℕ) (es : List EcuLine) (i : ℕ) (e : EcuLine) (old mid new : State) → slice_get es i ≡ Some e → PutSoFar vehicle es i old mid
-    → ((rows_of : List ℕ → List Row) → HasTables mid → Lists 2 rows_of (mid.now.trees 11) → Alters ecu_table (Lists 2 (with_row vehicle (ecu_row e) rows_of)) mid new)
+    → ((rows_of : List ℕ → List Row) → HasTables mid → Lists 2 rows_of (mid.now.trees ecu_table.tree) → Alters ecu_table (Lists 2 (with_row vehicle (ecu_row e) rows_of)) mid new)
     → PutSoFar vehicle es (i + 1) old new
 next_put vehicle es i e old mid new there so_far puts rows_of has lists =
     let before = so_far rows_of has lists in
     let after = puts _ (has_after ecu_table _ old mid before) before.rows in
     let same : suc i ≡ i + 1 = omega arith in
     alters_to ecu_table _ _ old new
-    (λ rows. subst (λ k. Lists 2 (changed_at vehicle (λ were. were ++ map ecu_row (take k es)) rows_of) (new.now.trees 11)) same (lists_same 2 _ _ (new.now.trees 11) (one_more vehicle es i e rows_of there) rows))
+    (λ rows. subst (λ k. Lists 2 (changed_at vehicle (λ were. were ++ map ecu_row (take k es)) rows_of) (new.now.trees ecu_table.tree)) same (lists_same 2 _ _ (new.now.trees ecu_table.tree) (one_more vehicle es i e rows_of there) rows))
     (alters_then ecu_table _ _ old mid new before after)
 
 pub take_whole : {X : Type 0} (xs : List X) → take (length xs) xs ≡ xs
@@ -86,7 +86,7 @@ take_whole [] = refl
 take_whole (x ∷ xs) = ap (λ ys. x ∷ ys) (take_whole xs)
 
 pub all_put : (vehicle : List ℕ) (es : List EcuLine) (i : ℕ) (old new : State) → i ≡ length es → PutSoFar vehicle es i old new
-    → (rows_of : List ℕ → List Row) → HasTables old → Lists 2 rows_of (old.now.trees 11) → Alters ecu_table (Lists 2 (changed_at vehicle (λ were. were ++ map ecu_row es) rows_of)) old new
+    → (rows_of : List ℕ → List Row) → HasTables old → Lists 2 rows_of (old.now.trees ecu_table.tree) → Alters ecu_table (Lists 2 (changed_at vehicle (λ were. were ++ map ecu_row es) rows_of)) old new
 all_put vehicle es i old new end so_far rows_of has lists =
     let whole : take i es ≡ es = ap (λ k. take k es) end ∙ take_whole es in
     subst (λ xs. Alters ecu_table (Lists 2 (changed_at vehicle (λ were. were ++ map ecu_row xs) rows_of)) old new) whole (so_far rows_of has lists)

@@ -23,11 +23,11 @@ use Rattle.up_tables.proofs.EcuSteps.{row_in, keyed_id, upserts_ecu}
 
 -- ---- one row
 
-sets_ecu : (old new : State) (e was : EcuLine) (rows_of : List ℕ → List Row) (count : ℕ) → old.now.schema ≡ up_schema → IsDatabase old.now → IsKept e → IsRecorded e was rows_of (old.now.trees 11)
+sets_ecu : (old new : State) (e was : EcuLine) (rows_of : List ℕ → List Row) (count : ℕ) → old.now.schema ≡ up_schema → IsDatabase old.now → IsKept e → IsRecorded e was rows_of (old.now.trees ecu_table.tree)
     → Executes upsert_ecu_text (ecu_row e) old new (Ok count)
-    → (new.now.schema ≡ up_schema) × IsDatabase new.now × Lists 2 (set_ecu e rows_of) (new.now.trees 11) × AllByRecursion (λ t. t.tree ≢ 11 → new.now.trees t.tree ≡ old.now.trees t.tree) up_schema.tables
+    → (new.now.schema ≡ up_schema) × IsDatabase new.now × Lists 2 (set_ecu e rows_of) (new.now.trees ecu_table.tree) × AllByRecursion (λ t. t.tree ≢ 11 → new.now.trees t.tree ≡ old.now.trees t.tree) up_schema.tables
 sets_ecu old new e was rows_of count has sound kept recorded h =
-    let rows = old.now.trees 11 in
+    let rows = old.now.trees ecu_table.tree in
     let lists = recorded.lists in
     let alike = recorded.same in
     let it = row_in 2 e.vehicle rows (ecu_row was) lists.shaped (subst (λ xs. Has xs (ecu_row was)) (sym (lists.parts e.vehicle)) recorded.there) in
@@ -50,10 +50,10 @@ sets_ecu old new e was rows_of count has sound kept recorded h =
 -- in a transaction
 pub sets_in : (r : Result ℕ Error) (old new : State) (e : EcuLine) → IsKept e → Survives old new (λ _. ⊥) → IfClean IsInside old
     → (HasCleanDisk new → IsTrue old.in_transaction → ExecutesInside 0 upsert_ecu_text (ecu_row e) old new r)
-    → HasCleanDisk new → OnOk r ((rows_of : List ℕ → List Row) (was : EcuLine) → HasTables old → IsRecorded e was rows_of (old.now.trees 11) → Alters ecu_table (Lists 2 (set_ecu e rows_of)) old new)
+    → HasCleanDisk new → OnOk r ((rows_of : List ℕ → List Row) (was : EcuLine) → HasTables old → IsRecorded e was rows_of (old.now.trees ecu_table.tree) → Alters ecu_table (Lists 2 (set_ecu e rows_of)) old new)
 sets_in r old new e kept survives inside ran clean = then_ok r sets (run_in upsert_ecu_text (ecu_row e) old new r survives inside ran clean)
   where
-    sets : IsRun upsert_ecu_text (ecu_row e) old new → (rows_of : List ℕ → List Row) (was : EcuLine) → HasTables old → IsRecorded e was rows_of (old.now.trees 11) → Alters ecu_table (Lists 2 (set_ecu e rows_of)) old new
+    sets : IsRun upsert_ecu_text (ecu_row e) old new → (rows_of : List ℕ → List Row) (was : EcuLine) → HasTables old → IsRecorded e was rows_of (old.now.trees ecu_table.tree) → Alters ecu_table (Lists 2 (set_ecu e rows_of)) old new
     sets run rows_of was has recorded =
         let here = has run.was_open in
         let done = sets_ecu old new e was rows_of run.count here.schema_is here.sound kept recorded run.went in
@@ -137,15 +137,15 @@ own_rows vehicle f rows_of = rw (own_text vehicle) refl
 
 -- what a loop over the ECUs has done when it comes to one of them
 abbrev pub SetSoFar : List ℕ → List EcuLine → ℕ → State → State → Type 0
-SetSoFar vehicle es i old new = (rows_of : List ℕ → List Row) (olds : List EcuLine) → HasTables old → AreRecorded vehicle es olds rows_of (old.now.trees 11)
+SetSoFar vehicle es i old new = (rows_of : List ℕ → List Row) (olds : List EcuLine) → HasTables old → AreRecorded vehicle es olds rows_of (old.now.trees ecu_table.tree)
     → Alters ecu_table (Lists 2 (set_first vehicle es olds i rows_of)) old new
 
 pub none_set : (vehicle : List ℕ) (es : List EcuLine) (s : State) → IsInside s → IsOpen s → SetSoFar vehicle es 0 s s
 none_set vehicle es s inside is_open rows_of olds has recorded =
-    alters_none ecu_table _ s inside is_open has (lists_same 2 rows_of (set_first vehicle es olds 0 rows_of) (s.now.trees 11) (first_same vehicle es olds rows_of recorded.there) recorded.lists)
+    alters_none ecu_table _ s inside is_open has (lists_same 2 rows_of (set_first vehicle es olds 0 rows_of) (s.now.trees ecu_table.tree) (first_same vehicle es olds rows_of recorded.there) recorded.lists)
 
 pub next_set : (vehicle : List ℕ) (es : List EcuLine) (i : ℕ) (e : EcuLine) (old mid new : State) → e.vehicle ≡ vehicle → slice_get es i ≡ Some e → SetSoFar vehicle es i old mid
-    → ((rows_of : List ℕ → List Row) (was : EcuLine) → HasTables mid → IsRecorded e was rows_of (mid.now.trees 11) → Alters ecu_table (Lists 2 (set_ecu e rows_of)) mid new)
+    → ((rows_of : List ℕ → List Row) (was : EcuLine) → HasTables mid → IsRecorded e was rows_of (mid.now.trees ecu_table.tree) → Alters ecu_table (Lists 2 (set_ecu e rows_of)) mid new)
     → SetSoFar vehicle es (suc i) old new
 next_set vehicle es i e old mid new own there so_far sets rows_of olds has recorded =
     let before = so_far rows_of olds has recorded in
@@ -153,7 +153,7 @@ next_set vehicle es i e old mid new own there so_far sets rows_of olds has recor
     let here : Has (set_first vehicle es olds i rows_of e.vehicle) (ecu_row was.0) =
     subst (λ v. Has (set_first vehicle es olds i rows_of v) (ecu_row was.0)) (sym own) (subst (λ xs. Has xs (ecu_row was.0)) (sym (own_rows vehicle (λ _. map ecu_row (take i es ++ drop i olds)) rows_of)) was.1) in
     let after = sets (set_first vehicle es olds i rows_of) was.0 (has_after ecu_table _ old mid before) (record { lists = before.rows; there = here; same = was.2 }) in
-    alters_to ecu_table _ _ old new (lists_same 2 (set_ecu e (set_first vehicle es olds i rows_of)) (set_first vehicle es olds (suc i) rows_of) (new.now.trees 11) (next_same vehicle es olds e i rows_of own recorded.same recorded.distinct there))
+    alters_to ecu_table _ _ old new (lists_same 2 (set_ecu e (set_first vehicle es olds i rows_of)) (set_first vehicle es olds (suc i) rows_of) (new.now.trees ecu_table.tree) (next_same vehicle es olds e i rows_of own recorded.same recorded.distinct there))
     (alters_then ecu_table _ _ old mid new before after)
 
 all_set : (os es : List EcuLine) → AreSameEcus os es → take (length es) es ++ drop (length es) os ≡ es
@@ -163,10 +163,10 @@ all_set (o ∷ os) [] same = absurd same
 all_set (o ∷ os) (e ∷ es) same = ap (λ xs. e ∷ xs) (all_set os es same.1)
 
 pub set_all : (vehicle : List ℕ) (es : List EcuLine) (i : ℕ) (old new : State) → i ≡ length es → SetSoFar vehicle es i old new
-    → (rows_of : List ℕ → List Row) (olds : List EcuLine) → HasTables old → AreRecorded vehicle es olds rows_of (old.now.trees 11) → Alters ecu_table (Lists 2 (set_ecus vehicle es rows_of)) old new
+    → (rows_of : List ℕ → List Row) (olds : List EcuLine) → HasTables old → AreRecorded vehicle es olds rows_of (old.now.trees ecu_table.tree) → Alters ecu_table (Lists 2 (set_ecus vehicle es rows_of)) old new
 set_all vehicle es i old new end so_far rows_of olds has recorded =
     let whole : take i es ++ drop i olds ≡ es = ap (λ k. take k es ++ drop k olds) end ∙ all_set olds es recorded.same in
-    alters_to ecu_table _ _ old new (lists_same 2 (set_first vehicle es olds i rows_of) (set_ecus vehicle es rows_of) (new.now.trees 11) (λ n. ap (λ xs. if bytes_eq vehicle n then map ecu_row xs else rows_of n) whole))
+    alters_to ecu_table _ _ old new (lists_same 2 (set_first vehicle es olds i rows_of) (set_ecus vehicle es rows_of) (new.now.trees ecu_table.tree) (λ n. ap (λ xs. if bytes_eq vehicle n then map ecu_row xs else rows_of n) whole))
     (so_far rows_of olds has recorded)
 
 pub counted : (vehicle : List ℕ) (es : List EcuLine) (i : ℕ) (old new : State) → SetSoFar vehicle es (suc i) old new → SetSoFar vehicle es (i + 1) old new

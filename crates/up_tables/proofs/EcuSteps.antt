@@ -70,7 +70,7 @@ update_rows db id old new a b given rows up alike is there h =
 -- the row that has the key is updated
 updates : (limit : Option ℕ) (db : Trees) (n id : ℤ) (old new : EcuLine) (one : Written) → IsSound up_schema db → IsShaped Table (db 11) → IsKept new → IsSameEcu old new → Has (db 11) (Int id ∷ ecu_row old)
     → Tries (record { limit = limit; keys = Enforced; schema = up_schema; table = ecu_table; params = ecu_row new }) Abort (clause ∷ []) (Int n ∷ ecu_row new) db (Ok one)
-    → (one.trees 11 ≡ put_row (Int id ∷ ecu_row new) (without_rowid id (db 11))) × AllByRecursion (λ t. t.tree ≢ 11 → one.trees t.tree ≡ db t.tree) up_schema.tables
+    → (one.trees ecu_table.tree ≡ put_row (Int id ∷ ecu_row new) (without_rowid id (db 11))) × AllByRecursion (λ t. t.tree ≢ 11 → one.trees t.tree ≡ db t.tree) up_schema.tables
 updates limit db n id old new one sound shaped kept alike there h =
     let row = ecu_row new in
     let task : Task = record { limit = limit; keys = Enforced; schema = up_schema; table = ecu_table; params = row } in
@@ -82,9 +82,9 @@ updates limit db n id old new one sound shaped kept alike there h =
     let all : up.0 ≡ (Int id ∷ Int id ∷ row) ∷ [] = update_rows db id old new (Int n) Null _ up.0 shaped.0 alike refl there up.1 in
     rewritten_by up_schema ecu_table (idle 11) db one.trees id row up.0 all (casts (Int id) new kept (cast_int id)) up.2
 
-pub upserts_ecu : (old new : State) (was e : EcuLine) (id : ℤ) (count : ℕ) → old.now.schema ≡ up_schema → IsDatabase old.now → IsShaped Table (old.now.trees 11) → IsKept e → IsSameEcu was e
-    → Has (old.now.trees 11) (Int id ∷ ecu_row was) → Executes upsert_ecu_text (ecu_row e) old new (Ok count)
-    → (new.now.schema ≡ up_schema) × IsDatabase new.now × (new.now.trees 11 ≡ put_row (Int id ∷ ecu_row e) (without_rowid id (old.now.trees 11)))
+pub upserts_ecu : (old new : State) (was e : EcuLine) (id : ℤ) (count : ℕ) → old.now.schema ≡ up_schema → IsDatabase old.now → IsShaped Table (old.now.trees ecu_table.tree) → IsKept e → IsSameEcu was e
+    → Has (old.now.trees ecu_table.tree) (Int id ∷ ecu_row was) → Executes upsert_ecu_text (ecu_row e) old new (Ok count)
+    → (new.now.schema ≡ up_schema) × IsDatabase new.now × (new.now.trees ecu_table.tree ≡ put_row (Int id ∷ ecu_row e) (without_rowid id (old.now.trees ecu_table.tree)))
     × AllByRecursion (λ t. t.tree ≢ 11 → new.now.trees t.tree ≡ old.now.trees t.tree) up_schema.tables
 upserts_ecu old new was e id count has sound shaped kept alike there h =
     let db = old.now.trees in
@@ -93,6 +93,6 @@ upserts_ecu old new was e id count has sound shaped kept alike there h =
     let upd = updates old.step_limit db (next_rowid (db 11)) id was e tries.0 (subst (λ s. IsSound s db) has sound) shaped kept alike there tries.1 in (
       ap (λ (d : Database). d.schema) tries.3,
       tries.2,
-      ap (λ (d : Database). d.trees 11) tries.3 ∙ upd.0,
+      ap (λ (d : Database). d.trees ecu_table.tree) tries.3 ∙ upd.0,
       subst (λ (d : Database). AllByRecursion (λ t. t.tree ≢ 11 → d.trees t.tree ≡ db t.tree) up_schema.tables) (sym tries.3) upd.1,
     )

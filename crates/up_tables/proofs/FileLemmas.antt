@@ -29,7 +29,7 @@ use Rattle.up_tables.proofs.StateLemmas.{one_in, ok_then}
 
 -- what a loop over the files has set when it comes to one of them
 abbrev pub SetSoFar : List FileRow → ℕ → State → State → Type 0
-SetSoFar fs i old new = (rows_of : List ℕ → List ℕ → List Row) → HasTables old → ListsPairs rows_of (old.now.trees 3) → ((repository name : List ℕ) → length (rows_of repository name) ≤ 1)
+SetSoFar fs i old new = (rows_of : List ℕ → List ℕ → List Row) → HasTables old → ListsPairs rows_of (old.now.trees repo_file_table.tree) → ((repository name : List ℕ) → length (rows_of repository name) ≤ 1)
     → Alters repo_file_table (ListsPairs (set_files (take i fs) rows_of)) old new
 
 one_few : (first second : List ℕ) (row : Row) (rows_of : List ℕ → List ℕ → List Row) → ((m n : List ℕ) → length (rows_of m n) ≤ 1) → (m n : List ℕ) → length (with_only_at first second row rows_of m n) ≤ 1
@@ -51,7 +51,7 @@ pub none_set : (fs : List FileRow) (s : State) → IsInside s → IsOpen s → S
 none_set fs s inside is_open rows_of has lists few = alters_none repo_file_table _ s inside is_open has lists
 
 pub next_set : (fs : List FileRow) (i : ℕ) (f : FileRow) (old mid new : State) → slice_get fs i ≡ Some f → SetSoFar fs i old mid
-    → ((rows_of : List ℕ → List ℕ → List Row) → HasTables mid → ListsPairs rows_of (mid.now.trees 3) → length (rows_of (string_bytes f.repository) (string_bytes f.name)) ≤ 1
+    → ((rows_of : List ℕ → List ℕ → List Row) → HasTables mid → ListsPairs rows_of (mid.now.trees repo_file_table.tree) → length (rows_of (string_bytes f.repository) (string_bytes f.name)) ≤ 1
     → Alters repo_file_table (ListsPairs (with_only_at (string_bytes f.repository) (string_bytes f.name) (file_row f) rows_of)) mid new)
     → SetSoFar fs (i + 1) old new
 next_set fs i f old mid new there so_far sets rows_of has lists few =
@@ -61,10 +61,10 @@ next_set fs i f old mid new there so_far sets rows_of has lists few =
     let same : take (suc i) fs ≡ take (i + 1) fs = ap (λ k. take k fs) next in
     let all : with_only_at (string_bytes f.repository) (string_bytes f.name) (file_row f) (set_files (take i fs) rows_of) ≡ set_files (take (i + 1) fs) rows_of =
     sym (set_last (take i fs) f rows_of) ∙ ap (λ xs. set_files xs rows_of) (take_next i fs f there ∙ same) in
-    alters_to repo_file_table _ _ old new (subst (λ g. ListsPairs g (new.now.trees 3)) all) (alters_then repo_file_table _ _ old mid new before after)
+    alters_to repo_file_table _ _ old new (subst (λ g. ListsPairs g (new.now.trees repo_file_table.tree)) all) (alters_then repo_file_table _ _ old mid new before after)
 
 pub all_set : (fs : List FileRow) (i : ℕ) (old new : State) → i ≡ length fs → SetSoFar fs i old new
-    → (rows_of : List ℕ → List ℕ → List Row) → HasTables old → ListsPairs rows_of (old.now.trees 3) → ((repository name : List ℕ) → length (rows_of repository name) ≤ 1)
+    → (rows_of : List ℕ → List ℕ → List Row) → HasTables old → ListsPairs rows_of (old.now.trees repo_file_table.tree) → ((repository name : List ℕ) → length (rows_of repository name) ≤ 1)
     → Alters repo_file_table (ListsPairs (set_files fs rows_of)) old new
 all_set fs i old new end so_far rows_of has lists few =
     subst (λ xs. Alters repo_file_table (ListsPairs (set_files xs rows_of)) old new) (ap (λ k. take k fs) end ∙ take_whole fs) (so_far rows_of has lists few)
@@ -86,7 +86,7 @@ find_is = (refl, refl, (refl, refl))
 
 pub finds_file : {X : Type 0} (items : X → List Row) (answer : Result X Error) (r : Result (Option FileRow) StoreFault) (old new : State) (repository name : List ℕ)
     → IfOk r (λ found. IsOkAnd answer (λ v. map part (items v) ≡ map file_row (option_to_list found))) → IfOk answer (λ v. Shown find_file_text (Text repository ∷ Text name ∷ []) old new (items v))
-    → IfOk r (λ found. (rows_of : List ℕ → List ℕ → List Row) → HasTables old → ListsPairs rows_of (old.now.trees 3) → map part (rows_of repository name) ≡ map file_row (option_to_list found))
+    → IfOk r (λ found. (rows_of : List ℕ → List ℕ → List Row) → HasTables old → ListsPairs rows_of (old.now.trees repo_file_table.tree) → map part (rows_of repository name) ≡ map file_row (option_to_list found))
 finds_file items answer r old new repository name h ran =
     let params = Text repository ∷ Text name ∷ [] in
     let q : Row → Bool = λ x. has_text 0 repository x && has_text 1 name x in
@@ -94,5 +94,5 @@ finds_file items answer r old new repository name h ran =
     let answers = answers_some up_schema find_file_text 3 (equals 1 0 ∷ equals 2 1 ∷ []) (all_columns 3) names params q part
     (λ x. rw (equals_text (column x 1) repository, equals_text (column x 2) name, column_after x 0, column_after x 1) (ap (λ b. has_text 0 repository (drop 1 x) && b) (and-true _)))
     (λ x. rw (column_after x 0, column_after x 1, column_after x 2) refl) (λ db. refl) find_is old new in
-    ok_then _ _ r (λ found is rows_of has lists. ap (map part) (sym (lists.parts repository name) ∙ bare_filter (has_texts 1 repository 2 name) q test (old.now.trees 3)) ∙ is has)
-    (one_in items part part (λ x. refl) file_row find_file_text params old new (filter q (bare (old.now.trees 3))) answer r answers h ran)
+    ok_then _ _ r (λ found is rows_of has lists. ap (map part) (sym (lists.parts repository name) ∙ bare_filter (has_texts 1 repository 2 name) q test (old.now.trees repo_file_table.tree)) ∙ is has)
+    (one_in items part part (λ x. refl) file_row find_file_text params old new (filter q (bare (old.now.trees repo_file_table.tree))) answer r answers h ran)

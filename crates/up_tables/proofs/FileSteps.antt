@@ -123,7 +123,7 @@ module _ (limit : Option ℕ) (db : Trees) (n : ℤ) (repository name body : Lis
   abbrev task : Task
   task = record { limit = limit; keys = Enforced; schema = up_schema; table = repo_file_table; params = row }
 
-  puts : Puts task (Int n ∷ row) db (Ok one) → (one.trees 3 ≡ put_row (Int n ∷ row) (db 3)) × AllByRecursion (λ t. t.tree ≢ 3 → one.trees t.tree ≡ db t.tree) up_schema.tables
+  puts : Puts task (Int n ∷ row) db (Ok one) → (one.trees repo_file_table.tree ≡ put_row (Int n ∷ row) (db 3)) × AllByRecursion (λ t. t.tree ≢ 3 → one.trees t.tree ≡ db t.tree) up_schema.tables
   puts h =
       let edit = edit_of db repo_file_table [] Given 0 ((Int n ∷ row) ∷ []) in
       let step = one_step up_schema Enforced db one.trees edit (idle 3 (taken_by db edit) edit.news) (put task (Int n ∷ row) db one h) in
@@ -143,7 +143,7 @@ module _ (limit : Option ℕ) (db : Trees) (n : ℤ) (repository name body : Lis
 
   updates : (id : ℤ) (was : Row) → IsTable (db 3) → column (Int id ∷ was) 1 ≡ Text repository → column (Int id ∷ was) 2 ≡ Text name → Has (db 3) (Int id ∷ was)
       → Updates task update (row ++ Int id ∷ shown_row repo_file_table (Int n ∷ row)) db (Ok one)
-      → (one.trees 3 ≡ put_row (Int id ∷ row) (without_rowid id (db 3))) × AllByRecursion (λ t. t.tree ≢ 3 → one.trees t.tree ≡ db t.tree) up_schema.tables
+      → (one.trees repo_file_table.tree ≡ put_row (Int id ∷ row) (without_rowid id (db 3))) × AllByRecursion (λ t. t.tree ≢ 3 → one.trees t.tree ≡ db t.tree) up_schema.tables
   updates id was table first second there h =
       let up = updated task update _ db one h in
       let all : up.0 ≡ (Int id ∷ Int id ∷ row) ∷ [] = update_rows id was (Int n) _ [] up.0 table first second refl there up.1 in
@@ -210,11 +210,11 @@ module _ (limit : Option ℕ) (db : Trees) (repository name body : List ℕ) (on
   abbrev new : Row
   new = Int (next_rowid (db 3)) ∷ file_line repository name body
 
-  sets : Upserts it_task Abort new db (clause ∷ []) (Ok one) → ListsPairs (with_only_at repository name (file_line repository name body) rows_of) (one.trees 3) × AllByRecursion (λ t. t.tree ≢ 3 → one.trees t.tree ≡ db t.tree) up_schema.tables
+  sets : Upserts it_task Abort new db (clause ∷ []) (Ok one) → ListsPairs (with_only_at repository name (file_line repository name body) rows_of) (one.trees repo_file_table.tree) × AllByRecursion (λ t. t.tree ≢ 3 → one.trees t.tree ≡ db t.tree) up_schema.tables
   sets ([], c, h) =
       let none = none_there (db 3) (has_texts 1 repository 2 name) (λ r here hit. absurd (c.complete r here (conflicts_are (next_rowid (db 3)) repository name body r ∙ hit))) in
       let done = puts limit db (next_rowid (db 3)) repository name body one (clears it_task new db one h.0 h.2) in
-      (new_pairs (db 3) (one.trees 3) repository name body rows_of lists none done.0, done.1)
+      (new_pairs (db 3) (one.trees repo_file_table.tree) repository name body rows_of lists none done.0, done.1)
   sets (there ∷ more, c, h) =
       let met = c.sound there (inl refl) in
       let hit : has_texts 1 repository 2 name met.0 ≡ true = sym (conflicts_are (next_rowid (db 3)) repository name body met.0) ∙ met.2 in
@@ -229,11 +229,11 @@ module _ (limit : Option ℕ) (db : Trees) (repository name body : List ℕ) (on
       let id_is : rowid there ≡ Int it.0 = ap rowid met.3 ∙ ap rowid it.1 in
       let done = updates limit db (next_rowid (db 3)) repository name body one it.0 (drop 1 met.0) lists.shaped.0 first second here
       (subst (λ v. Updates it_task update (file_line repository name body ++ v ∷ shown_row repo_file_table new) db (Ok one)) id_is h) in
-      (old_pairs (db 3) (one.trees 3) it.0 (drop 1 met.0) repository name body rows_of lists here first second mine done.0, done.1)
+      (old_pairs (db 3) (one.trees repo_file_table.tree) it.0 (drop 1 met.0) repository name body rows_of lists here first second mine done.0, done.1)
 
-upserts_file : (old new : State) (repository name body : List ℕ) (rows_of : List ℕ → List ℕ → List Row) (count : ℕ) → old.now.schema ≡ up_schema → ListsPairs rows_of (old.now.trees 3) → length (rows_of repository name) ≤ 1
+upserts_file : (old new : State) (repository name body : List ℕ) (rows_of : List ℕ → List ℕ → List Row) (count : ℕ) → old.now.schema ≡ up_schema → ListsPairs rows_of (old.now.trees repo_file_table.tree) → length (rows_of repository name) ≤ 1
     → Executes upsert_file_text (file_line repository name body) old new (Ok count)
-    → (new.now.schema ≡ up_schema) × IsDatabase new.now × ListsPairs (with_only_at repository name (file_line repository name body) rows_of) (new.now.trees 3)
+    → (new.now.schema ≡ up_schema) × IsDatabase new.now × ListsPairs (with_only_at repository name (file_line repository name body) rows_of) (new.now.trees repo_file_table.tree)
     × AllByRecursion (λ t. t.tree ≢ 3 → new.now.trees t.tree ≡ old.now.trees t.tree) up_schema.tables
 upserts_file old new repository name body rows_of count has lists few h =
     let db = old.now.trees in
@@ -243,18 +243,18 @@ upserts_file old new repository name body rows_of count has lists few h =
     let set = sets old.step_limit db repository name body tries.0 rows_of lists few (tried task clause (Int (next_rowid (db 3)) ∷ row) db tries.0 tries.1) in (
       ap (λ (d : Database). d.schema) tries.3,
       tries.2,
-      subst (λ (d : Database). ListsPairs (with_only_at repository name row rows_of) (d.trees 3)) (sym tries.3) set.0,
+      subst (λ (d : Database). ListsPairs (with_only_at repository name row rows_of) (d.trees repo_file_table.tree)) (sym tries.3) set.0,
       subst (λ (d : Database). AllByRecursion (λ t. t.tree ≢ 3 → d.trees t.tree ≡ db t.tree) up_schema.tables) (sym tries.3) set.1,
     )
 
 -- in a transaction
 pub sets_file : (r : Result ℕ Error) (old new : State) (repository name body : List ℕ) → Survives old new (λ _. ⊥) → IfClean IsInside old
     → (HasCleanDisk new → IsTrue old.in_transaction → ExecutesInside 0 upsert_file_text (file_line repository name body) old new r)
-    → HasCleanDisk new → OnOk r ((rows_of : List ℕ → List ℕ → List Row) → HasTables old → ListsPairs rows_of (old.now.trees 3) → length (rows_of repository name) ≤ 1
+    → HasCleanDisk new → OnOk r ((rows_of : List ℕ → List ℕ → List Row) → HasTables old → ListsPairs rows_of (old.now.trees repo_file_table.tree) → length (rows_of repository name) ≤ 1
     → Alters repo_file_table (ListsPairs (with_only_at repository name (file_line repository name body) rows_of)) old new)
 sets_file r old new repository name body survives inside ran clean = then_ok r sets_it (run_in upsert_file_text (file_line repository name body) old new r survives inside ran clean)
   where
-    sets_it : IsRun upsert_file_text (file_line repository name body) old new → (rows_of : List ℕ → List ℕ → List Row) → HasTables old → ListsPairs rows_of (old.now.trees 3) → length (rows_of repository name) ≤ 1
+    sets_it : IsRun upsert_file_text (file_line repository name body) old new → (rows_of : List ℕ → List ℕ → List Row) → HasTables old → ListsPairs rows_of (old.now.trees repo_file_table.tree) → length (rows_of repository name) ≤ 1
         → Alters repo_file_table (ListsPairs (with_only_at repository name (file_line repository name body) rows_of)) old new
     sets_it run rows_of has lists few =
         let done = upserts_file old new repository name body rows_of run.count (has run.was_open).schema_is lists few run.went in

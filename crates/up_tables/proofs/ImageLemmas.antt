@@ -42,7 +42,7 @@ casts i = rw (cast_null, cast_int (pos i.length), cast_int (pos i.release_count)
 
 pub image_inserts : (r : Result ℕ Error) (old new : State) (i : ImageRow) → Survives old new (λ _. ⊥) → IfClean IsInside old
     → (HasCleanDisk new → IsTrue old.in_transaction → ExecutesInside 0 insert_image_text (image_row i) old new r)
-    → HasCleanDisk new → OnOk r ((rows_of : List ℕ → List Row) → HasTables old → Lists 1 rows_of (old.now.trees 5) → Alters image_table (Lists 1 (with_row (string_bytes i.file) (image_row i) rows_of)) old new)
+    → HasCleanDisk new → OnOk r ((rows_of : List ℕ → List Row) → HasTables old → Lists 1 rows_of (old.now.trees image_table.tree) → Alters image_table (Lists 1 (with_row (string_bytes i.file) (image_row i) rows_of)) old new)
 image_inserts r old new i survives inside ran clean =
     listed_in image_table 1 (string_bytes i.file) (image_row i) old new r (λ x n. text_is (string_bytes i.file) n)
     (inserts_in insert_image_text 3 image_table (given 7) 8 (image_row i) (image_row i) insert_is.0 insert_is.1 refl refl (append-nil _) refl (casts i) r old new survives inside ran clean)
@@ -67,7 +67,7 @@ find_is = (refl, refl, (refl, refl))
 
 pub finds_image : {X : Type 0} (items : X → List Row) (answer : Result X Error) (r : Result (Option ImageRow) StoreFault) (old new : State) (file : List ℕ)
     → IfOk r (λ found. IsOkAnd answer (λ v. map part (items v) ≡ map image_row (option_to_list found))) → IfOk answer (λ v. Shown find_image_text (Text file ∷ []) old new (items v))
-    → IfOk r (λ found. (rows_of : List ℕ → List Row) → HasTables old → Lists 1 rows_of (old.now.trees 5) → map part (rows_of file) ≡ map image_row (option_to_list found))
+    → IfOk r (λ found. (rows_of : List ℕ → List Row) → HasTables old → Lists 1 rows_of (old.now.trees image_table.tree) → map part (rows_of file) ≡ map image_row (option_to_list found))
 finds_image items answer r old new file = named_in items image_table 0 find_image_text (all_columns 7) names part image_row file find_is (λ db. refl) (shows (Text file ∷ [])) (λ x. refl) answer r old new
 
 abbrev pub all_images_text : List ℕ
@@ -79,7 +79,7 @@ all_is = (refl, refl, (refl, refl))
 
 pub finds_images : {X R : Type 0} (items : X → List Row) (list : R → List ImageRow) (answer : Result X Error) (r : Result R StoreFault) (old new : State)
     → IfOk r (λ found. IsOkAnd answer (λ v. map part (items v) ≡ map image_row (list found))) → IfOk answer (λ v. Shown all_images_text [] old new (items v))
-    → IfOk r (λ found. (rows_of : List ℕ → List Row) → HasTables old → Lists 1 rows_of (old.now.trees 5)
+    → IfOk r (λ found. (rows_of : List ℕ → List Row) → HasTables old → Lists 1 rows_of (old.now.trees image_table.tree)
     → (name : List ℕ) → map part (rows_of name) ≡ map image_row (filter (λ i. bytes_eq (string_bytes i.file) name) (list found)))
 finds_images items list answer r old new h ran =
     ok_then _ _ r (λ found is rows_of has lists name. ap (map part) (sym (filter_true (rows_of name))) ∙ is rows_of has lists name)

@@ -43,7 +43,7 @@ casts k = rw (cast_null, cast_int (pos k.counter), cast_int (pos k.version), cas
 
 pub kept_inserts : (r : Result ℕ Error) (old new : State) (k : KeptRow) → Survives old new (λ _. ⊥) → IfClean IsInside old
     → (HasCleanDisk new → IsTrue old.in_transaction → ExecutesInside 0 insert_kept_text (kept_row k) old new r)
-    → HasCleanDisk new → OnOk r ((rows_of : List ℕ → List Row) → HasTables old → Lists 1 rows_of (old.now.trees 14) → Alters kept_table (Lists 1 (with_row (string_bytes k.vehicle) (kept_row k) rows_of)) old new)
+    → HasCleanDisk new → OnOk r ((rows_of : List ℕ → List Row) → HasTables old → Lists 1 rows_of (old.now.trees kept_table.tree) → Alters kept_table (Lists 1 (with_row (string_bytes k.vehicle) (kept_row k) rows_of)) old new)
 kept_inserts r old new k survives inside ran clean =
     listed_in kept_table 1 (string_bytes k.vehicle) (kept_row k) old new r (λ x n. text_is (string_bytes k.vehicle) n)
     (inserts_in insert_kept_text 7 kept_table (given 8) 9 (kept_row k) (kept_row k) insert_is.0 insert_is.1 refl refl (append-nil _) refl (casts k) r old new survives inside ran clean)
@@ -65,7 +65,7 @@ find_is = (refl, refl, (refl, refl))
 
 pub finds_kept : {X : Type 0} (items : X → List Row) (answer : Result X Error) (r : Result (Option KeptRow) StoreFault) (old new : State) (vehicle : List ℕ) (counter : ℕ)
     → IfOk r (λ found. IsOkAnd answer (λ v. map part (items v) ≡ map kept_row (option_to_list found))) → IfOk answer (λ v. Shown find_kept_text (Text vehicle ∷ Int (pos counter) ∷ []) old new (items v))
-    → IfOk r (λ found. (rows_of : List ℕ → List Row) → HasTables old → Lists 1 rows_of (old.now.trees 14) → map part (filter (has_number 1 (pos counter)) (rows_of vehicle)) ≡ map kept_row (option_to_list found))
+    → IfOk r (λ found. (rows_of : List ℕ → List Row) → HasTables old → Lists 1 rows_of (old.now.trees kept_table.tree) → map part (filter (has_number 1 (pos counter)) (rows_of vehicle)) ≡ map kept_row (option_to_list found))
 finds_kept items answer r old new vehicle counter h ran =
     let params = Text vehicle ∷ Int (pos counter) ∷ [] in
     let q : Row → Bool = λ x. has_text 0 vehicle x && has_number 1 (pos counter) x in
@@ -74,6 +74,6 @@ finds_kept items answer r old new vehicle counter h ran =
     (λ x. rw (equals_text (column x 1) vehicle, equals_int (column x 2) (pos counter), column_after x 0, column_after x 1) (ap (λ b. has_text 0 vehicle (drop 1 x) && b) (and-true _)))
     (λ x. rw (column_after x 0, column_after x 1, column_after x 2, column_after x 3, column_after x 4, column_after x 5, column_after x 6, column_after x 7) refl) (λ db. refl) find_is old new in
     ok_then _ _ r (λ found is rows_of has lists.
-    ap (λ xs. map part (filter (has_number 1 (pos counter)) xs)) (sym (lists.parts vehicle) ∙ bare_filter (has_text 1 vehicle) (has_text 0 vehicle) test (old.now.trees 14))
-    ∙ ap (map part) (sym (filter_both (has_text 0 vehicle) (has_number 1 (pos counter)) (bare (old.now.trees 14)))) ∙ is has)
-    (one_in items part part (λ x. refl) kept_row find_kept_text params old new (filter q (bare (old.now.trees 14))) answer r answers h ran)
+    ap (λ xs. map part (filter (has_number 1 (pos counter)) xs)) (sym (lists.parts vehicle) ∙ bare_filter (has_text 1 vehicle) (has_text 0 vehicle) test (old.now.trees kept_table.tree))
+    ∙ ap (map part) (sym (filter_both (has_text 0 vehicle) (has_number 1 (pos counter)) (bare (old.now.trees kept_table.tree)))) ∙ is has)
+    (one_in items part part (λ x. refl) kept_row find_kept_text params old new (filter q (bare (old.now.trees kept_table.tree))) answer r answers h ran)

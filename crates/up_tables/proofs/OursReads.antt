@@ -32,6 +32,7 @@ use Rattle.up_tables.specs.Versions.{schema_of}
 use Rattle.up_tables.specs.Ours.{find_meta_text}
 use Rattle.up_tables.proofs.AnswerLemmas.{over, outputs, passing, answer_is, shows_passing, equals_int}
 use Rattle.up_tables.proofs.MetaReads.{is_one}
+use Rattle.up_tables.specs.Tables.{meta_table}
 
 abbrev shown : List Term
 shown = col 1 2 ∷ col 1 3 ∷ []
@@ -98,7 +99,7 @@ shows s c params db rows none is_open source reads = subst (ShowsRows s s find_m
 
 -- the rows that it is asked for
 abbrev pub asked_rows : Trees → List Row
-asked_rows trees = filter (has_number 0 (pos 1)) (trees 0)
+asked_rows trees = filter (has_number 0 (pos 1)) (trees meta_table.tree)
 
 -- what it shows of each
 abbrev pub name_and_schema : Row → Row
@@ -110,24 +111,24 @@ answer_of trees = map name_and_schema (asked_rows trees)
 hit : (r : Row) → list_all (holds ([] ∷ r ∷ [])) (is_one ∷ []) ≡ has_number 0 (pos 1) r
 hit r = and-true _ ∙ equals_int (column r 0) (pos 1)
 
-hits : (trees : Trees) → map (λ r. eval_all shown ([] ∷ r ∷ [])) (filter (λ r. list_all (holds ([] ∷ r ∷ [])) (is_one ∷ [])) (trees 0)) ≡ answer_of trees
-hits trees = ap (λ q. map name_and_schema (filter q (trees 0))) (fun_ext hit)
+hits : (trees : Trees) → map (λ r. eval_all shown ([] ∷ r ∷ [])) (filter (λ r. list_all (holds ([] ∷ r ∷ [])) (is_one ∷ [])) (trees meta_table.tree)) ≡ answer_of trees
+hits trees = ap (λ q. map name_and_schema (filter q (trees meta_table.tree))) (fun_ext hit)
 
 -- an answer is these rows
 pub is_answer : (made : SchemaVersion) (old new : State) (rows : List Row) → old.now.schema ≡ schema_of made → Shown find_meta_text [] old new rows → IsPermutation (answer_of old.now.trees) rows
 is_answer made old new rows has h =
     let read = reads_as find_meta_text [] old new (schema_of made) has (Select program names) (find_is made).0 (find_plain made) (find_is made).1 rows h in
     subst (λ xs. IsPermutation xs rows) (hits old.now.trees)
-    (shows_passing (is_one ∷ []) shown [] (old.now.trees 0) rows (answer_is (overlay old.now.trees []) 0 (is_one ∷ []) shown [] [] rows (read.answer Null)))
+    (shows_passing (is_one ∷ []) shown [] (old.now.trees meta_table.tree) rows (answer_is (overlay old.now.trees []) 0 (is_one ∷ []) shown [] [] rows (read.answer Null)))
 
 -- and these rows are an answer
 sure : (trees : Trees) → IsSureAnswer (over 0 (is_one ∷ []) shown []) (overlay trees []) [] (answer_of trees)
 sure trees lost = record {
-  staged = map (λ r. [] ∷ r ∷ []) (filter (λ r. list_all (holds ([] ∷ r ∷ [])) (is_one ∷ [])) (trees 0));
-  grouped = sym (passing (is_one ∷ []) [] (trees 0));
-  kept = outputs (is_one ∷ []) shown [] [] (trees 0);
+  staged = map (λ r. [] ∷ r ∷ []) (filter (λ r. list_all (holds ([] ∷ r ∷ [])) (is_one ∷ [])) (trees meta_table.tree));
+  grouped = sym (passing (is_one ∷ []) [] (trees meta_table.tree));
+  kept = outputs (is_one ∷ []) shown [] [] (trees meta_table.tree);
   distinct = sym (map-map _ _ _);
-  ordered = outputs (is_one ∷ []) shown [] [] (trees 0);
+  ordered = outputs (is_one ∷ []) shown [] [] (trees meta_table.tree);
   same = IsPermutation-refl _;
   sorted = λ k d low high. refl;
   shown = sym (map-map _ _ _ ∙ hits trees);

@@ -70,11 +70,11 @@ no_other number root image_version stamp = let it = itself (pos 1) in rw it refl
 
 pub sets_schema : (r : Result ℕ Error) (old new : State) → Survives old new (λ _. ⊥) → IfClean IsInside old
     → (HasCleanDisk new → IsTrue old.in_transaction → ExecutesInside 0 set_schema_text [] old new r)
-    → HasCleanDisk new → OnOk r ((number root image_version stamp : ℕ) → HasTables old → old.now.trees 0 ≡ meta_row_of number root image_version stamp ∷ []
+    → HasCleanDisk new → OnOk r ((number root image_version stamp : ℕ) → HasTables old → old.now.trees meta_table.tree ≡ meta_row_of number root image_version stamp ∷ []
     → Alters meta_table (λ rows. rows ≡ meta_row root image_version stamp ∷ []) old new)
 sets_schema r old new survives inside ran clean = then_ok r sets (run_in set_schema_text [] old new r survives inside ran clean)
   where
-    sets : IsRun set_schema_text [] old new → (number root image_version stamp : ℕ) → HasTables old → old.now.trees 0 ≡ meta_row_of number root image_version stamp ∷ []
+    sets : IsRun set_schema_text [] old new → (number root image_version stamp : ℕ) → HasTables old → old.now.trees meta_table.tree ≡ meta_row_of number root image_version stamp ∷ []
         → Alters meta_table (λ rows. rows ≡ meta_row root image_version stamp ∷ []) old new
     sets run number root image_version stamp has is =
         let row = meta_row root image_version stamp in
@@ -121,20 +121,20 @@ lists_raised number rows old new lists retired sha512s meta others = record {
 
 -- what setting the schema's number says
 abbrev pub SetsSchema : State → State → Type 0
-SetsSchema old new = (number root image_version stamp : ℕ) → HasTables old → old.now.trees 0 ≡ meta_row_of number root image_version stamp ∷ []
+SetsSchema old new = (number root image_version stamp : ℕ) → HasTables old → old.now.trees meta_table.tree ≡ meta_row_of number root image_version stamp ∷ []
     → Alters meta_table (λ rows. rows ≡ meta_row root image_version stamp ∷ []) old new
 
 -- the last table is made, and the number is set
-last_raised : (number : ℕ) (rows : TableRows) (old mid new : State) → IsWithin second_schema AnyRows old → ListsEight number rows old.now.trees → Lists 2 rows.retired (old.now.trees 17)
+last_raised : (number : ℕ) (rows : TableRows) (old mid new : State) → IsWithin second_schema AnyRows old → ListsEight number rows old.now.trees → Lists 2 rows.retired (old.now.trees retired_table.tree)
     → ((file : List ℕ) → rows.sha512s file ≡ []) → (IsWithin second_schema AnyRows old → MakesIn second_schema image_sha512_table old mid) → SetsSchema mid new → GoesOn up_schema (ListsTables rows) new
 last_raised number rows old mid new within lists retired none makes sets =
     let made = makes within in
     let same = made.made.others in
     let still = eight_kept number rows old.now.trees mid.now.trees lists (same.0, same.1.0, same.1.1.0, same.1.1.1.0, same.1.1.1.1.0, same.1.1.1.1.1.0, same.1.1.1.1.1.1.0, same.1.1.1.1.1.1.1.0) in
-    let replaced : Lists 2 rows.retired (mid.now.trees 17) = subst (Lists 2 rows.retired) (sym same.1.1.1.1.1.1.1.1.0) retired in
+    let replaced : Lists 2 rows.retired (mid.now.trees retired_table.tree) = subst (Lists 2 rows.retired) (sym same.1.1.1.1.1.1.1.1.0) retired in
     let set = sets number rows.root rows.image_version rows.stamp (λ _. record { schema_is = made.made.schema_is; sound = made.made.sound; rows = tt }) still.meta in
     goes_on meta_table _ (ListsTables rows) mid new set
-    (lists_raised number rows mid.now.trees new.now.trees still replaced (new_lists 1 rows.sha512s (mid.now.trees 19) none made.made.empty) set.rows set.others)
+    (lists_raised number rows mid.now.trees new.now.trees still replaced (new_lists 1 rows.sha512s (mid.now.trees image_sha512_table.tree) none made.made.empty) set.rows set.others)
 
 any_within : (schema : Rattle.sqlite.specs.Schema.Schema) (P : Trees → Type 0) (s : State) → IsWithin schema P s → IsWithin schema AnyRows s
 any_within schema P s h = record { mode = h.mode; here = λ is_open. let it = h.here is_open in record { schema_is = it.schema_is; sound = it.sound; rows = tt } }
@@ -155,4 +155,4 @@ raises_first rows old one two new within first second sets =
     let same = made.made.others in
     let still = eight_kept 1 rows old.now.trees one.now.trees it.0 (same.0, same.1.0, same.1.1.0, same.1.1.1.0, same.1.1.1.1.0, same.1.1.1.1.1.0, same.1.1.1.1.1.1.0, same.1.1.1.1.1.1.1.0) in
     last_raised 1 rows one two new (record { mode = made.mode; here = λ _. record { schema_is = made.made.schema_is; sound = made.made.sound; rows = tt } }) still
-    (new_lists 2 rows.retired (one.now.trees 17) it.1 made.made.empty) it.2 second sets
+    (new_lists 2 rows.retired (one.now.trees retired_table.tree) it.1 made.made.empty) it.2 second sets

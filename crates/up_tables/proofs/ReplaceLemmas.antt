@@ -87,11 +87,11 @@ update_rows db ecu hardware public_key was id rows sound shaped there h =
 -- in a transaction: the new ECU's row stands in place of the old one's, under the same rowid
 pub replaces_in : (r : Result ℕ Error) (old new : State) (ecu hardware public_key key : List ℕ) → Survives old new (λ _. ⊥) → IfClean IsInside old
     → (HasCleanDisk new → IsTrue old.in_transaction → ExecutesInside 0 replace_text (given ecu hardware public_key key) old new r)
-    → HasCleanDisk new → OnOk r ((rows_of : List ℕ → List Row) (was : EcuLine) → HasTables old → Lists 2 rows_of (old.now.trees 11) → Has (rows_of was.vehicle) (ecu_row was) → was.ecu ≡ key
+    → HasCleanDisk new → OnOk r ((rows_of : List ℕ → List Row) (was : EcuLine) → HasTables old → Lists 2 rows_of (old.now.trees ecu_table.tree) → Has (rows_of was.vehicle) (ecu_row was) → was.ecu ≡ key
     → Alters ecu_table (Lists 2 (with_replaced was (replaced_line ecu hardware public_key was) rows_of)) old new)
 replaces_in r old new ecu hardware public_key key survives inside ran clean = then_ok r replaces (run_in replace_text (given ecu hardware public_key key) old new r survives inside ran clean)
   where
-    replaces : IsRun replace_text (given ecu hardware public_key key) old new → (rows_of : List ℕ → List Row) (was : EcuLine) → HasTables old → Lists 2 rows_of (old.now.trees 11) → Has (rows_of was.vehicle) (ecu_row was) → was.ecu ≡ key
+    replaces : IsRun replace_text (given ecu hardware public_key key) old new → (rows_of : List ℕ → List Row) (was : EcuLine) → HasTables old → Lists 2 rows_of (old.now.trees ecu_table.tree) → Has (rows_of was.vehicle) (ecu_row was) → was.ecu ≡ key
         → Alters ecu_table (Lists 2 (with_replaced was (replaced_line ecu hardware public_key was) rows_of)) old new
     replaces run rows_of was has lists there named =
         let db = old.now.trees in
@@ -108,7 +108,7 @@ replaces_in r old new ecu hardware public_key key survives inside ran clean = th
         let out : (n : List ℕ) → bytes_eq was.vehicle n ≡ false → has_text 2 n (Int it.0 ∷ ecu_row was) ≡ false = λ n other. text_is was.vehicle n ∙ other in
         let keyed : has_text 1 was.ecu (Int it.0 ∷ ecu_row was) ≡ true = text_is was.ecu was.ecu ∙ own_text was.ecu in
         let one : (x : Row) → Has rows x → has_text 1 was.ecu x ≡ true → has_rowid it.0 x ≡ true = λ x at hit. keyed_id db was it.0 x sound lists.shaped it.1 at hit in
-        let now : Lists 2 (with_replaced was (replaced_line ecu hardware public_key was) rows_of) (new.now.trees 11) = record {
+        let now : Lists 2 (with_replaced was (replaced_line ecu hardware public_key was) rows_of) (new.now.trees ecu_table.tree) = record {
           shaped = subst (IsShaped Table) (sym done.rows) (swapped_shaped 2 it.0 was.ecu was.vehicle (ecu_row was) row rows lists.shaped it.1 group same out keyed one);
           parts = λ n. ap (rows_with 2 n) done.rows ∙ swapped_parts 2 it.0 was.ecu was.vehicle (ecu_row was) row rows lists.shaped it.1 group same out keyed one rows_of lists.parts n;
         } in

@@ -50,30 +50,30 @@ casts k = rw (cast_null, cast_int (pos k.root), cast_int (pos k.place), cast_int
 
 pub role_key_inserts : (r : Result ℕ Error) (old new : State) (k : RoleKeyRow) → Survives old new (λ _. ⊥) → IfClean IsInside old
     → (HasCleanDisk new → IsTrue old.in_transaction → ExecutesInside 0 insert_role_key_text (role_key_row k) old new r)
-    → HasCleanDisk new → OnOk r ((all : List Row) → HasTables old → ListsAll all (old.now.trees 1) → Alters role_key_table (ListsAll (all ++ role_key_row k ∷ [])) old new)
+    → HasCleanDisk new → OnOk r ((all : List Row) → HasTables old → ListsAll all (old.now.trees role_key_table.tree) → Alters role_key_table (ListsAll (all ++ role_key_row k ∷ [])) old new)
 role_key_inserts r old new k survives inside ran clean =
     added_in role_key_table (role_key_row k) old new r
     (inserts_in insert_role_key_text 1 role_key_table (given 6) 7 (role_key_row k) (role_key_row k) insert_is.0 insert_is.1 refl refl (append-nil _) refl (casts k) r old new survives inside ran clean)
 
 -- what a loop over the keys has put in when it comes to one of them
 abbrev pub PutSoFar : List RoleKeyRow → ℕ → State → State → Type 0
-PutSoFar ks i old new = (all : List Row) → HasTables old → ListsAll all (old.now.trees 1) → Alters role_key_table (ListsAll (all ++ map role_key_row (take i ks))) old new
+PutSoFar ks i old new = (all : List Row) → HasTables old → ListsAll all (old.now.trees role_key_table.tree) → Alters role_key_table (ListsAll (all ++ map role_key_row (take i ks))) old new
 
 pub none_put : (ks : List RoleKeyRow) (s : State) → IsInside s → IsOpen s → PutSoFar ks 0 s s
 none_put ks s inside is_open all has lists = alters_none role_key_table _ s inside is_open has (record { shaped = lists.shaped; every = lists.every ∙ sym (append-nil all) })
 
 pub next_put : (ks : List RoleKeyRow) (i : ℕ) (k : RoleKeyRow) (old mid new : State) → slice_get ks i ≡ Some k → PutSoFar ks i old mid
-    → ((all : List Row) → HasTables mid → ListsAll all (mid.now.trees 1) → Alters role_key_table (ListsAll (all ++ role_key_row k ∷ [])) mid new) → PutSoFar ks (i + 1) old new
+    → ((all : List Row) → HasTables mid → ListsAll all (mid.now.trees role_key_table.tree) → Alters role_key_table (ListsAll (all ++ role_key_row k ∷ [])) mid new) → PutSoFar ks (i + 1) old new
 next_put ks i k old mid new there so_far puts all has lists =
     let before = so_far all has lists in
     let after = puts _ (has_after role_key_table _ old mid before) before.rows in
     let next : suc i ≡ i + 1 = omega arith in
     let more : map role_key_row (take i ks) ++ role_key_row k ∷ [] ≡ map role_key_row (take (i + 1) ks) = sym (map-append role_key_row (take i ks) (k ∷ [])) ∙ ap (map role_key_row) (take_next i ks k there ∙ ap (λ n. take n ks) next) in
     let same : (all ++ map role_key_row (take i ks)) ++ role_key_row k ∷ [] ≡ all ++ map role_key_row (take (i + 1) ks) = append_assoc all (map role_key_row (take i ks)) (role_key_row k ∷ []) ∙ ap (λ xs. all ++ xs) more in
-    alters_to role_key_table _ _ old new (subst (λ xs. ListsAll xs (new.now.trees 1)) same) (alters_then role_key_table _ _ old mid new before after)
+    alters_to role_key_table _ _ old new (subst (λ xs. ListsAll xs (new.now.trees role_key_table.tree)) same) (alters_then role_key_table _ _ old mid new before after)
 
 pub all_put : (ks : List RoleKeyRow) (i : ℕ) (old new : State) → i ≡ length ks → PutSoFar ks i old new
-    → (all : List Row) → HasTables old → ListsAll all (old.now.trees 1) → Alters role_key_table (ListsAll (all ++ map role_key_row ks)) old new
+    → (all : List Row) → HasTables old → ListsAll all (old.now.trees role_key_table.tree) → Alters role_key_table (ListsAll (all ++ map role_key_row ks)) old new
 all_put ks i old new end so_far all has lists =
     subst (λ xs. Alters role_key_table (ListsAll (all ++ map role_key_row xs)) old new) (ap (λ k. take k ks) end ∙ take_whole ks) (so_far all has lists)
 
@@ -97,11 +97,11 @@ keys_of_is = (refl, refl, (refl, refl))
 
 pub finds_keys_of : {X R : Type 0} (items : X → List Row) (list : R → List RoleKeyRow) (answer : Result X Error) (r : Result R StoreFault) (old new : State) (root : ℕ)
     → IfOk r (λ found. IsOkAnd answer (λ v. map part (items v) ≡ map role_key_row (list found))) → IfOk answer (λ v. Shown keys_of_text (Int (pos root) ∷ []) old new (items v))
-    → IfOk r (λ found. (all : List Row) → HasTables old → ListsAll all (old.now.trees 1) → map part (filter (has_number 0 (pos root)) all) ≡ map role_key_row (list found))
+    → IfOk r (λ found. (all : List Row) → HasTables old → ListsAll all (old.now.trees role_key_table.tree) → map part (filter (has_number 0 (pos root)) all) ≡ map role_key_row (list found))
 finds_keys_of items list answer r old new root h ran =
-    let rows = filter (has_number 0 (pos root)) (bare (old.now.trees 1)) in
+    let rows = filter (has_number 0 (pos root)) (bare (old.now.trees role_key_table.tree)) in
     ok_then _ _ r (λ found is all has lists. ap (λ xs. map part (filter (has_number 0 (pos root)) xs)) (sym lists.every) ∙ is lists.shaped has)
-    (each_in items part part (λ x. refl) role_key_row keys_of_text (Int (pos root) ∷ []) old new (IsShaped Table (old.now.trees 1)) list rows answer r
+    (each_in items part part (λ x. refl) role_key_row keys_of_text (Int (pos root) ∷ []) old new (IsShaped Table (old.now.trees role_key_table.tree)) list rows answer r
     (λ shown' shaped has. answers_all up_schema keys_of_text 1 (equals 1 0 ∷ []) (all_columns 6) names (Int (pos root) ∷ []) (has_number 0 (pos root)) part
     (λ x. and-true _ ∙ equals_int (column x 1) (pos root) ∙ ap (λ v. is_eq (value_cmp v (Int (pos root)))) (column_after x 0)) (shows (Int (pos root) ∷ [])) (λ db. refl) keys_of_is old new shown' has shaped.0) h ran)
 
@@ -114,9 +114,9 @@ all_keys_is = (refl, refl, (refl, refl))
 
 pub finds_all_keys : {X R : Type 0} (items : X → List Row) (list : R → List RoleKeyRow) (answer : Result X Error) (r : Result R StoreFault) (old new : State)
     → IfOk r (λ found. IsOkAnd answer (λ v. map part (items v) ≡ map role_key_row (list found))) → IfOk answer (λ v. Shown all_keys_text [] old new (items v))
-    → IfOk r (λ found. (all : List Row) → HasTables old → ListsAll all (old.now.trees 1) → map part all ≡ map role_key_row (list found))
+    → IfOk r (λ found. (all : List Row) → HasTables old → ListsAll all (old.now.trees role_key_table.tree) → map part all ≡ map role_key_row (list found))
 finds_all_keys items list answer r old new h ran =
-    let rows = filter (λ _. true) (bare (old.now.trees 1)) in
-    ok_then _ _ r (λ found is all has lists. ap (map part) (sym lists.every ∙ sym (filter_true (bare (old.now.trees 1)))) ∙ is lists.shaped has)
-    (each_in items part part (λ x. refl) role_key_row all_keys_text [] old new (IsShaped Table (old.now.trees 1)) list rows answer r
+    let rows = filter (λ _. true) (bare (old.now.trees role_key_table.tree)) in
+    ok_then _ _ r (λ found is all has lists. ap (map part) (sym lists.every ∙ sym (filter_true (bare (old.now.trees role_key_table.tree)))) ∙ is lists.shaped has)
+    (each_in items part part (λ x. refl) role_key_row all_keys_text [] old new (IsShaped Table (old.now.trees role_key_table.tree)) list rows answer r
     (λ shown' shaped has. answers_all up_schema all_keys_text 1 [] (all_columns 6) names [] (λ _. true) part (λ x. refl) (shows []) (λ db. refl) all_keys_is old new shown' has shaped.0) h ran)

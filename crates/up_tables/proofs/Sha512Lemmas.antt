@@ -43,7 +43,7 @@ casts file sha512 = rw cast_null refl
 
 pub sha512_inserts : (r : Result ℕ Error) (old new : State) (file sha512 : List ℕ) → Survives old new (λ _. ⊥) → IfClean IsInside old
     → (HasCleanDisk new → IsTrue old.in_transaction → ExecutesInside 0 insert_sha512_text (sha512_line file sha512) old new r)
-    → HasCleanDisk new → OnOk r ((rows_of : List ℕ → List Row) → HasTables old → Lists 1 rows_of (old.now.trees 19) → Alters image_sha512_table (Lists 1 (with_row file (sha512_line file sha512) rows_of)) old new)
+    → HasCleanDisk new → OnOk r ((rows_of : List ℕ → List Row) → HasTables old → Lists 1 rows_of (old.now.trees image_sha512_table.tree) → Alters image_sha512_table (Lists 1 (with_row file (sha512_line file sha512) rows_of)) old new)
 sha512_inserts r old new file sha512 survives inside ran clean =
     listed_in image_sha512_table 1 file (sha512_line file sha512) old new r (λ x n. text_is file n)
     (inserts_in insert_sha512_text 9 image_sha512_table (given 2) 3 (sha512_line file sha512) (sha512_line file sha512) insert_is.0 insert_is.1 refl refl (append-nil _) refl (casts file sha512) r old new survives inside ran clean)
@@ -68,7 +68,7 @@ find_is = (refl, refl, (refl, refl))
 
 pub finds_sha512 : {X : Type 0} (items : X → List Row) (answer : Result X Error) (r : Result (Option Sha512Row) StoreFault) (old new : State) (file : List ℕ)
     → IfOk r (λ found. IsOkAnd answer (λ v. map part (items v) ≡ map sha512_row (option_to_list found))) → IfOk answer (λ v. Shown find_sha512_text (Text file ∷ []) old new (items v))
-    → IfOk r (λ found. (rows_of : List ℕ → List Row) → HasTables old → Lists 1 rows_of (old.now.trees 19) → map part (rows_of file) ≡ map sha512_row (option_to_list found))
+    → IfOk r (λ found. (rows_of : List ℕ → List Row) → HasTables old → Lists 1 rows_of (old.now.trees image_sha512_table.tree) → map part (rows_of file) ≡ map sha512_row (option_to_list found))
 finds_sha512 items answer r old new file = named_in items image_sha512_table 0 find_sha512_text (all_columns 2) names part sha512_row file find_is (λ db. refl) (shows (Text file ∷ [])) (λ x. refl) answer r old new
 
 abbrev pub all_sha512s_text : List ℕ
@@ -80,7 +80,7 @@ all_is = (refl, refl, (refl, refl))
 
 pub finds_sha512s : {X R : Type 0} (items : X → List Row) (list : R → List Sha512Row) (answer : Result X Error) (r : Result R StoreFault) (old new : State)
     → IfOk r (λ found. IsOkAnd answer (λ v. map part (items v) ≡ map sha512_row (list found))) → IfOk answer (λ v. Shown all_sha512s_text [] old new (items v))
-    → IfOk r (λ found. (rows_of : List ℕ → List Row) → HasTables old → Lists 1 rows_of (old.now.trees 19)
+    → IfOk r (λ found. (rows_of : List ℕ → List Row) → HasTables old → Lists 1 rows_of (old.now.trees image_sha512_table.tree)
     → (name : List ℕ) → map part (rows_of name) ≡ map sha512_row (filter (λ i. bytes_eq (string_bytes i.file) name) (list found)))
 finds_sha512s items list answer r old new h ran =
     ok_then _ _ r (λ found is rows_of has lists name. ap (map part) (sym (filter_true (rows_of name))) ∙ is rows_of has lists name)

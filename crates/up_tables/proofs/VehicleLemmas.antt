@@ -83,7 +83,7 @@ casts_given id name primary version last = rw (cast_int id, cast_int (pos versio
 
 pub vehicle_inserts : (r : Result ℕ Error) (old new : State) (v : VehicleRow) → Survives old new (λ _. ⊥) → IfClean IsInside old
     → (HasCleanDisk new → IsTrue old.in_transaction → ExecutesInside 0 insert_vehicle_text (vehicle_row v) old new r)
-    → HasCleanDisk new → OnOk r ((rows_of : List ℕ → List Row) → HasTables old → Lists 1 rows_of (old.now.trees 9) → Alters vehicle_table (Lists 1 (with_row (string_bytes v.vehicle) (vehicle_row v) rows_of)) old new)
+    → HasCleanDisk new → OnOk r ((rows_of : List ℕ → List Row) → HasTables old → Lists 1 rows_of (old.now.trees vehicle_table.tree) → Alters vehicle_table (Lists 1 (with_row (string_bytes v.vehicle) (vehicle_row v) rows_of)) old new)
 vehicle_inserts r old new v survives inside ran clean =
     listed_in vehicle_table 1 (string_bytes v.vehicle) (vehicle_row v) old new r (λ x n. text_is (string_bytes v.vehicle) n)
     (inserts_in insert_vehicle_text 5 vehicle_table (given 4) 5 (vehicle_row v) (vehicle_row v) insert_is.0 insert_is.1 refl refl (append-nil _) refl (casts _ _ v.version v.last_counter) r old new survives inside ran clean)
@@ -105,7 +105,7 @@ find_is = (refl, refl, (refl, refl))
 
 pub finds_vehicle : {X : Type 0} (items : X → List Row) (answer : Result X Error) (r : Result (Option VehicleRow) StoreFault) (old new : State) (name : List ℕ)
     → IfOk r (λ found. IsOkAnd answer (λ v. map part (items v) ≡ map vehicle_row (option_to_list found))) → IfOk answer (λ v. Shown find_vehicle_text (Text name ∷ []) old new (items v))
-    → IfOk r (λ found. (rows_of : List ℕ → List Row) → HasTables old → Lists 1 rows_of (old.now.trees 9) → map part (rows_of name) ≡ map vehicle_row (option_to_list found))
+    → IfOk r (λ found. (rows_of : List ℕ → List Row) → HasTables old → Lists 1 rows_of (old.now.trees vehicle_table.tree) → map part (rows_of name) ≡ map vehicle_row (option_to_list found))
 finds_vehicle items answer r old new name = named_in items vehicle_table 0 find_vehicle_text (all_columns 4) names part vehicle_row name find_is (λ db. refl) (λ x. rw (column_after x 0, column_after x 1, column_after x 2, column_after x 3) refl) (λ x. refl) answer r old new
 
 -- ---- its numbers are set
@@ -162,7 +162,7 @@ update_rows db id name primary was_primary a b old_version old_last new_version 
 -- the row that has the name is updated
 updates : (limit : Option ℕ) (db : Trees) (n : ℤ) (name primary was_primary : List ℕ) (version last was_version was_last : ℕ) (one : Written) → IsShaped Table (db 9) → rows_with 1 name (db 9) ≡ vehicle_line name was_primary was_version was_last ∷ []
     → Tries (record { limit = limit; keys = Enforced; schema = up_schema; table = vehicle_table; params = vehicle_line name primary version last }) Abort (clause ∷ []) (Int n ∷ vehicle_line name primary version last) db (Ok one)
-    → (id : ℤ) × Has (db 9) (Int id ∷ vehicle_line name was_primary was_version was_last) × (one.trees 9 ≡ put_row (Int id ∷ vehicle_line name was_primary version last) (without_rowid id (db 9)))
+    → (id : ℤ) × Has (db 9) (Int id ∷ vehicle_line name was_primary was_version was_last) × (one.trees vehicle_table.tree ≡ put_row (Int id ∷ vehicle_line name was_primary version last) (without_rowid id (db 9)))
     × AllByRecursion (λ t. t.tree ≢ 9 → one.trees t.tree ≡ db t.tree) up_schema.tables × (one.rows ≡ (Int id ∷ vehicle_line name was_primary version last) ∷ [])
 updates limit db n name primary was_primary version last was_version was_last one shaped is h =
     let given = vehicle_line name primary version last in
@@ -180,9 +180,9 @@ updates limit db n name primary was_primary version last was_version was_last on
     let news : (edit_of db vehicle_table (ids_of ((Int id ∷ Int id ∷ row) ∷ [])) Given 1 ((Int id ∷ Int id ∷ row) ∷ [])).news ≡ (Int id ∷ row) ∷ [] = ap (λ r. r ∷ []) (casts_given id name was_primary version last) in
     (id, there, written.0, written.1, up.3 ∙ ap (λ xs. (edit_of db vehicle_table (ids_of xs) Given 1 xs).news) all ∙ news)
 
-upserts_vehicle : (old new : State) (name primary was_primary : List ℕ) (version last was_version was_last : ℕ) (rows : List Row) → old.now.schema ≡ up_schema → IsShaped Table (old.now.trees 9)
-    → rows_with 1 name (old.now.trees 9) ≡ vehicle_line name was_primary was_version was_last ∷ [] → Shown upsert_vehicle_text (vehicle_line name primary version last) old new rows
-    → (id : ℤ) × Has (old.now.trees 9) (Int id ∷ vehicle_line name was_primary was_version was_last) × Rewrites up_schema vehicle_table id (vehicle_line name was_primary version last) old.now new.now
+upserts_vehicle : (old new : State) (name primary was_primary : List ℕ) (version last was_version was_last : ℕ) (rows : List Row) → old.now.schema ≡ up_schema → IsShaped Table (old.now.trees vehicle_table.tree)
+    → rows_with 1 name (old.now.trees vehicle_table.tree) ≡ vehicle_line name was_primary was_version was_last ∷ [] → Shown upsert_vehicle_text (vehicle_line name primary version last) old new rows
+    → (id : ℤ) × Has (old.now.trees vehicle_table.tree) (Int id ∷ vehicle_line name was_primary was_version was_last) × Rewrites up_schema vehicle_table id (vehicle_line name was_primary version last) old.now new.now
     × (rows ≡ vehicle_line name was_primary version last ∷ [])
 upserts_vehicle old new name primary was_primary version last was_version was_last rows has shaped is h =
     let db = old.now.trees in
@@ -209,7 +209,7 @@ upserts_vehicle old new name primary was_primary version last was_version was_la
       record {
         schema_is = ap (λ (d : Database). d.schema) now;
         sound = w.sound;
-        rows = ap (λ (d : Database). d.trees 9) now ∙ upd.2;
+        rows = ap (λ (d : Database). d.trees vehicle_table.tree) now ∙ upd.2;
         others = subst (λ (d : Database). AllByRecursion (λ t. t.tree ≢ 9 → d.trees t.tree ≡ db t.tree) up_schema.tables) (sym now) upd.3;
       },
       made.2 ∙ show.1.2 ∙ show.1.1.1,
@@ -219,7 +219,7 @@ upserts_vehicle old new name primary was_primary version last was_version was_la
 pub sets_vehicle : {X T : Type 0} (items : X → List Row) (answer : Result X Error) (r : Result T StoreFault) (old new : State) (name primary : List ℕ) (version last : ℕ) → Survives old new (λ _. ⊥) → IfClean IsInside old
     → OnOk r (IsOkAnd answer (λ v. map part (items v) ≡ vehicle_line name primary version last ∷ []))
     → (HasCleanDisk new → IfOk answer (λ v. Shown upsert_vehicle_text (vehicle_line name primary version last) old new (items v)))
-    → HasCleanDisk new → OnOk r ((rows_of : List ℕ → List Row) (was_primary : List ℕ) (was_version was_last : ℕ) → HasTables old → Lists 1 rows_of (old.now.trees 9)
+    → HasCleanDisk new → OnOk r ((rows_of : List ℕ → List Row) (was_primary : List ℕ) (was_version was_last : ℕ) → HasTables old → Lists 1 rows_of (old.now.trees vehicle_table.tree)
     → rows_of name ≡ vehicle_line name was_primary was_version was_last ∷ [] → Alters vehicle_table (Lists 1 (with_only name (vehicle_line name primary version last) rows_of)) old new)
 sets_vehicle items answer (Err fault) old new name primary version last survives inside same ran clean = tt
 sets_vehicle items (Err e) (Ok x) old new name primary version last survives inside same ran clean = absurd same
@@ -232,8 +232,8 @@ sets_vehicle items (Ok v) (Ok x) old new name primary version last survives insi
     let row_is : vehicle_line name was_primary version last ≡ vehicle_line name primary version last = first_of (sym (ap (map part) done.3) ∙ same) in
     let was = vehicle_line name was_primary was_version was_last in
     let row = vehicle_line name primary version last in
-    let rows = old.now.trees 9 in
-    let now : new.now.trees 9 ≡ put_row (Int done.0 ∷ row) (without_rowid done.0 rows) = done.2.rows ∙ ap (λ x. put_row (Int done.0 ∷ x) (without_rowid done.0 rows)) row_is in
+    let rows = old.now.trees vehicle_table.tree in
+    let now : new.now.trees vehicle_table.tree ≡ put_row (Int done.0 ∷ row) (without_rowid done.0 rows) = done.2.rows ∙ ap (λ x. put_row (Int done.0 ∷ x) (without_rowid done.0 rows)) row_is in
     record {
       was_open = shown_open _ _ old new _ h;
       is_open = after.0;

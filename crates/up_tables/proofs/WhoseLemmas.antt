@@ -17,6 +17,7 @@ use Rattle.up_tables.specs.Whose.{HasOurTables, RowNames, RowNamesNone}
 use Rattle.up_tables.proofs.PlaceLemmas.{itself}
 use Rattle.up_tables.proofs.ReadLemmas.{few_permutation}
 use Rattle.up_tables.proofs.OursReads.{find_plain, is_statement, shows, answer_of, asked_rows, name_and_schema, is_answer, finds, not_refused}
+use Rattle.up_tables.specs.Tables.{meta_table}
 
 -- ---- rows that are answered, and the row that names
 
@@ -100,7 +101,7 @@ no_row_others s us none = record {
 
 -- ---- tables whose `meta` has its row
 
-names_row : (version : SchemaVersion) (root image_version stamp : ℕ) (trees : Trees) → trees 0 ≡ meta_row_of (number_of version) root image_version stamp ∷ [] → RowNames version trees
+names_row : (version : SchemaVersion) (root image_version stamp : ℕ) (trees : Trees) → trees meta_table.tree ≡ meta_row_of (number_of version) root image_version stamp ∷ [] → RowNames version trees
 names_row version root image_version stamp trees is = record {
   row = meta_row_of (number_of version) root image_version stamp;
   only = (let hit = itself (pos 1) in rw (is, hit) refl);
@@ -109,7 +110,7 @@ names_row version root image_version stamp trees is = record {
 }
 
 -- the answer is of ours
-pub answered : (version : SchemaVersion) (old new : State) (root image_version stamp : ℕ) (rows : List Row) → old.now.schema ≡ schema_of version → old.now.trees 0 ≡ meta_row_of (number_of version) root image_version stamp ∷ []
+pub answered : (version : SchemaVersion) (old new : State) (root image_version stamp : ℕ) (rows : List Row) → old.now.schema ≡ schema_of version → old.now.trees meta_table.tree ≡ meta_row_of (number_of version) root image_version stamp ∷ []
     → Shown find_meta_text [] old new rows → IsOurs version rows
 answered version old new root image_version stamp rows has is h =
     any_order version (answer_of old.now.trees) rows (is_answer version old new rows has h) (ours_of version old.now.trees (names_row version root image_version stamp old.now.trees is))

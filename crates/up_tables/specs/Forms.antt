@@ -15,7 +15,9 @@ use Rattle.up_tables.specs.declared.campaign.CampaignRow.{CampaignRow}
 
 -- an image: what it is, the hardware that it is for, and its needs and conflicts as texts
 abbrev pub image_row : ImageRow → Row
-image_row i = Text (string_bytes i.file) ∷ Int (pos i.length) ∷ Blob i.sha256.items ∷ Text (string_bytes i.hardware) ∷ Int (pos i.release_count) ∷ Text (string_bytes i.needs) ∷ Text (string_bytes i.conflicts) ∷ []
+image_row i =
+    Text (string_bytes i.file) ∷ Int (pos i.length) ∷ Blob i.sha256.items ∷ Text (string_bytes i.hardware) ∷ Int (pos i.release_count)
+    ∷ Text (string_bytes i.needs) ∷ Text (string_bytes i.conflicts) ∷ []
 
 abbrev pub image_places : List ℕ
 image_places = 0 ∷ 1 ∷ 2 ∷ 3 ∷ 4 ∷ 5 ∷ 6 ∷ []
@@ -49,7 +51,9 @@ pub record FitVehicle (v : VehicleRow) : Type 0 where
 
 -- an accepted manifest: when it came, under which root version, and what was planned and answered
 abbrev pub kept_row : KeptRow → Row
-kept_row k = Text (string_bytes k.vehicle) ∷ Int (pos k.counter) ∷ Int (pos k.version) ∷ Int (pos k.moment) ∷ Int (pos k.root) ∷ Text (string_bytes k.signed) ∷ Text (string_bytes k.plan_text) ∷ Text (string_bytes k.reply) ∷ []
+kept_row k =
+    Text (string_bytes k.vehicle) ∷ Int (pos k.counter) ∷ Int (pos k.version) ∷ Int (pos k.moment) ∷ Int (pos k.root)
+    ∷ Text (string_bytes k.signed) ∷ Text (string_bytes k.plan_text) ∷ Text (string_bytes k.reply) ∷ []
 
 abbrev pub kept_places : List ℕ
 kept_places = 0 ∷ 1 ∷ 2 ∷ 3 ∷ 4 ∷ 5 ∷ 6 ∷ 7 ∷ []
@@ -89,7 +93,9 @@ pub record FitMeta (m : MetaRow) : Type 0 where
 
 -- a key of a role in a root version, at its place there, with the role's threshold
 abbrev pub role_key_row : RoleKeyRow → Row
-role_key_row k = Int (pos k.root) ∷ Text (string_bytes k.repository) ∷ Text (string_bytes k.role) ∷ Int (pos k.place) ∷ Blob k.secret.items ∷ Int (pos k.threshold) ∷ []
+role_key_row k =
+    Int (pos k.root) ∷ Text (string_bytes k.repository) ∷ Text (string_bytes k.role) ∷ Int (pos k.place) ∷ Blob k.secret.items
+    ∷ Int (pos k.threshold) ∷ []
 
 abbrev pub role_key_places : List ℕ
 role_key_places = 0 ∷ 1 ∷ 2 ∷ 3 ∷ 4 ∷ 5 ∷ []

@@ -1,14 +1,13 @@
 //! The rows of kept manifests.
 
-ghost use Rattle.std.specs.Prelude.{◌≡◌, ◌<◌, ◌^◌, ℕ, pos, List, map, filter, string_bytes, OnOk, IfOk};
+ghost use Rattle.std.specs.Prelude.{◌≡◌, ◌<◌, ◌^◌, pos, map, filter, string_bytes};
 ghost use Rattle.std.specs.Option.{option_to_list};
 ghost use Rattle.sqlite.specs.Held.{state};
-ghost use Rattle.sqlite.specs.State.{HasCleanDisk};
-ghost use Rattle.sqlite.specs.Order.{Row as Values};
 ghost use Rattle.up_tables.specs.Tables.{kept_table};
 ghost use Rattle.up_tables.specs.Rows.{columns_at, has_number, with_row};
 ghost use Rattle.up_tables.specs.Forms.{kept_places, kept_row, FitKept};
-ghost use Rattle.up_tables.specs.Stands.{IfClean, IsInside, IsOpen, HasTables, Alters, Lists, Reads, Steps};
+ghost use Rattle.up_tables.specs.Stands.{IfClean, IsInside};
+ghost use Rattle.up_tables.specs.Statements.{IsOpenStep, AltersRows, OnlyReads, Finds};
 
 use crate::reading::{Decode, at_most_one};
 use crate::values::{StoreFault, done, number, number_at, text_at, words};
@@ -52,13 +51,9 @@ impl Decode for KeptRow {
 pub fn insert_kept<S: Alter>(tx: &mut Transaction<'_, S>, kept: &KeptRow) -> Result<(), StoreFault>
     requires fit { FitKept kept.now }
     requires mode { IfClean IsInside (state S.Store tx.old.conn.now) }
-    ensures same_reference { tx.new.conn.ghost_name ≡ tx.old.conn.ghost_name }
-    ensures inserted { HasCleanDisk (state S.Store tx.new.conn.now) → OnOk result ((rows_of : List ℕ → List Values) → HasTables (state S.Store tx.old.conn.now)
-        → Lists 1 rows_of ((state S.Store tx.old.conn.now).now.trees kept_table.tree)
-        → Alters kept_table (Lists 1 (with_row (string_bytes kept.now.vehicle) (kept_row kept.now) rows_of)) (state S.Store tx.old.conn.now) (state S.Store tx.new.conn.now)) }
-    ensures inside { OnOk result (IfClean IsInside (state S.Store tx.new.conn.now)) }
-    ensures open { OnOk result (IfClean IsOpen (state S.Store tx.new.conn.now)) }
-    ensures steps { Steps (state S.Store tx.old.conn.now) (state S.Store tx.new.conn.now) }
+    ensures inserted { AltersRows kept_table 1 (with_row (string_bytes kept.now.vehicle) (kept_row kept.now))
+        (state S.Store tx.old.conn.now) (state S.Store tx.new.conn.now) result }
+    ensures step { IsOpenStep S.Store tx.old.conn tx.new.conn result }
 {
     done(tx.execute(
         "INSERT INTO kept (vehicle, counter, version, moment, root, signed, plan_text, reply) VALUES (?1, ?2, ?3, ?4, ?5, ?6, ?7, ?8)",
@@ -83,14 +78,12 @@ pub fn kept<S: Alter>(
 ) -> Result<Option<KeptRow>, StoreFault>
     requires counter { counter < 2 ^ 63 }
     requires mode { IfClean IsInside (state S.Store tx.old.conn.now) }
-    ensures same_reference { tx.new.conn.ghost_name ≡ tx.old.conn.ghost_name }
-    ensures found { HasCleanDisk (state S.Store tx.new.conn.now) → IfOk result (λ found. (rows_of : List ℕ → List Values) → HasTables (state S.Store tx.old.conn.now)
-        → Lists 1 rows_of ((state S.Store tx.old.conn.now).now.trees kept_table.tree)
-        → map (columns_at kept_places) (filter (has_number 1 (pos counter)) (rows_of vehicle.now)) ≡ map kept_row (option_to_list found)) }
-    ensures reads { HasCleanDisk (state S.Store tx.new.conn.now) → OnOk result (HasTables (state S.Store tx.old.conn.now) → Reads (state S.Store tx.old.conn.now) (state S.Store tx.new.conn.now)) }
-    ensures inside { OnOk result (IfClean IsInside (state S.Store tx.new.conn.now)) }
-    ensures open { OnOk result (IfClean IsOpen (state S.Store tx.new.conn.now)) }
-    ensures steps { Steps (state S.Store tx.old.conn.now) (state S.Store tx.new.conn.now) }
+    ensures found { Finds kept_table 1
+        (λ rows_of found. map (columns_at kept_places) (filter (has_number 1 (pos counter)) (rows_of vehicle.now))
+        ≡ map kept_row (option_to_list found))
+        (state S.Store tx.old.conn.now) (state S.Store tx.new.conn.now) result }
+    ensures reads { OnlyReads (state S.Store tx.old.conn.now) (state S.Store tx.new.conn.now) result }
+    ensures step { IsOpenStep S.Store tx.old.conn tx.new.conn result }
 {
     at_most_one(tx.query_all(
         "SELECT vehicle, counter, version, moment, root, signed, plan_text, reply FROM kept WHERE vehicle = ?1 AND counter = ?2",

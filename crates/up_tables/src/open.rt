@@ -1,18 +1,19 @@
 //! Whose tables a database has: they are made in one that has none, told by the row of `meta`, and raised where they are of an older version.
 
-ghost use Rattle.std.specs.Prelude.{◌≡◌, ◌≢◌, false, [], OnOk, OnErr, Err, None, Some, IfOk, IfErr, IfSome, IsTrue, codes, pos};
+ghost use Rattle.std.specs.Prelude.{◌≡◌, ◌≢◌, false, OnOk, OnErr, Err, None, Some, IfOk, IfErr, IfSome, IsTrue, codes, pos};
 ghost use Rattle.sqlite.specs.declared.types.Value.TheVariants.{Int, Text};
 ghost use Rattle.sqlite.specs.Order.{column};
 ghost use Rattle.sqlite.specs.Held.{state};
 ghost use Rattle.sqlite.specs.State.{HasCleanDisk, Survives, IsLive};
 ghost use Rattle.up_tables.specs.Tables.{no_schema, up_schema};
 ghost use Rattle.up_tables.specs.Lines.{AreNew};
-ghost use Rattle.up_tables.specs.Stands.{IfClean, IsInside, IsOpen, LeavesOnly, Stands, Steps, AreWith, HasNoTables, IsAsCommitted};
+ghost use Rattle.up_tables.specs.Stands.{IfClean, IsInside, IsOpen, LeavesOnly, Stands, AreWith, HasNoTables, IsAsCommitted};
 ghost use Rattle.up_tables.specs.Listed.{TableRows, ListsTables};
 ghost use Rattle.up_tables.specs.Versions.{number_of, StandsAs};
 ghost use Rattle.up_tables.specs.Ours.{NamesUs, NamesVersion, NamesOthers, ListsUs, IsOurs, Raised, is_refused};
 ghost use Rattle.up_tables.specs.Faults.{open_fault};
 ghost use Rattle.up_tables.specs.declared.open.OpenFault.TheVariants as OpenFault;
+ghost use Rattle.up_tables.specs.Statements.{IsStep};
 
 use crate::create::make_all;
 use crate::raise::raise;
@@ -45,7 +46,8 @@ pub enum SchemaVersion {
 fn has_no_table<S: Alter>(conn: &Connection<S>) -> bool
     ensures empty { IsTrue result → (state S.Store conn.now).now.schema ≡ no_schema }
     ensures live { IsLive (state S.Store conn.now) }
-    ensures settled { (state S.Store conn.now).in_transaction ≡ false → IsTrue (state S.Store conn.now).is_open → (state S.Store conn.now).now ≡ (state S.Store conn.now).committed }
+    ensures settled { (state S.Store conn.now).in_transaction ≡ false → IsTrue (state S.Store conn.now).is_open
+        → (state S.Store conn.now).now ≡ (state S.Store conn.now).committed }
 {
     let _idle = conn.is_autocommit();
     let schema = conn.schema();
@@ -63,7 +65,8 @@ pub fn create_tables<S: Alter>(conn: &mut Connection<S>) -> Result<(), OpenFault
     ensures fault { IfErr result (λ e. e ≢ OpenFault.NotOurs) }
     ensures kept { OnErr result (IfClean (IsAsCommitted (state S.Store conn.old)) (state S.Store conn.new)) }
     ensures autocommit { (state S.Store conn.new).in_transaction ≡ false }
-    ensures crash { Survives (state S.Store conn.old) (state S.Store conn.new) (λ trees. HasNoTables (state S.Store conn.old) × AreWith up_schema AreNew trees) }
+    ensures crash { Survives (state S.Store conn.old) (state S.Store conn.new)
+        (λ trees. HasNoTables (state S.Store conn.old) × AreWith up_schema AreNew trees) }
     ensures open { HasCleanDisk (state S.Store conn.new) → OnOk result (IsTrue (state S.Store conn.old).is_open) }
 {
     if !has_no_table(conn) {
@@ -79,17 +82,19 @@ pub fn create_tables<S: Alter>(conn: &mut Connection<S>) -> Result<(), OpenFault
     }
 }
 
-/// Takes tables of this product, whatever version of its schema `meta` names, and raises those of an older one in one transaction. `false` where `meta`
-/// doesn't name it: where the database refuses the query on it, as one without such a table does, or answers anything but the one row. `Memory` for want
-/// of memory; `Store` where the disk failed, a limit on steps was met, or a statement that raises was refused, as where a table that it makes is there
-/// already. Whatever it answers but `true`, the database is as it was committed. It looks at `meta` alone, not at which other tables there are.
+/// Takes tables of this product, whatever version of its schema `meta` names, and raises those of an older one in one transaction. `false` where
+/// `meta` doesn't name it: where the database refuses the query on it, as one without such a table does, or answers anything but the one row.
+/// `Memory` for want of memory; `Store` where the disk failed, a limit on steps was met, or a statement that raises was refused, as where a table
+/// that it makes is there already. Whatever it answers but `true`, the database is as it was committed. It looks at `meta` alone, not at which
+/// other tables there are.
 pub fn take_tables<S: Alter>(conn: &mut Connection<S>) -> Result<bool, OpenFault>
     requires { (state S.Store conn.old).in_transaction ≡ false }
     ensures ours { IfOk result (λ b. IsTrue b → HasCleanDisk (state S.Store conn.new) → NamesUs (state S.Store conn.old)) }
     ensures others { IfOk result (λ b. b ≡ false → HasCleanDisk (state S.Store conn.new) → NamesOthers (state S.Store conn.old)) }
-    ensures listed { IfOk result (λ b. HasCleanDisk (state S.Store conn.new) → (version : SchemaVersion) → ListsUs version (state S.Store conn.old) → IsTrue b) }
-    ensures taken { IfOk result (λ b. IsTrue b → HasCleanDisk (state S.Store conn.new) → (version : SchemaVersion) (rows : TableRows) → StandsAs version rows (state S.Store conn.old)
-        → Stands up_schema (ListsTables rows) (state S.Store conn.new)) }
+    ensures listed { IfOk result (λ b. HasCleanDisk (state S.Store conn.new)
+        → (version : SchemaVersion) → ListsUs version (state S.Store conn.old) → IsTrue b) }
+    ensures taken { IfOk result (λ b. IsTrue b → HasCleanDisk (state S.Store conn.new) → (version : SchemaVersion) (rows : TableRows)
+        → StandsAs version rows (state S.Store conn.old) → Stands up_schema (ListsTables rows) (state S.Store conn.new)) }
     ensures fault { IfErr result (λ e. e ≢ OpenFault.NotOurs) }
     ensures kept { IfOk result (λ b. b ≡ false → IfClean (IsAsCommitted (state S.Store conn.old)) (state S.Store conn.new)) }
     ensures kept_err { OnErr result (IfClean (IsAsCommitted (state S.Store conn.old)) (state S.Store conn.new)) }
@@ -111,9 +116,11 @@ pub fn take_tables<S: Alter>(conn: &mut Connection<S>) -> Result<bool, OpenFault
 /// The version of this product's schema that `meta` names, none where it doesn't name one.
 fn version_there<S: Alter>(conn: &mut Connection<S>) -> Result<Option<SchemaVersion>, OpenFault>
     requires { (state S.Store conn.old).in_transaction ≡ false }
-    ensures named { HasCleanDisk (state S.Store conn.new) → IfOk result (λ found. IfSome found (λ version. NamesVersion version (state S.Store conn.old))) }
+    ensures named { HasCleanDisk (state S.Store conn.new)
+        → IfOk result (λ found. IfSome found (λ version. NamesVersion version (state S.Store conn.old))) }
     ensures others { HasCleanDisk (state S.Store conn.new) → IfOk result (λ found. found ≡ None → NamesOthers (state S.Store conn.old)) }
-    ensures tells { HasCleanDisk (state S.Store conn.new) → IfOk result (λ found. (version : SchemaVersion) → ListsUs version (state S.Store conn.old) → found ≡ Some version) }
+    ensures tells { HasCleanDisk (state S.Store conn.new)
+        → IfOk result (λ found. (version : SchemaVersion) → ListsUs version (state S.Store conn.old) → found ≡ Some version) }
     ensures fault { IfErr result (λ e. e ≢ OpenFault.NotOurs) }
     ensures kept { IfClean (IsAsCommitted (state S.Store conn.old)) (state S.Store conn.new) }
     ensures autocommit { (state S.Store conn.new).in_transaction ≡ false }
@@ -130,13 +137,16 @@ fn version_there<S: Alter>(conn: &mut Connection<S>) -> Result<Option<SchemaVers
 /// The rows of `meta` with the product and the schema.
 fn find_meta<S: Alter>(tx: &mut Transaction<'_, S>) -> Result<Vec<Row>, Error>
     requires mode { IfClean IsInside (state S.Store tx.old.conn.now) }
-    ensures same_reference { tx.new.conn.ghost_name ≡ tx.old.conn.ghost_name }
-    ensures found { HasCleanDisk (state S.Store tx.new.conn.now) → IfOk result (λ rows. (version : SchemaVersion) → IsOurs version rows.items → NamesVersion version (state S.Store tx.old.conn.now)) }
-    ensures tells { HasCleanDisk (state S.Store tx.new.conn.now) → IfOk result (λ rows. (version : SchemaVersion) → ListsUs version (state S.Store tx.old.conn.now) → IsOurs version rows.items) }
-    ensures others { HasCleanDisk (state S.Store tx.new.conn.now) → IfOk result (λ rows. ((version : SchemaVersion) → ¬ IsOurs version rows.items) → NamesOthers (state S.Store tx.old.conn.now)) }
-    ensures refused { HasCleanDisk (state S.Store tx.new.conn.now) → IfErr result (λ e. IsTrue (is_refused e) → NamesOthers (state S.Store tx.old.conn.now)) }
+    ensures found { HasCleanDisk (state S.Store tx.new.conn.now)
+        → IfOk result (λ rows. (version : SchemaVersion) → IsOurs version rows.items → NamesVersion version (state S.Store tx.old.conn.now)) }
+    ensures tells { HasCleanDisk (state S.Store tx.new.conn.now)
+        → IfOk result (λ rows. (version : SchemaVersion) → ListsUs version (state S.Store tx.old.conn.now) → IsOurs version rows.items) }
+    ensures others { HasCleanDisk (state S.Store tx.new.conn.now)
+        → IfOk result (λ rows. ((version : SchemaVersion) → ¬ IsOurs version rows.items) → NamesOthers (state S.Store tx.old.conn.now)) }
+    ensures refused { HasCleanDisk (state S.Store tx.new.conn.now)
+        → IfErr result (λ e. IsTrue (is_refused e) → NamesOthers (state S.Store tx.old.conn.now)) }
     ensures open { OnOk result (IfClean IsOpen (state S.Store tx.new.conn.now)) }
-    ensures steps { Steps (state S.Store tx.old.conn.now) (state S.Store tx.new.conn.now) }
+    ensures step { IsStep S.Store tx.old.conn tx.new.conn }
 {
     tx.query_all("SELECT app, schema FROM meta WHERE id = 1", &[])
 }

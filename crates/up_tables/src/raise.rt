@@ -1,16 +1,16 @@
 //! Tables of an older version of the schema become those of the latest, in one transaction.
 
-ghost use Rattle.std.specs.Prelude.{◌≡◌, ◌≢◌, ◌∷◌, [], ℕ, false, OnOk, OnErr, IfErr, IsTrue};
+ghost use Rattle.std.specs.Prelude.{◌≡◌, ◌≢◌, false, OnOk, OnErr, IfErr, IsTrue};
 ghost use Rattle.sqlite.specs.Held.{state};
 ghost use Rattle.sqlite.specs.State.{HasCleanDisk, Survives};
-ghost use Rattle.up_tables.specs.Lines.{meta_row, meta_row_of};
 ghost use Rattle.up_tables.specs.Listed.{TableRows, ListsTables};
 ghost use Rattle.up_tables.specs.Ours.{IsOlder, RaisedFrom};
-ghost use Rattle.up_tables.specs.Stands.{Alters, GoesOn, HasTables, IfClean, IsAsCommitted, IsInside, IsWithin, Stands, Steps};
-ghost use Rattle.up_tables.specs.Tables.{first_schema, second_schema, up_schema, meta_table};
-ghost use Rattle.up_tables.specs.Versions.{ListsAs, StandsAs, schema_of};
+ghost use Rattle.up_tables.specs.Stands.{IfClean, IsAsCommitted, IsInside, Stands};
+ghost use Rattle.up_tables.specs.Tables.{up_schema};
+ghost use Rattle.up_tables.specs.Versions.{StandsAs};
 ghost use Rattle.up_tables.specs.declared.open.OpenFault.TheVariants as OpenFault;
 ghost use Rattle.up_tables.specs.declared.open.SchemaVersion.TheVariants.{One, Two};
+ghost use Rattle.up_tables.specs.Statements.{IsStep, NamesLatest, RaisesFrom};
 
 use crate::create::{make_image_sha512, make_retired};
 use crate::open::{OpenFault, SchemaVersion, opening_fault};
@@ -19,12 +19,9 @@ use sqlite::{Alter, Connection, Error, Transaction};
 /// Says that the tables are of the latest version.
 fn set_schema<S: Alter>(tx: &mut Transaction<'_, S>) -> Result<usize, Error>
     requires mode { IfClean IsInside (state S.Store tx.old.conn.now) }
-    ensures same_reference { tx.new.conn.ghost_name ≡ tx.old.conn.ghost_name }
-    ensures set { HasCleanDisk (state S.Store tx.new.conn.now) → OnOk result ((number : ℕ) (root : ℕ) (image_version : ℕ) (stamp : ℕ) → HasTables (state S.Store tx.old.conn.now)
-        → (state S.Store tx.old.conn.now).now.trees meta_table.tree ≡ meta_row_of number root image_version stamp ∷ []
-        → Alters meta_table (λ rows. rows ≡ meta_row root image_version stamp ∷ []) (state S.Store tx.old.conn.now) (state S.Store tx.new.conn.now)) }
+    ensures set { NamesLatest (state S.Store tx.old.conn.now) (state S.Store tx.new.conn.now) result }
     ensures inside { OnOk result (IfClean IsInside (state S.Store tx.new.conn.now)) }
-    ensures steps { Steps (state S.Store tx.old.conn.now) (state S.Store tx.new.conn.now) }
+    ensures step { IsStep S.Store tx.old.conn tx.new.conn }
 {
     tx.execute("UPDATE meta SET schema = 3 WHERE id = 1", &[])
 }
@@ -32,11 +29,9 @@ fn set_schema<S: Alter>(tx: &mut Transaction<'_, S>) -> Result<usize, Error>
 /// Tables of version 1 become those of version 3: no ECU was retired, and no image has a second hash.
 fn raise_first<S: Alter>(tx: &mut Transaction<'_, S>) -> Result<usize, Error>
     requires mode { IfClean IsInside (state S.Store tx.old.conn.now) }
-    ensures same_reference { tx.new.conn.ghost_name ≡ tx.old.conn.ghost_name }
-    ensures raised { HasCleanDisk (state S.Store tx.new.conn.now) → OnOk result ((rows : TableRows) → IsWithin first_schema (ListsAs One rows) (state S.Store tx.old.conn.now)
-        → GoesOn up_schema (ListsTables rows) (state S.Store tx.new.conn.now)) }
+    ensures raised { RaisesFrom One (state S.Store tx.old.conn.now) (state S.Store tx.new.conn.now) result }
     ensures inside { OnOk result (IfClean IsInside (state S.Store tx.new.conn.now)) }
-    ensures steps { Steps (state S.Store tx.old.conn.now) (state S.Store tx.new.conn.now) }
+    ensures step { IsStep S.Store tx.old.conn tx.new.conn }
 {
     make_retired(tx)?;
     make_image_sha512(tx)?;
@@ -46,11 +41,9 @@ fn raise_first<S: Alter>(tx: &mut Transaction<'_, S>) -> Result<usize, Error>
 /// Tables of version 2 become those of version 3: no image has a second hash.
 fn raise_second<S: Alter>(tx: &mut Transaction<'_, S>) -> Result<usize, Error>
     requires mode { IfClean IsInside (state S.Store tx.old.conn.now) }
-    ensures same_reference { tx.new.conn.ghost_name ≡ tx.old.conn.ghost_name }
-    ensures raised { HasCleanDisk (state S.Store tx.new.conn.now) → OnOk result ((rows : TableRows) → IsWithin second_schema (ListsAs Two rows) (state S.Store tx.old.conn.now)
-        → GoesOn up_schema (ListsTables rows) (state S.Store tx.new.conn.now)) }
+    ensures raised { RaisesFrom Two (state S.Store tx.old.conn.now) (state S.Store tx.new.conn.now) result }
     ensures inside { OnOk result (IfClean IsInside (state S.Store tx.new.conn.now)) }
-    ensures steps { Steps (state S.Store tx.old.conn.now) (state S.Store tx.new.conn.now) }
+    ensures step { IsStep S.Store tx.old.conn tx.new.conn }
 {
     make_image_sha512(tx)?;
     set_schema(tx)
@@ -63,11 +56,9 @@ fn raise_tables<S: Alter>(
 ) -> Result<usize, Error>
     requires older { IsOlder version }
     requires mode { IfClean IsInside (state S.Store tx.old.conn.now) }
-    ensures same_reference { tx.new.conn.ghost_name ≡ tx.old.conn.ghost_name }
-    ensures raised { HasCleanDisk (state S.Store tx.new.conn.now) → OnOk result ((rows : TableRows) → IsWithin (schema_of version) (ListsAs version rows) (state S.Store tx.old.conn.now)
-        → GoesOn up_schema (ListsTables rows) (state S.Store tx.new.conn.now)) }
+    ensures raised { RaisesFrom version (state S.Store tx.old.conn.now) (state S.Store tx.new.conn.now) result }
     ensures inside { OnOk result (IfClean IsInside (state S.Store tx.new.conn.now)) }
-    ensures steps { Steps (state S.Store tx.old.conn.now) (state S.Store tx.new.conn.now) }
+    ensures step { IsStep S.Store tx.old.conn tx.new.conn }
 {
     match version {
         SchemaVersion::One => raise_first(tx),
@@ -83,7 +74,8 @@ pub(crate) fn raise<S: Alter>(
 ) -> Result<(), OpenFault>
     requires older { IsOlder version }
     requires mode { (state S.Store conn.old).in_transaction ≡ false }
-    ensures raised { HasCleanDisk (state S.Store conn.new) → OnOk result ((rows : TableRows) → StandsAs version rows (state S.Store conn.old) → Stands up_schema (ListsTables rows) (state S.Store conn.new)) }
+    ensures raised { HasCleanDisk (state S.Store conn.new) → OnOk result ((rows : TableRows) → StandsAs version rows (state S.Store conn.old)
+        → Stands up_schema (ListsTables rows) (state S.Store conn.new)) }
     ensures older { IsOlder version }
     ensures kept { OnErr result (IfClean (IsAsCommitted (state S.Store conn.old)) (state S.Store conn.new)) }
     ensures fault { IfErr result (λ e. e ≢ OpenFault.NotOurs) }

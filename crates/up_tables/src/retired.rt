@@ -1,15 +1,14 @@
 //! The rows of ECUs that were replaced.
 
-ghost use Rattle.std.specs.Prelude.{◌≡◌, ℕ, List, option_map, string_bytes, IfOk, OnOk};
+ghost use Rattle.std.specs.Prelude.{◌≡◌, ℕ, List, option_map, string_bytes};
 ghost use Rattle.std.specs.List.{list_any};
 ghost use Rattle.sqlite.specs.Held.{state};
-ghost use Rattle.sqlite.specs.State.{HasCleanDisk};
-ghost use Rattle.sqlite.specs.Order.{Row as Values};
 ghost use Rattle.up_tables.specs.Tables.{retired_table};
 ghost use Rattle.up_tables.specs.Rows.{has_text, with_row};
 ghost use Rattle.up_tables.specs.Lines.{retired_line};
 ghost use Rattle.up_tables.specs.Ecus.{owns};
-ghost use Rattle.up_tables.specs.Stands.{IfClean, IsInside, IsOpen, HasTables, Alters, Lists, Reads, Steps};
+ghost use Rattle.up_tables.specs.Stands.{IfClean, IsInside};
+ghost use Rattle.up_tables.specs.Statements.{IsOpenStep, AltersRows, OnlyReads, Finds};
 
 use crate::reading::at_most_one;
 use crate::values::{StoreFault, done, words};
@@ -22,13 +21,9 @@ pub fn insert_retired<S: Alter>(
     vehicle: &str,
 ) -> Result<(), StoreFault>
     requires mode { IfClean IsInside (state S.Store tx.old.conn.now) }
-    ensures same_reference { tx.new.conn.ghost_name ≡ tx.old.conn.ghost_name }
-    ensures inserted { HasCleanDisk (state S.Store tx.new.conn.now) → OnOk result ((rows_of : List ℕ → List Values) → HasTables (state S.Store tx.old.conn.now)
-        → Lists 2 rows_of ((state S.Store tx.old.conn.now).now.trees retired_table.tree)
-        → Alters retired_table (Lists 2 (with_row vehicle.now (retired_line ecu.now vehicle.now) rows_of)) (state S.Store tx.old.conn.now) (state S.Store tx.new.conn.now)) }
-    ensures inside { OnOk result (IfClean IsInside (state S.Store tx.new.conn.now)) }
-    ensures open { OnOk result (IfClean IsOpen (state S.Store tx.new.conn.now)) }
-    ensures steps { Steps (state S.Store tx.old.conn.now) (state S.Store tx.new.conn.now) }
+    ensures inserted { AltersRows retired_table 2 (with_row vehicle.now (retired_line ecu.now vehicle.now))
+        (state S.Store tx.old.conn.now) (state S.Store tx.new.conn.now) result }
+    ensures step { IsOpenStep S.Store tx.old.conn tx.new.conn result }
 {
     done(tx.execute(
         "INSERT INTO retired (ecu, vehicle) VALUES (?1, ?2)",
@@ -42,13 +37,11 @@ pub fn retired_owner<S: Alter>(
     ecu: &str,
 ) -> Result<Option<String>, StoreFault>
     requires mode { IfClean IsInside (state S.Store tx.old.conn.now) }
-    ensures same_reference { tx.new.conn.ghost_name ≡ tx.old.conn.ghost_name }
-    ensures found { HasCleanDisk (state S.Store tx.new.conn.now) → IfOk result (λ found. (rows_of : List ℕ → List Values) → HasTables (state S.Store tx.old.conn.now)
-        → Lists 2 rows_of ((state S.Store tx.old.conn.now).now.trees retired_table.tree) → (vehicle : List ℕ) → list_any (has_text 0 ecu.now) (rows_of vehicle) ≡ owns (option_map (λ s. string_bytes s) found) vehicle) }
-    ensures reads { HasCleanDisk (state S.Store tx.new.conn.now) → OnOk result (HasTables (state S.Store tx.old.conn.now) → Reads (state S.Store tx.old.conn.now) (state S.Store tx.new.conn.now)) }
-    ensures inside { OnOk result (IfClean IsInside (state S.Store tx.new.conn.now)) }
-    ensures open { OnOk result (IfClean IsOpen (state S.Store tx.new.conn.now)) }
-    ensures steps { Steps (state S.Store tx.old.conn.now) (state S.Store tx.new.conn.now) }
+    ensures found { Finds retired_table 2 (λ rows_of found. (vehicle : List ℕ)
+        → list_any (has_text 0 ecu.now) (rows_of vehicle) ≡ owns (option_map (λ s. string_bytes s) found) vehicle)
+        (state S.Store tx.old.conn.now) (state S.Store tx.new.conn.now) result }
+    ensures reads { OnlyReads (state S.Store tx.old.conn.now) (state S.Store tx.new.conn.now) result }
+    ensures step { IsOpenStep S.Store tx.old.conn tx.new.conn result }
 {
     at_most_one(tx.query_all("SELECT vehicle FROM retired WHERE ecu = ?1", &[words(ecu)]))
 }

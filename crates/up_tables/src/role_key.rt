@@ -1,13 +1,12 @@
 //! The rows of the keys of roles.
 
-ghost use Rattle.std.specs.Prelude.{◌≡◌, ◌<◌, ◌∷◌, [], ◌++◌, ◌^◌, ℕ, List, pos, map, filter, All, OnOk, IfOk};
+ghost use Rattle.std.specs.Prelude.{◌≡◌, ◌<◌, ◌∷◌, [], ◌^◌, pos, map, filter, All};
 ghost use Rattle.sqlite.specs.Held.{state};
-ghost use Rattle.sqlite.specs.State.{HasCleanDisk};
-ghost use Rattle.sqlite.specs.Order.{Row as Values};
 ghost use Rattle.up_tables.specs.Tables.{role_key_table};
 ghost use Rattle.up_tables.specs.Rows.{columns_at, has_number};
 ghost use Rattle.up_tables.specs.Forms.{role_key_places, role_key_row, FitRoleKey};
-ghost use Rattle.up_tables.specs.Stands.{IfClean, IsInside, IsOpen, HasTables, Alters, ListsAll, Reads, Steps};
+ghost use Rattle.up_tables.specs.Stands.{IfClean, IsInside, IsOpen};
+ghost use Rattle.up_tables.specs.Statements.{IsOpenStep, AppendsRows, OnlyReads, FindsAll};
 
 use crate::reading::{Decode, each_row};
 use crate::values::{StoreFault, bytes, bytes_at, done, number, number_at, text_at, words};
@@ -51,13 +50,8 @@ fn insert_role_key<S: Alter>(
 ) -> Result<(), StoreFault>
     requires fit { FitRoleKey key.now }
     requires mode { IfClean IsInside (state S.Store tx.old.conn.now) }
-    ensures same_reference { tx.new.conn.ghost_name ≡ tx.old.conn.ghost_name }
-    ensures inserted { HasCleanDisk (state S.Store tx.new.conn.now) → OnOk result ((all : List Values) → HasTables (state S.Store tx.old.conn.now)
-        → ListsAll all ((state S.Store tx.old.conn.now).now.trees role_key_table.tree)
-        → Alters role_key_table (ListsAll (all ++ role_key_row key.now ∷ [])) (state S.Store tx.old.conn.now) (state S.Store tx.new.conn.now)) }
-    ensures inside { OnOk result (IfClean IsInside (state S.Store tx.new.conn.now)) }
-    ensures open { OnOk result (IfClean IsOpen (state S.Store tx.new.conn.now)) }
-    ensures steps { Steps (state S.Store tx.old.conn.now) (state S.Store tx.new.conn.now) }
+    ensures inserted { AppendsRows role_key_table (role_key_row key.now ∷ []) (state S.Store tx.old.conn.now) (state S.Store tx.new.conn.now) result }
+    ensures step { IsOpenStep S.Store tx.old.conn tx.new.conn result }
 {
     done(tx.execute(
         "INSERT INTO role_key (root, repository, role, place, secret, threshold) VALUES (?1, ?2, ?3, ?4, ?5, ?6)",
@@ -80,13 +74,8 @@ pub fn insert_role_keys<S: Alter>(
     requires fit { All FitRoleKey keys.now }
     requires mode { IfClean IsInside (state S.Store tx.old.conn.now) }
     requires open { IfClean IsOpen (state S.Store tx.old.conn.now) }
-    ensures same_reference { tx.new.conn.ghost_name ≡ tx.old.conn.ghost_name }
-    ensures inserted { HasCleanDisk (state S.Store tx.new.conn.now) → OnOk result ((all : List Values) → HasTables (state S.Store tx.old.conn.now)
-        → ListsAll all ((state S.Store tx.old.conn.now).now.trees role_key_table.tree)
-        → Alters role_key_table (ListsAll (all ++ map role_key_row keys.now)) (state S.Store tx.old.conn.now) (state S.Store tx.new.conn.now)) }
-    ensures inside { OnOk result (IfClean IsInside (state S.Store tx.new.conn.now)) }
-    ensures open { OnOk result (IfClean IsOpen (state S.Store tx.new.conn.now)) }
-    ensures steps { Steps (state S.Store tx.old.conn.now) (state S.Store tx.new.conn.now) }
+    ensures inserted { AppendsRows role_key_table (map role_key_row keys.now) (state S.Store tx.old.conn.now) (state S.Store tx.new.conn.now) result }
+    ensures step { IsOpenStep S.Store tx.old.conn tx.new.conn result }
 {
     for key in keys {
         insert_role_key(tx, key)?;
@@ -102,13 +91,11 @@ pub fn role_keys_of<S: Alter>(
 ) -> Result<Vec<RoleKeyRow>, StoreFault>
     requires root { root < 2 ^ 63 }
     requires mode { IfClean IsInside (state S.Store tx.old.conn.now) }
-    ensures same_reference { tx.new.conn.ghost_name ≡ tx.old.conn.ghost_name }
-    ensures found { HasCleanDisk (state S.Store tx.new.conn.now) → IfOk result (λ found. (all : List Values) → HasTables (state S.Store tx.old.conn.now)
-        → ListsAll all ((state S.Store tx.old.conn.now).now.trees role_key_table.tree) → map (columns_at role_key_places) (filter (has_number 0 (pos root)) all) ≡ map role_key_row found.items) }
-    ensures reads { HasCleanDisk (state S.Store tx.new.conn.now) → OnOk result (HasTables (state S.Store tx.old.conn.now) → Reads (state S.Store tx.old.conn.now) (state S.Store tx.new.conn.now)) }
-    ensures inside { OnOk result (IfClean IsInside (state S.Store tx.new.conn.now)) }
-    ensures open { OnOk result (IfClean IsOpen (state S.Store tx.new.conn.now)) }
-    ensures steps { Steps (state S.Store tx.old.conn.now) (state S.Store tx.new.conn.now) }
+    ensures found { FindsAll role_key_table
+        (λ all found. map (columns_at role_key_places) (filter (has_number 0 (pos root)) all) ≡ map role_key_row found.items)
+        (state S.Store tx.old.conn.now) (state S.Store tx.new.conn.now) result }
+    ensures reads { OnlyReads (state S.Store tx.old.conn.now) (state S.Store tx.new.conn.now) result }
+    ensures step { IsOpenStep S.Store tx.old.conn tx.new.conn result }
 {
     each_row(
         alloc,
@@ -125,13 +112,10 @@ pub fn role_keys<S: Alter>(
     alloc: Global,
 ) -> Result<Vec<RoleKeyRow>, StoreFault>
     requires mode { IfClean IsInside (state S.Store tx.old.conn.now) }
-    ensures same_reference { tx.new.conn.ghost_name ≡ tx.old.conn.ghost_name }
-    ensures found { HasCleanDisk (state S.Store tx.new.conn.now) → IfOk result (λ found. (all : List Values) → HasTables (state S.Store tx.old.conn.now)
-        → ListsAll all ((state S.Store tx.old.conn.now).now.trees role_key_table.tree) → map (columns_at role_key_places) all ≡ map role_key_row found.items) }
-    ensures reads { HasCleanDisk (state S.Store tx.new.conn.now) → OnOk result (HasTables (state S.Store tx.old.conn.now) → Reads (state S.Store tx.old.conn.now) (state S.Store tx.new.conn.now)) }
-    ensures inside { OnOk result (IfClean IsInside (state S.Store tx.new.conn.now)) }
-    ensures open { OnOk result (IfClean IsOpen (state S.Store tx.new.conn.now)) }
-    ensures steps { Steps (state S.Store tx.old.conn.now) (state S.Store tx.new.conn.now) }
+    ensures found { FindsAll role_key_table (λ all found. map (columns_at role_key_places) all ≡ map role_key_row found.items)
+        (state S.Store tx.old.conn.now) (state S.Store tx.new.conn.now) result }
+    ensures reads { OnlyReads (state S.Store tx.old.conn.now) (state S.Store tx.new.conn.now) result }
+    ensures step { IsOpenStep S.Store tx.old.conn tx.new.conn result }
 {
     each_row(
         alloc,

@@ -1,16 +1,14 @@
 //! The rows of vehicles.
 
-ghost use Rattle.std.specs.Prelude.{◌≡◌, ◌∷◌, [], ℕ, List, map, string_bytes, IsTrue, OnOk, IfOk};
+ghost use Rattle.std.specs.Prelude.{◌≡◌, ◌∷◌, [], map, string_bytes, IsTrue, OnOk};
 ghost use Rattle.std.specs.Option.{option_to_list};
 ghost use Rattle.std.specs.Result.{IsOkAnd};
 ghost use Rattle.sqlite.specs.Held.{state};
-ghost use Rattle.sqlite.specs.State.{HasCleanDisk};
-ghost use Rattle.sqlite.specs.Order.{Row as Values};
 ghost use Rattle.up_tables.specs.Tables.{vehicle_table};
-ghost use Rattle.up_tables.specs.Rows.{columns_at, with_row, with_only};
-ghost use Rattle.up_tables.specs.Lines.{vehicle_line};
+ghost use Rattle.up_tables.specs.Rows.{columns_at, with_row};
 ghost use Rattle.up_tables.specs.Forms.{vehicle_places, vehicle_row, FitVehicle};
-ghost use Rattle.up_tables.specs.Stands.{IfClean, IsInside, IsOpen, HasTables, Alters, Lists, Reads, Steps};
+ghost use Rattle.up_tables.specs.Stands.{IfClean, IsInside};
+ghost use Rattle.up_tables.specs.Statements.{IsOpenStep, AltersRows, SetsVehicle, OnlyReads, Finds};
 
 use crate::reading::{Decode, at_most_one};
 use crate::values::{StoreFault, done, number, number_at, text_at, words};
@@ -49,13 +47,9 @@ pub fn insert_vehicle<S: Alter>(
 ) -> Result<(), StoreFault>
     requires fit { FitVehicle vehicle.now }
     requires mode { IfClean IsInside (state S.Store tx.old.conn.now) }
-    ensures same_reference { tx.new.conn.ghost_name ≡ tx.old.conn.ghost_name }
-    ensures inserted { HasCleanDisk (state S.Store tx.new.conn.now) → OnOk result ((rows_of : List ℕ → List Values) → HasTables (state S.Store tx.old.conn.now)
-        → Lists 1 rows_of ((state S.Store tx.old.conn.now).now.trees vehicle_table.tree)
-        → Alters vehicle_table (Lists 1 (with_row (string_bytes vehicle.now.vehicle) (vehicle_row vehicle.now) rows_of)) (state S.Store tx.old.conn.now) (state S.Store tx.new.conn.now)) }
-    ensures inside { OnOk result (IfClean IsInside (state S.Store tx.new.conn.now)) }
-    ensures open { OnOk result (IfClean IsOpen (state S.Store tx.new.conn.now)) }
-    ensures steps { Steps (state S.Store tx.old.conn.now) (state S.Store tx.new.conn.now) }
+    ensures inserted { AltersRows vehicle_table 1 (with_row (string_bytes vehicle.now.vehicle) (vehicle_row vehicle.now))
+        (state S.Store tx.old.conn.now) (state S.Store tx.new.conn.now) result }
+    ensures step { IsOpenStep S.Store tx.old.conn tx.new.conn result }
 {
     done(tx.execute(
         "INSERT INTO vehicle (vehicle, primary_ecu, version, last_counter) VALUES (?1, ?2, ?3, ?4)",
@@ -76,13 +70,8 @@ pub fn upsert_vehicle<S: Alter>(
 ) -> Result<(), StoreFault>
     requires fit { FitVehicle vehicle.now }
     requires mode { IfClean IsInside (state S.Store tx.old.conn.now) }
-    ensures same_reference { tx.new.conn.ghost_name ≡ tx.old.conn.ghost_name }
-    ensures set { HasCleanDisk (state S.Store tx.new.conn.now) → OnOk result ((rows_of : List ℕ → List Values) (primary : List ℕ) (version : ℕ) (last : ℕ) → HasTables (state S.Store tx.old.conn.now)
-        → Lists 1 rows_of ((state S.Store tx.old.conn.now).now.trees vehicle_table.tree) → rows_of (string_bytes vehicle.now.vehicle) ≡ vehicle_line (string_bytes vehicle.now.vehicle) primary version last ∷ []
-        → Alters vehicle_table (Lists 1 (with_only (string_bytes vehicle.now.vehicle) (vehicle_row vehicle.now) rows_of)) (state S.Store tx.old.conn.now) (state S.Store tx.new.conn.now)) }
-    ensures inside { OnOk result (IfClean IsInside (state S.Store tx.new.conn.now)) }
-    ensures open { OnOk result (IfClean IsOpen (state S.Store tx.new.conn.now)) }
-    ensures steps { Steps (state S.Store tx.old.conn.now) (state S.Store tx.new.conn.now) }
+    ensures set { SetsVehicle vehicle.now (state S.Store tx.old.conn.now) (state S.Store tx.new.conn.now) result }
+    ensures step { IsOpenStep S.Store tx.old.conn tx.new.conn result }
 {
     shows(
         tx.query_all(
@@ -131,13 +120,11 @@ pub fn vehicle<S: Alter>(
     name: &str,
 ) -> Result<Option<VehicleRow>, StoreFault>
     requires mode { IfClean IsInside (state S.Store tx.old.conn.now) }
-    ensures same_reference { tx.new.conn.ghost_name ≡ tx.old.conn.ghost_name }
-    ensures found { HasCleanDisk (state S.Store tx.new.conn.now) → IfOk result (λ found. (rows_of : List ℕ → List Values) → HasTables (state S.Store tx.old.conn.now)
-        → Lists 1 rows_of ((state S.Store tx.old.conn.now).now.trees vehicle_table.tree) → map (columns_at vehicle_places) (rows_of name.now) ≡ map vehicle_row (option_to_list found)) }
-    ensures reads { HasCleanDisk (state S.Store tx.new.conn.now) → OnOk result (HasTables (state S.Store tx.old.conn.now) → Reads (state S.Store tx.old.conn.now) (state S.Store tx.new.conn.now)) }
-    ensures inside { OnOk result (IfClean IsInside (state S.Store tx.new.conn.now)) }
-    ensures open { OnOk result (IfClean IsOpen (state S.Store tx.new.conn.now)) }
-    ensures steps { Steps (state S.Store tx.old.conn.now) (state S.Store tx.new.conn.now) }
+    ensures found { Finds vehicle_table 1
+        (λ rows_of found. map (columns_at vehicle_places) (rows_of name.now) ≡ map vehicle_row (option_to_list found))
+        (state S.Store tx.old.conn.now) (state S.Store tx.new.conn.now) result }
+    ensures reads { OnlyReads (state S.Store tx.old.conn.now) (state S.Store tx.new.conn.now) result }
+    ensures step { IsOpenStep S.Store tx.old.conn tx.new.conn result }
 {
     at_most_one(tx.query_all(
         "SELECT vehicle, primary_ecu, version, last_counter FROM vehicle WHERE vehicle = ?1",

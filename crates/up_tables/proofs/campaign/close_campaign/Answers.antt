@@ -7,4 +7,4 @@ returns g c =
     let written = is_written _ _ _ _ c.execute.result c.done.result _ c.done.ensures.ok c.requires.mode c.execute.ensures.survives c.execute.ensures.runs
     (closes_in c.execute.result _ _ c.args.name.now c.execute.ensures.survives c.requires.mode
     (rw (c.words.ensures) at c.execute.ensures.runs)) in
-    record { same_reference = c.execute.ensures.same_reference; closed = written.told; inside = written.inside; «open» = written.opened; steps = written.steps }
+    record { closed = written.told; step = record { same_reference = c.execute.ensures.same_reference; steps = written.steps; inside = written.inside; is_open = written.opened } }

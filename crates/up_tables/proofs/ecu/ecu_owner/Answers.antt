@@ -7,4 +7,4 @@ pub returns : goal.returns
 returns g c =
     let found = λ (clean : _). finds_owner (λ s. string_bytes s) (λ v. v.items) c.query_all.result c.at_most_one.result _ _ c.args.ecu.now c.at_most_one.ensures.ok (rw c.words.ensures at (c.query_all.ensures.ok clean)) in
     let read = is_read (λ v. v.items) find_owner_text _ _ _ c.query_all.result c.at_most_one.result _ owner_is.2 c.at_most_one.ensures.ok c.requires.mode c.query_all.ensures.survives c.query_all.ensures.ok c.query_all.ensures.err in
-    record { same_reference = c.query_all.ensures.same_reference; found = found; reads = read.reads; inside = read.inside; «open» = read.opened; steps = read.steps }
+    record { found = found; reads = read.reads; step = record { same_reference = c.query_all.ensures.same_reference; steps = read.steps; inside = read.inside; is_open = read.opened } }

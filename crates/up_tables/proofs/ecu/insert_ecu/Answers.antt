@@ -8,4 +8,4 @@ pub returns : goal.returns
 returns g c =
     let written = is_written _ _ _ _ c.execute.result c.done.result _ c.done.ensures.ok c.requires.mode c.execute.ensures.survives c.execute.ensures.runs
     (ecu_inserts c.execute.result _ _ (line c.args.vehicle.now c.args.place c.args.row.now) (line_kept c.args.vehicle.now c.args.place c.args.row.now) c.execute.ensures.survives c.requires.mode (rw c.values_of.ensures at c.execute.ensures.runs)) in
-    record { same_reference = c.execute.ensures.same_reference; inserted = written.told; inside = written.inside; «open» = written.opened; steps = written.steps }
+    record { inserted = written.told; step = record { same_reference = c.execute.ensures.same_reference; steps = written.steps; inside = written.inside; is_open = written.opened } }

@@ -8,7 +8,7 @@ use Rattle.up_tables.proofs.ecu.insert_ecus.Goals as goal
 pub loop-place-preserved : goal.loop-place-preserved
 loop-place-preserved g c =
     let there = got_at c.args.rows.now c.loop-place.place c.index-rows-place.result (omega (arith, c.loop-place-test.true)) c.index-rows-place.is in
-    keeps_on _ _ _ _ _ _ _ _ c.loop-place.invariant c.insert_ecu.ensures.same_reference c.in_ok-insert_ecu.ensures.inside c.in_ok-insert_ecu.ensures.open c.insert_ecu.ensures.steps (λ clean so_far.
+    keeps_on _ _ _ _ _ _ _ _ c.loop-place.invariant c.insert_ecu.ensures.step.same_reference c.in_ok-insert_ecu.ensures.step.inside c.in_ok-insert_ecu.ensures.step.is_open c.insert_ecu.ensures.step.steps (λ clean so_far.
     next_put c.args.vehicle.now (lines c.args.vehicle.now 0 c.args.rows.now) c.loop-place.place (line c.args.vehicle.now c.loop-place.place c.index-rows-place.result) _ _ _
     (first_line_at c.args.vehicle.now c.loop-place.place c.args.rows.now c.index-rows-place.result there) so_far (c.in_ok-insert_ecu.ensures.inserted clean))
 

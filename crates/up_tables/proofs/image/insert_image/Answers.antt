@@ -8,4 +8,4 @@ returns g c =
     (image_inserts c.execute.result _ _ c.args.image.now c.execute.ensures.survives c.requires.mode
     (rw (c.words.ensures, c.as_str.ensures.value, c.number.ensures, c.bytes.ensures, c.as_slice.ensures.value, c.words-2.ensures, c.as_str-2.ensures.value, c.number-2.ensures, c.words-3.ensures, c.as_str-3.ensures.value, c.words-4.ensures, c.as_str-4.ensures.value)
     at c.execute.ensures.runs)) in
-    record { same_reference = c.execute.ensures.same_reference; inserted = written.told; inside = written.inside; «open» = written.opened; steps = written.steps }
+    record { inserted = written.told; step = record { same_reference = c.execute.ensures.same_reference; steps = written.steps; inside = written.inside; is_open = written.opened } }

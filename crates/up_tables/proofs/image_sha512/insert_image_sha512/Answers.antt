@@ -6,4 +6,4 @@ pub returns : goal.returns
 returns g c =
     let written = is_written _ _ _ _ c.execute.result c.done.result _ c.done.ensures.ok c.requires.mode c.execute.ensures.survives c.execute.ensures.runs
     (sha512_inserts c.execute.result _ _ c.args.file.now c.args.sha512.now c.execute.ensures.survives c.requires.mode (rw (c.words.ensures, c.bytes.ensures) at c.execute.ensures.runs)) in
-    record { same_reference = c.execute.ensures.same_reference; inserted = written.told; inside = written.inside; «open» = written.opened; steps = written.steps }
+    record { inserted = written.told; step = record { same_reference = c.execute.ensures.same_reference; steps = written.steps; inside = written.inside; is_open = written.opened } }

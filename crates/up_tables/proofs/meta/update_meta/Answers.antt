@@ -7,4 +7,4 @@ returns g c =
     let written = is_written _ _ _ _ c.execute.result c.done.result _ c.done.ensures.ok c.requires.mode c.execute.ensures.survives c.execute.ensures.runs
     (sets_meta c.execute.result _ _ c.args.meta.now c.execute.ensures.survives c.requires.mode
     (rw (c.number.ensures, c.number-2.ensures, c.number-3.ensures) at c.execute.ensures.runs)) in
-    record { same_reference = c.execute.ensures.same_reference; set = written.told; inside = written.inside; «open» = written.opened; steps = written.steps }
+    record { set = written.told; step = record { same_reference = c.execute.ensures.same_reference; steps = written.steps; inside = written.inside; is_open = written.opened } }

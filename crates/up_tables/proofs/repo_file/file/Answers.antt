@@ -6,4 +6,4 @@ pub returns : goal.returns
 returns g c =
     let found = λ (clean : _). finds_file (λ v. v.items) c.query_all.result c.at_most_one.result _ _ c.args.repository.now c.args.name.now c.at_most_one.ensures.ok (rw (c.words.ensures, c.words-2.ensures) at (c.query_all.ensures.ok clean)) in
     let read = is_read (λ v. v.items) find_file_text _ _ _ c.query_all.result c.at_most_one.result _ find_is.2 c.at_most_one.ensures.ok c.requires.mode c.query_all.ensures.survives c.query_all.ensures.ok c.query_all.ensures.err in
-    record { same_reference = c.query_all.ensures.same_reference; found = found; reads = read.reads; inside = read.inside; «open» = read.opened; steps = read.steps }
+    record { found = found; reads = read.reads; step = record { same_reference = c.query_all.ensures.same_reference; steps = read.steps; inside = read.inside; is_open = read.opened } }

@@ -8,4 +8,4 @@ returns g c =
     let written = is_written _ _ _ _ c.execute.result c.done.result _ c.done.ensures.ok c.requires.mode c.execute.ensures.survives c.execute.ensures.runs
     (sets_file c.execute.result _ _ (string_bytes c.args.file.now.repository) (string_bytes c.args.file.now.name) (string_bytes c.args.file.now.body) c.execute.ensures.survives c.requires.mode
     (rw (c.words.ensures, c.as_str.ensures.value, c.words-2.ensures, c.as_str-2.ensures.value, c.words-3.ensures, c.as_str-3.ensures.value) at c.execute.ensures.runs)) in
-    record { same_reference = c.execute.ensures.same_reference; set = written.told; inside = written.inside; «open» = written.opened; steps = written.steps }
+    record { set = written.told; step = record { same_reference = c.execute.ensures.same_reference; steps = written.steps; inside = written.inside; is_open = written.opened } }

@@ -7,4 +7,4 @@ returns g c =
     let written = is_written _ _ _ _ c.execute.result c.done.result _ c.done.ensures.ok c.requires.mode c.execute.ensures.survives c.execute.ensures.runs
     (role_key_inserts c.execute.result _ _ c.args.key.now c.execute.ensures.survives c.requires.mode
     (rw (c.number.ensures, c.words.ensures, c.as_str.ensures.value, c.words-2.ensures, c.as_str-2.ensures.value, c.number-2.ensures, c.bytes.ensures, c.as_slice.ensures.value, c.number-3.ensures) at c.execute.ensures.runs)) in
-    record { same_reference = c.execute.ensures.same_reference; inserted = written.told; inside = written.inside; «open» = written.opened; steps = written.steps }
+    record { inserted = written.told; step = record { same_reference = c.execute.ensures.same_reference; steps = written.steps; inside = written.inside; is_open = written.opened } }

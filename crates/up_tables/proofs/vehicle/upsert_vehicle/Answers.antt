@@ -11,16 +11,13 @@ returns-clause-set g c =
     (string_bytes c.args.vehicle.now.vehicle) (string_bytes c.args.vehicle.now.primary_ecu) c.args.vehicle.now.version c.args.vehicle.now.last_counter c.query_all.ensures.survives c.requires.mode c.shows.ensures
     (rw (c.words.ensures, c.as_str.ensures.value, c.words-2.ensures, c.as_str-2.ensures.value, c.number.ensures, c.number-2.ensures) at c.query_all.ensures.ok)
 
-pub returns-clause-inside : goal.returns-clause-inside
-returns-clause-inside g c =
-    on_answered _ _ c.query_all.result c.shows.result c.shows.ensures
-    (shown_inside (λ v. v.items) _ _ (state g.S.Store c.args.tx.now.conn.now) (state g.S.Store c.query_all.new.self.conn.now) c.query_all.result c.query_all.ensures.survives c.requires.mode c.query_all.ensures.ok)
-
-pub returns-clause-open : goal.returns-clause-open
-returns-clause-open g c =
-    on_answered _ _ c.query_all.result c.shows.result c.shows.ensures
-    (shown_is_open (λ v. v.items) _ _ (state g.S.Store c.args.tx.now.conn.now) (state g.S.Store c.query_all.new.self.conn.now) c.query_all.result c.query_all.ensures.ok)
-
-pub returns-clause-steps : goal.returns-clause-steps
-returns-clause-steps g c =
-    queries (λ v. v.items) _ _ (state g.S.Store c.args.tx.now.conn.now) (state g.S.Store c.query_all.new.self.conn.now) c.query_all.result c.requires.mode c.query_all.ensures.survives c.query_all.ensures.ok c.query_all.ensures.err
+pub returns-clause-step : goal.returns-clause-step
+returns-clause-step g c =
+    let old = state g.S.Store c.args.tx.now.conn.now in
+    let new = state g.S.Store c.query_all.new.self.conn.now in
+    record {
+      same_reference = c.query_all.ensures.same_reference;
+      steps = queries (λ v. v.items) _ _ old new c.query_all.result c.requires.mode c.query_all.ensures.survives c.query_all.ensures.ok c.query_all.ensures.err;
+      inside = on_answered _ _ c.query_all.result c.shows.result c.shows.ensures (shown_inside (λ v. v.items) _ _ old new c.query_all.result c.query_all.ensures.survives c.requires.mode c.query_all.ensures.ok);
+      is_open = on_answered _ _ c.query_all.result c.shows.result c.shows.ensures (shown_is_open (λ v. v.items) _ _ old new c.query_all.result c.query_all.ensures.ok);
+    }
