@@ -4,3 +4,4 @@ pub mod FeedLaws
 pub mod StreamLaws
 pub mod ServeLaws
 pub mod InputLaws
+pub mod Blaming

@@ -1,8 +1,9 @@
 //! A stream that is read, and the answers to its requests.
-ghost use Rattle.std.specs.Prelude.{◌≡◌, ◌≤◌, ◌<◌, ◌+◌, [], ◌∷◌, ℕ, List, if◌then◌else◌, is_ok, IfOk, IfErr, IfSome, IsTrue, OnOk, false, true, take};
+ghost use Rattle.std.specs.Prelude.{◌≡◌, ◌⊎◌, ◌≤◌, ◌<◌, ◌+◌, [], ◌∷◌, ℕ, List, if◌then◌else◌, is_ok, IfOk, IfErr, IfSome, IsTrue, OnOk, false, true, take};
 ghost use Rattle.std.specs.Io.KnownBytes.{Appends};
 ghost use Rattle.up_http.specs.Requests.{asks_running, most_requests};
-ghost use Rattle.up_http.specs.Serving.{RanRequests, FinishedRequests, AnswersFirst, calls};
+ghost use Rattle.up_lines.specs.Runs.{Blames, BlamesWriter};
+ghost use Rattle.up_http.specs.Serving.{RanRequests, FinishedRequests, AnswersFirst, calls, cause_of};
 ghost use Rattle.up_http.specs.Steps.{Unanswered, Takes, Stops, Moves, Completes, IsFresh, told};
 
 use crate::asked::{Next, Step, What};
@@ -37,6 +38,7 @@ fn answer_next<S, A: Respond<S>, W: Sink>(
     ensures err { IfErr result (λ cause. Unanswered (A.gives responder.now) cause next.now (record { state = state.old; held = W.contents writer.old })
         (record { state = state.new; held = W.contents writer.new })) }
     ensures goes_on { OnOk result (W.can_write writer.new) }
+    ensures blames { IfErr result (λ cause. BlamesWriter (cause_of cause) (W.has_failed writer.new) (W.can_write writer.new)) }
 {
     let text = responder.respond(alloc, state, next)?;
     match write_whole(writer, text.as_slice()) {
@@ -78,6 +80,7 @@ fn answer_counted<S, A: Respond<S>, W: Sink>(
     ensures err { IfErr result (λ cause. Unanswered (A.gives responder.now) cause next (record { state = state.old; held = W.contents writer.old })
         (record { state = state.new; held = W.contents writer.new })) }
     ensures goes_on { OnOk result (W.can_write writer.new) }
+    ensures blames { IfErr result (λ cause. BlamesWriter (cause_of cause) (W.has_failed writer.new) (W.can_write writer.new)) }
 {
     progress.called = count_call(progress.called, &next);
     let told = answer_next(alloc, responder, state, writer, &next);
@@ -106,6 +109,7 @@ fn serve_piece<S, A: Respond<S>, W: Sink>(
         progress.old (record { state = state.old; held = W.contents writer.old })
         progress.new (record { state = state.new; held = W.contents writer.new })) }
     ensures goes_on { OnOk result (W.can_write writer.new) }
+    ensures blames { IfErr result (λ cause. BlamesWriter (cause_of cause) (W.has_failed writer.new) (W.can_write writer.new)) }
 {
     let Step { taken, next } = match progress.feeder.feed(piece) {
         Ok(step) => step,
@@ -139,6 +143,7 @@ fn finish<S, A: Respond<S>, W: Sink>(
         progress.old (record { state = state.old; held = W.contents writer.old })
         progress.new (record { state = state.new; held = W.contents writer.new })) }
     ensures goes_on { OnOk result (W.can_write writer.new) }
+    ensures blames { IfErr result (λ cause. BlamesWriter (cause_of cause) (W.has_failed writer.new) (W.can_write writer.new)) }
 {
     match progress.feeder.end() {
         None => {
@@ -171,6 +176,9 @@ fn serve_reads<S, A: Respond<S>, R: Source, W: Sink>(
         (record { state = state.old; held = W.contents writer.old })
         (record { state = state.new; held = W.contents writer.new }) (told result progress.new) }
     ensures goes_on { OnOk result (W.can_write writer.new) }
+    ensures blames { IfErr result (λ cause. Blames (cause_of cause) (R.has_failed reader.new) (R.can_read reader.new ⊎ R.has_ended reader.new)
+        (W.has_failed writer.new) (W.can_write writer.new)) }
+    ensures stands { OnOk result (R.can_read reader.new ⊎ R.has_ended reader.new) }
 {
     let mut buffer = [0; PIECE_BYTES];
     let mut most = MOST_BYTES;
@@ -209,7 +217,8 @@ fn serve_reads<S, A: Respond<S>, R: Source, W: Sink>(
 /// Of a reader whose bytes are known at most 27,852,800 are read. Nothing is tried twice: after a read that
 /// failed or gave no byte the reader isn't read, nor is the writer written after a write that failed or took none. A fault tells how many requests were
 /// handed on as commands, whose effects stand, and how many answers were written whole. `Read` comes after all requests that
-/// were whole before it, and `Write` also where the writer takes no byte.
+/// were whole before it, and only where the reader failed; `Write` only where the writer failed, or took no byte; and `Memory`
+/// only where neither did.
 pub fn serve<S, A: Respond<S>, R: Source, W: Sink>(
     alloc: Global,
     responder: &A,
@@ -235,6 +244,11 @@ pub fn serve<S, A: Respond<S>, R: Source, W: Sink>(
 
     // Nothing was tried twice: where it ended well the writer may be written again.
     ensures goes_on { OnOk result (W.can_write writer.new) }
+
+    // What ended it is told of the part that failed, and a read that failed isn't taken for the stream's end.
+    ensures blames { IfErr result (λ fault. Blames (cause_of fault.cause) (R.has_failed reader.new) (R.can_read reader.new ⊎ R.has_ended reader.new)
+        (W.has_failed writer.new) (W.can_write writer.new)) }
+    ensures stands { OnOk result (R.can_read reader.new ⊎ R.has_ended reader.new) }
 {
     let mut progress = Progress {
         feeder: Feeder::new(alloc),

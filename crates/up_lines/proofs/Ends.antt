@@ -1,26 +1,22 @@
 -- How a run ends.
-use Rattle.std.proofs.Common.{◌≡◌, ◌&&◌, Result, Ok, Err, OnOk, IfErr, IsErrAnd, ℕ, ◌-◌, ◌<◌, ◌≤◌, Bool, true, false, List, [], ◌∷◌, ◌++◌, length, take, drop, filter, refl, ap, sym, ◌∙◌, subst, arith, append-nil, length-append}
+use Rattle.std.proofs.Common.{◌≡◌, Result, Ok, Err, OnOk, IfErr, IsErrAnd, ℕ, ◌-◌, ◌<◌, ◌≤◌, Bool, true, false, List, [], ◌∷◌, ◌++◌, length, take, drop, filter, refl, ap, sym, ◌∙◌, subst, arith, append-nil}
 use Rattle.std.specs.Prelude.{Option, None}
 use Rattle.std.specs.List.{list_all}
 use Rattle.std.specs.Io.KnownBytes.{Consumes, IsAtEnd}
 use Rattle.std.proofs.KnownBytes.{Appends-nil}
 use Rattle.std.proofs.lemmas.Result.{err_from_is_err_and}
 use Rattle.std.proofs.Math.Seq.{take-append_seam}
-use Rattle.std.proofs.lemmas.List.Folds.{list_all-append}
 use Rattle.up_lines.specs.declared.progress.Progress.{Progress}
 use Rattle.up_lines.specs.declared.fault.ScriptCause.{ScriptCause}
-use Rattle.up_lines.specs.declared.fault.ScriptCause.TheVariants.{Read}
-use Rattle.up_lines.specs.Lines.{newline, most_lines, most_line_bytes, most_bytes, lines_of, is_short, fits, has_bytes, asked}
+use Rattle.up_lines.specs.declared.fault.ScriptCause.TheVariants.{Memory, Read}
+use Rattle.up_lines.specs.Lines.{newline, most_lines, most_bytes, lines_of, is_short, fits, has_bytes, asked}
 use Rattle.up_lines.specs.Runs.{At}
 use Rattle.up_lines.specs.LineRuns.{Gives, FinishedLines, Stopped, RanLines}
 use Rattle.up_lines.specs.Progress.{Sofar, Closes, Fails, Stops, Completes, IsFresh, told, is_inside}
 use Rattle.up_lines.proofs.Cuts.{lines-line, lines-last, lines-begun}
-use Rattle.up_lines.proofs.RunLaws.{is_short-le, asked-append, asked_among-none, fits-true}
+use Rattle.up_lines.proofs.RunLaws.{not_full, fits_begun, asked-append, asked_among-none}
 use Rattle.up_lines.proofs.Steps.{takes_end}
-use Rattle.up_lines.proofs.Stopping.{stopped, breaks_none, stops_at, ended_next}
-
-not_full : (n : ℕ) → n ≤ most_lines → (n ≡ most_lines → ⊥) → n < most_lines
-not_full n few h = omega arith
+use Rattle.up_lines.proofs.Stopping.{stopped, breaks_none, untold_within, stops_memory, stops_at, ended_next}
 
 pub none_of : (line : List ℕ) → length line ≡ 0 → line ≡ []
 none_of [] h = refl
@@ -43,15 +39,6 @@ asked-all lines each few =
 lines-last_one : (line : List ℕ) → list_all is_inside line ≡ true → 0 < length line → lines_of true line ≡ line ∷ []
 lines-last_one [] own some = absurd (omega arith)
 lines-last_one (b ∷ bs) own some = lines-last b bs own
-
-fits_begun : (whole : List (List ℕ)) (line : List ℕ) → list_all is_short whole ≡ true → list_all is_inside line ≡ true → length line ≤ most_line_bytes → length whole ≤ most_lines
-    → (length whole ≡ most_lines → line ≡ []) → fits (whole ++ lines_of true line) ≡ true
-fits_begun whole [] each own short few room = ap fits (append-nil whole) ∙ fits-true whole few each
-fits_begun whole (b ∷ bs) each own short few room =
-    let below : length whole < most_lines = not_full (length whole) few (λ full. let none : length (b ∷ bs) ≡ 0 = ap length (room full) in omega arith) in
-    ap (λ l. fits (whole ++ l)) (lines-last b bs own)
-    ∙ fits-true (whole ++ (b ∷ bs) ∷ []) (omega (arith, length-append whole ((b ∷ bs) ∷ [])))
-    (list_all-append is_short whole ((b ∷ bs) ∷ []) ∙ ap (λ t. t && (is_short (b ∷ bs) && true)) each ∙ ap (λ t. t && true) (is_short-le (b ∷ bs) short))
 
 module _ {S : Type 0} (gives : Gives S) (first : At S) where
   -- the lines of what came
@@ -129,6 +116,11 @@ module _ {S : Type 0} (gives : Gives S) where
     answered_is = new.none_answered;
     wrote = Appends-nil first.held;
   }
+
+  -- no memory for any byte
+  pub stops_bare : (at : Progress) (now : At S) → Stops gives Memory false [] at now at now
+  stops_bare at now = stops_memory gives at at [] now refl (λ first came so.
+      untold_within (came ++ []) false _ (ap (λ l. fits (lines_of true l)) (append-nil came) ∙ within_limits gives first came at now so))
 
   pub finishes_none : (at : Progress) (now : At S) → at.line.items ≡ [] → Completes gives at now at now
   finishes_none at now none = λ first came so. completes_none gives first came at now none so

@@ -5,3 +5,4 @@ pub mod Stopping
 pub mod Ends
 pub mod Later
 pub mod Known
+pub mod Blaming

@@ -1,5 +1,5 @@
 -- Runs over lines, joined, and the lines that are answered.
-use Rattle.std.proofs.Common.{◌≡◌, ◌⊎◌, inl, inr, ℕ, zero, suc, ◌+◌, ◌-◌, ◌<◌, ◌≤◌, ◌&&◌, Bool, true, false, cond, List, [], ◌∷◌, ◌++◌, length, take, filter, refl, ap, sym, ◌∙◌, subst, arith, append_assoc, length-append}
+use Rattle.std.proofs.Common.{◌≡◌, ◌⊎◌, inl, inr, ℕ, zero, suc, ◌+◌, ◌-◌, ◌<◌, ◌≤◌, ◌&&◌, Bool, true, false, cond, List, [], ◌∷◌, ◌++◌, length, take, filter, refl, ap, sym, ◌∙◌, subst, arith, append_assoc, append-nil, length-append}
 use Rattle.std.specs.Prelude.{nat_le}
 use Rattle.std.specs.List.{list_all, take_while}
 use Rattle.std.proofs.Math.Seq.{take-append-add}
@@ -7,10 +7,11 @@ use Rattle.std.proofs.lemmas.Bool.{le-leb, lt-leb}
 use Rattle.std.proofs.lemmas.List.Sums.{take_while-cons}
 use Rattle.std.proofs.lemmas.List.Elements.{filter-append}
 use Rattle.std.proofs.lemmas.List.Folds.{list_all-append}
-use Rattle.up_lines.specs.Lines.{most_lines, most_line_bytes, is_short, fits, has_bytes, asked}
+use Rattle.up_lines.specs.Lines.{most_lines, most_line_bytes, lines_of, is_short, fits, has_bytes, asked}
 use Rattle.up_lines.specs.Runs.{Run, written}
 use Rattle.up_lines.specs.LineRuns.{print}
-use Rattle.up_lines.proofs.Cuts.{both_hold, Begins}
+use Rattle.up_lines.specs.Progress.{is_inside}
+use Rattle.up_lines.proofs.Cuts.{both_hold, Begins, lines-last}
 
 pub has_bytes-long : (line : List ℕ) → 0 < length line → has_bytes line ≡ true
 has_bytes-long [] h = absurd (omega arith)
@@ -90,6 +91,19 @@ fits-many whole lines full some = ap (λ t. t && list_all is_short (whole ++ lin
 -- lines within the limits
 pub fits-true : (lines : List (List ℕ)) → length lines ≤ most_lines → list_all is_short lines ≡ true → fits lines ≡ true
 fits-true lines few h = ap (λ t. t && list_all is_short lines) (le-leb (length lines) most_lines few) ∙ h
+
+pub not_full : (n : ℕ) → n ≤ most_lines → (n ≡ most_lines → ⊥) → n < most_lines
+not_full n few h = omega arith
+
+-- lines within the limits, and one that is begun
+pub fits_begun : (whole : List (List ℕ)) (line : List ℕ) → list_all is_short whole ≡ true → list_all is_inside line ≡ true → length line ≤ most_line_bytes → length whole ≤ most_lines
+    → (length whole ≡ most_lines → line ≡ []) → fits (whole ++ lines_of true line) ≡ true
+fits_begun whole [] each own short few room = ap fits (append-nil whole) ∙ fits-true whole few each
+fits_begun whole (b ∷ bs) each own short few room =
+    let below : length whole < most_lines = not_full (length whole) few (λ full. let none : length (b ∷ bs) ≡ 0 = ap length (room full) in omega arith) in
+    ap (λ l. fits (whole ++ l)) (lines-last b bs own)
+    ∙ fits-true (whole ++ (b ∷ bs) ∷ []) (omega (arith, length-append whole ((b ∷ bs) ∷ [])))
+    (list_all-append is_short whole ((b ∷ bs) ∷ []) ∙ ap (λ t. t && (is_short (b ∷ bs) && true)) each ∙ ap (λ t. t && true) (is_short-le (b ∷ bs) short))
 
 -- nothing is answered where no line is, or one that is too long
 pub asked_none : (n : ℕ) (prefix : List ℕ) (lines : List (List ℕ)) → ((rest : List ℕ) → is_short (prefix ++ rest) ≡ false) → (lines ≡ []) ⊎ Begins prefix lines → asked_among n lines ≡ []

@@ -13,12 +13,26 @@ use Rattle.up_lines.specs.Runs.{At, BreaksOff}
 use Rattle.up_lines.specs.LineRuns.{Gives, print, AreFirst, Stopped, Tells}
 use Rattle.up_lines.specs.Progress.{Sofar, Fails, Refuses, Takes, Stops, Unanswered, is_inside}
 use Rattle.up_lines.proofs.Cuts.{lines-line, lines-begins, lines-prefix, lines-some}
-use Rattle.up_lines.proofs.RunLaws.{is_short-le, is_short-gt, filter-first, asked_among, asked-append, asked_none, fits-many, fits-long}
+use Rattle.up_lines.proofs.RunLaws.{has_bytes-long, fits_begun, is_short-le, is_short-gt, filter-first, asked_among, asked-append, asked_none, fits-many, fits-long}
 
 -- these bytes pass a limit, behind these whole lines
 record Past (came bytes : List ℕ) (whole : List (List ℕ)) : Type 0 where
   past : (more : List ℕ) → fits (lines_of true (came ++ (bytes ++ more))) ≡ false
   settled : (ended : Bool) (more : List ℕ) → asked (lines_of ended (came ++ (bytes ++ more))) ≡ filter has_bytes whole
+
+-- where one line more is to be answered, no limit is told
+pub untold_next : (came : List ℕ) (ended : Bool) (done rest : List (List ℕ)) (line : List ℕ) → asked (lines_of ended came) ≡ done ++ line ∷ rest → Tells Memory came ended done
+untold_next came ended done rest line split = λ limit.
+    let same : length done ≡ length (done ++ line ∷ rest) = ap length (limit.1 ∙ split) in
+    omega (arith, same, length-append done (line ∷ rest))
+
+never : true ≡ false → ⊥
+never e = absurd (cc)
+
+-- nor where all that came is within the limits
+pub untold_within : (came : List ℕ) (ended : Bool) (done : List (List ℕ)) → fits (lines_of true came) ≡ true → Tells Memory came ended done
+untold_within came ended done within = λ limit.
+    never (sym within ∙ ap (λ l. fits (lines_of true l)) (sym (append-nil came)) ∙ (limit.0 []).0)
 
 module _ {S : Type 0} (gives : Gives S) where
   -- the whole lines are answered, and this became of the next one
@@ -96,20 +110,22 @@ module _ {S : Type 0} (gives : Gives S) where
 
   -- no memory for bytes
   pub stops_memory : (old new : Progress) (bytes : List ℕ) (now : At S) → new.answered ≡ old.answered
+      → ((first : At S) (came : List ℕ) (so : Sofar gives first came old now) → Tells Memory (came ++ bytes) false (filter has_bytes so.whole))
       → Stops gives Memory false bytes old now new now
-  stops_memory old new bytes now same = λ first came so.
+  stops_memory old new bytes now same untold = λ first came so.
       stopped Memory came false (came ++ bytes) first old now so None new.answered now
       (behind so.whole (old.line.items ++ bytes), ap asked (so.cut false bytes) ∙ asked-append so.whole (lines_of false (old.line.items ++ bytes)) so.each_short (omega (arith, so.counted_is, so.few)))
-      tt (breaks_none Memory now (λ e. absurd (cc))) same
+      (untold first came so) (breaks_none Memory now (λ e. absurd (cc))) same
 
   -- a part that isn't taken
-  pub stops_part : (cause : ScriptCause) (old new : Progress) (part more : List ℕ) (now : At S) → list_all is_inside part ≡ true → new.answered ≡ old.answered → Refuses cause part old
+  stops_part : (cause : ScriptCause) (old new : Progress) (part more : List ℕ) (now : At S) → list_all is_inside part ≡ true → new.answered ≡ old.answered → Refuses cause part old
+      → (Refuses Memory part old → (first : At S) (came : List ℕ) (so : Sofar gives first came old now) → Tells Memory (came ++ (part ++ more)) false (filter has_bytes so.whole))
       → Stops gives cause false (part ++ more) old now new now
-  stops_part Memory old new part more now own answered h = stops_memory old new (part ++ more) now answered
-  stops_part TooLong old new part more now own answered (inl (some, full)) = stops_many old new part more now some full answered
-  stops_part TooLong old new part more now own answered (inr past) = stops_long old new part more now past own answered
-  stops_part Read old new part more now own answered h = absurd h
-  stops_part Write old new part more now own answered h = absurd h
+  stops_part Memory old new part more now own answered h untold = stops_memory old new (part ++ more) now answered (untold h)
+  stops_part TooLong old new part more now own answered (inl (some, full)) untold = stops_many old new part more now some full answered
+  stops_part TooLong old new part more now own answered (inr past) untold = stops_long old new part more now past own answered
+  stops_part Read old new part more now own answered h untold = absurd h
+  stops_part Write old new part more now own answered h untold = absurd h
 
   -- the line that is begun is the next to be answered
   split_end : (whole : List (List ℕ)) (line more : List ℕ) → list_all is_short whole ≡ true → length whole < most_lines → length line ≤ most_line_bytes
@@ -124,14 +140,44 @@ module _ {S : Type 0} (gives : Gives S) where
       ∙ ap (λ l. l ++ behind (whole ++ line ∷ []) more) (filter-append has_bytes whole (line ∷ []) ∙ ap (λ l. filter has_bytes whole ++ l) (filter-first line [] some))
       ∙ append_assoc (filter has_bytes whole) (line ∷ []) (behind (whole ++ line ∷ []) more)
 
+  own_line : (first : At S) (came : List ℕ) (at : Progress) (now : At S) → Sofar gives first came at now → (part : List ℕ) → list_all is_inside part ≡ true
+      → list_all is_inside (at.line.items ++ part) ≡ true
+  own_line first came at now so part own = list_all-append is_inside at.line.items part ∙ ap (λ t. t && list_all is_inside part) so.own_bytes ∙ own
+
+  -- a part of a line is refused that is within the limits, and its newline stands behind it
+  untold_line : (old : Progress) (part more : List ℕ) (now : At S) → list_all is_inside part ≡ true → Refuses Memory part old
+      → (first : At S) (came : List ℕ) (so : Sofar gives first came old now) → Tells Memory (came ++ (part ++ newline ∷ more)) false (filter has_bytes so.whole)
+  untold_line old part more now own (some, room, short) first came so =
+      let line = old.line.items in
+      untold_next (came ++ (part ++ newline ∷ more)) false (filter has_bytes so.whole) (behind (so.whole ++ (line ++ part) ∷ []) more) (line ++ part) (
+        ap asked (so.cut false (part ++ newline ∷ more) ∙ ap (λ l. so.whole ++ lines_of false l) (sym (append_assoc line part (newline ∷ more))))
+        ∙ split_end so.whole (line ++ part) more so.each_short (omega (arith, so.counted_is)) short (own_line first came old now so part own)
+        (has_bytes-long (line ++ part) (omega (arith, length-append line part)))
+      )
+
+  -- or nothing does
+  untold_rest : (old : Progress) (part : List ℕ) (now : At S) → list_all is_inside part ≡ true → Refuses Memory part old
+      → (first : At S) (came : List ℕ) (so : Sofar gives first came old now) → Tells Memory (came ++ (part ++ [])) false (filter has_bytes so.whole)
+  untold_rest old part now own (some, room, short) first came so =
+      let line = old.line.items in
+      untold_within (came ++ (part ++ [])) false (filter has_bytes so.whole) (
+        ap fits (so.cut true (part ++ []) ∙ ap (λ l. so.whole ++ lines_of true (line ++ l)) (append-nil part))
+        ∙ fits_begun so.whole (line ++ part) so.each_short (own_line first came old now so part own) short (omega (arith, so.counted_is)) (λ full. absurd (omega (arith, so.counted_is)))
+      )
+
+  -- the last part of a line isn't taken
+  pub stops_before : (cause : ScriptCause) (old new : Progress) (part more : List ℕ) (now : At S) → list_all is_inside part ≡ true → new.answered ≡ old.answered → Refuses cause part old
+      → Stops gives cause false (part ++ newline ∷ more) old now new now
+  stops_before cause old new part more now own answered h = stops_part cause old new part (newline ∷ more) now own answered h (untold_line old part more now own)
+
   -- a line that isn't answered whole, with others behind it
   pub stops_at : (cause : ScriptCause) (came : List ℕ) (ended : Bool) (bytes : List ℕ) (first : At S) (old new : Progress) (before after : At S) (so : Sofar gives first came old before)
       → (rest : List (List ℕ)) → asked (lines_of ended bytes) ≡ filter has_bytes so.whole ++ old.line.items ∷ rest → new.answered ≡ old.answered
       → Unanswered gives cause old.line.items before after → Stopped gives bytes ended (record { cause = cause; lines = new.answered }) first after
   stops_at Memory came ended bytes first old new before after so rest split same (inl broke) =
-      stopped Memory came ended bytes first old before so None new.answered after (old.line.items ∷ rest, split) tt broke same
+      stopped Memory came ended bytes first old before so None new.answered after (old.line.items ∷ rest, split) (untold_next bytes ended _ rest old.line.items split) broke same
   stops_at Memory came ended bytes first old new before after so rest split same (inr broke) =
-      stopped Memory came ended bytes first old before so (Some old.line.items) new.answered after (rest, split) tt broke same
+      stopped Memory came ended bytes first old before so (Some old.line.items) new.answered after (rest, split) (untold_next bytes ended _ rest old.line.items split) broke same
   stops_at Write came ended bytes first old new before after so rest split same broke =
       stopped Write came ended bytes first old before so (Some old.line.items) new.answered after (rest, split) tt broke same
   stops_at Read came ended bytes first old new before after so rest split same broke = absurd broke
@@ -172,4 +218,4 @@ module _ {S : Type 0} (gives : Gives S) where
       → Takes gives front old before mid now → (new.answered ≡ mid.answered) × Refuses cause rest mid → Stops gives cause false piece old before new now
   stops_rest front rest piece cause old mid new before now is own p (answered, why) =
       stops_in front rest piece cause old mid new before now now is p
-      (subst (λ l. Stops gives cause false l mid now new now) (append-nil rest) (stops_part cause mid new rest [] now own answered why))
+      (subst (λ l. Stops gives cause false l mid now new now) (append-nil rest) (stops_part cause mid new rest [] now own answered why (untold_rest mid rest now own)))

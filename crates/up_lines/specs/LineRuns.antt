@@ -27,12 +27,16 @@ AreAll input lines = (fits (lines_of true input) ≡ true) × (lines ≡ asked (
 abbrev pub IsPast : List ℕ → Type 0
 IsPast came = (more : List ℕ) → (fits (lines_of true (came ++ more)) ≡ false) × (asked (lines_of true (came ++ more)) ≡ asked (lines_of false came))
 
+-- a limit is passed, and all lines before it were answered
+abbrev pub IsAtLimit : List ℕ → Bool → List (List ℕ) → Type 0
+IsAtLimit came ended done = IsPast came × (done ≡ asked (lines_of ended came))
+
 -- what a cause says of the bytes that came, of whether the input ended behind them, and of the lines that were answered: a failed read
--- and a passed limit come behind all that were whole
+-- and a passed limit come behind all that were whole, and want of memory isn't told for a limit
 abbrev pub Tells : ScriptCause → List ℕ → Bool → List (List ℕ) → Type 0
-Tells TooLong came ended done = IsPast came × (done ≡ asked (lines_of ended came))
+Tells TooLong came ended done = IsAtLimit came ended done
 Tells Read came ended done = (ended ≡ false) × (fits (lines_of true came) ≡ true) × (done ≡ asked (lines_of ended came))
-Tells Memory came ended done = ⊤
+Tells Memory came ended done = IsAtLimit came ended done → ⊥
 Tells Write came ended done = ⊤
 
 -- what a run that ended early leaves of the bytes that came

@@ -1,5 +1,5 @@
 -- What stands while lines are read: the steps of a run.
-use Rattle.std.specs.Prelude.{◌≡◌, ◌⊎◌, ℕ, ◌+◌, ◌*◌, ◌<◌, ◌≤◌, ◌==◌, ⊤, Bool, true, not, Result, Ok, Err, Some, None, List, [], ◌∷◌, ◌++◌, length, filter}
+use Rattle.std.specs.Prelude.{◌≡◌, ◌⊎◌, ℕ, ◌+◌, ◌*◌, ◌<◌, ◌≤◌, ◌==◌, Bool, true, not, Result, Ok, Err, Some, None, List, [], ◌∷◌, ◌++◌, length, filter}
 use Rattle.std.specs.List.{list_all}
 use Rattle.std.specs.Io.KnownBytes.{Appends}
 use Rattle.up_lines.specs.declared.fault.ScriptCause.{ScriptCause}
@@ -47,9 +47,10 @@ pub record Grows (part : List ℕ) (old new : Progress) : Type 0 where
   pub few : 0 < length part → old.counted < most_lines
   pub short : length new.line.items ≤ most_line_bytes
 
--- why bytes aren't added: memory was refused, they stand behind the last line, or the line has too many with them
+-- why bytes aren't added: memory was refused for some that are within the limits, they stand behind the last line, or the line has too
+-- many with them
 abbrev pub Refuses : ScriptCause → List ℕ → Progress → Type 0
-Refuses Memory part at = ⊤
+Refuses Memory part at = (0 < length part) × (at.counted < most_lines) × (length (at.line.items ++ part) ≤ most_line_bytes)
 Refuses TooLong part at = ((0 < length part) × (at.counted ≡ most_lines)) ⊎ (most_line_bytes < length (at.line.items ++ part))
 Refuses Read part at = ⊥
 Refuses Write part at = ⊥

@@ -1,5 +1,5 @@
 -- What a run over items leaves, whatever the items are: answers, states, and what was written. Lines are such items, and requests.
-use Rattle.std.specs.Prelude.{◌≡◌, ◌≢◌, ℕ, ◌≤◌, Bool, true, Option, Some, None, List, [], ◌∷◌, ◌++◌, length, flat_map, Result, MatchResult}
+use Rattle.std.specs.Prelude.{◌≡◌, ◌≢◌, ℕ, ◌≤◌, ⊤, Bool, true, Option, Some, None, List, [], ◌∷◌, ◌++◌, length, flat_map, Result, MatchResult}
 use Rattle.std.specs.Io.KnownBytes.{Appends, Consumes, IsAtEnd}
 use Rattle.up_pieces.specs.Prefixes.{IsProperPrefix}
 use Rattle.up_lines.specs.declared.fault.ScriptCause.{ScriptCause}
@@ -38,6 +38,18 @@ IsCut TooLong prefix text = ⊥
 abbrev pub Breaks : {S I : Type 0} → (S → I → List ℕ → S → Type 0) → (List ℕ → List ℕ) → ScriptCause → Option I → S → S → List ℕ → Type 0
 Breaks gives print cause None old new prefix = (cause ≢ Write) × (new ≡ old) × (prefix ≡ [])
 Breaks gives print cause (Some item) old new prefix = (answer : List ℕ) × gives old item answer new × IsCut cause prefix (print answer)
+
+-- what ended a run early isn't told of the wrong part: the reader failed where `Read` is told, the writer where `Write` is, and neither
+-- else; of each part it is given what says that it failed, and what says that it didn't
+abbrev pub Blames : ScriptCause → Type 0 → Type 0 → Type 0 → Type 0 → Type 0
+Blames Memory read_failed reader_stands write_failed writer_stands = reader_stands × writer_stands
+Blames Read read_failed reader_stands write_failed writer_stands = read_failed × writer_stands
+Blames Write read_failed reader_stands write_failed writer_stands = reader_stands × write_failed
+Blames TooLong read_failed reader_stands write_failed writer_stands = reader_stands × writer_stands
+
+-- the same where nothing is read
+abbrev pub BlamesWriter : ScriptCause → Type 0 → Type 0 → Type 0
+BlamesWriter cause failed stands = Blames cause ⊥ ⊤ failed stands
 
 -- a run breaks off at an item, or before it
 abbrev pub BreaksOff : {S I : Type 0} → (S → I → List ℕ → S → Type 0) → (List ℕ → List ℕ) → ScriptCause → Option I → At S → At S → Type 0

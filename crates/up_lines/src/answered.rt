@@ -3,6 +3,7 @@ ghost use Rattle.std.specs.Prelude.{ℕ, List, [], ◌∷◌, ◌++◌, IfErr, O
 ghost use Rattle.std.specs.Io.KnownBytes.{Appends};
 ghost use Rattle.up_lines.specs.LineRuns.{print};
 ghost use Rattle.up_lines.specs.Progress.{Unanswered};
+ghost use Rattle.up_lines.specs.Runs.{BlamesWriter};
 
 use crate::fault::ScriptCause;
 use crate::interpret::Interpret;
@@ -24,6 +25,7 @@ pub(crate) fn answer_line<S, I: Interpret<S>, W: Sink>(
     ensures err { IfErr result (λ cause. Unanswered I.gives cause line.now (record { state = state.old; held = W.contents writer.old })
         (record { state = state.new; held = W.contents writer.new })) }
     ensures goes_on { OnOk result (W.can_write writer.new) }
+    ensures blames { IfErr result (λ cause. BlamesWriter cause (W.has_failed writer.new) (W.can_write writer.new)) }
 {
     let mut text = interpreter.interpret(alloc, state, line)?;
     text.push(b'\n')?;

@@ -2,6 +2,7 @@
 ghost use Rattle.std.specs.Prelude.{◌≡◌, ◌<◌, ◌+◌, [], ℕ, List, IfErr, OnOk};
 ghost use Rattle.up_lines.specs.Lines.{most_lines};
 ghost use Rattle.up_lines.specs.Progress.{Closes, Fails};
+ghost use Rattle.up_lines.specs.Runs.{BlamesWriter};
 
 use crate::answered::answer_line;
 use crate::fault::ScriptCause;
@@ -25,6 +26,7 @@ pub(crate) fn end_line<S, I: Interpret<S>, W: Sink>(
     ensures err { IfErr result (λ cause. Fails I.gives cause progress.old (record { state = state.old; held = W.contents writer.old })
         progress.new (record { state = state.new; held = W.contents writer.new })) }
     ensures goes_on { OnOk result (W.can_write writer.new) }
+    ensures blames { IfErr result (λ cause. BlamesWriter cause (W.has_failed writer.new) (W.can_write writer.new)) }
 {
     if progress.line.is_empty() {
         progress.counted += 1;

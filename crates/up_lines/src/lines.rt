@@ -1,8 +1,9 @@
 //! Lines cut from a reader, and their answers written to a writer.
-ghost use Rattle.std.specs.Prelude.{◌≡◌, ℕ, List, Option, [], IfOk, IfErr, IfSome, OnOk, false, true};
+ghost use Rattle.std.specs.Prelude.{◌≡◌, ◌⊎◌, ℕ, List, Option, [], IfOk, IfErr, IfSome, OnOk, false, true};
 ghost use Rattle.up_lines.specs.Lines.{lines_of, fits};
 ghost use Rattle.up_lines.specs.LineRuns.{RanLines, FinishedLines, AnswersFirst};
 ghost use Rattle.up_lines.specs.Progress.{Takes, Stops, Completes, IsFresh, told};
+ghost use Rattle.up_lines.specs.Runs.{Blames, BlamesWriter};
 
 use crate::cut::cut_line;
 use crate::ending::end_line;
@@ -32,6 +33,7 @@ fn take_piece<S, I: Interpret<S>, W: Sink>(
         progress.old (record { state = state.old; held = W.contents writer.old })
         progress.new (record { state = state.new; held = W.contents writer.new })) }
     ensures goes_on { OnOk result (W.can_write writer.new) }
+    ensures blames { IfErr result (λ cause. BlamesWriter cause (W.has_failed writer.new) (W.can_write writer.new)) }
 {
     let mut rest = piece;
     while let Some((line, behind)) = cut_line(rest) {
@@ -56,6 +58,7 @@ fn finish<S, I: Interpret<S>, W: Sink>(
         progress.old (record { state = state.old; held = W.contents writer.old })
         progress.new (record { state = state.new; held = W.contents writer.new })) }
     ensures goes_on { OnOk result (W.can_write writer.new) }
+    ensures blames { IfErr result (λ cause. BlamesWriter cause (W.has_failed writer.new) (W.can_write writer.new)) }
 {
     if progress.line.is_empty() {
         return Ok(());
@@ -79,6 +82,9 @@ fn read_lines<S, I: Interpret<S>, R: Source, W: Sink>(
         (record { state = state.old; held = W.contents writer.old })
         (record { state = state.new; held = W.contents writer.new }) (told result progress.new.answered) }
     ensures goes_on { OnOk result (W.can_write writer.new) }
+    ensures blames { IfErr result (λ cause. Blames cause (R.has_failed reader.new) (R.can_read reader.new ⊎ R.has_ended reader.new)
+        (W.has_failed writer.new) (W.can_write writer.new)) }
+    ensures ended { OnOk result (R.has_ended reader.new) }
 {
     let mut buffer = vec![in alloc; 0; PIECE_BYTES]?;
     let mut most = MOST_BYTES;
@@ -102,7 +108,8 @@ fn read_lines<S, I: Interpret<S>, R: Source, W: Sink>(
 /// most 2,097,152 bytes each without the newline; past that comes `TooLong`. Of a reader whose bytes are known at most
 /// 209,715,300,001 are read: so many lines of so many bytes, their newlines, and one byte more. Nothing is tried twice: after
 /// a read that failed or gave no byte the reader isn't read, nor is the writer written after a write that failed or took none.
-/// A fault tells how many answers were written whole; lines that were answered before it stay answered.
+/// A fault tells how many answers were written whole; lines that were answered before it stay answered. `Read` is told only
+/// where the reader failed, `Write` where the writer failed or took none, `Memory` where neither did, and never for a limit.
 pub fn run<S, I: Interpret<S>, R: Source, W: Sink>(
     alloc: Global,
     interpreter: &I,
@@ -129,6 +136,11 @@ pub fn run<S, I: Interpret<S>, R: Source, W: Sink>(
 
     // Nothing was tried twice: where it ended well the writer may be written again.
     ensures goes_on { OnOk result (W.can_write writer.new) }
+
+    // What ended it is told of the part that failed, and a reader that didn't end isn't taken for one that did.
+    ensures blames { IfErr result (λ fault. Blames fault.cause (R.has_failed reader.new) (R.can_read reader.new ⊎ R.has_ended reader.new)
+        (W.has_failed writer.new) (W.can_write writer.new)) }
+    ensures ended { OnOk result (R.has_ended reader.new) }
 {
     let mut progress = Progress {
         line: Vec::new(alloc),

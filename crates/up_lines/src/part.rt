@@ -3,6 +3,7 @@ ghost use Rattle.std.specs.Prelude.{◌≡◌, [], ◌∷◌, ◌++◌, ℕ, Lis
 ghost use Rattle.std.specs.List.{list_all};
 ghost use Rattle.up_lines.specs.Lines.{newline};
 ghost use Rattle.up_lines.specs.Progress.{Grows, Refuses, Takes, Stops, is_inside};
+ghost use Rattle.up_lines.specs.Runs.{BlamesWriter};
 
 use crate::ending::end_line;
 use crate::fault::ScriptCause;
@@ -22,6 +23,10 @@ pub(crate) fn take_part(progress: &mut Progress, part: &[u8]) -> Result<(), Scri
     }
     if progress.line.len() + part.len() > MOST_LINE_BYTES {
         return Err(ScriptCause::TooLong);
+    }
+    // No bytes take no memory, so none may be refused for them.
+    if part.is_empty() {
+        return Ok(());
     }
     match progress.line.extend_from_slice(part) {
         Ok(()) => Ok(()),
@@ -46,6 +51,7 @@ pub(crate) fn take_line<S, I: Interpret<S>, W: Sink>(
         progress.old (record { state = state.old; held = W.contents writer.old })
         progress.new (record { state = state.new; held = W.contents writer.new })) }
     ensures goes_on { OnOk result (W.can_write writer.new) }
+    ensures blames { IfErr result (λ cause. BlamesWriter cause (W.has_failed writer.new) (W.can_write writer.new)) }
 {
     take_part(progress, part)?;
     if progress.counted == MOST_LINES {

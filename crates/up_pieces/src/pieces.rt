@@ -14,6 +14,8 @@ pub fn read_piece<R: Source>(reader: &mut R, buffer: &mut [u8], most: u64) -> io
     ensures end { IfOk result (λ n. n ≡ 0 → 0 < most → 0 < length buffer.old → IsAtEnd (R.remaining reader.new)) }
     ensures err { OnErr result (Keeps (R.remaining reader.old) (R.remaining reader.new)) }
     ensures goes_on { IfOk result (λ n. 0 < n → R.can_read reader.new) }
+    ensures failed { OnErr result (R.has_failed reader.new) }
+    ensures ended { IfOk result (λ n. n ≡ 0 → 0 < most → 0 < length buffer.old → R.has_ended reader.new) }
 {
     let room = if most < buffer.len() as u64 {
         most as usize

@@ -16,6 +16,7 @@ pub fn write_whole<W: Sink>(writer: &mut W, text: &[u8]) -> Result<(), NotWritte
     ensures err { OnErr result ((prefix : List ℕ) × IsProperPrefix prefix text.now
         × Appends (W.contents writer.old) (W.contents writer.new) prefix) }
     ensures goes_on { OnOk result (W.can_write writer.new) }
+    ensures failed { OnErr result (W.has_failed writer.new) }
 {
     let mut at = 0;
     while at < text.len() {

@@ -1,9 +1,10 @@
-use Rattle.std.proofs.Common.{◌≡◌, ◌≤◌, ◌+◌, ◌-◌, ◌++◌, ◌∙◌, ℕ, List, [], false, length, take, drop, sym, ap, subst, arith, length-append, length-drop, append_assoc, append-nil}
+use Rattle.std.proofs.Common.{◌⊎◌, inl, inr, ◌≡◌, ◌≤◌, ◌+◌, ◌-◌, ◌++◌, ◌∙◌, ℕ, List, [], false, length, take, drop, sym, ap, subst, arith, length-append, length-drop, append_assoc, append-nil}
 use Rattle.std.proofs.lemmas.List.{length-take-le}
 use Rattle.std.specs.Prelude.{Option}
 use Rattle.std.specs.Io.KnownBytes.{Consumes}
 use Rattle.std.proofs.KnownBytes.{Consumes-nil, Consumes-trans}
 use Rattle.up_http.proofs.ServeLaws.{fresh, nearer, piece_left, room_left, ran_end, ran_stop}
+use Rattle.up_http.proofs.Blaming.{blames_all, blames_both, stands_all}
 use Rattle.up_http.proofs.serving.serve_reads.Goals as goal
 
 pub loop-progress-init : goal.loop-progress-init
@@ -58,3 +59,25 @@ returns-in-Err-clause-ran g c = let (came, read, so, budget, inside, within, roo
     let piece = take (c.loop-progress.filled - c.loop-progress.at) (drop c.loop-progress.at c.loop-progress.buffer) in
     ran_stop (g.A.Respond.gives c.args.responder.now) c.in-Err.cause _ _ _ _ (came ++ piece) c.serve_piece.new.progress read
     (omega (arith, budget, left c.loop-progress.buffer c.loop-progress.at c.loop-progress.filled inside within, length-append came piece)) (c.in-Err.ensures.err _ came so)
+
+pub returns-in-Ok-eq0-clause-blames : goal.returns-in-Ok-eq0-clause-blames
+returns-in-Ok-eq0-clause-blames g c = let (came, read, so, budget, inside, within, room, can_read, can_write) = c.loop-progress.invariant in
+    let none : c.loop-progress.filled - c.loop-progress.at ≡ 0 = omega (arith, c.if-at-filled.false) in
+    let goes_on : c.loop-progress.progress.feeder.ended ≡ false = sym c.loop-progress.progress.ends ∙ c.loop-progress-test.true in
+    let below = room_left (g.A.Respond.gives c.args.responder.now) _ came c.loop-progress.progress _ so goes_on in
+    blames_all c.finish.result (g.R.Source.has_failed c.read_piece.new.reader) (g.R.Source.can_read c.read_piece.new.reader ⊎ g.R.Source.has_ended c.read_piece.new.reader)
+    (g.W.Sink.has_failed c.finish.new.writer) (g.W.Sink.can_write c.finish.new.writer)
+    (inr (c.in-Ok-eq0.ensures.ended c.in-Ok-eq0.field-0-test (omega (arith, below, budget, none)) room)) c.finish.ensures.blames
+
+pub returns-in-Ok-eq0-clause-stands : goal.returns-in-Ok-eq0-clause-stands
+returns-in-Ok-eq0-clause-stands g c = let (came, read, so, budget, inside, within, room, can_read, can_write) = c.loop-progress.invariant in
+    let none : c.loop-progress.filled - c.loop-progress.at ≡ 0 = omega (arith, c.if-at-filled.false) in
+    let goes_on : c.loop-progress.progress.feeder.ended ≡ false = sym c.loop-progress.progress.ends ∙ c.loop-progress-test.true in
+    let below = room_left (g.A.Respond.gives c.args.responder.now) _ came c.loop-progress.progress _ so goes_on in
+    let ended : g.R.Source.has_ended c.read_piece.new.reader = c.in-Ok-eq0.ensures.ended c.in-Ok-eq0.field-0-test (omega (arith, below, budget, none)) room in
+    stands_all c.finish.result (inr ended)
+
+pub returns-in-Err-clause-blames : goal.returns-in-Err-clause-blames
+returns-in-Err-clause-blames g c = let (came, read, so, budget, inside, within, room, can_read, can_write) = c.loop-progress.invariant in
+    blames_both c.in-Err.cause (g.R.Source.has_failed c.loop-progress.reader) (g.R.Source.can_read c.loop-progress.reader ⊎ g.R.Source.has_ended c.loop-progress.reader)
+    (g.W.Sink.has_failed c.serve_piece.new.writer) (g.W.Sink.can_write c.serve_piece.new.writer) (inl can_read) c.in-Err.ensures.blames

@@ -1,4 +1,4 @@
-use Rattle.std.proofs.Common.{◌≡◌, ◌≤◌, ◌∙◌, ap, ℕ, List, false, arith, refl, subst, [], ◌++◌, take, length, length-append, append-nil}
+use Rattle.std.proofs.Common.{◌⊎◌, inl, inr, ◌≡◌, ◌≤◌, ◌∙◌, ap, ℕ, List, false, arith, refl, subst, [], ◌++◌, take, length, length-append, append-nil}
 use Rattle.std.proofs.lemmas.Grind.{common_steps}
 use Rattle.std.proofs.lemmas.List.{length-take-le}
 use Rattle.std.specs.Prelude.{Option}
@@ -7,8 +7,9 @@ use Rattle.std.proofs.KnownBytes.{Consumes-nil, Consumes-trans, Consumes-kept}
 use Rattle.up_lines.specs.declared.fault.ScriptCause.TheVariants.{Read}
 use Rattle.up_lines.specs.LineRuns.{Stopped}
 use Rattle.up_lines.specs.Progress.{Sofar}
-use Rattle.up_lines.proofs.Stopping.{stops_memory}
-use Rattle.up_lines.proofs.Ends.{fresh, same_prefix, ran_stop, ran_err, ran_on, stops_read}
+use Rattle.up_lines.proofs.Ends.{fresh, stops_bare, same_prefix, ran_stop, ran_err, ran_on, stops_read}
+use Rattle.up_lines.proofs.Steps.{on_ok, passed_on}
+use Rattle.up_lines.proofs.Blaming.{blames_all, blames_both}
 use Rattle.up_lines.proofs.lines.read_lines.Goals as goal
 
 pub loop-most-init : goal.loop-most-init
@@ -17,7 +18,7 @@ loop-most-init g c = ([], Consumes-nil _, fresh g.I.Interpret.gives _ c.args.pro
 pub returns-in_err-buffer-clause-ran : goal.returns-in_err-buffer-clause-ran
 returns-in_err-buffer-clause-ran g c =
     ran_stop g.I.Interpret.gives c.from_residual.result _ _ _ _ _ [] c.args.progress.now.answered c.from_residual.ensures.1 (Consumes-nil _) (omega arith)
-    (stops_memory g.I.Interpret.gives c.args.progress.now c.args.progress.now [] _ refl _ [] (fresh g.I.Interpret.gives _ c.args.progress.now c.requires.fresh))
+    (stops_bare g.I.Interpret.gives c.args.progress.now _ _ [] (fresh g.I.Interpret.gives _ c.args.progress.now c.requires.fresh))
 
 -- the buffer keeps its length
 kept : (new old : List ℕ) (len : ℕ) → length new ≡ length old → length old ≡ len → length new ≡ len
@@ -69,3 +70,23 @@ returns-in-Ok-eq0-clause-ran g c = let (came, read, so, budget, room, can_read, 
     ran_on g.I.Interpret.gives c.finish.result _ _ (g.R.Source.remaining c.args.reader.now) (g.R.Source.remaining c.read_piece.new.reader) came c.loop-most.progress _ c.finish.new.progress
     (consumed_none _ (g.R.Source.remaining c.loop-most.reader) _ came c.in-Ok-eq0.field-0 c.read_piece.new.buffer c.in-Ok-eq0.field-0-test read c.in-Ok-eq0.ensures.bytes)
     (omega (arith, budget)) (c.in-Ok-eq0.ensures.end c.in-Ok-eq0.field-0-test c.loop-most-test.true (omega (arith, room, c.deref_mut.ensures.len))) so c.finish.ensures.ok c.finish.ensures.err
+
+pub returns-in-Ok-eq0-clause-blames : goal.returns-in-Ok-eq0-clause-blames
+returns-in-Ok-eq0-clause-blames g c = let (came, read, so, budget, room, can_read, can_write) = c.loop-most.invariant in
+    blames_all c.finish.result (g.R.Source.has_failed c.read_piece.new.reader) (g.R.Source.can_read c.read_piece.new.reader ⊎ g.R.Source.has_ended c.read_piece.new.reader)
+    (g.W.Sink.has_failed c.finish.new.writer) (g.W.Sink.can_write c.finish.new.writer)
+    (inr (c.in-Ok-eq0.ensures.ended c.in-Ok-eq0.field-0-test c.loop-most-test.true (omega (arith, room, c.deref_mut.ensures.len)))) c.finish.ensures.blames
+
+pub returns-in-Ok-eq0-clause-ended : goal.returns-in-Ok-eq0-clause-ended
+returns-in-Ok-eq0-clause-ended g c = let (came, read, so, budget, room, can_read, can_write) = c.loop-most.invariant in
+    let ended : g.R.Source.has_ended c.read_piece.new.reader = c.in-Ok-eq0.ensures.ended c.in-Ok-eq0.field-0-test c.loop-most-test.true (omega (arith, room, c.deref_mut.ensures.len)) in
+    on_ok c.finish.result (λ _. ended) c.finish.ensures.goes_on
+
+pub returns-in_err-take_piece-in-Ok-clause-blames :
+    goal.returns-in_err-take_piece-in-Ok-clause-blames
+returns-in_err-take_piece-in-Ok-clause-blames g c =
+    let cause = c.in_err-take_piece-in-Ok.field-0.0 in
+    passed_on c.from_residual-in_err-take_piece-in-Ok.result cause _ c.from_residual-in_err-take_piece-in-Ok.ensures.1
+    (blames_both cause (g.R.Source.has_failed c.read_piece.new.reader) (g.R.Source.can_read c.read_piece.new.reader ⊎ g.R.Source.has_ended c.read_piece.new.reader)
+    (g.W.Sink.has_failed c.take_piece.new.writer) (g.W.Sink.can_write c.take_piece.new.writer)
+    (inl (c.in-Ok.ensures.goes_on (grind (arith, common_steps)))) c.in_err-take_piece-in-Ok.ensures.blames)

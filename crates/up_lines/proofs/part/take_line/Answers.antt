@@ -3,13 +3,13 @@ use Rattle.std.proofs.lemmas.Result.{IfErr-weaker}
 use Rattle.up_lines.specs.Lines.{newline}
 use Rattle.up_lines.specs.declared.fault.ScriptCause.TheVariants.{TooLong}
 use Rattle.up_lines.proofs.Steps.{takes_part, takes_end, takes_after, on_ok, passed_on}
-use Rattle.up_lines.proofs.Stopping.{stops_part, stops_many, stops_end, stops_after}
+use Rattle.up_lines.proofs.Stopping.{stops_before, stops_many, stops_end, stops_after}
 use Rattle.up_lines.proofs.part.take_line.Goals as goal
 
 pub returns-in_err-take_part-clause-err : goal.returns-in_err-take_part-clause-err
 returns-in_err-take_part-clause-err g c =
     passed_on c.from_residual.result c.in_err-take_part.field-0.0 _ c.from_residual.ensures.1
-    (λ more. stops_part g.I.Interpret.gives c.in_err-take_part.field-0.0 c.args.progress.now c.take_part.new.progress c.args.part.now (newline ∷ more) _
+    (λ more. stops_before g.I.Interpret.gives c.in_err-take_part.field-0.0 c.args.progress.now c.take_part.new.progress c.args.part.now more _
     c.requires.own c.in_err-take_part.ensures.err.0 c.in_err-take_part.ensures.err.1)
 
 pub returns-then-progress-eq-MOST_LINES-clause-err :
