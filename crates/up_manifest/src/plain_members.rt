@@ -1,11 +1,12 @@
 //! Members of objects in the form in which Primaries write manifests: a piece that ends with the key's colon, and the value
 //! behind it.
-ghost use Rattle.std.specs.Prelude.{◌≡◌, ◌++◌, IsTrue, IfOk, decimal, length};
+ghost use Rattle.std.specs.Prelude.{◌≡◌, ◌++◌, IsTrue, IfOk, IfErr, decimal, length};
 ghost use Rattle.std.specs.List.{list_all};
 ghost use Rattle.hex.specs.Hex.{encode_lower};
 ghost use Rattle.up_canon.specs.Canon.{is_printable_text, quoted};
 ghost use Rattle.up_canon.specs.Moments.{moment_text};
 ghost use Rattle.up_canon.specs.Names.{is_from_to, is_short_text};
+ghost use Rattle.up_manifest.specs.declared.cursor.Unread.TheVariants.{Form};
 ghost use Rattle.up_sign.specs.Schemes.{is_byte};
 
 use crate::cursor::{Cursor, Unread};
@@ -20,7 +21,8 @@ use up_canon::text::Text;
 
 /// Takes a count.
 pub(crate) fn count_behind(cursor: &mut Cursor<'_>, key: &str) -> Result<Count, Unread>
-    ensures { IfOk result (λ n. cursor.old.rest.now ≡ key.now ++ (decimal n ++ cursor.new.rest.now)) }
+    ensures value { IfOk result (λ n. cursor.old.rest.now ≡ key.now ++ (decimal n ++ cursor.new.rest.now)) }
+    ensures form { IfErr result (λ e. e ≡ Form) }
 {
     cursor.pass(key)?;
     cursor.count()
@@ -61,7 +63,8 @@ pub(crate) fn note_behind(alloc: Global, cursor: &mut Cursor<'_>, key: &str) -> 
 
 /// Takes a moment.
 pub(crate) fn moment_behind(cursor: &mut Cursor<'_>, key: &str) -> Result<Moment, Unread>
-    ensures { IfOk result (λ m. cursor.old.rest.now ≡ key.now ++ (quoted (moment_text m) ++ cursor.new.rest.now)) }
+    ensures value { IfOk result (λ m. cursor.old.rest.now ≡ key.now ++ (quoted (moment_text m) ++ cursor.new.rest.now)) }
+    ensures form { IfErr result (λ e. e ≡ Form) }
 {
     let text = text_behind(cursor, key)?;
     Moment::read(text).ok_or(Unread::Form)
@@ -107,6 +110,7 @@ pub(crate) fn bytes_behind(
 fn text_behind<'a>(cursor: &mut Cursor<'a>, key: &str) -> Result<&'a str, Unread>
     ensures value { IfOk result (λ t. cursor.old.rest.now ≡ key.now ++ (quoted t.now ++ cursor.new.rest.now)) }
     ensures printable { IfOk result (λ t. IsTrue (is_printable_text t.now)) }
+    ensures form { IfErr result (λ e. e ≡ Form) }
 {
     cursor.pass(key)?;
     cursor.quoted()

@@ -54,7 +54,7 @@ pub fn repository_at(map: &Map<String, Value>) -> Result<Repository, &'static st
 /// What the payload says of itself; its type has to be this one.
 #[tactic(auto, unfolding(crate::specs::Payload::head_in, up_canon::specs::Steps::and_then))]
 pub(crate) fn head_at(map: &Map<String, Value>, kind: &str) -> Result<Head, Refusal>
-    ensures { Gives result (head_in kind.now (object_of_map map.now.entries)) }
+    ensures { result ≡ head_in kind.now (object_of_map map.now.entries) }
 {
     word_at(map, "type", kind)?;
     let repository = repository_at(map)?;

@@ -37,7 +37,7 @@ pub(crate) fn role_at(
 /// The role of these keys, which have distinct identifiers and can meet the threshold.
 fn role_of(keys: Listed<RootKey>, threshold: u64) -> Result<RoleKeys, Refusal>
     requires { length keys ≤ 4 }
-    ensures { Gives result (fitting role_is_met_of (codes "roles") (record { keys = keys; threshold = threshold })) }
+    ensures { result ≡ fitting role_is_met_of (codes "roles") (record { keys = keys; threshold = threshold }) }
 {
     if threshold >= 1
         && threshold <= keys.as_slice().len() as u64
