@@ -3,6 +3,7 @@
 ghost use Rattle.std.specs.Prelude.{◌≡◌, ◌≢◌, false, OnOk, OnErr, Err, None, Some, IfOk, IfErr, IfSome, IsTrue, codes, pos};
 ghost use Rattle.sqlite.specs.declared.types.Value.TheVariants.{Int, Text};
 ghost use Rattle.sqlite.specs.Order.{column};
+ghost use Rattle.std.specs.Prelude.{◌↔◌};
 ghost use Rattle.sqlite.specs.Held.{state};
 ghost use Rattle.sqlite.specs.State.{HasCleanDisk, Survives, IsLive};
 ghost use Rattle.up_tables.specs.Tables.{no_schema, up_schema};
@@ -44,7 +45,7 @@ pub enum SchemaVersion {
 
 /// Whether the database has no table, index or view.
 fn has_no_table<S: Alter>(conn: &Connection<S>) -> bool
-    ensures empty { IsTrue result → (state S.Store conn.now).now.schema ≡ no_schema }
+    ensures empty { IsTrue result ↔ ((state S.Store conn.now).now.schema ≡ no_schema) }
     ensures live { IsLive (state S.Store conn.now) }
     ensures settled { (state S.Store conn.now).in_transaction ≡ false → IsTrue (state S.Store conn.now).is_open
         → (state S.Store conn.now).now ≡ (state S.Store conn.now).committed }

@@ -1,13 +1,14 @@
 //! Values as they are bound and read, and faults.
 
-ghost use Rattle.std.specs.Prelude.{◌≡◌, ◌<◌, ◌^◌, pos, Err, OnOk, IfOk, IfErr, string_bytes};
+ghost use Rattle.std.specs.Prelude.{◌≡◌, ◌≢◌, ◌<◌, ◌^◌, ℕ, Bool, List, pos, length, Err, OnOk, IfOk, IfErr, IsUtf8, string_bytes};
 ghost use Rattle.std.specs.Result.{IsOk};
 ghost use Rattle.sqlite.specs.Order.{column};
 ghost use Rattle.sqlite.specs.Values.{bound_value, or_null};
 ghost use Rattle.sqlite.specs.Value.{owned};
-ghost use Rattle.sqlite.specs.declared.types.Value.TheVariants.{Int, Text, Blob};
+ghost use Rattle.sqlite.specs.declared.types.Value.TheVariants.{Null, Int, Text, Blob};
 ghost use Rattle.up_tables.specs.Faults.{store_fault};
 ghost use Rattle.up_tables.specs.Lines.{yes_or_no};
+ghost use Rattle.up_tables.specs.declared.values.StoreFault.TheVariants as StoreFault;
 
 use sqlite::{Error, ErrorCode, Row};
 use sqlite_value::value::ValueRef;
@@ -97,7 +98,8 @@ pub fn bytes<'a>(blob: &'a [u8]) -> ValueRef<'a>
 
 /// The number in a column; `Store` where it has none.
 pub fn number_at(row: &Row, at: usize) -> Result<u64, StoreFault>
-    ensures { IfOk result (λ n. column row.now at ≡ Int (pos n)) }
+    ensures ok { IfOk result (λ n. column row.now at ≡ Int (pos n)) }
+    ensures fault { IfErr result (λ fault. fault ≡ StoreFault.Store → (n : ℕ) → column row.now at ≢ Int (pos n)) }
 {
     match row.get::<u64>(at) {
         Ok(n) => Ok(n),
@@ -107,7 +109,8 @@ pub fn number_at(row: &Row, at: usize) -> Result<u64, StoreFault>
 
 /// Yes or no in a column; `Store` where it has another number, or none.
 pub fn flag_at(row: &Row, at: usize) -> Result<bool, StoreFault>
-    ensures { IfOk result (λ yes. column row.now at ≡ Int (yes_or_no yes)) }
+    ensures ok { IfOk result (λ yes. column row.now at ≡ Int (yes_or_no yes)) }
+    ensures fault { IfErr result (λ fault. fault ≡ StoreFault.Store → (yes : Bool) → column row.now at ≢ Int (yes_or_no yes)) }
 {
     match number_at(row, at) {
         Ok(0) => Ok(false),
@@ -119,7 +122,8 @@ pub fn flag_at(row: &Row, at: usize) -> Result<bool, StoreFault>
 
 /// The text in a column; `Store` where it has none.
 pub fn text_at(row: &Row, at: usize) -> Result<String, StoreFault>
-    ensures { IfOk result (λ s. column row.now at ≡ Text (string_bytes s)) }
+    ensures ok { IfOk result (λ s. column row.now at ≡ Text (string_bytes s)) }
+    ensures fault { IfErr result (λ fault. fault ≡ StoreFault.Store → (s : List ℕ) → IsUtf8 s → column row.now at ≢ Text s) }
 {
     match row.get::<String>(at) {
         Ok(text) => Ok(text),
@@ -129,7 +133,8 @@ pub fn text_at(row: &Row, at: usize) -> Result<String, StoreFault>
 
 /// The bytes in a column; `Store` where it has none.
 pub fn bytes_at(row: &Row, at: usize) -> Result<Vec<u8>, StoreFault>
-    ensures { IfOk result (λ b. column row.now at ≡ Blob b.items) }
+    ensures ok { IfOk result (λ b. column row.now at ≡ Blob b.items) }
+    ensures fault { IfErr result (λ fault. fault ≡ StoreFault.Store → (b : List ℕ) → column row.now at ≢ Blob b) }
 {
     match row.get::<Vec<u8>>(at) {
         Ok(blob) => Ok(blob),
@@ -139,7 +144,8 @@ pub fn bytes_at(row: &Row, at: usize) -> Result<Vec<u8>, StoreFault>
 
 /// The number in a column, none where it is null; `Store` where it has anything else.
 pub fn number_or_null_at(row: &Row, at: usize) -> Result<Option<u64>, StoreFault>
-    ensures { IfOk result (λ o. column row.now at ≡ or_null (λ n. Int (pos n)) o) }
+    ensures ok { IfOk result (λ o. column row.now at ≡ or_null (λ n. Int (pos n)) o) }
+    ensures fault { IfErr result (λ fault. fault ≡ StoreFault.Store → at < length row.now → (column row.now at ≢ Null) × ((n : ℕ) → column row.now at ≢ Int (pos n))) }
 {
     match row.get::<Option<u64>>(at) {
         Ok(Some(n)) => Ok(Some(n)),
@@ -150,7 +156,8 @@ pub fn number_or_null_at(row: &Row, at: usize) -> Result<Option<u64>, StoreFault
 
 /// The text in a column, none where it is null; `Store` where it has anything else.
 pub fn text_or_null_at(row: &Row, at: usize) -> Result<Option<String>, StoreFault>
-    ensures { IfOk result (λ o. column row.now at ≡ or_null (λ s. Text (string_bytes s)) o) }
+    ensures ok { IfOk result (λ o. column row.now at ≡ or_null (λ s. Text (string_bytes s)) o) }
+    ensures fault { IfErr result (λ fault. fault ≡ StoreFault.Store → at < length row.now → (column row.now at ≢ Null) × ((s : List ℕ) → IsUtf8 s → column row.now at ≢ Text s)) }
 {
     match row.get::<Option<String>>(at) {
         Ok(Some(text)) => Ok(Some(text)),
@@ -161,7 +168,8 @@ pub fn text_or_null_at(row: &Row, at: usize) -> Result<Option<String>, StoreFaul
 
 /// The bytes in a column, none where it is null; `Store` where it has anything else.
 pub fn bytes_or_null_at(row: &Row, at: usize) -> Result<Option<Vec<u8>>, StoreFault>
-    ensures { IfOk result (λ o. column row.now at ≡ or_null (λ b. Blob b.items) o) }
+    ensures ok { IfOk result (λ o. column row.now at ≡ or_null (λ b. Blob b.items) o) }
+    ensures fault { IfErr result (λ fault. fault ≡ StoreFault.Store → at < length row.now → (column row.now at ≢ Null) × ((b : List ℕ) → column row.now at ≢ Blob b)) }
 {
     match row.get::<Option<Vec<u8>>>(at) {
         Ok(Some(blob)) => Ok(Some(blob)),

@@ -2,6 +2,7 @@
 
 ghost use Rattle.std.specs.Prelude.{◌≡◌, ◌∷◌, [], map, string_bytes, IsTrue, OnOk};
 ghost use Rattle.std.specs.Option.{option_to_list};
+ghost use Rattle.std.specs.Prelude.{◌↔◌};
 ghost use Rattle.std.specs.Result.{IsOkAnd};
 ghost use Rattle.sqlite.specs.Held.{state};
 ghost use Rattle.up_tables.specs.Tables.{vehicle_table};
@@ -106,7 +107,7 @@ fn shows(answer: Result<Vec<Row>, Error>, vehicle: &VehicleRow) -> Result<(), St
 
 /// Whether two rows are the same, column by column.
 fn is_same(one: &VehicleRow, other: &VehicleRow) -> bool
-    ensures { IsTrue result → vehicle_row one.now ≡ vehicle_row other.now }
+    ensures { IsTrue result ↔ (vehicle_row one.now ≡ vehicle_row other.now) }
 {
     one.vehicle == other.vehicle
         && one.primary_ecu == other.primary_ecu
