@@ -99,11 +99,21 @@ fn run_once(
             let is_so = reader.ended && !writer.failed;
             prove!(is_so);
         }
-        Err(ScriptFault { cause: Cause::Read, lines: _ }) => {
+        Err(
+            ScriptFault {
+                cause: Cause::Read,
+                lines: _,
+            },
+        ) => {
             let is_so = reader.failed && !writer.failed;
             prove!(is_so);
         }
-        Err(ScriptFault { cause: Cause::Write, lines: _ }) => {
+        Err(
+            ScriptFault {
+                cause: Cause::Write,
+                lines: _,
+            },
+        ) => {
             let is_so = writer.failed;
             prove!(is_so);
         }
