@@ -150,9 +150,9 @@ module _ {S : Type 0} (gives : Gives S) where
   untold_line old part more now own (some, room, short) first came so =
       let line = old.line.items in
       untold_next (came ++ (part ++ newline ∷ more)) false (filter has_bytes so.whole) (behind (so.whole ++ (line ++ part) ∷ []) more) (line ++ part) (
-        ap asked (so.cut false (part ++ newline ∷ more) ∙ ap (λ l. so.whole ++ lines_of false l) (sym (append_assoc line part (newline ∷ more))))
-        ∙ split_end so.whole (line ++ part) more so.each_short (omega (arith, so.counted_is)) short (own_line first came old now so part own)
-        (has_bytes-long (line ++ part) (omega (arith, length-append line part)))
+      ap asked (so.cut false (part ++ newline ∷ more) ∙ ap (λ l. so.whole ++ lines_of false l) (sym (append_assoc line part (newline ∷ more))))
+      ∙ split_end so.whole (line ++ part) more so.each_short (omega (arith, so.counted_is)) short (own_line first came old now so part own)
+      (has_bytes-long (line ++ part) (omega (arith, length-append line part)))
       )
 
   -- or nothing does
@@ -161,8 +161,8 @@ module _ {S : Type 0} (gives : Gives S) where
   untold_rest old part now own (some, room, short) first came so =
       let line = old.line.items in
       untold_within (came ++ (part ++ [])) false (filter has_bytes so.whole) (
-        ap fits (so.cut true (part ++ []) ∙ ap (λ l. so.whole ++ lines_of true (line ++ l)) (append-nil part))
-        ∙ fits_begun so.whole (line ++ part) so.each_short (own_line first came old now so part own) short (omega (arith, so.counted_is)) (λ full. absurd (omega (arith, so.counted_is)))
+      ap fits (so.cut true (part ++ []) ∙ ap (λ l. so.whole ++ lines_of true (line ++ l)) (append-nil part))
+      ∙ fits_begun so.whole (line ++ part) so.each_short (own_line first came old now so part own) short (omega (arith, so.counted_is)) (λ full. absurd (omega (arith, so.counted_is)))
       )
 
   -- the last part of a line isn't taken
