@@ -1,11 +1,13 @@
 -- What the rows that a campaign names say of the state where it is opened.
-use Rattle.std.proofs.Common.{◌≡◌, List, [], ◌∷◌, Bool, true, false, Ok, refl, sym, ap, ◌∙◌}
-use Rattle.std.specs.Prelude.{◌&&◌, Option, Some, None, map, option_map, unwrap_or}
+use Rattle.std.proofs.Common.{◌≡◌, List, [], ◌∷◌, Bool, true, false, Result, Ok, Err, refl, sym, ap, ◌∙◌}
+use Rattle.std.specs.Prelude.{◌&&◌, IsErrAnd, Option, Some, None, map, option_map, unwrap_or}
 use Rattle.std.specs.List.{AllByRecursion, list_all}
 use Rattle.std.specs.FinMap as table
+use Rattle.std.proofs.lemmas.Result.{err_from_is_err_and}
 use Rattle.up_canon.specs.Names.{Table}
 use Rattle.up_canon.specs.Steps.{and_then, ◌>>=◌, unless}
-use Rattle.up_canon.specs.declared.refusal.Refusal.TheVariants.{UnknownVehicle, UnknownImage, WrongHardware}
+use Rattle.up_canon.specs.declared.refusal.Refusal.{Refusal}
+use Rattle.up_canon.specs.declared.refusal.Refusal.TheVariants.{Memory, UnknownVehicle, UnknownImage, WrongHardware}
 use Rattle.up_plan.specs.declared.campaign.Item.{Item}
 use Rattle.up_plan.specs.declared.campaign.Reach.{Reach}
 use Rattle.up_plan.specs.declared.campaign.Reach.TheVariants.{All, Named}
@@ -70,3 +72,30 @@ pub checked_rows : (s : State) (campaign : CampaignData) (known : List Bool) (im
 unfolding decide_new_campaign check_campaign
 checked_rows s campaign known images knows =
     steps_same _ _ _ _ _ _ (done (with_campaign s campaign)) (knows_vehicles s campaign known images knows) (knows_images s campaign known images knows) (knows_hardware s campaign known images knows)
+
+-- ---- want of memory
+
+-- what the decision refuses for want of memory, its first check refused so
+memory_first : {A B : Type 0} (result : Result A Refusal) (e : Refusal) (first : Result B Refusal) → IsErrAnd result (λ x. x ≡ e) → result ≡ Err Memory → first ≡ Err e
+    → first ≡ Err Memory
+memory_first {A} result e first is memory h =
+    let (x, was, same) = err_from_is_err_and result is in
+    let told : ◌≡◌ {A = Result A Refusal} (Err x) (Err Memory) = sym was ∙ memory in
+    let is_memory : x ≡ Memory = cc in
+    h ∙ ap (λ r. Err r) (sym same ∙ is_memory)
+
+no_memory : (a b c : Bool) → (unless a UnknownVehicle >>= (λ _. unless b UnknownImage >>= (λ _. unless c WrongHardware))) ≡ Err Memory
+    → (unless a UnknownVehicle >>= (λ _. unless b UnknownImage >>= (λ _. unless c WrongHardware))) ≡ Ok tt
+unfolding and_then
+no_memory true true true h = refl
+no_memory true true false h = cc
+no_memory true false c h = cc
+no_memory false b c h = cc
+
+-- the checks take no memory, so that none is refused where one of them fails
+pub checks_outright : {A : Type 0} (result : Result A Refusal) (e : Refusal) (campaign : CampaignData) (known : List Bool) (images : Table ImageData) → IsErrAnd result (λ x. x ≡ e)
+    → result ≡ Err Memory → check_campaign known images campaign ≡ Err e → check_campaign known images campaign ≡ Ok tt
+unfolding check_campaign
+checks_outright result e campaign known images is memory h =
+    no_memory (list_all (λ is_known. is_known) known) (list_all (finds_image images) campaign.items) (list_all (finds_hardware images) campaign.items)
+    (memory_first result e (check_campaign known images campaign) is memory h)

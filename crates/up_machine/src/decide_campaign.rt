@@ -1,8 +1,10 @@
 //! Decisions on campaigns.
-ghost use Rattle.std.specs.Prelude.{◌≡◌, ◌≤◌, is_some, option_copied};
+ghost use Rattle.std.specs.Prelude.{◌≡◌, ◌≤◌, true, None, Some, Ok, Err, is_some, option_copied};
 ghost use Rattle.std.specs.List.{list_all};
 ghost use Rattle.std.specs.FinMap as table;
 ghost use Rattle.up_canon.specs.Moments.{last_command_moment};
+ghost use Rattle.up_canon.specs.declared.refusal.Refusal.TheVariants.{Memory};
+ghost use Rattle.up_plan.specs.Campaigns.{CampaignData};
 ghost use Rattle.up_plan.specs.Planning.{is_for as is_for_hardware};
 ghost use Rattle.up_machine.specs.State.{State};
 ghost use Rattle.up_machine.specs.Rows.{founding_row};
@@ -36,7 +38,8 @@ pub fn decide_open(
     images: &Table<Image>,
 ) -> Result<Decision<Campaign>, Refusal>
     requires { at ≤ last_command_moment }
-    ensures { (s : State) → is_founded ≡ is_some (founding_row s) → option_copied old.entry ≡ table.get s.campaigns campaign.now.name
+    ensures memory { result ≡ Err Memory → (is_founded ≡ true) × (option_copied old.entry ≡ None) × (check_campaign known.now images.now campaign.now ≡ Ok tt) }
+    ensures decided { (s : State) → is_founded ≡ is_some (founding_row s) → option_copied old.entry ≡ table.get s.campaigns campaign.now.name
         → Knows s campaign.now known.now images.now
         → GivesDecision (λ row. row ≡ campaign.now) s (with_campaign s campaign.now) result (decide_open_in s at campaign.now) }
 {
@@ -60,7 +63,8 @@ fn decide_new(
     known: &[bool],
     images: &Table<Image>,
 ) -> Result<Decision<Campaign>, Refusal>
-    ensures { (s : State) → Knows s campaign.now known.now images.now
+    ensures memory { result ≡ Err Memory → check_campaign known.now images.now campaign.now ≡ Ok tt }
+    ensures decided { (s : State) → Knows s campaign.now known.now images.now
         → GivesDecision (λ row. row ≡ campaign.now) s (with_campaign s campaign.now) result (decide_new_campaign s campaign.now) }
 {
     check_new(campaign, known, images)?;
@@ -140,7 +144,8 @@ pub fn decide_close(
     campaign: Option<&Campaign>,
 ) -> Result<Decision<Campaign>, Refusal>
     requires { at ≤ last_command_moment }
-    ensures { (s : State) → is_founded ≡ is_some (founding_row s) → option_copied campaign.entry ≡ table.get s.campaigns name.now
+    ensures memory { result ≡ Err Memory → (is_founded ≡ true) × ((c : CampaignData) × (option_copied campaign.entry ≡ Some c) × (c.running ≡ true)) }
+    ensures decided { (s : State) → is_founded ≡ is_some (founding_row s) → option_copied campaign.entry ≡ table.get s.campaigns name.now
         → GivesClosed s name.now result (decide_close_in s at name.now) }
 {
     check_founded(is_founded)?;

@@ -1,6 +1,7 @@
 //! The decision on a manifest that a vehicle delivers.
-ghost use Rattle.std.specs.Prelude.{◌≡◌, ◌≤◌, ◌<◌, ℕ, map, IfSome, IsTrue, option_copied};
+ghost use Rattle.std.specs.Prelude.{◌≡◌, ◌≤◌, ◌<◌, ℕ, true, map, Err, IfSome, IsTrue, is_some, option_copied};
 ghost use Rattle.up_canon.specs.Moments.{last_command_moment};
+ghost use Rattle.up_canon.specs.declared.refusal.Refusal.TheVariants.{Memory};
 ghost use Rattle.up_sign.specs.Schemes.{Rules};
 ghost use Rattle.up_metadata.specs.Keys.{hashed_roles as hashed_roles_of};
 ghost use Rattle.up_machine.specs.RowsFit.{founding_fits, rows_fit};
@@ -108,7 +109,8 @@ pub fn decide_again(
 ) -> Result<Delivered, Refusal>
     requires read { IsRead incoming.now }
     requires older { incoming.now.manifest.counter ≤ sender.now.vehicle.vehicle.last }
-    ensures { (k : Rules) (s : State) (at : ℕ) → at ≤ last_command_moment → IsSound k s → IsSenderOf k s incoming.now sender.now
+    ensures memory { result ≡ Err Memory → is_some (repeated_in incoming.now (option_copied kept.entry)) ≡ true }
+    ensures decided { (k : Rules) (s : State) (at : ℕ) → at ≤ last_command_moment → IsSound k s → IsSenderOf k s incoming.now sender.now
         → option_copied kept.entry ≡ kept_at k s incoming.now.manifest.vehicle incoming.now.manifest.counter
         → GivesDelivered k s incoming.now.manifest.vehicle result (decide_incoming k s at incoming.now) }
 {

@@ -1,7 +1,10 @@
 //! Decisions on the register of images: on an image over the founding's row and the image of its filename, on one of a new
 //! filename over all images too, and on new files over the founding's row alone, of which `new_files::register_rows` makes them.
-ghost use Rattle.std.specs.Prelude.{◌≡◌, ◌≤◌, IfOk, IfSome, IsTrue, Ok, option_copied};
+ghost use Rattle.std.specs.Prelude.{◌≡◌, ◌≤◌, ◌<◌, IfOk, IfSome, IsTrue, Ok, Err, option_copied};
+ghost use Rattle.std.specs.FinMap as table;
+ghost use Rattle.up_canon.specs.Canon.{max_count};
 ghost use Rattle.up_canon.specs.Moments.{last_command_moment};
+ghost use Rattle.up_canon.specs.declared.refusal.Refusal.TheVariants.{Memory};
 ghost use Rattle.up_sign.specs.Schemes.{Rules};
 ghost use Rattle.up_machine.specs.declared.decision.Decision.TheVariants.{New};
 ghost use Rattle.up_machine.specs.declared.rows.Founding.{Founding};
@@ -64,7 +67,8 @@ pub fn decide_new_image<K: Scheme>(
 ) -> Result<RegisterRows, Refusal>
     requires moment { at ≤ last_command_moment }
     requires keys { IsTrue (founding_fits (K.rules scheme.now) founding) }
-    ensures { MakesImageRows (K.rules scheme.now) at image.now founding images.now result }
+    ensures memory { result ≡ Err Memory → (table.len images.now < 1024) × (founding.image_version < max_count) }
+    ensures decided { MakesImageRows (K.rules scheme.now) at image.now founding images.now result }
 {
     if images.len() >= MAX_IMAGES {
         return Err(Refusal::RegisterFull);

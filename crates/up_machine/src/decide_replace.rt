@@ -1,13 +1,14 @@
 //! The decision on an ECU that another one replaces.
-ghost use Rattle.std.specs.Prelude.{◌≡◌, ◌≤◌, Some, is_some, option_copied, bytes_eq, codes, false, Err};
+ghost use Rattle.std.specs.Prelude.{◌≡◌, ◌≤◌, ◌&&◌, Some, is_some, option_copied, bytes_eq, codes, false, true, Err};
 ghost use Rattle.std.specs.List.{list_any};
 ghost use Rattle.std.specs.FinMap as table;
 ghost use Rattle.up_canon.specs.Moments.{last_command_moment};
-ghost use Rattle.up_canon.specs.declared.refusal.Refusal.TheVariants.{BadShape};
+ghost use Rattle.up_canon.specs.declared.refusal.Refusal.TheVariants.{BadShape, Memory};
 ghost use Rattle.up_canon.specs.Steps.{and_then, or_error};
 ghost use Rattle.up_canon.specs.declared.refusal.Refusal.TheVariants.{UnknownVehicle};
 ghost use Rattle.up_machine.specs.Vehicles.{public_fits as public_fits_in};
-ghost use Rattle.up_machine.specs.Decisions.{GivesReplacement};
+ghost use Rattle.up_machine.specs.Decisions.{GivesReplacement, is_fixed};
+ghost use Rattle.up_machine.specs.declared.rows.VehicleRows.{VehicleRows as VehicleRowsData};
 ghost use Rattle.up_machine.specs.Deciding.{check_founded as check_founded_in};
 ghost use Rattle.up_machine.specs.Inventory.{decide_replace as decide_replace_in, decide_replacement};
 ghost use Rattle.up_machine.specs.Rows.{founding_row, rows_of, vehicle_rows};
@@ -39,6 +40,7 @@ pub fn decide_replace<K: Scheme>(
 ) -> Result<(), Refusal>
     requires { at ≤ last_command_moment }
     ensures key { public_fits_in (K.rules scheme.now) replacement.now.ecu.public ≡ false → result ≡ Err (BadShape (codes "key")) }
+    ensures memory { result ≡ Err Memory → (is_founded ≡ true) × ((v : VehicleRowsData) × (option_copied vehicle.entry ≡ Some v) × (is_fixed replacement.now.old v ≡ false)) }
     ensures decided { (s : State) → is_founded ≡ is_some (founding_row s) → option_copied vehicle.entry ≡ vehicle_rows s replacement.now.vehicle
         → is_taken_already ≡ is_taken s replacement.now.ecu.ecu → GivesReplacement s replacement.now result (decide_replace_in (K.rules scheme.now) s at replacement.now) }
 {
@@ -58,7 +60,8 @@ fn decide_fitting(
     vehicle: Option<&VehicleRows>,
     is_taken_already: bool,
 ) -> Result<(), Refusal>
-    ensures { (s : State) → is_founded ≡ is_some (founding_row s) → option_copied vehicle.entry ≡ vehicle_rows s replacement.now.vehicle
+    ensures memory { result ≡ Err Memory → (is_founded ≡ true) × ((v : VehicleRowsData) × (option_copied vehicle.entry ≡ Some v) × (is_fixed replacement.now.old v ≡ false)) }
+    ensures decided { (s : State) → is_founded ≡ is_some (founding_row s) → option_copied vehicle.entry ≡ vehicle_rows s replacement.now.vehicle
         → is_taken_already ≡ is_taken s replacement.now.ecu.ecu → GivesReplacement s replacement.now result
         (and_then (check_founded_in s) (λ _. and_then (or_error UnknownVehicle (table.get s.vehicles replacement.now.vehicle)) (decide_replacement s replacement.now))) }
 {
@@ -73,7 +76,8 @@ fn decide_known(
     vehicle: Option<&VehicleRows>,
     is_taken_already: bool,
 ) -> Result<(), Refusal>
-    ensures { (s : State) → option_copied vehicle.entry ≡ vehicle_rows s replacement.now.vehicle
+    ensures memory { result ≡ Err Memory → (v : VehicleRowsData) × (option_copied vehicle.entry ≡ Some v) × (is_fixed replacement.now.old v ≡ false) }
+    ensures decided { (s : State) → option_copied vehicle.entry ≡ vehicle_rows s replacement.now.vehicle
         → is_taken_already ≡ is_taken s replacement.now.ecu.ecu → GivesReplacement s replacement.now result
         (and_then (or_error UnknownVehicle (table.get s.vehicles replacement.now.vehicle)) (decide_replacement s replacement.now)) }
 {
@@ -90,7 +94,8 @@ fn decide_in(
     rows: &VehicleRows,
     is_taken_already: bool,
 ) -> Result<(), Refusal>
-    ensures { (s : State) (v : Vehicle) → table.get s.vehicles replacement.now.vehicle ≡ Some v → rows.now ≡ rows_of replacement.now.vehicle v
+    ensures memory { result ≡ Err Memory → is_fixed replacement.now.old rows.now ≡ false }
+    ensures decided { (s : State) (v : Vehicle) → table.get s.vehicles replacement.now.vehicle ≡ Some v → rows.now ≡ rows_of replacement.now.vehicle v
         → is_taken_already ≡ is_taken s replacement.now.ecu.ecu → GivesReplacement s replacement.now result (decide_replacement s replacement.now v) }
 {
     if !stands_in(&replacement.old, rows) {

@@ -1,9 +1,9 @@
 //! Decisions on vehicles of the inventory.
-ghost use Rattle.std.specs.Prelude.{◌≡◌, ◌≤◌, [], is_some, map, option_copied, codes, false};
+ghost use Rattle.std.specs.Prelude.{◌≡◌, ◌≤◌, [], None, Err, is_some, map, option_copied, codes, false, true};
 ghost use Rattle.std.specs.List.{list_all};
 ghost use Rattle.std.specs.FinMap as table;
 ghost use Rattle.up_canon.specs.Moments.{last_command_moment};
-ghost use Rattle.up_canon.specs.declared.refusal.Refusal.TheVariants.{BadShape, VehicleTaken};
+ghost use Rattle.up_canon.specs.declared.refusal.Refusal.TheVariants.{BadShape, Memory, VehicleTaken};
 ghost use Rattle.up_canon.specs.Steps.{and_then};
 ghost use Rattle.up_machine.specs.Deciding.{check_founded as check_founded_in, where_new};
 ghost use Rattle.up_machine.specs.State.{State, added, is_taken};
@@ -44,6 +44,7 @@ pub fn decide_vehicle<K: Scheme>(
 ) -> Result<Decision<VehicleRows>, Refusal>
     requires { at ≤ last_command_moment }
     ensures key { list_all (λ e. public_fits (K.rules scheme.now) e.public) new.now.ecus ≡ false → result ≡ Err (BadShape (codes "key")) }
+    ensures memory { result ≡ Err Memory → (is_founded ≡ true) × (option_copied old.entry ≡ None) }
     ensures decided { (s : State) → IsSound (K.rules scheme.now) s → is_founded ≡ is_some (founding_row s)
         → option_copied old.entry ≡ vehicle_rows s new.now.vehicle → taken.now ≡ map (is_taken s) (ecu_names new.now.ecus)
         → GivesDecision (λ rows. rows ≡ rows_of new.now.vehicle (added new.now)) s (with_vehicle s new.now) result
@@ -65,7 +66,8 @@ fn decide_fitting(
     old: Option<&VehicleRows>,
     taken: &[bool],
 ) -> Result<Decision<VehicleRows>, Refusal>
-    ensures { (s : State) → is_founded ≡ is_some (founding_row s)
+    ensures memory { result ≡ Err Memory → (is_founded ≡ true) × (option_copied old.entry ≡ None) }
+    ensures decided { (s : State) → is_founded ≡ is_some (founding_row s)
         → option_copied old.entry ≡ vehicle_rows s new.now.vehicle → taken.now ≡ map (is_taken s) (ecu_names new.now.ecus)
         → GivesDecision (λ rows. rows ≡ rows_of new.now.vehicle (added new.now)) s (with_vehicle s new.now) result
         (and_then (check_founded_in s) (λ _. where_new s (same_vehicle_of new.now) VehicleTaken (table.get s.vehicles new.now.vehicle) (decide_new_vehicle s new.now))) }
@@ -81,7 +83,8 @@ fn decide_named(
     old: Option<&VehicleRows>,
     taken: &[bool],
 ) -> Result<Decision<VehicleRows>, Refusal>
-    ensures { (s : State) → option_copied old.entry ≡ vehicle_rows s new.now.vehicle → taken.now ≡ map (is_taken s) (ecu_names new.now.ecus)
+    ensures memory { result ≡ Err Memory → option_copied old.entry ≡ None }
+    ensures decided { (s : State) → option_copied old.entry ≡ vehicle_rows s new.now.vehicle → taken.now ≡ map (is_taken s) (ecu_names new.now.ecus)
         → GivesDecision (λ rows. rows ≡ rows_of new.now.vehicle (added new.now)) s (with_vehicle s new.now) result
         (where_new s (same_vehicle_of new.now) VehicleTaken (table.get s.vehicles new.now.vehicle) (decide_new_vehicle s new.now)) }
 {

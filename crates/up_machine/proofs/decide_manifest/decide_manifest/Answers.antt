@@ -23,7 +23,7 @@ returns-then-not-is_later g c = λ s sound rows.
     let founding = ap (λ (d : DeliveryData). d.founding) c.rows.view_is ∙ rows.founding in
     let vehicle = ap (λ (d : DeliveryData). d.vehicle) c.rows.view_is ∙ rows.vehicle in
     let kept = ap (λ (d : DeliveryData). d.kept) c.rows.view_is ∙ rows.kept in
-    c.decide_again.ensures k s c.args.at c.requires.moment sound (c.in_ok-sender.ensures.from s founding vehicle) kept
+    c.decide_again.ensures.decided k s c.args.at c.requires.moment sound (c.in_ok-sender.ensures.from s founding vehicle) kept
 
 pub returns : goal.returns
 returns g c = λ s sound rows.

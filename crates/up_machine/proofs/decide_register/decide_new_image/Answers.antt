@@ -12,15 +12,15 @@ use Rattle.up_machine.proofs.FoundingRows.{founding_of, row_with, files_of, file
 use Rattle.up_machine.proofs.RootDecisions.{image_full, image_limit, image_done}
 use Rattle.up_machine.proofs.decide_register.decide_new_image.Goals as goal
 
-pub returns-then-len-ge-MAX_IMAGES : goal.returns-then-len-ge-MAX_IMAGES
-returns-then-len-ge-MAX_IMAGES g c = λ s sound row images none.
+pub returns-then-len-ge-MAX_IMAGES-clause-decided : goal.returns-then-len-ge-MAX_IMAGES-clause-decided
+returns-then-len-ge-MAX_IMAGES-clause-decided g c = λ s sound row images none.
     let size : c.len.result ≡ table.len s.images = c.len.ensures ∙ ap (λ t. table.len t) images in
     let test = c.if-len-ge-MAX_IMAGES.true in
     let full : 1024 ≤ table.len s.images = omega (arith, size, test) in
     image_full s c.args.at c.args.image.now full
 
-pub returns-then-founding-ge-MAX_COUNT : goal.returns-then-founding-ge-MAX_COUNT
-returns-then-founding-ge-MAX_COUNT g c = λ s sound row images none.
+pub returns-then-founding-ge-MAX_COUNT-clause-decided : goal.returns-then-founding-ge-MAX_COUNT-clause-decided
+returns-then-founding-ge-MAX_COUNT-clause-decided g c = λ s sound row images none.
     let of = founding_of s c.args.founding (sym row) in
     let size : c.len.result ≡ table.len s.images = c.len.ensures ∙ ap (λ t. table.len t) images in
     let test = c.if-len-ge-MAX_IMAGES.false in
@@ -37,8 +37,8 @@ rows_with_image-requires g c =
     subst (CanMakeFiles k) (sym c.with_version-founding.ensures)
     (files_can_be_made k (row_with c.args.founding (c.args.founding.image_version + 1) c.args.at) c.requires.keys (omega arith) (omega (arith, test)) c.requires.moment)
 
-pub returns : goal.returns
-returns g c = λ s sound row images none.
+pub returns-clause-decided : goal.returns-clause-decided
+returns-clause-decided g c = λ s sound row images none.
     let k = g.K.Scheme.rules c.args.scheme.now in
     let at = c.args.at in
     let image = c.args.image.now in
