@@ -145,7 +145,8 @@ pub fn bytes_at(row: &Row, at: usize) -> Result<Vec<u8>, StoreFault>
 /// The number in a column, none where it is null; `Store` where it has anything else.
 pub fn number_or_null_at(row: &Row, at: usize) -> Result<Option<u64>, StoreFault>
     ensures ok { IfOk result (λ o. column row.now at ≡ or_null (λ n. Int (pos n)) o) }
-    ensures fault { IfErr result (λ fault. fault ≡ StoreFault.Store → at < length row.now → (column row.now at ≢ Null) × ((n : ℕ) → column row.now at ≢ Int (pos n))) }
+    ensures fault { IfErr result (λ fault. fault ≡ StoreFault.Store → at < length row.now
+        → (column row.now at ≢ Null) × ((n : ℕ) → column row.now at ≢ Int (pos n))) }
 {
     match row.get::<Option<u64>>(at) {
         Ok(Some(n)) => Ok(Some(n)),
@@ -157,7 +158,8 @@ pub fn number_or_null_at(row: &Row, at: usize) -> Result<Option<u64>, StoreFault
 /// The text in a column, none where it is null; `Store` where it has anything else.
 pub fn text_or_null_at(row: &Row, at: usize) -> Result<Option<String>, StoreFault>
     ensures ok { IfOk result (λ o. column row.now at ≡ or_null (λ s. Text (string_bytes s)) o) }
-    ensures fault { IfErr result (λ fault. fault ≡ StoreFault.Store → at < length row.now → (column row.now at ≢ Null) × ((s : List ℕ) → IsUtf8 s → column row.now at ≢ Text s)) }
+    ensures fault { IfErr result (λ fault. fault ≡ StoreFault.Store → at < length row.now
+        → (column row.now at ≢ Null) × ((s : List ℕ) → IsUtf8 s → column row.now at ≢ Text s)) }
 {
     match row.get::<Option<String>>(at) {
         Ok(Some(text)) => Ok(Some(text)),
@@ -169,7 +171,8 @@ pub fn text_or_null_at(row: &Row, at: usize) -> Result<Option<String>, StoreFaul
 /// The bytes in a column, none where it is null; `Store` where it has anything else.
 pub fn bytes_or_null_at(row: &Row, at: usize) -> Result<Option<Vec<u8>>, StoreFault>
     ensures ok { IfOk result (λ o. column row.now at ≡ or_null (λ b. Blob b.items) o) }
-    ensures fault { IfErr result (λ fault. fault ≡ StoreFault.Store → at < length row.now → (column row.now at ≢ Null) × ((b : List ℕ) → column row.now at ≢ Blob b)) }
+    ensures fault { IfErr result (λ fault. fault ≡ StoreFault.Store → at < length row.now
+        → (column row.now at ≢ Null) × ((b : List ℕ) → column row.now at ≢ Blob b)) }
 {
     match row.get::<Option<Vec<u8>>>(at) {
         Ok(Some(blob)) => Ok(Some(blob)),
