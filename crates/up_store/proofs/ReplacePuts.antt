@@ -117,7 +117,7 @@ one_retired rows new n = by_test (bytes_eq new.vehicle n) refl
 -- ---- what is put in
 
 pub puts_replaced : {A : Type 0} (r : Result A StoreFault) (new : Replacement) (before mid after : Connected)
-    → ((rows_of : List ℕ → List Row) (was : EcuLine) → HasTables before → Lists 2 rows_of (before.now.trees 11) → Has (rows_of was.vehicle) (ecu_row was) → was.ecu ≡ new.old
+    → ((rows_of : List ℕ → List Row) (was : EcuLine) → HasTables before → Lists 2 rows_of (before.now.trees ecu_table.tree) → Has (rows_of was.vehicle) (ecu_row was) → was.ecu ≡ new.old
     → Alters ecu_table (Lists 2 (with_replaced was (replaced_line new.ecu.ecu new.ecu.hardware new.ecu.public was) rows_of)) before mid)
     → OnOk r ((rows_of : List ℕ → List Row) → HasTables mid → Lists 2 rows_of (mid.now.trees retired_table.tree) → Alters retired_table (Lists 2 (with_row new.vehicle (retired_line new.old new.vehicle) rows_of)) mid after)
     → OnOk r (IsTrue before.is_open) → OnOk r ((rows : StateRows) → IsWithin up_schema (ListsRows rows) before → IsReplacement new rows → GoesOn up_schema (ListsRows (with_replaced_rows rows new)) after)

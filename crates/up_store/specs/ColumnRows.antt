@@ -66,7 +66,8 @@ pub record AreImages (shown : List ImageRow) (images : Table ImageData) : Type 0
 
 -- of each name the row of its image's second hash, or none
 abbrev pub AreSha512s : List Sha512Row → Table ImageData → Type 0
-AreSha512s shown images = (name : Name) → sha512_lines name (second_hash (table.get images name)) ≡ map sha512_row (filter (λ i. bytes_eq (string_bytes i.file) name) shown)
+AreSha512s shown images =
+    (name : Name) → sha512_lines name (second_hash (table.get images name)) ≡ map sha512_row (filter (λ i. bytes_eq (string_bytes i.file) name) shown)
 
 -- of each name its image's second hash, or none
 abbrev pub AreHashesOf : Table (List ℕ) → Table ImageData → Type 0
@@ -75,7 +76,8 @@ AreHashesOf hashes images = (name : Name) → table.get hashes name ≡ second_h
 -- of each name the row of the campaign where it runs, or none
 pub record AreRunning (shown : List CampaignRow) (campaigns : Table CampaignData) : Type 0 where
   pub typed : (name : Name) (campaign : CampaignData) → table.get campaigns name ≡ Some campaign → IsTypedCampaign name campaign
-  pub each : (name : Name) → campaign_lines (if_passes (λ c. c.running) (table.get campaigns name)) ≡ map campaign_row (filter (λ c. bytes_eq (string_bytes c.name) name) shown)
+  pub each : (name : Name) → campaign_lines (if_passes (λ c. c.running) (table.get campaigns name))
+      ≡ map campaign_row (filter (λ c. bytes_eq (string_bytes c.name) name) shown)
 
 -- ---- what is written
 

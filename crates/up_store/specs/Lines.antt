@@ -38,7 +38,8 @@ repository_word Image = codes "image"
 
 abbrev pub role_lines : ℕ → Repository → List ℕ → RoleSecrets → List Row
 role_lines root repository role keys =
-    map (λ key. Int (pos root) ∷ Text (repository_word repository) ∷ Text role ∷ Int (pos key.0) ∷ Blob key.1 ∷ Int (pos keys.threshold) ∷ []) (enumerate_from 0 keys.keys)
+    map (λ key. Int (pos root) ∷ Text (repository_word repository) ∷ Text role ∷ Int (pos key.0) ∷ Blob key.1 ∷ Int (pos keys.threshold) ∷ [])
+    (enumerate_from 0 keys.keys)
 
 abbrev pub repository_lines : ℕ → Repository → RepoKeys → List Row
 repository_lines root repository keys =
@@ -84,14 +85,16 @@ root_file_lines new =
 -- the image repository's files that are made together
 abbrev pub role_file_lines : RoleTexts → List FileLine
 role_file_lines texts =
-    file_line Image (codes "targets.json") texts.targets ∷ file_line Image (codes "snapshot.json") texts.snapshot ∷ file_line Image (codes "timestamp.json") texts.timestamp ∷ []
+    file_line Image (codes "targets.json") texts.targets ∷ file_line Image (codes "snapshot.json") texts.snapshot
+    ∷ file_line Image (codes "timestamp.json") texts.timestamp ∷ []
 
 -- ---- image, campaign, vehicle: the row of a name, or none
 
 abbrev pub image_lines : Option ImageData → List Row
 image_lines None = []
 image_lines (Some i) =
-    (Text i.file ∷ Int (pos i.length) ∷ Blob i.sha256 ∷ Text (names_column i.hardware) ∷ Int (pos i.release) ∷ Text (needs_column i.needs) ∷ Text (names_column i.conflicts) ∷ []) ∷ []
+    (Text i.file ∷ Int (pos i.length) ∷ Blob i.sha256 ∷ Text (names_column i.hardware) ∷ Int (pos i.release)
+    ∷ Text (needs_column i.needs) ∷ Text (names_column i.conflicts) ∷ []) ∷ []
 
 abbrev pub campaign_lines : Option CampaignData → List Row
 campaign_lines None = []
@@ -143,4 +146,5 @@ retired_lines vehicle ecus = map (λ ecu. retired_line ecu vehicle) ecus
 
 abbrev pub kept_line : Kept → Row
 kept_line row =
-    Text row.vehicle ∷ Int (pos row.counter) ∷ Int (pos row.version) ∷ Int (pos row.at) ∷ Int (pos row.root) ∷ Text row.signed ∷ Text (plan_column row.plan) ∷ Text row.reply ∷ []
+    Text row.vehicle ∷ Int (pos row.counter) ∷ Int (pos row.version) ∷ Int (pos row.at) ∷ Int (pos row.root)
+    ∷ Text row.signed ∷ Text (plan_column row.plan) ∷ Text row.reply ∷ []

@@ -17,7 +17,8 @@ use Rattle.up_tables.specs.declared.open.SchemaVersion.{SchemaVersion}
 use Rattle.up_tables.specs.declared.open.SchemaVersion.TheVariants.{Three}
 use Rattle.up_tables.specs.Listed.{TableRows}
 use Rattle.up_tables.specs.Versions.{ListsAs}
-use Rattle.up_store.specs.Lines.{founding_number, repository_word, roots_lines, file_lines, image_lines, campaign_lines, vehicle_lines, ecus_lines, kept_line, retired_lines, second_hash, sha512_lines}
+use Rattle.up_store.specs.Lines.{founding_number, repository_word, roots_lines, file_lines, image_lines, campaign_lines}
+use Rattle.up_store.specs.Lines.{vehicle_lines, ecus_lines, kept_line, retired_lines, second_hash, sha512_lines}
 use Rattle.up_store.specs.Typed.{AreTyped}
 
 -- the founding is of the last root version; before it there is none

@@ -18,7 +18,9 @@ with_founding f rows = record rows { root = f.root; image_version = f.image_vers
 
 -- behind the other keys, those of the founding's root version
 abbrev pub with_keys : Founding → TableRows → TableRows
-with_keys f rows = record rows { role_keys = rows.role_keys ++ (repository_lines f.root Director f.keys.director ++ repository_lines f.root Image f.keys.image) }
+with_keys f rows = record rows {
+  role_keys = rows.role_keys ++ (repository_lines f.root Director f.keys.director ++ repository_lines f.root Image f.keys.image);
+}
 
 -- no file stands twice
 abbrev pub HasFilesOnce : TableRows → Type 0

@@ -18,7 +18,12 @@ use Rattle.up_store.specs.Lines.{FileLine, founding_number}
 -- ---- vehicles
 
 abbrev pub vehicle_read : VehicleShown → VehicleRow
-vehicle_read shown = record { vehicle = string_bytes shown.vehicle; primary = string_bytes shown.primary_ecu; version = shown.version; last = shown.last_counter }
+vehicle_read shown = record {
+  vehicle = string_bytes shown.vehicle;
+  primary = string_bytes shown.primary_ecu;
+  version = shown.version;
+  last = shown.last_counter;
+}
 
 -- the second hash has no column of its own
 abbrev pub installed_read : Option (List ℕ) → InstalledShown → Installed
@@ -47,7 +52,11 @@ file_read shown = record { repository = string_bytes shown.repository; name = st
 
 -- zeros before it
 abbrev pub meta_told : Option Founding → MetaRow
-meta_told founding = record { root = founding_number (λ f. f.root) founding; image_version = founding_number (λ f. f.image_version) founding; stamp = founding_number (λ f. f.stamp) founding }
+meta_told founding = record {
+  root = founding_number (λ f. f.root) founding;
+  image_version = founding_number (λ f. f.image_version) founding;
+  stamp = founding_number (λ f. f.stamp) founding;
+}
 
 -- ---- keys
 

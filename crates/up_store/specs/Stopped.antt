@@ -16,6 +16,7 @@ use Rattle.up_store.specs.Connections.{KeepsRows, HoldsRows}
 -- of the two.
 abbrev pub AreFoundAgain : {D : Type 0} {g : Ghosts D} → Held (FileStore D g) → FileStore D g → Type 0
 AreFoundAgain {D} {g} store stopped =
-    IsTrue (view stopped).is_clean → (these those : StateRows) → ((db : Trees) → (file_state store).may_leave db → HoldsRows these db ⊎ HoldsRows those db)
+    IsTrue (view stopped).is_clean → (these those : StateRows)
+    → ((db : Trees) → (file_state store).may_leave db → HoldsRows these db ⊎ HoldsRows those db)
     → (left : Image) → (files.state stopped).may_leave left → (opened : Held (FileStore D g)) → IsOpened opened → FindsIn left (file_state opened)
     → ∥ KeepsRows these (file_state opened) ⊎ KeepsRows those (file_state opened) ∥₁

@@ -24,7 +24,8 @@ use up_tables::campaign::CampaignRow;
 
 /// A row as it stands in the table, read.
 pub fn read_campaign(alloc: Global, shown: &CampaignRow) -> Result<Campaign, StoreFault>
-    ensures { IfOk result (λ read. (name : Name) (campaign : CampaignData) → IsTypedCampaign name campaign → IsCampaign shown.now campaign → read ≡ campaign) }
+    ensures { IfOk result (λ read. (name : Name) (campaign : CampaignData)
+        → IsTypedCampaign name campaign → IsCampaign shown.now campaign → read ≡ campaign) }
 {
     let reach = read_its_reach(alloc, shown)?;
     read_reached(alloc, shown, reach)
@@ -32,7 +33,8 @@ pub fn read_campaign(alloc: Global, shown: &CampaignRow) -> Result<Campaign, Sto
 
 /// The same, once the reach was read.
 fn read_reached(alloc: Global, shown: &CampaignRow, reach: Reach) -> Result<Campaign, StoreFault>
-    ensures { IfOk result (λ read. (name : Name) (campaign : CampaignData) → IsTypedCampaign name campaign → IsCampaign shown.now campaign → reach ≡ campaign.reach → read ≡ campaign) }
+    ensures { IfOk result (λ read. (name : Name) (campaign : CampaignData)
+        → IsTypedCampaign name campaign → IsCampaign shown.now campaign → reach ≡ campaign.reach → read ≡ campaign) }
 {
     let text = shown.name.as_str().to_string(alloc)?;
     let name = ident_in(text)?;
@@ -52,7 +54,8 @@ pub fn read_reaching(
     vehicle: &Ident,
     shown: &[CampaignRow],
 ) -> Result<Table<Campaign>, StoreFault>
-    ensures { IfOk result (λ read. (campaigns : Named CampaignData) → AreRunning shown.now campaigns → read ≡ values_where (λ c. c.running && is_reached vehicle.now c.reach) campaigns) }
+    ensures { IfOk result (λ read. (campaigns : Named CampaignData) → AreRunning shown.now campaigns
+        → read ≡ values_where (λ c. c.running && is_reached vehicle.now c.reach) campaigns) }
 {
     let mut reaching = Table::new(alloc);
     let quoted = quoted_name(alloc, vehicle)?;
@@ -97,7 +100,8 @@ fn add_reaching(
 /// Whether the reach in this column may have the vehicle of this quoted name, told without reading it: in a list without escapes
 /// each name stands as it is.
 fn may_reach(column: &str, quoted: &str) -> bool
-    ensures { (vehicle : Name) (reach : ReachData) → quoted.now ≡ quoted_text vehicle → column.now ≡ reach_column reach → result ≡ false → is_reached vehicle reach ≡ false }
+    ensures { (vehicle : Name) (reach : ReachData) → quoted.now ≡ quoted_text vehicle → column.now ≡ reach_column reach
+        → result ≡ false → is_reached vehicle reach ≡ false }
 {
     !column.starts_with('[') || column.contains('\\') || column.contains(quoted)
 }
@@ -109,7 +113,8 @@ fn put_reached(
     shown: &CampaignRow,
     reach: Reach,
 ) -> Result<(), StoreFault>
-    ensures { OnOk result ((name : Name) (campaign : CampaignData) → IsTypedCampaign name campaign → IsCampaign shown.now campaign → reach ≡ campaign.reach
+    ensures { OnOk result ((name : Name) (campaign : CampaignData)
+        → IsTypedCampaign name campaign → IsCampaign shown.now campaign → reach ≡ campaign.reach
         → reaching.new ≡ table.insert reaching.old campaign.name campaign) }
 {
     let campaign = read_reached(alloc, shown, reach)?;
@@ -120,14 +125,16 @@ fn put_reached(
 
 /// The reach in a row as it stands in the table, read.
 fn read_its_reach(alloc: Global, shown: &CampaignRow) -> Result<Reach, StoreFault>
-    ensures { IfOk result (λ read. (name : Name) (campaign : CampaignData) → IsTypedCampaign name campaign → IsCampaign shown.now campaign → read ≡ campaign.reach) }
+    ensures { IfOk result (λ read. (name : Name) (campaign : CampaignData)
+        → IsTypedCampaign name campaign → IsCampaign shown.now campaign → read ≡ campaign.reach) }
 {
     read_column(read_reach(alloc, shown.reach.as_str()))
 }
 
 /// The rows of running campaigns as they stand in the table, read.
 pub fn read_running(alloc: Global, shown: &[CampaignRow]) -> Result<Table<Campaign>, StoreFault>
-    ensures { IfOk result (λ read. (campaigns : Named CampaignData) → AreRunning shown.now campaigns → read ≡ values_where (λ c. c.running) campaigns) }
+    ensures { IfOk result (λ read. (campaigns : Named CampaignData) → AreRunning shown.now campaigns
+        → read ≡ values_where (λ c. c.running) campaigns) }
 {
     let mut running = Table::new(alloc);
     for row in shown {
@@ -142,7 +149,8 @@ fn add_running(
     alloc: Global,
     shown: &CampaignRow,
 ) -> Result<(), StoreFault>
-    ensures { OnOk result ((name : Name) (campaign : CampaignData) → IsTypedCampaign name campaign → IsCampaign shown.now campaign → running.new ≡ table.insert running.old campaign.name campaign) }
+    ensures { OnOk result ((name : Name) (campaign : CampaignData) → IsTypedCampaign name campaign → IsCampaign shown.now campaign
+        → running.new ≡ table.insert running.old campaign.name campaign) }
 {
     let campaign = read_campaign(alloc, shown)?;
     let name = name_of(alloc, campaign.name.text())?;

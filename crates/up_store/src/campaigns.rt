@@ -1,5 +1,5 @@
 //! Campaigns.
-ghost use Rattle.std.specs.Prelude.{◌≡◌, Some, IfOk, OnErr, OnOk};
+ghost use Rattle.std.specs.Prelude.{◌≡◌, Some, IfOk, OnErr};
 ghost use Rattle.sqlite.specs.Held.{state};
 ghost use Rattle.sqlite.specs.State.{HasCleanDisk, Survives};
 ghost use Rattle.std.specs.FinMap as table;
@@ -10,8 +10,9 @@ ghost use Rattle.up_store.specs.ColumnRows.{IsCampaign};
 ghost use Rattle.up_store.specs.Typed.{IsTypedCampaign};
 ghost use Rattle.up_store.specs.Fitting.{IsNewCampaign, IsClosing};
 ghost use Rattle.up_store.specs.Found.{campaigns_found, running_found};
-ghost use Rattle.up_tables.specs.Stands.{IfClean, IsAsCommitted, IsInside, IsOpen, Steps};
-ghost use Rattle.up_store.specs.Connections.{Answers, FindsRows, NeedsOpen, TakesRows, CommitsRows, SparesRows, PutsRows};
+ghost use Rattle.up_tables.specs.Stands.{IfClean, IsAsCommitted, IsInside};
+ghost use Rattle.up_tables.specs.Statements.{IsStep, IsOpenStep};
+ghost use Rattle.up_store.specs.Connections.{NeedsOpen, Answers, FindsRows, PutsRows, TakesRows, CommitsRows, SparesRows};
 
 use crate::campaign_rows::{make_campaign, read_campaign, read_reaching, read_running};
 use crate::store::{Store, StoreFault, commit};
@@ -65,10 +66,13 @@ impl<D: Alter> Store<D> {
 
     /// Writes a campaign whose name is new.
     pub fn write_campaign(&mut self, alloc: Global, new: &Campaign) -> Result<(), StoreFault>
-        ensures written { TakesRows (IsNewCampaign new.now) (λ rows. with_campaign_row rows new.now) (state D.Store self.old) (state D.Store self.new) result }
-        ensures durable { CommitsRows (IsNewCampaign new.now) (λ rows. with_campaign_row rows new.now) (state D.Store self.old) (state D.Store self.new) result }
+        ensures written { TakesRows (IsNewCampaign new.now) (λ rows. with_campaign_row rows new.now)
+            (state D.Store self.old) (state D.Store self.new) result }
+        ensures durable { CommitsRows (IsNewCampaign new.now) (λ rows. with_campaign_row rows new.now)
+            (state D.Store self.old) (state D.Store self.new) result }
         ensures kept { OnErr result (IfClean (IsAsCommitted (state D.Store self.old)) (state D.Store self.new)) }
-        ensures crash { SparesRows (IsNewCampaign new.now) (λ rows. with_campaign_row rows new.now) (state D.Store self.old) (state D.Store self.new) }
+        ensures crash { SparesRows (IsNewCampaign new.now) (λ rows. with_campaign_row rows new.now)
+            (state D.Store self.old) (state D.Store self.new) }
         ensures clean { HasCleanDisk (state D.Store self.new) → HasCleanDisk (state D.Store self.old) }
         ensures open { NeedsOpen (state D.Store self.old) (state D.Store self.new) result }
     {
@@ -81,10 +85,13 @@ impl<D: Alter> Store<D> {
 
     /// Closes a campaign that is there: `closed` is the same, not running.
     pub fn write_close(&mut self, alloc: Global, closed: &Campaign) -> Result<(), StoreFault>
-        ensures written { TakesRows (IsClosing closed.now) (λ rows. with_campaign_row rows closed.now) (state D.Store self.old) (state D.Store self.new) result }
-        ensures durable { CommitsRows (IsClosing closed.now) (λ rows. with_campaign_row rows closed.now) (state D.Store self.old) (state D.Store self.new) result }
+        ensures written { TakesRows (IsClosing closed.now) (λ rows. with_campaign_row rows closed.now)
+            (state D.Store self.old) (state D.Store self.new) result }
+        ensures durable { CommitsRows (IsClosing closed.now) (λ rows. with_campaign_row rows closed.now)
+            (state D.Store self.old) (state D.Store self.new) result }
         ensures kept { OnErr result (IfClean (IsAsCommitted (state D.Store self.old)) (state D.Store self.new)) }
-        ensures crash { SparesRows (IsClosing closed.now) (λ rows. with_campaign_row rows closed.now) (state D.Store self.old) (state D.Store self.new) }
+        ensures crash { SparesRows (IsClosing closed.now) (λ rows. with_campaign_row rows closed.now)
+            (state D.Store self.old) (state D.Store self.new) }
         ensures clean { HasCleanDisk (state D.Store self.new) → HasCleanDisk (state D.Store self.old) }
         ensures open { NeedsOpen (state D.Store self.old) (state D.Store self.new) result }
     {
@@ -100,11 +107,9 @@ impl<D: Alter> Store<D> {
 /// Says in its row that a campaign doesn't run.
 fn put_closed<D: Alter>(tx: &mut Transaction<'_, D>, closed: &Campaign) -> Result<(), StoreFault>
     requires mode { IfClean IsInside (state D.Store tx.old.conn.now) }
-    ensures same_reference { tx.new.conn.ghost_name ≡ tx.old.conn.ghost_name }
-    ensures put { PutsRows (IsClosing closed.now) (λ rows. with_campaign_row rows closed.now) (state D.Store tx.old.conn.now) (state D.Store tx.new.conn.now) result }
-    ensures inside { OnOk result (IfClean IsInside (state D.Store tx.new.conn.now)) }
-    ensures open { OnOk result (IfClean IsOpen (state D.Store tx.new.conn.now)) }
-    ensures steps { Steps (state D.Store tx.old.conn.now) (state D.Store tx.new.conn.now) }
+    ensures put { PutsRows (IsClosing closed.now) (λ rows. with_campaign_row rows closed.now)
+        (state D.Store tx.old.conn.now) (state D.Store tx.new.conn.now) result }
+    ensures step { IsOpenStep D.Store tx.old.conn tx.new.conn result }
 {
     close_campaign(tx, closed.name.text())
 }
@@ -116,10 +121,9 @@ fn find_campaign<D: Alter>(
     name: &Ident,
 ) -> Result<Option<Campaign>, StoreFault>
     requires mode { IfClean IsInside (state D.Store tx.old.conn.now) }
-    ensures same_reference { tx.new.conn.ghost_name ≡ tx.old.conn.ghost_name }
     ensures found { FindsRows (λ rows. table.get rows.campaigns name.now) (state D.Store tx.old.conn.now) (state D.Store tx.new.conn.now) result }
     ensures open { NeedsOpen (state D.Store tx.old.conn.now) (state D.Store tx.new.conn.now) result }
-    ensures steps { Steps (state D.Store tx.old.conn.now) (state D.Store tx.new.conn.now) }
+    ensures step { IsStep D.Store tx.old.conn tx.new.conn }
 {
     match campaign_shown(tx, name.text()) {
         Ok(Some(shown)) => some_campaign(alloc, &shown),
@@ -130,7 +134,8 @@ fn find_campaign<D: Alter>(
 
 /// A row as it stands in the table, read.
 fn some_campaign(alloc: Global, shown: &CampaignRow) -> Result<Option<Campaign>, StoreFault>
-    ensures { IfOk result (λ read. (name : Name) (campaign : CampaignData) → IsTypedCampaign name campaign → IsCampaign shown.now campaign → read ≡ Some campaign) }
+    ensures { IfOk result (λ read. (name : Name) (campaign : CampaignData)
+        → IsTypedCampaign name campaign → IsCampaign shown.now campaign → read ≡ Some campaign) }
 {
     match read_campaign(alloc, shown) {
         Ok(campaign) => Ok(Some(campaign)),
@@ -145,10 +150,9 @@ fn find_campaigns<D: Alter>(
     vehicle: &Ident,
 ) -> Result<Table<Campaign>, StoreFault>
     requires mode { IfClean IsInside (state D.Store tx.old.conn.now) }
-    ensures same_reference { tx.new.conn.ghost_name ≡ tx.old.conn.ghost_name }
     ensures found { FindsRows (campaigns_found vehicle.now) (state D.Store tx.old.conn.now) (state D.Store tx.new.conn.now) result }
     ensures open { NeedsOpen (state D.Store tx.old.conn.now) (state D.Store tx.new.conn.now) result }
-    ensures steps { Steps (state D.Store tx.old.conn.now) (state D.Store tx.new.conn.now) }
+    ensures step { IsStep D.Store tx.old.conn tx.new.conn }
 {
     match running_shown(tx, alloc) {
         Ok(shown) => read_reaching(alloc, vehicle, shown.as_slice()),
@@ -162,10 +166,9 @@ fn find_running<D: Alter>(
     alloc: Global,
 ) -> Result<Table<Campaign>, StoreFault>
     requires mode { IfClean IsInside (state D.Store tx.old.conn.now) }
-    ensures same_reference { tx.new.conn.ghost_name ≡ tx.old.conn.ghost_name }
     ensures found { FindsRows running_found (state D.Store tx.old.conn.now) (state D.Store tx.new.conn.now) result }
     ensures open { NeedsOpen (state D.Store tx.old.conn.now) (state D.Store tx.new.conn.now) result }
-    ensures steps { Steps (state D.Store tx.old.conn.now) (state D.Store tx.new.conn.now) }
+    ensures step { IsStep D.Store tx.old.conn tx.new.conn }
 {
     match running_shown(tx, alloc) {
         Ok(shown) => read_running(alloc, shown.as_slice()),
@@ -180,11 +183,9 @@ fn put_campaign<D: Alter>(
     new: &Campaign,
 ) -> Result<(), StoreFault>
     requires mode { IfClean IsInside (state D.Store tx.old.conn.now) }
-    ensures same_reference { tx.new.conn.ghost_name ≡ tx.old.conn.ghost_name }
-    ensures put { PutsRows (IsNewCampaign new.now) (λ rows. with_campaign_row rows new.now) (state D.Store tx.old.conn.now) (state D.Store tx.new.conn.now) result }
-    ensures inside { OnOk result (IfClean IsInside (state D.Store tx.new.conn.now)) }
-    ensures open { OnOk result (IfClean IsOpen (state D.Store tx.new.conn.now)) }
-    ensures steps { Steps (state D.Store tx.old.conn.now) (state D.Store tx.new.conn.now) }
+    ensures put { PutsRows (IsNewCampaign new.now) (λ rows. with_campaign_row rows new.now)
+        (state D.Store tx.old.conn.now) (state D.Store tx.new.conn.now) result }
+    ensures step { IsOpenStep D.Store tx.old.conn tx.new.conn result }
 {
     let row = make_campaign(alloc, new)?;
     insert_campaign(tx, &row)

@@ -102,7 +102,8 @@ fn make_installed(
     alloc: Global,
     installed: &Option<Installed>,
 ) -> Result<Option<InstalledShown>, AllocError>
-    ensures same { IfOk result (λ made. (hash : Option (List ℕ)) → option_and_then (λ i. i.sha512) installed.now ≡ hash → option_map (installed_read hash) made ≡ installed.now) }
+    ensures same { IfOk result (λ made. (hash : Option (List ℕ)) → option_and_then (λ i. i.sha512) installed.now ≡ hash
+        → option_map (installed_read hash) made ≡ installed.now) }
     ensures fit { IfOk result (λ made. Rattle.std.specs.Prelude.IfSome made (λ image. image.length < 2 ^ 63)) }
 {
     match installed {

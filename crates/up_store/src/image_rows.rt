@@ -50,7 +50,8 @@ pub fn read_image(
     shown: ImageRow,
     sha512: Option<[u8; 64]>,
 ) -> Result<Image, StoreFault>
-    ensures { IfOk result (λ read. (file : Name) (image : ImageData) → IsTypedImage file image → IsImage shown image → sha512 ≡ image.sha512 → read ≡ image) }
+    ensures { IfOk result (λ read. (file : Name) (image : ImageData)
+        → IsTypedImage file image → IsImage shown image → sha512 ≡ image.sha512 → read ≡ image) }
 {
     let sha256 = sha256_in(shown.sha256.as_slice())?;
     let length = count_in(shown.length)?;
@@ -90,7 +91,8 @@ fn add_image(
     shown: ImageRow,
     hashes: &Table<[u8; 64]>,
 ) -> Result<(), StoreFault>
-    ensures { OnOk result ((file : Name) (image : ImageData) → IsTypedImage file image → IsImage shown image → table.get hashes.now image.file ≡ image.sha512 → images.new ≡ table.insert images.old image.file image) }
+    ensures { OnOk result ((file : Name) (image : ImageData) → IsTypedImage file image → IsImage shown image
+        → table.get hashes.now image.file ≡ image.sha512 → images.new ≡ table.insert images.old image.file image) }
 {
     let sha512 = hash_named(hashes, shown.file.as_str());
     let image = read_image(alloc, shown, sha512)?;

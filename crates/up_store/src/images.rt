@@ -7,14 +7,12 @@ ghost use Rattle.up_canon.specs.Names.{Name};
 ghost use Rattle.up_plan.specs.Images.{ImageData};
 ghost use Rattle.up_rows.specs.Changes.{with_image_rows};
 ghost use Rattle.up_store.specs.Fitting.{IsNewImage};
-ghost use Rattle.up_rows.specs.StateRows.{StateRows};
-ghost use Rattle.up_tables.specs.Stands.{IfClean, IsAsCommitted, IsInside, IsOpen, IsWithin, Steps};
-ghost use Rattle.up_tables.specs.Tables.{up_schema};
+ghost use Rattle.up_tables.specs.Stands.{IfClean, IsAsCommitted, IsInside};
+ghost use Rattle.up_tables.specs.Statements.{IsStep, IsOpenStep};
 ghost use Rattle.up_store.specs.ColumnRows.{IsImage, AreImages, with_image};
-ghost use Rattle.up_store.specs.Connections.{Answers, FindsRows, NeedsOpen, PutsRows, PutsTables, TakesRows, CommitsRows, SparesRows};
-ghost use Rattle.up_store.specs.Listing.{ListsRows};
 ghost use Rattle.up_store.specs.Puts.{with_image_line};
 ghost use Rattle.up_store.specs.Typed.{IsTypedImage};
+ghost use Rattle.up_store.specs.Connections.{NeedsOpen, Answers, FindsRows, FindsSuch, PutsRows, PutsTables, TakesRows, CommitsRows, SparesRows};
 
 use crate::image_rows::{make_image, read_image, read_images};
 use crate::roots::put_register;
@@ -58,10 +56,13 @@ impl<D: Alter> Store<D> {
         image: &Image,
         new: &RegisterRows,
     ) -> Result<(), StoreFault>
-        ensures written { TakesRows (IsNewImage image.now new.now) (λ rows. with_image_rows rows image.now new.now) (state D.Store self.old) (state D.Store self.new) result }
-        ensures durable { CommitsRows (IsNewImage image.now new.now) (λ rows. with_image_rows rows image.now new.now) (state D.Store self.old) (state D.Store self.new) result }
+        ensures written { TakesRows (IsNewImage image.now new.now) (λ rows. with_image_rows rows image.now new.now)
+            (state D.Store self.old) (state D.Store self.new) result }
+        ensures durable { CommitsRows (IsNewImage image.now new.now) (λ rows. with_image_rows rows image.now new.now)
+            (state D.Store self.old) (state D.Store self.new) result }
         ensures kept { OnErr result (IfClean (IsAsCommitted (state D.Store self.old)) (state D.Store self.new)) }
-        ensures crash { SparesRows (IsNewImage image.now new.now) (λ rows. with_image_rows rows image.now new.now) (state D.Store self.old) (state D.Store self.new) }
+        ensures crash { SparesRows (IsNewImage image.now new.now) (λ rows. with_image_rows rows image.now new.now)
+            (state D.Store self.old) (state D.Store self.new) }
         ensures clean { HasCleanDisk (state D.Store self.new) → HasCleanDisk (state D.Store self.old) }
         ensures open { NeedsOpen (state D.Store self.old) (state D.Store self.new) result }
     {
@@ -80,10 +81,9 @@ fn find_image<D: Alter>(
     file: &FileName,
 ) -> Result<Option<Image>, StoreFault>
     requires mode { IfClean IsInside (state D.Store tx.old.conn.now) }
-    ensures same_reference { tx.new.conn.ghost_name ≡ tx.old.conn.ghost_name }
     ensures found { FindsRows (λ rows. table.get rows.images file.now) (state D.Store tx.old.conn.now) (state D.Store tx.new.conn.now) result }
     ensures open { NeedsOpen (state D.Store tx.old.conn.now) (state D.Store tx.new.conn.now) result }
-    ensures steps { Steps (state D.Store tx.old.conn.now) (state D.Store tx.new.conn.now) }
+    ensures step { IsStep D.Store tx.old.conn tx.new.conn }
 {
     match image_shown(tx, file.text()) {
         Ok(Some(shown)) => find_with_sha512(tx, alloc, file, shown),
@@ -100,11 +100,11 @@ fn find_with_sha512<D: Alter>(
     shown: ImageRow,
 ) -> Result<Option<Image>, StoreFault>
     requires mode { IfClean IsInside (state D.Store tx.old.conn.now) }
-    ensures same_reference { tx.new.conn.ghost_name ≡ tx.old.conn.ghost_name }
-    ensures found { HasCleanDisk (state D.Store tx.new.conn.now) → IfOk result (λ read. (rows : StateRows) → IsWithin up_schema (ListsRows rows) (state D.Store tx.old.conn.now)
-        → (image : ImageData) → table.get rows.images file.now ≡ Some image → IsImage shown image → read ≡ Some image) }
+    ensures found { FindsSuch (λ rows read. (image : ImageData)
+        → table.get rows.images file.now ≡ Some image → IsImage shown image → read ≡ Some image)
+        (state D.Store tx.old.conn.now) (state D.Store tx.new.conn.now) result }
     ensures open { NeedsOpen (state D.Store tx.old.conn.now) (state D.Store tx.new.conn.now) result }
-    ensures steps { Steps (state D.Store tx.old.conn.now) (state D.Store tx.new.conn.now) }
+    ensures step { IsStep D.Store tx.old.conn tx.new.conn }
 {
     match find_sha512(tx, file) {
         Ok(hash) => some_image(alloc, shown, hash),
@@ -118,7 +118,8 @@ fn some_image(
     shown: ImageRow,
     sha512: Option<[u8; 64]>,
 ) -> Result<Option<Image>, StoreFault>
-    ensures { IfOk result (λ read. (file : Name) (image : ImageData) → IsTypedImage file image → IsImage shown image → sha512 ≡ image.sha512 → read ≡ Some image) }
+    ensures { IfOk result (λ read. (file : Name) (image : ImageData)
+        → IsTypedImage file image → IsImage shown image → sha512 ≡ image.sha512 → read ≡ Some image) }
 {
     match read_image(alloc, shown, sha512) {
         Ok(image) => Ok(Some(image)),
@@ -132,10 +133,9 @@ fn find_images<D: Alter>(
     alloc: Global,
 ) -> Result<Table<Image>, StoreFault>
     requires mode { IfClean IsInside (state D.Store tx.old.conn.now) }
-    ensures same_reference { tx.new.conn.ghost_name ≡ tx.old.conn.ghost_name }
     ensures found { FindsRows (λ rows. rows.images) (state D.Store tx.old.conn.now) (state D.Store tx.new.conn.now) result }
     ensures open { NeedsOpen (state D.Store tx.old.conn.now) (state D.Store tx.new.conn.now) result }
-    ensures steps { Steps (state D.Store tx.old.conn.now) (state D.Store tx.new.conn.now) }
+    ensures step { IsStep D.Store tx.old.conn tx.new.conn }
 {
     match images_shown(tx, alloc) {
         Ok(shown) => find_with_sha512s(tx, alloc, shown),
@@ -150,11 +150,10 @@ fn find_with_sha512s<D: Alter>(
     shown: Vec<ImageRow>,
 ) -> Result<Table<Image>, StoreFault>
     requires mode { IfClean IsInside (state D.Store tx.old.conn.now) }
-    ensures same_reference { tx.new.conn.ghost_name ≡ tx.old.conn.ghost_name }
-    ensures found { HasCleanDisk (state D.Store tx.new.conn.now) → IfOk result (λ read. (rows : StateRows) → IsWithin up_schema (ListsRows rows) (state D.Store tx.old.conn.now)
-        → AreImages shown.items rows.images → read ≡ rows.images) }
+    ensures found { FindsSuch (λ rows read. AreImages shown.items rows.images → read ≡ rows.images)
+        (state D.Store tx.old.conn.now) (state D.Store tx.new.conn.now) result }
     ensures open { NeedsOpen (state D.Store tx.old.conn.now) (state D.Store tx.new.conn.now) result }
-    ensures steps { Steps (state D.Store tx.old.conn.now) (state D.Store tx.new.conn.now) }
+    ensures step { IsStep D.Store tx.old.conn tx.new.conn }
 {
     match find_sha512s(tx, alloc) {
         Ok(hashes) => read_images(alloc, shown, &hashes),
@@ -170,11 +169,9 @@ fn put_image<D: Alter>(
     new: &RegisterRows,
 ) -> Result<(), StoreFault>
     requires mode { IfClean IsInside (state D.Store tx.old.conn.now) }
-    ensures same_reference { tx.new.conn.ghost_name ≡ tx.old.conn.ghost_name }
-    ensures put { PutsRows (IsNewImage image.now new.now) (λ rows. with_image_rows rows image.now new.now) (state D.Store tx.old.conn.now) (state D.Store tx.new.conn.now) result }
-    ensures inside { OnOk result (IfClean IsInside (state D.Store tx.new.conn.now)) }
-    ensures open { OnOk result (IfClean IsOpen (state D.Store tx.new.conn.now)) }
-    ensures steps { Steps (state D.Store tx.old.conn.now) (state D.Store tx.new.conn.now) }
+    ensures put { PutsRows (IsNewImage image.now new.now) (λ rows. with_image_rows rows image.now new.now)
+        (state D.Store tx.old.conn.now) (state D.Store tx.new.conn.now) result }
+    ensures step { IsOpenStep D.Store tx.old.conn tx.new.conn result }
 {
     if let Err(fault) = put_image_rows(tx, alloc, image) {
         return Err(fault);
@@ -189,11 +186,9 @@ fn put_image_rows<D: Alter>(
     image: &Image,
 ) -> Result<(), StoreFault>
     requires mode { IfClean IsInside (state D.Store tx.old.conn.now) }
-    ensures same_reference { tx.new.conn.ghost_name ≡ tx.old.conn.ghost_name }
-    ensures put { PutsRows (λ rows. table.get rows.images image.now.file ≡ None) (λ rows. with_image rows image.now) (state D.Store tx.old.conn.now) (state D.Store tx.new.conn.now) result }
-    ensures inside { OnOk result (IfClean IsInside (state D.Store tx.new.conn.now)) }
-    ensures open { OnOk result (IfClean IsOpen (state D.Store tx.new.conn.now)) }
-    ensures steps { Steps (state D.Store tx.old.conn.now) (state D.Store tx.new.conn.now) }
+    ensures put { PutsRows (λ rows. table.get rows.images image.now.file ≡ None) (λ rows. with_image rows image.now)
+        (state D.Store tx.old.conn.now) (state D.Store tx.new.conn.now) result }
+    ensures step { IsOpenStep D.Store tx.old.conn tx.new.conn result }
 {
     if let Err(fault) = put_image_row(tx, alloc, image) {
         return Err(fault);
@@ -208,12 +203,9 @@ fn put_image_row<D: Alter>(
     image: &Image,
 ) -> Result<(), StoreFault>
     requires mode { IfClean IsInside (state D.Store tx.old.conn.now) }
-    ensures same_reference { tx.new.conn.ghost_name ≡ tx.old.conn.ghost_name }
     ensures put { PutsTables (λ _. ⊤) (with_image_line image.now) (state D.Store tx.old.conn.now) (state D.Store tx.new.conn.now) result }
     ensures typed { OnOk result (IsTypedImage image.now.file image.now) }
-    ensures inside { OnOk result (IfClean IsInside (state D.Store tx.new.conn.now)) }
-    ensures open { OnOk result (IfClean IsOpen (state D.Store tx.new.conn.now)) }
-    ensures steps { Steps (state D.Store tx.old.conn.now) (state D.Store tx.new.conn.now) }
+    ensures step { IsOpenStep D.Store tx.old.conn tx.new.conn result }
 {
     let row = make_image(alloc, image)?;
     insert_image(tx, &row)

@@ -111,7 +111,8 @@ fn read_threshold(rows: &[RoleKeyRow], repository: &str, role: &str) -> Result<u
 /// The rows of the keys of a root version.
 pub fn make_keys(alloc: Global, root: u64, keys: &KeySet) -> Result<Vec<RoleKeyRow>, AllocError>
     requires root { root < 2 ^ 63 }
-    ensures rows { IfOk result (λ made. map role_key_row made.items ≡ repository_lines root Director keys.now.director ++ repository_lines root Image keys.now.image) }
+    ensures rows { IfOk result (λ made. map role_key_row made.items
+        ≡ repository_lines root Director keys.now.director ++ repository_lines root Image keys.now.image) }
     ensures fit { IfOk result (λ made. All FitRoleKey made.items) }
 {
     let mut made = Vec::new(alloc);

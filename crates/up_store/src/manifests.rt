@@ -10,8 +10,9 @@ ghost use Rattle.up_store.specs.ColumnRows.{IsKept, last_found, with_kept};
 ghost use Rattle.up_store.specs.Typed.{IsTypedKept};
 ghost use Rattle.up_store.specs.Fitting.{IsRecorded};
 ghost use Rattle.up_store.specs.Puts.{IsReported, with_reported};
-ghost use Rattle.up_tables.specs.Stands.{IfClean, HasTables, IsAsCommitted, IsInside, IsOpen, Reads, Steps};
-ghost use Rattle.up_store.specs.Connections.{Answers, FindsRows, NeedsOpen, PutsRows, PutsTables, TakesRows, CommitsRows, SparesRows};
+ghost use Rattle.up_tables.specs.Stands.{IfClean, IsAsCommitted, IsInside};
+ghost use Rattle.up_tables.specs.Statements.{IsStep, IsOpenStep, OnlyReads};
+ghost use Rattle.up_store.specs.Connections.{NeedsOpen, Answers, FindsRows, PutsRows, PutsTables, TakesRows, CommitsRows, SparesRows};
 
 use crate::column_values::count_in;
 use crate::ecus::make_ecus;
@@ -58,8 +59,10 @@ impl<D: Alter> Store<D> {
 
     /// Writes an accepted manifest: its vehicle's row, what its ECUs reported, and the row that is kept for it.
     pub fn write_accept(&mut self, alloc: Global, new: &AcceptedRows) -> Result<(), StoreFault>
-        ensures written { TakesRows (IsRecorded new.now) (λ rows. with_accepted_rows rows new.now) (state D.Store self.old) (state D.Store self.new) result }
-        ensures durable { CommitsRows (IsRecorded new.now) (λ rows. with_accepted_rows rows new.now) (state D.Store self.old) (state D.Store self.new) result }
+        ensures written { TakesRows (IsRecorded new.now) (λ rows. with_accepted_rows rows new.now)
+            (state D.Store self.old) (state D.Store self.new) result }
+        ensures durable { CommitsRows (IsRecorded new.now) (λ rows. with_accepted_rows rows new.now)
+            (state D.Store self.old) (state D.Store self.new) result }
         ensures kept { OnErr result (IfClean (IsAsCommitted (state D.Store self.old)) (state D.Store self.new)) }
         ensures crash { SparesRows (IsRecorded new.now) (λ rows. with_accepted_rows rows new.now) (state D.Store self.old) (state D.Store self.new) }
         ensures clean { HasCleanDisk (state D.Store self.new) → HasCleanDisk (state D.Store self.old) }
@@ -80,11 +83,9 @@ fn put_accepted<D: Alter>(
     new: &AcceptedRows,
 ) -> Result<(), StoreFault>
     requires mode { IfClean IsInside (state D.Store tx.old.conn.now) }
-    ensures same_reference { tx.new.conn.ghost_name ≡ tx.old.conn.ghost_name }
-    ensures put { PutsRows (IsRecorded new.now) (λ rows. with_accepted_rows rows new.now) (state D.Store tx.old.conn.now) (state D.Store tx.new.conn.now) result }
-    ensures inside { OnOk result (IfClean IsInside (state D.Store tx.new.conn.now)) }
-    ensures open { OnOk result (IfClean IsOpen (state D.Store tx.new.conn.now)) }
-    ensures steps { Steps (state D.Store tx.old.conn.now) (state D.Store tx.new.conn.now) }
+    ensures put { PutsRows (IsRecorded new.now) (λ rows. with_accepted_rows rows new.now)
+        (state D.Store tx.old.conn.now) (state D.Store tx.new.conn.now) result }
+    ensures step { IsOpenStep D.Store tx.old.conn tx.new.conn result }
 {
     put_reported(tx, alloc, &new.vehicle)?;
     insert_kept_row(tx, alloc, &new.kept)
@@ -97,11 +98,8 @@ fn put_reported<D: Alter>(
     new: &VehicleRows,
 ) -> Result<(), StoreFault>
     requires mode { IfClean IsInside (state D.Store tx.old.conn.now) }
-    ensures same_reference { tx.new.conn.ghost_name ≡ tx.old.conn.ghost_name }
     ensures put { PutsTables (IsReported new.now) (with_reported new.now) (state D.Store tx.old.conn.now) (state D.Store tx.new.conn.now) result }
-    ensures inside { OnOk result (IfClean IsInside (state D.Store tx.new.conn.now)) }
-    ensures open { OnOk result (IfClean IsOpen (state D.Store tx.new.conn.now)) }
-    ensures steps { Steps (state D.Store tx.old.conn.now) (state D.Store tx.new.conn.now) }
+    ensures step { IsOpenStep D.Store tx.old.conn tx.new.conn result }
 {
     let vehicle = make_vehicle(alloc, &new.vehicle)?;
     let ecus = make_ecus(alloc, new.ecus.as_slice())?;
@@ -119,12 +117,9 @@ fn insert_kept_row<D: Alter>(
     kept: &Kept,
 ) -> Result<(), StoreFault>
     requires mode { IfClean IsInside (state D.Store tx.old.conn.now) }
-    ensures same_reference { tx.new.conn.ghost_name ≡ tx.old.conn.ghost_name }
     ensures put { PutsTables (λ _. ⊤) (with_kept kept.now) (state D.Store tx.old.conn.now) (state D.Store tx.new.conn.now) result }
     ensures typed { OnOk result (IsTypedKept kept.now.vehicle kept.now) }
-    ensures inside { OnOk result (IfClean IsInside (state D.Store tx.new.conn.now)) }
-    ensures open { OnOk result (IfClean IsOpen (state D.Store tx.new.conn.now)) }
-    ensures steps { Steps (state D.Store tx.old.conn.now) (state D.Store tx.new.conn.now) }
+    ensures step { IsOpenStep D.Store tx.old.conn tx.new.conn result }
 {
     let row = make_kept(alloc, kept)?;
     insert_kept(tx, &row)
@@ -138,10 +133,9 @@ fn find_kept<D: Alter>(
     counter: Count,
 ) -> Result<Option<Kept>, StoreFault>
     requires mode { IfClean IsInside (state D.Store tx.old.conn.now) }
-    ensures same_reference { tx.new.conn.ghost_name ≡ tx.old.conn.ghost_name }
     ensures found { FindsRows (kept_with vehicle.now counter) (state D.Store tx.old.conn.now) (state D.Store tx.new.conn.now) result }
     ensures open { NeedsOpen (state D.Store tx.old.conn.now) (state D.Store tx.new.conn.now) result }
-    ensures steps { Steps (state D.Store tx.old.conn.now) (state D.Store tx.new.conn.now) }
+    ensures step { IsStep D.Store tx.old.conn tx.new.conn }
 {
     match kept_shown(tx, vehicle.text(), counter.get()) {
         Ok(Some(shown)) => some_kept(alloc, shown),
@@ -167,10 +161,9 @@ fn find_latest<D: Alter>(
     vehicle: &Ident,
 ) -> Result<Option<Kept>, StoreFault>
     requires mode { IfClean IsInside (state D.Store tx.old.conn.now) }
-    ensures same_reference { tx.new.conn.ghost_name ≡ tx.old.conn.ghost_name }
     ensures found { FindsRows (latest_kept vehicle.now) (state D.Store tx.old.conn.now) (state D.Store tx.new.conn.now) result }
     ensures open { NeedsOpen (state D.Store tx.old.conn.now) (state D.Store tx.new.conn.now) result }
-    ensures steps { Steps (state D.Store tx.old.conn.now) (state D.Store tx.new.conn.now) }
+    ensures step { IsStep D.Store tx.old.conn tx.new.conn }
 {
     match find_last(tx, vehicle) {
         Ok(Some(last)) => find_kept(tx, alloc, vehicle, last),
@@ -185,12 +178,11 @@ fn find_last<D: Alter>(
     vehicle: &Ident,
 ) -> Result<Option<Count>, StoreFault>
     requires mode { IfClean IsInside (state D.Store tx.old.conn.now) }
-    ensures same_reference { tx.new.conn.ghost_name ≡ tx.old.conn.ghost_name }
     ensures found { FindsRows (last_found vehicle.now) (state D.Store tx.old.conn.now) (state D.Store tx.new.conn.now) result }
-    ensures reads { HasCleanDisk (state D.Store tx.new.conn.now) → OnOk result (HasTables (state D.Store tx.old.conn.now) → Reads (state D.Store tx.old.conn.now) (state D.Store tx.new.conn.now)) }
+    ensures reads { OnlyReads (state D.Store tx.old.conn.now) (state D.Store tx.new.conn.now) result }
     ensures inside { OnOk result (IfClean IsInside (state D.Store tx.new.conn.now)) }
     ensures open { NeedsOpen (state D.Store tx.old.conn.now) (state D.Store tx.new.conn.now) result }
-    ensures steps { Steps (state D.Store tx.old.conn.now) (state D.Store tx.new.conn.now) }
+    ensures step { IsStep D.Store tx.old.conn tx.new.conn }
 {
     match vehicle_shown(tx, vehicle.text()) {
         Ok(Some(shown)) => some_count(shown.last_counter),

@@ -1,11 +1,12 @@
 //! An ECU that another one replaces.
-ghost use Rattle.std.specs.Prelude.{◌≡◌, OnErr, OnOk};
+ghost use Rattle.std.specs.Prelude.{OnErr};
 ghost use Rattle.sqlite.specs.Held.{state};
 ghost use Rattle.sqlite.specs.State.{HasCleanDisk};
 ghost use Rattle.up_rows.specs.Changes.{with_replaced_rows};
 ghost use Rattle.up_store.specs.Fitting.{IsReplacement};
-ghost use Rattle.up_tables.specs.Stands.{IfClean, IsAsCommitted, IsInside, IsOpen, Steps};
-ghost use Rattle.up_store.specs.Connections.{NeedsOpen, TakesRows, CommitsRows, SparesRows, PutsRows};
+ghost use Rattle.up_tables.specs.Stands.{IfClean, IsAsCommitted, IsInside};
+ghost use Rattle.up_tables.specs.Statements.{IsOpenStep};
+ghost use Rattle.up_store.specs.Connections.{NeedsOpen, PutsRows, TakesRows, CommitsRows, SparesRows};
 
 use crate::store::{Store, StoreFault, commit};
 use sqlite::{Alter, Transaction};
@@ -17,10 +18,13 @@ use up_tables::retired::insert_retired;
 impl<D: Alter> Store<D> {
     /// Puts an ECU, before its first report, in the place of one of its vehicle, whose identifier is retired.
     pub fn write_replace(&mut self, alloc: Global, new: &Replacement) -> Result<(), StoreFault>
-        ensures written { TakesRows (IsReplacement new.now) (λ rows. with_replaced_rows rows new.now) (state D.Store self.old) (state D.Store self.new) result }
-        ensures durable { CommitsRows (IsReplacement new.now) (λ rows. with_replaced_rows rows new.now) (state D.Store self.old) (state D.Store self.new) result }
+        ensures written { TakesRows (IsReplacement new.now) (λ rows. with_replaced_rows rows new.now)
+            (state D.Store self.old) (state D.Store self.new) result }
+        ensures durable { CommitsRows (IsReplacement new.now) (λ rows. with_replaced_rows rows new.now)
+            (state D.Store self.old) (state D.Store self.new) result }
         ensures kept { OnErr result (IfClean (IsAsCommitted (state D.Store self.old)) (state D.Store self.new)) }
-        ensures crash { SparesRows (IsReplacement new.now) (λ rows. with_replaced_rows rows new.now) (state D.Store self.old) (state D.Store self.new) }
+        ensures crash { SparesRows (IsReplacement new.now) (λ rows. with_replaced_rows rows new.now)
+            (state D.Store self.old) (state D.Store self.new) }
         ensures clean { HasCleanDisk (state D.Store self.new) → HasCleanDisk (state D.Store self.old) }
         ensures open { NeedsOpen (state D.Store self.old) (state D.Store self.new) result }
     {
@@ -36,11 +40,9 @@ impl<D: Alter> Store<D> {
 /// Puts the new ECU in the place of the old one, and retires the old one's identifier.
 fn put_replaced<D: Alter>(tx: &mut Transaction<'_, D>, new: &Replacement) -> Result<(), StoreFault>
     requires mode { IfClean IsInside (state D.Store tx.old.conn.now) }
-    ensures same_reference { tx.new.conn.ghost_name ≡ tx.old.conn.ghost_name }
-    ensures put { PutsRows (IsReplacement new.now) (λ rows. with_replaced_rows rows new.now) (state D.Store tx.old.conn.now) (state D.Store tx.new.conn.now) result }
-    ensures inside { OnOk result (IfClean IsInside (state D.Store tx.new.conn.now)) }
-    ensures open { OnOk result (IfClean IsOpen (state D.Store tx.new.conn.now)) }
-    ensures steps { Steps (state D.Store tx.old.conn.now) (state D.Store tx.new.conn.now) }
+    ensures put { PutsRows (IsReplacement new.now) (λ rows. with_replaced_rows rows new.now)
+        (state D.Store tx.old.conn.now) (state D.Store tx.new.conn.now) result }
+    ensures step { IsOpenStep D.Store tx.old.conn tx.new.conn result }
 {
     replace_ecu(
         tx,

@@ -1,5 +1,5 @@
 //! Root versions and the files that are served.
-ghost use Rattle.std.specs.Prelude.{◌≡◌, ⊤, OnErr, OnOk, IfOk, is_some};
+ghost use Rattle.std.specs.Prelude.{◌≡◌, ⊤, OnErr, IfOk, is_some};
 ghost use Rattle.sqlite.specs.Held.{state};
 ghost use Rattle.sqlite.specs.State.{HasCleanDisk, Survives};
 ghost use Rattle.up_rows.specs.Changes.{with_root_rows, with_register_rows};
@@ -11,8 +11,9 @@ ghost use Rattle.up_store.specs.Shown.{meta_told, IsFoundingOf};
 ghost use Rattle.up_store.specs.Lines.{root_file_lines, role_file_lines};
 ghost use Rattle.up_store.specs.Puts.{HasFilesOnce, with_founding, with_keys, with_files};
 ghost use Rattle.up_store.specs.Fitting.{IsNextRoot, IsSameRoot};
-ghost use Rattle.up_tables.specs.Stands.{IfClean, IsAsCommitted, IsInside, IsOpen, IsWithin, Steps};
-ghost use Rattle.up_store.specs.Connections.{Answers, FindsRows, NeedsOpen, PutsRows, PutsTables, TakesRows, CommitsRows, SparesRows};
+ghost use Rattle.up_tables.specs.Stands.{IfClean, IsAsCommitted, IsInside, IsOpen, IsWithin};
+ghost use Rattle.up_tables.specs.Statements.{IsStep, IsOpenStep};
+ghost use Rattle.up_store.specs.Connections.{NeedsOpen, Answers, FindsRows, PutsRows, PutsTables, TakesRows, CommitsRows, SparesRows};
 
 use crate::column_values::moment_in;
 use crate::files::{make_role_files, make_root_files};
@@ -72,8 +73,10 @@ impl<D: Alter> Store<D> {
 
     /// Writes the first root version, with the files of the image repository.
     pub fn write_found(&mut self, alloc: Global, new: &RootRows) -> Result<(), StoreFault>
-        ensures written { TakesRows (IsNextRoot new.now) (λ rows. with_root_rows rows new.now) (state D.Store self.old) (state D.Store self.new) result }
-        ensures durable { CommitsRows (IsNextRoot new.now) (λ rows. with_root_rows rows new.now) (state D.Store self.old) (state D.Store self.new) result }
+        ensures written { TakesRows (IsNextRoot new.now) (λ rows. with_root_rows rows new.now)
+            (state D.Store self.old) (state D.Store self.new) result }
+        ensures durable { CommitsRows (IsNextRoot new.now) (λ rows. with_root_rows rows new.now)
+            (state D.Store self.old) (state D.Store self.new) result }
         ensures kept { OnErr result (IfClean (IsAsCommitted (state D.Store self.old)) (state D.Store self.new)) }
         ensures crash { SparesRows (IsNextRoot new.now) (λ rows. with_root_rows rows new.now) (state D.Store self.old) (state D.Store self.new) }
         ensures clean { HasCleanDisk (state D.Store self.new) → HasCleanDisk (state D.Store self.old) }
@@ -84,8 +87,10 @@ impl<D: Alter> Store<D> {
 
     /// Writes the next root version, with new files of the image repository.
     pub fn write_rotate(&mut self, alloc: Global, new: &RootRows) -> Result<(), StoreFault>
-        ensures written { TakesRows (IsNextRoot new.now) (λ rows. with_root_rows rows new.now) (state D.Store self.old) (state D.Store self.new) result }
-        ensures durable { CommitsRows (IsNextRoot new.now) (λ rows. with_root_rows rows new.now) (state D.Store self.old) (state D.Store self.new) result }
+        ensures written { TakesRows (IsNextRoot new.now) (λ rows. with_root_rows rows new.now)
+            (state D.Store self.old) (state D.Store self.new) result }
+        ensures durable { CommitsRows (IsNextRoot new.now) (λ rows. with_root_rows rows new.now)
+            (state D.Store self.old) (state D.Store self.new) result }
         ensures kept { OnErr result (IfClean (IsAsCommitted (state D.Store self.old)) (state D.Store self.new)) }
         ensures crash { SparesRows (IsNextRoot new.now) (λ rows. with_root_rows rows new.now) (state D.Store self.old) (state D.Store self.new) }
         ensures clean { HasCleanDisk (state D.Store self.new) → HasCleanDisk (state D.Store self.old) }
@@ -96,8 +101,10 @@ impl<D: Alter> Store<D> {
 
     /// Writes a root version, the first or the next.
     fn write_root(&mut self, alloc: Global, new: &RootRows) -> Result<(), StoreFault>
-        ensures written { TakesRows (IsNextRoot new.now) (λ rows. with_root_rows rows new.now) (state D.Store self.old) (state D.Store self.new) result }
-        ensures durable { CommitsRows (IsNextRoot new.now) (λ rows. with_root_rows rows new.now) (state D.Store self.old) (state D.Store self.new) result }
+        ensures written { TakesRows (IsNextRoot new.now) (λ rows. with_root_rows rows new.now)
+            (state D.Store self.old) (state D.Store self.new) result }
+        ensures durable { CommitsRows (IsNextRoot new.now) (λ rows. with_root_rows rows new.now)
+            (state D.Store self.old) (state D.Store self.new) result }
         ensures kept { OnErr result (IfClean (IsAsCommitted (state D.Store self.old)) (state D.Store self.new)) }
         ensures crash { SparesRows (IsNextRoot new.now) (λ rows. with_root_rows rows new.now) (state D.Store self.old) (state D.Store self.new) }
         ensures clean { HasCleanDisk (state D.Store self.new) → HasCleanDisk (state D.Store self.old) }
@@ -112,8 +119,10 @@ impl<D: Alter> Store<D> {
 
     /// Writes new files of the image repository.
     pub fn write_refresh(&mut self, alloc: Global, new: &RegisterRows) -> Result<(), StoreFault>
-        ensures written { TakesRows (IsSameRoot new.now) (λ rows. with_register_rows rows new.now) (state D.Store self.old) (state D.Store self.new) result }
-        ensures durable { CommitsRows (IsSameRoot new.now) (λ rows. with_register_rows rows new.now) (state D.Store self.old) (state D.Store self.new) result }
+        ensures written { TakesRows (IsSameRoot new.now) (λ rows. with_register_rows rows new.now)
+            (state D.Store self.old) (state D.Store self.new) result }
+        ensures durable { CommitsRows (IsSameRoot new.now) (λ rows. with_register_rows rows new.now)
+            (state D.Store self.old) (state D.Store self.new) result }
         ensures kept { OnErr result (IfClean (IsAsCommitted (state D.Store self.old)) (state D.Store self.new)) }
         ensures crash { SparesRows (IsSameRoot new.now) (λ rows. with_register_rows rows new.now) (state D.Store self.old) (state D.Store self.new) }
         ensures clean { HasCleanDisk (state D.Store self.new) → HasCleanDisk (state D.Store self.old) }
@@ -133,10 +142,9 @@ fn find_founding<D: Alter>(
     alloc: Global,
 ) -> Result<Option<Founding>, StoreFault>
     requires mode { IfClean IsInside (state D.Store tx.old.conn.now) }
-    ensures same_reference { tx.new.conn.ghost_name ≡ tx.old.conn.ghost_name }
     ensures found { FindsRows (λ rows. rows.founding) (state D.Store tx.old.conn.now) (state D.Store tx.new.conn.now) result }
     ensures open { NeedsOpen (state D.Store tx.old.conn.now) (state D.Store tx.new.conn.now) result }
-    ensures steps { Steps (state D.Store tx.old.conn.now) (state D.Store tx.new.conn.now) }
+    ensures step { IsStep D.Store tx.old.conn tx.new.conn }
 {
     match meta(tx) {
         Ok(Some(row)) => find_founded(tx, alloc, row),
@@ -148,10 +156,9 @@ fn find_founding<D: Alter>(
 /// Whether there is a founding, which its numbers tell: the keys aren't read.
 fn find_whether_founded<D: Alter>(tx: &mut Transaction<'_, D>) -> Result<bool, StoreFault>
     requires mode { IfClean IsInside (state D.Store tx.old.conn.now) }
-    ensures same_reference { tx.new.conn.ghost_name ≡ tx.old.conn.ghost_name }
     ensures found { FindsRows (λ rows. is_some rows.founding) (state D.Store tx.old.conn.now) (state D.Store tx.new.conn.now) result }
     ensures open { NeedsOpen (state D.Store tx.old.conn.now) (state D.Store tx.new.conn.now) result }
-    ensures steps { Steps (state D.Store tx.old.conn.now) (state D.Store tx.new.conn.now) }
+    ensures step { IsStep D.Store tx.old.conn tx.new.conn }
 {
     match meta(tx) {
         Ok(Some(row)) => Ok(row.root != 0),
@@ -168,10 +175,9 @@ fn find_founded<D: Alter>(
 ) -> Result<Option<Founding>, StoreFault>
     requires mode { IfClean IsInside (state D.Store tx.old.conn.now) }
     requires open { IfClean IsOpen (state D.Store tx.old.conn.now) }
-    ensures same_reference { tx.new.conn.ghost_name ≡ tx.old.conn.ghost_name }
     ensures found { HasCleanDisk (state D.Store tx.new.conn.now) → IfOk result (λ found. (rows : StateRows)
         → IsWithin up_schema (ListsRows rows) (state D.Store tx.old.conn.now) → row ≡ meta_told rows.founding → found ≡ rows.founding) }
-    ensures steps { Steps (state D.Store tx.old.conn.now) (state D.Store tx.new.conn.now) }
+    ensures step { IsStep D.Store tx.old.conn tx.new.conn }
 {
     if row.root == 0 {
         return Ok(None);
@@ -208,10 +214,9 @@ fn find_file<D: Alter>(
     name: &FileName,
 ) -> Result<Option<Text>, StoreFault>
     requires mode { IfClean IsInside (state D.Store tx.old.conn.now) }
-    ensures same_reference { tx.new.conn.ghost_name ≡ tx.old.conn.ghost_name }
     ensures found { FindsRows (λ rows. text_held rows repository name.now) (state D.Store tx.old.conn.now) (state D.Store tx.new.conn.now) result }
     ensures open { NeedsOpen (state D.Store tx.old.conn.now) (state D.Store tx.new.conn.now) result }
-    ensures steps { Steps (state D.Store tx.old.conn.now) (state D.Store tx.new.conn.now) }
+    ensures step { IsStep D.Store tx.old.conn tx.new.conn }
 {
     match file_shown(tx, repository_word(repository), name.text()) {
         Ok(Some(shown)) => Ok(Some(Text::new(shown.body))),
@@ -227,11 +232,9 @@ fn put_root<D: Alter>(
     new: &RootRows,
 ) -> Result<(), StoreFault>
     requires mode { IfClean IsInside (state D.Store tx.old.conn.now) }
-    ensures same_reference { tx.new.conn.ghost_name ≡ tx.old.conn.ghost_name }
-    ensures put { PutsRows (IsNextRoot new.now) (λ rows. with_root_rows rows new.now) (state D.Store tx.old.conn.now) (state D.Store tx.new.conn.now) result }
-    ensures inside { OnOk result (IfClean IsInside (state D.Store tx.new.conn.now)) }
-    ensures open { OnOk result (IfClean IsOpen (state D.Store tx.new.conn.now)) }
-    ensures steps { Steps (state D.Store tx.old.conn.now) (state D.Store tx.new.conn.now) }
+    ensures put { PutsRows (IsNextRoot new.now) (λ rows. with_root_rows rows new.now)
+        (state D.Store tx.old.conn.now) (state D.Store tx.new.conn.now) result }
+    ensures step { IsOpenStep D.Store tx.old.conn tx.new.conn result }
 {
     if new.founding.root > MOST_NUMBER {
         return Err(StoreFault::Store);
@@ -249,11 +252,9 @@ pub(crate) fn put_register<D: Alter>(
     new: &RegisterRows,
 ) -> Result<(), StoreFault>
     requires mode { IfClean IsInside (state D.Store tx.old.conn.now) }
-    ensures same_reference { tx.new.conn.ghost_name ≡ tx.old.conn.ghost_name }
-    ensures put { PutsRows (IsSameRoot new.now) (λ rows. with_register_rows rows new.now) (state D.Store tx.old.conn.now) (state D.Store tx.new.conn.now) result }
-    ensures inside { OnOk result (IfClean IsInside (state D.Store tx.new.conn.now)) }
-    ensures open { OnOk result (IfClean IsOpen (state D.Store tx.new.conn.now)) }
-    ensures steps { Steps (state D.Store tx.old.conn.now) (state D.Store tx.new.conn.now) }
+    ensures put { PutsRows (IsSameRoot new.now) (λ rows. with_register_rows rows new.now)
+        (state D.Store tx.old.conn.now) (state D.Store tx.new.conn.now) result }
+    ensures step { IsOpenStep D.Store tx.old.conn tx.new.conn result }
 {
     put_founding(tx, &new.founding)?;
     put_role_files(tx, alloc, &new.files)
@@ -265,11 +266,8 @@ fn put_founding<D: Alter>(
     founding: &Founding,
 ) -> Result<(), StoreFault>
     requires mode { IfClean IsInside (state D.Store tx.old.conn.now) }
-    ensures same_reference { tx.new.conn.ghost_name ≡ tx.old.conn.ghost_name }
     ensures put { PutsTables (λ _. ⊤) (with_founding founding.now) (state D.Store tx.old.conn.now) (state D.Store tx.new.conn.now) result }
-    ensures inside { OnOk result (IfClean IsInside (state D.Store tx.new.conn.now)) }
-    ensures open { OnOk result (IfClean IsOpen (state D.Store tx.new.conn.now)) }
-    ensures steps { Steps (state D.Store tx.old.conn.now) (state D.Store tx.new.conn.now) }
+    ensures step { IsOpenStep D.Store tx.old.conn tx.new.conn result }
 {
     if founding.root > MOST_NUMBER || founding.image_version > MOST_NUMBER {
         return Err(StoreFault::Store);
@@ -292,11 +290,8 @@ fn put_keys<D: Alter>(
 ) -> Result<(), StoreFault>
     requires mode { IfClean IsInside (state D.Store tx.old.conn.now) }
     requires open { IfClean IsOpen (state D.Store tx.old.conn.now) }
-    ensures same_reference { tx.new.conn.ghost_name ≡ tx.old.conn.ghost_name }
     ensures put { PutsTables (λ _. ⊤) (with_keys founding.now) (state D.Store tx.old.conn.now) (state D.Store tx.new.conn.now) result }
-    ensures inside { OnOk result (IfClean IsInside (state D.Store tx.new.conn.now)) }
-    ensures open { OnOk result (IfClean IsOpen (state D.Store tx.new.conn.now)) }
-    ensures steps { Steps (state D.Store tx.old.conn.now) (state D.Store tx.new.conn.now) }
+    ensures step { IsOpenStep D.Store tx.old.conn tx.new.conn result }
 {
     if founding.root > MOST_NUMBER {
         return Err(StoreFault::Store);
@@ -313,11 +308,9 @@ fn put_root_files<D: Alter>(
 ) -> Result<(), StoreFault>
     requires mode { IfClean IsInside (state D.Store tx.old.conn.now) }
     requires open { IfClean IsOpen (state D.Store tx.old.conn.now) }
-    ensures same_reference { tx.new.conn.ghost_name ≡ tx.old.conn.ghost_name }
-    ensures put { PutsTables HasFilesOnce (with_files (root_file_lines new.now)) (state D.Store tx.old.conn.now) (state D.Store tx.new.conn.now) result }
-    ensures inside { OnOk result (IfClean IsInside (state D.Store tx.new.conn.now)) }
-    ensures open { OnOk result (IfClean IsOpen (state D.Store tx.new.conn.now)) }
-    ensures steps { Steps (state D.Store tx.old.conn.now) (state D.Store tx.new.conn.now) }
+    ensures put { PutsTables HasFilesOnce (with_files (root_file_lines new.now))
+        (state D.Store tx.old.conn.now) (state D.Store tx.new.conn.now) result }
+    ensures step { IsOpenStep D.Store tx.old.conn tx.new.conn result }
 {
     let files = make_root_files(alloc, new)?;
     upsert_files(tx, files.as_slice())
@@ -331,11 +324,9 @@ fn put_role_files<D: Alter>(
 ) -> Result<(), StoreFault>
     requires mode { IfClean IsInside (state D.Store tx.old.conn.now) }
     requires open { IfClean IsOpen (state D.Store tx.old.conn.now) }
-    ensures same_reference { tx.new.conn.ghost_name ≡ tx.old.conn.ghost_name }
-    ensures put { PutsTables HasFilesOnce (with_files (role_file_lines texts.now)) (state D.Store tx.old.conn.now) (state D.Store tx.new.conn.now) result }
-    ensures inside { OnOk result (IfClean IsInside (state D.Store tx.new.conn.now)) }
-    ensures open { OnOk result (IfClean IsOpen (state D.Store tx.new.conn.now)) }
-    ensures steps { Steps (state D.Store tx.old.conn.now) (state D.Store tx.new.conn.now) }
+    ensures put { PutsTables HasFilesOnce (with_files (role_file_lines texts.now))
+        (state D.Store tx.old.conn.now) (state D.Store tx.new.conn.now) result }
+    ensures step { IsOpenStep D.Store tx.old.conn tx.new.conn result }
 {
     let files = make_role_files(alloc, texts)?;
     upsert_files(tx, files.as_slice())

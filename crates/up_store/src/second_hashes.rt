@@ -1,18 +1,15 @@
 //! The second hashes of images: found, read and put in.
-ghost use Rattle.std.specs.Prelude.{◌≡◌, ⊤, IfOk, OnOk, option_map};
+ghost use Rattle.std.specs.Prelude.{◌≡◌, ⊤, IfOk, option_map};
 ghost use Rattle.std.specs.FinMap as table;
 ghost use Rattle.sqlite.specs.Held.{state};
-ghost use Rattle.sqlite.specs.State.{HasCleanDisk};
 ghost use Rattle.up_canon.specs.Names.{Table as Named};
 ghost use Rattle.up_plan.specs.Images.{ImageData};
-ghost use Rattle.up_rows.specs.StateRows.{StateRows};
-ghost use Rattle.up_tables.specs.Stands.{IfClean, IsInside, IsOpen, IsWithin, Steps};
-ghost use Rattle.up_tables.specs.Tables.{up_schema};
+ghost use Rattle.up_tables.specs.Stands.{IfClean, IsInside, IsOpen};
+ghost use Rattle.up_tables.specs.Statements.{IsStep, IsOpenStep};
 ghost use Rattle.up_store.specs.ColumnRows.{AreHashesOf, AreSha512s};
-ghost use Rattle.up_store.specs.Connections.{FindsRows, NeedsOpen, PutsTables};
 ghost use Rattle.up_store.specs.Lines.{second_hash};
-ghost use Rattle.up_store.specs.Listing.{ListsRows};
 ghost use Rattle.up_store.specs.Puts.{with_sha512_line};
+ghost use Rattle.up_store.specs.Connections.{NeedsOpen, FindsRows, FindsSuch, PutsTables};
 
 use crate::column_values::sha512_in;
 use crate::store::StoreFault;
@@ -30,10 +27,10 @@ pub(crate) fn find_sha512<D: Alter>(
     file: &FileName,
 ) -> Result<Option<[u8; 64]>, StoreFault>
     requires mode { IfClean IsInside (state D.Store tx.old.conn.now) }
-    ensures same_reference { tx.new.conn.ghost_name ≡ tx.old.conn.ghost_name }
-    ensures found { FindsRows (λ rows. second_hash (table.get rows.images file.now)) (state D.Store tx.old.conn.now) (state D.Store tx.new.conn.now) result }
+    ensures found { FindsRows (λ rows. second_hash (table.get rows.images file.now))
+        (state D.Store tx.old.conn.now) (state D.Store tx.new.conn.now) result }
     ensures open { NeedsOpen (state D.Store tx.old.conn.now) (state D.Store tx.new.conn.now) result }
-    ensures steps { Steps (state D.Store tx.old.conn.now) (state D.Store tx.new.conn.now) }
+    ensures step { IsStep D.Store tx.old.conn tx.new.conn }
 {
     match image_sha512(tx, file.text()) {
         Ok(shown) => read_sha512(shown),
@@ -57,10 +54,9 @@ pub(crate) fn find_sha512s<D: Alter>(
     alloc: Global,
 ) -> Result<Table<[u8; 64]>, StoreFault>
     requires mode { IfClean IsInside (state D.Store tx.old.conn.now) }
-    ensures same_reference { tx.new.conn.ghost_name ≡ tx.old.conn.ghost_name }
-    ensures found { HasCleanDisk (state D.Store tx.new.conn.now) → IfOk result (λ read. (rows : StateRows) → IsWithin up_schema (ListsRows rows) (state D.Store tx.old.conn.now) → AreHashesOf read rows.images) }
+    ensures found { FindsSuch (λ rows read. AreHashesOf read rows.images) (state D.Store tx.old.conn.now) (state D.Store tx.new.conn.now) result }
     ensures open { NeedsOpen (state D.Store tx.old.conn.now) (state D.Store tx.new.conn.now) result }
-    ensures steps { Steps (state D.Store tx.old.conn.now) (state D.Store tx.new.conn.now) }
+    ensures step { IsStep D.Store tx.old.conn tx.new.conn }
 {
     match image_sha512s(tx, alloc) {
         Ok(shown) => read_sha512s(alloc, shown),
@@ -87,11 +83,8 @@ pub(crate) fn put_sha512<D: Alter>(
 ) -> Result<(), StoreFault>
     requires mode { IfClean IsInside (state D.Store tx.old.conn.now) }
     requires open { IfClean IsOpen (state D.Store tx.old.conn.now) }
-    ensures same_reference { tx.new.conn.ghost_name ≡ tx.old.conn.ghost_name }
     ensures put { PutsTables (λ _. ⊤) (with_sha512_line image.now) (state D.Store tx.old.conn.now) (state D.Store tx.new.conn.now) result }
-    ensures inside { OnOk result (IfClean IsInside (state D.Store tx.new.conn.now)) }
-    ensures open { OnOk result (IfClean IsOpen (state D.Store tx.new.conn.now)) }
-    ensures steps { Steps (state D.Store tx.old.conn.now) (state D.Store tx.new.conn.now) }
+    ensures step { IsOpenStep D.Store tx.old.conn tx.new.conn result }
 {
     match &image.sha512 {
         Some(hash) => insert_image_sha512(tx, image.file.text(), &hash[..]),

@@ -77,12 +77,14 @@ impl<D: Alter> Store<D> {
     pub fn adopt(mut conn: Connection<D>) -> Result<Store<D>, (Connection<D>, OpenFault)>
         requires { (state D.Store conn).in_transaction ≡ false }
         ensures ours { IfOk result (λ s. HasCleanDisk (state D.Store s) → NamesUs (state D.Store conn)) }
-        ensures taken { IfOk result (λ s. (version : SchemaVersion) (rows : StateRows) → IfClean (KeepsAs version rows) (state D.Store conn) → IfClean (KeepsRows rows) (state D.Store s)) }
+        ensures taken { IfOk result (λ s. (version : SchemaVersion) (rows : StateRows)
+            → IfClean (KeepsAs version rows) (state D.Store conn) → IfClean (KeepsRows rows) (state D.Store s)) }
         ensures crash { IfOk result (λ s. Survives (state D.Store conn) (state D.Store s) (RaisedRows (state D.Store conn))) }
         ensures open { IfOk result (λ s. HasCleanDisk (state D.Store s) → IsTrue (state D.Store conn).is_open) }
         ensures kept_err { IfErr result (λ e. IfClean (IsAsCommitted (state D.Store conn)) (state D.Store e.0)) }
         ensures others { IfErr result (λ e. e.1 ≡ NotOurs → HasCleanDisk (state D.Store e.0) → NamesOthers (state D.Store conn)) }
-        ensures never { IfErr result (λ e. HasCleanDisk (state D.Store e.0) → (version : SchemaVersion) (rows : StateRows) → IfClean (KeepsAs version rows) (state D.Store conn) → e.1 ≢ NotOurs) }
+        ensures never { IfErr result (λ e. HasCleanDisk (state D.Store e.0)
+            → (version : SchemaVersion) (rows : StateRows) → IfClean (KeepsAs version rows) (state D.Store conn) → e.1 ≢ NotOurs) }
         ensures crash_err { IfErr result (λ e. Survives (state D.Store conn) (state D.Store e.0) (RaisedRows (state D.Store conn))) }
         ensures mode { IfErr result (λ e. (state D.Store e.0).in_transaction ≡ false) }
     {
@@ -108,7 +110,8 @@ pub(crate) fn commit<D: Alter>(tx: Transaction<'_, D>) -> Result<(), StoreFault>
     ensures ended { tx.exit.0.now.in_transaction ≡ false }
     ensures committed { OnOk result (IfClean (Commits (state D.Store tx.entry.conn.now)) (state D.Store tx.exit.0.now)) }
     ensures undone { OnErr result (IfClean (IsRolledBack (state D.Store tx.entry.conn.now)) (state D.Store tx.exit.0.now)) }
-    ensures survives { Survives (state D.Store tx.entry.conn.now) (state D.Store tx.exit.0.now) (λ trees. trees ≡ (state D.Store tx.entry.conn.now).now.trees) }
+    ensures survives { Survives (state D.Store tx.entry.conn.now) (state D.Store tx.exit.0.now)
+        (λ trees. trees ≡ (state D.Store tx.entry.conn.now).now.trees) }
 {
     match tx.commit() {
         Ok(()) => Ok(()),

@@ -1,5 +1,5 @@
 //! Vehicles and their ECUs.
-ghost use Rattle.std.specs.Prelude.{◌≡◌, OnErr, OnOk, IfOk, Some, string_bytes};
+ghost use Rattle.std.specs.Prelude.{◌≡◌, OnErr, IfOk, Some, string_bytes};
 ghost use Rattle.sqlite.specs.Held.{state};
 ghost use Rattle.sqlite.specs.State.{HasCleanDisk, Survives};
 ghost use Rattle.up_rows.specs.Changes.{with_vehicle_rows};
@@ -7,9 +7,10 @@ ghost use Rattle.up_store.specs.Fitting.{IsNewVehicle};
 ghost use Rattle.up_store.specs.Shown.{vehicle_read};
 ghost use Rattle.up_rows.specs.Lookups.{last_owner, owner_found};
 ghost use Rattle.up_store.specs.Found.{vehicle_found, ecus_found};
-ghost use Rattle.up_tables.specs.Stands.{IfClean, IsAsCommitted, IsInside, IsOpen, Steps};
+ghost use Rattle.up_tables.specs.Stands.{IfClean, IsAsCommitted, IsInside};
+ghost use Rattle.up_tables.specs.Statements.{IsStep, IsOpenStep};
 ghost use Rattle.up_tables.specs.Forms.{FitVehicle};
-ghost use Rattle.up_store.specs.Connections.{Answers, FindsRows, NeedsOpen, TakesRows, CommitsRows, SparesRows, PutsRows};
+ghost use Rattle.up_store.specs.Connections.{NeedsOpen, Answers, FindsRows, PutsRows, TakesRows, CommitsRows, SparesRows};
 
 use crate::column_values::{count_in, ident_in};
 use crate::ecus::{make_ecus, read_ecus};
@@ -65,8 +66,10 @@ impl<D: Alter> Store<D> {
 
     /// Writes a vehicle whose name is new, with its ECUs.
     pub fn write_vehicle(&mut self, alloc: Global, new: &VehicleRows) -> Result<(), StoreFault>
-        ensures written { TakesRows (IsNewVehicle new.now) (λ rows. with_vehicle_rows rows new.now) (state D.Store self.old) (state D.Store self.new) result }
-        ensures durable { CommitsRows (IsNewVehicle new.now) (λ rows. with_vehicle_rows rows new.now) (state D.Store self.old) (state D.Store self.new) result }
+        ensures written { TakesRows (IsNewVehicle new.now) (λ rows. with_vehicle_rows rows new.now)
+            (state D.Store self.old) (state D.Store self.new) result }
+        ensures durable { CommitsRows (IsNewVehicle new.now) (λ rows. with_vehicle_rows rows new.now)
+            (state D.Store self.old) (state D.Store self.new) result }
         ensures kept { OnErr result (IfClean (IsAsCommitted (state D.Store self.old)) (state D.Store self.new)) }
         ensures crash { SparesRows (IsNewVehicle new.now) (λ rows. with_vehicle_rows rows new.now) (state D.Store self.old) (state D.Store self.new) }
         ensures clean { HasCleanDisk (state D.Store self.new) → HasCleanDisk (state D.Store self.old) }
@@ -86,10 +89,9 @@ fn find_vehicle<D: Alter>(
     vehicle: &Ident,
 ) -> Result<Option<VehicleRow>, StoreFault>
     requires mode { IfClean IsInside (state D.Store tx.old.conn.now) }
-    ensures same_reference { tx.new.conn.ghost_name ≡ tx.old.conn.ghost_name }
     ensures found { FindsRows (vehicle_found vehicle.now) (state D.Store tx.old.conn.now) (state D.Store tx.new.conn.now) result }
     ensures open { NeedsOpen (state D.Store tx.old.conn.now) (state D.Store tx.new.conn.now) result }
-    ensures steps { Steps (state D.Store tx.old.conn.now) (state D.Store tx.new.conn.now) }
+    ensures step { IsStep D.Store tx.old.conn tx.new.conn }
 {
     match vehicle_shown(tx, vehicle.text()) {
         Ok(Some(shown)) => read_vehicle(shown),
@@ -117,10 +119,9 @@ fn find_ecus<D: Alter>(
     vehicle: &Ident,
 ) -> Result<Listed<EcuRow>, StoreFault>
     requires mode { IfClean IsInside (state D.Store tx.old.conn.now) }
-    ensures same_reference { tx.new.conn.ghost_name ≡ tx.old.conn.ghost_name }
     ensures found { FindsRows (ecus_found vehicle.now) (state D.Store tx.old.conn.now) (state D.Store tx.new.conn.now) result }
     ensures open { NeedsOpen (state D.Store tx.old.conn.now) (state D.Store tx.new.conn.now) result }
-    ensures steps { Steps (state D.Store tx.old.conn.now) (state D.Store tx.new.conn.now) }
+    ensures step { IsStep D.Store tx.old.conn tx.new.conn }
 {
     match ecus_shown(tx, alloc, vehicle.text()) {
         Ok(shown) => read_ecus(alloc, shown),
@@ -134,10 +135,9 @@ fn find_owner<D: Alter>(
     ecu: &Ident,
 ) -> Result<Option<Ident>, StoreFault>
     requires mode { IfClean IsInside (state D.Store tx.old.conn.now) }
-    ensures same_reference { tx.new.conn.ghost_name ≡ tx.old.conn.ghost_name }
     ensures found { FindsRows (owner_found ecu.now) (state D.Store tx.old.conn.now) (state D.Store tx.new.conn.now) result }
     ensures open { NeedsOpen (state D.Store tx.old.conn.now) (state D.Store tx.new.conn.now) result }
-    ensures steps { Steps (state D.Store tx.old.conn.now) (state D.Store tx.new.conn.now) }
+    ensures step { IsStep D.Store tx.old.conn tx.new.conn }
 {
     match owner_shown(tx, ecu.text()) {
         Ok(Some(shown)) => read_owner(shown),
@@ -152,10 +152,9 @@ fn find_retired<D: Alter>(
     ecu: &Ident,
 ) -> Result<Option<Ident>, StoreFault>
     requires mode { IfClean IsInside (state D.Store tx.old.conn.now) }
-    ensures same_reference { tx.new.conn.ghost_name ≡ tx.old.conn.ghost_name }
     ensures found { FindsRows (last_owner ecu.now) (state D.Store tx.old.conn.now) (state D.Store tx.new.conn.now) result }
     ensures open { NeedsOpen (state D.Store tx.old.conn.now) (state D.Store tx.new.conn.now) result }
-    ensures steps { Steps (state D.Store tx.old.conn.now) (state D.Store tx.new.conn.now) }
+    ensures step { IsStep D.Store tx.old.conn tx.new.conn }
 {
     match retired_owner(tx, ecu.text()) {
         Ok(Some(shown)) => read_owner(shown),
@@ -181,11 +180,9 @@ fn put_vehicle<D: Alter>(
     new: &VehicleRows,
 ) -> Result<(), StoreFault>
     requires mode { IfClean IsInside (state D.Store tx.old.conn.now) }
-    ensures same_reference { tx.new.conn.ghost_name ≡ tx.old.conn.ghost_name }
-    ensures put { PutsRows (IsNewVehicle new.now) (λ rows. with_vehicle_rows rows new.now) (state D.Store tx.old.conn.now) (state D.Store tx.new.conn.now) result }
-    ensures inside { OnOk result (IfClean IsInside (state D.Store tx.new.conn.now)) }
-    ensures open { OnOk result (IfClean IsOpen (state D.Store tx.new.conn.now)) }
-    ensures steps { Steps (state D.Store tx.old.conn.now) (state D.Store tx.new.conn.now) }
+    ensures put { PutsRows (IsNewVehicle new.now) (λ rows. with_vehicle_rows rows new.now)
+        (state D.Store tx.old.conn.now) (state D.Store tx.new.conn.now) result }
+    ensures step { IsOpenStep D.Store tx.old.conn tx.new.conn result }
 {
     let vehicle = make_vehicle(alloc, &new.vehicle)?;
     let ecus = make_ecus(alloc, new.ecus.as_slice())?;

@@ -8,7 +8,7 @@ pub returns-in-Ok-Some-clause-found : goal.returns-in-Ok-Some-clause-found
 returns-in-Ok-Some-clause-found g c clean =
     let before = state g.D.Store c.args.tx.now.conn.now in
     let mid = state g.D.Store c.image.new.tx.conn.now in
-    let then : HasCleanDisk mid = omega (arith, c.find_with_sha512.ensures.steps.survives.clean) in
+    let then : HasCleanDisk mid = omega (arith, c.find_with_sha512.ensures.step.steps.survives.clean) in
     joined_found images c.find_with_sha512.result c.args.file.now before mid c.in-Ok-Some.field-0 c.in-Ok-Some.shown c.in-Ok-Some.field-0-is (c.find_with_sha512.ensures.found clean)
     (c.in-Ok-Some.ensures.reads then) (rw c.text.ensures.value at c.in-Ok-Some.ensures.found then)
 

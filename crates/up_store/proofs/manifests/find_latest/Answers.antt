@@ -14,7 +14,7 @@ pub returns-in-Ok-Some-clause-found : goal.returns-in-Ok-Some-clause-found
 returns-in-Ok-Some-clause-found g c clean =
     let before = state g.D.Store c.args.tx.now.conn.now in
     let mid = state g.D.Store c.find_last.new.tx.conn.now in
-    let then : HasCleanDisk mid = omega (arith, c.find_kept.ensures.steps.survives.clean) in
+    let then : HasCleanDisk mid = omega (arith, c.find_kept.ensures.step.steps.survives.clean) in
     ok_then _ (λ found. (rows : StateRows) → IsWithin up_schema (ListsRows rows) before → found ≡ latest_kept c.args.vehicle.now rows) c.find_kept.result
     (λ read is rows within. is rows (within_read rows before mid (c.in-Ok-Some.ensures.reads then) within) ∙ latest_is rows c.args.vehicle.now c.in-Ok-Some.last (sym c.in-Ok-Some.field-0-is ∙ c.in-Ok-Some.ensures.found then rows within))
     (c.find_kept.ensures.found clean)

@@ -15,7 +15,7 @@ pub returns-in-Ok-Some-clause-found : goal.returns-in-Ok-Some-clause-found
 returns-in-Ok-Some-clause-found g c clean =
     let before = state g.D.Store c.args.tx.now.conn.now in
     let mid = state g.D.Store c.meta.new.tx.conn.now in
-    let cleanly : HasCleanDisk mid = omega (arith, c.find_founded.ensures.steps.survives.clean) in
+    let cleanly : HasCleanDisk mid = omega (arith, c.find_founded.ensures.step.steps.survives.clean) in
     ok_then (λ found. (rows : StateRows) → IsWithin up_schema (ListsRows rows) mid → c.in-Ok-Some.row ≡ meta_told rows.founding → found ≡ rows.founding)
     (λ found. (rows : StateRows) → IsWithin up_schema (ListsRows rows) before → found ≡ rows.founding) c.find_founded.result
     (λ found told rows within.

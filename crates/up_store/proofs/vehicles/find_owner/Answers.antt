@@ -25,7 +25,7 @@ pub returns-in-Ok-None-clause-found : goal.returns-in-Ok-None-clause-found
 returns-in-Ok-None-clause-found g c clean =
     let before = state g.D.Store c.args.tx.now.conn.now in
     let mid = state g.D.Store c.ecu_owner.new.tx.conn.now in
-    let then : HasCleanDisk mid = omega (arith, c.find_retired.ensures.steps.survives.clean) in
+    let then : HasCleanDisk mid = omega (arith, c.find_retired.ensures.step.steps.survives.clean) in
     ok_then _ (λ found. (rows : StateRows) → IsWithin up_schema (ListsRows rows) before → found ≡ owner_found c.args.ecu.now rows) c.find_retired.result
     (λ read is rows within. is rows (within_read rows before mid (c.in-Ok-None.ensures.reads then) within) ∙ ap (λ (o : Option Name). option_or o (last_owner c.args.ecu.now rows)) (ap (option_map string_bytes) (sym c.in-Ok-None.field-0-is)
     ∙ owner_in rows c.args.ecu.now before mid (option_map string_bytes c.in-Ok-None.field-0) (c.in-Ok-None.ensures.reads then) (rw c.text.ensures.value at c.in-Ok-None.ensures.found then) within))
