@@ -8,7 +8,7 @@ pub returns : goal.returns
 returns g c = let it = following c.is_founded.ensures.reads (store_reads c.campaign.ensures.kept c.campaign.ensures.crash) in record {
   decided = λ clean k s was.
       let campaign = c.in-Ok-campaign.ensures.told clean (rows_of_state k s) (it.keeps k s was) in
-      gives_or_fails (GivesClosed s c.args.name.now) c.decide_close.result _ (λ r h. h) (c.decide_close.ensures s (c.in-Ok.ensures.told (it.clean clean) k s was) (c.as_ref.ensures.value ∙ campaign));
+      gives_or_fails (GivesClosed s c.args.name.now) c.decide_close.result _ (λ r h. h) (c.decide_close.ensures.decided s (c.in-Ok.ensures.told (it.clean clean) k s was) (c.as_ref.ensures.value ∙ campaign));
   reads = it.reads;
 }
 

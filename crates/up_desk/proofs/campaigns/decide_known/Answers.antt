@@ -12,7 +12,7 @@ use Rattle.up_desk.proofs.campaigns.decide_known.Goals as goal
 pub returns-in-Ok-clause-decided : goal.returns-in-Ok-clause-decided
 returns-in-Ok-clause-decided g c clean = λ k s founded old known was.
     gives_or_fails (GivesDecision (λ (r : CampaignData). r ≡ c.args.campaign.now) s (with_campaign s c.args.campaign.now)) c.decide_open.result _ (λ r h. h)
-    (c.decide_open.ensures s founded old (record {
+    (c.decide_open.ensures.decided s founded old (record {
       of_vehicles = known;
       of_images = images_known s.images _ c.args.campaign.now.items (c.in-Ok.ensures.told clean k s was
           ∙ ap (λ (is : List Item). gathered s.images (item_files is) table.empty) (c.as_slice.ensures ∙ ap (λ (d : CampaignData). d.items) c.campaign.view_is));

@@ -9,7 +9,7 @@ returns-in-Ok g c = record {
   decided = λ k clean s sound from was.
       let manifest = c.args.incoming.now.manifest in
       gives_or_fails (GivesDelivered k s manifest.vehicle) c.decide_again.result _ (λ r h. h)
-      (c.decide_again.ensures k s c.args.at c.requires.moment sound from
+      (c.decide_again.ensures.decided k s c.args.at c.requires.moment sound from
       (c.as_ref.ensures.value ∙ c.in-Ok.ensures.told clean (rows_of_state k s) was ∙ c.rows_are_found.ensures.kept k s manifest.vehicle manifest.counter));
   reads = store_reads c.kept.ensures.kept c.kept.ensures.crash;
 }

@@ -9,7 +9,7 @@ pub returns-in-Ok-clause-decided : goal.returns-in-Ok-clause-decided
 returns-in-Ok-clause-decided g c clean = λ s sound founding none was.
     let k = g.K.Scheme.rules c.args.scheme.now in
     let next = stamped (with_image s c.args.image.now) c.args.at (s.image_version + 1) in
-    gives_or_fails (GivesRows (HasRegisterRows k next) next) c.decide_new_image.result _ (λ r h. h) (c.decide_new_image.ensures s sound founding (c.in-Ok.ensures.told clean (rows_of_state k s) was) none)
+    gives_or_fails (GivesRows (HasRegisterRows k next) next) c.decide_new_image.result _ (λ r h. h) (c.decide_new_image.ensures.decided s sound founding (c.in-Ok.ensures.told clean (rows_of_state k s) was) none)
 
 pub returns-in-Ok-clause-reads : goal.returns-in-Ok-clause-reads
 returns-in-Ok-clause-reads g c = store_reads c.images.ensures.kept c.images.ensures.crash
