@@ -1,5 +1,5 @@
 //! The decision on an ECU that another one replaces.
-ghost use Rattle.std.specs.Prelude.{◌≡◌, ◌≤◌, ◌&&◌, Some, is_some, option_copied, bytes_eq, codes, false, true, Err};
+ghost use Rattle.std.specs.Prelude.{◌≡◌, ◌≤◌, Some, is_some, option_copied, bytes_eq, codes, false, true, Err};
 ghost use Rattle.std.specs.List.{list_any};
 ghost use Rattle.std.specs.FinMap as table;
 ghost use Rattle.up_canon.specs.Moments.{last_command_moment};

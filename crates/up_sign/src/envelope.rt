@@ -56,7 +56,7 @@ impl Envelope {
         Ok(out)
     }
 
-    /// Appends its JSON text. On an error `out` may hold some of it.
+    /// Appends its JSON text. On an error `out` may hold any text.
     #[tactic(auto, unfolding(crate::specs::Formats::envelope_text))]
     pub fn push_to(&self, alloc: Global, out: &mut String) -> Result<(), AllocError>
         requires limits { IsTrue (envelope_fits self.now) }
