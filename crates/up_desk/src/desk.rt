@@ -6,7 +6,7 @@ ghost use Rattle.up_machine.specs.declared.answer.Answer.TheVariants.{Refused};
 ghost use Rattle.up_machine.specs.Commands.{opens_running};
 ghost use Rattle.up_machine.specs.Reads.{ecus_of as ecus_in, version_of as version_in, installed as installed_in, assigned_to};
 ghost use Rattle.up_machine.specs.Rows.{vehicle_rows};
-ghost use Rattle.up_desk.specs.Runs.{AreOutright, CommitsCalls, RunsCalls, SparesCalls};
+ghost use Rattle.up_desk.specs.Runs.{AreOutright, CommitsCalls, OutlastsCalls, RunsCalls, SparesCalls};
 ghost use Rattle.up_desk.specs.Calls.{CommitsCall, ServesCall, SparesCall};
 ghost use Rattle.up_desk.specs.Serving.{outright as outright_of};
 ghost use Rattle.up_desk.specs.Standing.{HasCleanDisk, Reads, Tells, bare, state};
@@ -119,8 +119,10 @@ impl<K: Scheme, D: Alter> Desk<K, D> {
     /// Answers commands one after another, each with its moment, and appends one answer for each: where some commands are
     /// repeats or fail (are answered `Refused(Memory)` or `Refused(Store)`), the state is the plain machine's after the list
     /// without these, and each command that didn't fail has the expected answer; each kept reply stays. Only a fault of the
-    /// disk shuts the connection. A crash leaves what it could leave before, or the state after some of the first commands;
-    /// where the last commit was answered, the state after all of them. An error means that nothing was done.
+    /// disk shuts the connection. A crash leaves what it could leave before, or the state after some of the first commands. What
+    /// was answered stays: behind each commit that was answered (`Done`, or a reply to a newly accepted manifest) a crash leaves
+    /// the state behind it, or the one after some of the commands that follow; where none of these changes the state, the
+    /// state after all of them. An error means that nothing was done.
     pub fn run(
         &mut self,
         alloc: Global,
@@ -131,6 +133,7 @@ impl<K: Scheme, D: Alter> Desk<K, D> {
         ensures ran { OnOk result ((told : List Answer) × (answers.new.items ≡ answers.old.items ++ told) × AreOutright (K.rules self.old.scheme) commands.now told
             × RunsCalls (K.rules self.old.scheme) commands.now told (state D.Store self.old.store) (state D.Store self.new.store)
             × SparesCalls (K.rules self.old.scheme) commands.now told (state D.Store self.old.store) (state D.Store self.new.store)
+            × OutlastsCalls (K.rules self.old.scheme) commands.now told (state D.Store self.old.store) (state D.Store self.new.store)
             × CommitsCalls (K.rules self.old.scheme) commands.now told (state D.Store self.old.store) (state D.Store self.new.store)) }
         ensures err { OnErr result ((answers.new.items ≡ answers.old.items) × (self.new ≡ self.old)) }
         ensures clean { HasCleanDisk (state D.Store self.new.store) → HasCleanDisk (state D.Store self.old.store) }
