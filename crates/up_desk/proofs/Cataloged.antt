@@ -1,9 +1,10 @@
 -- What is kept in memory, and what keeps it.
-use Rattle.std.proofs.Common.{◌≡◌, ℕ, List, [], ◌∷◌, Bool, true, false, cond, Option, Some, None, Result, Ok, Err, filter, refl, sym, ap, ◌∙◌, subst}
+use Rattle.std.proofs.Common.{◌≡◌, ◌+◌, ◌≤◌, ℕ, List, [], ◌∷◌, Bool, true, false, cond, Option, Some, None, Result, Ok, Err, filter, refl, sym, ap, ◌∙◌, subst, arith}
 use Rattle.std.specs.Prelude.{⊤, ◌&&◌, if◌then◌else◌, IfSome, OnErr, OnOk, MatchBool, flat_map, is_some}
-use Rattle.std.specs.FinMap.{get-empty}
+use Rattle.std.specs.FinMap.{get-empty, len-empty, len-insert}
 use Rattle.std.specs.Ordering.{nat_cmp}
 use Rattle.std.specs.Cmp.Lexicographic.{slice_cmp}
+use Rattle.std.proofs.lemmas.Cmp.{nat_list_cmp_total}
 use Rattle.std.specs.List.{AllByRecursion}
 use Rattle.std.specs.FinMap as table
 use Rattle.up_canon.specs.Names.{Name, Table}
@@ -36,7 +37,7 @@ use Rattle.up_machine.specs.State.{State, Vehicle}
 use Rattle.up_machine.proofs.Tables.{get_after-insert, kept_by_insert}
 use Rattle.up_store.specs.Found.{values_where}
 use Rattle.up_desk.specs.Serving.{is_failed, IsAnswered, outcome_due}
-use Rattle.up_desk.specs.Standing.{ArePrimaries, CanDecide, IsOf, Fits, IsLoaded, KeepsMore, StayKept, StaysLoaded, StillFits, keeps_catalog, kept_for}
+use Rattle.up_desk.specs.Standing.{AreFew, ArePrimaries, CanDecide, IsOf, Fits, IsLoaded, KeepsMore, StayKept, StaysLoaded, StillFits, keeps_catalog, kept_for}
 use Rattle.up_desk.specs.declared.catalog.Catalog.{Catalog}
 use Rattle.up_desk.proofs.Serving.{next_is}
 use Rattle.up_desk.proofs.Told.{running_sorted}
@@ -157,6 +158,13 @@ again_by old new false is = is
 pub kept_again : (c : Command) (old new : Option Catalog) → new ≡ kept_for c old → new ≡ kept_for c new
 kept_again c old new is = again_by old new (keeps_catalog c) is
 
+-- what stays of what was there before a command that keeps it
+pub kept_stays : (c : Command) (old new : Option Catalog) → old ≡ kept_for c old → StaysLoaded old new → StaysLoaded (kept_for c old) new
+kept_stays c old new is h = subst (λ o. StaysLoaded o new) is h
+
+pub kept_still : (c : Command) (old mid new : Option Catalog) → mid ≡ kept_for c old → StaysLoaded (kept_for c mid) new → StaysLoaded (kept_for c old) new
+kept_still c old mid new is h = subst (λ o. StaysLoaded o new) (sym (kept_again c old mid is) ∙ is) h
+
 -- ---- what a plan reads of it
 
 -- a campaign that doesn't run has no items for anybody
@@ -208,17 +216,18 @@ there_loaded s (Some c) there h = h
 -- ---- what comes to it
 
 pub none_more : (c : Catalog) → KeepsMore c c
-none_more c = record { rest = refl; primaries = λ vehicle primary kept. kept }
+none_more c = record { rest = refl; primaries = λ vehicle primary kept. kept; few = λ few. few }
 
 more_then : (a b c : Catalog) → KeepsMore a b → KeepsMore b c → KeepsMore a c
 more_then a b c ab bc = record {
   rest = bc.rest ∙ ap (λ (x : Catalog). record x { primaries = c.primaries }) ab.rest;
   primaries = λ vehicle primary kept. bc.primaries vehicle primary (ab.primaries vehicle primary kept);
+  few = λ few. bc.few (ab.few few);
 }
 
 -- whether one can decide by it depends on the rest
 pub can_more : (k : Rules) (c d : Catalog) → KeepsMore c d → CanDecide k c → CanDecide k d
-can_more k c d more can = subst (CanDecide k) (sym more.rest) (record { keys = can.keys; hashed = can.hashed })
+can_more k c d more can = subst (CanDecide k) (sym more.rest) (record { keys = can.keys; hashed = can.hashed; few = more.few can.few })
 
 pub of_more : (s : State) (c d : Catalog) → KeepsMore c d → ArePrimaries s d.primaries → IsOf s c → IsOf s d
 of_more s c d more are is = subst (IsOf s) (sym more.rest) (record { founding = is.founding; campaigns = is.campaigns; images = is.images; primaries = are })
@@ -236,6 +245,17 @@ are_more s kept vehicle primary is are = λ other found there.
 pub stay_more : (kept : Table Primary) (vehicle : Name) (primary : Primary) → table.get kept vehicle ≡ None → StayKept kept (table.insert kept vehicle primary)
 stay_more kept vehicle primary none = λ other found there. kept_by_insert kept vehicle other primary found none there
 
+-- there is one more at most
+pub one_kept : (kept : Table Primary) (vehicle : Name) (primary : Primary) → table.len (table.insert kept vehicle primary) ≤ table.len kept + 1
+one_kept kept vehicle primary = by_test (table.contains_key kept vehicle) (len-insert nat_list_cmp_total kept vehicle primary)
+  where
+    by_test : (b : Bool) → table.len (table.insert kept vehicle primary) ≡ cond b (table.len kept) (table.len kept + 1) → table.len (table.insert kept vehicle primary) ≤ table.len kept + 1
+    by_test true is = omega (arith, is)
+    by_test false is = omega (arith, is)
+
+pub few_none : AreFew table.empty
+few_none = omega (arith, len-empty (slice_cmp nat_cmp) Primary)
+
 -- what holds of the table before and after an insertion holds of what the call leaves
 pub put_or_not : {E : Type 0} (P : Table Primary → Type 0) (result : Result ⊤ E) (old new put : Table Primary) → OnOk result (new ≡ put) → OnErr result (new ≡ old) → P old → P put → P new
 put_or_not P (Ok done) old new put ok err before after = subst P (sym ok) after
@@ -245,6 +265,9 @@ put_or_not P (Err e) old new put ok err before after = subst P (sym err) before
 pub stays : (o : Option Catalog) → StaysLoaded o o
 stays None = tt
 stays (Some c) = none_more c
+
+pub stays_kept : (c : Command) (old new : Option Catalog) → new ≡ kept_for c old → StaysLoaded (kept_for c old) new
+stays_kept c old new is = subst (λ o. StaysLoaded o new) is (stays new)
 
 pub stays_then : (a b c : Option Catalog) → StaysLoaded a b → StaysLoaded b c → StaysLoaded a c
 stays_then None b c ab bc = tt

@@ -23,7 +23,7 @@ use Rattle.up_machine.specs.Replies.{kept_reply}
 use Rattle.up_desk.specs.Standing.{Standing, HasCleanDisk, IfClean, KeepsState, Survives, LeavesOnly}
 use Rattle.up_desk.specs.Serving.{HoldsState, IsCommit, is_failed, IsAnswered, outright}
 use Rattle.up_desk.specs.Calls.{CommitsCall, IsServed, ServesCall, SparesCall}
-use Rattle.up_desk.specs.Runs.{AreOutright, AreNeighbours, timed, sent, unless_failed, IsRun, RunsCalls, ComesTo, SparesCalls, IsLastCommit, CommitsCalls}
+use Rattle.up_desk.specs.Runs.{AreOutright, AreNeighbours, timed, sent, unless_failed, IsRun, RunsCalls, outcome_behind, ComesTo, SparesCalls, IsAnsweredCommit, StaysOrComesTo, OutlastsCalls, CommitsCalls}
 
 -- the calls one after another, of which some may be lost
 abbrev pub Ran : Rules → State → List (ℕ × Command) → List Answer → State → Type 0
@@ -104,9 +104,9 @@ last_of {A} (z ∷ zs) = by_rest (last_of zs)
     by_rest (inl none) = inr ([], z, ap (λ (l : List A). z ∷ l) none)
     by_rest (inr (ys, y, is)) = inr (z ∷ ys, y, ap (λ (l : List A). z ∷ l) is)
 
-all_split : {A : Type 0} (P : A → Type 0) (ys : List A) (y : A) → AllByRecursion P (ys ++ y ∷ []) → AllByRecursion P ys × P y
-all_split P [] y all = (tt, all.0)
-all_split P (z ∷ ys) y all = let rest = all_split P ys y all.1 in ((all.0, rest.0), rest.1)
+all_split : {A : Type 0} (P : A → Type 0) (xs ys : List A) (y : A) → AllByRecursion P (xs ++ y ∷ ys) → AllByRecursion P xs × P y
+all_split P [] ys y all = (tt, all.0)
+all_split P (x ∷ xs) ys y all = let rest = all_split P xs ys y all.1 in ((all.0, rest.0), rest.1)
 
 sent_next : (k : Rules) (cs : List (ℕ × Command)) (answers : List Answer) (c : ℕ × Command) (a : Answer) → AreOutright k cs answers
     → sent (cs ++ c ∷ []) (answers ++ a ∷ []) ≡ sent cs answers ++ item (is_failed a) c ∷ []
@@ -195,11 +195,18 @@ spares_next k old mid new cs c answers a far runs due clean spares = λ s sound 
     ))
     (far s sound was) (spares b.at b.sound b.shown)
 
+-- ---- what was answered stays
+
+-- the state after the commands behind one that was answered
+behind_answered : (k : Rules) (s : State) (before rest : List Sent) (m : Sent) → m.lost ≡ false → after k s (before ++ m ∷ rest) ≡ after k (outcome_behind k s before m).next rest
+behind_answered k s before rest m answered =
+    after_append k s before (m ∷ rest) ∙ ap (λ (t : State). after k t rest) (met_by k (after k s before) (outcome_behind k s before m).next m false answered refl)
+
 -- the last call was a commit that was answered
 commit_last : (k : Rules) (s at next : State) (c : ℕ × Command) (a : Answer) (ms : List Sent) (mid new : Standing) → at ≡ after k s ms → is_failed a ≡ false
     → IsAnswered a at next (serve k at c.0 c.1)
     → IsCommit (after k s ms) (serve k (after k s ms) c.0 c.1).answer (serve k (after k s ms) c.0 c.1).next
-    → CommitsCall k c.0 c.1 a mid new → IsSound k at → IfClean (KeepsState k at) mid → HasCleanDisk new → LeavesOnly (HoldsState k (after k s (ms ++ item (is_failed a) c ∷ []))) new
+    → CommitsCall k c.0 c.1 a mid new → IsSound k at → IfClean (KeepsState k at) mid → HasCleanDisk new → LeavesOnly (HoldsState k (serve k (after k s ms) c.0 c.1).next) new
 commit_last k s at next c a ms mid new here told answered commit commits sound shown now =
     let same : a ≡ (serve k at c.0 c.1).answer =
     (let it : MatchBool false (next ≡ at) ((a ≡ (serve k at c.0 c.1).answer) × (next ≡ (serve k at c.0 c.1).next)) =
@@ -207,61 +214,71 @@ commit_last k s at next c a ms mid new here told answered commit commits sound s
     let made : IsCommit at a (serve k at c.0 c.1).next =
     subst (λ (b : Answer). IsCommit at b (serve k at c.0 c.1).next) (sym same)
     (subst (λ (t : State). IsCommit t (serve k t c.0 c.1).answer (serve k t c.0 c.1).next) (sym here) commit) in
-    let end : after k s (ms ++ item (is_failed a) c ∷ []) ≡ (serve k at c.0 c.1).next =
-    after_append k s ms (item (is_failed a) c ∷ []) ∙ met_by k (after k s ms) (serve k (after k s ms) c.0 c.1).next (item (is_failed a) c) false told refl
-    ∙ ap (λ (t : State). (serve k t c.0 c.1).next) (sym here) in
-    subst (λ (t : State). LeavesOnly (HoldsState k t) new) (sym end) (commits at sound shown made now)
+    subst (λ (t : State). LeavesOnly (HoldsState k (serve k t c.0 c.1).next) new) here (commits at sound shown made now)
 
--- the last call changes nothing
-still_last : (k : Rules) (s at : State) (c : ℕ × Command) (a : Answer) (ms : List Sent) (mid new : Standing) → at ≡ after k s ms
-    → (serve k (after k s ms) c.0 c.1).next ≡ after k s ms → LeavesOnly (HoldsState k (after k s ms)) mid
-    → Survives mid new (HoldsState k (serve k at c.0 c.1).next) → HasCleanDisk new → LeavesOnly (HoldsState k (after k s (ms ++ item (is_failed a) c ∷ []))) new
-still_last k s at c a ms mid new here same before spares now =
-    let end : after k s (ms ++ item (is_failed a) c ∷ []) ≡ after k s ms =
-    after_append k s ms (item (is_failed a) c ∷ []) ∙ met_unchanged k (after k s ms) (item (is_failed a) c) same in
-    let next : (serve k at c.0 c.1).next ≡ after k s ms = ap (λ (t : State). (serve k t c.0 c.1).next) here ∙ same in
-    subst (λ (t : State). LeavesOnly (HoldsState k t) new) (sym end) (λ trees left. by_call trees next (spares.crash now trees left))
+-- what some commands come to, these and one more do
+comes_on : (k : Rules) (s : State) (ys rest : List Sent) (y : Sent) (at : State) → rest ≡ ys ++ y ∷ [] → StaysOrComesTo k s ys at → StaysOrComesTo k s rest at
+comes_on k s ys rest y at is (inl same) = inl same
+comes_on k s ys rest y at is (inr it) =
+    inr (it.0, it.1 ++ y ∷ [], it.2, is ∙ ap (λ (l : List Sent). l ++ y ∷ []) it.3 ∙ append_assoc it.0 (it.2 ∷ it.1) (y ∷ []), it.4)
+
+-- a crash behind a commit and one more call
+stays_next : (k : Rules) (s at : State) (ys rest : List Sent) (y : Sent) (c : ℕ × Command) (mid new : Standing) → rest ≡ ys ++ y ∷ [] → (serve k at c.0 c.1).next ≡ (outcome_behind k s ys y).next
+    → LeavesOnly (λ trees. (t : State) × StaysOrComesTo k s ys t × HoldsState k t trees) mid → Survives mid new (HoldsState k (serve k at c.0 c.1).next) → HasCleanDisk new
+    → LeavesOnly (λ trees. (t : State) × StaysOrComesTo k s rest t × HoldsState k t trees) new
+stays_next k s at ys rest y c mid new is made before spares now = λ trees left. by_call trees (spares.crash now trees left)
   where
-    by_call : (trees : Trees) → (serve k at c.0 c.1).next ≡ after k s ms → mid.connection.may_leave trees ⊎ HoldsState k (serve k at c.0 c.1).next trees → HoldsState k (after k s ms) trees
-    by_call trees next (inl earlier) = before trees earlier
-    by_call trees next (inr holds) = subst (λ (t : State). HoldsState k t trees) next holds
+    by_call : (trees : Trees) → mid.connection.may_leave trees ⊎ HoldsState k (serve k at c.0 c.1).next trees → (t : State) × StaysOrComesTo k s rest t × HoldsState k t trees
+    by_call trees (inl earlier) = let it = before trees earlier in (it.0, comes_on k s ys rest y it.0 is it.1, it.2)
+    by_call trees (inr holds) = ((serve k at c.0 c.1).next, inr (ys, [], y, is, made), holds)
 
--- what stays of a last commit behind one more call
-commits_next : (k : Rules) (old mid new : Standing) (cs : List (ℕ × Command)) (c : ℕ × Command) (answers : List Answer) (a : Answer)
-    → CommitsCalls k cs answers old mid → RunsFrom k old mid cs answers → AreOutright k cs answers → (HasCleanDisk new → HasCleanDisk mid)
-    → ServesCall k c.0 c.1 a mid new → SparesCall k c.0 c.1 mid new → CommitsCall k c.0 c.1 a mid new → CommitsCalls k (cs ++ c ∷ []) (answers ++ a ∷ []) old new
-commits_next k old mid new cs c answers a far runs due clean serves spares commits = λ s sound was before rest m last now.
+-- what stays of each commit behind one more call
+outlasts_next : (k : Rules) (old mid new : Standing) (cs : List (ℕ × Command)) (c : ℕ × Command) (answers : List Answer) (a : Answer)
+    → OutlastsCalls k cs answers old mid → RunsFrom k old mid cs answers → AreOutright k cs answers → (HasCleanDisk new → HasCleanDisk mid)
+    → ServesCall k c.0 c.1 a mid new → SparesCall k c.0 c.1 mid new → CommitsCall k c.0 c.1 a mid new → OutlastsCalls k (cs ++ c ∷ []) (answers ++ a ∷ []) old new
+outlasts_next k old mid new cs c answers a far runs due clean serves spares commits = λ s sound was before rest m made now.
     let b = between k old mid cs answers runs s sound was in
-    let ms = sent cs answers in
-    let x = item (is_failed a) c in
-    let here : b.at ≡ after k s ms = (ran_served k s cs answers b.at (b.ran (clean now))).state in
-    let more : sent (cs ++ c ∷ []) (answers ++ a ∷ []) ≡ ms ++ x ∷ [] = sent_next k cs answers c a due in
-    let served = serves now b.at b.sound b.shown in
-    subst (λ (l : List Sent). LeavesOnly (HoldsState k (after k s l)) new) (sym more)
-    (by_rest s sound was before rest m last now b here more served (last_of rest))
+    let here : b.at ≡ after k s (sent cs answers) = (ran_served k s cs answers b.at (b.ran (clean now))).state in
+    by_rest s sound was before rest m made now b here (sym (sent_next k cs answers c a due) ∙ made.list) (serves now b.at b.sound b.shown) (last_of rest)
   where
-    by_rest : (s : State) → IsSound k s → IfClean (KeepsState k s) old → (before rest : List Sent) (m : Sent) → IsLastCommit k s (sent (cs ++ c ∷ []) (answers ++ a ∷ [])) before rest m → HasCleanDisk new
-        → (b : Between k s mid cs answers) → b.at ≡ after k s (sent cs answers) → sent (cs ++ c ∷ []) (answers ++ a ∷ []) ≡ sent cs answers ++ item (is_failed a) c ∷ []
+    by_rest : (s : State) → IsSound k s → IfClean (KeepsState k s) old → (before rest : List Sent) (m : Sent) → IsAnsweredCommit k s (sent (cs ++ c ∷ []) (answers ++ a ∷ [])) before rest m → HasCleanDisk new
+        → (b : Between k s mid cs answers) → b.at ≡ after k s (sent cs answers) → sent cs answers ++ item (is_failed a) c ∷ [] ≡ before ++ m ∷ rest
         → IsServed k b.at c.0 c.1 a new → (rest ≡ []) ⊎ ((ys : List Sent) × (y : Sent) × (rest ≡ ys ++ y ∷ []))
-        → LeavesOnly (HoldsState k (after k s (sent cs answers ++ item (is_failed a) c ∷ []))) new
-    by_rest s sound was before rest m last now b here more served (inl none) =
-        let ends = snoc_ends (sent cs answers) before (item (is_failed a) c) m (sym more ∙ last.list ∙ ap (λ (l : List Sent). before ++ m ∷ l) none) in
-        commit_last k s b.at served.0 c a (sent cs answers) mid new here (ap (λ (n : Sent). n.lost) ends.1 ∙ last.answered) served.1
-        (subst (λ (l : List Sent). IsCommit (after k s l) (serve k (after k s l) c.0 c.1).answer (serve k (after k s l) c.0 c.1).next) (sym ends.0)
-        (subst (λ (n : Sent). IsCommit (after k s before) (serve k (after k s before) n.item.at n.item.command).answer (serve k (after k s before) n.item.at n.item.command).next) (sym ends.1) last.commit))
-        commits b.sound b.shown now
-    by_rest s sound was before rest m last now b here more served (inr (ys, y, is)) =
+        → LeavesOnly (λ trees. (at : State) × StaysOrComesTo k (outcome_behind k s before m).next rest at × HoldsState k at trees) new
+    by_rest s sound was before rest m made now b here list served (inl none) =
+        let ends = snoc_ends (sent cs answers) before (item (is_failed a) c) m (list ∙ ap (λ (l : List Sent). before ++ m ∷ l) none) in
+        let o = outcome_behind k s before m in
+        let same : (outcome_behind k s (sent cs answers) (item (is_failed a) c)).next ≡ o.next = ap₂ (λ (l : List Sent) (n : Sent). (outcome_behind k s l n).next) ends.0 ends.1 in
+        let left = commit_last k s b.at served.0 c a (sent cs answers) mid new here (ap (λ (n : Sent). n.lost) ends.1 ∙ made.answered) served.1
+        (subst (λ (l : List Sent). IsCommit (after k s l) (outcome_behind k s l (item (is_failed a) c)).answer (outcome_behind k s l (item (is_failed a) c)).next) (sym ends.0)
+        (subst (λ (n : Sent). IsCommit (after k s before) (outcome_behind k s before n).answer (outcome_behind k s before n).next) (sym ends.1) made.commit))
+        commits b.sound b.shown now in
+        λ trees may. (o.next, inl refl, subst (λ (t : State). HoldsState k t trees) same (left trees may))
+    by_rest s sound was before rest m made now b here list served (inr (ys, y, is)) =
         let ends = snoc_ends (sent cs answers) (before ++ m ∷ ys) (item (is_failed a) c) y
-        (sym more ∙ last.list ∙ ap (λ (l : List Sent). before ++ m ∷ l) is ∙ sym (append_assoc before (m ∷ ys) (y ∷ []))) in
-        let o = serve k (after k s before) m.item.at m.item.command in
-        let quiet = all_split (λ (n : Sent). (serve k o.next n.item.at n.item.command).next ≡ o.next) ys y (subst (λ (l : List Sent). AllByRecursion (λ (n : Sent). (serve k o.next n.item.at n.item.command).next ≡ o.next) l) is last.unchanged) in
-        let till : after k s (sent cs answers) ≡ o.next =
-        ap (λ (l : List Sent). after k s l) ends.0 ∙ after_append k s before (m ∷ ys)
-        ∙ ap (λ (t : State). after k t ys) (met_by k (after k s before) o.next m false last.answered refl) ∙ after_unchanged k o.next ys quiet.0 in
-        let same : (serve k o.next c.0 c.1).next ≡ o.next = subst (λ (n : Sent). (serve k o.next n.item.at n.item.command).next ≡ o.next) (sym ends.1) quiet.1 in
-        still_last k s b.at c a (sent cs answers) mid new here (subst (λ (t : State). (serve k t c.0 c.1).next ≡ t) (sym till) same)
-        (far s sound was before ys m (record { list = ends.0; answered = last.answered; commit = last.commit; unchanged = quiet.0 }) (clean now))
+        (list ∙ ap (λ (l : List Sent). before ++ m ∷ l) is ∙ sym (append_assoc before (m ∷ ys) (y ∷ []))) in
+        let o = outcome_behind k s before m in
+        let till : b.at ≡ after k o.next ys = here ∙ ap (λ (l : List Sent). after k s l) ends.0 ∙ behind_answered k s before ys m made.answered in
+        stays_next k o.next b.at ys rest y c mid new is
+        (ap (λ (t : State). (serve k t c.0 c.1).next) till ∙ ap (λ (n : Sent). (outcome_behind k o.next ys n).next) ends.1)
+        (far s sound was before ys m (record { list = ends.0; answered = made.answered; commit = made.commit }) (clean now))
         (spares b.at b.sound b.shown) now
+
+-- commands that change nothing come to nothing else
+unmoved : (k : Rules) (s : State) (ms : List Sent) (at : State) → AllByRecursion (λ n. (serve k s n.item.at n.item.command).next ≡ s) ms → StaysOrComesTo k s ms at → at ≡ s
+unmoved k s ms at all (inl same) = same
+unmoved k s ms at all (inr it) =
+    let quiet = all_split (λ (n : Sent). (serve k s n.item.at n.item.command).next ≡ s) it.0 it.1 it.2 (subst (λ (l : List Sent). AllByRecursion (λ (n : Sent). (serve k s n.item.at n.item.command).next ≡ s) l) it.3 all) in
+    it.4 ∙ ap (λ (t : State). (serve k t it.2.item.at it.2.item.command).next) (after_unchanged k s it.0 quiet.0) ∙ quiet.1
+
+-- where behind a commit no command changes the state, it is that after the whole list
+last_stays : (k : Rules) (old new : Standing) (cs : List (ℕ × Command)) (answers : List Answer) → OutlastsCalls k cs answers old new → CommitsCalls k cs answers old new
+last_stays k old new cs answers stays = λ s sound was before rest m last now trees left.
+    let o = outcome_behind k s before m in
+    let it = stays s sound was before rest m last.made now trees left in
+    let end : after k s (sent cs answers) ≡ o.next =
+    ap (λ (l : List Sent). after k s l) last.made.list ∙ behind_answered k s before rest m last.made.answered ∙ after_unchanged k o.next rest last.unchanged in
+    subst (λ (t : State). HoldsState k t trees) (unmoved k o.next rest it.0 last.unchanged it.1 ∙ sym end) it.2
 
 -- so many commands have run, with as many answers after those that were there
 pub record SoFar (k : Rules) (old new : Standing) (cs : List (ℕ × Command)) (held answers : List Answer) : Type 0 where
@@ -270,7 +287,7 @@ pub record SoFar (k : Rules) (old new : Standing) (cs : List (ℕ × Command)) (
   pub due : AreOutright k cs given
   pub runs : RunsFrom k old new cs given
   pub spares : SparesCalls k cs given old new
-  pub commits : CommitsCalls k cs given old new
+  pub outlasts : OutlastsCalls k cs given old new
   pub clean : HasCleanDisk new → HasCleanDisk old
 
 -- what is told of a call
@@ -288,7 +305,7 @@ none_so_far k s cs held answers same = record {
   due = tt;
   runs = λ now t sound was. (t, refl, sound, was now);
   spares = λ t sound was. record { clean = omega arith; shield = λ h. h; counts = omega arith; limit = refl; closes = λ now h. inl h; crash = λ now trees h. inl h };
-  commits = λ t sound was before rest m last now. absurd (omega (arith, ap length last.list, length-append before (m ∷ rest)));
+  outlasts = λ t sound was before rest m made now. absurd (omega (arith, ap length made.list, length-append before (m ∷ rest)));
   clean = λ now. now;
 }
 
@@ -300,7 +317,7 @@ so_far_next k old mid new cs c held answers more a far pushed clean call = recor
   due = outright_next k cs far.given c a far.due call.due;
   runs = runs_next k old mid new cs c far.given a far.runs clean call.serves call.fits;
   spares = spares_next k old mid new cs c far.given a far.spares far.runs far.due clean call.spares;
-  commits = commits_next k old mid new cs c far.given a far.commits far.runs far.due clean call.serves call.spares call.commits;
+  outlasts = outlasts_next k old mid new cs c far.given a far.outlasts far.runs far.due clean call.serves call.spares call.commits;
   clean = λ now. far.clean (clean now);
 }
 
@@ -364,7 +381,8 @@ ran_all laws k old cs answers new sound ran =
 
 -- over the store, the answers and the state that the tables show then
 pub run_whole : (laws : ListLaws) (k : Rules) (old new : Standing) (cs : List (ℕ × Command)) (i : ℕ) (held answers : List Answer) → length cs ≤ i → SoFar k old new (take i cs) held answers
-    → (told : List Answer) × (answers ≡ held ++ told) × AreOutright k cs told × RunsCalls k cs told old new × SparesCalls k cs told old new × CommitsCalls k cs told old new
+    → (told : List Answer) × (answers ≡ held ++ told) × AreOutright k cs told × RunsCalls k cs told old new × SparesCalls k cs told old new
+    × OutlastsCalls k cs told old new × CommitsCalls k cs told old new
 run_whole laws k old new cs i held answers all far =
     let whole : SoFar k old new cs held answers = subst (λ (xs : List (ℕ × Command)). SoFar k old new xs held answers) (take_all i cs all) far in (
       whole.given,
@@ -374,5 +392,6 @@ run_whole laws k old new cs i held answers all far =
           let it = whole.runs now s sound was in
           (it.0, ran_all laws k s cs whole.given it.0 sound it.1, it.2, it.3),
       whole.spares,
-      whole.commits,
+      whole.outlasts,
+      last_stays k old new cs whole.given whole.outlasts,
     )

@@ -1,6 +1,6 @@
 -- Who sent a manifest, by the Primary that is kept and by the rows of its vehicle.
-use Rattle.std.proofs.Common.{◌≡◌, ℕ, Bool, true, false, Option, None, Some, Result, Ok, Err, inl, inr, refl, sym, ap, ◌∙◌, subst}
-use Rattle.std.specs.Prelude.{⊤, IfSome, MatchBool, is_some, option_and_then}
+use Rattle.std.proofs.Common.{◌≡◌, ℕ, List, Bool, true, false, Option, None, Some, Result, Ok, Err, inl, inr, refl, sym, ap, ◌∙◌, subst}
+use Rattle.std.specs.Prelude.{⊤, ◌⊎◌, IfSome, MatchBool, is_some, option_and_then}
 use Rattle.std.specs.FinMap as table
 use Rattle.up_canon.specs.Names.{Table}
 use Rattle.up_canon.specs.Refusals.{is_memory}
@@ -9,6 +9,11 @@ use Rattle.up_canon.specs.declared.refusal.Refusal.{Refusal}
 use Rattle.up_canon.specs.declared.refusal.Refusal.TheVariants.{Memory, UnknownVehicle}
 use Rattle.up_sign.specs.Schemes.{Rules}
 use Rattle.up_manifest.specs.declared.manifest.Incoming.{Incoming}
+use Rattle.up_manifest.specs.Manifests.{incoming_in}
+use Rattle.up_machine.specs.declared.answer.Answer.{Answer}
+use Rattle.up_machine.specs.declared.answer.Answer.TheVariants.{Refused}
+use Rattle.up_machine.specs.declared.command.Command.{Command}
+use Rattle.up_machine.specs.declared.command.Command.TheVariants.{Found, Rotate, AddImage, Refresh, AddVehicle, ReplaceEcu, OpenCampaign, CloseCampaign, Deliver, Fetch}
 use Rattle.up_machine.specs.declared.primary.Primary.{Primary}
 use Rattle.up_machine.specs.declared.rows.Founding.{Founding}
 use Rattle.up_machine.specs.declared.rows.VehicleRows.{VehicleRows}
@@ -19,8 +24,9 @@ use Rattle.up_machine.specs.Primaries.{GivesSent, check_sent}
 use Rattle.up_machine.specs.Rows.{founding_row, vehicle_rows}
 use Rattle.up_machine.proofs.Senders.{no_vehicle, refused_first}
 use Rattle.up_desk.specs.declared.catalog.Catalog.{Catalog}
-use Rattle.up_desk.specs.Delivering.{GivesSenderRows, GivesVehicle, RefusesRead, RefusesUnread, refused_by, refused_in}
-use Rattle.up_desk.specs.Serving.{is_fault}
+use Rattle.up_desk.specs.Delivering.{AnswersRead, GivesSenderRows, GivesVehicle, RefusesRead, RefusesUnread, forged_by, refused_by, refused_in, refused_read}
+use Rattle.up_desk.specs.Serving.{is_fault, told}
+use Rattle.up_desk.specs.Standing.{kept_for}
 
 -- ---- what the kept Primary refuses
 
@@ -89,6 +95,46 @@ unread_body A o store read incoming r h reads = by_refusal o
     by_refusal : (o : Option Refusal) → IfSome o (RefusesRead {A = A} store store (Err r))
     by_refusal None = tt
     by_refusal (Some q) = record { refused = inr (ap (λ x. Err x) (by_memory (is_memory r) refl h)); unread = refl }
+
+-- ---- the command that delivers it
+
+-- no other command delivers a manifest
+pub unforged : (k : Rules) (o : Option Catalog) (c d : Command) (P : Refusal → Type 0) → c ≡ d → forged_by k o d ≡ None → IfSome (forged_by k o c) P
+unforged k o c d P is none = subst (λ (e : Command). IfSome (forged_by k o e) P) (sym is) (subst (λ r. IfSome r P) (sym none) tt)
+
+pub delivered_forged : (k : Rules) (o : Option Catalog) (c : Command) (body : List ℕ) (P : Refusal → Type 0) → c ≡ Deliver body
+    → ((incoming : Incoming) → incoming_in body ≡ Ok incoming → IfSome (refused_in k o incoming) P) → IfSome (forged_by k o c) P
+delivered_forged k o c body P is due = subst (λ (d : Command). IfSome (forged_by k o d) P) (sym is) (by_read (incoming_in body) refl)
+  where
+    by_read : (read : Result Incoming Refusal) → incoming_in body ≡ read → IfSome (refused_read k o read) P
+    by_read (Ok incoming) reads = due incoming reads
+    by_read (Err r) reads = tt
+
+-- what is dropped before other commands refuses no manifest
+by_command : (k : Rules) (c : Command) (o : Option Catalog) (P : Refusal → Type 0) → IfSome (forged_by k (kept_for c o) c) P → IfSome (forged_by k o c) P
+by_command k (Deliver body) o P h = h
+by_command k (Fetch repository name) o P h = tt
+by_command k (Found keys) o P h = tt
+by_command k (Rotate keys) o P h = tt
+by_command k (AddImage image) o P h = tt
+by_command k (Refresh version) o P h = tt
+by_command k (AddVehicle new) o P h = tt
+by_command k (ReplaceEcu new) o P h = tt
+by_command k (OpenCampaign campaign) o P h = tt
+by_command k (CloseCampaign name) o P h = tt
+
+pub kept_forged : (k : Rules) (c : Command) (old mid : Option Catalog) (P : Refusal → Type 0) → mid ≡ kept_for c old → IfSome (forged_by k mid c) P → IfSome (forged_by k old c) P
+kept_forged k c old mid P is h = by_command k c old P (subst (λ o. IfSome (forged_by k o c) P) is h)
+
+-- the refusal as an answer
+pub forged_told : {S : Type 0} (o : Option Refusal) (old new : S) (given : Result Answer Refusal) (answer : Answer) → answer ≡ told given → IfSome o (RefusesRead old new given)
+    → IfSome o (AnswersRead old new answer)
+forged_told None old new given answer is h = tt
+forged_told (Some r) old new given answer is h = record { refused = by_refusal h.refused; unread = h.unread }
+  where
+    by_refusal : (given ≡ Err r) ⊎ (given ≡ Err Memory) → (answer ≡ Refused r) ⊎ (answer ≡ Refused Memory)
+    by_refusal (inl due) = inl (is ∙ ap told due)
+    by_refusal (inr due) = inr (is ∙ ap told due)
 
 -- ---- the rows of its vehicle
 

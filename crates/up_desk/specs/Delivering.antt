@@ -8,6 +8,11 @@ use Rattle.up_canon.specs.declared.refusal.Refusal.{Refusal}
 use Rattle.up_canon.specs.declared.refusal.Refusal.TheVariants.{Memory, UnknownVehicle}
 use Rattle.up_sign.specs.Schemes.{Rules}
 use Rattle.up_manifest.specs.declared.manifest.Incoming.{Incoming}
+use Rattle.up_manifest.specs.Manifests.{incoming_in}
+use Rattle.up_machine.specs.declared.answer.Answer.{Answer}
+use Rattle.up_machine.specs.declared.answer.Answer.TheVariants.{Refused}
+use Rattle.up_machine.specs.declared.command.Command.{Command}
+use Rattle.up_machine.specs.declared.command.Command.TheVariants.{Deliver}
 use Rattle.up_machine.specs.declared.decision.Delivered.{Delivered}
 use Rattle.up_machine.specs.declared.primary.Primary.{Primary}
 use Rattle.up_machine.specs.declared.rows.Founding.{Founding}
@@ -35,6 +40,16 @@ abbrev pub refused_in : Rules → Option Catalog → Incoming → Option Refusal
 refused_in k None incoming = None
 refused_in k (Some c) incoming = refused_by k c.primaries incoming
 
+-- of a manifest that was read, or not
+abbrev pub refused_read : Rules → Option Catalog → Result Incoming Refusal → Option Refusal
+refused_read k catalog (Ok incoming) = refused_in k catalog incoming
+refused_read k catalog (Err r) = None
+
+-- of the manifest that a command delivers
+abbrev pub forged_by : Rules → Option Catalog → Command → Option Refusal
+forged_by k catalog (Deliver body) = refused_read k catalog (incoming_in body)
+forged_by k catalog c = None
+
 -- it is refused so, whatever the database does, and nothing is read of the tables
 pub record RefusesUnread {S A : Type 0} (old new : S) (result : Result A Refusal) (r : Refusal) : Type 0 where
   pub refused : result ≡ Err r
@@ -43,6 +58,11 @@ pub record RefusesUnread {S A : Type 0} (old new : S) (result : Result A Refusal
 -- the same, but that there may be no memory to read its body
 pub record RefusesRead {S A : Type 0} (old new : S) (result : Result A Refusal) (r : Refusal) : Type 0 where
   pub refused : (result ≡ Err r) ⊎ (result ≡ Err Memory)
+  pub unread : new ≡ old
+
+-- the same, told as an answer
+pub record AnswersRead {S : Type 0} (old new : S) (answer : Answer) (r : Refusal) : Type 0 where
+  pub refused : (answer ≡ Refused r) ⊎ (answer ≡ Refused Memory)
   pub unread : new ≡ old
 
 -- whether the Primary of the vehicle is kept, and so sent the manifest, or the refusal that is due

@@ -1,5 +1,5 @@
 -- Lists of commands, answered one after another.
-use Rattle.std.specs.Prelude.{◌≡◌, ◌≢◌, ℕ, false, List, [], ◌∷◌, ◌++◌, Option, Some, None, if◌then◌else◌, map, length, ⊤, IfSome}
+use Rattle.std.specs.Prelude.{◌≡◌, ◌≢◌, ◌⊎◌, ℕ, false, List, [], ◌∷◌, ◌++◌, Option, Some, None, if◌then◌else◌, map, length, ⊤, IfSome}
 use Rattle.std.specs.FinMap as table
 use Rattle.std.specs.List.{AllByRecursion}
 use Rattle.up_canon.specs.Names.{Name}
@@ -82,11 +82,24 @@ abbrev pub SparesCalls : Rules → List (ℕ × Command) → List Answer → Sta
 SparesCalls k cs answers old new = (s : State) → IsSound k s → IfClean (KeepsState k s) old
     → Survives old new (λ trees. (at : State) × ComesTo k s (sent cs answers) at × HoldsState k at trees)
 
--- a commit that was answered, and behind it no command that changes the state
-pub record IsLastCommit (k : Rules) (s : State) (ms before rest : List Sent) (m : Sent) : Type 0 where
+-- a commit that was answered
+pub record IsAnsweredCommit (k : Rules) (s : State) (ms before rest : List Sent) (m : Sent) : Type 0 where
   pub list : ms ≡ before ++ m ∷ rest
   pub answered : m.lost ≡ false
   pub commit : IsCommit (after k s before) (outcome_behind k s before m).answer (outcome_behind k s before m).next
+
+-- this state, or the one after some of the first commands from it on
+abbrev pub StaysOrComesTo : Rules → State → List Sent → State → Type 0
+StaysOrComesTo k s ms at = (at ≡ s) ⊎ ComesTo k s ms at
+
+-- what was answered stays: behind each commit that was answered a crash leaves the state behind it, or the one after some of the commands that follow
+abbrev pub OutlastsCalls : Rules → List (ℕ × Command) → List Answer → Standing → Standing → Type 0
+OutlastsCalls k cs answers old new = (s : State) → IsSound k s → IfClean (KeepsState k s) old → (before rest : List Sent) (m : Sent) → IsAnsweredCommit k s (sent cs answers) before rest m
+    → IfClean (LeavesOnly (λ trees. (at : State) × StaysOrComesTo k (outcome_behind k s before m).next rest at × HoldsState k at trees)) new
+
+-- a commit that was answered, and behind it no command that changes the state
+pub record IsLastCommit (k : Rules) (s : State) (ms before rest : List Sent) (m : Sent) : Type 0 where
+  pub made : IsAnsweredCommit k s ms before rest m
   pub unchanged : AllByRecursion (λ n. (serve k (outcome_behind k s before m).next n.item.at n.item.command).next ≡ (outcome_behind k s before m).next) rest
 
 -- where the last commit was answered, a crash leaves the state after the whole list alone

@@ -1,6 +1,6 @@
 -- What a desk stands on: the connection to its tables, and what it keeps of them in memory. The tables show a state to a desk where they
 -- show it, and what the desk keeps is of that state. A new desk keeps nothing, so to it they show what they show.
-use Rattle.std.specs.Prelude.{◌≡◌, ⊤, Bool, true, false, MatchBool, if◌then◌else◌, Option, Some, None, Result, IsTrue}
+use Rattle.std.specs.Prelude.{◌≡◌, ◌≤◌, ℕ, ⊤, Bool, true, false, MatchBool, if◌then◌else◌, Option, Some, None, Result, IsTrue}
 use Rattle.std.specs.FinMap as table
 use Rattle.sqlite.specs.Held.{Held}
 use Rattle.sqlite.specs.Held as holding
@@ -47,10 +47,18 @@ Fits s (Some c) = IsOf s c
 abbrev pub StayKept : Table Primary → Table Primary → Type 0
 StayKept old new = (vehicle : Name) (primary : Primary) → table.get old vehicle ≡ Some primary → table.get new vehicle ≡ Some primary
 
--- Primaries of further vehicles may be kept, and all else stays
+-- of how many vehicles the Primaries are kept at most
+abbrev pub most_primaries : ℕ
+most_primaries = 65536
+
+abbrev pub AreFew : Table Primary → Type 0
+AreFew kept = table.len kept ≤ most_primaries
+
+-- Primaries of further vehicles may be kept, but of no more than that, and all else stays
 pub record KeepsMore (old new : Catalog) : Type 0 where
   pub rest : new ≡ record old { primaries = new.primaries }
   pub primaries : StayKept old.primaries new.primaries
+  pub few : AreFew old.primaries → AreFew new.primaries
 
 -- what is kept stays, whatever is answered, and Primaries may come to it; it may be loaded where nothing is
 abbrev pub StaysLoaded : Option Catalog → Option Catalog → Type 0
@@ -63,10 +71,11 @@ abbrev pub IsLoaded : State → Option Catalog → Type 0
 IsLoaded s None = founding_row s ≡ None
 IsLoaded s (Some c) = IsOf s c
 
--- whatever the state: the keys can sign, and the hashed ones are those of the Director's roles
+-- whatever the state: the keys can sign, the hashed ones are those of the Director's roles, and not too many Primaries are kept
 pub record CanDecide (k : Rules) (c : Catalog) : Type 0 where
   pub keys : IsTrue (founding_fits k c.founding)
   pub hashed : c.hashed ≡ hashed_roles k c.founding.keys.director
+  pub few : AreFew c.primaries
 
 -- these commands leave what is kept as it is of; before every other it is dropped
 abbrev pub keeps_catalog : Command → Bool

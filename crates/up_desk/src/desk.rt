@@ -1,15 +1,17 @@
 //! The two repositories under one scheme.
-ghost use Rattle.std.specs.Prelude.{◌≡◌, ◌++◌, List, IfSome, OnOk, OnErr, IsTrue};
+ghost use Rattle.std.specs.Prelude.{◌≡◌, ◌≤◌, ◌++◌, List, IfSome, OnOk, OnErr, IsTrue};
 ghost use Rattle.std.specs.List.{AllByRecursion};
+ghost use Rattle.up_canon.specs.Moments.{last_command_moment};
 ghost use Rattle.up_machine.specs.declared.answer.Answer.{Answer};
 ghost use Rattle.up_machine.specs.declared.answer.Answer.TheVariants.{Refused};
 ghost use Rattle.up_machine.specs.Commands.{opens_running};
 ghost use Rattle.up_machine.specs.Reads.{ecus_of as ecus_in, version_of as version_in, installed as installed_in, assigned_to};
 ghost use Rattle.up_machine.specs.Rows.{vehicle_rows};
-ghost use Rattle.up_desk.specs.Runs.{AreOutright, CommitsCalls, RunsCalls, SparesCalls};
+ghost use Rattle.up_desk.specs.Runs.{AreOutright, CommitsCalls, OutlastsCalls, RunsCalls, SparesCalls};
 ghost use Rattle.up_desk.specs.Calls.{CommitsCall, ServesCall, SparesCall};
+ghost use Rattle.up_desk.specs.Delivering.{AnswersRead, forged_by};
 ghost use Rattle.up_desk.specs.Serving.{outright as outright_of};
-ghost use Rattle.up_desk.specs.Standing.{HasCleanDisk, Reads, Tells, bare, state};
+ghost use Rattle.up_desk.specs.Standing.{HasCleanDisk, Reads, StaysLoaded, Tells, bare, kept_for, state};
 
 use crate::catalog::Catalog;
 use crate::dispatch::{answer_of, dispatch, keeps_limits};
@@ -90,7 +92,9 @@ impl<K: Scheme, D: Alter> Desk<K, D> {
     /// that was kept for it, and each kept reply stays. Where memory or the database refuses (`Refused(Memory)`,
     /// `Refused(Store)`) nothing changes; a moment past 2100-01-01T00:00:00Z, a body of more than 262,144 bytes and a key of a
     /// new vehicle or ECU that doesn't fit are refused as that whatever they do. Whatever is answered, a crash leaves what it could
-    /// leave before, or the next state; after `Done` and a reply to a newly accepted manifest that state alone.
+    /// leave before, or the next state; after `Done` and a reply to a newly accepted manifest that state alone. What is kept in
+    /// memory stays over deliveries and fetches. A manifest that the kept Primary of its vehicle didn't send is refused as that, or
+    /// for want of memory, and nothing is read of the tables.
     pub fn call(&mut self, alloc: Global, at: u64, command: &Command) -> Answer
         requires { IsTrue (opens_running command.now) }
         ensures served { ServesCall (K.rules self.old.scheme) at command.now result (state D.Store self.old.store) (state D.Store self.new.store) }
@@ -98,6 +102,8 @@ impl<K: Scheme, D: Alter> Desk<K, D> {
         ensures crash { SparesCall (K.rules self.old.scheme) at command.now (state D.Store self.old.store) (state D.Store self.new.store) }
         ensures durable { CommitsCall (K.rules self.old.scheme) at command.now result (state D.Store self.old.store) (state D.Store self.new.store) }
         ensures clean { HasCleanDisk (state D.Store self.new.store) → HasCleanDisk (state D.Store self.old.store) }
+        ensures kept { StaysLoaded (kept_for command.now self.old.store.catalog) self.new.store.catalog }
+        ensures forged { at ≤ last_command_moment → IfSome (forged_by (K.rules self.old.scheme) self.old.store.catalog command.now) (AnswersRead self.old.store.held self.new.store.held result) }
         ensures scheme { self.new.scheme ≡ self.old.scheme }
     {
         keeps_limits(command);
@@ -119,8 +125,10 @@ impl<K: Scheme, D: Alter> Desk<K, D> {
     /// Answers commands one after another, each with its moment, and appends one answer for each: where some commands are
     /// repeats or fail (are answered `Refused(Memory)` or `Refused(Store)`), the state is the plain machine's after the list
     /// without these, and each command that didn't fail has the expected answer; each kept reply stays. Only a fault of the
-    /// disk shuts the connection. A crash leaves what it could leave before, or the state after some of the first commands;
-    /// where the last commit was answered, the state after all of them. An error means that nothing was done.
+    /// disk shuts the connection. A crash leaves what it could leave before, or the state after some of the first commands. What
+    /// was answered stays: behind each commit that was answered (`Done`, or a reply to a newly accepted manifest) a crash leaves
+    /// the state behind it, or the one after some of the commands that follow; where none of these changes the state, the
+    /// state after all of them. An error means that nothing was done.
     pub fn run(
         &mut self,
         alloc: Global,
@@ -131,6 +139,7 @@ impl<K: Scheme, D: Alter> Desk<K, D> {
         ensures ran { OnOk result ((told : List Answer) × (answers.new.items ≡ answers.old.items ++ told) × AreOutright (K.rules self.old.scheme) commands.now told
             × RunsCalls (K.rules self.old.scheme) commands.now told (state D.Store self.old.store) (state D.Store self.new.store)
             × SparesCalls (K.rules self.old.scheme) commands.now told (state D.Store self.old.store) (state D.Store self.new.store)
+            × OutlastsCalls (K.rules self.old.scheme) commands.now told (state D.Store self.old.store) (state D.Store self.new.store)
             × CommitsCalls (K.rules self.old.scheme) commands.now told (state D.Store self.old.store) (state D.Store self.new.store)) }
         ensures err { OnErr result ((answers.new.items ≡ answers.old.items) × (self.new ≡ self.old)) }
         ensures clean { HasCleanDisk (state D.Store self.new.store) → HasCleanDisk (state D.Store self.old.store) }

@@ -9,7 +9,8 @@ ghost use Rattle.up_machine.specs.Sound.{IsSound};
 ghost use Rattle.up_machine.specs.State.{State};
 ghost use Rattle.up_store.specs.Connections.{KeepsState};
 ghost use Rattle.up_tables.specs.Stands.{IfClean};
-ghost use Rattle.up_desk.specs.Standing.{CanDecide, Fits, StillFits, kept_for};
+ghost use Rattle.up_desk.specs.Delivering.{RefusesRead, forged_by};
+ghost use Rattle.up_desk.specs.Standing.{CanDecide, Fits, StaysLoaded, StillFits, kept_for};
 ghost use Rattle.up_desk.specs.Serving.{Serves, outcome_due, outright as outright_of, outright_in_time, told};
 
 use crate::campaigns::{close, open};
@@ -31,7 +32,8 @@ use up_sign::scheme::Scheme;
 use up_store::store::Store;
 
 /// What a command comes to, whose moment is checked first. What is kept in memory is dropped before every command but a delivery
-/// and a fetch.
+/// and a fetch, over which it stays, whatever is answered. Of a manifest in time that the kept Primary of its vehicle didn't send,
+/// nothing is read of the tables.
 pub fn dispatch<K: Scheme, D: Alter>(
     store: &mut Store<D>,
     catalog: &mut Option<Catalog>,
@@ -46,7 +48,9 @@ pub fn dispatch<K: Scheme, D: Alter>(
         → Serves (K.rules scheme.now) s (state D.Store store.old) (state D.Store store.new) result (outcome_due (K.rules scheme.now) s at command.now) }
     ensures outright { IfSome (outright_of (K.rules scheme.now) at command.now) (λ r. result ≡ Err r) }
     ensures fits { HasCleanDisk (state D.Store store.new) → (k : Rules) (s : State) → IfClean (KeepsState k s) (state D.Store store.old) → Fits s catalog.old → StillFits s command.now catalog.new }
+    ensures kept { StaysLoaded (kept_for command.now catalog.old) catalog.new }
     ensures can { IfSome catalog.new (CanDecide (K.rules scheme.now)) }
+    ensures forged { at ≤ last_command_moment → IfSome (forged_by (K.rules scheme.now) catalog.old command.now) (RefusesRead store.old store.new result) }
 {
     drop_before(command, catalog);
     match command_moment(at) {
@@ -72,7 +76,9 @@ fn dispatch_at<K: Scheme, D: Alter>(
         → Serves (K.rules scheme.now) s (state D.Store store.old) (state D.Store store.new) result (outcome_due (K.rules scheme.now) s at command.now) }
     ensures outright { IfSome (outright_in_time (K.rules scheme.now) command.now) (λ r. result ≡ Err r) }
     ensures fits { HasCleanDisk (state D.Store store.new) → (k : Rules) (s : State) → IfClean (KeepsState k s) (state D.Store store.old) → Fits s catalog.old → StillFits s command.now catalog.new }
+    ensures kept { StaysLoaded (kept_for command.now catalog.old) catalog.new }
     ensures can { IfSome catalog.new (CanDecide (K.rules scheme.now)) }
+    ensures forged { IfSome (forged_by (K.rules scheme.now) catalog.old command.now) (RefusesRead store.old store.new result) }
 {
     match command {
         Command::Found(keys) => found(store, alloc, scheme, at, keys),

@@ -1,6 +1,6 @@
 //! Who sent a manifest. The Primary of a vehicle is kept in memory from the first manifest on that it sent, so that one that is
 //! forged later is refused before a row is read.
-ghost use Rattle.std.specs.Prelude.{◌≡◌, None, Some, Ok, Err, IfOk, IfSome, IsTrue, MatchBool, ⊤};
+ghost use Rattle.std.specs.Prelude.{◌≡◌, ◌≤◌, ◌+◌, None, Some, Ok, Err, IfOk, IfSome, IsTrue, MatchBool, ⊤};
 ghost use Rattle.std.specs.FinMap as table;
 ghost use Rattle.sqlite.specs.Held.{state};
 ghost use Rattle.sqlite.specs.State.{HasCleanDisk};
@@ -13,7 +13,7 @@ ghost use Rattle.up_store.specs.Connections.{KeepsState};
 ghost use Rattle.up_tables.specs.Stands.{IfClean};
 ghost use Rattle.up_desk.specs.Delivering.{GivesKept, GivesSenderRows, GivesVehicle, RefusesUnread, refused_by};
 ghost use Rattle.up_desk.specs.Serving.{Reads};
-ghost use Rattle.up_desk.specs.Standing.{ArePrimaries, IsOf, KeepsMore, StayKept};
+ghost use Rattle.up_desk.specs.Standing.{AreFew, ArePrimaries, IsOf, KeepsMore, StayKept};
 
 use crate::catalog::Catalog;
 use crate::ecu_keys::{keep_key, keep_primary};
@@ -161,11 +161,13 @@ fn test_by_rows<K: Scheme>(
     }
 }
 
-/// Keeps the Primary of a vehicle. Where memory is refused it isn't kept, and the vehicle's next manifest costs its rows again.
+/// Keeps the Primary of a vehicle, unless there are as many as are kept at most. Where memory is refused it isn't kept, and the
+/// vehicle's next manifest costs its rows again.
 fn keep_sender(kept: &mut Table<Primary>, alloc: Global, vehicle: &Ident, rows: &VehicleRows)
     requires { table.get kept.old vehicle.now ≡ None }
     ensures of { (s : State) → vehicle_rows s vehicle.now ≡ Some rows.now → ArePrimaries s kept.old → ArePrimaries s kept.new }
     ensures stay { StayKept kept.old kept.new }
+    ensures few { AreFew kept.old → AreFew kept.new }
 {
     if kept.len() < MOST_PRIMARIES {
         let _kept = put_sender(kept, alloc, vehicle, rows);
@@ -182,6 +184,7 @@ fn put_sender(
     requires { table.get kept.old vehicle.now ≡ None }
     ensures of { (s : State) → vehicle_rows s vehicle.now ≡ Some rows.now → ArePrimaries s kept.old → ArePrimaries s kept.new }
     ensures stay { StayKept kept.old kept.new }
+    ensures one { table.len kept.new ≤ table.len kept.old + 1 }
 {
     let Some(primary) = primary_in(alloc, rows)? else {
         return Ok(());

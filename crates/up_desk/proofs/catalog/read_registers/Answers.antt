@@ -1,8 +1,8 @@
 use Rattle.std.proofs.Common.{sym, subst}
 use Rattle.sqlite.specs.Held.{state}
 use Rattle.up_rows.specs.StateRows.{rows_of_state}
-use Rattle.up_desk.specs.Standing.{ArePrimaries}
-use Rattle.up_desk.proofs.Cataloged.{are_none}
+use Rattle.up_desk.specs.Standing.{AreFew, ArePrimaries}
+use Rattle.up_desk.proofs.Cataloged.{are_none, few_none}
 use Rattle.up_desk.proofs.Steps.{clean_before, keeps_after, reads_none, reads_then, store_reads}
 use Rattle.up_desk.proofs.catalog.read_registers.Goals as goal
 
@@ -18,6 +18,9 @@ returns-in-Ok-images-clause-told g c = λ clean k s was founding.
 
 pub returns-in-Ok-images-clause-reads : goal.returns-in-Ok-images-clause-reads
 returns-in-Ok-images-clause-reads g c = reads_then c.read_running.ensures.reads (store_reads c.images.ensures.kept c.images.ensures.crash)
+
+pub returns-in-Ok-images-clause-can : goal.returns-in-Ok-images-clause-can
+returns-in-Ok-images-clause-can g c = record { keys = c.requires; hashed = c.in-Ok.ensures; few = subst AreFew (sym c.new.ensures) few_none }
 
 pub returns-in-Err-images-clause-reads : goal.returns-in-Err-images-clause-reads
 returns-in-Err-images-clause-reads g c = reads_then c.read_running.ensures.reads (store_reads c.images.ensures.kept c.images.ensures.crash)

@@ -1,9 +1,10 @@
-use Rattle.std.proofs.Common.{Err, refl, subst}
+use Rattle.std.proofs.Common.{Err, refl, subst, arith}
 use Rattle.sqlite.specs.Held.{state}
 use Rattle.up_canon.specs.declared.refusal.Refusal.TheVariants.{MomentOutOfRange}
 use Rattle.up_desk.specs.Serving.{Serves, outcome_due}
 use Rattle.up_desk.specs.Standing.{CanDecide}
-use Rattle.up_desk.proofs.Cataloged.{can_still, kept_again, kept_fits, still_kept}
+use Rattle.up_desk.proofs.Cataloged.{can_still, kept_again, kept_fits, kept_still, stays_kept, still_kept}
+use Rattle.up_desk.proofs.SentBy.{kept_forged}
 use Rattle.up_desk.proofs.Serving.{late_due, in_time_outright, late_outright}
 use Rattle.up_desk.proofs.Steps.{refused, reads_none}
 use Rattle.up_desk.proofs.dispatch.dispatch.Goals as goal
@@ -15,7 +16,9 @@ returns-in-None g c = record {
       (λ clean. late_due (g.K.Scheme.rules c.args.scheme.now) s c.args.at c.args.command.now c.in-None.ensures);
   outright = late_outright (g.K.Scheme.rules c.args.scheme.now) c.args.at c.args.command.now (Err MomentOutOfRange) c.in-None.ensures refl;
   fits = λ clean k s was fits. still_kept s c.args.command.now c.args.catalog.now c.drop_before.new.catalog c.drop_before.ensures fits;
+  kept = stays_kept c.args.command.now c.args.catalog.now c.drop_before.new.catalog c.drop_before.ensures;
   can = can_still (CanDecide (g.K.Scheme.rules c.args.scheme.now)) c.args.command.now c.args.catalog.now c.drop_before.new.catalog c.drop_before.ensures c.requires;
+  forged = λ within. absurd (omega (arith, within, c.in-None.ensures));
 }
 
 pub returns-in-Some-clause-serves : goal.returns-in-Some-clause-serves
@@ -31,6 +34,14 @@ returns-in-Some-clause-outright g c =
 pub returns-in-Some-clause-fits : goal.returns-in-Some-clause-fits
 returns-in-Some-clause-fits g c = λ clean k s was fits.
     c.dispatch_at.ensures.fits clean k s was (kept_fits s c.args.command.now c.args.catalog.now c.drop_before.new.catalog c.drop_before.ensures fits)
+
+pub returns-in-Some-clause-kept : goal.returns-in-Some-clause-kept
+returns-in-Some-clause-kept g c =
+    kept_still c.args.command.now c.args.catalog.now c.drop_before.new.catalog c.dispatch_at.new.catalog c.drop_before.ensures c.dispatch_at.ensures.kept
+
+pub returns-in-Some-clause-forged : goal.returns-in-Some-clause-forged
+returns-in-Some-clause-forged g c = λ within.
+    kept_forged (g.K.Scheme.rules c.args.scheme.now) c.args.command.now c.args.catalog.now c.drop_before.new.catalog _ c.drop_before.ensures c.dispatch_at.ensures.forged
 
 pub dispatch_at-requires-clause-can : goal.dispatch_at-requires-clause-can
 dispatch_at-requires-clause-can g c = can_still (CanDecide (g.K.Scheme.rules c.args.scheme.now)) c.args.command.now c.args.catalog.now c.drop_before.new.catalog c.drop_before.ensures c.requires

@@ -1,5 +1,7 @@
+use Rattle.std.proofs.Common.{refl}
 use Rattle.up_machine.specs.declared.command.Command.TheVariants.{Found, Rotate, AddImage, Refresh, AddVehicle, ReplaceEcu, OpenCampaign, CloseCampaign, Deliver, Fetch}
-use Rattle.up_desk.proofs.Cataloged.{still_kept, still_of}
+use Rattle.up_desk.proofs.Cataloged.{kept_stays, stays, still_kept, still_of}
+use Rattle.up_desk.proofs.SentBy.{delivered_forged, unforged}
 use Rattle.up_desk.proofs.Serving.{of_command, of_delivery, key_outright, ecu_outright, large_outright}
 use Rattle.up_desk.proofs.dispatch.dispatch_at.Goals as goal
 
@@ -72,3 +74,63 @@ returns-in-Fetch-clause-fits g c = λ clean k s was fits. still_kept s c.args.co
 pub returns-in-Deliver-clause-fits : goal.returns-in-Deliver-clause-fits
 returns-in-Deliver-clause-fits g c = λ clean k s was fits.
     still_of s c.args.command.now (Deliver c.in-Deliver.body) c.deliver.new.catalog c.in-Deliver.is (c.deliver.ensures.fits clean k s was fits)
+
+pub returns-in-Found-clause-kept : goal.returns-in-Found-clause-kept
+returns-in-Found-clause-kept g c = kept_stays c.args.command.now c.args.catalog.now c.args.catalog.now c.requires.dropped (stays c.args.catalog.now)
+
+pub returns-in-Rotate-clause-kept : goal.returns-in-Rotate-clause-kept
+returns-in-Rotate-clause-kept g c = kept_stays c.args.command.now c.args.catalog.now c.args.catalog.now c.requires.dropped (stays c.args.catalog.now)
+
+pub returns-in-AddImage-clause-kept : goal.returns-in-AddImage-clause-kept
+returns-in-AddImage-clause-kept g c = kept_stays c.args.command.now c.args.catalog.now c.args.catalog.now c.requires.dropped (stays c.args.catalog.now)
+
+pub returns-in-Refresh-clause-kept : goal.returns-in-Refresh-clause-kept
+returns-in-Refresh-clause-kept g c = kept_stays c.args.command.now c.args.catalog.now c.args.catalog.now c.requires.dropped (stays c.args.catalog.now)
+
+pub returns-in-AddVehicle-clause-kept : goal.returns-in-AddVehicle-clause-kept
+returns-in-AddVehicle-clause-kept g c = kept_stays c.args.command.now c.args.catalog.now c.args.catalog.now c.requires.dropped (stays c.args.catalog.now)
+
+pub returns-in-ReplaceEcu-clause-kept : goal.returns-in-ReplaceEcu-clause-kept
+returns-in-ReplaceEcu-clause-kept g c = kept_stays c.args.command.now c.args.catalog.now c.args.catalog.now c.requires.dropped (stays c.args.catalog.now)
+
+pub returns-in-OpenCampaign-clause-kept : goal.returns-in-OpenCampaign-clause-kept
+returns-in-OpenCampaign-clause-kept g c = kept_stays c.args.command.now c.args.catalog.now c.args.catalog.now c.requires.dropped (stays c.args.catalog.now)
+
+pub returns-in-CloseCampaign-clause-kept : goal.returns-in-CloseCampaign-clause-kept
+returns-in-CloseCampaign-clause-kept g c = kept_stays c.args.command.now c.args.catalog.now c.args.catalog.now c.requires.dropped (stays c.args.catalog.now)
+
+pub returns-in-Fetch-clause-kept : goal.returns-in-Fetch-clause-kept
+returns-in-Fetch-clause-kept g c = kept_stays c.args.command.now c.args.catalog.now c.args.catalog.now c.requires.dropped (stays c.args.catalog.now)
+
+pub returns-in-Deliver-clause-kept : goal.returns-in-Deliver-clause-kept
+returns-in-Deliver-clause-kept g c = kept_stays c.args.command.now c.args.catalog.now c.deliver.new.catalog c.requires.dropped c.deliver.ensures.kept
+
+pub returns-in-Found-clause-forged : goal.returns-in-Found-clause-forged
+returns-in-Found-clause-forged g c = unforged (g.K.Scheme.rules c.args.scheme.now) c.args.catalog.now c.args.command.now (Found c.in-Found.keys) _ c.in-Found.is refl
+
+pub returns-in-Rotate-clause-forged : goal.returns-in-Rotate-clause-forged
+returns-in-Rotate-clause-forged g c = unforged (g.K.Scheme.rules c.args.scheme.now) c.args.catalog.now c.args.command.now (Rotate c.in-Rotate.keys) _ c.in-Rotate.is refl
+
+pub returns-in-AddImage-clause-forged : goal.returns-in-AddImage-clause-forged
+returns-in-AddImage-clause-forged g c = unforged (g.K.Scheme.rules c.args.scheme.now) c.args.catalog.now c.args.command.now (AddImage c.in-AddImage.image) _ c.in-AddImage.is refl
+
+pub returns-in-Refresh-clause-forged : goal.returns-in-Refresh-clause-forged
+returns-in-Refresh-clause-forged g c = unforged (g.K.Scheme.rules c.args.scheme.now) c.args.catalog.now c.args.command.now (Refresh c.in-Refresh.version) _ c.in-Refresh.is refl
+
+pub returns-in-AddVehicle-clause-forged : goal.returns-in-AddVehicle-clause-forged
+returns-in-AddVehicle-clause-forged g c = unforged (g.K.Scheme.rules c.args.scheme.now) c.args.catalog.now c.args.command.now (AddVehicle c.in-AddVehicle.new) _ c.in-AddVehicle.is refl
+
+pub returns-in-ReplaceEcu-clause-forged : goal.returns-in-ReplaceEcu-clause-forged
+returns-in-ReplaceEcu-clause-forged g c = unforged (g.K.Scheme.rules c.args.scheme.now) c.args.catalog.now c.args.command.now (ReplaceEcu c.in-ReplaceEcu.new) _ c.in-ReplaceEcu.is refl
+
+pub returns-in-OpenCampaign-clause-forged : goal.returns-in-OpenCampaign-clause-forged
+returns-in-OpenCampaign-clause-forged g c = unforged (g.K.Scheme.rules c.args.scheme.now) c.args.catalog.now c.args.command.now (OpenCampaign c.in-OpenCampaign.campaign) _ c.in-OpenCampaign.is refl
+
+pub returns-in-CloseCampaign-clause-forged : goal.returns-in-CloseCampaign-clause-forged
+returns-in-CloseCampaign-clause-forged g c = unforged (g.K.Scheme.rules c.args.scheme.now) c.args.catalog.now c.args.command.now (CloseCampaign c.in-CloseCampaign.name) _ c.in-CloseCampaign.is refl
+
+pub returns-in-Fetch-clause-forged : goal.returns-in-Fetch-clause-forged
+returns-in-Fetch-clause-forged g c = unforged (g.K.Scheme.rules c.args.scheme.now) c.args.catalog.now c.args.command.now (Fetch c.in-Fetch.repository c.in-Fetch.name) _ c.in-Fetch.is refl
+
+pub returns-in-Deliver-clause-forged : goal.returns-in-Deliver-clause-forged
+returns-in-Deliver-clause-forged g c = delivered_forged (g.K.Scheme.rules c.args.scheme.now) c.args.catalog.now c.args.command.now c.in-Deliver.body _ c.in-Deliver.is c.deliver.ensures.forged

@@ -1,7 +1,7 @@
-use Rattle.std.proofs.Common.{sym, ◌∙◌, subst}
+use Rattle.std.proofs.Common.{◌+◌, ◌≤◌, sym, ◌∙◌, subst, arith}
 use Rattle.std.specs.FinMap as table
 use Rattle.up_desk.specs.Standing.{ArePrimaries, StayKept}
-use Rattle.up_desk.proofs.Cataloged.{are_more, put_or_not, stay_more}
+use Rattle.up_desk.proofs.Cataloged.{are_more, one_kept, put_or_not, stay_more}
 use Rattle.up_desk.proofs.senders.put_sender.Goals as goal
 
 pub returns-clause-of : goal.returns-clause-of
@@ -17,3 +17,9 @@ returns-clause-stay c =
     put_or_not (StayKept kept) c.insert.result kept c.insert.new.self _ c.insert.ensures.ok c.insert.ensures.err (λ vehicle primary there. there)
     (subst (λ name. StayKept kept (table.insert kept name c.in-Some.primary)) (sym (c.in_ok-text_of.ensures ∙ c.text.ensures.value))
     (stay_more kept c.args.vehicle.now c.in-Some.primary c.requires))
+
+pub returns-clause-one : goal.returns-clause-one
+returns-clause-one c =
+    let kept = c.args.kept.now in
+    put_or_not (λ now. table.len now ≤ table.len kept + 1) c.insert.result kept c.insert.new.self _ c.insert.ensures.ok c.insert.ensures.err (omega arith)
+    (one_kept kept _ c.in-Some.primary)

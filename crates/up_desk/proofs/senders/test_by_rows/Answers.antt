@@ -6,7 +6,7 @@ pub returns-in-Ok-clause-sent : goal.returns-in-Ok-clause-sent
 returns-in-Ok-clause-sent g c = λ s there is. let it = c.in-Ok.ensures.from s (sym there) (sym is) in (it.received, it.receives)
 
 pub returns-in-Ok-clause-more : goal.returns-in-Ok-clause-more
-returns-in-Ok-clause-more g c = record { rest = refl; primaries = c.keep_sender.ensures.stay }
+returns-in-Ok-clause-more g c = record { rest = refl; primaries = c.keep_sender.ensures.stay; few = c.keep_sender.ensures.few }
 
 pub returns-in-Err-clause-sent : goal.returns-in-Err-clause-sent
 returns-in-Err-clause-sent g c = λ s there is. c.in-Err.ensures.from s (sym there) (sym is)

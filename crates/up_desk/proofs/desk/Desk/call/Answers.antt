@@ -1,6 +1,10 @@
-use Rattle.std.proofs.Common.{ap, subst}
-use Rattle.up_desk.specs.Standing.{Stored, state}
+use Rattle.std.proofs.Common.{◌≤◌, ap, subst}
+use Rattle.std.specs.Prelude.{IfSome}
+use Rattle.up_canon.specs.Moments.{last_command_moment}
+use Rattle.up_desk.specs.Delivering.{AnswersRead, forged_by}
+use Rattle.up_desk.specs.Standing.{StaysLoaded, Stored, kept_for, state}
 use Rattle.up_desk.proofs.Calls.{CallLaws, IsCall, called}
+use Rattle.up_desk.proofs.SentBy.{forged_told}
 use Rattle.up_desk.proofs.desk.Desk.call.Goals as goal
 
 pub returns : goal.returns
@@ -22,5 +26,8 @@ returns g c =
       crash = call.crash;
       durable = call.durable;
       clean = call.clean;
+      kept = subst (λ d. StaysLoaded (kept_for c.args.command.now d.store.catalog) c.dispatch.new.catalog) c.self.view_is c.dispatch.ensures.kept;
+      forged = subst (λ d. c.args.at ≤ last_command_moment → IfSome (forged_by (g.K.Scheme.rules d.scheme) d.store.catalog c.args.command.now) (AnswersRead d.store.held c.dispatch.new.store c.answer_of.result))
+          c.self.view_is (λ within. forged_told _ _ _ c.dispatch.result c.answer_of.result c.answer_of.ensures (c.dispatch.ensures.forged within));
       scheme = ap (λ d. d.scheme) c.self.view_is;
     }
