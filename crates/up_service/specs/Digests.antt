@@ -16,6 +16,11 @@ Tells came has (Ok told) = IsAtEnd has × (length came ≤ most_bytes) × (told.
 Tells came has (Err Read) = ⊤
 Tells came has (Err TooLong) = most_bytes < length came
 
+-- what ended it is told of the reader: it failed where `Read` is told, and else it may still be read
+abbrev pub BlamesReader : DigestFault → Type 0 → Type 0 → Type 0
+BlamesReader Read failed stands = failed
+BlamesReader TooLong failed stands = stands
+
 -- of the bytes that came, at most one more than a file may have
 pub record Digested (had has : Option (List ℕ)) (result : Result (ℕ × List ℕ × List ℕ) DigestFault) : Type 0 where
   pub came : List ℕ

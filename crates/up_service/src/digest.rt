@@ -1,8 +1,8 @@
 //! The length and the digests of a stream.
-ghost use Rattle.std.specs.Prelude.{◌≡◌, ◌<◌, IfOk, IfErr, IfSome, length};
+ghost use Rattle.std.specs.Prelude.{◌≡◌, ◌<◌, IfOk, IfErr, IfSome, OnOk, length};
 ghost use Rattle.sha2.specs.Sha256.{sha256};
 ghost use Rattle.sha2.specs.Sha512.{sha512};
-ghost use Rattle.up_service.specs.Digests.{Digested, most_bytes};
+ghost use Rattle.up_service.specs.Digests.{BlamesReader, Digested, most_bytes};
 
 use sha2::{Digest, Sha256, Sha512};
 use up_pieces::read_piece;
@@ -25,11 +25,15 @@ pub enum DigestFault {
 
 /// The number of bytes that the reader gives, their SHA-256 and their SHA-512 (FIPS 180-4), all in one pass. `TooLong` past
 /// 1,073,741,824 bytes. Of a reader whose bytes are known at most one more than these is read, and none after a read that failed.
-/// Takes no memory.
+/// `Read` is told only where the reader failed. Takes no memory.
 pub fn digest_stream<R: Source>(reader: &mut R) -> Result<(u64, [u8; 32], [u8; 64]), DigestFault>
     requires { R.can_read reader.old }
     // For any reader: the bytes that came, and what is said of them.
     ensures digested { Digested (R.remaining reader.old) (R.remaining reader.new) result }
+
+    // A fault is told of the reader as it is, and one that didn't end isn't taken for one that did.
+    ensures blames { IfErr result (λ fault. BlamesReader fault (R.has_failed reader.new) (R.can_read reader.new)) }
+    ensures ended { OnOk result (R.has_ended reader.new) }
 
     // Where it is known what the reader has.
     ensures whole { IfOk result (λ told. IfSome (R.remaining reader.old) (λ input. (told.0 ≡ length input) × (told.1 ≡ sha256 input) × (told.2 ≡ sha512 input))) }

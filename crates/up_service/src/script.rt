@@ -1,7 +1,8 @@
 //! Scripts: lines that are read, carried out at a desk, and answered.
-ghost use Rattle.std.specs.Prelude.{◌≡◌, IfOk, IfErr, IfSome, OnOk, true, false};
+ghost use Rattle.std.specs.Prelude.{◌≡◌, ◌⊎◌, IfOk, IfErr, IfSome, OnOk, true, false};
 ghost use Rattle.up_lines.specs.LineRuns.{RanLines, FinishedLines, AnswersFirst};
 ghost use Rattle.up_lines.specs.Lines.{lines_of, fits};
+ghost use Rattle.up_lines.specs.Runs.{Blames};
 ghost use Rattle.up_service.specs.LineAnswers.{Lines};
 
 use crate::line_answer::Scripter;
@@ -18,7 +19,8 @@ use up_sign::scheme::Scheme;
 ///
 /// The number is that of the lines answered. A line has at most 2,097,152 bytes, its newline not counted, and there are at most
 /// 100,000; past that comes `TooLong`. Of a reader whose bytes are known at most 209,715,300,001 are read; nothing is tried
-/// twice. A fault tells how many answers were written whole; what was answered before it stays done.
+/// twice. A fault tells how many answers were written whole; what was answered before it stays done. `Read` is told only where
+/// the reader failed, `Write` where the writer failed or took none, `Memory` where neither did, and never for a limit.
 pub fn run_script<K: Scheme, D: Alter, R: Source, W: Sink>(
     alloc: Global,
     desk: &mut Desk<K, D>,
@@ -45,6 +47,11 @@ pub fn run_script<K: Scheme, D: Alter, R: Source, W: Sink>(
 
     // Nothing was tried twice: where it ended well the writer may be written again.
     ensures goes_on { OnOk result (W.can_write writer.new) }
+
+    // What ended it is told of the part that failed, and a reader that didn't end isn't taken for one that did.
+    ensures blames { IfErr result (λ fault. Blames fault.cause (R.has_failed reader.new) (R.can_read reader.new ⊎ R.has_ended reader.new)
+        (W.has_failed writer.new) (W.can_write writer.new)) }
+    ensures ended { OnOk result (R.has_ended reader.new) }
 {
     run(alloc, &Scripter, desk, reader, writer)
 }

@@ -1,6 +1,7 @@
 //! Streams of HTTP requests: read, carried out at a desk, and answered.
-ghost use Rattle.std.specs.Prelude.{◌≡◌, IfOk, IfErr, IfSome, OnOk};
-ghost use Rattle.up_http.specs.Serving.{RanRequests, FinishedRequests, AnswersFirst};
+ghost use Rattle.std.specs.Prelude.{◌≡◌, ◌⊎◌, IfOk, IfErr, IfSome, OnOk};
+ghost use Rattle.up_lines.specs.Runs.{Blames};
+ghost use Rattle.up_http.specs.Serving.{RanRequests, FinishedRequests, AnswersFirst, cause_of};
 ghost use Rattle.up_service.specs.Responses.{Responses};
 
 use crate::response::Responder;
@@ -20,7 +21,7 @@ use up_sign::scheme::Scheme;
 /// The stream ends with its input, with a request that closes the connection, or with the hundredth. Of a reader whose bytes are
 /// known at most 27,852,800 are read; nothing is tried twice. A fault tells how many requests were handed to the desk, whose
 /// effects stand, and how many answers were written whole. `Read` comes after all requests that were whole before it, and
-/// `Write` also where the writer takes no byte.
+/// only where the reader failed; `Write` only where the writer failed, or took no byte; and `Memory` only where neither did.
 pub fn serve_stream<K: Scheme, D: Alter, R: Source, W: Sink>(
     alloc: Global,
     desk: &mut Desk<K, D>,
@@ -46,6 +47,11 @@ pub fn serve_stream<K: Scheme, D: Alter, R: Source, W: Sink>(
 
     // Nothing was tried twice: where it ended well the writer may be written again.
     ensures goes_on { OnOk result (W.can_write writer.new) }
+
+    // What ended it is told of the part that failed, and a read that failed isn't taken for the stream's end.
+    ensures blames { IfErr result (λ fault. Blames (cause_of fault.cause) (R.has_failed reader.new) (R.can_read reader.new ⊎ R.has_ended reader.new)
+        (W.has_failed writer.new) (W.can_write writer.new)) }
+    ensures stands { OnOk result (R.can_read reader.new ⊎ R.has_ended reader.new) }
 {
     serve(alloc, &Responder { at }, desk, reader, writer)
 }
