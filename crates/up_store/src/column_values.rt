@@ -1,5 +1,9 @@
 //! Columns as values of their types: a column that isn't one is answered `Store`.
-ghost use Rattle.std.specs.Prelude.{◌≡◌, Ok, Err, IfOk, IfErr, string_bytes};
+ghost use Rattle.std.specs.Prelude.{◌≡◌, ◌≢◌, ◌<◌, ◌≤◌, ◌^◌, false, length, Ok, Err, IfOk, IfErr, string_bytes};
+ghost use Rattle.up_canon.specs.Canon.{max_count};
+ghost use Rattle.up_canon.specs.Moments.{last_moment};
+ghost use Rattle.up_canon.specs.Names.{is_ident, is_file_name};
+ghost use Rattle.up_tables.specs.declared.values.StoreFault.TheVariants.{Store};
 ghost use Rattle.up_store.specs.ColumnRows.{column_fault};
 
 use crate::store::StoreFault;
@@ -11,7 +15,8 @@ use up_canon::refusal::Refusal;
 
 /// The text as an identifier.
 pub fn ident_in(text: String) -> Result<Ident, StoreFault>
-    ensures { IfOk result (λ name. name ≡ string_bytes text) }
+    ensures ok { IfOk result (λ name. name ≡ string_bytes text) }
+    ensures fault { IfErr result (λ fault. (fault ≡ Store) × (is_ident (string_bytes text) ≡ false)) }
 {
     match Ident::new(text) {
         Some(name) => Ok(name),
@@ -21,7 +26,8 @@ pub fn ident_in(text: String) -> Result<Ident, StoreFault>
 
 /// The text as a filename.
 pub fn file_name_in(text: String) -> Result<FileName, StoreFault>
-    ensures { IfOk result (λ name. name ≡ string_bytes text) }
+    ensures ok { IfOk result (λ name. name ≡ string_bytes text) }
+    ensures fault { IfErr result (λ fault. (fault ≡ Store) × (is_file_name (string_bytes text) ≡ false)) }
 {
     match FileName::new(text) {
         Some(name) => Ok(name),
@@ -31,7 +37,8 @@ pub fn file_name_in(text: String) -> Result<FileName, StoreFault>
 
 /// The number as a count.
 pub fn count_in(number: u64) -> Result<Count, StoreFault>
-    ensures { IfOk result (λ count. count ≡ number) }
+    ensures ok { IfOk result (λ count. count ≡ number) }
+    ensures fault { IfErr result (λ fault. (fault ≡ Store) × (max_count < number)) }
 {
     match Count::new(number) {
         Some(count) => Ok(count),
@@ -41,7 +48,8 @@ pub fn count_in(number: u64) -> Result<Count, StoreFault>
 
 /// The number of seconds as a moment.
 pub fn moment_in(second: u64) -> Result<Moment, StoreFault>
-    ensures { IfOk result (λ moment. moment ≡ second) }
+    ensures ok { IfOk result (λ moment. moment ≡ second) }
+    ensures fault { IfErr result (λ fault. (fault ≡ Store) × (last_moment < second)) }
 {
     match Moment::new(second) {
         Some(moment) => Ok(moment),
@@ -51,7 +59,8 @@ pub fn moment_in(second: u64) -> Result<Moment, StoreFault>
 
 /// The number as a threshold.
 pub fn threshold_in(number: u64) -> Result<u32, StoreFault>
-    ensures { IfOk result (λ threshold. threshold ≡ number) }
+    ensures ok { IfOk result (λ threshold. threshold ≡ number) }
+    ensures fault { IfErr result (λ fault. (fault ≡ Store) × (2 ^ 32 ≤ number)) }
 {
     if number <= u32::MAX as u64 {
         Ok(number as u32)
@@ -62,7 +71,8 @@ pub fn threshold_in(number: u64) -> Result<u32, StoreFault>
 
 /// The bytes as a SHA-256.
 pub fn sha256_in(bytes: &[u8]) -> Result<[u8; 32], StoreFault>
-    ensures { IfOk result (λ hash. hash ≡ bytes.now) }
+    ensures ok { IfOk result (λ hash. hash ≡ bytes.now) }
+    ensures fault { IfErr result (λ fault. (fault ≡ Store) × (length bytes.now ≢ 32)) }
 {
     match <[u8; 32]>::try_from(bytes) {
         Ok(hash) => Ok(hash),
@@ -72,7 +82,8 @@ pub fn sha256_in(bytes: &[u8]) -> Result<[u8; 32], StoreFault>
 
 /// The bytes as a SHA-512.
 pub fn sha512_in(bytes: &[u8]) -> Result<[u8; 64], StoreFault>
-    ensures { IfOk result (λ hash. hash ≡ bytes.now) }
+    ensures ok { IfOk result (λ hash. hash ≡ bytes.now) }
+    ensures fault { IfErr result (λ fault. (fault ≡ Store) × (length bytes.now ≢ 64)) }
 {
     match <[u8; 64]>::try_from(bytes) {
         Ok(hash) => Ok(hash),

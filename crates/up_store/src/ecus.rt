@@ -1,6 +1,10 @@
 //! The rows of a vehicle's ECUs, read and made.
 ghost use Rattle.std.specs.Prelude.{◌≡◌, ◌<◌, ◌^◌, ℕ, All, IfOk, List, Option, map, option_and_then, option_map, string_bytes};
 ghost use Rattle.std.specs.List.{AllByRecursion};
+ghost use Rattle.std.specs.Prelude.{◌≢◌, ◌≤◌, true, length, IfErr, MatchOption};
+ghost use Rattle.up_canon.specs.Canon.{max_count};
+ghost use Rattle.up_canon.specs.Names.{is_file_name};
+ghost use Rattle.up_tables.specs.declared.values.StoreFault.TheVariants.{Store};
 ghost use Rattle.up_rows.specs.SecondHashes.{TellsItsHash};
 ghost use Rattle.up_tables.specs.Ecus.{FitEcu};
 ghost use Rattle.up_store.specs.Shown.{ecu_read, installed_read, reported_sha512};
@@ -57,7 +61,9 @@ fn read_installed(
     shown: Option<InstalledShown>,
     sha512: Option<[u8; 64]>,
 ) -> Result<Option<Installed>, StoreFault>
-    ensures { IfOk result (λ read. read ≡ option_map (installed_read sha512) shown) }
+    ensures ok { IfOk result (λ read. read ≡ option_map (installed_read sha512) shown) }
+    ensures fault { IfErr result (λ fault. (fault ≡ Store) × MatchOption shown ⊥ (λ image.
+        is_file_name (string_bytes image.file) ≡ true → image.length ≤ max_count → length image.sha256.items ≢ 32)) }
 {
     match shown {
         Some(image) => Ok(Some(Installed {

@@ -1,8 +1,9 @@
 //! The rows of kept manifests, read and made.
-ghost use Rattle.std.specs.Prelude.{◌≡◌, IfOk, OnOk};
+ghost use Rattle.std.specs.Prelude.{◌≡◌, ◌↔◌, ◌⊎◌, ◌≤◌, ◌^◌, Err, IfOk, OnOk};
 ghost use Rattle.up_canon.specs.Names.{Name};
 ghost use Rattle.up_machine.specs.declared.rows.Kept.{Kept as KeptData};
 ghost use Rattle.up_tables.specs.Forms.{FitKept};
+ghost use Rattle.up_tables.specs.declared.values.StoreFault.TheVariants.{Store};
 ghost use Rattle.up_store.specs.ColumnRows.{IsKept};
 ghost use Rattle.up_store.specs.Typed.{IsTypedKept};
 
@@ -39,6 +40,7 @@ pub fn make_kept(alloc: Global, row: &Kept) -> Result<KeptRow, StoreFault>
     ensures same { IfOk result (λ made. IsKept made row.now) }
     ensures fit { IfOk result FitKept }
     ensures typed { OnOk result (IsTypedKept row.now.vehicle row.now) }
+    ensures large { (result ≡ Err Store) ↔ ((2 ^ 63 ≤ row.now.version) ⊎ (2 ^ 63 ≤ row.now.root)) }
 {
     if row.version > MOST_NUMBER || row.root > MOST_NUMBER {
         return Err(StoreFault::Store);

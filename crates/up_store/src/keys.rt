@@ -2,6 +2,8 @@
 ghost use Rattle.std.specs.Prelude.{◌≡◌, ◌<◌, ◌^◌, ◌++◌, ◌∷◌, [], pos, All, Some, OnOk, IfOk, map, codes};
 ghost use Rattle.sqlite.specs.declared.types.Value.TheVariants.{Int, Text, Blob};
 ghost use Rattle.up_roles.specs.declared.repository.Repository.TheVariants.{Director, Image};
+ghost use Rattle.std.specs.Prelude.{◌≤◌, ℕ, IfErr};
+ghost use Rattle.up_tables.specs.declared.values.StoreFault.TheVariants.{Store};
 ghost use Rattle.up_tables.specs.Forms.{FitRoleKey, role_key_row};
 ghost use Rattle.up_store.specs.Lines.{repository_lines, role_lines, repository_word as word_of};
 ghost use Rattle.up_store.specs.Shown.{is_key_of, secrets_of, threshold_of, IsRoleOf, AreKeysOf};
@@ -96,7 +98,8 @@ fn read_secrets(
 
 /// The threshold of a role, as its first row has it.
 fn read_threshold(rows: &[RoleKeyRow], repository: &str, role: &str) -> Result<u32, StoreFault>
-    ensures { IfOk result (λ n. threshold_of repository.now role.now rows.now ≡ Some n) }
+    ensures ok { IfOk result (λ n. threshold_of repository.now role.now rows.now ≡ Some n) }
+    ensures fault { IfErr result (λ fault. (fault ≡ Store) × ((n : ℕ) → threshold_of repository.now role.now rows.now ≡ Some n → 2 ^ 32 ≤ n)) }
 {
     for row in rows {
         if is_key(row, repository, role) {

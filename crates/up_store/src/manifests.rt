@@ -2,10 +2,13 @@
 ghost use Rattle.std.specs.Prelude.{◌≡◌, ⊤, Some, IfOk, OnErr, OnOk};
 ghost use Rattle.sqlite.specs.Held.{state};
 ghost use Rattle.sqlite.specs.State.{HasCleanDisk, Survives};
+ghost use Rattle.std.specs.Prelude.{◌<◌, IfErr};
+ghost use Rattle.up_canon.specs.Canon.{max_count};
 ghost use Rattle.up_canon.specs.Names.{Name};
 ghost use Rattle.up_machine.specs.declared.rows.Kept.{Kept as KeptData};
 ghost use Rattle.up_rows.specs.Changes.{with_accepted_rows};
 ghost use Rattle.up_rows.specs.Lookups.{kept_with, latest_kept};
+ghost use Rattle.up_tables.specs.declared.values.StoreFault.TheVariants as StoreFault;
 ghost use Rattle.up_store.specs.ColumnRows.{IsKept, last_found, with_kept};
 ghost use Rattle.up_store.specs.Typed.{IsTypedKept};
 ghost use Rattle.up_store.specs.Fitting.{IsRecorded};
@@ -193,7 +196,8 @@ fn find_last<D: Alter>(
 
 /// A counter as it stands in the table, read.
 fn some_count(shown: u64) -> Result<Option<Count>, StoreFault>
-    ensures { IfOk result (λ read. read ≡ Some shown) }
+    ensures ok { IfOk result (λ read. read ≡ Some shown) }
+    ensures fault { IfErr result (λ fault. (fault ≡ StoreFault.Store) × (max_count < shown)) }
 {
     Ok(Some(count_in(shown)?))
 }

@@ -3,6 +3,8 @@ ghost use Rattle.std.specs.Prelude.{◌≡◌, ⊤, IfOk, option_map};
 ghost use Rattle.std.specs.FinMap as table;
 ghost use Rattle.sqlite.specs.Held.{state};
 ghost use Rattle.up_canon.specs.Names.{Table as Named};
+ghost use Rattle.std.specs.Prelude.{◌≢◌, length, IfErr, MatchOption};
+ghost use Rattle.up_tables.specs.declared.values.StoreFault.TheVariants as StoreFault;
 ghost use Rattle.up_plan.specs.Images.{ImageData};
 ghost use Rattle.up_tables.specs.Stands.{IfClean, IsInside, IsOpen};
 ghost use Rattle.up_tables.specs.Statements.{IsStep, IsOpenStep};
@@ -40,7 +42,8 @@ pub(crate) fn find_sha512<D: Alter>(
 
 /// A row as it stands in the table, read.
 fn read_sha512(shown: Option<Sha512Row>) -> Result<Option<[u8; 64]>, StoreFault>
-    ensures { IfOk result (λ read. read ≡ option_map (λ row. row.sha512.items) shown) }
+    ensures ok { IfOk result (λ read. read ≡ option_map (λ row. row.sha512.items) shown) }
+    ensures fault { IfErr result (λ fault. (fault ≡ StoreFault.Store) × MatchOption shown ⊥ (λ row. length row.sha512.items ≢ 64)) }
 {
     match shown {
         Some(row) => Ok(Some(sha512_in(row.sha512.as_slice())?)),

@@ -4,6 +4,10 @@ ghost use Rattle.sqlite.specs.Held.{state};
 ghost use Rattle.sqlite.specs.State.{HasCleanDisk, Survives};
 ghost use Rattle.up_rows.specs.Changes.{with_vehicle_rows};
 ghost use Rattle.up_store.specs.Fitting.{IsNewVehicle};
+ghost use Rattle.std.specs.Prelude.{◌↔◌, ◌<◌, ◌≤◌, ◌^◌, true, false, Err, IfErr};
+ghost use Rattle.up_canon.specs.Canon.{max_count};
+ghost use Rattle.up_canon.specs.Names.{is_ident};
+ghost use Rattle.up_tables.specs.declared.values.StoreFault.TheVariants as StoreFault;
 ghost use Rattle.up_store.specs.Shown.{vehicle_read};
 ghost use Rattle.up_rows.specs.Lookups.{last_owner, owner_found};
 ghost use Rattle.up_store.specs.Found.{vehicle_found, ecus_found};
@@ -102,7 +106,9 @@ fn find_vehicle<D: Alter>(
 
 /// A row as it stands in the table, read.
 fn read_vehicle(shown: VehicleShown) -> Result<Option<VehicleRow>, StoreFault>
-    ensures { IfOk result (λ read. read ≡ Some (vehicle_read shown)) }
+    ensures ok { IfOk result (λ read. read ≡ Some (vehicle_read shown)) }
+    ensures fault { IfErr result (λ fault. (fault ≡ StoreFault.Store)
+        × (is_ident (string_bytes shown.vehicle) ≡ true → is_ident (string_bytes shown.primary_ecu) ≡ true → max_count < shown.last_counter)) }
 {
     Ok(Some(VehicleRow {
         vehicle: ident_in(shown.vehicle)?,
@@ -165,7 +171,8 @@ fn find_retired<D: Alter>(
 
 /// A name as it stands in the table, read.
 fn read_owner(shown: String) -> Result<Option<Ident>, StoreFault>
-    ensures { IfOk result (λ read. read ≡ Some (string_bytes shown)) }
+    ensures ok { IfOk result (λ read. read ≡ Some (string_bytes shown)) }
+    ensures fault { IfErr result (λ fault. (fault ≡ StoreFault.Store) × (is_ident (string_bytes shown) ≡ false)) }
 {
     match ident_in(shown) {
         Ok(name) => Ok(Some(name)),
@@ -197,6 +204,7 @@ fn put_vehicle<D: Alter>(
 pub(crate) fn make_vehicle(alloc: Global, row: &VehicleRow) -> Result<VehicleShown, StoreFault>
     ensures same { IfOk result (λ made. vehicle_read made ≡ row.now) }
     ensures fit { IfOk result FitVehicle }
+    ensures large { (result ≡ Err StoreFault.Store) ↔ (2 ^ 63 ≤ row.now.version) }
 {
     if row.version > MOST_NUMBER {
         return Err(StoreFault::Store);

@@ -20,7 +20,7 @@ returns-in-Ok-Some-clause-found g c clean =
     ok_then (λ read. read ≡ Some c.in-Ok-Some.shown.last_counter) (λ found. (rows : StateRows) → IsWithin up_schema (ListsRows rows) before → found ≡ last_found c.args.vehicle.now rows) c.some_count.result
     (λ read is rows within. is ∙ ap (option_map (λ (r : VehicleRow). r.last)) (ap (option_map vehicle_read) (sym c.in-Ok-Some.field-0-is)
     ∙ vehicle_in rows c.args.vehicle.now before after c.in-Ok-Some.field-0 (c.in-Ok-Some.ensures.reads clean) (rw c.text.ensures.value at c.in-Ok-Some.ensures.found clean) within) ∙ last_told rows c.args.vehicle.now)
-    c.some_count.ensures
+    c.some_count.ensures.ok
 
 pub returns-in-Ok-None-clause-found : goal.returns-in-Ok-None-clause-found
 returns-in-Ok-None-clause-found g c clean rows within =

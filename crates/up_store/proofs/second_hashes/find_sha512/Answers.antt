@@ -10,4 +10,4 @@ returns-in-Ok-clause-found g c clean =
     let after = state g.D.Store c.image_sha512.new.tx.conn.now in
     ok_then _ _ c.read_sha512.result
     (λ read is rows within. is ∙ hash_found rows c.args.file.now before after c.in-Ok.shown (c.in-Ok.ensures.reads clean) (rw c.text.ensures.value at c.in-Ok.ensures.found clean) within)
-    c.read_sha512.ensures
+    c.read_sha512.ensures.ok

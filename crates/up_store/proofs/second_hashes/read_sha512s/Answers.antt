@@ -10,7 +10,7 @@ pub loop-row-preserved : goal.loop-row-preserved
 loop-row-preserved c = λ images are.
     let all = c.args.shown.items in
     let turn = YieldsList-turn (YieldsList-from_vec all (cc) (cc)) c.loop-row.yielded _ c.loop-row.yielded_by _ c.next.new.self c.in-Some.row c.in-Some.is c.next.ensures.steps in
-    let put = c.in_ok-insert.ensures.ok ∙ ap₂ (λ (name hash : List ℕ). table.insert c.loop-row.hashes name hash) c.new.ensures (c.in_ok-hash.ensures ∙ c.as_slice.ensures.value) in
+    let put = c.in_ok-insert.ensures.ok ∙ ap₂ (λ (name hash : List ℕ). table.insert c.loop-row.hashes name hash) c.new.ensures (c.in_ok-hash.ensures.ok ∙ c.as_slice.ensures.value) in
     subst (λ n. AreHashesSofar (take n all) images c.insert.new.self) (sym (length_push c.loop-row.yielded c.in-Some.row))
     (hashes_more images all (length c.loop-row.yielded) c.in-Some.row c.loop-row.hashes c.insert.new.self turn.0 turn.1 are put (c.loop-row.invariant images are))
 

@@ -15,7 +15,7 @@ returns-in-Ok-Some-clause-found g c clean =
     ok_then (λ read. read ≡ Some (string_bytes c.in-Ok-Some.shown)) (λ found. (rows : StateRows) → IsWithin up_schema (ListsRows rows) (state g.D.Store c.args.tx.now.conn.now) → found ≡ last_owner c.args.ecu.now rows) c.read_owner.result
     (λ read is rows within. is ∙ ap (option_map string_bytes) (sym c.in-Ok-Some.field-0-is)
     ∙ last_in rows c.args.ecu.now (state g.D.Store c.args.tx.now.conn.now) (state g.D.Store c.retired_owner.new.tx.conn.now) (option_map string_bytes c.in-Ok-Some.field-0) (c.in-Ok-Some.ensures.reads clean) (rw c.text.ensures.value at c.in-Ok-Some.ensures.found clean) within)
-    c.read_owner.ensures
+    c.read_owner.ensures.ok
 
 pub returns-in-Ok-None-clause-found : goal.returns-in-Ok-None-clause-found
 returns-in-Ok-None-clause-found g c clean rows within =

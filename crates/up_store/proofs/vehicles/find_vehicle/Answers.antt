@@ -16,7 +16,7 @@ returns-in-Ok-Some-clause-found g c clean =
     ok_then (λ read. read ≡ Some (vehicle_read c.in-Ok-Some.shown)) (λ found. (rows : StateRows) → IsWithin up_schema (ListsRows rows) (state g.D.Store c.args.tx.now.conn.now) → found ≡ vehicle_found c.args.vehicle.now rows) c.read_vehicle.result
     (λ read is rows within. is ∙ ap (option_map vehicle_read) (sym c.in-Ok-Some.field-0-is)
     ∙ vehicle_in rows c.args.vehicle.now (state g.D.Store c.args.tx.now.conn.now) (state g.D.Store c.vehicle.new.tx.conn.now) c.in-Ok-Some.field-0 (c.in-Ok-Some.ensures.reads clean) (rw c.text.ensures.value at c.in-Ok-Some.ensures.found clean) within)
-    c.read_vehicle.ensures
+    c.read_vehicle.ensures.ok
 
 pub returns-in-Ok-None-clause-found : goal.returns-in-Ok-None-clause-found
 returns-in-Ok-None-clause-found g c clean rows within =
