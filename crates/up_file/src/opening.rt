@@ -2,6 +2,7 @@
 
 ghost use Rattle.std.specs.Prelude.{◌≡◌, ◌≢◌, ◌++◌, ℕ, List, false, true, IfOk, IfErr, codes, Err};
 ghost use Rattle.sqlite.specs.Files.{file_state, IsBlankAs, IsOpened};
+ghost use Rattle.std.specs.Prelude.{None};
 ghost use Rattle.sqlite.specs.Start.{FindsIn};
 ghost use Rattle.sqlite.specs.State.{HasCleanDisk};
 ghost use Rattle.sqlite.specs.WalFiles.{image_at};
@@ -35,6 +36,7 @@ pub fn open_file<S: Start>(
     ensures found { IfOk result (λ c. HasCleanDisk (file_state c) → FindsIn (image_at S.Start) (file_state c)) }
     ensures sums { IfOk result (λ c. HasCleanDisk (file_state c) → IsBlankAs true (image_at S.Start) → (view c.store).has_sums ≡ true) }
     ensures mode { IfOk result (λ c. (file_state c).in_transaction ≡ false) }
+    ensures unlimited { IfOk result (λ c. (file_state c).step_limit ≡ None) }
     ensures shielded { IfOk result (λ c. HasCleanDisk (file_state c) → (file_state c).IsShielded) }
     ensures fault { IfErr result (λ e. e ≢ NotOurs) }
     ensures memory { path.now ≡ codes ":memory:" → result ≡ Err OpenFault.Store }
