@@ -1,9 +1,9 @@
 #!/usr/bin/env python3
-"""Tries what is larger than in any row. No contract excludes that want of memory is told of it, so it is tried. Bounded to a minute or two.
+"""Tries what is larger than in any row. No contract excludes that want of memory is told of it, so it is tried. Bounded to a minute.
 
     large_cases.py PROGRAM
 
-Over a file: 65,537 running campaigns, the last of which names a vehicle; 1,100 manifests of one vehicle; roles of four keys, of which each signs,
+Over a file: 65,537 running campaigns, of which the last alone names the vehicle; 1,100 manifests of one vehicle; roles of four keys, of which each signs,
 before and behind a rotation, so that a Root file has eight signatures; and the greatest counts in all places at once. Each line is answered as by the
 rules of `tools/reference.py`; it is spared the campaigns that name other vehicles, which change no answer.
 """
@@ -43,16 +43,17 @@ def shown():
 
 
 def is_answered(program, own, script, spared=()):
-    """Whether the script is answered as by the rules, and each spared line, behind its first two, `done`."""
-    told = trials.printed(program, own / "tried", script[:2] + list(spared) + script[2:], 600)
-    if told is None or told[2 : 2 + len(spared)] != ["done"] * len(spared):
+    """Whether the script is answered as by the rules, and each spared line, behind its first three, `done`."""
+    told = trials.printed(program, own / "tried", script[:3] + list(spared) + script[3:], 600)
+    if told is None or told[3 : 3 + len(spared)] != ["done"] * len(spared):
         return False
-    return told[:2] + told[2 + len(spared) :] == trials.expected(own / "rules", script)
+    return told[:3] + told[3 + len(spared) :] == trials.expected(own / "rules", script)
 
 
 def campaigns(program, own):
-    others = [campaign("c%05d" % at, ["w%05d" % at]) for at in range(CAMPAIGNS - 1)]
-    script = [FOUND, image("new"), VEHICLE, campaign("last", ["v"]), *shown()]
+    other = fleet.line("add_vehicle", vehicle="w", primary="q", ecus=[ECU | {"ecu": "q"}])
+    others = [campaign("c%05d" % at, ["w"]) for at in range(CAMPAIGNS - 1)]
+    script = [FOUND, image("new"), other, VEHICLE, campaign("last", ["v"]), *shown()]
     yield "%d running campaigns, the last for a vehicle" % CAMPAIGNS, is_answered(program, own, script, others)
 
 
