@@ -1,11 +1,11 @@
 -- What a line or a request is answered where memory or the database may refuse.
 use Rattle.std.proofs.Common.{◌≡◌, inl, inr, ℕ, List, Bool, true, false, Result, Ok, Err, refl, sym, subst, ap, ◌∙◌}
-use Rattle.std.specs.Prelude.{◌⊎◌, ◌||◌, ⊤, MatchBool, OnErr}
+use Rattle.std.specs.Prelude.{◌⊎◌, ⊤, IsTrue, MatchBool, OnErr}
 use Rattle.sqlite_trees.specs.declared.store.Store.{Ghosts}
 use Rattle.up_canon.specs.Names.{Name}
 use Rattle.up_canon.specs.Refusals.{is_memory}
 use Rattle.up_canon.specs.declared.refusal.Refusal.{Refusal}
-use Rattle.up_canon.specs.declared.refusal.Refusal.TheVariants.{Memory, Store}
+use Rattle.up_canon.specs.declared.refusal.Refusal.TheVariants.{Memory, Store, UnknownVehicle}
 use Rattle.up_sign.specs.Schemes.{Rules}
 use Rattle.up_machine.specs.declared.answer.Answer.{Answer}
 use Rattle.up_machine.specs.declared.answer.Answer.TheVariants.{Done, Already, Reply, File, Refused}
@@ -13,8 +13,8 @@ use Rattle.up_machine.specs.declared.command.Command.{Command}
 use Rattle.up_machine.specs.Deciding.{Outcome}
 use Rattle.up_machine.specs.Repeats.{serve}
 use Rattle.up_machine.specs.State.{State}
-use Rattle.up_desk.specs.Serving.{is_store, is_fault, is_failed}
-use Rattle.up_desk.specs.Standing.{DeskView, Standing, HasCleanDisk}
+use Rattle.up_desk.specs.Serving.{is_fault, is_failed}
+use Rattle.up_desk.specs.Standing.{DeskView, Standing, HasCleanDisk, state}
 use Rattle.up_desk.specs.Calls.{ServesCall}
 use Rattle.up_script.specs.AskedLines.{asked_in}
 use Rattle.up_script.specs.declared.asked.Asked.{Asked}
@@ -24,7 +24,7 @@ use Rattle.up_heads.specs.declared.check.Check.{Check}
 use Rattle.up_http.specs.declared.asked.What.{What}
 use Rattle.up_http.specs.declared.asked.What.TheVariants.{Fixed}
 use Rattle.up_service.specs.Answers.{answered_as, IsFailed, IsAnswerOrFailed, AnswersAs}
-use Rattle.up_service.specs.LineAnswers.{line_answer, answer_to, carried_out, command_answer, viewed, shown_in, shown_text, Sees, AnswersLine}
+use Rattle.up_service.specs.LineAnswers.{line_answer, answer_to, carried_out, command_answer, viewed, shown_in, shown_text, Sees, AnswersLine, IsViewText, IsTextOf, IsLineTo, IsLine, Prints, Lines}
 use Rattle.up_service.specs.Responses.{answer_response, AnswersCall, IsResponseTo}
 
 -- ---- what says that memory or the database refused
@@ -79,25 +79,44 @@ responded k at c last head a t old new clean answered is =
 
 -- ---- lines that are refused, views, and fixed answers
 
-pub refused_line : (k : Rules) (line : List ℕ) (r : Refusal) (t : List ℕ) (s : Standing) → MatchBool (is_memory r) ⊤ (asked_in k line ≡ Err r) → t ≡ refused_text r → AnswersLine (λ q. line_answer k q line) k t s s
-unfolding line_answer
-refused_line k line r t s due is = record { clean = λ now. now; answered = λ now q sound was. (q, by_memory q (is_memory r) refl due, sound, was now) }
-  where
-    memory_failed : is_memory r ≡ true → is_fault r ≡ true
-    memory_failed h = ap (λ b. b || is_store r) h
+memory_by : (r : Refusal) → is_memory r ≡ true → r ≡ Memory
+memory_by Memory h = refl
+memory_by other h = cc
 
-    by_memory : (q : State) (b : Bool) → is_memory r ≡ b → MatchBool b ⊤ (asked_in k line ≡ Err r) → IsAnswerOrFailed refused_text (answer_to k q (asked_in k line)) q t q
-    by_memory q true same due = inr (failed_refusal refused_text r t (memory_failed same) is, refl)
-    by_memory q false same due = inl (is ∙ sym (ap (λ a. (answer_to k q a).text) due), sym (ap (λ a. (answer_to k q a).next) due))
+pub refused_line : {K D : Type 0} (rules : K → Rules) (g : Ghosts D) (line : List ℕ) (r : Refusal) (t : List ℕ) (desk : DeskView K D)
+    → MatchBool (is_memory r) ⊤ (asked_in (rules desk.scheme) line ≡ Err r) → t ≡ refused_text r → Lines rules g desk line t desk
+unfolding line_answer
+refused_line rules g line r t desk due is = (
+  refl,
+  text_by (is_memory r) refl due,
+  record { clean = λ now. now; answered = λ now q sound was. (q, answer_by q (is_memory r) refl due, sound, was now) },
+)
+  where
+    k : Rules
+    k = rules desk.scheme
+
+    text_by : (b : Bool) → is_memory r ≡ b → MatchBool b ⊤ (asked_in k line ≡ Err r) → IsLine k desk line t desk
+    text_by true same due = inl (is ∙ ap refused_text (memory_by r same), refl)
+    text_by false same due = inr (subst (λ a. IsLineTo k desk a t desk) (sym due) (is, refl))
+
+    answer_by : (q : State) (b : Bool) → is_memory r ≡ b → MatchBool b ⊤ (asked_in k line ≡ Err r) → IsAnswerOrFailed refused_text (answer_to k q (asked_in k line)) q t q
+    answer_by q true same due = inr (inl (is ∙ ap refused_text (memory_by r same)), refl)
+    answer_by q false same due = inl (is ∙ sym (ap (λ a. (answer_to k q a).text) due), sym (ap (λ a. (answer_to k q a).next) due))
 
 -- a line that asks this is answered as that is
-pub asked_line : (k : Rules) (line : List ℕ) (asked : Asked) (t : List ℕ) (old new : Standing) → asked_in k line ≡ Ok asked → AnswersLine (λ s. carried_out k s asked.at asked.what) k t old new
-    → AnswersLine (λ s. line_answer k s line) k t old new
+pub asked_line : {K D : Type 0} (rules : K → Rules) (g : Ghosts D) (line : List ℕ) (asked : Asked) (t : List ℕ) (old new : DeskView K D) → asked_in (rules old.scheme) line ≡ Ok asked
+    → Prints rules g (λ k. IsTextOf k asked.at asked.what) (λ k s. carried_out k s asked.at asked.what) old t new → Lines rules g old line t new
 unfolding line_answer
-asked_line k line asked t old new is h = record {
-  clean = h.clean;
-  answered = λ now s sound was. let it = h.answered now s sound was in (it.0, subst (λ a. IsAnswerOrFailed refused_text (answer_to k s a) s t it.0) (sym is) it.1, it.2, it.3);
-}
+asked_line rules g line asked t old new is h = (
+  h.0,
+  inr (subst (λ a. IsLineTo (rules old.scheme) old a t new) (sym is) h.1),
+  subst (λ a. AnswersLine (λ s. answer_to (rules old.scheme) s a) (rules old.scheme) t (state g old.store) (state g new.store)) (sym is) h.2,
+)
+
+-- the text of a view's refusal
+pub no_view : (r : Refusal) (t : List ℕ) → (r ≡ UnknownVehicle) ⊎ IsTrue (is_fault r) → t ≡ refused_text r → IsViewText t
+no_view r t (inl unknown) is = inr (inl (is ∙ ap refused_text unknown))
+no_view r t (inr fault) is = inr (inr (failed_refusal refused_text r t fault is))
 
 -- a view is told, or its refusal
 pub told_view : (k : Rules) (vehicle : Name) (t : List ℕ) (old new : Standing) → Sees (λ s. shown_in s vehicle ≡ Ok t) old new → AnswersLine (λ s. viewed s vehicle) k t old new

@@ -1,6 +1,6 @@
 -- A view, step by step.
-use Rattle.std.proofs.Common.{◌≡◌, ℕ, List, ◌++◌, Bool, true, false, Option, Some, None, Result, Ok, Err, refl, sym, subst, ap, ap₂, ◌∙◌, arith, take, map, length, get_or, ◌<◌, ◌+◌, [], ◌∷◌}
-use Rattle.std.specs.Prelude.{◌||◌, ⊤, IfOk, bytes_eq, flat_map, option_map, MatchBool}
+use Rattle.std.proofs.Common.{◌≡◌, inr, IfErr, ℕ, List, ◌++◌, Bool, true, false, Option, Some, None, Result, Ok, Err, refl, sym, subst, ap, ap₂, ◌∙◌, arith, take, map, length, get_or, ◌<◌, ◌+◌, [], ◌∷◌}
+use Rattle.std.specs.Prelude.{◌||◌, ⊤, IsTrue, IfOk, bytes_eq, flat_map, option_map, MatchBool}
 use Rattle.std.specs.List.{AllByRecursion}
 use Rattle.std.specs.FinMap as table
 use Rattle.std.proofs.lemmas.List.{flat_map_more, take_more}
@@ -8,7 +8,7 @@ use Rattle.std.proofs.lemmas.Result.{IfOk-weaker}
 use Rattle.up_canon.specs.Names.{Name}
 use Rattle.up_canon.specs.Steps.{and_then, ◌>>=◌, or_error}
 use Rattle.up_canon.specs.declared.refusal.Refusal.{Refusal}
-use Rattle.up_canon.specs.declared.refusal.Refusal.TheVariants.{UnknownVehicle}
+use Rattle.up_canon.specs.declared.refusal.Refusal.TheVariants.{Memory, UnknownVehicle}
 use Rattle.up_sign.specs.Schemes.{Rules}
 use Rattle.up_sign.proofs.Accepted.{bytes_eq-refl}
 use Rattle.up_plan.specs.declared.assigned.Plan.{Plan}
@@ -27,7 +27,7 @@ use Rattle.up_tables.specs.declared.values.StoreFault.TheVariants as fault
 use Rattle.up_desk.specs.Serving.{is_fault, refusal_told}
 use Rattle.up_desk.specs.Standing.{Standing, HasCleanDisk, IfClean, KeepsState, Fits, Reads, Tells}
 use Rattle.up_script.specs.PrintedLines.{ecu_text, vehicle_text}
-use Rattle.up_service.specs.LineAnswers.{Sees, ecus_text, row_text, rows_text, line_of, shown_in, shown_with}
+use Rattle.up_service.specs.LineAnswers.{Sees, GivesShown, ShowsRows, ecus_text, row_text, rows_text, line_of, shown_in, shown_with}
 
 -- ---- steps
 
@@ -76,6 +76,20 @@ fault_shown r f computed is = subst (λ q. MatchBool (is_fault q) ⊤ (computed 
     by_fault : (f : StoreFault) → MatchBool (is_fault (refusal_told f)) ⊤ (computed ≡ Err (refusal_told f))
     by_fault fault.Memory = tt
     by_fault fault.Store = tt
+
+-- a fault of the store is one, as a refusal
+pub told_fault : (r : Refusal) (f : StoreFault) → r ≡ refusal_told f → IsTrue (is_fault r)
+told_fault r f is = subst (λ q. IsTrue (is_fault q)) (sym is) (by_fault f)
+  where
+    by_fault : (f : StoreFault) → IsTrue (is_fault (refusal_told f))
+    by_fault fault.Memory = refl
+    by_fault fault.Store = refl
+
+-- the line of rows, or want of memory
+pub shows_rows : {S : Type 0} (bytes : S → List ℕ) (result : Result S Refusal) (plan : Option Plan) (rows : VehicleRows) → GivesShown bytes result (Ok (rows_text plan rows)) → IfErr result (λ r. r ≡ Memory)
+    → ShowsRows bytes result
+shows_rows bytes (Ok text) plan rows gives memory = (plan, rows, (let same : rows_text plan rows ≡ bytes text = cc in sym same))
+shows_rows bytes (Err r) plan rows gives memory = inr (subst (λ q. IsTrue (is_fault q)) (sym memory) refl)
 
 -- of an unknown vehicle
 pub no_vehicle : (vehicle : Name) (s : State) → None ≡ vehicle_rows s vehicle → shown_in s vehicle ≡ Err UnknownVehicle

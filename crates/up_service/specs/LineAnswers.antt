@@ -1,26 +1,28 @@
 -- What each line of a script is answered, and the state that it leaves.
-use Rattle.std.specs.Prelude.{◌≡◌, ℕ, List, ◌++◌, flat_map, MatchBool, ⊤, Option, Result, Ok, Err}
+use Rattle.std.specs.Prelude.{◌≡◌, ◌⊎◌, ℕ, List, ◌++◌, flat_map, MatchBool, ⊤, IsTrue, Option, IfSome, Result, Ok, Err}
 use Rattle.sqlite_trees.specs.declared.store.Store.{Ghosts}
 use Rattle.up_canon.specs.Names.{Name}
 use Rattle.up_canon.specs.Steps.{◌>>=◌, or_error}
 use Rattle.up_canon.specs.declared.refusal.Refusal.{Refusal}
-use Rattle.up_canon.specs.declared.refusal.Refusal.TheVariants.{UnknownVehicle}
+use Rattle.up_canon.specs.declared.refusal.Refusal.TheVariants.{Memory, UnknownVehicle}
 use Rattle.up_sign.specs.Schemes.{Rules}
 use Rattle.up_plan.specs.declared.assigned.Plan.{Plan}
+use Rattle.up_machine.specs.declared.answer.Answer.{Answer}
+use Rattle.up_machine.specs.declared.answer.Answer.TheVariants.{Refused}
 use Rattle.up_machine.specs.declared.command.Command.{Command}
 use Rattle.up_machine.specs.declared.rows.EcuRow.{EcuRow}
 use Rattle.up_machine.specs.declared.rows.VehicleRows.{VehicleRows}
 use Rattle.up_machine.specs.Reads.{ecus_of, version_of, installed, assigned_to}
 use Rattle.up_machine.specs.Sound.{IsSound}
 use Rattle.up_machine.specs.State.{State}
-use Rattle.up_desk.specs.Serving.{is_fault}
+use Rattle.up_desk.specs.Serving.{is_fault, outright}
 use Rattle.up_desk.specs.Standing.{DeskView, Standing, HasCleanDisk, IfClean, KeepsState, state}
 use Rattle.up_script.specs.AskedLines.{asked_in}
 use Rattle.up_script.specs.PrintedLines.{answer_text, refused_text, vehicle_text, ecu_text}
 use Rattle.up_script.specs.declared.asked.Asked.{Asked}
 use Rattle.up_script.specs.declared.asked.What.{What}
 use Rattle.up_script.specs.declared.asked.What.TheVariants.{Call, Show}
-use Rattle.up_service.specs.Answers.{Answered, answered_as, AnswersAs}
+use Rattle.up_service.specs.Answers.{Answered, answered_as, IsFailed, AnswersAs}
 
 -- ---- views of a vehicle
 
@@ -54,6 +56,12 @@ shown_in s vehicle = do
 abbrev pub GivesShown : {S : Type 0} → (S → List ℕ) → Result S Refusal → Result (List ℕ) Refusal → Type 0
 GivesShown bytes (Ok text) computed = computed ≡ Ok (bytes text)
 GivesShown bytes (Err r) computed = MatchBool (is_fault r) ⊤ (computed ≡ Err r)
+
+-- whatever the database does and its tables show: the line of some rows of a vehicle, or a refusal, which tells that there is none, or that
+-- memory or the database refused
+abbrev pub ShowsRows : {S : Type 0} → (S → List ℕ) → Result S Refusal → Type 0
+ShowsRows bytes (Ok text) = (plan : Option Plan) × (rows : VehicleRows) × (bytes text ≡ rows_text plan rows)
+ShowsRows bytes (Err r) = (r ≡ UnknownVehicle) ⊎ IsTrue (is_fault r)
 
 -- the text that is told of it
 abbrev pub shown_text : Result (List ℕ) Refusal → List ℕ
@@ -93,7 +101,36 @@ line_answer k s line = answer_to k s (asked_in k line)
 abbrev pub AnswersLine : (State → Answered) → Rules → List ℕ → Standing → Standing → Type 0
 AnswersLine answer k text old new = AnswersAs refused_text answer k text old new
 
+-- ---- lines, whatever the database does and its tables show
+
+-- the line that prints some answer of the desk, which is a refusal where the command is refused outright
+abbrev pub IsAnswerText : Rules → ℕ → Command → List ℕ → Type 0
+IsAnswerText k at command text = (answer : Answer) × (text ≡ answer_text answer) × IfSome (outright k at command) (λ r. answer ≡ Refused r)
+
+-- the line of some rows of a vehicle; or it tells that there is none, or that memory or the database refused
+abbrev pub IsViewText : List ℕ → Type 0
+IsViewText text = ((plan : Option Plan) × (rows : VehicleRows) × (text ≡ rows_text plan rows)) ⊎ ((text ≡ refused_text UnknownVehicle) ⊎ IsFailed refused_text text)
+
+abbrev pub IsTextOf : Rules → ℕ → What → List ℕ → Type 0
+IsTextOf k at (Call command) text = IsAnswerText k at command text
+IsTextOf k at (Show vehicle) text = IsViewText text
+
+-- a line that is no command and no view is told its fault, and leaves the desk as it was
+abbrev pub IsLineTo : {K D : Type 0} → Rules → DeskView K D → Result Asked Refusal → List ℕ → DeskView K D → Type 0
+IsLineTo k old (Ok asked) text new = IsTextOf k asked.at asked.what text
+IsLineTo k old (Err r) text new = (text ≡ refused_text r) × (new ≡ old)
+
+-- or it tells that memory was refused while the line was read, which leaves the desk as it was too
+abbrev pub IsLine : {K D : Type 0} → Rules → DeskView K D → List ℕ → List ℕ → DeskView K D → Type 0
+IsLine k old line text new = ((text ≡ refused_text Memory) × (new ≡ old)) ⊎ IsLineTo k old (asked_in k line) text new
+
+-- ---- both
+
+-- the desk's scheme stays; the text is such a one, and such an answer over the states that the tables show
+abbrev pub Prints : {K D : Type 0} → (K → Rules) → Ghosts D → (Rules → List ℕ → Type 0) → (Rules → State → Answered) → DeskView K D → List ℕ → DeskView K D → Type 0
+Prints rules g IsText answer old text new =
+    (new.scheme ≡ old.scheme) × IsText (rules old.scheme) text × AnswersLine (answer (rules old.scheme)) (rules old.scheme) text (state g old.store) (state g new.store)
+
 -- what a desk may answer a line, and how it leaves it
 abbrev pub Lines : {K D : Type 0} → (K → Rules) → Ghosts D → DeskView K D → List ℕ → List ℕ → DeskView K D → Type 0
-Lines rules g old line text new =
-    (new.scheme ≡ old.scheme) × AnswersLine (λ s. line_answer (rules old.scheme) s line) (rules old.scheme) text (state g old.store) (state g new.store)
+Lines rules g old line text new = Prints rules g (λ k t. IsLine k old line t new) (λ k s. line_answer k s line) old text new

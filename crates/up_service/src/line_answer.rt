@@ -1,9 +1,8 @@
 //! The answer to a line of a script.
-ghost use Rattle.std.specs.Prelude.{◌≡◌, List, ℕ, IsTrue, IfOk, OnErr, string_bytes};
+ghost use Rattle.std.specs.Prelude.{List, ℕ, IsTrue, IfOk, OnErr, string_bytes};
 ghost use Rattle.up_machine.specs.Commands.{opens_running};
 ghost use Rattle.up_script.specs.AskedLines.{asks_running};
-ghost use Rattle.up_desk.specs.Standing.{state};
-ghost use Rattle.up_service.specs.LineAnswers.{AnswersLine, carried_out, command_answer, line_answer, viewed};
+ghost use Rattle.up_service.specs.LineAnswers.{IsAnswerText, IsTextOf, IsViewText, Lines, Prints, carried_out, command_answer, viewed};
 
 use crate::show::shown;
 use sqlite::Alter;
@@ -44,9 +43,8 @@ fn line_text<K: Scheme, D: Alter>(
     desk: &mut Desk<K, D>,
     line: &[u8],
 ) -> Result<String, AllocError>
-    ensures scheme { desk.new.scheme ≡ desk.old.scheme }
-    ensures ok { IfOk result (λ t. AnswersLine (λ s. line_answer (K.rules desk.old.scheme) s line.now) (K.rules desk.old.scheme) (string_bytes t) (state D.Store desk.old.store) (state D.Store desk.new.store)) }
-    ensures err { OnErr result ((text : List ℕ) × AnswersLine (λ s. line_answer (K.rules desk.old.scheme) s line.now) (K.rules desk.old.scheme) text (state D.Store desk.old.store) (state D.Store desk.new.store)) }
+    ensures ok { IfOk result (λ t. Lines (K.rules) D.Store desk.old line.now (string_bytes t) desk.new) }
+    ensures err { OnErr result ((text : List ℕ) × Lines (K.rules) D.Store desk.old line.now text desk.new) }
 {
     match asked_by(alloc, desk.scheme(), line) {
         Ok(asked) => carry_out(alloc, desk, &asked),
@@ -61,9 +59,8 @@ fn carry_out<K: Scheme, D: Alter>(
     asked: &Asked,
 ) -> Result<String, AllocError>
     requires { IsTrue (asks_running asked.now.what) }
-    ensures scheme { desk.new.scheme ≡ desk.old.scheme }
-    ensures ok { IfOk result (λ t. AnswersLine (λ s. carried_out (K.rules desk.old.scheme) s asked.now.at asked.now.what) (K.rules desk.old.scheme) (string_bytes t) (state D.Store desk.old.store) (state D.Store desk.new.store)) }
-    ensures err { OnErr result ((text : List ℕ) × AnswersLine (λ s. carried_out (K.rules desk.old.scheme) s asked.now.at asked.now.what) (K.rules desk.old.scheme) text (state D.Store desk.old.store) (state D.Store desk.new.store)) }
+    ensures ok { IfOk result (λ t. Prints (K.rules) D.Store (λ k. IsTextOf k asked.now.at asked.now.what) (λ k s. carried_out k s asked.now.at asked.now.what) desk.old (string_bytes t) desk.new) }
+    ensures err { OnErr result ((text : List ℕ) × Prints (K.rules) D.Store (λ k. IsTextOf k asked.now.at asked.now.what) (λ k s. carried_out k s asked.now.at asked.now.what) desk.old text desk.new) }
 {
     match &asked.what {
         What::Call(command) => called_text(alloc, desk, asked.at.get(), command),
@@ -79,9 +76,8 @@ fn called_text<K: Scheme, D: Alter>(
     command: &Command,
 ) -> Result<String, AllocError>
     requires { IsTrue (opens_running command.now) }
-    ensures scheme { desk.new.scheme ≡ desk.old.scheme }
-    ensures ok { IfOk result (λ t. AnswersLine (λ s. command_answer (K.rules desk.old.scheme) s at command.now) (K.rules desk.old.scheme) (string_bytes t) (state D.Store desk.old.store) (state D.Store desk.new.store)) }
-    ensures err { OnErr result ((text : List ℕ) × AnswersLine (λ s. command_answer (K.rules desk.old.scheme) s at command.now) (K.rules desk.old.scheme) text (state D.Store desk.old.store) (state D.Store desk.new.store)) }
+    ensures ok { IfOk result (λ t. Prints (K.rules) D.Store (λ k. IsAnswerText k at command.now) (λ k s. command_answer k s at command.now) desk.old (string_bytes t) desk.new) }
+    ensures err { OnErr result ((text : List ℕ) × Prints (K.rules) D.Store (λ k. IsAnswerText k at command.now) (λ k s. command_answer k s at command.now) desk.old text desk.new) }
 {
     let answer = desk.call(alloc, at, command);
     answer_text(alloc, &answer)
@@ -93,9 +89,8 @@ fn shown_text<K: Scheme, D: Alter>(
     desk: &mut Desk<K, D>,
     vehicle: &Ident,
 ) -> Result<String, AllocError>
-    ensures scheme { desk.new.scheme ≡ desk.old.scheme }
-    ensures ok { IfOk result (λ t. AnswersLine (λ s. viewed s vehicle.now) (K.rules desk.old.scheme) (string_bytes t) (state D.Store desk.old.store) (state D.Store desk.new.store)) }
-    ensures err { OnErr result ((text : List ℕ) × AnswersLine (λ s. viewed s vehicle.now) (K.rules desk.old.scheme) text (state D.Store desk.old.store) (state D.Store desk.new.store)) }
+    ensures ok { IfOk result (λ t. Prints (K.rules) D.Store (λ k. IsViewText) (λ k s. viewed s vehicle.now) desk.old (string_bytes t) desk.new) }
+    ensures err { OnErr result ((text : List ℕ) × Prints (K.rules) D.Store (λ k. IsViewText) (λ k s. viewed s vehicle.now) desk.old text desk.new) }
 {
     match shown(alloc, desk, vehicle) {
         Ok(text) => Ok(text),

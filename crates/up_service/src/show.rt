@@ -1,8 +1,9 @@
 //! Views of a vehicle.
-ghost use Rattle.std.specs.Prelude.{◌≡◌, ◌++◌, Ok, IfOk, string_bytes};
+ghost use Rattle.std.specs.Prelude.{◌≡◌, ◌++◌, Ok, IfOk, IfErr, string_bytes};
+ghost use Rattle.up_canon.specs.declared.refusal.Refusal.TheVariants.{Memory};
 ghost use Rattle.up_machine.specs.Reads.{assigned_to};
 ghost use Rattle.up_desk.specs.Standing.{state};
-ghost use Rattle.up_service.specs.LineAnswers.{GivesShown, Sees, row_text, rows_text, shown_in};
+ghost use Rattle.up_service.specs.LineAnswers.{GivesShown, Sees, ShowsRows, row_text, rows_text, shown_in};
 
 use sqlite::Alter;
 use std::alloc::{AllocError, Global};
@@ -23,6 +24,7 @@ pub(crate) fn shown<K: Scheme, D: Alter>(
     vehicle: &Ident,
 ) -> Result<String, Refusal>
     ensures sees { Sees (λ s. GivesShown string_bytes result (shown_in s vehicle.now)) (state D.Store desk.old.store) (state D.Store desk.new.store) }
+    ensures shows { ShowsRows string_bytes result }
     ensures scheme { desk.new.scheme ≡ desk.old.scheme }
 {
     vehicles_stand_apart();
@@ -41,6 +43,7 @@ fn shown_with<K: Scheme, D: Alter>(
 ) -> Result<String, Refusal>
     ensures sees { Sees (λ s. GivesShown string_bytes result (Ok (rows_text (assigned_to s rows.now.vehicle.vehicle) rows.now)))
         (state D.Store desk.old.store) (state D.Store desk.new.store) }
+    ensures shows { ShowsRows string_bytes result }
     ensures scheme { desk.new.scheme ≡ desk.old.scheme }
 {
     match desk.assigned(alloc, &rows.vehicle.vehicle) {
@@ -51,7 +54,8 @@ fn shown_with<K: Scheme, D: Alter>(
 
 /// The same, where this plan is assigned.
 fn line_with(alloc: Global, rows: &VehicleRows, plan: &Option<Plan>) -> Result<String, Refusal>
-    ensures { GivesShown string_bytes result (Ok (rows_text plan.now rows.now)) }
+    ensures shows { GivesShown string_bytes result (Ok (rows_text plan.now rows.now)) }
+    ensures memory { IfErr result (λ r. r ≡ Memory) }
 {
     match line_of(alloc, rows, plan) {
         Ok(line) => Ok(line),

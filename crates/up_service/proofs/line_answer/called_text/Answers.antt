@@ -8,15 +8,21 @@ use Rattle.up_service.proofs.line_answer.called_text.Goals as goal
 
 pub returns-clause-ok : goal.returns-clause-ok
 returns-clause-ok g c =
-    let k = g.K.Scheme.rules c.args.desk.now.scheme in
-    IfOk-weaker c.answer_text.result _ _ (λ t is. printed k c.args.at c.args.command.now c.call-answer.result (string_bytes t) (state g.D.Store c.args.desk.now.store) (state g.D.Store c.call-answer.new.self.store)
-    c.call-answer.ensures.clean c.call-answer.ensures.served is) c.answer_text.ensures
+    IfOk-weaker c.answer_text.result _ _ (λ t is. (
+      c.call-answer.ensures.scheme,
+      (c.call-answer.result, is, c.call-answer.ensures.outright),
+      printed (g.K.Scheme.rules c.args.desk.now.scheme) c.args.at c.args.command.now c.call-answer.result (string_bytes t) (state g.D.Store c.args.desk.now.store) (state g.D.Store c.call-answer.new.self.store)
+          c.call-answer.ensures.clean c.call-answer.ensures.served is,
+    )) c.answer_text.ensures
 
 pub returns-clause-err : goal.returns-clause-err
 returns-clause-err g c =
-    let k = g.K.Scheme.rules c.args.desk.now.scheme in
     on_err c.answer_text.result (
       answer_text c.call-answer.result,
-      printed k c.args.at c.args.command.now c.call-answer.result (answer_text c.call-answer.result) (state g.D.Store c.args.desk.now.store) (state g.D.Store c.call-answer.new.self.store)
-          c.call-answer.ensures.clean c.call-answer.ensures.served refl,
+      (
+        c.call-answer.ensures.scheme,
+        (c.call-answer.result, refl, c.call-answer.ensures.outright),
+        printed (g.K.Scheme.rules c.args.desk.now.scheme) c.args.at c.args.command.now c.call-answer.result (answer_text c.call-answer.result) (state g.D.Store c.args.desk.now.store) (state g.D.Store c.call-answer.new.self.store)
+            c.call-answer.ensures.clean c.call-answer.ensures.served refl,
+      ),
     )

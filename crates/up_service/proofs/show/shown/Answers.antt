@@ -1,10 +1,10 @@
-use Rattle.std.proofs.Common.{◌≡◌, Ok, sym, subst, ◌∙◌}
+use Rattle.std.proofs.Common.{◌≡◌, Ok, inl, inr, refl, sym, subst, ◌∙◌}
 use Rattle.std.specs.Prelude.{string_bytes}
 use Rattle.up_desk.specs.Standing.{state}
 use Rattle.up_machine.specs.Rows.{vehicle_rows}
 use Rattle.up_tables.specs.declared.values.StoreFault.{StoreFault}
 use Rattle.up_service.specs.LineAnswers.{GivesShown}
-use Rattle.up_service.proofs.Showing.{seen_by, seen_in_fault, sees_then, sees_weaker, fault_shown, no_vehicle, rows_shown}
+use Rattle.up_service.proofs.Showing.{seen_by, seen_in_fault, sees_then, sees_weaker, fault_shown, told_fault, no_vehicle, rows_shown}
 use Rattle.up_service.proofs.show.shown.Goals as goal
 
 pub returns-in-Ok-Some-clause-sees : goal.returns-in-Ok-Some-clause-sees
@@ -26,3 +26,9 @@ returns-in-Ok-None-clause-sees g c =
 pub returns-in-Err-clause-sees : goal.returns-in-Err-clause-sees
 returns-in-Err-clause-sees g c =
     seen_in_fault _ (state g.D.Store c.args.desk.now.store) (state g.D.Store c.vehicle.new.self.store) c.in-Err.ensures.reads (λ s. fault_shown c.refusal_of.result c.in-Err.fault _ c.refusal_of.ensures)
+
+pub returns-in-Ok-None-clause-shows : goal.returns-in-Ok-None-clause-shows
+returns-in-Ok-None-clause-shows g c = inl refl
+
+pub returns-in-Err-clause-shows : goal.returns-in-Err-clause-shows
+returns-in-Err-clause-shows g c = inr (told_fault c.refusal_of.result c.in-Err.fault c.refusal_of.ensures)
