@@ -1,11 +1,12 @@
 -- What a line or a request is answered where memory or the database may refuse.
-use Rattle.std.proofs.Common.{◌≡◌, inl, inr, ℕ, List, Bool, true, false, Result, Ok, Err, refl, sym, subst, ap, ◌∙◌}
+use Rattle.std.proofs.Common.{◌≡◌, inl, inr, ℕ, List, Bool, true, false, Result, Ok, Err, Some, refl, sym, subst, ap, ◌∙◌, arith}
 use Rattle.std.specs.Prelude.{◌⊎◌, ⊤, IsTrue, MatchBool, OnErr}
+use Rattle.sqlite.specs.Tree.{Trees}
 use Rattle.sqlite_trees.specs.declared.store.Store.{Ghosts}
 use Rattle.up_canon.specs.Names.{Name}
 use Rattle.up_canon.specs.Refusals.{is_memory}
 use Rattle.up_canon.specs.declared.refusal.Refusal.{Refusal}
-use Rattle.up_canon.specs.declared.refusal.Refusal.TheVariants.{Memory, Store, UnknownVehicle}
+use Rattle.up_canon.specs.declared.refusal.Refusal.TheVariants.{Memory, UnknownVehicle}
 use Rattle.up_sign.specs.Schemes.{Rules}
 use Rattle.up_machine.specs.declared.answer.Answer.{Answer}
 use Rattle.up_machine.specs.declared.answer.Answer.TheVariants.{Done, Already, Reply, File, Refused}
@@ -13,71 +14,86 @@ use Rattle.up_machine.specs.declared.command.Command.{Command}
 use Rattle.up_machine.specs.Deciding.{Outcome}
 use Rattle.up_machine.specs.Repeats.{serve}
 use Rattle.up_machine.specs.State.{State}
-use Rattle.up_desk.specs.Serving.{is_fault, is_failed}
-use Rattle.up_desk.specs.Standing.{DeskView, Standing, HasCleanDisk, state}
-use Rattle.up_desk.specs.Calls.{ServesCall}
+use Rattle.up_desk.specs.Serving.{is_fault, is_failed, IsCommit}
+use Rattle.up_desk.specs.Standing.{DeskView, Standing, HasCleanDisk, Survives, state}
+use Rattle.up_desk.specs.Calls.{ServesCall, SparesCall, CommitsCall}
 use Rattle.up_script.specs.AskedLines.{asked_in}
 use Rattle.up_script.specs.declared.asked.Asked.{Asked}
+use Rattle.up_script.specs.declared.asked.What.{What}
+use Rattle.up_script.specs.declared.asked.What.TheVariants.{Call, Show}
 use Rattle.up_script.specs.PrintedLines.{answer_text, refused_text}
 use Rattle.up_heads.specs.Responses.{check_response_of, refusal_response_of}
 use Rattle.up_heads.specs.declared.check.Check.{Check}
-use Rattle.up_http.specs.declared.asked.What.{What}
+use Rattle.up_http.specs.declared.asked.What.{What as Requested}
 use Rattle.up_http.specs.declared.asked.What.TheVariants.{Fixed}
-use Rattle.up_service.specs.Answers.{answered_as, IsFailed, IsAnswerOrFailed, AnswersAs}
+use Rattle.up_service.specs.Answers.{answered_as, HoldsNext, IsCommitted, IsAnswerOrFailed, AnswersAs}
 use Rattle.up_service.specs.LineAnswers.{line_answer, answer_to, carried_out, command_answer, viewed, shown_in, shown_text, Sees, AnswersLine, IsViewText, IsTextOf, IsLineTo, IsLine, Prints, Lines}
 use Rattle.up_service.specs.Responses.{answer_response, AnswersCall, IsResponseTo}
-
--- ---- what says that memory or the database refused
-
-refused_by : (r : Refusal) → is_fault r ≡ true → (r ≡ Memory) ⊎ (r ≡ Store)
-refused_by Memory h = inl refl
-refused_by Store h = inr refl
-refused_by other h = cc
-
-failed_refusal : (tell : Refusal → List ℕ) (r : Refusal) (t : List ℕ) → is_fault r ≡ true → t ≡ tell r → IsFailed tell t
-failed_refusal tell r t h is = by_case (refused_by r h)
-  where
-    by_case : (r ≡ Memory) ⊎ (r ≡ Store) → IsFailed tell t
-    by_case (inl same) = inl (is ∙ ap tell same)
-    by_case (inr same) = inr (is ∙ ap tell same)
-
-failed_answer : (tell : Refusal → List ℕ) (tell_answer : Answer → List ℕ) → ((r : Refusal) → tell_answer (Refused r) ≡ tell r) → (a : Answer) (t : List ℕ) → is_failed a ≡ true → t ≡ tell_answer a → IsFailed tell t
-failed_answer tell tell_answer same Done t h is = cc
-failed_answer tell tell_answer same Already t h is = cc
-failed_answer tell tell_answer same (Reply r) t h is = cc
-failed_answer tell tell_answer same (File f) t h is = cc
-failed_answer tell tell_answer same (Refused r) t h is = failed_refusal tell r t h (is ∙ same r)
+use Rattle.up_service.proofs.Failing.{AreApart, failed_refusal, failed_answer, lines_apart, responses_apart}
 
 -- ---- commands
 
 by_loss : (tell : Refusal → List ℕ) (tell_answer : Answer → List ℕ) → ((r : Refusal) → tell_answer (Refused r) ≡ tell r) → (lost : Bool) (a : Answer) (old new : State) (o : Outcome) (t : List ℕ)
-    → is_failed a ≡ lost → MatchBool lost (new ≡ old) ((a ≡ o.answer) × (new ≡ o.next)) → t ≡ tell_answer a → IsAnswerOrFailed tell (record { text = tell_answer o.answer; next = o.next }) old t new
+    → is_failed a ≡ lost → MatchBool lost (new ≡ old) ((a ≡ o.answer) × (new ≡ o.next)) → t ≡ tell_answer a → IsAnswerOrFailed tell (record { text = tell_answer o.answer; called = Some o.answer; next = o.next }) old t new
 by_loss tell tell_answer same true a old new o t is h e = inr (failed_answer tell tell_answer same a t is e, h)
 by_loss tell tell_answer same false a old new o t is h e = inl (e ∙ ap tell_answer h.0, h.1)
 
+-- where the answer to a commit is told, it was given
+committed : (tell : Refusal → List ℕ) (tell_answer : Answer → List ℕ) → ((r : Refusal) → tell_answer (Refused r) ≡ tell r) → AreApart tell tell_answer → (lost : Bool) (a : Answer) (old new : State) (o : Outcome)
+    → is_failed a ≡ lost → MatchBool lost (new ≡ old) ((a ≡ o.answer) × (new ≡ o.next)) → tell_answer a ≡ tell_answer o.answer → IsCommit old o.answer o.next → IsCommit old a o.next
+committed tell tell_answer same apart false a old new o is h told commit = subst (λ x. IsCommit old x o.next) (sym h.0) commit
+committed tell tell_answer same apart true Done old new o is h told commit = absurd (cc)
+committed tell tell_answer same apart true Already old new o is h told commit = absurd (cc)
+committed tell tell_answer same apart true (Reply r) old new o is h told commit = absurd (cc)
+committed tell tell_answer same apart true (File f) old new o is h told commit = absurd (cc)
+committed tell tell_answer same apart true (Refused r) old new o is h told commit = absurd (apart r o.answer old o.next is commit (sym (same r) ∙ told))
+
+-- what a call of the desk comes to
+pub record IsCalled (k : Rules) (at : ℕ) (c : Command) (a : Answer) (old new : Standing) : Type 0 where
+  pub clean : HasCleanDisk new → HasCleanDisk old
+  pub served : ServesCall k at c a old new
+  pub crash : SparesCall k at c old new
+  pub durable : CommitsCall k at c a old new
+
 -- what is told of what the desk answered a command
-called : (tell : Refusal → List ℕ) (tell_answer : Answer → List ℕ) → ((r : Refusal) → tell_answer (Refused r) ≡ tell r) → (k : Rules) (at : ℕ) (c : Command) (a : Answer) (t : List ℕ) (old new : Standing)
-    → (HasCleanDisk new → HasCleanDisk old) → ServesCall k at c a old new
+called : (tell : Refusal → List ℕ) (tell_answer : Answer → List ℕ) → ((r : Refusal) → tell_answer (Refused r) ≡ tell r) → AreApart tell tell_answer
+    → (k : Rules) (at : ℕ) (c : Command) (a : Answer) (t : List ℕ) (old new : Standing) → IsCalled k at c a old new
     → t ≡ tell_answer a → AnswersAs tell (λ s. answered_as tell_answer k s at c) k t old new
-called tell tell_answer same k at c a t old new clean answered is = record {
-  clean = clean;
-  answered = λ now s sound was. let it = answered now s sound was in (it.0, by_loss tell tell_answer same (is_failed a) a s it.0 (serve k s at c) t refl it.1 is, it.3, it.4);
+called tell tell_answer same apart k at c a t old new it is = record {
+  clean = it.clean;
+  answered = λ now s sound was. let to = it.served now s sound was in (to.0, by_loss tell tell_answer same (is_failed a) a s to.0 (serve k s at c) t refl to.1 is, to.3, to.4);
+  crash = it.crash;
+  durable = λ s sound was told commit now.
+      let to = it.served now s sound was in
+      it.durable s sound was (committed tell tell_answer same apart (is_failed a) a s to.0 (serve k s at c) refl to.1 (sym is ∙ told) commit) now;
 }
 
 -- as a line
-pub printed : (k : Rules) (at : ℕ) (c : Command) (a : Answer) (t : List ℕ) (old new : Standing) → (HasCleanDisk new → HasCleanDisk old) → ServesCall k at c a old new
-    → t ≡ answer_text a → AnswersLine (λ s. command_answer k s at c) k t old new
+pub printed : (k : Rules) (at : ℕ) (c : Command) (a : Answer) (t : List ℕ) (old new : Standing) → IsCalled k at c a old new → t ≡ answer_text a → AnswersLine (λ s. command_answer k s at c) k t old new
 unfolding answer_text
-printed k at c a t old new clean answered is = called refused_text answer_text (λ r. refl) k at c a t old new clean answered is
+printed k at c a t old new it is = called refused_text answer_text (λ r. refl) lines_apart k at c a t old new it is
 
 -- as a response
-pub responded : (k : Rules) (at : ℕ) (c : Command) (last head : Bool) (a : Answer) (t : List ℕ) (old new : Standing) → (HasCleanDisk new → HasCleanDisk old) → ServesCall k at c a old new
+pub responded : (k : Rules) (at : ℕ) (c : Command) (last head : Bool) (a : Answer) (t : List ℕ) (old new : Standing) → IsCalled k at c a old new
     → t ≡ answer_response a last head → AnswersCall k at c last head t old new
 unfolding answer_response
-responded k at c last head a t old new clean answered is =
-    called (λ r. refusal_response_of r last head) (λ answer. answer_response answer last head) (λ r. refl) k at c a t old new clean answered is
+responded k at c last head a t old new it is =
+    called (λ r. refusal_response_of r last head) (λ answer. answer_response answer last head) (λ r. refl) (responses_apart last head) k at c a t old new it is
 
 -- ---- lines that are refused, views, and fixed answers
+
+-- nothing happens
+survives_same : (P : Trees → Type 0) (s : Standing) → Survives s s P
+survives_same P s = record { clean = omega arith; shield = λ h. h; counts = omega arith; limit = refl; closes = λ clean is_open. inl is_open; crash = λ clean db may. inl may }
+
+-- a commit isn't told as want of memory
+no_commit : (k : Rules) (s : State) (at : ℕ) (w : What) → refused_text Memory ≡ (carried_out k s at w).text → IsCommitted s (carried_out k s at w).called (carried_out k s at w).next → ⊥
+no_commit k s at (Call c) told commit = lines_apart Memory (serve k s at c).answer s (serve k s at c).next refl commit told
+no_commit k s at (Show vehicle) told commit = commit
+
+nothing_committed : (k : Rules) (s : State) (a : Result Asked Refusal) → refused_text Memory ≡ (answer_to k s a).text → IsCommitted s (answer_to k s a).called (answer_to k s a).next → ⊥
+nothing_committed k s (Ok asked) told commit = no_commit k s asked.at asked.what told commit
+nothing_committed k s (Err r) told commit = commit
 
 memory_by : (r : Refusal) → is_memory r ≡ true → r ≡ Memory
 memory_by Memory h = refl
@@ -89,7 +105,12 @@ unfolding line_answer
 refused_line rules g line r t desk due is = (
   refl,
   text_by (is_memory r) refl due,
-  record { clean = λ now. now; answered = λ now q sound was. (q, answer_by q (is_memory r) refl due, sound, was now) },
+  record {
+    clean = λ now. now;
+    answered = λ now q sound was. (q, answer_by q (is_memory r) refl due, sound, was now);
+    crash = λ q sound was. survives_same (HoldsNext k (answer_to k q (asked_in k line)).called (answer_to k q (asked_in k line)).next) (state g desk.store);
+    durable = λ q sound was told commit. absurd (not_durable q (is_memory r) refl due told commit);
+  },
 )
   where
     k : Rules
@@ -102,6 +123,11 @@ refused_line rules g line r t desk due is = (
     answer_by : (q : State) (b : Bool) → is_memory r ≡ b → MatchBool b ⊤ (asked_in k line ≡ Err r) → IsAnswerOrFailed refused_text (answer_to k q (asked_in k line)) q t q
     answer_by q true same due = inr (inl (is ∙ ap refused_text (memory_by r same)), refl)
     answer_by q false same due = inl (is ∙ sym (ap (λ a. (answer_to k q a).text) due), sym (ap (λ a. (answer_to k q a).next) due))
+
+    not_durable : (q : State) (b : Bool) → is_memory r ≡ b → MatchBool b ⊤ (asked_in k line ≡ Err r) → t ≡ (answer_to k q (asked_in k line)).text
+        → IsCommitted q (answer_to k q (asked_in k line)).called (answer_to k q (asked_in k line)).next → ⊥
+    not_durable q true same due told commit = nothing_committed k q (asked_in k line) (sym (is ∙ ap refused_text (memory_by r same)) ∙ told) commit
+    not_durable q false same due told commit = subst (λ a. IsCommitted q (answer_to k q a).called (answer_to k q a).next) due commit
 
 -- a line that asks this is answered as that is
 pub asked_line : {K D : Type 0} (rules : K → Rules) (g : Ghosts D) (line : List ℕ) (asked : Asked) (t : List ℕ) (old new : DeskView K D) → asked_in (rules old.scheme) line ≡ Ok asked
@@ -123,6 +149,8 @@ pub told_view : (k : Rules) (vehicle : Name) (t : List ℕ) (old new : Standing)
 told_view k vehicle t old new sees = record {
   clean = sees.clean;
   answered = λ now s sound was. let it = sees.seen now k s sound was in (s, inl (sym (ap shown_text it.0), refl), sound, it.1);
+  crash = λ s sound was. sees.crash;
+  durable = λ s sound was told commit. absurd commit;
 }
 
 pub told_refusal : (k : Rules) (vehicle : Name) (r : Refusal) (t : List ℕ) (old new : Standing) → Sees (λ s. MatchBool (is_fault r) ⊤ (shown_in s vehicle ≡ Err r)) old new → t ≡ refused_text r
@@ -130,6 +158,8 @@ pub told_refusal : (k : Rules) (vehicle : Name) (r : Refusal) (t : List ℕ) (ol
 told_refusal k vehicle r t old new sees is = record {
   clean = sees.clean;
   answered = λ now s sound was. let it = sees.seen now k s sound was in (s, by_loss_of s (is_fault r) refl it.0, sound, it.1);
+  crash = λ s sound was. sees.crash;
+  durable = λ s sound was told commit. absurd commit;
 }
   where
     by_loss_of : (s : State) (b : Bool) → is_fault r ≡ b → MatchBool b ⊤ (shown_in s vehicle ≡ Err r) → IsAnswerOrFailed refused_text (viewed s vehicle) s t s
@@ -137,7 +167,7 @@ told_refusal k vehicle r t old new sees is = record {
     by_loss_of s false same due = inl (is ∙ sym (ap shown_text due), refl)
 
 -- a fixed answer leaves the desk as it is
-pub checked : {K D : Type 0} (rules : K → Rules) (g : Ghosts D) (at : ℕ) (desk : DeskView K D) (what : What) (check : Check) (last head : Bool) → what ≡ Fixed check
+pub checked : {K D : Type 0} (rules : K → Rules) (g : Ghosts D) (at : ℕ) (desk : DeskView K D) (what : Requested) (check : Check) (last head : Bool) → what ≡ Fixed check
     → (text : List ℕ) × IsResponseTo rules g at desk what last head text desk
 checked rules g at desk what check last head is =
     subst (λ w. (text : List ℕ) × IsResponseTo rules g at desk w last head text desk) (sym is) (check_response_of check last head, (refl, refl))

@@ -1,3 +1,4 @@
 pub mod Answering
 pub mod Decimals
+pub mod Failing
 pub mod Showing

@@ -5,6 +5,7 @@ use Rattle.std.specs.List.{AllByRecursion}
 use Rattle.std.specs.FinMap as table
 use Rattle.std.proofs.lemmas.List.{flat_map_more, take_more}
 use Rattle.std.proofs.lemmas.Result.{IfOk-weaker}
+use Rattle.sqlite.proofs.StateLemmas.{survives_then}
 use Rattle.up_canon.specs.Names.{Name}
 use Rattle.up_canon.specs.Steps.{and_then, ◌>>=◌, or_error}
 use Rattle.up_canon.specs.declared.refusal.Refusal.{Refusal}
@@ -46,6 +47,7 @@ pub seen_by : {A E : Type 0} (f : State → A) (result : Result A E) (old new : 
 seen_by f result old new told reads = record {
   clean = clean_at old new reads;
   seen = λ now k s sound was. (IfOk-weaker result _ _ (λ found is. is k s (λ before. (was before).tables)) (told now), seen_on k s old new reads was now);
+  crash = reads.tables.survives;
 }
 
 -- the database refused
@@ -53,6 +55,7 @@ pub seen_in_fault : (P : State → Type 0) (old new : Standing) → Reads old ne
 seen_in_fault P old new reads holds = record {
   clean = clean_at old new reads;
   seen = λ now k s sound was. (holds s, seen_on k s old new reads was now);
+  crash = reads.tables.survives;
 }
 
 -- one step after another
@@ -60,12 +63,14 @@ pub sees_then : (P Q R : State → Type 0) (old mid new : Standing) → Sees P o
 sees_then P Q R old mid new first next joined = record {
   clean = λ now. first.clean (next.clean now);
   seen = λ now k s sound was. let a = first.seen (next.clean now) k s sound was in let b = next.seen now k s sound (λ _. a.1) in (joined k s sound a.0 b.0, b.1);
+  crash = survives_then old.connection mid.connection new.connection (λ _. ⊥) (λ _. ⊥) (λ _. ⊥) (λ _ db none. none) (λ _ db none. none) first.crash next.crash;
 }
 
 pub sees_weaker : (P Q : State → Type 0) (old new : Standing) → Sees P old new → ((s : State) → P s → Q s) → Sees Q old new
 sees_weaker P Q old new first weaker = record {
   clean = first.clean;
   seen = λ now k s sound was. let a = first.seen now k s sound was in (weaker s a.0, a.1);
+  crash = first.crash;
 }
 
 -- ---- what is shown

@@ -1,5 +1,5 @@
 -- What each line of a script is answered, and the state that it leaves.
-use Rattle.std.specs.Prelude.{◌≡◌, ◌⊎◌, ℕ, List, ◌++◌, flat_map, MatchBool, ⊤, IsTrue, Option, IfSome, Result, Ok, Err}
+use Rattle.std.specs.Prelude.{◌≡◌, ◌⊎◌, ℕ, List, ◌++◌, flat_map, MatchBool, ⊤, IsTrue, Option, None, IfSome, Result, Ok, Err}
 use Rattle.sqlite_trees.specs.declared.store.Store.{Ghosts}
 use Rattle.up_canon.specs.Names.{Name}
 use Rattle.up_canon.specs.Steps.{◌>>=◌, or_error}
@@ -16,7 +16,7 @@ use Rattle.up_machine.specs.Reads.{ecus_of, version_of, installed, assigned_to}
 use Rattle.up_machine.specs.Sound.{IsSound}
 use Rattle.up_machine.specs.State.{State}
 use Rattle.up_desk.specs.Serving.{is_fault, outright}
-use Rattle.up_desk.specs.Standing.{DeskView, Standing, HasCleanDisk, IfClean, KeepsState, state}
+use Rattle.up_desk.specs.Standing.{DeskView, Standing, HasCleanDisk, IfClean, KeepsState, Survives, state}
 use Rattle.up_script.specs.AskedLines.{asked_in}
 use Rattle.up_script.specs.PrintedLines.{answer_text, refused_text, vehicle_text, ecu_text}
 use Rattle.up_script.specs.declared.asked.Asked.{Asked}
@@ -69,10 +69,11 @@ shown_text (Ok text) = text
 shown_text (Err r) = refused_text r
 
 -- a step of a view, over a disk that has returned what was written so far: this holds of each sound state that the tables show, and
--- they go on showing it
+-- they go on showing it; a crash leaves what it could leave before
 pub record Sees (holds : State → Type 0) (old new : Standing) : Type 0 where
   pub clean : HasCleanDisk new → HasCleanDisk old
   pub seen : HasCleanDisk new → (k : Rules) (s : State) → IsSound k s → IfClean (KeepsState k s) old → holds s × KeepsState k s new
+  pub crash : Survives old new (λ trees. ⊥)
 
 -- ---- lines
 
@@ -82,7 +83,7 @@ command_answer k s at command = answered_as answer_text k s at command
 
 -- a view of a vehicle changes nothing
 abbrev pub viewed : State → Name → Answered
-viewed s vehicle = record { text = shown_text (shown_in s vehicle); next = s }
+viewed s vehicle = record { text = shown_text (shown_in s vehicle); called = None; next = s }
 
 -- a command is called, and a view is shown
 abbrev pub carried_out : Rules → State → ℕ → What → Answered
@@ -92,7 +93,7 @@ carried_out k s at (Show vehicle) = viewed s vehicle
 -- the first fault of a line is its answer, and changes nothing
 abbrev pub answer_to : Rules → State → Result Asked Refusal → Answered
 answer_to k s (Ok asked) = carried_out k s asked.at asked.what
-answer_to k s (Err r) = record { text = refused_text r; next = s }
+answer_to k s (Err r) = record { text = refused_text r; called = None; next = s }
 
 unfoldable pub line_answer : Rules → State → List ℕ → Answered
 line_answer k s line = answer_to k s (asked_in k line)

@@ -12,7 +12,7 @@ returns-clause-ok g c =
       c.call-answer.ensures.scheme,
       (c.call-answer.result, is, c.call-answer.ensures.outright),
       responded (g.K.Scheme.rules c.args.desk.now.scheme) c.args.at c.args.command.now c.args.last c.args.head c.call-answer.result (string_bytes t)
-          (state g.D.Store c.args.desk.now.store) (state g.D.Store c.call-answer.new.self.store) c.call-answer.ensures.clean c.call-answer.ensures.served is,
+          (state g.D.Store c.args.desk.now.store) (state g.D.Store c.call-answer.new.self.store) (record { clean = c.call-answer.ensures.clean; served = c.call-answer.ensures.served; crash = c.call-answer.ensures.crash; durable = c.call-answer.ensures.durable }) is,
     )) c.answer_response.ensures
 
 pub returns-clause-err : goal.returns-clause-err
@@ -23,6 +23,6 @@ returns-clause-err g c =
         c.call-answer.ensures.scheme,
         (c.call-answer.result, refl, c.call-answer.ensures.outright),
         responded (g.K.Scheme.rules c.args.desk.now.scheme) c.args.at c.args.command.now c.args.last c.args.head c.call-answer.result (answer_response c.call-answer.result c.args.last c.args.head)
-            (state g.D.Store c.args.desk.now.store) (state g.D.Store c.call-answer.new.self.store) c.call-answer.ensures.clean c.call-answer.ensures.served refl,
+            (state g.D.Store c.args.desk.now.store) (state g.D.Store c.call-answer.new.self.store) (record { clean = c.call-answer.ensures.clean; served = c.call-answer.ensures.served; crash = c.call-answer.ensures.crash; durable = c.call-answer.ensures.durable }) refl,
       ),
     )

@@ -1,0 +1,97 @@
+-- What says that memory or the database refused, and that no commit is told so.
+use Rattle.std.proofs.Common.{◌≡◌, inl, inr, ℕ, List, Bool, true, refl, sym, ap, ◌∙◌, arith, get_or}
+use Rattle.std.specs.Prelude.{◌⊎◌, [], None}
+use Rattle.std.specs.Fmt.{digits}
+use Rattle.up_canon.specs.declared.refusal.Refusal.{Refusal}
+use Rattle.up_canon.specs.declared.refusal.Refusal.TheVariants.{Memory, Store}
+use Rattle.up_machine.specs.declared.answer.Answer.{Answer}
+use Rattle.up_machine.specs.declared.answer.Answer.TheVariants.{Done, Already, Reply as Replied, File, Refused}
+use Rattle.up_machine.specs.declared.answer.Reply.{Reply}
+use Rattle.up_machine.specs.State.{State}
+use Rattle.up_desk.specs.Serving.{is_fault, is_failed, IsCommit}
+use Rattle.up_script.specs.PrintedLines.{answer_text, refused_text}
+use Rattle.up_heads.specs.Responses.{response_of, refusal_response_of}
+use Rattle.up_service.specs.Answers.{IsFailed}
+use Rattle.up_service.specs.Responses.{answer_response}
+
+refused_by : (r : Refusal) → is_fault r ≡ true → (r ≡ Memory) ⊎ (r ≡ Store)
+refused_by Memory h = inl refl
+refused_by Store h = inr refl
+refused_by other h = cc
+
+pub failed_refusal : (tell : Refusal → List ℕ) (r : Refusal) (t : List ℕ) → is_fault r ≡ true → t ≡ tell r → IsFailed tell t
+failed_refusal tell r t h is = by_case (refused_by r h)
+  where
+    by_case : (r ≡ Memory) ⊎ (r ≡ Store) → IsFailed tell t
+    by_case (inl same) = inl (is ∙ ap tell same)
+    by_case (inr same) = inr (is ∙ ap tell same)
+
+pub failed_answer : (tell : Refusal → List ℕ) (tell_answer : Answer → List ℕ) → ((r : Refusal) → tell_answer (Refused r) ≡ tell r) → (a : Answer) (t : List ℕ) → is_failed a ≡ true → t ≡ tell_answer a → IsFailed tell t
+failed_answer tell tell_answer same Done t h is = cc
+failed_answer tell tell_answer same Already t h is = cc
+failed_answer tell tell_answer same (Replied r) t h is = cc
+failed_answer tell tell_answer same (File f) t h is = cc
+failed_answer tell tell_answer same (Refused r) t h is = failed_refusal tell r t h (is ∙ same r)
+
+-- ---- no commit is told so
+
+-- what is told of a commit isn't told of these refusals
+abbrev pub AreApart : (Refusal → List ℕ) → (Answer → List ℕ) → Type 0
+AreApart tell tell_answer = (r : Refusal) (a : Answer) (s next : State) → is_fault r ≡ true → IsCommit s a next → tell r ≡ tell_answer a → ⊥
+
+-- lines, by their third byte
+third : List ℕ → ℕ
+third text = get_or text 2 0
+
+third_refused : (r : Refusal) → third (refused_text r) ≡ 102
+unfolding third
+third_refused r = refl
+
+third_done : third (answer_text Done) ≡ 110
+unfolding third answer_text
+third_done = refl
+
+third_reply : (reply : Reply) → third (answer_text (Replied reply)) ≡ 112
+unfolding third answer_text
+third_reply reply = refl
+
+pub lines_apart : AreApart refused_text answer_text
+lines_apart r Done s next fault commit same = absurd (let e : 102 ≡ 110 = sym (third_refused r) ∙ ap third same ∙ third_done in omega arith)
+lines_apart r Already s next fault commit same = commit
+lines_apart r (Replied reply) s next fault commit same = absurd (let e : 102 ≡ 112 = sym (third_refused r) ∙ ap third same ∙ third_reply reply in omega arith)
+lines_apart r (File text) s next fault commit same = commit
+lines_apart r (Refused other) s next fault commit same = commit
+
+-- responses, by the first digit of the status
+digit : List ℕ → ℕ
+digit text = get_or text 9 0
+
+digit_ok : (body : List ℕ) (last head : Bool) → digit (response_of 200 None last head body) ≡ 50
+unfolding digit response_of digits
+digit_ok body last head = refl
+
+digit_memory : (last head : Bool) → digit (refusal_response_of Memory last head) ≡ 53
+unfolding digit response_of digits
+digit_memory last head = refl
+
+digit_store : (last head : Bool) → digit (refusal_response_of Store last head) ≡ 53
+unfolding digit response_of digits
+digit_store last head = refl
+
+digit_failed : (r : Refusal) (last head : Bool) → is_fault r ≡ true → digit (refusal_response_of r last head) ≡ 53
+digit_failed r last head fault = by_case (refused_by r fault)
+  where
+    by_case : (r ≡ Memory) ⊎ (r ≡ Store) → digit (refusal_response_of r last head) ≡ 53
+    by_case (inl same) = ap (λ q. digit (refusal_response_of q last head)) same ∙ digit_memory last head
+    by_case (inr same) = ap (λ q. digit (refusal_response_of q last head)) same ∙ digit_store last head
+
+not_ok : (r : Refusal) (body : List ℕ) (last head : Bool) → is_fault r ≡ true → refusal_response_of r last head ≡ response_of 200 None last head body → ⊥
+not_ok r body last head fault same = absurd (let e : 53 ≡ 50 = sym (digit_failed r last head fault) ∙ ap digit same ∙ digit_ok body last head in omega arith)
+
+pub responses_apart : (last head : Bool) → AreApart (λ r. refusal_response_of r last head) (λ a. answer_response a last head)
+unfolding answer_response
+responses_apart last head r Done s next fault commit same = not_ok r [] last head fault same
+responses_apart last head r Already s next fault commit same = commit
+responses_apart last head r (Replied reply) s next fault commit same = not_ok r reply.text last head fault same
+responses_apart last head r (File text) s next fault commit same = commit
+responses_apart last head r (Refused other) s next fault commit same = commit
