@@ -7,7 +7,8 @@ A fleet's day, of images with second hashes and without, is carried out over a f
 and the rows that `tools/reference.py` makes of the same day. A file that SQLite wrote, with the same rows, is
 adopted and answers alike, and so are copies. The page's queries have to tell what the day's answers told. Files of
 older schemas, which SQLite makes of the rows of worked rows, are raised and answer as before, with the same kept
-replies. And refusals that come before images or campaigns are read are answered where SQLite has damaged those rows.
+replies. And refusals that come before images or campaigns are read are answered where SQLite has damaged those rows,
+as lines that read a damaged row are refused.
 """
 import json
 import re
@@ -17,6 +18,7 @@ import sqlite3
 import subprocess
 import sys
 from contextlib import closing
+from itertools import combinations
 
 sys.dont_write_bytecode = True
 
@@ -211,6 +213,7 @@ def older(program, own):
 DAMAGED_IMAGES, DAMAGED_CAMPAIGNS = "UPDATE image SET needs = 'x'", "UPDATE campaign SET items = 'x'"
 CLOSED_CAMPAIGNS = DAMAGED_CAMPAIGNS + " WHERE running = 0"
 OTHER_IMAGES, OTHER_CAMPAIGNS = DAMAGED_IMAGES + " WHERE file <> 'a'", DAMAGED_CAMPAIGNS + " WHERE name <> 'mine'"
+INSTALLED = ("file", "length", "sha256")
 NOT_CANONICAL = '{"signatures":[{"keyid":"k","method":"m","sig":"aa"}],"signed":{"x":1.5}}'
 LATE = 4102444801
 LOST = "refused 2 Store"
@@ -363,6 +366,22 @@ def second_hashes_damaged():
     yield close("over"), "already"
 
 
+def in_part():
+    """One or two of the three columns that say together what an ECU has installed."""
+    return [*combinations(INSTALLED, 1), *combinations(INSTALLED, 2)]
+
+
+def emptied(columns):
+    return "UPDATE ecu SET %s WHERE ecu = 'S1'" % ", ".join(column + " = NULL" for column in columns)
+
+
+def installed_in_part():
+    """Lines that read what an ECU has installed, where a part of it is null."""
+    yield fleet.line("show", vehicle="V1"), LOST
+    yield delivered("V1", 4, "P1", "S1"), LOST
+    yield replaced("V1", "S1", "S2"), LOST
+
+
 def unfounded():
     """Before the founding, over an image that no call of the product leaves."""
     yield fleet.line("rotate", **fleet.key_set(9)), "refused 8 NotFounded"
@@ -387,6 +406,7 @@ def read(program, own):
         "one campaign": (founded(), [DAMAGED_CAMPAIGNS + " WHERE name = 'theirs'"], one_damaged()),
         "closed campaigns": (founded(), [CLOSED_CAMPAIGNS], closed_damaged()),
         "second hashes": (founded(), ["INSERT INTO image_sha512 SELECT file, x'00' FROM image"], second_hashes_damaged()),
+        **{"installed " + " and ".join(columns): (founded(), [emptied(columns)], installed_in_part()) for columns in in_part()},
         "unfounded": ([], [strange], unfounded()),
         "64 roots": ([*founded(), *rotated], [DAMAGED_IMAGES], [(rotate, "refused 30 RootFull")]),
         "the greatest version": ([*founded(), greatest], [DAMAGED_IMAGES], [(rotate, "refused 21 VersionLimit")]),

@@ -15,8 +15,8 @@ use std::alloc::{AllocError, Global};
 use std::fmt::Write;
 use std::str;
 
-/// Appends printable ASCII in quotes, with a backslash before each quote and backslash of it. On an error `out` may hold some
-/// of it.
+/// Appends printable ASCII in quotes, with a backslash before each quote and backslash of it. On an error `out` may hold any
+/// text.
 pub fn push_quoted(out: &mut String, text: &str) -> Result<(), AllocError>
     requires { IsTrue (list_all is_printable text.now) }
     ensures { IfOk result (λ _. string_bytes out.new ≡ string_bytes out.old ++ quoted text.now) }
@@ -69,8 +69,8 @@ fn push_escaped(out: &mut String, byte: u8) -> Result<(), AllocError>
     Ok(())
 }
 
-/// Appends the bytes as lower case hexadecimal digits in quotes, without memory of its own. On an error `out` may hold some of
-/// it.
+/// Appends the bytes as lower case hexadecimal digits in quotes, without memory of its own. On an error `out` may hold any
+/// text.
 pub fn push_hex(_alloc: Global, out: &mut String, bytes: &[u8]) -> Result<(), AllocError>
     ensures { IfOk result (λ _. string_bytes out.new ≡ string_bytes out.old ++ quoted (encode_lower bytes.now)) }
 {
@@ -106,14 +106,14 @@ fn push_few_digits(out: &mut String, bytes: &[u8]) -> Result<(), AllocError>
     out.push_str(str::from_utf8(digits).unwrap())
 }
 
-/// Appends the digits of a number. On an error `out` may hold some of it.
+/// Appends the digits of a number. On an error `out` may hold any text.
 pub fn push_number(out: &mut String, number: u64) -> Result<(), AllocError>
     ensures { IfOk result (λ _. string_bytes out.new ≡ string_bytes out.old ++ decimal number) }
 {
     write!(out, "{number}")
 }
 
-/// Appends an identifier in quotes. On an error `out` may hold some of it.
+/// Appends an identifier in quotes. On an error `out` may hold any text.
 #[tactic(auto, using(crate::proofs::Written::ident_straight))]
 pub fn push_ident(out: &mut String, ident: &Ident) -> Result<(), AllocError>
     ensures { IfOk result (λ _. string_bytes out.new ≡ string_bytes out.old ++ quoted ident.now) }
@@ -121,7 +121,7 @@ pub fn push_ident(out: &mut String, ident: &Ident) -> Result<(), AllocError>
     push_straight(out, ident.text())
 }
 
-/// Appends a filename in quotes. On an error `out` may hold some of it.
+/// Appends a filename in quotes. On an error `out` may hold any text.
 #[tactic(auto, using(crate::proofs::Written::file_name_straight))]
 pub fn push_file_name(out: &mut String, name: &FileName) -> Result<(), AllocError>
     ensures { IfOk result (λ _. string_bytes out.new ≡ string_bytes out.old ++ quoted name.now) }
@@ -129,7 +129,7 @@ pub fn push_file_name(out: &mut String, name: &FileName) -> Result<(), AllocErro
     push_straight(out, name.text())
 }
 
-/// Appends the text of a moment, `YYYY-MM-DDTHH:MM:SSZ`, in quotes. On an error `out` may hold some of it.
+/// Appends the text of a moment, `YYYY-MM-DDTHH:MM:SSZ`, in quotes. On an error `out` may hold any text.
 pub fn push_moment(out: &mut String, moment: Moment) -> Result<(), AllocError>
     ensures value { IfOk result (λ _. string_bytes out.new ≡ string_bytes out.old ++ quoted (moment_text moment)) }
     ensures typed { moment ≤ last_moment }
@@ -139,7 +139,7 @@ pub fn push_moment(out: &mut String, moment: Moment) -> Result<(), AllocError>
 }
 
 /// Appends the object of a SHA-256 and, where there is one, a SHA-512, each under the name of its hash function, in lower case
-/// digits. On an error `out` may hold some of it.
+/// digits. On an error `out` may hold any text.
 pub fn push_hashes(
     alloc: Global,
     out: &mut String,

@@ -94,7 +94,7 @@ pub fn vehicle_text(alloc: Global, vehicle: &Ident, version: u64) -> Result<Stri
 }
 
 /// Appends an ECU of the line that shows its vehicle: the file that is installed, and the file that the plan assigns to it. On
-/// an error `out` may hold some of it.
+/// an error `out` may hold any text.
 #[tactic(auto, unfolding(crate::specs::PrintedLines::ecu_text))]
 pub fn push_ecu(
     out: &mut String,
