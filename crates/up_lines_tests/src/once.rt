@@ -28,7 +28,7 @@ impl Source for Once<'_> {
 
     ghost has_failed = { λ s. s.failed ≡ true };
 
-    ghost has_ended = { λ s. s.ended ≡ true };
+    ghost has_ended = { λ s. (s.ended ≡ true) × (s.failed ≡ false) };
 
     fn read_some(&mut self, buffer: &mut [u8]) -> io::Result<usize> {
         let is_open = !self.failed && !self.ended;
@@ -96,7 +96,7 @@ fn run_once(
     let told = run(alloc, &Bracket, state, reader, writer);
     match told {
         Ok(_) => {
-            let is_so = reader.ended && !writer.failed;
+            let is_so = reader.ended && !reader.failed && !writer.failed;
             prove!(is_so);
         }
         Err(
@@ -114,11 +114,11 @@ fn run_once(
                 lines: _,
             },
         ) => {
-            let is_so = writer.failed;
+            let is_so = writer.failed && !reader.failed;
             prove!(is_so);
         }
         Err(_) => {
-            let is_so = !writer.failed;
+            let is_so = !writer.failed && !reader.failed;
             prove!(is_so);
         }
     }
