@@ -1,41 +1,30 @@
 //! Reading a canonical text piece by piece, from its front.
-ghost use Rattle.std.specs.Prelude.{◌≡◌, ◌++◌, IsTrue, IfSome, IfOk, IfErr, OnOk, MatchBool, true, not, decimal, flat_map, length, string_bytes, take, slice_index, position};
+ghost use Rattle.std.specs.Prelude.{◌≡◌, ◌++◌, IsTrue, IfSome, IfOk, OnOk, MatchBool, true, not, decimal, flat_map, length, string_bytes, take, slice_index, position};
 ghost use Rattle.std.specs.List.{list_all};
 ghost use Rattle.hex.specs.Hex.{encode_lower};
 ghost use Rattle.up_canon.specs.Canon.{is_printable_text, escaped as escaped_of, quoted};
 ghost use Rattle.up_canon.specs.HexText.{is_lower_digit as is_lower_digit_of};
 ghost use Rattle.up_manifest.specs.Plain.{is_direct as is_direct_of};
-ghost use Rattle.up_manifest.specs.declared.cursor.Unread.TheVariants.{Form, Memory};
 ghost use Rattle.up_sign.specs.Schemes.{is_byte};
 
-use hex::FromHexError;
 use std::alloc::{AllocError, AllocFailed, Global};
 use up_canon::count::Count;
 use up_canon::hex_text::is_lower_digit;
 use up_canon::note::is_printable;
 
-/// Why nothing was read.
+/// That nothing was read: the text has another form, or memory was refused.
 #[derive(Clone, Copy, Debug)]
-pub enum Unread {
-    /// Memory was refused.
-    Memory,
-    /// The text has another form.
-    Form,
-}
+pub struct Unread;
 
 impl From<AllocError> for Unread {
-    ghost from_gives = { λ _ e. e ≡ Memory };
-
     fn from(_: AllocError) -> Self {
-        Unread::Memory
+        Unread
     }
 }
 
 impl<T: Drop> From<AllocFailed<T>> for Unread {
-    ghost from_gives = { λ _ e. e ≡ Memory };
-
     fn from(_: AllocFailed<T>) -> Self {
-        Unread::Memory
+        Unread
     }
 }
 
@@ -69,27 +58,25 @@ impl<'a> Cursor<'a> {
 
     /// Takes a piece, which has to stand in front.
     pub fn pass(&mut self, piece: &str) -> Result<(), Unread>
-        ensures value { OnOk result (self.old.rest.now ≡ piece.now ++ self.new.rest.now) }
-        ensures form { IfErr result (λ e. e ≡ Form) }
+        ensures { OnOk result (self.old.rest.now ≡ piece.now ++ self.new.rest.now) }
     {
         if self.takes(piece) {
             Ok(())
         } else {
-            Err(Unread::Form)
+            Err(Unread)
         }
     }
 
     /// Takes so many bytes, where there are so many.
     pub fn cut(&mut self, size: usize) -> Result<&'a str, Unread>
-        ensures value { IfOk result (λ t. (self.old.rest.now ≡ t.now ++ self.new.rest.now) × (length t.now ≡ size)) }
-        ensures form { IfErr result (λ e. e ≡ Form) }
+        ensures { IfOk result (λ t. (self.old.rest.now ≡ t.now ++ self.new.rest.now) × (length t.now ≡ size)) }
     {
         match self.rest.split_at_checked(size) {
             Some((front, rest)) => {
                 self.rest = rest;
                 Ok(front)
             }
-            None => Err(Unread::Form),
+            None => Err(Unread),
         }
     }
 
@@ -97,7 +84,6 @@ impl<'a> Cursor<'a> {
     pub fn quoted(&mut self) -> Result<&'a str, Unread>
         ensures value { IfOk result (λ t. self.old.rest.now ≡ quoted t.now ++ self.new.rest.now) }
         ensures printable { IfOk result (λ t. IsTrue (is_printable_text t.now)) }
-        ensures form { IfErr result (λ e. e ≡ Form) }
     {
         self.pass("\"")?;
         let text = self.direct()?;
@@ -122,7 +108,7 @@ impl<'a> Cursor<'a> {
             let special = self.escape()?;
             text.push_str(special)?;
         }
-        Err(Unread::Form)
+        Err(Unread)
     }
 
     /// Takes a backslash and the quote or the backslash behind it, which it answers.
@@ -130,7 +116,6 @@ impl<'a> Cursor<'a> {
         ensures value { IfOk result (λ t. self.old.rest.now ≡ flat_map escaped_of t.now ++ self.new.rest.now) }
         ensures one { IfOk result (λ t. length t.now ≡ 1) }
         ensures printable { IfOk result (λ t. IsTrue (is_printable_text t.now)) }
-        ensures form { IfErr result (λ e. e ≡ Form) }
     {
         if self.takes("\\\"") {
             return Ok("\"");
@@ -141,37 +126,33 @@ impl<'a> Cursor<'a> {
 
     /// Takes bytes that stand for themselves.
     fn direct(&mut self) -> Result<&'a str, Unread>
-        ensures value { IfOk result (λ t. (self.old.rest.now ≡ t.now ++ self.new.rest.now) × (list_all is_direct_of t.now ≡ true)) }
-        ensures form { IfErr result (λ e. e ≡ Form) }
+        ensures { IfOk result (λ t. (self.old.rest.now ≡ t.now ++ self.new.rest.now) × (list_all is_direct_of t.now ≡ true)) }
     {
         self.cut(direct_size(self.rest.as_bytes()))
     }
 
     /// Takes the digits of a count, which begin with no zero but in `0` itself.
     pub fn count(&mut self) -> Result<Count, Unread>
-        ensures value { IfOk result (λ n. self.old.rest.now ≡ decimal n ++ self.new.rest.now) }
-        ensures form { IfErr result (λ e. e ≡ Form) }
+        ensures { IfOk result (λ n. self.old.rest.now ≡ decimal n ++ self.new.rest.now) }
     {
         let digits = self.cut(digits_size(self.rest.as_bytes()))?;
-        number_of(digits).and_then(Count::new).ok_or(Unread::Form)
+        number_of(digits).and_then(Count::new).ok_or(Unread)
     }
 
     /// Takes so many bytes in hexadecimal digits, in quotes and in lower case. After an error `out` may hold any bytes.
     fn digits_of(&mut self, out: &mut [u8]) -> Result<(), Unread>
-        ensures value { OnOk result (self.old.rest.now ≡ quoted (encode_lower out.new) ++ self.new.rest.now) }
-        ensures form { IfErr result (λ e. e ≡ Form) }
+        ensures { OnOk result (self.old.rest.now ≡ quoted (encode_lower out.new) ++ self.new.rest.now) }
     {
         let digits = self.lower_digits()?;
         match hex::decode_to_slice(digits.as_bytes(), out) {
             Ok(()) => Ok(()),
-            Err(_) => Err(Unread::Form),
+            Err(_) => Err(Unread),
         }
     }
 
     /// Takes the digits of a SHA-256 in quotes.
     pub fn sha256(&mut self) -> Result<[u8; 32], Unread>
-        ensures value { IfOk result (λ hash. self.old.rest.now ≡ quoted (encode_lower hash) ++ self.new.rest.now) }
-        ensures form { IfErr result (λ e. e ≡ Form) }
+        ensures { IfOk result (λ hash. self.old.rest.now ≡ quoted (encode_lower hash) ++ self.new.rest.now) }
     {
         let mut hash = [0; 32];
         self.digits_of(&mut hash[..])?;
@@ -180,8 +161,7 @@ impl<'a> Cursor<'a> {
 
     /// Takes the digits of a SHA-512 in quotes.
     pub fn sha512(&mut self) -> Result<[u8; 64], Unread>
-        ensures value { IfOk result (λ hash. self.old.rest.now ≡ quoted (encode_lower hash) ++ self.new.rest.now) }
-        ensures form { IfErr result (λ e. e ≡ Form) }
+        ensures { IfOk result (λ hash. self.old.rest.now ≡ quoted (encode_lower hash) ++ self.new.rest.now) }
     {
         let mut hash = [0; 64];
         self.digits_of(&mut hash[..])?;
@@ -196,8 +176,7 @@ impl<'a> Cursor<'a> {
         let digits = self.lower_digits()?;
         match hex::decode(alloc, digits.as_bytes()) {
             Ok(bytes) => Ok(bytes),
-            Err(FromHexError::OutOfMemory) => Err(Unread::Memory),
-            Err(_) => Err(Unread::Form),
+            Err(_) => Err(Unread),
         }
     }
 
@@ -205,7 +184,6 @@ impl<'a> Cursor<'a> {
     fn lower_digits(&mut self) -> Result<&'a str, Unread>
         ensures value { IfOk result (λ t. self.old.rest.now ≡ quoted t.now ++ self.new.rest.now) }
         ensures lower { IfOk result (λ t. list_all is_lower_digit_of t.now ≡ true) }
-        ensures form { IfErr result (λ e. e ≡ Form) }
     {
         self.pass("\"")?;
         let digits = self.bare_digits()?;
@@ -215,8 +193,7 @@ impl<'a> Cursor<'a> {
 
     /// Takes hexadecimal digits in lower case, without quotes.
     fn bare_digits(&mut self) -> Result<&'a str, Unread>
-        ensures value { IfOk result (λ t. (self.old.rest.now ≡ t.now ++ self.new.rest.now) × (list_all is_lower_digit_of t.now ≡ true)) }
-        ensures form { IfErr result (λ e. e ≡ Form) }
+        ensures { IfOk result (λ t. (self.old.rest.now ≡ t.now ++ self.new.rest.now) × (list_all is_lower_digit_of t.now ≡ true)) }
     {
         self.cut(lower_size(self.rest.as_bytes()))
     }

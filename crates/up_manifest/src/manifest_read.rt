@@ -37,7 +37,7 @@ pub fn read_manifest(alloc: Global, body: &[u8]) -> Result<Incoming, Refusal>
 {
     body_laws();
     if body.len() <= LARGEST_BODY {
-        if let Some(incoming) = plain_manifest(alloc, body)? {
+        if let Some(incoming) = plain_manifest(alloc, body) {
             return Ok(incoming);
         }
     }

@@ -12,7 +12,7 @@ use crate::manifest_read::MOST_REPORTS;
 use crate::plain_members::{count_behind, ident_behind};
 use crate::plain_report::{signatures, signed_report, text_before};
 use crate::report::SignedReport;
-use std::alloc::{AllocError, Global};
+use std::alloc::Global;
 use std::str;
 use up_canon::listed::Listed;
 use up_canon::moment::moment_laws;
@@ -21,17 +21,17 @@ use up_sign::laws::envelope_laws;
 
 /// The manifest that a body means, where the body has the form in which Primaries write it: the canonical text, with no
 /// member but those of the format, one signature in each envelope, hexadecimal digits in lower case, and no quote or
-/// backslash in a text but a note. Of any other body, none, whether or not it means a manifest.
-pub(crate) fn plain_manifest(alloc: Global, body: &[u8]) -> Result<Option<Incoming>, AllocError>
-    ensures { IfOk result (λ found. IfSome found (λ i. MeansBody body.now i)) }
+/// backslash in a text but a note. Of any other body, none, whether or not it means a manifest; none too where memory was
+/// refused, so that the general way says so.
+pub(crate) fn plain_manifest(alloc: Global, body: &[u8]) -> Option<Incoming>
+    ensures { IfSome result (λ i. MeansBody body.now i) }
 {
     let Ok(text) = str::from_utf8(body) else {
-        return Ok(None);
+        return None;
     };
     match incoming(alloc, text) {
-        Ok(incoming) => Ok(Some(incoming)),
-        Err(Unread::Memory) => Err(AllocError),
-        Err(Unread::Form) => Ok(None),
+        Ok(incoming) => Some(incoming),
+        Err(_) => None,
     }
 }
 
@@ -46,7 +46,7 @@ fn incoming(alloc: Global, text: &str) -> Result<Incoming, Unread>
     let manifest = manifest(alloc, &mut cursor)?;
     let signed = text_before(alloc, begun, cursor.rest)?;
     if cursor.rest != "}" {
-        return Err(Unread::Form);
+        return Err(Unread);
     }
     Ok(Incoming {
         manifest,
@@ -67,7 +67,7 @@ fn manifest(alloc: Global, cursor: &mut Cursor<'_>) -> Result<Manifest, Unread>
     cursor.pass("}")?;
     let number = counter.get();
     if number < 1 {
-        return Err(Unread::Form);
+        return Err(Unread);
     }
     // Noted for the proof: what identifiers are.
     vehicle.text();
@@ -97,5 +97,5 @@ fn reports(alloc: Global, cursor: &mut Cursor<'_>) -> Result<Listed<SignedReport
         reports.push(signed_report(alloc, cursor)?)?;
         separator = ",";
     }
-    Err(Unread::Form)
+    Err(Unread)
 }

@@ -1,12 +1,11 @@
 //! Members of objects in the form in which Primaries write manifests: a piece that ends with the key's colon, and the value
 //! behind it.
-ghost use Rattle.std.specs.Prelude.{◌≡◌, ◌++◌, IsTrue, IfOk, IfErr, decimal, length};
+ghost use Rattle.std.specs.Prelude.{◌≡◌, ◌++◌, IsTrue, IfOk, decimal, length};
 ghost use Rattle.std.specs.List.{list_all};
 ghost use Rattle.hex.specs.Hex.{encode_lower};
 ghost use Rattle.up_canon.specs.Canon.{is_printable_text, quoted};
 ghost use Rattle.up_canon.specs.Moments.{moment_text};
 ghost use Rattle.up_canon.specs.Names.{is_from_to, is_short_text};
-ghost use Rattle.up_manifest.specs.declared.cursor.Unread.TheVariants.{Form};
 ghost use Rattle.up_sign.specs.Schemes.{is_byte};
 
 use crate::cursor::{Cursor, Unread};
@@ -21,8 +20,7 @@ use up_canon::text::Text;
 
 /// Takes a count.
 pub(crate) fn count_behind(cursor: &mut Cursor<'_>, key: &str) -> Result<Count, Unread>
-    ensures value { IfOk result (λ n. cursor.old.rest.now ≡ key.now ++ (decimal n ++ cursor.new.rest.now)) }
-    ensures form { IfErr result (λ e. e ≡ Form) }
+    ensures { IfOk result (λ n. cursor.old.rest.now ≡ key.now ++ (decimal n ++ cursor.new.rest.now)) }
 {
     cursor.pass(key)?;
     cursor.count()
@@ -37,7 +35,7 @@ pub(crate) fn ident_behind(
     ensures { IfOk result (λ i. cursor.old.rest.now ≡ key.now ++ (quoted i ++ cursor.new.rest.now)) }
 {
     let text = text_behind(cursor, key)?.to_string(alloc)?;
-    Ident::new(text).ok_or(Unread::Form)
+    Ident::new(text).ok_or(Unread)
 }
 
 /// Takes a filename.
@@ -49,7 +47,7 @@ pub(crate) fn file_name_behind(
     ensures { IfOk result (λ f. cursor.old.rest.now ≡ key.now ++ (quoted f ++ cursor.new.rest.now)) }
 {
     let text = text_behind(cursor, key)?.to_string(alloc)?;
-    FileName::new(text).ok_or(Unread::Form)
+    FileName::new(text).ok_or(Unread)
 }
 
 /// Takes a note, in which there may be quotes and backslashes.
@@ -58,16 +56,15 @@ pub(crate) fn note_behind(alloc: Global, cursor: &mut Cursor<'_>, key: &str) -> 
 {
     cursor.pass(key)?;
     let text = cursor.escaped(alloc, 256)?;
-    Note::new(text).ok_or(Unread::Form)
+    Note::new(text).ok_or(Unread)
 }
 
 /// Takes a moment.
 pub(crate) fn moment_behind(cursor: &mut Cursor<'_>, key: &str) -> Result<Moment, Unread>
-    ensures value { IfOk result (λ m. cursor.old.rest.now ≡ key.now ++ (quoted (moment_text m) ++ cursor.new.rest.now)) }
-    ensures form { IfErr result (λ e. e ≡ Form) }
+    ensures { IfOk result (λ m. cursor.old.rest.now ≡ key.now ++ (quoted (moment_text m) ++ cursor.new.rest.now)) }
 {
     let text = text_behind(cursor, key)?;
-    Moment::read(text).ok_or(Unread::Form)
+    Moment::read(text).ok_or(Unread)
 }
 
 /// Takes a text of 1 byte or more, and of so many at most.
@@ -82,7 +79,7 @@ pub(crate) fn short_text_behind(
 {
     let text = text_behind(cursor, key)?;
     if text.is_empty() || text.len() > most {
-        return Err(Unread::Form);
+        return Err(Unread);
     }
     Ok(Text::new(text.to_string(alloc)?))
 }
@@ -101,7 +98,7 @@ pub(crate) fn bytes_behind(
     cursor.pass(key)?;
     let bytes = cursor.bytes(alloc)?;
     if bytes.is_empty() || bytes.len() > most {
-        return Err(Unread::Form);
+        return Err(Unread);
     }
     Ok(Bytes::new(bytes))
 }
@@ -110,7 +107,6 @@ pub(crate) fn bytes_behind(
 fn text_behind<'a>(cursor: &mut Cursor<'a>, key: &str) -> Result<&'a str, Unread>
     ensures value { IfOk result (λ t. cursor.old.rest.now ≡ key.now ++ (quoted t.now ++ cursor.new.rest.now)) }
     ensures printable { IfOk result (λ t. IsTrue (is_printable_text t.now)) }
-    ensures form { IfErr result (λ e. e ≡ Form) }
 {
     cursor.pass(key)?;
     cursor.quoted()

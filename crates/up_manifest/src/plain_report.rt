@@ -1,5 +1,5 @@
 //! Reports in the form in which Primaries write manifests.
-ghost use Rattle.std.specs.Prelude.{◌≡◌, ◌++◌, List, ℕ, IsTrue, IfOk, IfErr};
+ghost use Rattle.std.specs.Prelude.{◌≡◌, ◌++◌, List, ℕ, IsTrue, IfOk};
 ghost use Rattle.std.specs.List.{list_all};
 ghost use Rattle.up_canon.specs.Build.{hashes_value};
 ghost use Rattle.up_canon.specs.Canon.{text};
@@ -8,7 +8,6 @@ ghost use Rattle.up_sign.specs.Formats.{signature_fits, signature_value, envelop
 ghost use Rattle.up_sign.specs.Schemes.{is_byte};
 ghost use Rattle.up_manifest.specs.Building.{ReportFits, IsReportEnvelope, installed_value, report_text};
 ghost use Rattle.up_manifest.specs.Plain.{IsOneSignature, signatures_text};
-ghost use Rattle.up_manifest.specs.declared.cursor.Unread.TheVariants.{Form};
 
 use crate::cursor::{Cursor, Unread};
 use crate::plain_members::{
@@ -114,8 +113,7 @@ fn installed(alloc: Global, cursor: &mut Cursor<'_>) -> Result<Installed, Unread
 }
 
 fn hashes(cursor: &mut Cursor<'_>) -> Result<([u8; 32], Option<[u8; 64]>), Unread>
-    ensures value { IfOk result (λ h. cursor.old.rest.now ≡ text (hashes_value h.0 h.1) ++ cursor.new.rest.now) }
-    ensures form { IfErr result (λ e. e ≡ Form) }
+    ensures { IfOk result (λ h. cursor.old.rest.now ≡ text (hashes_value h.0 h.1) ++ cursor.new.rest.now) }
 {
     cursor.pass("{\"sha256\":")?;
     let sha256 = cursor.sha256()?;
@@ -126,8 +124,7 @@ fn hashes(cursor: &mut Cursor<'_>) -> Result<([u8; 32], Option<[u8; 64]>), Unrea
 
 /// Takes the SHA-512 behind the SHA-256, where there is one.
 fn second_hash(cursor: &mut Cursor<'_>) -> Result<Option<[u8; 64]>, Unread>
-    ensures value { IfOk result (λ hash. cursor.old.rest.now ≡ second_hash_text hash ++ cursor.new.rest.now) }
-    ensures form { IfErr result (λ e. e ≡ Form) }
+    ensures { IfOk result (λ hash. cursor.old.rest.now ≡ second_hash_text hash ++ cursor.new.rest.now) }
 {
     if cursor.takes(",\"sha512\":") {
         return Ok(Some(cursor.sha512()?));

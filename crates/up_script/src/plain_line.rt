@@ -37,7 +37,7 @@ fn delivery(alloc: Global, line: &str) -> Result<Asked, Unread>
     let text = text_before(&mut cursor, "\",\"do\":\"deliver\"}")?;
     let body = unescaped(alloc, text.as_bytes())?;
     if !are_printable(body.as_slice()) {
-        return Err(Unread::Form);
+        return Err(Unread);
     }
     Ok(Asked {
         at,
@@ -51,7 +51,7 @@ fn text_before<'a>(cursor: &mut Cursor<'a>, last: &str) -> Result<&'a str, Unrea
 {
     let text = cursor.cut(cursor.rest.len().saturating_sub(last.len()))?;
     if cursor.rest != last {
-        return Err(Unread::Form);
+        return Err(Unread);
     }
     Ok(text)
 }
@@ -65,7 +65,7 @@ fn unescaped(alloc: Global, text: &[u8]) -> Result<Vec<u8>, Unread>
     'escapes: while let Some(place) = memchr2(b'"', b'\\', rest) {
         let (direct, behind) = rest.split_at(place);
         let Some((special, left)) = escape(behind) else {
-            return Err(Unread::Form);
+            return Err(Unread);
         };
         bytes.extend_from_slice(direct)?;
         bytes.push(special)?;

@@ -12,11 +12,11 @@ pub returns-clause-text : goal.returns-clause-text
 returns-clause-text c =
     let m : Manifest = record { vehicle = c.in_ok-vehicle.vehicle; primary = c.in_ok-primary.primary; counter = c.in_ok-counter.counter; reports = c.in_ok-reports.reports } in
     let es = envelopes m.reports in
-    c.in_ok-counter.ensures.value ∙ ap (λ t. codes "{\"counter\":" ++ (decimal m.counter ++ t)) (
+    c.in_ok-counter.ensures ∙ ap (λ t. codes "{\"counter\":" ++ (decimal m.counter ++ t)) (
     c.in_ok-primary.ensures ∙ ap (λ t. codes ",\"primary\":" ++ (quoted m.primary ++ t)) (
-    c.in_ok-pass.ensures.value ∙ ap (λ t. codes ",\"reports\":" ++ t) (
+    c.in_ok-pass.ensures ∙ ap (λ t. codes ",\"reports\":" ++ t) (
     c.in_ok-reports.ensures.text ∙ ap (λ ts. listed ts ++ c.reports.new.cursor.rest.now) (envelope-texts m.reports) ∙ ap (λ t. listed (map envelope_text es) ++ t) (
-    c.in_ok-vehicle.ensures ∙ ap (λ t. codes ",\"type\":\"manifest\",\"vehicle\":" ++ (quoted m.vehicle ++ t)) c.in_ok-pass-2.ensures.value))))
+    c.in_ok-vehicle.ensures ∙ ap (λ t. codes ",\"type\":\"manifest\",\"vehicle\":" ++ (quoted m.vehicle ++ t)) c.in_ok-pass-2.ensures))))
     ∙ manifest-spelled m.vehicle m.primary m.counter es c.pass-2.new.self.rest.now
 
 pub returns-clause-fits : goal.returns-clause-fits

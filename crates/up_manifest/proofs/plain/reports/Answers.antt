@@ -17,7 +17,7 @@ reports-preserved c =
     let longer = c.in_ok-push.ensures.len in
     let counted = c.reports.invariant.counted in
     let front =
-    sym c.if-takes.ensures ∙ c.in_ok-pass-2.ensures.value ∙ ap (λ m. m ++ c.pass-in-reports.new.self.rest.now) c.reports.invariant.separator
+    sym c.if-takes.ensures ∙ c.in_ok-pass-2.ensures ∙ ap (λ m. m ++ c.pass-in-reports.new.self.rest.now) c.reports.invariant.separator
     ∙ ap (λ t. separator_after rs ++ t) c.in_ok-signed_report.ensures.text in
     record {
       utf8 = search rules;

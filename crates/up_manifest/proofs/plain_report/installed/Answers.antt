@@ -10,7 +10,7 @@ pub returns : goal.returns
 returns c =
     let i : Installed = record { file = c.in_ok-file.file; length = c.in_ok-length.length; sha256 = c.in_ok-sha256.sha256; sha512 = c.in_ok-sha256.sha512 } in
     c.in_ok-file.ensures ∙ ap (λ t. codes "{\"file\":" ++ (quoted i.file ++ t)) (
-    c.in_ok-pass.ensures.value ∙ ap (λ t. codes ",\"hashes\":" ++ t) (
-    c.in_ok-sha256.ensures.value ∙ ap (λ t. text (hashes_value i.sha256 i.sha512) ++ t) (
-    c.in_ok-length.ensures.value ∙ ap (λ t. codes ",\"length\":" ++ (decimal i.length ++ t)) c.in_ok-pass-2.ensures.value)))
+    c.in_ok-pass.ensures ∙ ap (λ t. codes ",\"hashes\":" ++ t) (
+    c.in_ok-sha256.ensures ∙ ap (λ t. text (hashes_value i.sha256 i.sha512) ++ t) (
+    c.in_ok-length.ensures ∙ ap (λ t. codes ",\"length\":" ++ (decimal i.length ++ t)) c.in_ok-pass-2.ensures)))
     ∙ installed-spelled i c.pass-2.new.self.rest.now

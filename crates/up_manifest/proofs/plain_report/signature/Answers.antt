@@ -11,5 +11,5 @@ returns-clause-text c =
     let s : Signature = record { keyid = c.in_ok-keyid.keyid; method = c.in_ok-method.method; sig = c.in_ok-sig.sig } in
     c.in_ok-keyid.ensures.value ∙ ap (λ t. codes "{\"keyid\":" ++ (quoted s.keyid ++ t)) (
     c.in_ok-method.ensures.value ∙ ap (λ t. codes ",\"method\":" ++ (quoted s.method ++ t)) (
-    c.in_ok-sig.ensures.value ∙ ap (λ t. codes ",\"sig\":" ++ (quoted (encode_lower s.sig) ++ t)) c.in_ok-pass.ensures.value))
+    c.in_ok-sig.ensures.value ∙ ap (λ t. codes ",\"sig\":" ++ (quoted (encode_lower s.sig) ++ t)) c.in_ok-pass.ensures))
     ∙ signature-spelled s c.pass.new.self.rest.now

@@ -13,5 +13,5 @@ returns-clause-text c =
     let is = c.in_ok-signed.ensures text c.in_ok-report.ensures.text in
     let rest = c.pass.new.self.rest.now in
     c.in_ok-signatures.ensures.text ∙ ap (λ t. signatures_text e.signatures ++ t) (
-    c.in_ok-report.ensures.text ∙ ap (λ t. text ++ t) c.in_ok-pass.ensures.value ∙ ap (λ t. t ++ (codes "}" ++ rest)) (sym is))
+    c.in_ok-report.ensures.text ∙ ap (λ t. text ++ t) c.in_ok-pass.ensures ∙ ap (λ t. t ++ (codes "}" ++ rest)) (sym is))
     ∙ envelope-spelled e rest

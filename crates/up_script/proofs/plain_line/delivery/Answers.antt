@@ -14,9 +14,9 @@ returns-clause-value c =
     let printable : is_printable_text body ≡ true = search rules in
     let escaped = sym c.as_bytes.ensures.value ∙ c.in_ok-body.ensures in
     let whole =
-    sym c.new-cursor.ensures ∙ c.in_ok-pass.ensures.value ∙ ap (λ t. codes "{\"at\":" ++ t) (
-    c.in_ok-at.ensures.value ∙ ap (λ t. decimal at ++ t) (
-    c.in_ok-pass-2.ensures.value ∙ ap (λ t. codes ",\"body\":\"" ++ t) (
+    sym c.new-cursor.ensures ∙ c.in_ok-pass.ensures ∙ ap (λ t. codes "{\"at\":" ++ t) (
+    c.in_ok-at.ensures ∙ ap (λ t. decimal at ++ t) (
+    c.in_ok-pass-2.ensures ∙ ap (λ t. codes ",\"body\":\"" ++ t) (
     c.in_ok-text.ensures ∙ ap (λ t. t ++ codes "\",\"do\":\"deliver\"}") escaped))) in
     λ k.
     delivery_in c.canonical_laws.ensures.deeper k at body (omega arith) printable c.args.line.now c.utf8.line whole

@@ -3,8 +3,8 @@ use Rattle.up_canon.specs.Canon.{quoted}
 use Rattle.up_manifest.proofs.LowerDigits.{lower-written}
 use Rattle.up_manifest.proofs.cursor.Cursor.digits_of.Goals as goal
 
-pub returns-in-Ok-clause-value : goal.returns-in-Ok-clause-value
-returns-in-Ok-clause-value c =
+pub returns-in-Ok : goal.returns-in-Ok
+returns-in-Ok c =
     let text = c.as_bytes.ensures.value in
     c.in_ok-digits.ensures.value
     ∙ ap (λ t. quoted t ++ c.lower_digits.new.self.rest.now)

@@ -12,11 +12,11 @@ pieces-preserved c =
     let rest = c.escape.new.self.rest.now in
     let all : c.push_str-in-pieces.new.self.bytes.items ≡ (before ++ direct) ++ special = c.in_ok-push_str-2.ensures.bytes ∙ ap (λ t. t ++ special) c.in_ok-push_str.ensures.bytes in (
       c.pieces.invariant.0
-          ∙ ap (λ t. 34 ∷ (flat_map escaped before ++ t)) (c.in_ok-direct.ensures.value.0 ∙ ap (λ t. direct ++ t) (sym c.if-takes.ensures ∙ c.in_ok-special.ensures.value))
-          ∙ ap (λ t. 34 ∷ t) (direct-more before direct (flat_map escaped special ++ rest) c.in_ok-direct.ensures.value.1 ∙ escaped-more (before ++ direct) special rest)
+          ∙ ap (λ t. 34 ∷ (flat_map escaped before ++ t)) (c.in_ok-direct.ensures.0 ∙ ap (λ t. direct ++ t) (sym c.if-takes.ensures ∙ c.in_ok-special.ensures.value))
+          ∙ ap (λ t. 34 ∷ t) (direct-more before direct (flat_map escaped special ++ rest) c.in_ok-direct.ensures.1 ∙ escaped-more (before ++ direct) special rest)
           ∙ ap (λ t. 34 ∷ (flat_map escaped t ++ rest)) (sym all),
       ap is_printable_text all
-          ∙ printable-more (before ++ direct) special (printable-more before direct c.pieces.invariant.1 (direct-prints direct c.in_ok-direct.ensures.value.1)) c.in_ok-special.ensures.printable,
+          ∙ printable-more (before ++ direct) special (printable-more before direct c.pieces.invariant.1 (direct-prints direct c.in_ok-direct.ensures.1)) c.in_ok-special.ensures.printable,
     )
 
 pub returns-then-takes-clause-value : goal.returns-then-takes-clause-value
@@ -26,8 +26,8 @@ returns-then-takes-clause-value c =
     let rest = c.takes.new.self.rest.now in
     let all : c.push_str.new.self.bytes.items ≡ before ++ direct = c.in_ok-push_str.ensures.bytes in
     c.pieces.invariant.0
-    ∙ ap (λ t. 34 ∷ (flat_map escaped before ++ t)) (c.in_ok-direct.ensures.value.0 ∙ ap (λ t. direct ++ t) c.if-takes.ensures)
-    ∙ ap (λ t. 34 ∷ t) (direct-more before direct (34 ∷ rest) c.in_ok-direct.ensures.value.1)
+    ∙ ap (λ t. 34 ∷ (flat_map escaped before ++ t)) (c.in_ok-direct.ensures.0 ∙ ap (λ t. direct ++ t) c.if-takes.ensures)
+    ∙ ap (λ t. 34 ∷ t) (direct-more before direct (34 ∷ rest) c.in_ok-direct.ensures.1)
     ∙ escaped-ends (before ++ direct) rest
     ∙ ap (λ t. quoted t ++ rest) (sym all)
 
@@ -36,4 +36,4 @@ returns-then-takes-clause-printable c =
     let before = c.pieces.text.bytes.items in
     let direct = c.in_ok-direct.direct.now in
     let all : c.push_str.new.self.bytes.items ≡ before ++ direct = c.in_ok-push_str.ensures.bytes in
-    ap is_printable_text all ∙ printable-more before direct c.pieces.invariant.1 (direct-prints direct c.in_ok-direct.ensures.value.1)
+    ap is_printable_text all ∙ printable-more before direct c.pieces.invariant.1 (direct-prints direct c.in_ok-direct.ensures.1)

@@ -6,5 +6,5 @@ use Rattle.up_manifest.proofs.cursor.Cursor.lower_digits.Goals as goal
 pub returns-clause-value : goal.returns-clause-value
 returns-clause-value c =
     let digits = c.in_ok-digits.digits.now in
-    c.in_ok-pass.ensures.value ∙ ap (λ s. 34 ∷ s) (c.in_ok-digits.ensures.value.0 ∙ ap (λ s. digits ++ s) c.in_ok-pass-2.ensures.value)
-    ∙ direct-quoted digits c.pass-2.new.self.rest.now (digits-direct digits c.in_ok-digits.ensures.value.1)
+    c.in_ok-pass.ensures ∙ ap (λ s. 34 ∷ s) (c.in_ok-digits.ensures.0 ∙ ap (λ s. digits ++ s) c.in_ok-pass-2.ensures)
+    ∙ direct-quoted digits c.pass-2.new.self.rest.now (digits-direct digits c.in_ok-digits.ensures.1)

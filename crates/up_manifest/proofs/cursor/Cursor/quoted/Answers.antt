@@ -5,8 +5,8 @@ use Rattle.up_manifest.proofs.cursor.Cursor.quoted.Goals as goal
 pub returns-clause-value : goal.returns-clause-value
 returns-clause-value c =
     let text = c.in_ok-text.text.now in
-    c.in_ok-pass.ensures.value ∙ ap (λ s. 34 ∷ s) (c.in_ok-text.ensures.value.0 ∙ ap (λ s. text ++ s) c.in_ok-pass-2.ensures.value)
-    ∙ direct-quoted text c.pass-2.new.self.rest.now c.in_ok-text.ensures.value.1
+    c.in_ok-pass.ensures ∙ ap (λ s. 34 ∷ s) (c.in_ok-text.ensures.0 ∙ ap (λ s. text ++ s) c.in_ok-pass-2.ensures)
+    ∙ direct-quoted text c.pass-2.new.self.rest.now c.in_ok-text.ensures.1
 
 pub returns-clause-printable : goal.returns-clause-printable
-returns-clause-printable c = direct-prints c.in_ok-text.text.now c.in_ok-text.ensures.value.1
+returns-clause-printable c = direct-prints c.in_ok-text.text.now c.in_ok-text.ensures.1
