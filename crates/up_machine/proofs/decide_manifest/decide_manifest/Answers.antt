@@ -1,5 +1,4 @@
 use Rattle.std.proofs.Common.{Err, ◌++◌, ap, map, refl, sym, subst, ◌∙◌}
-use Rattle.std.specs.Prelude.{is_some}
 use Rattle.up_manifest.specs.declared.report.SignedReport.{SignedReport}
 use Rattle.up_plan.specs.declared.campaign.Item.{Item}
 use Rattle.up_plan.specs.Planning.{is_offered, items_for}
