@@ -3,7 +3,6 @@ use Rattle.std.proofs.Common.{◌≡◌, List, [], ◌∷◌, Bool, true, false,
 use Rattle.std.specs.Prelude.{◌&&◌, IsErrAnd, Option, Some, None, map, option_map, unwrap_or}
 use Rattle.std.specs.List.{AllByRecursion, list_all}
 use Rattle.std.specs.FinMap as table
-use Rattle.std.proofs.lemmas.Result.{err_from_is_err_and}
 use Rattle.up_canon.specs.Names.{Table}
 use Rattle.up_canon.specs.Steps.{and_then, ◌>>=◌, unless}
 use Rattle.up_canon.specs.declared.refusal.Refusal.{Refusal}
@@ -19,6 +18,7 @@ use Rattle.up_machine.specs.Deciding.{Outcome, done}
 use Rattle.up_machine.specs.Inventory.{reach_is_known, has_its_image, has_its_hardware, with_campaign, decide_new_campaign}
 use Rattle.up_machine.specs.Decisions.{Knows, named_in, finds_image, finds_hardware, check_campaign}
 use Rattle.up_metadata.proofs.Lists.{each_weaker}
+use Rattle.up_machine.proofs.Passing.{memory_first}
 
 all_marked : {A : Type 0} (p : A → Bool) (xs : List A) → list_all (λ b. b) (map p xs) ≡ list_all p xs
 all_marked p [] = refl
@@ -74,15 +74,6 @@ checked_rows s campaign known images knows =
     steps_same _ _ _ _ _ _ (done (with_campaign s campaign)) (knows_vehicles s campaign known images knows) (knows_images s campaign known images knows) (knows_hardware s campaign known images knows)
 
 -- ---- want of memory
-
--- what the decision refuses for want of memory, its first check refused so
-memory_first : {A B : Type 0} (result : Result A Refusal) (e : Refusal) (first : Result B Refusal) → IsErrAnd result (λ x. x ≡ e) → result ≡ Err Memory → first ≡ Err e
-    → first ≡ Err Memory
-memory_first {A} result e first is memory h =
-    let (x, was, same) = err_from_is_err_and result is in
-    let told : ◌≡◌ {A = Result A Refusal} (Err x) (Err Memory) = sym was ∙ memory in
-    let is_memory : x ≡ Memory = cc in
-    h ∙ ap (λ r. Err r) (sym same ∙ is_memory)
 
 no_memory : (a b c : Bool) → (unless a UnknownVehicle >>= (λ _. unless b UnknownImage >>= (λ _. unless c WrongHardware))) ≡ Err Memory
     → (unless a UnknownVehicle >>= (λ _. unless b UnknownImage >>= (λ _. unless c WrongHardware))) ≡ Ok tt

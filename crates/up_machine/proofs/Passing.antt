@@ -5,6 +5,7 @@ use Rattle.std.proofs.lemmas.Result.{err_from_is_err_and}
 use Rattle.up_canon.specs.Names.{Name}
 use Rattle.up_canon.specs.Refusals.{is_memory}
 use Rattle.up_canon.specs.declared.refusal.Refusal.{Refusal}
+use Rattle.up_canon.specs.declared.refusal.Refusal.TheVariants.{Memory}
 use Rattle.up_sign.specs.Schemes.{Rules}
 use Rattle.up_machine.specs.declared.decision.Decision.{Decision}
 use Rattle.up_machine.specs.declared.decision.Delivered.{Delivered}
@@ -29,6 +30,15 @@ so_too {A} {B} first computed e more h = by_memory (is_memory e) h
     by_memory : (m : Bool) → MatchBool m ⊤ (◌≡◌ {A = Result A Refusal} first (Err e)) → MatchBool m ⊤ (◌≡◌ {A = Result B Refusal} computed (Err e))
     by_memory true h = tt
     by_memory false h = more h
+
+-- what is refused for want of memory, its first step refused so
+pub memory_first : {A B : Type 0} (result : Result A Refusal) (e : Refusal) (first : Result B Refusal) → IsErrAnd result (λ x. x ≡ e) → result ≡ Err Memory → first ≡ Err e
+    → first ≡ Err Memory
+memory_first {A} result e first is memory h =
+    let (x, was, same) = err_from_is_err_and result is in
+    let told : ◌≡◌ {A = Result A Refusal} (Err x) (Err Memory) = sym was ∙ memory in
+    let is_memory : x ≡ Memory = cc in
+    h ∙ ap (λ r. Err r) (sym same ∙ is_memory)
 
 pub decision_refused : {R : Type 0} (has : R → Type 0) (s next : State) (result : Result (Decision R) Refusal) (e : Refusal) (computed : Result Outcome Refusal)
     → IsErrAnd result (λ x. x ≡ e) → Refuses computed e → GivesDecision has s next result computed

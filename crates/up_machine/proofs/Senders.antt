@@ -2,14 +2,14 @@
 use Rattle.std.proofs.Common.{◌≡◌, ℕ, ◌+◌, ◌<◌, ◌≤◌, List, [], ◌∷◌, true, false, Option, Some, None, Result, Ok, Err, refl, sym, ap, ◌∙◌, subst, arith}
 use Rattle.std.proofs.lemmas.Bool.Decides.{nat_tests}
 use Rattle.std.proofs.lemmas.Result.{err_from_is_err_and}
-use Rattle.std.specs.Prelude.{⊤, ◌==◌, find, nat_le, option_and_then, option_map, IsErrAnd}
+use Rattle.std.specs.Prelude.{⊤, ◌==◌, Bool, bytes_eq, find, is_some, nat_le, nat_lt, option_and_then, option_map, IsErrAnd}
 use Rattle.std.specs.List.{AllByRecursion, enumerate_from}
 use Rattle.std.specs.FinMap as table
 use Rattle.up_canon.specs.Moments.{last_command_moment}
 use Rattle.up_canon.specs.Names.{Name, Table}
-use Rattle.up_canon.specs.Steps.{◌>>=◌, or_error, refuse_if}
+use Rattle.up_canon.specs.Steps.{and_then, ◌>>=◌, or_error, refuse_if, unless}
 use Rattle.up_canon.specs.declared.refusal.Refusal.{Refusal}
-use Rattle.up_canon.specs.declared.refusal.Refusal.TheVariants.{NotFounded, UnknownVehicle, Stale}
+use Rattle.up_canon.specs.declared.refusal.Refusal.TheVariants.{Memory, NotFounded, UnknownVehicle, WrongPrimary, BadManifestSignature, Stale}
 use Rattle.up_sign.specs.Schemes.{Rules}
 use Rattle.up_manifest.specs.declared.manifest.Incoming.{Incoming}
 use Rattle.up_manifest.specs.declared.manifest.Manifest.{Manifest}
@@ -28,13 +28,14 @@ use Rattle.up_machine.specs.Sound.{IsSound}
 use Rattle.up_machine.specs.Deciding.{check_founded}
 use Rattle.up_machine.specs.Deliveries.{receive_manifest}
 use Rattle.up_machine.specs.Decisions.{IsRead, DeliveryData, decide_incoming, files_named, GivesDelivered}
-use Rattle.up_machine.specs.ManifestRows.{accepted_rows, check_primary, check_new_of, check_reports_of, repeated}
+use Rattle.up_machine.specs.ManifestRows.{accepted_rows, check_primary, check_new_of, check_reports_of, is_signed_by_row, repeated}
 use Rattle.up_machine.specs.Rows.{founding_row, kept_at, kept_row, reply_kept, rows_of, vehicle_rows}
-use Rattle.up_machine.specs.Senders.{ArePlanned, GivesSender, IsSenderOf, SenderData}
+use Rattle.up_machine.specs.Senders.{ArePlanned, GivesSender, IsSenderOf, SenderData, TakesMemory}
 use Rattle.up_canon.proofs.Steps.{bind-ok, bind-err, first_ok, map_some}
 use Rattle.up_machine.proofs.CheckedRows.{received_same}
 use Rattle.up_machine.proofs.DecidedManifests.{Given, bad_manifest, is_accepted, is_repeated}
 use Rattle.up_machine.proofs.FoundedRow.{founded_by_row, check_by_row}
+use Rattle.up_machine.proofs.Passing.{memory_first}
 
 -- ---- who sent it
 
@@ -97,6 +98,44 @@ sender_refused k s incoming result e is bad =
 pub refused_first : (k : Rules) (s : State) (at : ℕ) (incoming : Incoming) (e : Refusal) → receive_manifest k s incoming ≡ Err e → decide_incoming k s at incoming ≡ Err e
 unfolding decide_incoming
 refused_first k s at incoming e bad = bind-err _ _ e bad
+
+-- ---- want of memory
+
+no_memory : (a b : Bool) → (unless a WrongPrimary >>= (λ _. unless b BadManifestSignature)) ≡ Err Memory → ⊥
+unfolding and_then
+no_memory true true h = cc
+no_memory true false h = cc
+no_memory false b h = cc
+
+-- the test of the Primary takes none
+pub sender_outright : {A : Type 0} (k : Rules) (incoming : Incoming) (vehicle : VehicleRows) (result : Result A Refusal) (e : Refusal) → IsErrAnd result (λ x. x ≡ e) → result ≡ Err Memory
+    → check_primary k vehicle incoming ≡ Err e → ⊥
+unfolding check_primary
+sender_outright k incoming vehicle result e is memory bad =
+    no_memory (bytes_eq incoming.manifest.primary vehicle.vehicle.primary) (is_signed_by_row k vehicle.ecus vehicle.vehicle.primary incoming.envelope)
+    (memory_first result e (check_primary k vehicle incoming) is memory bad)
+
+-- behind it some is taken for a counter above the last one, and for a repeat
+pub taken_again : (k : Rules) (incoming : Incoming) (given rows : DeliveryData) (sender : SenderData) → given ≡ rows → given.founding ≡ Some sender.founding → given.vehicle ≡ Some sender.vehicle
+    → check_primary k sender.vehicle incoming ≡ Ok tt → is_some (repeated incoming given.kept) ≡ true → TakesMemory k incoming rows
+taken_again k incoming given rows sender is founding vehicle sent again =
+    subst (TakesMemory k incoming) is (record { sender = sender; founding = founding; vehicle = vehicle; sent = sent; again = λ older. again })
+
+never_older : (a b : ℕ) → nat_lt a b ≡ true → b ≤ a → ⊥
+never_older a b later older =
+    let no : nat_lt a b ≡ false = grind (arith, nat_tests) in
+    cc
+
+pub taken_later : (k : Rules) (incoming : Incoming) (given rows : DeliveryData) (sender : SenderData) → given ≡ rows → given.founding ≡ Some sender.founding → given.vehicle ≡ Some sender.vehicle
+    → check_primary k sender.vehicle incoming ≡ Ok tt → nat_lt sender.vehicle.vehicle.last incoming.manifest.counter ≡ true → TakesMemory k incoming rows
+taken_later k incoming given rows sender is founding vehicle sent later =
+    subst (TakesMemory k incoming) is (record {
+      sender = sender;
+      founding = founding;
+      vehicle = vehicle;
+      sent = sent;
+      again = λ older. absurd (never_older sender.vehicle.vehicle.last incoming.manifest.counter later older);
+    })
 
 -- ---- above the last counter no row is kept
 

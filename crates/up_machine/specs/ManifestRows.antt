@@ -1,4 +1,5 @@
--- What the decision on a manifest computes over the rows of its vehicle. Of public contracts that of `decide_again` alone speaks of it, of `repeated`.
+-- What the decision on a manifest computes over the rows of its vehicle. Public contracts speak of two of these alone, to say who sent it and
+-- where memory is taken: of `check_primary` and `repeated`.
 use Rattle.std.specs.Prelude.{ℕ, ◌+◌, ◌||◌, ◌&&◌, ◌==◌, List, [], ◌∷◌, Bool, true, false, not, nat_le, nat_lt, Option, Some, option_map, unwrap_or, map, filter_map, find, bytes_eq, ⊤, Result}
 use Rattle.std.specs.List.{list_any}
 use Rattle.std.specs.FinMap as table

@@ -1,5 +1,5 @@
 -- The decision on a manifest in steps: who sent it, whether it was there before, and what is new.
-use Rattle.std.specs.Prelude.{◌≡◌, List, Some, Result, Ok, Err, IsTrue}
+use Rattle.std.specs.Prelude.{◌≡◌, ◌≤◌, List, true, Some, is_some, Result, Ok, Err, IsTrue}
 use Rattle.std.specs.FinMap as table
 use Rattle.up_canon.specs.Names.{Table}
 use Rattle.up_canon.specs.declared.refusal.Refusal.{Refusal}
@@ -14,7 +14,8 @@ use Rattle.up_machine.specs.declared.rows.Founding.{Founding}
 use Rattle.up_machine.specs.declared.rows.VehicleRows.{VehicleRows}
 use Rattle.up_machine.specs.State.{State}
 use Rattle.up_machine.specs.Deliveries.{Received, receive_manifest}
-use Rattle.up_machine.specs.Decisions.{files_named, AreImagesOf}
+use Rattle.up_machine.specs.Decisions.{DeliveryData, files_named, AreImagesOf}
+use Rattle.up_machine.specs.ManifestRows.{check_primary, repeated}
 use Rattle.up_machine.specs.Rows.{founding_row, vehicle_rows}
 use Rattle.up_machine.specs.RowsFit.{founding_fits, rows_fit}
 
@@ -34,6 +35,15 @@ pub record IsSenderOf (k : Rules) (s : State) (incoming : Incoming) (sender : Se
 abbrev pub GivesSender : Rules → State → Incoming → Result SenderData Refusal → Type 0
 GivesSender k s incoming (Ok sender) = IsSenderOf k s incoming sender
 GivesSender k s incoming (Err r) = receive_manifest k s incoming ≡ Err r
+
+-- where memory is taken: the rows are there, no check up to the Primary's signature refuses the manifest, and where its counter isn't above
+-- the last one, the vehicle has accepted the same signed text
+pub record TakesMemory (k : Rules) (incoming : Incoming) (rows : DeliveryData) : Type 0 where
+  pub sender : SenderData
+  pub founding : rows.founding ≡ Some sender.founding
+  pub vehicle : rows.vehicle ≡ Some sender.vehicle
+  pub sent : check_primary k sender.vehicle incoming ≡ Ok tt
+  pub again : incoming.manifest.counter ≤ sender.vehicle.vehicle.last → is_some (repeated incoming rows.kept) ≡ true
 
 -- what an answer asks of them: keys that can sign, and rows that fit
 pub record CanAnswer (k : Rules) (sender : SenderData) : Type 0 where

@@ -9,7 +9,7 @@ ghost use Rattle.up_machine.specs.ManifestRows.{repeated as repeated_in};
 ghost use Rattle.up_machine.specs.Rows.{kept_at};
 ghost use Rattle.up_machine.specs.State.{State};
 ghost use Rattle.up_machine.specs.Sound.{IsSound};
-ghost use Rattle.up_machine.specs.Senders.{ArePlanned, CanAnswer, IsSenderOf};
+ghost use Rattle.up_machine.specs.Senders.{ArePlanned, CanAnswer, IsSenderOf, TakesMemory};
 ghost use Rattle.up_machine.specs.Decisions.{IsRead, AreRowsFor, decide_incoming, GivesDelivered};
 
 use crate::acceptance::accepted_rows;
@@ -75,7 +75,8 @@ pub fn decide_manifest<K: Scheme>(
     requires read { IsRead incoming.now }
     requires keys { IfSome rows.now.founding (λ f. IsTrue (founding_fits (K.rules scheme.now) f)) }
     requires rows { IfSome rows.now.vehicle (λ v. IsTrue (rows_fit v)) }
-    ensures { (s : State) → IsSound (K.rules scheme.now) s → AreRowsFor (K.rules scheme.now) s incoming.now.manifest rows.now
+    ensures memory { result ≡ Err Memory → TakesMemory (K.rules scheme.now) incoming.now rows.now }
+    ensures decided { (s : State) → IsSound (K.rules scheme.now) s → AreRowsFor (K.rules scheme.now) s incoming.now.manifest rows.now
         → GivesDelivered (K.rules scheme.now) s incoming.now.manifest.vehicle result
         (decide_incoming (K.rules scheme.now) s at incoming.now) }
 {

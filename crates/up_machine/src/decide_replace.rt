@@ -7,7 +7,7 @@ ghost use Rattle.up_canon.specs.declared.refusal.Refusal.TheVariants.{BadShape, 
 ghost use Rattle.up_canon.specs.Steps.{and_then, or_error};
 ghost use Rattle.up_canon.specs.declared.refusal.Refusal.TheVariants.{UnknownVehicle};
 ghost use Rattle.up_machine.specs.Vehicles.{public_fits as public_fits_in};
-ghost use Rattle.up_machine.specs.Decisions.{GivesReplacement, is_fixed};
+ghost use Rattle.up_machine.specs.Decisions.{GivesReplacement, refusal_names_ecu};
 ghost use Rattle.up_machine.specs.declared.rows.VehicleRows.{VehicleRows as VehicleRowsData};
 ghost use Rattle.up_machine.specs.Deciding.{check_founded as check_founded_in};
 ghost use Rattle.up_machine.specs.Inventory.{decide_replace as decide_replace_in, decide_replacement};
@@ -40,7 +40,7 @@ pub fn decide_replace<K: Scheme>(
 ) -> Result<(), Refusal>
     requires { at ≤ last_command_moment }
     ensures key { public_fits_in (K.rules scheme.now) replacement.now.ecu.public ≡ false → result ≡ Err (BadShape (codes "key")) }
-    ensures memory { result ≡ Err Memory → (is_founded ≡ true) × ((v : VehicleRowsData) × (option_copied vehicle.entry ≡ Some v) × (is_fixed replacement.now.old v ≡ false)) }
+    ensures memory { result ≡ Err Memory → (is_founded ≡ true) × ((v : VehicleRowsData) × (option_copied vehicle.entry ≡ Some v) × (refusal_names_ecu replacement.now.old is_taken_already v ≡ true)) }
     ensures decided { (s : State) → is_founded ≡ is_some (founding_row s) → option_copied vehicle.entry ≡ vehicle_rows s replacement.now.vehicle
         → is_taken_already ≡ is_taken s replacement.now.ecu.ecu → GivesReplacement s replacement.now result (decide_replace_in (K.rules scheme.now) s at replacement.now) }
 {
@@ -60,7 +60,7 @@ fn decide_fitting(
     vehicle: Option<&VehicleRows>,
     is_taken_already: bool,
 ) -> Result<(), Refusal>
-    ensures memory { result ≡ Err Memory → (is_founded ≡ true) × ((v : VehicleRowsData) × (option_copied vehicle.entry ≡ Some v) × (is_fixed replacement.now.old v ≡ false)) }
+    ensures memory { result ≡ Err Memory → (is_founded ≡ true) × ((v : VehicleRowsData) × (option_copied vehicle.entry ≡ Some v) × (refusal_names_ecu replacement.now.old is_taken_already v ≡ true)) }
     ensures decided { (s : State) → is_founded ≡ is_some (founding_row s) → option_copied vehicle.entry ≡ vehicle_rows s replacement.now.vehicle
         → is_taken_already ≡ is_taken s replacement.now.ecu.ecu → GivesReplacement s replacement.now result
         (and_then (check_founded_in s) (λ _. and_then (or_error UnknownVehicle (table.get s.vehicles replacement.now.vehicle)) (decide_replacement s replacement.now))) }
@@ -76,7 +76,7 @@ fn decide_known(
     vehicle: Option<&VehicleRows>,
     is_taken_already: bool,
 ) -> Result<(), Refusal>
-    ensures memory { result ≡ Err Memory → (v : VehicleRowsData) × (option_copied vehicle.entry ≡ Some v) × (is_fixed replacement.now.old v ≡ false) }
+    ensures memory { result ≡ Err Memory → (v : VehicleRowsData) × (option_copied vehicle.entry ≡ Some v) × (refusal_names_ecu replacement.now.old is_taken_already v ≡ true) }
     ensures decided { (s : State) → option_copied vehicle.entry ≡ vehicle_rows s replacement.now.vehicle
         → is_taken_already ≡ is_taken s replacement.now.ecu.ecu → GivesReplacement s replacement.now result
         (and_then (or_error UnknownVehicle (table.get s.vehicles replacement.now.vehicle)) (decide_replacement s replacement.now)) }
@@ -94,7 +94,7 @@ fn decide_in(
     rows: &VehicleRows,
     is_taken_already: bool,
 ) -> Result<(), Refusal>
-    ensures memory { result ≡ Err Memory → is_fixed replacement.now.old rows.now ≡ false }
+    ensures memory { result ≡ Err Memory → refusal_names_ecu replacement.now.old is_taken_already rows.now ≡ true }
     ensures decided { (s : State) (v : Vehicle) → table.get s.vehicles replacement.now.vehicle ≡ Some v → rows.now ≡ rows_of replacement.now.vehicle v
         → is_taken_already ≡ is_taken s replacement.now.ecu.ecu → GivesReplacement s replacement.now result (decide_replacement s replacement.now v) }
 {

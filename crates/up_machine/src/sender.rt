@@ -1,5 +1,7 @@
 //! Who sent a manifest: the first step of the decision on it.
-ghost use Rattle.std.specs.Prelude.{◌≡◌, Some, IfOk, IfSome, IsTrue, nat_lt, option_copied};
+ghost use Rattle.std.specs.Prelude.{◌≡◌, Some, Ok, Err, IfOk, IfSome, IsTrue, nat_lt, option_copied};
+ghost use Rattle.up_canon.specs.declared.refusal.Refusal.TheVariants.{Memory};
+ghost use Rattle.up_machine.specs.ManifestRows.{check_primary as check_primary_in};
 ghost use Rattle.up_machine.specs.Rows.{founding_row, vehicle_rows};
 ghost use Rattle.up_machine.specs.RowsFit.{founding_fits, rows_fit};
 ghost use Rattle.up_machine.specs.Senders.{CanAnswer, GivesSender};
@@ -48,6 +50,8 @@ pub fn decide_sender<'a, K: Scheme>(
     ensures from { (s : State) → option_copied founding.entry ≡ founding_row s → option_copied vehicle.entry ≡ vehicle_rows s incoming.now.manifest.vehicle
         → GivesSender (K.rules scheme.now) s incoming.now result }
     ensures can { IfOk result (CanAnswer (K.rules scheme.now)) }
+    ensures memory { result ≡ Err Memory → ⊥ }
+    ensures passed { IfOk result (λ sender. check_primary_in (K.rules scheme.now) sender.vehicle incoming.now ≡ Ok tt) }
     ensures given { IfOk result (λ sender. (option_copied founding.entry ≡ Some sender.founding) × (option_copied vehicle.entry ≡ Some sender.vehicle)) }
 {
     let Some(founding) = founding else {
