@@ -45,3 +45,4 @@ pub mod MetaReads
 pub mod RoleKeyLemmas
 pub mod ListedLemmas
 pub mod RaiseLemmas
+pub mod ColumnLemmas

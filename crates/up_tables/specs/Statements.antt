@@ -1,5 +1,6 @@
--- What a statement does within a transaction. What it writes or finds is said where the whole schema is there, and the disk has returned
--- what was written so far; of the other tables nothing is altered.
+-- What a statement does within a transaction, where the disk has returned what was written so far. What it writes or finds is said where the
+-- whole schema is there, and of the other tables nothing is altered; of what makes a table or raises those of an older version, where the
+-- schema before it is there.
 use Rattle.std.specs.Prelude.{◌≡◌, ◌≤◌, ◌++◌, pos, ℕ, ℤ, List, [], ◌∷◌, Option, Some, Result, IfOk, OnOk, map, length, string_bytes}
 use Rattle.std.specs.Borrow.{MutBor}
 use Rattle.sqlite_rules.specs.Lists.{Has}

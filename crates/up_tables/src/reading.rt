@@ -1,10 +1,11 @@
 //! Rows that are read.
 
-ghost use Rattle.std.specs.Prelude.{◌≡◌, Err, map, IfOk, IfErr};
+ghost use Rattle.std.specs.Prelude.{◌≡◌, ◌≢◌, Option, List, Err, map, IfOk, IfErr};
 ghost use Rattle.std.specs.Option.{option_to_list};
 ghost use Rattle.std.specs.Result.{IsOkAnd};
 ghost use Rattle.up_tables.specs.Faults.{store_fault};
 ghost use Rattle.up_tables.specs.Rows.{columns_at};
+ghost use Rattle.up_tables.specs.declared.values.StoreFault.TheVariants as StoreFault;
 
 use crate::values::{StoreFault, fault_of, text_at};
 use sqlite::{Error, Row};
@@ -12,18 +13,20 @@ use std::alloc::Global;
 
 /// What is read of a row that a query answers.
 pub trait Decode: Sized {
-    ghost use Rattle.std.specs.Prelude.{◌≡◌, ℕ, List, IfOk};
+    ghost use Rattle.std.specs.Prelude.{◌≡◌, ◌≢◌, ℕ, List, IfOk, IfErr};
     ghost use Rattle.sqlite.specs.Order.{Row as Values};
     ghost use Rattle.up_tables.specs.Rows.{columns_at};
+    ghost use Rattle.up_tables.specs.declared.values.StoreFault.TheVariants as StoreFault;
 
     // The columns that are read, and the values of what is read of them.
     ghost places: { List ℕ };
 
     ghost values: { Self → Values };
 
-    /// Reads it; `Store` where a column isn't of its kind.
+    /// Reads it; `Store` where the row isn't one that shows a value.
     fn decode(row: &Row) -> Result<Self, StoreFault>
-        ensures { IfOk result (λ x. columns_at places row.now ≡ values x) };
+        ensures ok { IfOk result (λ x. columns_at places row.now ≡ values x) }
+        ensures fault { IfErr result (λ fault. fault ≡ StoreFault.Store → (x : Self) → columns_at places row.now ≢ values x) };
 }
 
 /// A text, the one column that is read.
@@ -40,12 +43,14 @@ impl Decode for String {
     }
 }
 
-/// What is read of the one row of an answer, none of none; `Store` where there are more.
+/// What is read of the one row of an answer, none of none; `Store` where there are more, or the row shows no value.
 pub fn at_most_one<T: Decode + Drop>(
     answer: Result<Vec<Row>, Error>,
 ) -> Result<Option<T>, StoreFault>
     ensures ok { IfOk result (λ found. IsOkAnd answer (λ rows. map (columns_at T.places) rows.items ≡ map T.values (option_to_list found))) }
     ensures fault { IfErr answer (λ e. result ≡ Err (store_fault e)) }
+    ensures damaged { IfOk answer (λ rows. IfErr result (λ fault. fault ≡ StoreFault.Store
+        → (found : Option T) → map (columns_at T.places) rows.items ≢ map T.values (option_to_list found))) }
 {
     match answer {
         Ok(rows) => only(&rows),
@@ -53,9 +58,11 @@ pub fn at_most_one<T: Decode + Drop>(
     }
 }
 
-/// What is read of the one row, none of none; `Store` where there are more.
+/// What is read of the one row, none of none; `Store` where there are more, or the row shows no value.
 fn only<T: Decode + Drop>(rows: &[Row]) -> Result<Option<T>, StoreFault>
-    ensures { IfOk result (λ found. map (columns_at T.places) rows.now ≡ map T.values (option_to_list found)) }
+    ensures ok { IfOk result (λ found. map (columns_at T.places) rows.now ≡ map T.values (option_to_list found)) }
+    ensures fault { IfErr result (λ fault. fault ≡ StoreFault.Store
+        → (found : Option T) → map (columns_at T.places) rows.now ≢ map T.values (option_to_list found)) }
 {
     match rows {
         [] => Ok(None),
@@ -67,13 +74,15 @@ fn only<T: Decode + Drop>(rows: &[Row]) -> Result<Option<T>, StoreFault>
     }
 }
 
-/// What is read of each row of an answer.
+/// What is read of each row of an answer; `Store` where a row shows no value.
 pub fn each_row<T: Decode + Drop>(
     alloc: Global,
     answer: Result<Vec<Row>, Error>,
 ) -> Result<Vec<T>, StoreFault>
     ensures ok { IfOk result (λ read. IsOkAnd answer (λ rows. map (columns_at T.places) rows.items ≡ map T.values read.items)) }
     ensures fault { IfErr answer (λ e. result ≡ Err (store_fault e)) }
+    ensures damaged { IfOk answer (λ rows. IfErr result (λ fault. fault ≡ StoreFault.Store
+        → (read : List T) → map (columns_at T.places) rows.items ≢ map T.values read)) }
 {
     match answer {
         Ok(rows) => each_of(alloc, &rows),
@@ -81,9 +90,10 @@ pub fn each_row<T: Decode + Drop>(
     }
 }
 
-/// What is read of each row.
+/// What is read of each row; `Store` where one shows no value.
 fn each_of<T: Decode + Drop>(alloc: Global, rows: &[Row]) -> Result<Vec<T>, StoreFault>
-    ensures { IfOk result (λ read. map (columns_at T.places) rows.now ≡ map T.values read.items) }
+    ensures ok { IfOk result (λ read. map (columns_at T.places) rows.now ≡ map T.values read.items) }
+    ensures fault { IfErr result (λ fault. fault ≡ StoreFault.Store → (read : List T) → map (columns_at T.places) rows.now ≢ map T.values read) }
 {
     let mut read = Vec::with_capacity(alloc, rows.len())?;
     for row in rows {

@@ -1,8 +1,9 @@
 //! Values as they are bound and read, and faults.
 
-ghost use Rattle.std.specs.Prelude.{◌≡◌, ◌≢◌, ◌<◌, ◌^◌, ℕ, Bool, List, pos, length, Err, OnOk, IfOk, IfErr, IsUtf8, string_bytes};
+ghost use Rattle.std.specs.Prelude.{◌≡◌, ◌≢◌, ◌<◌, ◌^◌, ℕ, Bool, List, pos, Err, OnOk, IfOk, IfErr, IsUtf8, string_bytes};
 ghost use Rattle.std.specs.Result.{IsOk};
 ghost use Rattle.sqlite.specs.Order.{column};
+ghost use Rattle.sqlite_sql.specs.Ops.{is_null};
 ghost use Rattle.sqlite.specs.Values.{bound_value, or_null};
 ghost use Rattle.sqlite.specs.Value.{owned};
 ghost use Rattle.sqlite.specs.declared.types.Value.TheVariants.{Null, Int, Text, Blob};
@@ -96,21 +97,43 @@ pub fn bytes<'a>(blob: &'a [u8]) -> ValueRef<'a>
     ValueRef::Blob(blob)
 }
 
+/// Whether a column is null, as one that the row doesn't have is too.
+pub fn is_null(row: &Row, at: usize) -> bool
+    ensures { result ≡ is_null (column row.now at) }
+{
+    match row.get_ref(at) {
+        Ok(ValueRef::Null) => true,
+        Ok(_) => false,
+        Err(_) => true,
+    }
+}
+
+/// A number that isn't below 0; `Store` where it is.
+fn not_below_zero(number: i64) -> Result<u64, StoreFault>
+    ensures ok { IfOk result (λ n. number ≡ pos n) }
+    ensures fault { IfErr result (λ fault. (fault ≡ StoreFault.Store) × ((n : ℕ) → number ≢ pos n)) }
+{
+    match u64::try_from(number) {
+        Ok(n) => Ok(n),
+        Err(_) => Err(StoreFault::Store),
+    }
+}
+
 /// The number in a column; `Store` where it has none.
 pub fn number_at(row: &Row, at: usize) -> Result<u64, StoreFault>
     ensures ok { IfOk result (λ n. column row.now at ≡ Int (pos n)) }
-    ensures fault { IfErr result (λ fault. fault ≡ StoreFault.Store → (n : ℕ) → column row.now at ≢ Int (pos n)) }
+    ensures fault { IfErr result (λ fault. (fault ≡ StoreFault.Store) × ((n : ℕ) → column row.now at ≢ Int (pos n))) }
 {
-    match row.get::<u64>(at) {
-        Ok(n) => Ok(n),
-        Err(error) => Err(fault_of(error)),
+    match row.get_ref(at) {
+        Ok(ValueRef::Int(number)) => not_below_zero(number),
+        _ => Err(StoreFault::Store),
     }
 }
 
 /// Yes or no in a column; `Store` where it has another number, or none.
 pub fn flag_at(row: &Row, at: usize) -> Result<bool, StoreFault>
     ensures ok { IfOk result (λ yes. column row.now at ≡ Int (yes_or_no yes)) }
-    ensures fault { IfErr result (λ fault. fault ≡ StoreFault.Store → (yes : Bool) → column row.now at ≢ Int (yes_or_no yes)) }
+    ensures fault { IfErr result (λ fault. (fault ≡ StoreFault.Store) × ((yes : Bool) → column row.now at ≢ Int (yes_or_no yes))) }
 {
     match number_at(row, at) {
         Ok(0) => Ok(false),
@@ -142,41 +165,17 @@ pub fn bytes_at(row: &Row, at: usize) -> Result<Vec<u8>, StoreFault>
     }
 }
 
-/// The number in a column, none where it is null; `Store` where it has anything else.
-pub fn number_or_null_at(row: &Row, at: usize) -> Result<Option<u64>, StoreFault>
-    ensures ok { IfOk result (λ o. column row.now at ≡ or_null (λ n. Int (pos n)) o) }
-    ensures fault { IfErr result (λ fault. fault ≡ StoreFault.Store → at < length row.now
-        → (column row.now at ≢ Null) × ((n : ℕ) → column row.now at ≢ Int (pos n))) }
-{
-    match row.get::<Option<u64>>(at) {
-        Ok(Some(n)) => Ok(Some(n)),
-        Ok(None) => Ok(None),
-        Err(error) => Err(fault_of(error)),
-    }
-}
-
 /// The text in a column, none where it is null; `Store` where it has anything else.
 pub fn text_or_null_at(row: &Row, at: usize) -> Result<Option<String>, StoreFault>
     ensures ok { IfOk result (λ o. column row.now at ≡ or_null (λ s. Text (string_bytes s)) o) }
-    ensures fault { IfErr result (λ fault. fault ≡ StoreFault.Store → at < length row.now
+    ensures fault { IfErr result (λ fault. fault ≡ StoreFault.Store
         → (column row.now at ≢ Null) × ((s : List ℕ) → IsUtf8 s → column row.now at ≢ Text s)) }
 {
-    match row.get::<Option<String>>(at) {
-        Ok(Some(text)) => Ok(Some(text)),
-        Ok(None) => Ok(None),
-        Err(error) => Err(fault_of(error)),
+    if is_null(row, at) {
+        return Ok(None);
     }
-}
-
-/// The bytes in a column, none where it is null; `Store` where it has anything else.
-pub fn bytes_or_null_at(row: &Row, at: usize) -> Result<Option<Vec<u8>>, StoreFault>
-    ensures ok { IfOk result (λ o. column row.now at ≡ or_null (λ b. Blob b.items) o) }
-    ensures fault { IfErr result (λ fault. fault ≡ StoreFault.Store → at < length row.now
-        → (column row.now at ≢ Null) × ((b : List ℕ) → column row.now at ≢ Blob b)) }
-{
-    match row.get::<Option<Vec<u8>>>(at) {
-        Ok(Some(blob)) => Ok(Some(blob)),
-        Ok(None) => Ok(None),
-        Err(error) => Err(fault_of(error)),
+    match text_at(row, at) {
+        Ok(text) => Ok(Some(text)),
+        Err(fault) => Err(fault),
     }
 }

@@ -1,0 +1,21 @@
+use Rattle.std.proofs.Common.{ap, string_bytes}
+use Rattle.std.proofs.lemmas.Str.{IsUtf8-string_bytes}
+use Rattle.sqlite.specs.Order.{Row, column}
+use Rattle.up_tables.specs.declared.ecu.EcuRow.{EcuRow}
+use Rattle.up_tables.proofs.ColumnLemmas.{handed_on, neither}
+use Rattle.up_tables.proofs.ecu.EcuRowDecode.decode.Goals as goal
+
+pub returns-in_err-text_at-clause-fault : goal.returns-in_err-text_at-clause-fault
+returns-in_err-text_at-clause-fault c =
+    handed_on c.from_residual.result c.in_err-text_at.field-0.0 _ c.from_residual.ensures.1
+    (λ is (x : EcuRow) same. c.in_err-text_at.ensures.fault is (string_bytes x.ecu) (IsUtf8-string_bytes x.ecu) (ap (λ (v : Row). column v 0) same))
+
+pub returns-in_err-text_at-2-clause-fault : goal.returns-in_err-text_at-2-clause-fault
+returns-in_err-text_at-2-clause-fault c =
+    handed_on c.from_residual-in_err-text_at-2.result c.in_err-text_at-2.field-0.0 _ c.from_residual-in_err-text_at-2.ensures.1
+    (λ is (x : EcuRow) same. c.in_err-text_at-2.ensures.fault is (string_bytes x.hardware) (IsUtf8-string_bytes x.hardware) (ap (λ (v : Row). column v 1) same))
+
+pub returns-in_err-text_or_null_at-clause-fault : goal.returns-in_err-text_or_null_at-clause-fault
+returns-in_err-text_or_null_at-clause-fault c =
+    handed_on c.from_residual-in_err-text_or_null_at.result c.in_err-text_or_null_at.field-0.0 _ c.from_residual-in_err-text_or_null_at.ensures.1
+    (λ is (x : EcuRow) same. neither (λ s. string_bytes s) (λ s. IsUtf8-string_bytes s) c.args.row.now 7 (c.in_err-text_or_null_at.ensures.fault is) x.report (ap (λ (v : Row). column v 7) same))

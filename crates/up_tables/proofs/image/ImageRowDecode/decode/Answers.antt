@@ -1,0 +1,26 @@
+use Rattle.std.proofs.Common.{ap, string_bytes}
+use Rattle.std.proofs.lemmas.Str.{IsUtf8-string_bytes}
+use Rattle.sqlite.specs.Order.{Row, column}
+use Rattle.up_tables.specs.declared.image.ImageRow.{ImageRow}
+use Rattle.up_tables.proofs.ColumnLemmas.{handed_on}
+use Rattle.up_tables.proofs.image.ImageRowDecode.decode.Goals as goal
+
+pub returns-in_err-text_at-clause-fault : goal.returns-in_err-text_at-clause-fault
+returns-in_err-text_at-clause-fault c =
+    handed_on c.from_residual.result c.in_err-text_at.field-0.0 _ c.from_residual.ensures.1
+    (λ is (x : ImageRow) same. c.in_err-text_at.ensures.fault is (string_bytes x.file) (IsUtf8-string_bytes x.file) (ap (λ (v : Row). column v 0) same))
+
+pub returns-in_err-text_at-2-clause-fault : goal.returns-in_err-text_at-2-clause-fault
+returns-in_err-text_at-2-clause-fault c =
+    handed_on c.from_residual-in_err-text_at-2.result c.in_err-text_at-2.field-0.0 _ c.from_residual-in_err-text_at-2.ensures.1
+    (λ is (x : ImageRow) same. c.in_err-text_at-2.ensures.fault is (string_bytes x.hardware) (IsUtf8-string_bytes x.hardware) (ap (λ (v : Row). column v 3) same))
+
+pub returns-in_err-text_at-3-clause-fault : goal.returns-in_err-text_at-3-clause-fault
+returns-in_err-text_at-3-clause-fault c =
+    handed_on c.from_residual-in_err-text_at-3.result c.in_err-text_at-3.field-0.0 _ c.from_residual-in_err-text_at-3.ensures.1
+    (λ is (x : ImageRow) same. c.in_err-text_at-3.ensures.fault is (string_bytes x.needs) (IsUtf8-string_bytes x.needs) (ap (λ (v : Row). column v 5) same))
+
+pub returns-in_err-text_at-4-clause-fault : goal.returns-in_err-text_at-4-clause-fault
+returns-in_err-text_at-4-clause-fault c =
+    handed_on c.from_residual-in_err-text_at-4.result c.in_err-text_at-4.field-0.0 _ c.from_residual-in_err-text_at-4.ensures.1
+    (λ is (x : ImageRow) same. c.in_err-text_at-4.ensures.fault is (string_bytes x.conflicts) (IsUtf8-string_bytes x.conflicts) (ap (λ (v : Row). column v 6) same))

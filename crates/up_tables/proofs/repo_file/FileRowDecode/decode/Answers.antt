@@ -1,0 +1,21 @@
+use Rattle.std.proofs.Common.{ap, string_bytes}
+use Rattle.std.proofs.lemmas.Str.{IsUtf8-string_bytes}
+use Rattle.sqlite.specs.Order.{Row, column}
+use Rattle.up_tables.specs.declared.repo_file.FileRow.{FileRow}
+use Rattle.up_tables.proofs.ColumnLemmas.{handed_on}
+use Rattle.up_tables.proofs.repo_file.FileRowDecode.decode.Goals as goal
+
+pub returns-in_err-text_at-clause-fault : goal.returns-in_err-text_at-clause-fault
+returns-in_err-text_at-clause-fault c =
+    handed_on c.from_residual.result c.in_err-text_at.field-0.0 _ c.from_residual.ensures.1
+    (λ is (x : FileRow) same. c.in_err-text_at.ensures.fault is (string_bytes x.repository) (IsUtf8-string_bytes x.repository) (ap (λ (v : Row). column v 0) same))
+
+pub returns-in_err-text_at-2-clause-fault : goal.returns-in_err-text_at-2-clause-fault
+returns-in_err-text_at-2-clause-fault c =
+    handed_on c.from_residual-in_err-text_at-2.result c.in_err-text_at-2.field-0.0 _ c.from_residual-in_err-text_at-2.ensures.1
+    (λ is (x : FileRow) same. c.in_err-text_at-2.ensures.fault is (string_bytes x.name) (IsUtf8-string_bytes x.name) (ap (λ (v : Row). column v 1) same))
+
+pub returns-in_err-text_at-3-clause-fault : goal.returns-in_err-text_at-3-clause-fault
+returns-in_err-text_at-3-clause-fault c =
+    handed_on c.from_residual-in_err-text_at-3.result c.in_err-text_at-3.field-0.0 _ c.from_residual-in_err-text_at-3.ensures.1
+    (λ is (x : FileRow) same. c.in_err-text_at-3.ensures.fault is (string_bytes x.body) (IsUtf8-string_bytes x.body) (ap (λ (v : Row). column v 2) same))
