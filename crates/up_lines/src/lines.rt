@@ -1,5 +1,5 @@
 //! Lines cut from a reader, and their answers written to a writer.
-ghost use Rattle.std.specs.Prelude.{◌≡◌, ◌⊎◌, ℕ, List, Option, [], IfOk, IfErr, IfSome, OnOk, false, true};
+ghost use Rattle.std.specs.Prelude.{◌≡◌, ◌≤◌, ◌⊎◌, ℕ, List, Option, [], IfOk, IfErr, IfSome, OnOk, false, true};
 ghost use Rattle.up_lines.specs.Lines.{lines_of, fits};
 ghost use Rattle.up_lines.specs.LineRuns.{RanLines, FinishedLines, AnswersFirst};
 ghost use Rattle.up_lines.specs.Progress.{Takes, Stops, Completes, IsFresh, told};
@@ -32,6 +32,7 @@ fn take_piece<S, I: Interpret<S>, W: Sink>(
     ensures err { IfErr result (λ cause. Stops I.gives cause false piece.now
         progress.old (record { state = state.old; held = W.contents writer.old })
         progress.new (record { state = state.new; held = W.contents writer.new })) }
+    ensures grows { progress.old.answered ≤ progress.new.answered }
     ensures goes_on { OnOk result (W.can_write writer.new) }
     ensures blames { IfErr result (λ cause. BlamesWriter cause (W.has_failed writer.new) (W.can_write writer.new)) }
 {
@@ -57,6 +58,7 @@ fn finish<S, I: Interpret<S>, W: Sink>(
     ensures err { IfErr result (λ cause. Stops I.gives cause true []
         progress.old (record { state = state.old; held = W.contents writer.old })
         progress.new (record { state = state.new; held = W.contents writer.new })) }
+    ensures grows { progress.old.answered ≤ progress.new.answered }
     ensures goes_on { OnOk result (W.can_write writer.new) }
     ensures blames { IfErr result (λ cause. BlamesWriter cause (W.has_failed writer.new) (W.can_write writer.new)) }
 {
