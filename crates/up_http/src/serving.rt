@@ -108,6 +108,7 @@ fn serve_piece<S, A: Respond<S>, W: Sink>(
     ensures err { IfErr result (λ cause. Stops (A.gives responder.now) cause false piece.now
         progress.old (record { state = state.old; held = W.contents writer.old })
         progress.new (record { state = state.new; held = W.contents writer.new })) }
+    ensures grows { progress.old.answered ≤ progress.new.answered }
     ensures goes_on { OnOk result (W.can_write writer.new) }
     ensures blames { IfErr result (λ cause. BlamesWriter (cause_of cause) (W.has_failed writer.new) (W.can_write writer.new)) }
 {
@@ -142,6 +143,7 @@ fn finish<S, A: Respond<S>, W: Sink>(
     ensures err { IfErr result (λ cause. Stops (A.gives responder.now) cause true []
         progress.old (record { state = state.old; held = W.contents writer.old })
         progress.new (record { state = state.new; held = W.contents writer.new })) }
+    ensures grows { progress.old.answered ≤ progress.new.answered }
     ensures goes_on { OnOk result (W.can_write writer.new) }
     ensures blames { IfErr result (λ cause. BlamesWriter (cause_of cause) (W.has_failed writer.new) (W.can_write writer.new)) }
 {

@@ -17,7 +17,7 @@ pub returns-in-Ok-feed_whole-clause-ok : goal.returns-in-Ok-feed_whole-clause-ok
 returns-in-Ok-feed_whole-clause-ok c =
     feeds_open c.args.parts.now c.args.piece.now _ c.in-Ok-feed_whole.step.next _ c.requires.none c.requires.open
     (gives_more c.args.parts.now.head.items c.args.piece.now c.take_head.new.head.items c.args.parts.now.given c.in_ok-taken.taken.bytes c.in-Ok-feed_whole.step.taken c.in-Ok-feed_whole.step.next _
-    c.in_ok-taken.ensures.ok.within c.in_ok-taken.ensures.ok.added
+    c.in_ok-taken.ensures.ok.within c.in_ok-taken.ensures.ok.added c.in_ok-taken.ensures.ok.waited
     (subst (λ l. Gives (record { rest = c.take_head.new.head.items; given = c.args.parts.now.given; ended = false }) l c.in-Ok-feed_whole.step.taken c.in-Ok-feed_whole.step.next (fed_of c.feed_whole.new.parts))
     (take_rest c.args.piece.now c.in_ok-taken.taken.bytes) c.in-Ok-feed_whole.ensures.ok.1))
 

@@ -14,7 +14,7 @@ use Rattle.up_lines.proofs.Blaming.{blames_all, blames_both}
 use Rattle.up_lines.proofs.lines.read_lines.Goals as goal
 
 pub loop-most-init : goal.loop-most-init
-loop-most-init g c = ([], Consumes-nil _, fresh g.I.Interpret.gives _ c.args.progress.now c.requires.fresh, refl, grind (arith, common_steps, c.in_ok-buffer.ensures.len), c.requires.can_read, c.requires.can_write)
+loop-most-init g c = ([], Consumes-nil _, fresh g.I.Interpret.gives _ c.args.progress.now c.requires.fresh, refl, c.in_ok-buffer.ensures.len, c.requires.can_read, c.requires.can_write)
 
 pub returns-in_err-buffer-clause-ran : goal.returns-in_err-buffer-clause-ran
 returns-in_err-buffer-clause-ran g c =
