@@ -141,8 +141,9 @@ head_verb head verb is = ap is_head_verb is
 -- a head that fails a check
 pub gives_refused : (old piece new : List ℕ) (taken : Taken) (facts : Facts) (check : Check) (given : ℕ) (next : Next) (fed : Fed)
     → given < most_requests → TakesHead old piece taken new → taken.front ≡ Whole facts → facts.framing ≡ Err check → next ≡ record { what = Fixed check; head = is_head_verb facts.verb; last = true }
-    → fed ≡ record { rest = []; given = given + 1; ended = next.last } → Gives (record { rest = old; given = given; ended = false }) piece taken.bytes (Some next) fed
-gives_refused old piece new taken facts check given next fed below takes front framed is now =
+    → fed ≡ record { rest = []; given = given + 1; ended = next.last } → Waits (old ++ take (taken.bytes - 1) piece)
+    → Gives (record { rest = old; given = given; ended = false }) piece taken.bytes (Some next) fed
+gives_refused old piece new taken facts check given next fed below takes front framed is now waited =
     let (head, heads, said) : IsWhole new facts = subst (ReadsPiece new piece taken) front takes.stands in
     let same : next ≡ refused head check = is ∙ ap (λ h. record { what = Fixed check; head = h; last = true }) (head_verb head facts.verb said.verb_is) in (
       takes.within,
@@ -152,7 +153,7 @@ gives_refused old piece new taken facts check given next fed below takes front f
       omega (arith, takes.bounded, ap length takes.added),
       λ more. subst (λ n. First given ((old ++ take taken.bytes piece) ++ more) n more) (sym same)
           (subst (λ l. First given (l ++ more) (refused head check) more) takes.added (first_refused given new more head check heads (sym said.framing_is ∙ framed))),
-      inr takes.waited,
+      inr waited,
     )
 
 -- bytes that never have a head
@@ -162,8 +163,9 @@ has_bytes (b ∷ bytes) never = omega arith
 
 pub gives_bad : (old piece new : List ℕ) (taken : Taken) (given : ℕ) (next : Next) (fed : Fed)
     → given < most_requests → TakesHead old piece taken new → taken.front ≡ Bad → next ≡ bad_request
-    → fed ≡ record { rest = []; given = given + 1; ended = next.last } → Gives (record { rest = old; given = given; ended = false }) piece taken.bytes (Some next) fed
-gives_bad old piece new taken given next fed below takes front is now =
+    → fed ≡ record { rest = []; given = given + 1; ended = next.last } → Waits (old ++ take (taken.bytes - 1) piece)
+    → Gives (record { rest = old; given = given; ended = false }) piece taken.bytes (Some next) fed
+gives_bad old piece new taken given next fed below takes front is now waited =
     let never : NeverHasHead new = subst (ReadsPiece new piece taken) front takes.stands in (
       takes.within,
       now,
@@ -172,7 +174,7 @@ gives_bad old piece new taken given next fed below takes front is now =
       omega (arith, takes.bounded, ap length takes.added),
       λ more. subst (λ n. First given ((old ++ take taken.bytes piece) ++ more) n more) (sym is)
           (subst (λ l. First given (l ++ more) bad_request more) takes.added (first_bad given new more never)),
-      inr takes.waited,
+      inr waited,
     )
 
 -- without the last byte of what was taken behind a head nothing could be answered, nor without the head's last one

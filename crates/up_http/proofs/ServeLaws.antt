@@ -247,7 +247,7 @@ module _ {S : Type 0} (gives : Gives S) where
   -- ---- a run over a reader
 
   -- the reader failed
-  pub ran_read : (at : Progress) (now : At S) → at.feeder.ended ≡ false
+  ran_read : (at : Progress) (now : At S) → at.feeder.ended ≡ false
       → (first : At S) (came : List ℕ) → Sofar gives first came at now → Stopped gives came false (fault_at Read at) first now
   ran_read at now goes_on first came so =
       let firsts = at_end first came at now so goes_on in
@@ -255,7 +255,7 @@ module _ {S : Type 0} (gives : Gives S) where
       (omega arith) refl (breaks_none Read now (λ e. absurd (cc)))
 
   -- the stream ended with a request, and so many bytes more had come
-  pub finished_over : (at : Progress) (now : At S) (others : List ℕ) → at.feeder.ended ≡ true
+  finished_over : (at : Progress) (now : At S) (others : List ℕ) → at.feeder.ended ≡ true
       → (first : At S) (came : List ℕ) → Sofar gives first came at now → (more : List ℕ) → FinishedRequests gives ((came ++ others) ++ more) at.answered first now
   finished_over at now others ended first came so more = record {
     items = so.done;
@@ -300,7 +300,7 @@ module _ {S : Type 0} (gives : Gives S) where
 
   -- a run that a request ended
   pub ran_over : (first now : At S) (had has : Option (List ℕ)) (came others : List ℕ) (at : Progress) → Consumes had has (came ++ others) → length (came ++ others) ≤ most_bytes
-      → at.feeder.ended ≡ true → Sofar gives first came at now → LastRead piece_bytes (WantsMore at.answered) (came ++ others) false → RanRequests gives had has first now (told (Ok tt) at)
+      → at.feeder.ended ≡ true → Sofar gives first came at now → LastRead piece_bytes (WantsMore at.answered) (came ++ others) false → RanRequests gives had has first now (Ok (record { requests = at.answered }))
   ran_over first now had has came others at read bounded ended so last = record {
     came = came ++ others;
     ended = false;

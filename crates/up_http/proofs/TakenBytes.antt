@@ -42,10 +42,16 @@ reads_front bytes new byte begun (Whole facts) b is (head, after, heads, said) =
 reads_front bytes new byte begun Cut b is (none, _) = (none, λ h. absurd (cc))
 reads_front bytes new byte begun Bad b is never = never
 
+-- where the bytes of a piece before one end no head, nothing can be answered of them
+pub waits_at : (old piece before : List ℕ) (i : ℕ) → before ≡ old ++ take i piece → HasNoRequest before → length before < most_head → Waits (old ++ take (i + 1 - 1) piece)
+waits_at old piece before i is none short =
+    let same : before ≡ old ++ take (i + 1 - 1) piece = is ∙ ap (λ n. old ++ take n piece) (omega arith) in
+    subst Waits same (inl (none, short))
+
 -- where so many bytes of a piece end no head, nothing can be answered of them without the last one
 pub waits_before : (old piece : List ℕ) (n : ℕ) → HasNoRequest old → length old < most_head → HasNoRequest (old ++ take n piece) → length (old ++ take n piece) ≤ most_head → n ≤ length piece
     → Waits (old ++ take (n - 1) piece)
-waits_before old piece zero none short none' short' within = inl (subst HasNoRequest (sym (append-nil old)) none, omega (arith, append-nil old, short))
+waits_before old piece zero none short none' short' within = inl (subst HasNoRequest (sym (append-nil old)) none, omega (arith, ap length (append-nil old), short))
 waits_before old piece (suc n) none short none' short' within =
     let split : take n piece ++ drop n (take (suc n) piece) ≡ take (suc n) piece = ap (λ l. l ++ drop n (take (suc n) piece)) (sym (take-take n (suc n) piece (omega arith))) ∙ take-append-drop n (take (suc n) piece) in
     let joined : (old ++ take n piece) ++ drop n (take (suc n) piece) ≡ old ++ take (suc n) piece = append_assoc old (take n piece) (drop n (take (suc n) piece)) ∙ ap (λ l. old ++ l) split in

@@ -1,5 +1,5 @@
 -- What a feeder keeps.
-use Rattle.std.specs.Prelude.{◌≡◌, ℕ, ◌+◌, ◌-◌, ◌<◌, ◌≤◌, Bool, true, false, ◌||◌, ◌==◌, Option, Some, None, Ok, List, [], ◌++◌, length, take}
+use Rattle.std.specs.Prelude.{◌≡◌, ℕ, ◌+◌, ◌<◌, ◌≤◌, Bool, true, false, ◌||◌, ◌==◌, Option, Some, None, Ok, List, [], ◌++◌, length, take}
 use Rattle.std.specs.List.{list_all}
 use Rattle.httparse.specs.Grammar.{RequestHead, HasNoRequest}
 use Rattle.up_heads.specs.Heads.{Heads, NeverHasHead, most_head}
@@ -8,7 +8,7 @@ use Rattle.up_heads.specs.Closing.{closes}
 use Rattle.up_heads.specs.Routed.{routed}
 use Rattle.up_http.specs.Requests.{asked, is_head, most_requests, size_of}
 use Rattle.up_heads.specs.Fronts.{IsFactsOf}
-use Rattle.up_http.specs.Feeding.{Fed, Waits}
+use Rattle.up_http.specs.Feeding.{Fed}
 use Rattle.up_http.specs.declared.asked.Next.{Next}
 use Rattle.up_heads.specs.declared.heads.Facts.{Facts}
 use Rattle.up_heads.specs.declared.heads.Front.{Front}
@@ -44,13 +44,12 @@ ReadsPiece bytes piece taken (Whole facts) = IsWhole bytes facts
 ReadsPiece bytes piece taken Cut = (taken.bytes ≡ length piece) × Begins bytes taken.begun
 ReadsPiece bytes piece taken Bad = NeverHasHead bytes
 
--- bytes were taken to a head, none behind one with which it ends or is past its limit
+-- bytes were taken to a head
 pub record TakesHead (old piece : List ℕ) (taken : Taken) (new : List ℕ) : Type 0 where
   pub within : taken.bytes ≤ length piece
   pub added : new ≡ old ++ take taken.bytes piece
   pub bounded : length new ≤ most_head
   pub stands : ReadsPiece new piece taken taken.front
-  pub waited : Waits (old ++ take (taken.bytes - 1) piece)
 
 -- what is kept of a head that states this length of its body
 pub record IsIntentOf (head : RequestHead) (stated : Option ℕ) (intent : Intent) : Type 0 where

@@ -1,6 +1,7 @@
 use Rattle.std.proofs.Common.{◌++◌, ◌∙◌, take, ap, arith}
 use Rattle.std.proofs.lemmas.Grind.{common_steps}
 use Rattle.up_http.proofs.HeadLaws.{no_head_past}
+use Rattle.up_http.proofs.TakenBytes.{waits_at, waits_before}
 use Rattle.up_http.proofs.head_bytes.take_head.Goals as goal
 
 pub returns-then-most-room-clause-ok : goal.returns-then-most-room-clause-ok
