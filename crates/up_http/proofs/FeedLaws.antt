@@ -82,7 +82,8 @@ before_last bytes body piece zero head stated heads is within whole = inl refl
 before_last bytes body piece (suc n) head stated heads is within whole =
     let some : length (take n piece) ≡ n = length-take-le n piece (omega arith) in
     let short : length (body ++ take n piece) < size_of stated = omega (arith, some, whole, length-append body (take n piece)) in
-    inr (inr (head, body ++ take n piece, head_then bytes body (take n piece) head heads, subst (λ r. IsCut r (body ++ take n piece)) (sym is) short))
+    let cut : Waits ((bytes ++ body) ++ take n piece) = inr (head, body ++ take n piece, head_then bytes body (take n piece) head heads, subst (λ r. IsCut r (body ++ take n piece)) (sym is) short) in
+    inr (subst (λ k. Waits ((bytes ++ body) ++ take k piece)) (omega arith) cut)
 
 -- a piece of a body
 pub gives_body : (bytes piece : List ℕ) (old new : Waiting) (given taken : ℕ) (result : Option Next) (fed : Fed)
@@ -185,7 +186,8 @@ before_more old piece new taken (suc n) added waited (inl none) = absurd (omega 
 before_more old piece new taken (suc n) added waited (inr waits) =
     let joined : new ++ take n (drop taken piece) ≡ old ++ take (taken + n) piece =
     ap (λ l. l ++ take n (drop taken piece)) added ∙ append_assoc old (take taken piece) (take n (drop taken piece)) ∙ ap (λ l. old ++ l) (sym (take-add taken n piece)) in
-    subst (λ k. Waits (old ++ take k piece)) (omega arith) (subst Waits joined waits)
+    let one : Waits (new ++ take n (drop taken piece)) = subst (λ k. Waits (new ++ take k (drop taken piece))) (omega arith) waits in
+    subst (λ k. Waits (old ++ take k piece)) (omega arith) (subst Waits joined one)
 
 -- a head, and the first bytes of its body behind it in the same piece
 pub gives_more : (old piece new : List ℕ) (given taken more : ℕ) (next : Option Next) (fed : Fed) → taken ≤ length piece → new ≡ old ++ take taken piece

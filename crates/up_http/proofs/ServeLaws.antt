@@ -251,7 +251,7 @@ module _ {S : Type 0} (gives : Gives S) where
       → (first : At S) (came : List ℕ) → Sofar gives first came at now → Stopped gives came false (fault_at Read at) first now
   ran_read at now goes_on first came so =
       let firsts = at_end first came at now so goes_on in
-      stopped came at came false None (fault_at Read at) first now now so (at.feeder.rest, firsts) (refl, at.feeder.rest, firsts, so.waits goes_on)
+      stopped came at came false None (fault_at Read at) first now now so (at.feeder.rest, firsts) (refl, (at.feeder.rest, firsts, so.waits goes_on))
       (omega arith) refl (breaks_none Read now (λ e. absurd (cc)))
 
   -- the stream ended with a request, and so many bytes more had come

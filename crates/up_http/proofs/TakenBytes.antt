@@ -55,7 +55,7 @@ waits_before old piece zero none short none' short' within = inl (subst HasNoReq
 waits_before old piece (suc n) none short none' short' within =
     let split : take n piece ++ drop n (take (suc n) piece) ≡ take (suc n) piece = ap (λ l. l ++ drop n (take (suc n) piece)) (sym (take-take n (suc n) piece (omega arith))) ∙ take-append-drop n (take (suc n) piece) in
     let joined : (old ++ take n piece) ++ drop n (take (suc n) piece) ≡ old ++ take (suc n) piece = append_assoc old (take n piece) (drop n (take (suc n) piece)) ∙ ap (λ l. old ++ l) split in
-    inl (
-      no_head_front (old ++ take n piece) (drop n (take (suc n) piece)) (subst HasNoRequest (sym joined) none'),
-      omega (arith, short', length-append old (take n piece), length-append old (take (suc n) piece), length-take-le n piece (omega arith), length-take-le (suc n) piece within),
-    )
+    let front : HasNoRequest (old ++ take n piece) = no_head_front (old ++ take n piece) (drop n (take (suc n) piece)) (subst HasNoRequest (sym joined) none') in
+    let small : length (old ++ take n piece) < most_head =
+    omega (arith, short', length-append old (take n piece), length-append old (take (suc n) piece), length-take-le n piece (omega arith), length-take-le (suc n) piece within) in
+    subst (λ k. Waits (old ++ take k piece)) (omega arith) (inl (front, small))

@@ -63,18 +63,19 @@ consumed_more : (had mid has : Option (List ℕ)) (came piece more : List ℕ) (
 consumed_more had mid has came piece more k none p q =
     Consumes-trans had mid has came more (subst (Consumes had mid) (append-nil came) (subst (λ k. Consumes had mid (came ++ take k piece)) none p)) q
 
-pub loop-progress-preserved-in-Ok-read_piece :
-    goal.loop-progress-preserved-in-Ok-read_piece
-loop-progress-preserved-in-Ok-read_piece g c = let (came, read, so, budget, inside, within, room, can_read, can_write, last) = c.loop-progress.invariant in
+pub loop-progress-preserved : goal.loop-progress-preserved
+loop-progress-preserved g c = let (came, read, so, budget, inside, within, room, can_read, can_write, last) = c.loop-progress.invariant in
     let n = c.in-Ok-read_piece.n in
     let none : c.loop-progress.filled - c.loop-progress.at ≡ 0 = omega (arith, c.if-at-filled.false) in
     let goes_on : c.loop-progress.progress.feeder.ended ≡ false = sym c.loop-progress.progress.ends ∙ c.loop-progress-test.true in
     let fits : n ≤ length c.read_piece.new.buffer = c.in-Ok-read_piece.ensures.count.0 in
     let few : n ≤ c.loop-progress.most = c.in-Ok-read_piece.ensures.count.1 in
     let long : length (take n c.read_piece.new.buffer) ≡ n = length-take-le n c.read_piece.new.buffer fits in
-    let size : length c.read_piece.new.buffer ≡ piece_bytes = c.read_piece.auto.buffer ∙ room in (
+    let size : length c.read_piece.new.buffer ≡ piece_bytes = c.read_piece.auto.buffer ∙ room in
+    let whole : came ++ take n c.read_piece.new.buffer ≡ came ++ take (n - 0) c.read_piece.new.buffer = ap (λ k. came ++ take k c.read_piece.new.buffer) (omega arith) in (
       came,
-      consumed_more _ (g.R.Source.remaining c.loop-progress.reader) _ came (drop c.loop-progress.at c.loop-progress.buffer) (take n c.read_piece.new.buffer) (c.loop-progress.filled - c.loop-progress.at) none read c.in-Ok-read_piece.ensures.bytes,
+      subst (Consumes (g.R.Source.remaining c.args.reader.now) (g.R.Source.remaining c.read_piece.new.reader)) whole
+          (consumed_more _ (g.R.Source.remaining c.loop-progress.reader) _ came (drop c.loop-progress.at c.loop-progress.buffer) (take n c.read_piece.new.buffer) (c.loop-progress.filled - c.loop-progress.at) none read c.in-Ok-read_piece.ensures.bytes),
       so,
       omega (arith, budget, none, few),
       omega arith,
@@ -82,7 +83,7 @@ loop-progress-preserved-in-Ok-read_piece g c = let (came, read, so, budget, insi
       size,
       c.in-Ok-read_piece.ensures.goes_on (omega arith),
       can_write,
-      last_read (g.A.Respond.gives c.args.responder.now) _ came (take n c.read_piece.new.buffer) _ false c.loop-progress.progress _ _ so goes_on (omega arith) refl (omega (arith, long, fits, size)) (λ h. absurd (cc)),
+      last_read (g.A.Respond.gives c.args.responder.now) _ came (take n c.read_piece.new.buffer) _ false c.loop-progress.progress _ _ so goes_on (omega arith) (sym whole) (omega (arith, long, fits, size)) (λ h. absurd (cc)),
     )
 
 -- nothing is left of the piece, and nothing was read
@@ -137,7 +138,7 @@ returns-in-Ok-eq0-clause-stands g c = let (came, read, so, budget, inside, withi
     let none : c.loop-progress.filled - c.loop-progress.at ≡ 0 = omega (arith, c.if-at-filled.false) in
     let goes_on : c.loop-progress.progress.feeder.ended ≡ false = sym c.loop-progress.progress.ends ∙ c.loop-progress-test.true in
     let below = room_left (g.A.Respond.gives c.args.responder.now) _ came c.loop-progress.progress _ so goes_on in
-    let ended : g.R.Source.has_ended c.read_piece.new.reader = c.in-Ok-eq0.ensures.ended c.in-Ok-eq0.field-0-test (omega (arith, below, budget, none)) room in
+    let ended : g.R.Source.has_ended c.read_piece.new.reader = c.in-Ok-eq0.ensures.ended c.in-Ok-eq0.field-0-test (omega (arith, below, budget, none)) (omega (arith, room)) in
     stands_all c.finish.result (inr ended)
 
 pub returns-in-Err-clause-blames : goal.returns-in-Err-clause-blames
