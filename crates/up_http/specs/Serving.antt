@@ -1,5 +1,5 @@
 -- What a run over a stream leaves: answers, states, and what was written.
-use Rattle.std.specs.Prelude.{◌≡◌, ℕ, ◌*◌, ◌<◌, ◌≤◌, Bool, true, false, ⊤, Option, Some, None, List, [], ◌∷◌, ◌++◌, length, filter, Result}
+use Rattle.std.specs.Prelude.{◌≡◌, ℕ, ◌*◌, ◌<◌, ◌≤◌, Bool, true, false, ⊤, Option, Some, None, List, [], ◌++◌, length, filter, Result}
 use Rattle.up_lines.specs.Runs.{At, AnswersUpTo, Finished, LastRead, Ran, listed}
 use Rattle.up_lines.specs.declared.fault.ScriptCause.{ScriptCause}
 use Rattle.up_lines.specs.declared.fault.ScriptCause.TheVariants as why
@@ -85,7 +85,7 @@ FinishedRequests gives input answered first now = Finished gives plain (Requests
 abbrev pub RanRequests : {S : Type 0} → Gives S → Option (List ℕ) → Option (List ℕ) → At S → At S → Result Served ServeFault → Type 0
 RanRequests gives had has first now result =
     Ran most_bytes (λ came ended served. ((more : List ℕ) → (ended ≡ true → more ≡ []) → FinishedRequests gives (came ++ more) served.requests first now)
-        × LastRead piece_bytes (WantsMore served.requests) came ended)
+    × LastRead piece_bytes (WantsMore served.requests) came ended)
     (λ came ended fault. Stopped gives came ended fault first now × LastRead piece_bytes (WantsMore fault.answered) came ended) had has result
 
 -- of the requests of an input the first so many have their answers, written whole; the next one may be answered, and less than its
