@@ -81,11 +81,11 @@ fn serve_one<D: Alter>(
     }
     let mut requests = half(rt, begun, stream);
     let mut answers = half(rt, begun, stream);
-    answered(rt.alloc(), desk, at, &mut requests, &mut answers)
+    answer_requests(rt.alloc(), desk, at, &mut requests, &mut answers)
 }
 
 /// Answers requests, all at one moment. Where that fails, it is told what ended it.
-fn answered<D: Alter, R: Source, W: Sink>(
+fn answer_requests<D: Alter, R: Source, W: Sink>(
     alloc: Global,
     desk: &mut Desk<HmacSha256, D>,
     at: u64,

@@ -19,13 +19,13 @@ pub(crate) fn answer_lines<D: Alter>(
 ) -> Result<(), Failure> {
     told(
         rt,
-        answered(rt.alloc(), desk, &mut rt.stdin(), &mut rt.stdout()),
+        answer_script(rt.alloc(), desk, &mut rt.stdin(), &mut rt.stdout()),
     )
 }
 
 /// Carries out a script, and writes its answers. It ends well only where the script was read to its end and each answer was
 /// written; else what stopped it is told of the part that failed.
-fn answered<D: Alter, R: Source, W: Sink>(
+fn answer_script<D: Alter, R: Source, W: Sink>(
     alloc: Global,
     desk: &mut Desk<HmacSha256, D>,
     script: &mut R,
