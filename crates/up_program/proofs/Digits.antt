@@ -1,6 +1,6 @@
 -- Hexadecimal digits are text.
 use Rattle.std.proofs.lemmas.Bool.{ltb-true}
-use Rattle.std.proofs.Common.{◌≡◌, ℕ, ◌<◌, List, All, refl}
+use Rattle.std.proofs.Common.{ℕ, ◌<◌, List, All, refl}
 use Rattle.std.specs.Prelude.{IsUtf8, nat_lt, slice_index_or}
 use Rattle.std.proofs.lemmas.List.Sums.{AllPass-from_list_all}
 use Rattle.std.proofs.lemmas.Str.{IsUtf8-from_ascii}

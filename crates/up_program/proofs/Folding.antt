@@ -1,5 +1,5 @@
 -- One more call behind those that were made.
-use Rattle.std.proofs.Common.{◌≡◌, ℕ, suc, ◌+◌, List, [], ◌∷◌, ◌++◌, Result, Ok, refl, sym, subst, add-one}
+use Rattle.std.proofs.Common.{ℕ, suc, ◌+◌, List, [], ◌∷◌, ◌++◌, Result, Ok, refl, sym, subst, add-one}
 use Rattle.std.specs.List.{FoldsTo}
 use Rattle.std.specs.declared.io.Error.{Error}
 use Rattle.up_program.specs.Calls.{numbers, Served}

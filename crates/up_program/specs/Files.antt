@@ -1,5 +1,5 @@
 -- What may be opened as a database.
-use Rattle.std.specs.Prelude.{◌≡◌, ℕ, List, [], ◌∷◌, Option, Some, None}
+use Rattle.std.specs.Prelude.{◌≡◌, ℕ, [], ◌∷◌, Option, Some, None}
 use Rattle.std.specs.Global.{Vec}
 
 -- bytes that the making of a database writes first, where they can be read

@@ -1,4 +1,4 @@
-use Rattle.std.proofs.Common.{◌≡◌, rules}
+use Rattle.std.proofs.Common.{◌≡◌}
 use Rattle.hex.specs.Hex.{encode_lower}
 use Rattle.up_program.proofs.Digits.{IsUtf8-encode_lower}
 use Rattle.up_program.proofs.digests.write_hex.Goals as goal
