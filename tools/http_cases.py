@@ -5,7 +5,8 @@
 
 The program serves a file in which `examples/first_path` was carried out, so that its files and the reply that it kept
 are known beforehand. Clients that hold the connection are tried all at once, beside the others: this takes two minutes. For
-those that send or take a byte now and then, the program's clock is made to go thirty times as fast, which needs a C compiler.
+those that send or take a byte now and then, the program's clock is made to go thirty times as fast, and one case sets it to a time
+before 1970, which needs a C compiler.
 `whole` tries these alone, by the clock as it is, which takes six minutes.
 """
 import calendar
@@ -44,6 +45,8 @@ PATIENCE = 90
 # how long the service waits for a client that does nothing, and for a connection as a whole, in seconds; what more a busy machine
 # may take, and how many times as fast its clock is made to go
 SILENCE, WHOLE, SLACK, FAST = 30, 300, 60, 30
+# how long a client may go on sending after its last answer, in seconds
+GOING_ON = 10
 
 GET_ROOT = b"GET /image/root.json HTTP/1.1\r\nHost: d\r\n\r\n"
 NO_FILE = b"GET /image/nofile HTTP/1.1\r\nHost: d\r\n\r\n"
@@ -170,13 +173,15 @@ def silent(program, path):
 
 
 def held_open(program, path):
-    """A client that asks for the connection to be closed, and keeps its half open: it is answered, and so is the next one."""
+    """A client that asks for the connection to be closed, and keeps its half open: it is answered, and soon so is the next one."""
     with served(program, path, 2) as running, connected(running) as first:
+        begun = time.monotonic()
         first.sendall(closing_one(NO_FILE))
         well = to_the_end(first) == CLOSED
         with connected(running) as second:
             second.sendall(closing_one(NO_FILE))
-            return well and to_the_end(second) == CLOSED and ended(running)
+            well = well and to_the_end(second) == CLOSED and time.monotonic() - begun < SILENCE - 2
+            return well and ended(running)
 
 
 def unread(program, path):
@@ -333,6 +338,16 @@ def clock_once(program, path):
     return well and kept == moments and begun <= moments[0] == moments[1] < moments[2] <= time.time()
 
 
+def early_clock(program, path, library):
+    """Where the clock tells a time before 1970, the moment is 0."""
+    with served(program, path, 1, {"LD_PRELOAD": str(library), "EARLY_CLOCK": "1"}) as running, connected(running) as client:
+        moment = delivered(client, next_manifest(2))
+        client.close()
+        well = ended(running)
+    with trials.read(path) as db:
+        return well and [moment] == [row[0] for row in db.execute("SELECT moment FROM kept WHERE version > 1")] == [0]
+
+
 def once_whole(program, path):
     """Each request is answered as soon as it is whole, while the next one is still cut."""
     half, silence = len(MANIFEST) // 2, 1
@@ -352,7 +367,7 @@ OTHERS = 3
 
 def outlived(program, path, first, kind, least, most, variables=None):
     """Whether, while the first client does what it does, others are answered between so many and so many seconds after it came,
-    and what is told of it is that a read or a write failed."""
+    and what is told of it is that a read or a write failed, or nothing."""
     with served(program, path, 1 + OTHERS, variables) as running, connected(running) as held:
         begun, left = time.monotonic(), threading.Event()
         holder = threading.Thread(target=quietly, args=(first, held, left))
@@ -360,7 +375,7 @@ def outlived(program, path, first, kind, least, most, variables=None):
         with ThreadPoolExecutor(OTHERS) as pool:
             others = list(pool.map(lambda _: (told(running, NO_FILE, 2 * most), time.monotonic() - begun), range(OTHERS)))
         left.set()
-        well = ended(running, b"uptane_desk: connection 1: %s\n" % kind)
+        well = ended(running, b"uptane_desk: connection 1: %s\n" % kind if kind else b"")
         holder.join()
     return well and all(came == OPEN and least < after < most for came, after in others)
 
@@ -411,6 +426,13 @@ def sips(held, left):
         held.recv(1024)
 
 
+def goes_on(held, left):
+    """goes on sending after its last answer"""
+    held.sendall(closing_one(NO_FILE))
+    while not left.wait(0.5):
+        held.sendall(b" ")
+
+
 GET_TARGETS = b"GET /image/targets.json HTTP/1.1\r\nHost: d\r\n\r\n"
 SILENT = [(sends_nothing, b"read"), (idle, b"read"), (half_of_a_body, b"read"), (reads_nothing, b"write")]
 SLOW = [(drips, b"read"), (sips, b"write")]
@@ -429,16 +451,23 @@ def many_images(program, path):
     return path
 
 
+def clock_in(own):
+    """The library that sets a program's clocks, made in this folder where it isn't there."""
+    library, source = own / "fast_clock.so", Path(__file__).resolve().parent / "fast_clock.c"
+    if not library.exists():
+        subprocess.run(["cc", "-shared", "-fPIC", "-O1", "-o", str(library), str(source)], check=True)
+    return library
+
+
 def holding(program, own, whole):
     """What to try of the clients that hold the connection: the words of each case, and what is called for it."""
     large = many_images(program, own / "large")
     tried = [] if whole else [(first, kind, SILENCE - 2, WAITS[kind] * SILENCE + SLACK, None) for first, kind in SILENT]
+    tried += [] if whole else [(goes_on, None, GOING_ON - 2, GOING_ON + SLACK, None)]
     if whole:
         tried += [(first, kind, LEAST[kind], WHOLE + SILENCE + SLACK, None) for first, kind in SLOW]
     elif shutil.which("cc"):
-        library, source = own / "fast_clock.so", Path(__file__).resolve().parent / "fast_clock.c"
-        subprocess.run(["cc", "-shared", "-fPIC", "-O1", "-o", str(library), str(source)], check=True)
-        faster = {"LD_PRELOAD": str(library), "FAST_CLOCK": str(FAST)}
+        faster = {"LD_PRELOAD": str(clock_in(own)), "FAST_CLOCK": str(FAST)}
         tried += [(first, kind, WHOLE // FAST - 2, WHOLE // FAST + SILENCE + SLACK, faster) for first, kind in SLOW]
     else:
         print("no C compiler, so no client that sends or takes a byte now and then")
@@ -528,6 +557,9 @@ def cases(program, whole=False):
         for client in [] if whole else CLIENTS:
             path = trials.copied(own / "first", own / client.__name__)
             yield client.__doc__.strip().rstrip("."), goes_well(client, program, path)
+        if shutil.which("cc") and not whole:
+            path = trials.copied(own / "first", own / "early_clock")
+            yield early_clock.__doc__.rstrip("."), goes_well(early_clock, program, path, clock_in(own))
         yield from [] if whole else exchanges(program, own / "first")
         for words, well in held:
             yield words, well.result()

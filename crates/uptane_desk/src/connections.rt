@@ -1,12 +1,23 @@
 //! Connections, served one after another.
-use crate::bounded::Bounded;
+ghost use Rattle.std.specs.Prelude.{◌≡◌, ◌⊎◌, IfErr, OnOk};
+ghost use Rattle.up_lines.specs.Runs.{Blames};
+ghost use Rattle.up_http.specs.Serving.{cause_of};
+
 use sqlite::Alter;
+use std::alloc::Global;
 use std::io;
 use std::io::Read;
 use std::net::{Shutdown, TcpListener, TcpStream};
-use std::process::ExitCode;
-use std::time::{Duration, Instant, SystemTime, UNIX_EPOCH};
+use std::time::{Duration, Instant, SystemTime};
 use up_desk::desk::Desk;
+use up_lines::fault::ScriptCause;
+use up_pieces::sink::Sink;
+use up_pieces::source::Source;
+use up_program::bounded::Bounded;
+use up_program::connections::each_connection;
+use up_program::failure::{Failure, told};
+use up_program::messages::{ConnectionFault, Listening};
+use up_program::times::{seconds, waits};
 use up_service::Fault;
 use up_service::stream::serve_stream;
 use up_sign::hmac_sha256::HmacSha256;
@@ -18,9 +29,6 @@ const SILENCE: u64 = 30;
 /// How long a client is waited for after its last answer that neither sends nor closes, in seconds.
 const LAST_SILENCE: u64 = 2;
 
-/// How long what a client still sends is read after its last answer, in seconds.
-const PATIENCE: u64 = 10;
-
 /// How often what a client still sends is read after its last answer.
 const MOST_READS: u32 = 1_000_000;
 
@@ -30,42 +38,31 @@ pub(crate) fn serve<D: Alter>(
     desk: &mut Desk<HmacSha256, D>,
     port: u16,
     count: u32,
-) -> ExitCode {
+) -> Result<(), Failure>
+    ensures { IfErr result (λ failure. failure ≡ Failure.Unheard) }
+{
     let Ok(listener) = TcpListener::bind(rt, ("127.0.0.1", port)) else {
-        return unheard(rt);
+        return told(rt, Err(Failure::Unheard));
     };
-    println!(rt; "listening {port}").ok();
-    match serve_all(rt, desk, &listener, count) {
-        Ok(()) => ExitCode::SUCCESS,
-        Err(_) => unheard(rt),
-    }
+    let line = Listening { port };
+    println!(rt; "{line}").ok();
+    let served = each_connection(count, |number| serve_next(rt, desk, &listener, number));
+    told(rt, served)
 }
 
-fn unheard(rt: &HostRuntime) -> ExitCode {
-    eprintln!(rt; "uptane_desk: cannot listen").ok();
-    ExitCode::from(4)
-}
-
-/// Accepts so many connections, one after another, and serves each. A fault of one is told on standard error, and the next
-/// is served.
-fn serve_all<D: Alter>(
+/// Accepts the next connection, serves it, and closes it. A fault of it is told on standard error.
+fn serve_next<D: Alter>(
     rt: &HostRuntime,
     desk: &mut Desk<HmacSha256, D>,
     listener: &TcpListener,
-    count: u32,
+    number: u64,
 ) -> io::Result<()> {
-    for number in 0..count {
-        let (stream, _) = listener.accept()?;
-        if let Err(cause) = serve_one(rt, desk, &stream) {
-            let cause = told(cause);
-            eprintln!(rt;
-                "uptane_desk: connection {}: {cause}",
-                u64::from(number) + 1
-            )
-            .ok();
-        }
-        close(rt, &stream);
+    let (stream, _) = listener.accept()?;
+    if let Err(cause) = serve_one(rt, desk, &stream) {
+        let line = ConnectionFault { number, cause };
+        eprintln!(rt; "{line}").ok();
     }
+    close(rt, &stream);
     Ok(())
 }
 
@@ -74,19 +71,49 @@ fn serve_one<D: Alter>(
     rt: &HostRuntime,
     desk: &mut Desk<HmacSha256, D>,
     stream: &TcpStream,
-) -> Result<(), Fault> {
-    let at = seconds(rt);
+) -> Result<(), ScriptCause> {
+    let at = seconds(SystemTime::now(rt));
     let Ok(begun) = Instant::now(rt) else {
-        return Err(Fault::Read);
+        return Err(ScriptCause::Read);
     };
     if limit_silence(stream).is_err() {
-        return Err(Fault::Read);
+        return Err(ScriptCause::Read);
     }
-    let mut reader = half(rt, begun, stream);
-    let mut writer = half(rt, begun, stream);
-    match serve_stream(rt.alloc(), desk, at, &mut reader, &mut writer) {
+    let mut requests = half(rt, begun, stream);
+    let mut answers = half(rt, begun, stream);
+    answer_requests(rt.alloc(), desk, at, &mut requests, &mut answers)
+}
+
+/// Answers requests, all at one moment. Where that fails, it is told what ended it.
+fn answer_requests<D: Alter, R: Source, W: Sink>(
+    alloc: Global,
+    desk: &mut Desk<HmacSha256, D>,
+    at: u64,
+    requests: &mut R,
+    answers: &mut W,
+) -> Result<(), ScriptCause>
+    requires can_read { R.can_read requests.old }
+    requires can_write { W.can_write answers.old }
+    ensures read { OnOk result (R.can_read requests.new ⊎ R.has_ended requests.new) }
+    ensures written { OnOk result (W.can_write answers.new) }
+    ensures stopped { IfErr result (λ cause.
+        Blames cause (R.has_failed requests.new) (R.can_read requests.new ⊎ R.has_ended requests.new)
+        (W.has_failed answers.new) (W.can_write answers.new)) }
+{
+    match serve_stream(alloc, desk, at, requests, answers) {
         Ok(_) => Ok(()),
-        Err(fault) => Err(fault.cause),
+        Err(fault) => Err(cause(fault.cause)),
+    }
+}
+
+/// What ended a connection, as of a script.
+fn cause(fault: Fault) -> ScriptCause
+    ensures { result ≡ cause_of fault }
+{
+    match fault {
+        Fault::Memory => ScriptCause::Memory,
+        Fault::Read => ScriptCause::Read,
+        Fault::Write => ScriptCause::Write,
     }
 }
 
@@ -110,25 +137,6 @@ fn half<'a>(
     }
 }
 
-/// The seconds since 1970-01-01T00:00:00Z by the system's clock, 0 where it tells a time before or none.
-fn seconds(rt: &HostRuntime) -> u64 {
-    let Ok(now) = SystemTime::now(rt) else {
-        return 0;
-    };
-    match now.duration_since(UNIX_EPOCH) {
-        Ok(since) => since.as_secs(),
-        Err(_) => 0,
-    }
-}
-
-fn told(cause: Fault) -> &'static str {
-    match cause {
-        Fault::Memory => "memory",
-        Fault::Read => "read",
-        Fault::Write => "write",
-    }
-}
-
 /// Closes a connection in stages (RFC 9112, section 9.6): nothing more is written, and what the client still sends is read
 /// and dropped until it closes too. Where bytes stayed unread, the client could lose the last answers.
 fn close(rt: &HostRuntime, stream: &TcpStream) {
@@ -142,20 +150,12 @@ fn close(rt: &HostRuntime, stream: &TcpStream) {
     let mut reader = stream;
     let mut buffer = [0; 8_192];
     for _ in 0..MOST_READS {
-        if !waits(rt, begun) {
+        if !waits(begun.elapsed(rt)) {
             return;
         }
         match reader.read(&mut buffer) {
             Ok(0) | Err(_) => return,
             Ok(_) => {}
         }
-    }
-}
-
-/// Whether a client may go on sending that much after that moment.
-fn waits(rt: &HostRuntime, begun: Instant) -> bool {
-    match begun.elapsed(rt) {
-        Ok(passed) => passed.as_secs() < PATIENCE,
-        Err(_) => false,
     }
 }

@@ -1,26 +1,43 @@
 //! Scripts on standard input.
+ghost use Rattle.std.specs.Prelude.{◌≡◌, ◌⊎◌, IfErr, OnOk};
+ghost use Rattle.uptane_desk.specs.Ends.{IsStopped};
+ghost use Rattle.up_lines.specs.Runs.{Blames};
+
 use sqlite::Alter;
-use std::process::ExitCode;
+use std::alloc::Global;
 use up_desk::desk::Desk;
+use up_pieces::sink::Sink;
+use up_pieces::source::Source;
+use up_program::failure::{Failure, ended, told};
 use up_service::script::run_script;
-use up_service::{ScriptCause, ScriptFault};
 use up_sign::hmac_sha256::HmacSha256;
 
-/// Carries out the script, and prints its answers.
-pub(crate) fn answer_lines<D: Alter>(rt: &HostRuntime, desk: &mut Desk<HmacSha256, D>) -> ExitCode {
-    match run_script(rt.alloc(), desk, &mut rt.stdin(), &mut rt.stdout()) {
-        Ok(_) => ExitCode::SUCCESS,
-        Err(fault) => stopped(rt, fault),
-    }
+/// Carries out the script on standard input, and prints its answers.
+pub(crate) fn answer_lines<D: Alter>(
+    rt: &HostRuntime,
+    desk: &mut Desk<HmacSha256, D>,
+) -> Result<(), Failure> {
+    told(
+        rt,
+        answer_script(rt.alloc(), desk, &mut rt.stdin(), &mut rt.stdout()),
+    )
 }
 
-fn stopped(rt: &HostRuntime, fault: ScriptFault) -> ExitCode {
-    let cause = match fault.cause {
-        ScriptCause::Memory => "memory",
-        ScriptCause::Read => "read",
-        ScriptCause::Write => "write",
-        ScriptCause::TooLong => "line limit",
-    };
-    eprintln!(rt; "uptane_desk: stopped after {} lines: {cause}", fault.lines).ok();
-    ExitCode::from(4)
+/// Carries out a script, and writes its answers. It ends well only where the script was read to its end and each answer was
+/// written; else what stopped it is told of the part that failed.
+fn answer_script<D: Alter, R: Source, W: Sink>(
+    alloc: Global,
+    desk: &mut Desk<HmacSha256, D>,
+    script: &mut R,
+    answers: &mut W,
+) -> Result<(), Failure>
+    requires can_read { R.can_read script.old }
+    requires can_write { W.can_write answers.old }
+    ensures read { OnOk result (R.has_ended script.new) }
+    ensures written { OnOk result (W.can_write answers.new) }
+    ensures stopped { IfErr result (λ failure. IsStopped failure (λ cause.
+        Blames cause (R.has_failed script.new) (R.can_read script.new ⊎ R.has_ended script.new)
+        (W.has_failed answers.new) (W.can_write answers.new))) }
+{
+    ended(run_script(alloc, desk, script, answers))
 }

@@ -2,13 +2,10 @@
 ghost use Rattle.std.specs.IoError.{error_kind};
 ghost use Rattle.std.specs.Prelude.{◌≡◌, ◌↔◌, IsTrue};
 
+use crate::times::in_time;
 use std::io;
 use std::io::{ErrorKind, Read, Write};
 use std::time::{Clock, Instant};
-
-/// How long a connection may take as a whole, in seconds. Its hundred requests take less than a minute, with the greatest
-/// bodies and over a slow network too; a client that sends or takes a byte now and then takes longer.
-const MOST_SECONDS: u64 = 300;
 
 /// How often a call is made again that a signal interrupted, as one does that stops the program for a while.
 const MOST_INTERRUPTIONS: u32 = 1_000;
@@ -16,7 +13,7 @@ const MOST_INTERRUPTIONS: u32 = 1_000;
 /// A reader or a writer over another one, which fails once the connection has taken as long as it may. What is read are the
 /// bytes that the inner one gives, and what is written are those that it takes; each other call fails.
 #[derive(Drop)]
-pub(crate) struct Bounded<'a, C: Clock, S: Drop> {
+pub struct Bounded<'a, C: Clock, S: Drop> {
     pub clock: &'a C,
     /// When the connection was accepted.
     pub begun: Instant,
@@ -28,7 +25,7 @@ impl<C: Clock, R: Read + Drop> Read for Bounded<'_, C, R> {
 
     fn read(&mut self, buf: &mut [u8]) -> io::Result<usize> {
         for _ in 0..MOST_INTERRUPTIONS {
-            in_time(self.clock, self.begun)?;
+            in_time(self.begun.elapsed(self.clock))?;
             match self.inner.read(buf) {
                 Ok(n) => return Ok(n),
                 Err(error) => {
@@ -47,7 +44,7 @@ impl<C: Clock, W: Write + Drop> Write for Bounded<'_, C, W> {
 
     fn write(&mut self, buf: &[u8]) -> io::Result<usize> {
         for _ in 0..MOST_INTERRUPTIONS {
-            in_time(self.clock, self.begun)?;
+            in_time(self.begun.elapsed(self.clock))?;
             match self.inner.write(buf) {
                 Ok(n) => return Ok(n),
                 Err(error) => {
@@ -65,15 +62,7 @@ impl<C: Clock, W: Write + Drop> Write for Bounded<'_, C, W> {
     }
 }
 
-/// Fails where the connection has taken as long as it may, or where the clock can't be read.
-fn in_time<C: Clock>(clock: &C, begun: Instant) -> io::Result<()> {
-    if begun.elapsed(clock)?.as_secs() < MOST_SECONDS {
-        Ok(())
-    } else {
-        Err(io::Error::from(ErrorKind::TimedOut))
-    }
-}
-
+/// Whether a signal interrupted the call.
 fn is_interrupted(error: &io::Error) -> bool
     ensures { IsTrue result ↔ (error_kind error.now ≡ ErrorKind.Interrupted) }
 {

@@ -1,0 +1,5 @@
+pub mod Failures
+pub mod Messages
+pub mod Times
+pub mod Calls
+pub mod Files
