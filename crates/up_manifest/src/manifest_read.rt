@@ -36,10 +36,9 @@ pub fn read_manifest(alloc: Global, body: &[u8]) -> Result<Incoming, Refusal>
     ensures large { largest_body < length body.now → result ≡ Err TooLarge }
 {
     body_laws();
-    if body.len() <= LARGEST_BODY {
-        if let Some(incoming) = plain_manifest(alloc, body) {
-            return Ok(incoming);
-        }
+    // What is read so is never too large, by the limits of its parts.
+    if let Some(incoming) = plain_manifest(alloc, body) {
+        return Ok(incoming);
     }
     manifest_of_json(alloc, body)
 }
