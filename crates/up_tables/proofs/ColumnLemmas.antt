@@ -1,5 +1,5 @@
 -- What a row that shows no value lacks.
-use Rattle.std.proofs.Common.{◌≡◌, ◌≢◌, ◌<◌, ℕ, zero, suc, List, [], ◌∷◌, map, drop, length, slice_index_or, Bool, true, false, Option, Some, None, Result, Ok, Err, IfErr, IsUtf8, string_bytes, sym, ap, subst, ◌∙◌, arith}
+use Rattle.std.proofs.Common.{◌≡◌, ◌≢◌, ◌<◌, ℕ, zero, suc, List, [], ◌∷◌, map, drop, length, slice_index_or, true, false, Option, Some, None, Result, Ok, Err, IfErr, IsUtf8, string_bytes, sym, ap, subst, ◌∙◌, arith}
 use Rattle.std.specs.Prelude.{IsErrAnd}
 use Rattle.std.proofs.lemmas.Str.{IsUtf8-string_bytes}
 use Rattle.sqlite.specs.declared.types.Value.TheVariants.{Null, Text}
