@@ -29,7 +29,7 @@ use Rattle.up_http.specs.declared.asked.What.TheVariants.{Fixed}
 use Rattle.up_service.specs.Answers.{answered_as, HoldsNext, IsCommitted, IsAnswerOrFailed, AnswersAs}
 use Rattle.up_service.specs.LineAnswers.{line_answer, answer_to, carried_out, command_answer, viewed, shown_in, shown_text, Sees, AnswersLine, IsViewText, IsTextOf, IsLineTo, IsLine, Prints, Lines}
 use Rattle.up_service.specs.Responses.{answer_response, AnswersCall, IsResponseTo}
-use Rattle.up_service.proofs.Failing.{AreApart, failed_refusal, failed_answer, lines_apart, responses_apart}
+use Rattle.up_service.proofs.Failing.{AreApart, not_committed, failed_refusal, failed_answer, lines_apart, responses_apart}
 
 -- ---- commands
 
@@ -46,7 +46,7 @@ committed tell tell_answer same apart true Done old new o is h told commit = abs
 committed tell tell_answer same apart true Already old new o is h told commit = absurd (cc)
 committed tell tell_answer same apart true (Reply r) old new o is h told commit = absurd (cc)
 committed tell tell_answer same apart true (File f) old new o is h told commit = absurd (cc)
-committed tell tell_answer same apart true (Refused r) old new o is h told commit = absurd (apart r o.answer old o.next is commit (sym (same r) ∙ told))
+committed tell tell_answer same apart true (Refused r) old new o is h told commit = absurd (not_committed tell tell_answer apart r o.answer old o.next is commit (sym (same r) ∙ told))
 
 -- what a call of the desk comes to
 pub record IsCalled (k : Rules) (at : ℕ) (c : Command) (a : Answer) (old new : Standing) : Type 0 where
@@ -83,12 +83,12 @@ responded k at c last head a t old new it is =
 -- ---- lines that are refused, views, and fixed answers
 
 -- nothing happens
-survives_same : (P : Trees → Type 0) (s : Standing) → Survives s s P
+pub survives_same : (P : Trees → Type 0) (s : Standing) → Survives s s P
 survives_same P s = record { clean = omega arith; shield = λ h. h; counts = omega arith; limit = refl; closes = λ clean is_open. inl is_open; crash = λ clean db may. inl may }
 
 -- a commit isn't told as want of memory
 no_commit : (k : Rules) (s : State) (at : ℕ) (w : What) → refused_text Memory ≡ (carried_out k s at w).text → IsCommitted s (carried_out k s at w).called (carried_out k s at w).next → ⊥
-no_commit k s at (Call c) told commit = lines_apart Memory (serve k s at c).answer s (serve k s at c).next refl commit told
+no_commit k s at (Call c) told commit = not_committed refused_text answer_text lines_apart Memory (serve k s at c).answer s (serve k s at c).next refl commit told
 no_commit k s at (Show vehicle) told commit = commit
 
 nothing_committed : (k : Rules) (s : State) (a : Result Asked Refusal) → refused_text Memory ≡ (answer_to k s a).text → IsCommitted s (answer_to k s a).called (answer_to k s a).next → ⊥

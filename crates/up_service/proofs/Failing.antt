@@ -1,5 +1,5 @@
--- What says that memory or the database refused, and that no commit is told so.
-use Rattle.std.proofs.Common.{◌≡◌, inl, inr, ℕ, List, Bool, true, refl, sym, ap, ◌∙◌, arith, get_or}
+-- What says that memory or the database refused, and that only a refusal is told so.
+use Rattle.std.proofs.Common.{◌≡◌, inl, inr, ℕ, List, Bool, true, refl, sym, subst, ap, ◌∙◌, arith, get_or}
 use Rattle.std.specs.Prelude.{◌⊎◌, [], None}
 use Rattle.std.specs.Fmt.{digits}
 use Rattle.up_canon.specs.declared.refusal.Refusal.{Refusal}
@@ -33,11 +33,15 @@ failed_answer tell tell_answer same (Replied r) t h is = cc
 failed_answer tell tell_answer same (File f) t h is = cc
 failed_answer tell tell_answer same (Refused r) t h is = failed_refusal tell r t h (is ∙ same r)
 
--- ---- no commit is told so
+-- ---- only a refusal is told so
 
--- what is told of a commit isn't told of these refusals
+-- what tells these refusals is told of a refusal alone
 abbrev pub AreApart : (Refusal → List ℕ) → (Answer → List ℕ) → Type 0
-AreApart tell tell_answer = (r : Refusal) (a : Answer) (s next : State) → is_fault r ≡ true → IsCommit s a next → tell r ≡ tell_answer a → ⊥
+AreApart tell tell_answer = (r : Refusal) (a : Answer) → is_fault r ≡ true → tell r ≡ tell_answer a → (q : Refusal) × (a ≡ Refused q)
+
+-- so of no commit
+pub not_committed : (tell : Refusal → List ℕ) (tell_answer : Answer → List ℕ) → AreApart tell tell_answer → (r : Refusal) (a : Answer) (s next : State) → is_fault r ≡ true → IsCommit s a next → tell r ≡ tell_answer a → ⊥
+not_committed tell tell_answer apart r a s next fault commit same = let refused = apart r a fault same in subst (λ b. IsCommit s b next) refused.1 commit
 
 -- lines, by their third byte
 third : List ℕ → ℕ
@@ -51,16 +55,24 @@ third_done : third (answer_text Done) ≡ 110
 unfolding third answer_text
 third_done = refl
 
+third_already : third (answer_text Already) ≡ 114
+unfolding third answer_text
+third_already = refl
+
 third_reply : (reply : Reply) → third (answer_text (Replied reply)) ≡ 112
 unfolding third answer_text
 third_reply reply = refl
 
+third_file : (text : List ℕ) → third (answer_text (File text)) ≡ 108
+unfolding third answer_text
+third_file text = refl
+
 pub lines_apart : AreApart refused_text answer_text
-lines_apart r Done s next fault commit same = absurd (let e : 102 ≡ 110 = sym (third_refused r) ∙ ap third same ∙ third_done in omega arith)
-lines_apart r Already s next fault commit same = commit
-lines_apart r (Replied reply) s next fault commit same = absurd (let e : 102 ≡ 112 = sym (third_refused r) ∙ ap third same ∙ third_reply reply in omega arith)
-lines_apart r (File text) s next fault commit same = commit
-lines_apart r (Refused other) s next fault commit same = commit
+lines_apart r Done fault same = absurd (let e : 102 ≡ 110 = sym (third_refused r) ∙ ap third same ∙ third_done in omega arith)
+lines_apart r Already fault same = absurd (let e : 102 ≡ 114 = sym (third_refused r) ∙ ap third same ∙ third_already in omega arith)
+lines_apart r (Replied reply) fault same = absurd (let e : 102 ≡ 112 = sym (third_refused r) ∙ ap third same ∙ third_reply reply in omega arith)
+lines_apart r (File text) fault same = absurd (let e : 102 ≡ 108 = sym (third_refused r) ∙ ap third same ∙ third_file text in omega arith)
+lines_apart r (Refused other) fault same = (other, refl)
 
 -- responses, by the first digit of the status
 digit : List ℕ → ℕ
@@ -90,8 +102,8 @@ not_ok r body last head fault same = absurd (let e : 53 ≡ 50 = sym (digit_fail
 
 pub responses_apart : (last head : Bool) → AreApart (λ r. refusal_response_of r last head) (λ a. answer_response a last head)
 unfolding answer_response
-responses_apart last head r Done s next fault commit same = not_ok r [] last head fault same
-responses_apart last head r Already s next fault commit same = commit
-responses_apart last head r (Replied reply) s next fault commit same = not_ok r reply.text last head fault same
-responses_apart last head r (File text) s next fault commit same = commit
-responses_apart last head r (Refused other) s next fault commit same = commit
+responses_apart last head r Done fault same = absurd (not_ok r [] last head fault same)
+responses_apart last head r Already fault same = absurd (not_ok r [] last head fault same)
+responses_apart last head r (Replied reply) fault same = absurd (not_ok r reply.text last head fault same)
+responses_apart last head r (File text) fault same = absurd (not_ok r text last head fault same)
+responses_apart last head r (Refused other) fault same = (other, refl)

@@ -3,6 +3,7 @@
 
 pub mod digest;
 pub mod job;
+pub mod laws;
 pub mod line_answer;
 mod numbers;
 pub mod response;

@@ -4,7 +4,9 @@ ghost use Rattle.up_lines.specs.LineRuns.{RanLines, FinishedLines, AnswersFirst}
 ghost use Rattle.up_lines.specs.Lines.{lines_of, fits};
 ghost use Rattle.up_lines.specs.Runs.{Blames};
 ghost use Rattle.up_service.specs.LineAnswers.{Lines};
+ghost use Rattle.up_service.specs.Scripts.{ScriptLasts};
 
+use crate::laws::scripts_outlast_crashes;
 use crate::line_answer::Scripter;
 use sqlite::Alter;
 use std::alloc::Global;
@@ -21,6 +23,9 @@ use up_sign::scheme::Scheme;
 /// 100,000; past that comes `TooLong`. Of a reader whose bytes are known at most 209,715,300,001 are read; nothing is tried
 /// twice. A fault tells how many answers were written whole; what was answered before it stays done. `Read` is told only where
 /// the reader failed, `Write` where the writer failed or took none, `Memory` where neither did, and never for a limit.
+///
+/// However it ended, a crash behind it leaves what could be left before, or the state behind some line; and none before the last
+/// line that was answered `done`, or got the reply to a new manifest. So nothing that was answered is lost.
 pub fn run_script<K: Scheme, D: Alter, R: Source, W: Sink>(
     alloc: Global,
     desk: &mut Desk<K, D>,
@@ -32,6 +37,12 @@ pub fn run_script<K: Scheme, D: Alter, R: Source, W: Sink>(
 
     // For any reader and writer: the bytes that came, what was answered of them, and what was written.
     ensures ran { RanLines (Lines (K.rules) D.Store) (R.remaining reader.old) (R.remaining reader.new)
+        (record { state = desk.old; held = W.contents writer.old })
+        (record { state = desk.new; held = W.contents writer.new }) result }
+
+    // From each state that the tables showed: each answer is due, the tables show the state behind the lines, and a crash loses
+    // nothing that was answered.
+    ensures lasts { ScriptLasts (K.rules) D.Store (R.remaining reader.old) (R.remaining reader.new)
         (record { state = desk.old; held = W.contents writer.old })
         (record { state = desk.new; held = W.contents writer.new }) result }
 
@@ -53,5 +64,6 @@ pub fn run_script<K: Scheme, D: Alter, R: Source, W: Sink>(
         (W.has_failed writer.new) (W.can_write writer.new)) }
     ensures ended { OnOk result (R.has_ended reader.new) }
 {
+    scripts_outlast_crashes::<K, D>();
     run(alloc, &Scripter, desk, reader, writer)
 }

@@ -3,7 +3,9 @@ ghost use Rattle.std.specs.Prelude.{◌≡◌, ◌⊎◌, IfOk, IfErr, IfSome, O
 ghost use Rattle.up_lines.specs.Runs.{Blames};
 ghost use Rattle.up_http.specs.Serving.{RanRequests, FinishedRequests, AnswersFirst, cause_of};
 ghost use Rattle.up_service.specs.Responses.{Responses};
+ghost use Rattle.up_service.specs.Streams.{StreamLasts};
 
+use crate::laws::streams_outlast_crashes;
 use crate::response::Responder;
 use sqlite::Alter;
 use std::alloc::Global;
@@ -22,6 +24,9 @@ use up_sign::scheme::Scheme;
 /// known at most 27,852,800 are read; nothing is tried twice. A fault tells how many requests were handed to the desk, whose
 /// effects stand, and how many answers were written whole. `Read` comes after all requests that were whole before it, and
 /// only where the reader failed; `Write` only where the writer failed, or took no byte; and `Memory` only where neither did.
+///
+/// However it ended, a crash behind it leaves what could be left before, or the state behind some request; and none before the
+/// last that got the reply to a new manifest. So nothing that was answered is lost.
 pub fn serve_stream<K: Scheme, D: Alter, R: Source, W: Sink>(
     alloc: Global,
     desk: &mut Desk<K, D>,
@@ -34,6 +39,12 @@ pub fn serve_stream<K: Scheme, D: Alter, R: Source, W: Sink>(
 
     // For any reader and writer: the bytes that came, what was answered of them, and what was written.
     ensures ran { RanRequests (Responses (K.rules) D.Store at) (R.remaining reader.old) (R.remaining reader.new)
+        (record { state = desk.old; held = W.contents writer.old })
+        (record { state = desk.new; held = W.contents writer.new }) result }
+
+    // From each state that the tables showed: each answer is due, the tables show the state behind the requests, and a crash
+    // loses nothing that was answered.
+    ensures lasts { StreamLasts (K.rules) D.Store at (R.remaining reader.old) (R.remaining reader.new)
         (record { state = desk.old; held = W.contents writer.old })
         (record { state = desk.new; held = W.contents writer.new }) result }
 
@@ -53,5 +64,6 @@ pub fn serve_stream<K: Scheme, D: Alter, R: Source, W: Sink>(
         (W.has_failed writer.new) (W.can_write writer.new)) }
     ensures stands { OnOk result (R.can_read reader.new ⊎ R.has_ended reader.new) }
 {
+    streams_outlast_crashes::<K, D>();
     serve(alloc, &Responder { at }, desk, reader, writer)
 }

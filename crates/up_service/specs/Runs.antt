@@ -1,0 +1,100 @@
+-- What a whole run over lines or over requests comes to: its answers, the state that the tables show then, and what a crash leaves.
+use Rattle.std.specs.Prelude.{◌≡◌, ◌⊎◌, ◌||◌, ℕ, Bool, false, ⊤, IsTrue, if◌then◌else◌, List, [], ◌∷◌, ◌++◌, Option, Some, None, bytes_eq}
+use Rattle.sqlite.specs.Tree.{Trees}
+use Rattle.sqlite_trees.specs.declared.store.Store.{Ghosts}
+use Rattle.up_canon.specs.declared.refusal.Refusal.{Refusal}
+use Rattle.up_canon.specs.declared.refusal.Refusal.TheVariants.{Memory, Store}
+use Rattle.up_sign.specs.Schemes.{Rules}
+use Rattle.up_machine.specs.Sound.{IsSound}
+use Rattle.up_machine.specs.State.{State}
+use Rattle.up_lines.specs.Runs.{Run}
+use Rattle.up_desk.specs.Serving.{HoldsState}
+use Rattle.up_desk.specs.Standing.{DeskView, Standing, HasCleanDisk, IfClean, KeepsState, Survives, LeavesOnly, state}
+use Rattle.up_service.specs.Answers.{Answered, HoldsNext, IsCommitted}
+
+-- ---- items, answered one after another
+
+-- what answers items: the rules of the desk's scheme, the answer to an item in a state, and how a refusal of it is told
+pub record Service (I : Type 0) : Type 0 where
+  pub rules : Rules
+  pub answer : State → I → Answered
+  pub tell : I → Refusal → List ℕ
+
+-- an item, and the text that was written for it, whole
+pub record Told (I : Type 0) : Type 0 where
+  pub item : I
+  pub text : List ℕ
+
+-- each item with its text
+abbrev pub told : {I : Type 0} → List I → List (List ℕ) → List (Told I)
+told [] texts = []
+told (item ∷ items) [] = []
+told (item ∷ items) (text ∷ texts) = record { item = item; text = text } ∷ told items texts
+
+-- its text tells that memory or the database refused
+abbrev pub tells_fault : {I : Type 0} → Service I → Told I → Bool
+tells_fault v m = bytes_eq m.text (v.tell m.item Memory) || bytes_eq m.text (v.tell m.item Store)
+
+-- the state behind an item: where its text tells such a fault the same, and else what the item makes of it
+abbrev pub behind : {I : Type 0} → Service I → State → Told I → State
+behind v s m = if tells_fault v m then s else (v.answer s m.item).next
+
+-- the state behind items
+abbrev pub after : {I : Type 0} → Service I → State → List (Told I) → State
+after v s [] = s
+after v s (m ∷ ms) = after v (behind v s m) ms
+
+-- each text is the answer in the state behind the items before it, or tells such a fault
+abbrev pub AreDue : {I : Type 0} → Service I → State → List (Told I) → Type 0
+AreDue v s [] = ⊤
+AreDue v s (m ∷ ms) = ((m.text ≡ (v.answer s m.item).text) ⊎ IsTrue (tells_fault v m)) × AreDue v (behind v s m) ms
+
+-- the state; or, where one more item was handed on, for which no text was written whole, perhaps what that makes of it
+abbrev pub IsBehind : {I : Type 0} → Service I → State → Option I → State → Type 0
+IsBehind v s None at = at ≡ s
+IsBehind v s (Some item) at = (at ≡ s) ⊎ (at ≡ (v.answer s item).next)
+
+-- ---- what a crash leaves
+
+-- what a crash left holds what an item makes of the state, if it is a command
+abbrev pub HoldsMade : {I : Type 0} → Service I → State → I → Trees → Type 0
+HoldsMade v s item = HoldsNext v.rules (v.answer s item).called (v.answer s item).next
+
+-- it holds what one of the items makes of the state behind those before it; one more item may have been handed on behind them
+abbrev pub HoldsSome : {I : Type 0} → Service I → State → List (Told I) → Option I → Trees → Type 0
+HoldsSome v s [] None trees = ⊥
+HoldsSome v s [] (Some item) trees = HoldsMade v s item trees
+HoldsSome v s (m ∷ ms) next trees = HoldsMade v s m.item trees ⊎ HoldsSome v (behind v s m) ms next trees
+
+-- one of the items is a commit, and its text tells no fault
+pub record IsAnsweredCommit {I : Type 0} (v : Service I) (s : State) (ms before rest : List (Told I)) (m : Told I) : Type 0 where
+  pub list : ms ≡ before ++ m ∷ rest
+  pub answered : tells_fault v m ≡ false
+  pub commit : IsCommitted (after v s before) (v.answer (after v s before) m.item).called (v.answer (after v s before) m.item).next
+
+-- What a run comes to from a state. Over a disk that has returned what was written so far each text is due, and the tables show the state
+-- behind the items. Only a fault of the disk shuts the connection, and a crash leaves what it could leave before, or what one of the items
+-- makes of the state behind those before it. What was answered stays: behind each commit that was answered a crash leaves the state behind
+-- it, or what one of the items that follow makes from there on.
+pub record Lasts {I : Type 0} (v : Service I) (s : State) (ms : List (Told I)) (next : Option I) (old new : Standing) : Type 0 where
+  pub due : HasCleanDisk new → AreDue v s ms
+  pub shown : HasCleanDisk new → (at : State) × IsBehind v (after v s ms) next at × IsSound v.rules at × KeepsState v.rules at new
+  pub crash : Survives old new (HoldsSome v s ms next)
+  pub durable : (before rest : List (Told I)) (m : Told I) → IsAnsweredCommit v s ms before rest m
+      → IfClean (LeavesOnly (λ trees. HoldsState v.rules (behind v (after v s before) m) trees ⊎ HoldsSome v (behind v (after v s before) m) rest next trees)) new
+
+-- so from each sound state that the tables showed before the run
+abbrev pub LastsFrom : {K D I : Type 0} → (K → Service I) → Ghosts D → DeskView K D → List I → List (List ℕ) → Option I → DeskView K D → Type 0
+LastsFrom u g old items texts next new =
+    (s : State) → IsSound (u old.scheme).rules s → IfClean (KeepsState (u old.scheme).rules s) (state g old.store)
+    → Lasts (u old.scheme) s (told items texts) next (state g old.store) (state g new.store)
+
+-- behind a run one more item was handed on and answered, whatever was written of it; or none was
+abbrev pub HandsOn : {S I : Type 0} → (S → I → List ℕ → S → Type 0) → Option I → S → S → Type 0
+HandsOn gives None old new = new ≡ old
+HandsOn gives (Some item) old new = (text : List ℕ) × gives old item text new
+
+-- so of every run over items, with one more behind it or none
+abbrev pub RunsLast : {K D I : Type 0} → (K → Service I) → Ghosts D → (DeskView K D → I → List ℕ → DeskView K D → Type 0) → Type 0
+RunsLast {K} {D} {I} u g gives = (items : List I) (texts : List (List ℕ)) (next : Option I) (old last new : DeskView K D)
+    → Run gives old items texts last → HandsOn gives next last new → LastsFrom u g old items texts next new
