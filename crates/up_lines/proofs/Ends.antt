@@ -9,12 +9,12 @@ use Rattle.std.proofs.Math.Seq.{take-append_seam}
 use Rattle.up_lines.specs.declared.progress.Progress.{Progress}
 use Rattle.up_lines.specs.declared.fault.ScriptCause.{ScriptCause}
 use Rattle.up_lines.specs.declared.fault.ScriptCause.TheVariants.{Memory, Read}
-use Rattle.up_lines.specs.Lines.{newline, most_lines, most_bytes, lines_of, is_short, fits, has_bytes, asked}
-use Rattle.up_lines.specs.Runs.{At}
-use Rattle.up_lines.specs.LineRuns.{Gives, FinishedLines, Stopped, RanLines}
+use Rattle.up_lines.specs.Lines.{newline, most_lines, most_bytes, piece_bytes, lines_of, is_short, fits, has_bytes, asked}
+use Rattle.up_lines.specs.Runs.{At, LastRead}
+use Rattle.up_lines.specs.LineRuns.{Gives, FinishedLines, Stopped, WantsMore, RanLines}
 use Rattle.up_lines.specs.Progress.{Sofar, Closes, Fails, Stops, Completes, IsFresh, told, is_inside}
 use Rattle.up_lines.proofs.Cuts.{lines-line, lines-last, lines-begun}
-use Rattle.up_lines.proofs.RunLaws.{not_full, fits_begun, asked-append, asked_among-none}
+use Rattle.up_lines.proofs.RunLaws.{not_full, fits_begun, asked-append, asked_among-none, as_many}
 use Rattle.up_lines.proofs.Steps.{takes_end}
 use Rattle.up_lines.proofs.Stopping.{stopped, breaks_none, untold_within, stops_memory, stops_at, ended_next}
 
@@ -89,12 +89,32 @@ module _ {S : Type 0} (gives : Gives S) (first : At S) where
         wrote = then.wrote;
       }
 
+  -- what is to be answered of the lines that are whole
+  asked_whole : (came : List ℕ) (at : Progress) (now : At S) (so : Sofar gives first came at now) → asked (lines_of false came) ≡ filter has_bytes so.whole
+  asked_whole came at now so =
+      let all : lines_of false came ≡ so.whole = lines_now came at now so false ∙ ap (λ l. so.whole ++ l) (lines-begun at.line.items so.own_bytes) ∙ append-nil so.whole in
+      ap asked all ∙ asked-all so.whole so.each_short (few_whole came at now so)
+
+  -- a read while no limit is passed and each whole line has its answer
+  pub last_read : (came piece all : List ℕ) (ended : Bool) (at : Progress) (now : At S) (answered : ℕ) → Sofar gives first came at now → at.answered ≤ answered
+      → all ≡ came ++ piece → length piece ≤ piece_bytes → (ended ≡ true → piece ≡ []) → LastRead piece_bytes (WantsMore answered) all ended
+  last_read came piece all ended at now answered so few is small none = record {
+    before = came;
+    piece = piece;
+    came_is = is;
+    small = small;
+    none_at_end = none;
+    wanted = (
+      within_limits came at now so,
+      omega (arith, few, so.answered_is, ap length (asked_whole came at now so), as_many gives first.state now.state (filter has_bytes so.whole) so.answers so.run),
+    );
+  }
+
   -- the reader failed
   pub stops_read : (came : List ℕ) (at : Progress) (now : At S) → Sofar gives first came at now
       → Stopped gives came false (record { cause = Read; lines = at.answered }) first now
   stops_read came at now so =
-      let all : lines_of false came ≡ so.whole = lines_now came at now so false ∙ ap (λ l. so.whole ++ l) (lines-begun at.line.items so.own_bytes) ∙ append-nil so.whole in
-      let is : asked (lines_of false came) ≡ filter has_bytes so.whole = ap asked all ∙ asked-all so.whole so.each_short (few_whole came at now so) in
+      let is = asked_whole came at now so in
       stopped gives Read came false came first at now so None at.answered now ([], is ∙ sym (append-nil (filter has_bytes so.whole)))
       (refl, within_limits came at now so, sym is) (breaks_none gives Read now (λ e. absurd (cc))) refl
 
@@ -139,30 +159,33 @@ module _ {S : Type 0} (gives : Gives S) where
   -- a run that stopped before the input's end
   pub ran_err : (cause : ScriptCause) (first now : At S) (had has : Option (List ℕ)) (came : List ℕ) (answered : ℕ)
       → Consumes had has came → length came ≤ most_bytes → Stopped gives came false (record { cause = cause; lines = answered }) first now
-      → RanLines gives had has first now (Err (record { cause = cause; lines = answered }))
-  ran_err cause first now had has came answered read bounded stopped =
-      record { came = came; ended = false; read = read; bounded = bounded; at_end = λ h. absurd (cc); leaves = stopped }
+      → LastRead piece_bytes (WantsMore answered) came false → RanLines gives had has first now (Err (record { cause = cause; lines = answered }))
+  ran_err cause first now had has came answered read bounded stopped last =
+      record { came = came; ended = false; read = read; bounded = bounded; at_end = λ h. absurd (cc); leaves = (stopped, last) }
 
   pub ran_stop : (r : Result (Unit {0}) ScriptCause) (cause : ScriptCause) (first now : At S) (had has : Option (List ℕ)) (came : List ℕ) (answered : ℕ)
       → IsErrAnd r (λ x. x ≡ cause) → Consumes had has came → length came ≤ most_bytes
-      → Stopped gives came false (record { cause = cause; lines = answered }) first now
+      → Stopped gives came false (record { cause = cause; lines = answered }) first now → LastRead piece_bytes (WantsMore answered) came false
       → RanLines gives had has first now (told r answered)
-  ran_stop r cause first now had has came answered failed read bounded stopped =
+  ran_stop r cause first now had has came answered failed read bounded stopped last =
       let (x, is, same) = err_from_is_err_and r failed in
-      subst (λ s. RanLines gives had has first now (told s answered)) (sym (is ∙ ap Err same)) (ran_err cause first now had has came answered read bounded stopped)
+      subst (λ s. RanLines gives had has first now (told s answered)) (sym (is ∙ ap Err same)) (ran_err cause first now had has came answered read bounded stopped last)
 
   -- a run to the input's end
   pub ran_on : (r : Result (Unit {0}) ScriptCause) (first now : At S) (had has : Option (List ℕ)) (came : List ℕ) (old : Progress) (before : At S) (new : Progress)
       → Consumes had has came → length came ≤ most_bytes → IsAtEnd has → Sofar gives first came old before
       → OnOk r (Completes gives old before new now) → IfErr r (λ cause. Stops gives cause true [] old before new now)
-      → RanLines gives had has first now (told r new.answered)
-  ran_on (Ok _) first now had has came old before new read bounded end so ok err =
+      → old.answered ≤ new.answered → RanLines gives had has first now (told r new.answered)
+  ran_on (Ok _) first now had has came old before new read bounded end so ok err grows =
       record { came = came; ended = true; read = read; bounded = bounded; at_end = λ _. end; leaves = (refl, ok first came so) }
-  ran_on (Err cause) first now had has came old before new read bounded end so ok err = record {
+  ran_on (Err cause) first now had has came old before new read bounded end so ok err grows = record {
     came = came;
     ended = true;
     read = read;
     bounded = bounded;
     at_end = λ _. end;
-    leaves = subst (λ l. Stopped gives l true (record { cause = cause; lines = new.answered }) first now) (append-nil came) (err first came so);
+    leaves = (
+      subst (λ l. Stopped gives l true (record { cause = cause; lines = new.answered }) first now) (append-nil came) (err first came so),
+      last_read gives first came [] came true old before new.answered so grows (sym (append-nil came)) (omega arith) (λ _. refl),
+    );
   }

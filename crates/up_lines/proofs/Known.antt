@@ -29,7 +29,7 @@ module _ {S : Type 0} (gives : Gives S) (first now : At S) where
   known_too_long None has fault ran is = tt
   known_too_long (Some input) None fault ran is = absurd ran.read
   known_too_long (Some input) (Some left) fault ran is =
-      let past : Tells TooLong ran.came ran.ended ran.leaves.done = subst (λ c. Tells c ran.came ran.ended ran.leaves.done) is ran.leaves.first_ones.1 in
+      let past : Tells TooLong ran.came ran.ended ran.leaves.0.done = subst (λ c. Tells c ran.came ran.ended ran.leaves.0.done) is ran.leaves.0.first_ones.1 in
       ap (λ l. fits (lines_of true l)) ran.read ∙ (past.0 left).0
 
   pub known_prefix : (had has : Option (List ℕ)) (fault : ScriptFault) → RanLines gives had has first now (Err fault)
@@ -38,7 +38,7 @@ module _ {S : Type 0} (gives : Gives S) (first now : At S) where
   known_prefix (Some input) None fault ran = absurd ran.read
   known_prefix (Some input) (Some left) fault ran =
       let (others, same) = first_of ran.ended ran.came left ran.at_end in
-      let st = ran.leaves in
+      let st = ran.leaves.0 in
       record {
         done = st.done;
         next = st.next;

@@ -28,6 +28,13 @@ module _ {S : Type 0} (gives : S → List ℕ → List ℕ → S → Type 0) whe
   Run-append old mid new (x ∷ xs) ys [] bs p q = absurd p
   Run-append old mid new (x ∷ xs) ys (a ∷ cs) bs p q = (p.0, p.1, Run-append p.0 mid new xs ys cs bs p.2 q)
 
+  -- as many answers as lines
+  pub as_many : (old new : S) (xs cs : List (List ℕ)) → Run gives old xs cs new → length xs ≡ length cs
+  as_many old new [] [] p = refl
+  as_many old new [] (a ∷ cs) p = absurd p
+  as_many old new (x ∷ xs) [] p = absurd p
+  as_many old new (x ∷ xs) (a ∷ cs) p = ap suc (as_many p.0 new xs cs p.2)
+
   -- the run over one line that has bytes
   pub Run-one : (old new : S) (line answer : List ℕ) → has_bytes line ≡ true → gives old line answer new → Run gives old (filter has_bytes (line ∷ [])) (answer ∷ []) new
   Run-one old new line answer h p = subst (λ t. Run gives old (cond t (line ∷ []) []) (answer ∷ []) new) (sym h) (new, p, refl)

@@ -1,10 +1,10 @@
 -- What a run over lines leaves.
-use Rattle.std.specs.Prelude.{◌≡◌, ℕ, Bool, true, false, ⊤, Option, Some, None, List, [], ◌∷◌, ◌++◌, Result}
+use Rattle.std.specs.Prelude.{◌≡◌, ℕ, ◌≤◌, Bool, true, false, ⊤, Option, Some, None, List, [], ◌∷◌, ◌++◌, length, Result}
 use Rattle.up_lines.specs.declared.fault.ScriptCause.{ScriptCause}
 use Rattle.up_lines.specs.declared.fault.ScriptCause.TheVariants.{Memory, Read, Write, TooLong}
 use Rattle.up_lines.specs.declared.fault.ScriptFault.{ScriptFault}
-use Rattle.up_lines.specs.Lines.{newline, most_bytes, lines_of, fits, asked}
-use Rattle.up_lines.specs.Runs.{At, AnswersUpTo, Finished, Ran}
+use Rattle.up_lines.specs.Lines.{newline, most_bytes, piece_bytes, lines_of, fits, asked}
+use Rattle.up_lines.specs.Runs.{At, AnswersUpTo, Finished, LastRead, Ran}
 
 -- what answers lines: in a state a line may have this answer, which leaves that state
 abbrev pub Gives : Type 0 → Type 1
@@ -48,10 +48,15 @@ Stopped gives came ended fault first now =
 abbrev pub FinishedLines : {S : Type 0} → Gives S → List ℕ → ℕ → At S → At S → Type 0
 FinishedLines gives input answered first now = Finished gives print (AreAll input) first answered now
 
--- a run over a reader and a writer
+-- more is read behind bytes that pass no limit, once their whole lines are answered
+abbrev pub WantsMore : ℕ → List ℕ → Type 0
+WantsMore answered before = (fits (lines_of true before) ≡ true) × (length (asked (lines_of false before)) ≤ answered)
+
+-- a run over a reader and a writer; where it ended early, nothing was read behind what ended it but the piece in which that lay
 abbrev pub RanLines : {S : Type 0} → Gives S → Option (List ℕ) → Option (List ℕ) → At S → At S → Result ℕ ScriptFault → Type 0
 RanLines gives had has first now result =
-    Ran most_bytes (λ came ended answered. (ended ≡ true) × FinishedLines gives came answered first now) (λ came ended fault. Stopped gives came ended fault first now) had has result
+    Ran most_bytes (λ came ended answered. (ended ≡ true) × FinishedLines gives came answered first now)
+    (λ came ended fault. Stopped gives came ended fault first now × LastRead piece_bytes (WantsMore fault.lines) came ended) had has result
 
 -- of the lines of an input the first so many have their answers, written whole; the next one may be answered, and less than its whole
 -- answer written

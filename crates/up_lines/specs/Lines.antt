@@ -18,6 +18,10 @@ most_line_bytes = 2097152
 abbrev pub most_bytes : ℕ
 most_bytes = most_lines * (most_line_bytes + 1) + 1
 
+-- the most bytes that are read at once
+abbrev pub piece_bytes : ℕ
+piece_bytes = 8192
+
 -- a byte before the first line; with no line after it, it begins the last one, which ends with the input
 abbrev pub begin_with : Bool → ℕ → List (List ℕ) → List (List ℕ)
 begin_with ended byte [] = cond ended ((byte ∷ []) ∷ []) []

@@ -86,6 +86,16 @@ pub record HasRead (most : ℕ) (had has : Option (List ℕ)) (Left : List ℕ �
   pub at_end : ended ≡ true → IsAtEnd has
   pub leaves : Left came ended
 
+-- the last read of a run, of which so many bytes are the most: it gave this piece, or found the input's end, and what stood before it
+-- wanted more
+pub record LastRead (most : ℕ) (Wants : List ℕ → Type 0) (came : List ℕ) (ended : Bool) : Type 0 where
+  pub before : List ℕ
+  pub piece : List ℕ
+  pub came_is : came ≡ before ++ piece
+  pub small : length piece ≤ most
+  pub none_at_end : ended ≡ true → piece ≡ []
+  pub wanted : Wants before
+
 -- a run over a reader: what it leaves of the bytes that came where it ended well, and where it ended early
 abbrev pub Ran : {A F : Type 0} → ℕ → (List ℕ → Bool → A → Type 0) → (List ℕ → Bool → F → Type 0) → Option (List ℕ) → Option (List ℕ) → Result A F → Type 0
 Ran most Ends Stops had has result = HasRead most had has (λ came ended. MatchResult result (Ends came ended) (Stops came ended))

@@ -1,5 +1,5 @@
 //! The end of a line.
-ghost use Rattle.std.specs.Prelude.{◌≡◌, ◌<◌, ◌+◌, [], ℕ, List, IfErr, OnOk};
+ghost use Rattle.std.specs.Prelude.{◌≡◌, ◌≤◌, ◌<◌, ◌+◌, [], ℕ, List, IfErr, OnOk};
 ghost use Rattle.up_lines.specs.Lines.{most_lines};
 ghost use Rattle.up_lines.specs.Progress.{Closes, Fails};
 ghost use Rattle.up_lines.specs.Runs.{BlamesWriter};
@@ -25,6 +25,7 @@ pub(crate) fn end_line<S, I: Interpret<S>, W: Sink>(
         progress.new (record { state = state.new; held = W.contents writer.new })) }
     ensures err { IfErr result (λ cause. Fails I.gives cause progress.old (record { state = state.old; held = W.contents writer.old })
         progress.new (record { state = state.new; held = W.contents writer.new })) }
+    ensures grows { progress.old.answered ≤ progress.new.answered }
     ensures goes_on { OnOk result (W.can_write writer.new) }
     ensures blames { IfErr result (λ cause. BlamesWriter cause (W.has_failed writer.new) (W.can_write writer.new)) }
 {

@@ -1,5 +1,5 @@
 //! Lines cut from a reader, and their answers written to a writer.
-ghost use Rattle.std.specs.Prelude.{◌≡◌, ◌⊎◌, ℕ, List, Option, [], IfOk, IfErr, IfSome, OnOk, false, true};
+ghost use Rattle.std.specs.Prelude.{◌≡◌, ◌≤◌, ◌⊎◌, ℕ, List, Option, [], IfOk, IfErr, IfSome, OnOk, false, true};
 ghost use Rattle.up_lines.specs.Lines.{lines_of, fits};
 ghost use Rattle.up_lines.specs.LineRuns.{RanLines, FinishedLines, AnswersFirst};
 ghost use Rattle.up_lines.specs.Progress.{Takes, Stops, Completes, IsFresh, told};
@@ -32,6 +32,7 @@ fn take_piece<S, I: Interpret<S>, W: Sink>(
     ensures err { IfErr result (λ cause. Stops I.gives cause false piece.now
         progress.old (record { state = state.old; held = W.contents writer.old })
         progress.new (record { state = state.new; held = W.contents writer.new })) }
+    ensures grows { progress.old.answered ≤ progress.new.answered }
     ensures goes_on { OnOk result (W.can_write writer.new) }
     ensures blames { IfErr result (λ cause. BlamesWriter cause (W.has_failed writer.new) (W.can_write writer.new)) }
 {
@@ -57,6 +58,7 @@ fn finish<S, I: Interpret<S>, W: Sink>(
     ensures err { IfErr result (λ cause. Stops I.gives cause true []
         progress.old (record { state = state.old; held = W.contents writer.old })
         progress.new (record { state = state.new; held = W.contents writer.new })) }
+    ensures grows { progress.old.answered ≤ progress.new.answered }
     ensures goes_on { OnOk result (W.can_write writer.new) }
     ensures blames { IfErr result (λ cause. BlamesWriter cause (W.has_failed writer.new) (W.can_write writer.new)) }
 {
@@ -106,7 +108,8 @@ fn read_lines<S, I: Interpret<S>, R: Source, W: Sink>(
 /// A line ends with a newline (byte 10), or with the input where any byte stands behind the last newline.
 /// An empty line is counted and not answered. The number is that of the lines answered. There are at most 100,000 lines, of at
 /// most 2,097,152 bytes each without the newline; past that comes `TooLong`. Of a reader whose bytes are known at most
-/// 209,715,300,001 are read: so many lines of so many bytes, their newlines, and one byte more. Nothing is tried twice: after
+/// 209,715,300,001 are read: so many lines of so many bytes, their newlines, and one byte more. Nothing is read behind what ends
+/// it early, but the piece of at most 8,192 bytes in which that lay. Nothing is tried twice: after
 /// a read that failed or gave no byte the reader isn't read, nor is the writer written after a write that failed or took none.
 /// A fault tells how many answers were written whole; lines that were answered before it stay answered. `Read` is told only
 /// where the reader failed, `Write` where the writer failed or took none, `Memory` where neither did, and never for a limit.

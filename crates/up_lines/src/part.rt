@@ -1,5 +1,5 @@
 //! Parts of lines, as they are cut from pieces.
-ghost use Rattle.std.specs.Prelude.{◌≡◌, [], ◌∷◌, ◌++◌, ℕ, List, IfErr, OnOk, false, true};
+ghost use Rattle.std.specs.Prelude.{◌≡◌, ◌≤◌, [], ◌∷◌, ◌++◌, ℕ, List, IfErr, OnOk, false, true};
 ghost use Rattle.std.specs.List.{list_all};
 ghost use Rattle.up_lines.specs.Lines.{newline};
 ghost use Rattle.up_lines.specs.Progress.{Grows, Refuses, Takes, Stops, is_inside};
@@ -50,6 +50,7 @@ pub(crate) fn take_line<S, I: Interpret<S>, W: Sink>(
     ensures err { IfErr result (λ cause. (more : List ℕ) → Stops I.gives cause false (part.now ++ newline ∷ more)
         progress.old (record { state = state.old; held = W.contents writer.old })
         progress.new (record { state = state.new; held = W.contents writer.new })) }
+    ensures grows { progress.old.answered ≤ progress.new.answered }
     ensures goes_on { OnOk result (W.can_write writer.new) }
     ensures blames { IfErr result (λ cause. BlamesWriter cause (W.has_failed writer.new) (W.can_write writer.new)) }
 {

@@ -1,24 +1,28 @@
-use Rattle.std.proofs.Common.{◌⊎◌, inl, inr, ◌≡◌, ◌≤◌, ◌∙◌, ap, ℕ, List, false, arith, refl, subst, [], ◌++◌, take, length, length-append, append-nil}
+use Rattle.std.proofs.Common.{◌⊎◌, inl, inr, ◌≡◌, ◌≤◌, ◌∙◌, ap, sym, ℕ, List, false, arith, refl, subst, [], ◌++◌, take, length, length-append, append-nil}
 use Rattle.std.proofs.lemmas.Grind.{common_steps}
 use Rattle.std.proofs.lemmas.List.{length-take-le}
 use Rattle.std.specs.Prelude.{Option}
 use Rattle.std.specs.Io.KnownBytes.{Consumes}
 use Rattle.std.proofs.KnownBytes.{Consumes-nil, Consumes-trans, Consumes-kept}
 use Rattle.up_lines.specs.declared.fault.ScriptCause.TheVariants.{Read}
+use Rattle.up_lines.specs.Runs.{At}
 use Rattle.up_lines.specs.LineRuns.{Stopped}
 use Rattle.up_lines.specs.Progress.{Sofar}
-use Rattle.up_lines.proofs.Ends.{fresh, stops_bare, same_prefix, ran_stop, ran_err, ran_on, stops_read}
+use Rattle.up_lines.proofs.Ends.{fresh, stops_bare, same_prefix, last_read, ran_stop, ran_err, ran_on, stops_read}
 use Rattle.up_lines.proofs.Steps.{on_ok, passed_on}
 use Rattle.up_lines.proofs.Blaming.{blames_all, blames_both}
 use Rattle.up_lines.proofs.lines.read_lines.Goals as goal
 
 pub loop-most-init : goal.loop-most-init
-loop-most-init g c = ([], Consumes-nil _, fresh g.I.Interpret.gives _ c.args.progress.now c.requires.fresh, refl, grind (arith, common_steps, c.in_ok-buffer.ensures.len), c.requires.can_read, c.requires.can_write)
+loop-most-init g c = ([], Consumes-nil _, fresh g.I.Interpret.gives _ c.args.progress.now c.requires.fresh, refl, c.in_ok-buffer.ensures.len, c.requires.can_read, c.requires.can_write)
 
 pub returns-in_err-buffer-clause-ran : goal.returns-in_err-buffer-clause-ran
 returns-in_err-buffer-clause-ran g c =
+    let first : At g.row.S.Denot = record { state = c.args.state.now; held = g.W.Sink.contents c.args.writer.now } in
+    let so : Sofar g.I.Interpret.gives first [] c.args.progress.now first = fresh g.I.Interpret.gives first c.args.progress.now c.requires.fresh in
     ran_stop g.I.Interpret.gives c.from_residual.result _ _ _ _ _ [] c.args.progress.now.answered c.from_residual.ensures.1 (Consumes-nil _) (omega arith)
-    (stops_bare g.I.Interpret.gives c.args.progress.now _ _ [] (fresh g.I.Interpret.gives _ c.args.progress.now c.requires.fresh))
+    (stops_bare g.I.Interpret.gives c.args.progress.now _ _ [] so)
+    (last_read g.I.Interpret.gives first [] [] [] false c.args.progress.now first c.args.progress.now.answered so (omega arith) refl (omega arith) (λ h. absurd (cc)))
 
 -- the buffer keeps its length
 kept : (new old : List ℕ) (len : ℕ) → length new ≡ length old → length old ≡ len → length new ≡ len
@@ -54,11 +58,14 @@ returns-in_err-take_piece-in-Ok-clause-ran g c = let (came, read, so, budget, ro
     c.from_residual-in_err-take_piece-in-Ok.ensures.1 (Consumes-trans _ _ _ _ _ read c.in-Ok.ensures.bytes) (omega (arith, long, most, budget, length-append came (take c.in-Ok.n c.read_piece.new.buffer)))
     (subst (λ l. Stopped g.I.Interpret.gives (came ++ l) false (record { cause = cause; lines = c.take_piece.new.progress.answered }) (record { state = c.args.state.now; held = g.W.Sink.contents c.args.writer.now }) (record { state = c.take_piece.new.state; held = g.W.Sink.contents c.take_piece.new.writer })) same
     (c.in_err-take_piece-in-Ok.ensures.err _ came so))
+    (last_read g.I.Interpret.gives _ came (take c.in-Ok.n c.read_piece.new.buffer) _ false c.loop-most.progress _ _ so c.take_piece.ensures.grows refl
+    (omega (arith, room, c.deref_mut.ensures.len, c.read_piece.auto.buffer, long, within)) (λ h. absurd (cc)))
 
 pub returns-in-Err-clause-ran : goal.returns-in-Err-clause-ran
 returns-in-Err-clause-ran g c = let (came, read, so, budget, room, can_read, can_write) = c.loop-most.invariant in
     ran_err g.I.Interpret.gives Read _ _ _ _ came c.loop-most.progress.answered (Consumes-kept _ _ _ _ read c.in-Err.ensures.err) (omega (arith, budget))
     (stops_read g.I.Interpret.gives _ came c.loop-most.progress _ so)
+    (last_read g.I.Interpret.gives _ came [] came false c.loop-most.progress _ _ so (omega arith) (sym (append-nil came)) (omega arith) (λ h. absurd (cc)))
 
 -- nothing was read at the end
 consumed_none : (had mid has : Option (List ℕ)) (came : List ℕ) (n : ℕ) (buffer : List ℕ) → n ≡ 0 → Consumes had mid came → Consumes mid has (take n buffer) → Consumes had has came
@@ -69,7 +76,7 @@ pub returns-in-Ok-eq0-clause-ran : goal.returns-in-Ok-eq0-clause-ran
 returns-in-Ok-eq0-clause-ran g c = let (came, read, so, budget, room, can_read, can_write) = c.loop-most.invariant in
     ran_on g.I.Interpret.gives c.finish.result _ _ (g.R.Source.remaining c.args.reader.now) (g.R.Source.remaining c.read_piece.new.reader) came c.loop-most.progress _ c.finish.new.progress
     (consumed_none _ (g.R.Source.remaining c.loop-most.reader) _ came c.in-Ok-eq0.field-0 c.read_piece.new.buffer c.in-Ok-eq0.field-0-test read c.in-Ok-eq0.ensures.bytes)
-    (omega (arith, budget)) (c.in-Ok-eq0.ensures.end c.in-Ok-eq0.field-0-test c.loop-most-test.true (omega (arith, room, c.deref_mut.ensures.len))) so c.finish.ensures.ok c.finish.ensures.err
+    (omega (arith, budget)) (c.in-Ok-eq0.ensures.end c.in-Ok-eq0.field-0-test c.loop-most-test.true (omega (arith, room, c.deref_mut.ensures.len))) so c.finish.ensures.ok c.finish.ensures.err c.finish.ensures.grows
 
 pub returns-in-Ok-eq0-clause-blames : goal.returns-in-Ok-eq0-clause-blames
 returns-in-Ok-eq0-clause-blames g c = let (came, read, so, budget, room, can_read, can_write) = c.loop-most.invariant in
