@@ -1,5 +1,5 @@
 -- What a stream gives, piece by piece.
-use Rattle.std.proofs.Common.{rules, ◌≡◌, inl, inr, ℕ, ◌+◌, ◌-◌, ◌<◌, ◌≤◌, min, true, false, List, [], ◌∷◌, ◌++◌, length, take, drop, MatchBool, Option, Some, None, Ok, Err, take_all, take-add, take-append-drop, length-drop, refl, sym, ap, ◌∙◌, subst, arith, append_assoc, append-nil, length-append}
+use Rattle.std.proofs.Common.{rules, ◌≡◌, inl, inr, ◌⊎◌, ℕ, zero, suc, ◌+◌, ◌-◌, ◌<◌, ◌≤◌, min, true, false, List, [], ◌∷◌, ◌++◌, length, take, drop, MatchBool, Option, Some, None, Ok, Err, take_all, take-add, take-append-drop, length-drop, refl, sym, ap, ◌∙◌, subst, arith, append_assoc, append-nil, length-append}
 use Rattle.std.proofs.lemmas.Bool.{le-leb, lt-leb}
 use Rattle.std.proofs.lemmas.List.{length-take-le, take_min}
 use Rattle.std.proofs.Math.Seq.{take-append_seam, take-append-add}
@@ -75,6 +75,16 @@ taken_fits size taken bytes piece small is =
     let same : min k (length piece) ≡ taken = omega (arith, is) in
     ap (λ n. take n (bytes ++ piece)) all ∙ take-append-add bytes piece k ∙ ap (λ l. bytes ++ l) (sym (take_min k piece)) ∙ ap (λ n. bytes ++ take n piece) same
 
+-- without the last byte of what was taken of it a body isn't whole
+before_last : (bytes body piece : List ℕ) (taken : ℕ) (head : RequestHead) (stated : Option ℕ) → Heads bytes head [] → framing head ≡ Ok stated → taken ≤ length piece
+    → length body + taken ≡ size_of stated → (taken ≡ 0) ⊎ Waits ((bytes ++ body) ++ take (taken - 1) piece)
+before_last bytes body piece zero head stated heads is within whole = inl refl
+before_last bytes body piece (suc n) head stated heads is within whole =
+    let some : length (take n piece) ≡ n = length-take-le n piece (omega arith) in
+    let short : length (body ++ take n piece) < size_of stated = omega (arith, some, whole, length-append body (take n piece)) in
+    let cut : Waits ((bytes ++ body) ++ take n piece) = inr (head, body ++ take n piece, head_then bytes body (take n piece) head heads, subst (λ r. IsCut r (body ++ take n piece)) (sym is) short) in
+    inr (subst (λ k. Waits ((bytes ++ body) ++ take k piece)) (omega arith) cut)
+
 -- a piece of a body
 pub gives_body : (bytes piece : List ℕ) (old new : Waiting) (given taken : ℕ) (result : Option Next) (fed : Fed)
     → IsWaiting bytes old → new.intent ≡ old.intent → new.body ≡ record { size = old.body.size; bytes = take old.body.size (old.body.bytes ++ piece) }
@@ -111,6 +121,8 @@ gives_body bytes piece old new given taken (Some next) fed waits intent body man
       λ more. subst (λ n. First given (((bytes ++ old.body.bytes) ++ take taken piece) ++ more) n more) (sym is)
           (subst (λ l. First given (l ++ more) (asked given waits.head waits.stated new.body.bytes) more) joined
           (first_whole given bytes new.body.bytes more waits.head waits.stated waits.heads waits.framing_is whole)),
+      before_last bytes old.body.bytes piece taken waits.head waits.stated waits.heads waits.framing_is within
+          (omega (arith, whole, ap length items, length-append old.body.bytes (take taken piece), length-take-le taken piece within)),
     )
 
 -- what is shown where no head is whole
@@ -130,8 +142,9 @@ head_verb head verb is = ap is_head_verb is
 -- a head that fails a check
 pub gives_refused : (old piece new : List ℕ) (taken : Taken) (facts : Facts) (check : Check) (given : ℕ) (next : Next) (fed : Fed)
     → given < most_requests → TakesHead old piece taken new → taken.front ≡ Whole facts → facts.framing ≡ Err check → next ≡ record { what = Fixed check; head = is_head_verb facts.verb; last = true }
-    → fed ≡ record { rest = []; given = given + 1; ended = next.last } → Gives (record { rest = old; given = given; ended = false }) piece taken.bytes (Some next) fed
-gives_refused old piece new taken facts check given next fed below takes front framed is now =
+    → fed ≡ record { rest = []; given = given + 1; ended = next.last } → Waits (old ++ take (taken.bytes - 1) piece)
+    → Gives (record { rest = old; given = given; ended = false }) piece taken.bytes (Some next) fed
+gives_refused old piece new taken facts check given next fed below takes front framed is now waited =
     let (head, heads, said) : IsWhole new facts = subst (ReadsPiece new piece taken) front takes.stands in
     let same : next ≡ refused head check = is ∙ ap (λ h. record { what = Fixed check; head = h; last = true }) (head_verb head facts.verb said.verb_is) in (
       takes.within,
@@ -141,6 +154,7 @@ gives_refused old piece new taken facts check given next fed below takes front f
       omega (arith, takes.bounded, ap length takes.added),
       λ more. subst (λ n. First given ((old ++ take taken.bytes piece) ++ more) n more) (sym same)
           (subst (λ l. First given (l ++ more) (refused head check) more) takes.added (first_refused given new more head check heads (sym said.framing_is ∙ framed))),
+      inr waited,
     )
 
 -- bytes that never have a head
@@ -150,8 +164,9 @@ has_bytes (b ∷ bytes) never = omega arith
 
 pub gives_bad : (old piece new : List ℕ) (taken : Taken) (given : ℕ) (next : Next) (fed : Fed)
     → given < most_requests → TakesHead old piece taken new → taken.front ≡ Bad → next ≡ bad_request
-    → fed ≡ record { rest = []; given = given + 1; ended = next.last } → Gives (record { rest = old; given = given; ended = false }) piece taken.bytes (Some next) fed
-gives_bad old piece new taken given next fed below takes front is now =
+    → fed ≡ record { rest = []; given = given + 1; ended = next.last } → Waits (old ++ take (taken.bytes - 1) piece)
+    → Gives (record { rest = old; given = given; ended = false }) piece taken.bytes (Some next) fed
+gives_bad old piece new taken given next fed below takes front is now waited =
     let never : NeverHasHead new = subst (ReadsPiece new piece taken) front takes.stands in (
       takes.within,
       now,
@@ -160,19 +175,31 @@ gives_bad old piece new taken given next fed below takes front is now =
       omega (arith, takes.bounded, ap length takes.added),
       λ more. subst (λ n. First given ((old ++ take taken.bytes piece) ++ more) n more) (sym is)
           (subst (λ l. First given (l ++ more) bad_request more) takes.added (first_bad given new more never)),
+      inr waited,
     )
+
+-- without the last byte of what was taken behind a head nothing could be answered, nor without the head's last one
+before_more : (old piece new : List ℕ) (taken more : ℕ) → new ≡ old ++ take taken piece → Waits (old ++ take (taken - 1) piece)
+    → (more ≡ 0) ⊎ Waits (new ++ take (more - 1) (drop taken piece)) → Waits (old ++ take (taken + more - 1) piece)
+before_more old piece new taken zero added waited last = subst (λ n. Waits (old ++ take (n - 1) piece)) (omega arith) waited
+before_more old piece new taken (suc n) added waited (inl none) = absurd (omega (arith, none))
+before_more old piece new taken (suc n) added waited (inr waits) =
+    let joined : new ++ take n (drop taken piece) ≡ old ++ take (taken + n) piece =
+    ap (λ l. l ++ take n (drop taken piece)) added ∙ append_assoc old (take taken piece) (take n (drop taken piece)) ∙ ap (λ l. old ++ l) (sym (take-add taken n piece)) in
+    let one : Waits (new ++ take n (drop taken piece)) = subst (λ k. Waits (new ++ take k (drop taken piece))) (omega arith) waits in
+    subst (λ k. Waits (old ++ take k piece)) (omega arith) (subst Waits joined one)
 
 -- a head, and the first bytes of its body behind it in the same piece
 pub gives_more : (old piece new : List ℕ) (given taken more : ℕ) (next : Option Next) (fed : Fed) → taken ≤ length piece → new ≡ old ++ take taken piece
-    → Gives (record { rest = new; given = given; ended = false }) (drop taken piece) more next fed
+    → Waits (old ++ take (taken - 1) piece) → Gives (record { rest = new; given = given; ended = false }) (drop taken piece) more next fed
     → Gives (record { rest = old; given = given; ended = false }) piece (taken + more) next fed
-gives_more old piece new given taken more None fed within added gives =
+gives_more old piece new given taken more None fed within added waited gives =
     let joined : new ++ drop taken piece ≡ old ++ piece = ap (λ l. l ++ drop taken piece) added ∙ append_assoc old (take taken piece) (drop taken piece) ∙ ap (λ l. old ++ l) (take-append-drop taken piece) in (
       omega (arith, gives.0, length-drop taken piece),
       gives.1 ∙ ap (λ l. record { rest = l; given = given; ended = false }) joined,
       gives.2,
     )
-gives_more old piece new given taken more (Some next) fed within added gives =
+gives_more old piece new given taken more (Some next) fed within added waited gives =
     let joined : new ++ take more (drop taken piece) ≡ old ++ take (taken + more) piece =
     ap (λ l. l ++ take more (drop taken piece)) added ∙ append_assoc old (take taken piece) (take more (drop taken piece)) ∙ ap (λ l. old ++ l) (sym (take-add taken more piece)) in (
       omega (arith, gives.0, length-drop taken piece),
@@ -181,6 +208,7 @@ gives_more old piece new given taken more (Some next) fed within added gives =
       omega (arith, ap length joined, gives.3),
       omega (arith, ap length joined, gives.4),
       λ m. subst (λ l. First given (l ++ m) next m) joined (gives.5 m),
+      inr (before_more old piece new taken more added waited gives.6),
     )
 
 -- a request whose body is cut short at the end of the input

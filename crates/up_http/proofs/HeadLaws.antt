@@ -70,6 +70,10 @@ head_is_all bytes byte head (x ∷ after) none heads =
     (omega (arith, ap length heads.reads.1, length-append bytes (byte ∷ []), length-append (print_request head) (x ∷ after))) in
     absurd (none head rest (heads.reads.0, is))
 
+-- where bytes have no head, the first of them have none
+pub no_head_front : (bytes more : List ℕ) → HasNoRequest (bytes ++ more) → HasNoRequest bytes
+no_head_front bytes more none head after reads = none head (after ++ more) (ReadsRequest-append bytes head after more reads)
+
 -- line ends alone are no head
 pub no_head_blank : (bytes : List ℕ) → list_all is_newline bytes ≡ true → HasNoRequest bytes
 no_head_blank bytes blank head after reads =

@@ -1,5 +1,5 @@
 -- What a feeder shows.
-use Rattle.std.specs.Prelude.{◌≡◌, ◌⊎◌, ℕ, ◌+◌, ◌<◌, ◌≤◌, Bool, true, false, Option, Some, None, Result, Ok, Err, List, [], ◌++◌, length, take}
+use Rattle.std.specs.Prelude.{◌≡◌, ◌⊎◌, ℕ, ◌+◌, ◌-◌, ◌<◌, ◌≤◌, Bool, true, false, Option, Some, None, Result, Ok, Err, List, [], ◌++◌, length, take}
 use Rattle.httparse.specs.Grammar.{RequestHead, HasNoRequest}
 use Rattle.up_heads.specs.Heads.{Heads, most_head}
 use Rattle.up_heads.specs.Framing.{framing}
@@ -25,7 +25,8 @@ abbrev pub Waits : List ℕ → Type 0
 Waits bytes = (HasNoRequest bytes × (length bytes < most_head))
     ⊎ ((head : RequestHead) × (after : List ℕ) × Heads bytes head after × IsCut (framing head) after)
 
--- what a piece gives: nothing yet, and all of it was taken; or the next request, which is all of what was taken or the stream's last
+-- what a piece gives: nothing yet, and all of it was taken; or the next request, which is all of what was taken or the stream's last, and
+-- without the last byte that was taken nothing could be answered yet
 abbrev pub Gives : Fed → List ℕ → ℕ → Option Next → Fed → Type 0
 Gives old piece taken None new =
     (taken ≡ length piece) × (new ≡ record { rest = old.rest ++ piece; given = old.given; ended = false }) × Waits new.rest
@@ -33,6 +34,7 @@ Gives old piece taken (Some next) new =
     (taken ≤ length piece) × (new ≡ record { rest = []; given = old.given + 1; ended = next.last })
     × (old.given < most_requests) × (0 < length (old.rest ++ take taken piece)) × (length (old.rest ++ take taken piece) ≤ most_request)
     × ((more : List ℕ) → First old.given ((old.rest ++ take taken piece) ++ more) next more)
+    × ((taken ≡ 0) ⊎ Waits (old.rest ++ take (taken - 1) piece))
 
 -- what a feeder does with a piece
 pub record Feeds (old : Fed) (piece : List ℕ) (taken : ℕ) (next : Option Next) (new : Fed) : Type 0 where

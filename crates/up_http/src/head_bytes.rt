@@ -1,5 +1,6 @@
 //! The bytes of a head, taken from a piece.
-ghost use Rattle.std.specs.Prelude.{◌≡◌, ◌≤◌, ◌<◌, ◌+◌, ◌++◌, [], ◌∷◌, ◌||◌, not, IfOk, OnErr, vec_len, vec_capacity, false};
+ghost use Rattle.std.specs.Prelude.{◌≡◌, ◌≤◌, ◌<◌, ◌+◌, ◌-◌, ◌++◌, [], ◌∷◌, ◌||◌, not, IfOk, OnErr, take, vec_len, vec_capacity, false};
+ghost use Rattle.up_http.specs.Feeding.{Waits};
 ghost use Rattle.up_http.specs.Parts.{Begins, TakesHead, ReadsByte, is_newline as newline};
 
 use std::alloc::AllocError;
@@ -19,10 +20,11 @@ pub(crate) struct Taken {
     pub front: Front,
 }
 
-/// Takes bytes to a head, to its end or to the piece's.
+/// Takes bytes to a head, to its end or to the piece's. Without the last one nothing could be answered.
 pub(crate) fn take_head(head: &mut Vec<u8>, begun: bool, piece: &[u8]) -> Result<Taken, AllocError>
     requires { Begins head.old.items begun }
     ensures ok { IfOk result (λ taken. TakesHead head.old.items piece.now taken head.new.items) }
+    ensures waited { IfOk result (λ taken. Waits (head.old.items ++ take (taken.bytes - 1) piece.now)) }
     ensures err { OnErr result (head.new.items ≡ head.old.items) }
 {
     let room = MOST_HEAD - head.len();
