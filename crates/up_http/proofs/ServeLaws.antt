@@ -1,5 +1,5 @@
 -- How far a run has come, step by step.
-use Rattle.std.proofs.Common.{OnOk, IfErr, ◌-◌, ◌≡◌, ◌⊎◌, inl, inr, ℕ, ◌+◌, ◌*◌, ◌<◌, ◌≤◌, Bool, true, false, List, [], ◌∷◌, ◌++◌, length, take, drop, filter, Result, Ok, Err, refl, sym, ap, ◌∙◌, subst, arith, append_assoc, append-nil, length-append}
+use Rattle.std.proofs.Common.{OnOk, IfErr, ◌-◌, ◌≡◌, ◌⊎◌, inl, inr, ℕ, suc, ◌+◌, ◌*◌, ◌<◌, ◌≤◌, Bool, true, false, List, [], ◌∷◌, ◌++◌, length, take, drop, filter, Result, Ok, Err, refl, sym, ap, ◌∙◌, subst, arith, append_assoc, append-nil, length-append}
 use Rattle.std.specs.Prelude.{Option, Some, None, IfSome}
 use Rattle.std.specs.Io.KnownBytes.{Appends, Consumes, IsAtEnd}
 use Rattle.std.proofs.KnownBytes.{Appends-nil, Appends-trans}
@@ -7,9 +7,9 @@ use Rattle.std.proofs.lemmas.List.Elements.{filter-append}
 use Rattle.std.proofs.Math.Seq.{take-take, drop-drop, take-add}
 use Rattle.up_http.specs.Requests.{First, Firsts, most_requests, most_request}
 use Rattle.up_http.specs.Feeding.{Waits}
-use Rattle.up_lines.specs.Runs.{At, BreaksOff, HasRead, Run, listed, written}
+use Rattle.up_lines.specs.Runs.{At, BreaksOff, HasRead, LastRead, Run, listed, written}
 use Rattle.up_lines.specs.declared.fault.ScriptCause.TheVariants as why
-use Rattle.up_http.specs.Serving.{Gives, plain, is_call, calls, cause_of, IsBegun, AreFirst, Tells, Stopped, FinishedRequests, RanRequests, AnswersFirst, most_bytes}
+use Rattle.up_http.specs.Serving.{Gives, plain, is_call, calls, cause_of, IsBegun, AreFirst, WantsMore, Tells, Stopped, FinishedRequests, RanRequests, AnswersFirst, most_bytes, piece_bytes}
 use Rattle.up_http.specs.Steps.{Sofar, Takes, Stops, Unanswered, Completes, told, fault_at}
 use Rattle.up_http.specs.declared.asked.Next.{Next}
 use Rattle.up_http.specs.declared.fault.Fault.{Fault}
@@ -34,6 +34,13 @@ module _ {S : Type 0} (gives : Gives S) where
   run-push old mid new [] (t ∷ ts) next text p q = absurd p
   run-push old mid new (x ∷ xs) [] next text p q = absurd p
   run-push old mid new (x ∷ xs) (t ∷ ts) next text p q = (p.0, p.1, run-push p.0 mid new xs ts next text p.2 q)
+
+  -- as many answers as requests
+  as_many : (old new : S) (xs : List Next) (ts : List (List ℕ)) → Run gives old xs ts new → length xs ≡ length ts
+  as_many old new [] [] p = refl
+  as_many old new [] (t ∷ ts) p = absurd p
+  as_many old new (x ∷ xs) [] p = absurd p
+  as_many old new (x ∷ xs) (t ∷ ts) p = ap suc (as_many p.0 new xs ts p.2)
 
   -- before any byte
   pub fresh : (first : At S) (at : Progress) → at.feeder ≡ record { rest = []; given = 0; ended = false } → at.called ≡ 0 → at.answered ≡ 0 → Sofar gives first [] at first
@@ -240,15 +247,15 @@ module _ {S : Type 0} (gives : Gives S) where
   -- ---- a run over a reader
 
   -- the reader failed
-  pub ran_read : (at : Progress) (now : At S) → at.feeder.ended ≡ false
+  ran_read : (at : Progress) (now : At S) → at.feeder.ended ≡ false
       → (first : At S) (came : List ℕ) → Sofar gives first came at now → Stopped gives came false (fault_at Read at) first now
   ran_read at now goes_on first came so =
       let firsts = at_end first came at now so goes_on in
-      stopped came at came false None (fault_at Read at) first now now so (at.feeder.rest, firsts) (refl, at.feeder.rest, firsts, so.waits goes_on)
+      stopped came at came false None (fault_at Read at) first now now so (at.feeder.rest, firsts) (refl, (at.feeder.rest, firsts, so.waits goes_on))
       (omega arith) refl (breaks_none Read now (λ e. absurd (cc)))
 
   -- the stream ended with a request, and so many bytes more had come
-  pub finished_over : (at : Progress) (now : At S) (others : List ℕ) → at.feeder.ended ≡ true
+  finished_over : (at : Progress) (now : At S) (others : List ℕ) → at.feeder.ended ≡ true
       → (first : At S) (came : List ℕ) → Sofar gives first came at now → (more : List ℕ) → FinishedRequests gives ((came ++ others) ++ more) at.answered first now
   finished_over at now others ended first came so more = record {
     items = so.done;
@@ -265,15 +272,43 @@ module _ {S : Type 0} (gives : Gives S) where
     wrote = so.wrote;
   }
 
+  -- a read while the stream goes on and each whole request has its answer
+  pub last_read : (first : At S) (came piece all : List ℕ) (ended : Bool) (at : Progress) (now : At S) (answered : ℕ) → Sofar gives first came at now → at.feeder.ended ≡ false → at.answered ≤ answered
+      → all ≡ came ++ piece → length piece ≤ piece_bytes → (ended ≡ true → piece ≡ []) → LastRead piece_bytes (WantsMore answered) all ended
+  last_read first came piece all ended at now answered so goes_on few is small none = record {
+    before = came;
+    piece = piece;
+    came_is = is;
+    small = small;
+    none_at_end = none;
+    wanted = (
+      so.done,
+      (at.feeder.rest, at_end first came at now so goes_on, so.waits goes_on),
+      omega (arith, few, so.answered_is, as_many first.state now.state so.done so.texts so.run),
+    );
+  }
+
   -- while the stream goes on there is room for more bytes
   pub room_left : (first : At S) (came : List ℕ) (at : Progress) (now : At S) → Sofar gives first came at now → at.feeder.ended ≡ false → length came < most_bytes
   room_left first came at now so goes_on = omega (arith, so.bytes, so.below goes_on, waits_short at.feeder.rest (so.waits goes_on))
 
   -- a run that stopped among the bytes
   pub ran_stop : (cause : Fault) (first now : At S) (had has : Option (List ℕ)) (came : List ℕ) (at : Progress) → Consumes had has came → length came ≤ most_bytes
-      → Stopped gives came false (fault_at cause at) first now → RanRequests gives had has first now (told (Err cause) at)
-  ran_stop cause first now had has came at read bounded stopped =
-      record { came = came; ended = false; read = read; bounded = bounded; at_end = λ h. absurd (cc); leaves = stopped }
+      → Stopped gives came false (fault_at cause at) first now → LastRead piece_bytes (WantsMore at.answered) came false → RanRequests gives had has first now (told (Err cause) at)
+  ran_stop cause first now had has came at read bounded stopped last =
+      record { came = came; ended = false; read = read; bounded = bounded; at_end = λ h. absurd (cc); leaves = (stopped, last) }
+
+  -- a run that a request ended
+  pub ran_over : (first now : At S) (had has : Option (List ℕ)) (came others : List ℕ) (at : Progress) → Consumes had has (came ++ others) → length (came ++ others) ≤ most_bytes
+      → at.feeder.ended ≡ true → Sofar gives first came at now → LastRead piece_bytes (WantsMore at.answered) (came ++ others) false → RanRequests gives had has first now (Ok (record { requests = at.answered }))
+  ran_over first now had has came others at read bounded ended so last = record {
+    came = came ++ others;
+    ended = false;
+    read = read;
+    bounded = bounded;
+    at_end = λ h. absurd (cc);
+    leaves = (λ more _. finished_over at now others ended first came so more, last);
+  }
 
   -- all bytes were read
   read_to_end : (P : List ℕ → Bool → Type 0) (had has : Option (List ℕ)) (came : List ℕ) → Consumes had has came → length came ≤ most_bytes → IsAtEnd has → P came true → HasRead most_bytes had has P
@@ -283,11 +318,35 @@ module _ {S : Type 0} (gives : Gives S) where
   pub ran_end : (r : Result (Unit {0}) Fault) (first now : At S) (had has : Option (List ℕ)) (came : List ℕ) (old : Progress) (before : At S) (new : Progress)
       → Consumes had has came → length came ≤ most_bytes → IsAtEnd has → Sofar gives first came old before
       → OnOk r (Completes gives old before new now) → IfErr r (λ cause. Stops gives cause true [] old before new now)
-      → RanRequests gives had has first now (told r new)
-  ran_end (Ok _) first now had has came old before new read bounded end so ok err =
-      read_to_end _ had has came read bounded end (λ more none. subst (λ l. FinishedRequests gives l new.answered first now) (sym (ap (λ l. came ++ l) (none refl) ∙ append-nil came)) (ok first came so))
-  ran_end (Err cause) first now had has came old before new read bounded end so ok err =
-      read_to_end _ had has came read bounded end (subst (λ l. Stopped gives l true (fault_at cause new) first now) (append-nil came) (err first came so))
+      → old.feeder.ended ≡ false → old.answered ≤ new.answered → RanRequests gives had has first now (told r new)
+  ran_end (Ok _) first now had has came old before new read bounded end so ok err goes_on grows =
+      read_to_end _ had has came read bounded end (
+        λ more none. subst (λ l. FinishedRequests gives l new.answered first now) (sym (ap (λ l. came ++ l) (none refl) ∙ append-nil came)) (ok first came so),
+        last_read first came [] came true old before new.answered so goes_on grows (sym (append-nil came)) (omega arith) (λ _. refl),
+      )
+  ran_end (Err cause) first now had has came old before new read bounded end so ok err goes_on grows =
+      read_to_end _ had has came read bounded end (
+        subst (λ l. Stopped gives l true (fault_at cause new) first now) (append-nil came) (err first came so),
+        last_read first came [] came true old before new.answered so goes_on grows (sym (append-nil came)) (omega arith) (λ _. refl),
+      )
+
+  -- the reader failed
+  pub ran_failed : (first now : At S) (had has : Option (List ℕ)) (came : List ℕ) (at : Progress) → Consumes had has came → length came ≤ most_bytes → at.feeder.ended ≡ false
+      → Sofar gives first came at now → RanRequests gives had has first now (told (Err Read) at)
+  ran_failed first now had has came at read bounded goes_on so =
+      ran_stop Read first now had has came at read bounded (ran_read at now goes_on first came so)
+      (last_read first came [] came false at now at.answered so goes_on (omega arith) (sym (append-nil came)) (omega arith) (λ h. absurd (cc)))
+
+-- more answers leave it as it is
+pub read_later : (came : List ℕ) (few more : ℕ) → few ≤ more → LastRead piece_bytes (WantsMore few) came false → LastRead piece_bytes (WantsMore more) came false
+read_later came few more grows last = record {
+  before = last.before;
+  piece = last.piece;
+  came_is = last.came_is;
+  small = last.small;
+  none_at_end = last.none_at_end;
+  wanted = (last.wanted.0, last.wanted.1, omega (arith, grows, last.wanted.2));
+}
 
 -- a turn that takes bytes or gives a request is nearer to the end
 pub nearer : (most at filled n given now len : ℕ) → at < filled → len ≡ filled - at → n ≤ len → ((n ≡ len) × (now ≡ given)) ⊎ ((now ≡ given + 1) × (given < 100))
@@ -322,7 +381,7 @@ pub known_prefix : {S : Type 0} (gives : Gives S) (first now : At S) (had has : 
 known_prefix gives first now None has fault ran = tt
 known_prefix gives first now (Some input) None fault ran = absurd ran.read
 known_prefix gives first now (Some input) (Some left) fault ran =
-    let st = ran.leaves in
+    let st = ran.leaves.0 in
     subst (λ l. AnswersFirst gives l fault first now) (sym ran.read) (record {
       done = st.done;
       next = st.next;

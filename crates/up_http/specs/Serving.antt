@@ -1,6 +1,6 @@
 -- What a run over a stream leaves: answers, states, and what was written.
-use Rattle.std.specs.Prelude.{◌≡◌, ℕ, ◌*◌, ◌<◌, Bool, true, false, ⊤, Option, Some, None, List, [], ◌∷◌, ◌++◌, length, filter, Result}
-use Rattle.up_lines.specs.Runs.{At, AnswersUpTo, Finished, Ran, listed}
+use Rattle.std.specs.Prelude.{◌≡◌, ℕ, ◌*◌, ◌<◌, ◌≤◌, Bool, true, false, ⊤, Option, Some, None, List, [], ◌++◌, length, filter, Result}
+use Rattle.up_lines.specs.Runs.{At, AnswersUpTo, Finished, LastRead, Ran, listed}
 use Rattle.up_lines.specs.declared.fault.ScriptCause.{ScriptCause}
 use Rattle.up_lines.specs.declared.fault.ScriptCause.TheVariants as why
 use Rattle.up_http.specs.Requests.{First, Firsts, Requests, most_requests, most_request}
@@ -16,6 +16,10 @@ use Rattle.up_http.specs.declared.served.Served.{Served}
 -- the most bytes that are read
 abbrev pub most_bytes : ℕ
 most_bytes = most_requests * most_request
+
+-- the most bytes that are read at once
+abbrev pub piece_bytes : ℕ
+piece_bytes = 8192
 
 -- what answers requests: in a state a request may have this answer, which leaves that state
 abbrev pub Gives : Type 0 → Type 1
@@ -51,10 +55,18 @@ abbrev pub AreFirst : List ℕ → Bool → List Next → Option Next → Type 0
 AreFirst bytes ended done None = (rest : List ℕ) × Firsts 0 bytes done false rest
 AreFirst bytes ended done (Some next) = (rest : List ℕ) × Firsts 0 bytes done false rest × IsBegun (length done) rest ended next
 
+-- behind bytes the stream goes on: these are their whole requests, of which none ends it, and nothing can be answered yet of what is left
+abbrev pub GoesOn : List ℕ → List Next → Type 0
+GoesOn bytes done = (rest : List ℕ) × Firsts 0 bytes done false rest × Waits rest
+
+-- more is read behind bytes while the stream goes on, once their whole requests are answered
+abbrev pub WantsMore : ℕ → List ℕ → Type 0
+WantsMore answered before = (done : List Next) × GoesOn before done × (length done ≤ answered)
+
 -- what a cause says of the bytes that came, of whether the input ended behind them, and of the requests that were answered: a read fails
 -- before the input's end, and behind all requests that were whole
 abbrev pub Tells : Fault → List ℕ → Bool → List Next → Type 0
-Tells Read came ended done = (ended ≡ false) × (rest : List ℕ) × Firsts 0 came done false rest × Waits rest
+Tells Read came ended done = (ended ≡ false) × GoesOn came done
 Tells Memory came ended done = ⊤
 Tells Write came ended done = ⊤
 
@@ -68,11 +80,13 @@ Stopped gives came ended fault first now =
 abbrev pub FinishedRequests : {S : Type 0} → Gives S → List ℕ → ℕ → At S → At S → Type 0
 FinishedRequests gives input answered first now = Finished gives plain (Requests input) first answered now
 
--- a run over a reader and a writer: it ends well at the input's end, or with a request, whatever follows
+-- a run over a reader and a writer: it ends well at the input's end, or with a request, whatever follows; and nothing is read behind what
+-- ended it but the piece in which that lay
 abbrev pub RanRequests : {S : Type 0} → Gives S → Option (List ℕ) → Option (List ℕ) → At S → At S → Result Served ServeFault → Type 0
 RanRequests gives had has first now result =
-    Ran most_bytes (λ came ended served. (more : List ℕ) → (ended ≡ true → more ≡ []) → FinishedRequests gives (came ++ more) served.requests first now)
-    (λ came ended fault. Stopped gives came ended fault first now) had has result
+    Ran most_bytes (λ came ended served. ((more : List ℕ) → (ended ≡ true → more ≡ []) → FinishedRequests gives (came ++ more) served.requests first now)
+    × LastRead piece_bytes (WantsMore served.requests) came ended)
+    (λ came ended fault. Stopped gives came ended fault first now × LastRead piece_bytes (WantsMore fault.answered) came ended) had has result
 
 -- of the requests of an input the first so many have their answers, written whole; the next one may be answered, and less than its
 -- whole answer written

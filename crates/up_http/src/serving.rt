@@ -108,6 +108,7 @@ fn serve_piece<S, A: Respond<S>, W: Sink>(
     ensures err { IfErr result (λ cause. Stops (A.gives responder.now) cause false piece.now
         progress.old (record { state = state.old; held = W.contents writer.old })
         progress.new (record { state = state.new; held = W.contents writer.new })) }
+    ensures grows { progress.old.answered ≤ progress.new.answered }
     ensures goes_on { OnOk result (W.can_write writer.new) }
     ensures blames { IfErr result (λ cause. BlamesWriter (cause_of cause) (W.has_failed writer.new) (W.can_write writer.new)) }
 {
@@ -142,6 +143,7 @@ fn finish<S, A: Respond<S>, W: Sink>(
     ensures err { IfErr result (λ cause. Stops (A.gives responder.now) cause true []
         progress.old (record { state = state.old; held = W.contents writer.old })
         progress.new (record { state = state.new; held = W.contents writer.new })) }
+    ensures grows { progress.old.answered ≤ progress.new.answered }
     ensures goes_on { OnOk result (W.can_write writer.new) }
     ensures blames { IfErr result (λ cause. BlamesWriter (cause_of cause) (W.has_failed writer.new) (W.can_write writer.new)) }
 {
@@ -214,11 +216,12 @@ fn serve_reads<S, A: Respond<S>, R: Source, W: Sink>(
 
 /// Reads a stream and answers its requests, each as soon as it is whole, until the stream ends.
 ///
-/// Of a reader whose bytes are known at most 27,852,800 are read. Nothing is tried twice: after a read that
-/// failed or gave no byte the reader isn't read, nor is the writer written after a write that failed or took none. A fault tells how many requests were
-/// handed on as commands, whose effects stand, and how many answers were written whole. `Read` comes after all requests that
-/// were whole before it, and only where the reader failed; `Write` only where the writer failed, or took no byte; and `Memory`
-/// only where neither did.
+/// Of a reader whose bytes are known at most 27,852,800 are read, and none behind what ends the stream or the run, but the piece
+/// of at most 8,192 bytes in which that lay. Nothing is tried twice: after a read that failed or gave no byte the reader isn't
+/// read, nor is the writer written after a write that failed or took none. A fault tells how many requests were handed on as
+/// commands, whose effects stand, and how many answers were written whole. `Read` comes after all requests that were whole
+/// before it, and only where the reader failed; `Write` only where the writer failed, or took no byte; and `Memory` only where
+/// neither did.
 pub fn serve<S, A: Respond<S>, R: Source, W: Sink>(
     alloc: Global,
     responder: &A,

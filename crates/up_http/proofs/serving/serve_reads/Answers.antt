@@ -1,35 +1,53 @@
-use Rattle.std.proofs.Common.{◌⊎◌, inl, inr, ◌≡◌, ◌≤◌, ◌+◌, ◌-◌, ◌++◌, ◌∙◌, ℕ, List, [], false, length, take, drop, sym, ap, subst, arith, length-append, length-drop, append_assoc, append-nil}
+use Rattle.std.proofs.Common.{◌⊎◌, inl, inr, ◌≡◌, ◌≤◌, ◌+◌, ◌-◌, ◌++◌, ◌∙◌, ℕ, List, [], true, false, length, take, drop, refl, sym, ap, subst, arith, length-append, length-drop, append_assoc, append-nil}
 use Rattle.std.proofs.lemmas.List.{length-take-le}
 use Rattle.std.specs.Prelude.{Option}
 use Rattle.std.specs.Io.KnownBytes.{Consumes}
-use Rattle.std.proofs.KnownBytes.{Consumes-nil, Consumes-trans}
-use Rattle.up_http.proofs.ServeLaws.{fresh, nearer, piece_left, room_left, ran_end, ran_stop}
+use Rattle.std.proofs.KnownBytes.{Consumes-nil, Consumes-trans, Consumes-kept}
+use Rattle.up_lines.specs.Runs.{At, LastRead}
+use Rattle.up_http.specs.Serving.{WantsMore, piece_bytes}
+use Rattle.up_http.specs.Steps.{Sofar}
+use Rattle.up_http.proofs.ServeLaws.{fresh, nearer, piece_left, last_read, read_later, room_left, ran_end, ran_failed, ran_over, ran_stop}
 use Rattle.up_http.proofs.Blaming.{blames_all, blames_both, stands_all}
 use Rattle.up_http.proofs.serving.serve_reads.Goals as goal
 
 pub loop-progress-init : goal.loop-progress-init
-loop-progress-init g c = ([], Consumes-nil _, fresh (g.A.Respond.gives c.args.responder.now) _ c.args.progress.now c.requires.fresh.feeder c.requires.fresh.none_called c.requires.fresh.none_answered, omega arith, omega arith, omega arith, omega arith, c.requires.can_read, c.requires.can_write)
+loop-progress-init g c =
+    let first : At g.row.S.Denot = record { state = c.args.state.now; held = g.W.Sink.contents c.args.writer.now } in
+    let so : Sofar (g.A.Respond.gives c.args.responder.now) first [] c.args.progress.now first =
+    fresh (g.A.Respond.gives c.args.responder.now) first c.args.progress.now c.requires.fresh.feeder c.requires.fresh.none_called c.requires.fresh.none_answered in (
+      [],
+      Consumes-nil _,
+      so,
+      omega arith,
+      omega arith,
+      omega arith,
+      omega arith,
+      c.requires.can_read,
+      c.requires.can_write,
+      last_read (g.A.Respond.gives c.args.responder.now) first [] [] [] false c.args.progress.now first c.args.progress.now.answered so (ap (λ f. f.ended) c.requires.fresh.feeder) (omega arith) refl (omega arith) (λ h. absurd (cc)),
+    )
 
 -- the length of what is left of a piece
 left : (xs : List ℕ) (at filled : ℕ) → at ≤ filled → filled ≤ length xs → length (take (filled - at) (drop at xs)) ≡ filled - at
 left xs at filled h k = length-take-le (filled - at) (drop at xs) (omega (arith, length-drop at xs))
 
 pub loop-progress-smaller-in-Ok : goal.loop-progress-smaller-in-Ok
-loop-progress-smaller-in-Ok g c = let (came, read, so, budget, inside, within, room, can_read, can_write) = c.loop-progress.invariant in
+loop-progress-smaller-in-Ok g c = let (came, read, so, budget, inside, within, room, can_read, can_write, last) = c.loop-progress.invariant in
     nearer c.loop-progress.most c.loop-progress.at c.loop-progress.filled c.in-Ok.taken c.loop-progress.progress.feeder.given c.serve_piece.new.progress.feeder.given _ c.if-at-filled.true
     (left c.loop-progress.buffer c.loop-progress.at c.loop-progress.filled inside within) c.in-Ok.ensures.taken.0 c.in-Ok.ensures.taken.1
 
 pub loop-progress-preserved-in-Ok : goal.loop-progress-preserved-in-Ok
-loop-progress-preserved-in-Ok g c = let (came, read, so, budget, inside, within, room, can_read, can_write) = c.loop-progress.invariant in
+loop-progress-preserved-in-Ok g c = let (came, read, so, budget, inside, within, room, can_read, can_write, last) = c.loop-progress.invariant in
     let n = c.in-Ok.taken in
     let piece = take (c.loop-progress.filled - c.loop-progress.at) (drop c.loop-progress.at c.loop-progress.buffer) in
     let long : length piece ≡ c.loop-progress.filled - c.loop-progress.at = left c.loop-progress.buffer c.loop-progress.at c.loop-progress.filled inside within in
     let few : n ≤ length piece = c.in-Ok.ensures.taken.0 in
-    let some : length (take n piece) ≡ n = length-take-le n piece few in (
+    let some : length (take n piece) ≡ n = length-take-le n piece few in
+    let behind = take (c.loop-progress.filled - (c.loop-progress.at + n)) (drop (c.loop-progress.at + n) c.loop-progress.buffer) in
+    let same : came ++ piece ≡ (came ++ take n piece) ++ behind =
+    ap (λ l. came ++ l) (sym (piece_left c.loop-progress.buffer c.loop-progress.at c.loop-progress.filled n (omega arith))) ∙ sym (append_assoc came (take n piece) behind) in (
       came ++ take n piece,
-      subst (Consumes (g.R.Source.remaining c.args.reader.now) (g.R.Source.remaining c.loop-progress.reader))
-          (ap (λ l. came ++ l) (sym (piece_left c.loop-progress.buffer c.loop-progress.at c.loop-progress.filled n (omega arith)))
-          ∙ sym (append_assoc came (take n piece) (take (c.loop-progress.filled - (c.loop-progress.at + n)) (drop (c.loop-progress.at + n) c.loop-progress.buffer)))) read,
+      subst (Consumes (g.R.Source.remaining c.args.reader.now) (g.R.Source.remaining c.loop-progress.reader)) same read,
       c.in-Ok.ensures.ok _ came so,
       omega (arith, budget, some, few, long, length-append came (take n piece)),
       omega (arith, few, long),
@@ -37,6 +55,35 @@ loop-progress-preserved-in-Ok g c = let (came, read, so, budget, inside, within,
       room,
       can_read,
       c.in-Ok.ensures.goes_on,
+      read_later _ _ _ c.in-Ok.ensures.grows (subst (λ l. LastRead piece_bytes (WantsMore c.loop-progress.progress.answered) l false) same last),
+    )
+
+-- nothing is left of the piece, and more was read
+consumed_more : (had mid has : Option (List ℕ)) (came piece more : List ℕ) (k : ℕ) → k ≡ 0 → Consumes had mid (came ++ take k piece) → Consumes mid has more → Consumes had has (came ++ more)
+consumed_more had mid has came piece more k none p q =
+    Consumes-trans had mid has came more (subst (Consumes had mid) (append-nil came) (subst (λ k. Consumes had mid (came ++ take k piece)) none p)) q
+
+pub loop-progress-preserved : goal.loop-progress-preserved
+loop-progress-preserved g c = let (came, read, so, budget, inside, within, room, can_read, can_write, last) = c.loop-progress.invariant in
+    let n = c.in-Ok-read_piece.n in
+    let none : c.loop-progress.filled - c.loop-progress.at ≡ 0 = omega (arith, c.if-at-filled.false) in
+    let goes_on : c.loop-progress.progress.feeder.ended ≡ false = sym c.loop-progress.progress.ends ∙ c.loop-progress-test.true in
+    let fits : n ≤ length c.read_piece.new.buffer = c.in-Ok-read_piece.ensures.count.0 in
+    let few : n ≤ c.loop-progress.most = c.in-Ok-read_piece.ensures.count.1 in
+    let long : length (take n c.read_piece.new.buffer) ≡ n = length-take-le n c.read_piece.new.buffer fits in
+    let size : length c.read_piece.new.buffer ≡ piece_bytes = c.read_piece.auto.buffer ∙ room in
+    let whole : came ++ take n c.read_piece.new.buffer ≡ came ++ take (n - 0) c.read_piece.new.buffer = ap (λ k. came ++ take k c.read_piece.new.buffer) (omega arith) in (
+      came,
+      subst (Consumes (g.R.Source.remaining c.args.reader.now) (g.R.Source.remaining c.read_piece.new.reader)) whole
+          (consumed_more _ (g.R.Source.remaining c.loop-progress.reader) _ came (drop c.loop-progress.at c.loop-progress.buffer) (take n c.read_piece.new.buffer) (c.loop-progress.filled - c.loop-progress.at) none read c.in-Ok-read_piece.ensures.bytes),
+      so,
+      omega (arith, budget, none, few),
+      omega arith,
+      fits,
+      size,
+      c.in-Ok-read_piece.ensures.goes_on (omega arith),
+      can_write,
+      last_read (g.A.Respond.gives c.args.responder.now) _ came (take n c.read_piece.new.buffer) _ false c.loop-progress.progress _ _ so goes_on (omega arith) (sym whole) (omega (arith, long, fits, size)) (λ h. absurd (cc)),
     )
 
 -- nothing is left of the piece, and nothing was read
@@ -46,38 +93,55 @@ consumed_none had mid has came piece buffer k n none none' p q =
     (Consumes-trans had mid has (came ++ []) [] (subst (λ k. Consumes had mid (came ++ take k piece)) none p) (subst (λ n. Consumes mid has (take n buffer)) none' q))
 
 pub returns-in-Ok-eq0-clause-ran : goal.returns-in-Ok-eq0-clause-ran
-returns-in-Ok-eq0-clause-ran g c = let (came, read, so, budget, inside, within, room, can_read, can_write) = c.loop-progress.invariant in
+returns-in-Ok-eq0-clause-ran g c = let (came, read, so, budget, inside, within, room, can_read, can_write, last) = c.loop-progress.invariant in
     let none : c.loop-progress.filled - c.loop-progress.at ≡ 0 = omega (arith, c.if-at-filled.false) in
     let goes_on : c.loop-progress.progress.feeder.ended ≡ false = sym c.loop-progress.progress.ends ∙ c.loop-progress-test.true in
     let below = room_left (g.A.Respond.gives c.args.responder.now) _ came c.loop-progress.progress _ so goes_on in
     ran_end (g.A.Respond.gives c.args.responder.now) c.finish.result _ _ (g.R.Source.remaining c.args.reader.now) (g.R.Source.remaining c.read_piece.new.reader) came c.loop-progress.progress _ c.finish.new.progress
     (consumed_none _ (g.R.Source.remaining c.loop-progress.reader) _ came (drop c.loop-progress.at c.loop-progress.buffer) c.read_piece.new.buffer (c.loop-progress.filled - c.loop-progress.at) c.in-Ok-eq0.field-0 none c.in-Ok-eq0.field-0-test read c.in-Ok-eq0.ensures.bytes)
-    (omega (arith, below)) (c.in-Ok-eq0.ensures.end c.in-Ok-eq0.field-0-test (omega (arith, below, budget, none)) room) so c.finish.ensures.ok c.finish.ensures.err
+    (omega (arith, below)) (c.in-Ok-eq0.ensures.end c.in-Ok-eq0.field-0-test (omega (arith, below, budget, none)) (omega (arith, room))) so c.finish.ensures.ok c.finish.ensures.err goes_on c.finish.ensures.grows
 
 pub returns-in-Err-clause-ran : goal.returns-in-Err-clause-ran
-returns-in-Err-clause-ran g c = let (came, read, so, budget, inside, within, room, can_read, can_write) = c.loop-progress.invariant in
+returns-in-Err-clause-ran g c = let (came, read, so, budget, inside, within, room, can_read, can_write, last) = c.loop-progress.invariant in
     let piece = take (c.loop-progress.filled - c.loop-progress.at) (drop c.loop-progress.at c.loop-progress.buffer) in
     ran_stop (g.A.Respond.gives c.args.responder.now) c.in-Err.cause _ _ _ _ (came ++ piece) c.serve_piece.new.progress read
     (omega (arith, budget, left c.loop-progress.buffer c.loop-progress.at c.loop-progress.filled inside within, length-append came piece)) (c.in-Err.ensures.err _ came so)
+    (read_later _ _ _ c.in-Err.ensures.grows last)
+
+pub returns-in-Err-read_piece-clause-ran : goal.returns-in-Err-read_piece-clause-ran
+returns-in-Err-read_piece-clause-ran g c = let (came, read, so, budget, inside, within, room, can_read, can_write, last) = c.loop-progress.invariant in
+    let none : c.loop-progress.filled - c.loop-progress.at ≡ 0 = omega (arith, c.if-at-filled.false) in
+    let goes_on : c.loop-progress.progress.feeder.ended ≡ false = sym c.loop-progress.progress.ends ∙ c.loop-progress-test.true in
+    ran_failed (g.A.Respond.gives c.args.responder.now) _ _ _ _ came c.loop-progress.progress
+    (Consumes-kept _ (g.R.Source.remaining c.loop-progress.reader) _ came
+    (consumed_none _ _ _ came (drop c.loop-progress.at c.loop-progress.buffer) [] (c.loop-progress.filled - c.loop-progress.at) 0 none refl read (Consumes-nil _)) c.in-Err-read_piece.ensures.err)
+    (omega (arith, budget)) goes_on so
+
+pub returns-clause-ran : goal.returns-clause-ran
+returns-clause-ran g c = let (came, read, so, budget, inside, within, room, can_read, can_write, last) = c.loop-progress.invariant in
+    let piece = take (c.loop-progress.filled - c.loop-progress.at) (drop c.loop-progress.at c.loop-progress.buffer) in
+    let ended : c.loop-progress.progress.feeder.ended ≡ true = sym c.loop-progress.progress.ends ∙ c.loop-progress-test.false in
+    ran_over (g.A.Respond.gives c.args.responder.now) _ _ _ _ came piece c.loop-progress.progress read
+    (omega (arith, budget, left c.loop-progress.buffer c.loop-progress.at c.loop-progress.filled inside within, length-append came piece)) ended so last
 
 pub returns-in-Ok-eq0-clause-blames : goal.returns-in-Ok-eq0-clause-blames
-returns-in-Ok-eq0-clause-blames g c = let (came, read, so, budget, inside, within, room, can_read, can_write) = c.loop-progress.invariant in
+returns-in-Ok-eq0-clause-blames g c = let (came, read, so, budget, inside, within, room, can_read, can_write, last) = c.loop-progress.invariant in
     let none : c.loop-progress.filled - c.loop-progress.at ≡ 0 = omega (arith, c.if-at-filled.false) in
     let goes_on : c.loop-progress.progress.feeder.ended ≡ false = sym c.loop-progress.progress.ends ∙ c.loop-progress-test.true in
     let below = room_left (g.A.Respond.gives c.args.responder.now) _ came c.loop-progress.progress _ so goes_on in
     blames_all c.finish.result (g.R.Source.has_failed c.read_piece.new.reader) (g.R.Source.can_read c.read_piece.new.reader ⊎ g.R.Source.has_ended c.read_piece.new.reader)
     (g.W.Sink.has_failed c.finish.new.writer) (g.W.Sink.can_write c.finish.new.writer)
-    (inr (c.in-Ok-eq0.ensures.ended c.in-Ok-eq0.field-0-test (omega (arith, below, budget, none)) room)) c.finish.ensures.blames
+    (inr (c.in-Ok-eq0.ensures.ended c.in-Ok-eq0.field-0-test (omega (arith, below, budget, none)) (omega (arith, room)))) c.finish.ensures.blames
 
 pub returns-in-Ok-eq0-clause-stands : goal.returns-in-Ok-eq0-clause-stands
-returns-in-Ok-eq0-clause-stands g c = let (came, read, so, budget, inside, within, room, can_read, can_write) = c.loop-progress.invariant in
+returns-in-Ok-eq0-clause-stands g c = let (came, read, so, budget, inside, within, room, can_read, can_write, last) = c.loop-progress.invariant in
     let none : c.loop-progress.filled - c.loop-progress.at ≡ 0 = omega (arith, c.if-at-filled.false) in
     let goes_on : c.loop-progress.progress.feeder.ended ≡ false = sym c.loop-progress.progress.ends ∙ c.loop-progress-test.true in
     let below = room_left (g.A.Respond.gives c.args.responder.now) _ came c.loop-progress.progress _ so goes_on in
-    let ended : g.R.Source.has_ended c.read_piece.new.reader = c.in-Ok-eq0.ensures.ended c.in-Ok-eq0.field-0-test (omega (arith, below, budget, none)) room in
+    let ended : g.R.Source.has_ended c.read_piece.new.reader = c.in-Ok-eq0.ensures.ended c.in-Ok-eq0.field-0-test (omega (arith, below, budget, none)) (omega (arith, room)) in
     stands_all c.finish.result (inr ended)
 
 pub returns-in-Err-clause-blames : goal.returns-in-Err-clause-blames
-returns-in-Err-clause-blames g c = let (came, read, so, budget, inside, within, room, can_read, can_write) = c.loop-progress.invariant in
+returns-in-Err-clause-blames g c = let (came, read, so, budget, inside, within, room, can_read, can_write, last) = c.loop-progress.invariant in
     blames_both c.in-Err.cause (g.R.Source.has_failed c.loop-progress.reader) (g.R.Source.can_read c.loop-progress.reader ⊎ g.R.Source.has_ended c.loop-progress.reader)
     (g.W.Sink.has_failed c.serve_piece.new.writer) (g.W.Sink.can_write c.serve_piece.new.writer) (inl can_read) c.in-Err.ensures.blames
