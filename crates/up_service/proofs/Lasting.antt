@@ -1,6 +1,6 @@
 -- What a whole run comes to, item by item.
 use Rattle.std.proofs.Common.{◌≡◌, inl, inr, ℕ, zero, suc, List, [], ◌∷◌, ◌++◌, Bool, true, false, Option, Some, None, length, length-append, refl, sym, subst, ap, ◌∙◌, arith}
-use Rattle.std.specs.Prelude.{◌⊎◌, ◌||◌, ⊤, IsTrue, if◌then◌else◌, bytes_eq}
+use Rattle.std.specs.Prelude.{◌⊎◌, ◌||◌, IsTrue, if◌then◌else◌, bytes_eq}
 use Rattle.std.specs.Cmp.Lexicographic.{bytes_decides}
 use Rattle.sqlite_trees.specs.View.{doubt}
 use Rattle.sqlite.specs.Tree.{Trees}

@@ -1,6 +1,6 @@
 -- What whole scripts and whole streams come to.
-use Rattle.std.proofs.Common.{◌≡◌, inl, inr, ℕ, List, Bool, true, false, Option, Some, None, Result, Ok, Err, refl, sym, subst, ap, ◌∙◌}
-use Rattle.std.specs.Prelude.{◌⊎◌, ◌||◌, [], ◌++◌, bytes_eq, MatchResult}
+use Rattle.std.proofs.Common.{◌≡◌, inl, ℕ, List, Bool, true, false, Option, Some, None, Result, Ok, Err, refl, sym, subst, ap, ◌∙◌}
+use Rattle.std.specs.Prelude.{◌||◌, [], ◌++◌, bytes_eq, MatchResult}
 use Rattle.std.specs.Cmp.Lexicographic.{bytes_decides}
 use Rattle.sqlite_trees.specs.declared.store.Store.{Ghosts}
 use Rattle.up_canon.specs.declared.refusal.Refusal.{Refusal}
@@ -11,7 +11,6 @@ use Rattle.up_machine.specs.declared.answer.Answer.TheVariants.{Refused}
 use Rattle.up_machine.specs.declared.command.Command.{Command}
 use Rattle.up_machine.specs.Laws.{RefusalsChangeNothing}
 use Rattle.up_machine.specs.Repeats.{KeptEntry, repeat_of, serve, served_as}
-use Rattle.up_machine.specs.Sound.{IsSound}
 use Rattle.up_machine.specs.State.{State}
 use Rattle.up_script.specs.AskedLines.{asked_in}
 use Rattle.up_script.specs.PrintedLines.{answer_text, refused_text}
@@ -19,9 +18,7 @@ use Rattle.up_script.specs.declared.asked.Asked.{Asked}
 use Rattle.up_script.specs.declared.asked.What.{What}
 use Rattle.up_script.specs.declared.asked.What.TheVariants.{Call, Show}
 use Rattle.up_heads.specs.Responses.{check_response_of, refusal_response_of}
-use Rattle.up_heads.specs.declared.check.Check.{Check}
 use Rattle.up_http.specs.Serving.{RanRequests, FinishedRequests, Stopped, cause_of, plain}
-use Rattle.up_http.specs.declared.asked.Next.{Next}
 use Rattle.up_http.specs.declared.asked.What.{What as Requested}
 use Rattle.up_http.specs.declared.asked.What.TheVariants.{Call as Request, Fixed}
 use Rattle.up_http.specs.declared.fault.ServeFault.{ServeFault}
@@ -31,7 +28,7 @@ use Rattle.up_lines.specs.Runs.{At}
 use Rattle.up_lines.specs.declared.fault.ScriptFault.{ScriptFault}
 use Rattle.up_desk.specs.Serving.{is_fault}
 use Rattle.up_desk.specs.Standing.{DeskView, Standing, state}
-use Rattle.up_service.specs.Answers.{AnswersAs, HoldsNext, answered_as}
+use Rattle.up_service.specs.Answers.{AnswersAs, HoldsNext}
 use Rattle.up_service.specs.LineAnswers.{Lines, line_answer, answer_to, carried_out}
 use Rattle.up_service.specs.Responses.{Responses, IsResponseTo, answer_response}
 use Rattle.up_service.specs.Runs.{Service, Told, tells_fault}
@@ -112,7 +109,7 @@ requests_serve {K} {D} rules g at old new next text h = by_what next.what h
       ap (λ (d : DeskView K D). d.scheme) is.1,
       subst (λ (d : DeskView K D). AnswersAs (λ r. refusal_response_of r next.last next.head) (λ s. record { text = check_response_of check next.last next.head; called = None; next = s }) (rules old.scheme) text
           (state g old.store) (state g d.store)) (sym is.1)
-      (fixed_answers (λ r. refusal_response_of r next.last next.head) (rules old.scheme) (check_response_of check next.last next.head) text (state g old.store) is.0),
+          (fixed_answers (λ r. refusal_response_of r next.last next.head) (rules old.scheme) (check_response_of check next.last next.head) text (state g old.store) is.0),
     )
 
 -- ---- scripts
