@@ -27,3 +27,4 @@ pub mod OneKeys
 pub mod RootMoments
 pub mod RootTexts
 pub mod OneState
+pub mod MemoryAlone

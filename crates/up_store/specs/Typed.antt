@@ -1,15 +1,20 @@
 -- What the types of rows say of them: each stands under its own name, what is kept as JSON can be read again, the text of an ECU's last
 -- report has the second hash of the installed image, and an ECU was replaced in a vehicle that is there.
-use Rattle.std.specs.Prelude.{◌≡◌, ◌≤◌, [], Some, None, true, length}
+use Rattle.std.specs.Prelude.{◌≡◌, ◌≤◌, ◌<◌, ◌^◌, [], Some, None, IfSome, true, length}
 use Rattle.std.specs.List.{AllByRecursion, list_all}
 use Rattle.std.specs.FinMap as table
+use Rattle.up_canon.specs.Canon.{max_count}
+use Rattle.up_canon.specs.Moments.{last_moment}
 use Rattle.up_canon.specs.Names.{Name, is_ident, is_file_name}
-use Rattle.up_plan.specs.Campaigns.{CampaignData}
-use Rattle.up_plan.specs.Images.{ImageData}
+use Rattle.up_manifest.specs.declared.report.Installed.{Installed}
+use Rattle.up_plan.specs.Campaigns.{CampaignData, campaign_fits}
+use Rattle.up_plan.specs.Images.{ImageData, image_fits}
 use Rattle.up_metadata.specs.declared.keys.RoleSecrets.{RoleSecrets}
 use Rattle.up_metadata.specs.declared.keys.RepoKeys.{RepoKeys}
 use Rattle.up_metadata.specs.declared.keys.KeySet.{KeySet}
 use Rattle.up_machine.specs.declared.rows.VehicleRows.{VehicleRows}
+use Rattle.up_machine.specs.declared.rows.EcuRow.{EcuRow}
+use Rattle.up_machine.specs.declared.rows.Founding.{Founding}
 use Rattle.up_machine.specs.declared.rows.Kept.{Kept}
 use Rattle.up_rows.specs.SecondHashes.{TellsItsHash}
 use Rattle.up_rows.specs.StateRows.{StateRows}
@@ -55,6 +60,49 @@ pub record IsTypedVehicle (name : Name) (rows : VehicleRows) : Type 0 where
 pub record IsTypedKept (vehicle : Name) (row : Kept) : Type 0 where
   pub named : row.vehicle ≡ vehicle
   pub plan : is_typed_plan row.plan ≡ true
+
+-- ---- values of their types: their names, counts and moments are such, and their members within their limits
+
+pub record IsValidImage (image : ImageData) : Type 0 where
+  pub file : is_file_name image.file ≡ true
+  pub size : image.length ≤ max_count
+  pub sha256 : length image.sha256 ≡ 32
+  pub release : image.release ≤ max_count
+  pub fits : image_fits image ≡ true
+
+pub record IsValidCampaign (campaign : CampaignData) : Type 0 where
+  pub name : is_ident campaign.name ≡ true
+  pub fits : campaign_fits campaign ≡ true
+
+pub record IsValidKept (row : Kept) : Type 0 where
+  pub vehicle : is_ident row.vehicle ≡ true
+  pub counter : row.counter ≤ max_count
+  pub moment : row.at ≤ last_moment
+
+pub record IsValidInstalled (installed : Installed) : Type 0 where
+  pub file : is_file_name installed.file ≡ true
+  pub size : installed.length ≤ max_count
+  pub sha256 : length installed.sha256 ≡ 32
+
+pub record IsValidEcu (row : EcuRow) : Type 0 where
+  pub ecu : is_ident row.ecu ≡ true
+  pub hardware : is_ident row.hardware ≡ true
+  pub installed : IfSome row.installed IsValidInstalled
+  pub counter : row.counter ≤ max_count
+
+abbrev pub IsValidRole : RoleSecrets → Type 0
+IsValidRole role = role.threshold < 2 ^ 32
+
+pub record AreValidKeys (keys : RepoKeys) : Type 0 where
+  pub root : IsValidRole keys.root
+  pub targets : IsValidRole keys.targets
+  pub snapshot : IsValidRole keys.snapshot
+  pub timestamp : IsValidRole keys.timestamp
+
+pub record IsValidFounding (founding : Founding) : Type 0 where
+  pub director : AreValidKeys founding.keys.director
+  pub image : AreValidKeys founding.keys.image
+  pub stamp : founding.stamp ≤ last_moment
 
 -- ---- all rows
 

@@ -1,5 +1,5 @@
 //! The rows of campaigns, read and made.
-ghost use Rattle.std.specs.Prelude.{◌≡◌, ◌&&◌, if◌then◌else◌, false, string_bytes, IfOk, OnOk};
+ghost use Rattle.std.specs.Prelude.{◌≡◌, ◌&&◌, if◌then◌else◌, false, string_bytes, IfOk, IfErr, OnOk};
 ghost use Rattle.std.specs.FinMap as table;
 ghost use Rattle.up_canon.specs.Canon.{quoted as quoted_text};
 ghost use Rattle.up_canon.specs.Names.{Name, Table as Named};
@@ -9,7 +9,8 @@ ghost use Rattle.up_plan.specs.Planning.{reaches as is_reached};
 ghost use Rattle.up_plan.specs.declared.campaign.Reach.{Reach as ReachData};
 ghost use Rattle.up_store.specs.ColumnRows.{IsCampaign, AreRunning};
 ghost use Rattle.up_store.specs.Found.{values_where};
-ghost use Rattle.up_store.specs.Typed.{IsTypedCampaign};
+ghost use Rattle.up_store.specs.Typed.{IsTypedCampaign, IsValidCampaign};
+ghost use Rattle.up_tables.specs.declared.values.StoreFault.TheVariants.{Memory};
 
 use crate::column_values::{ident_in, read_column};
 use crate::image_rows::name_of;
@@ -22,10 +23,12 @@ use up_columns::campaigns::{items_text, reach_text, read_campaign_items, read_re
 use up_plan::campaign::{Campaign, Reach};
 use up_tables::campaign::CampaignRow;
 
-/// A row as it stands in the table, read.
+/// A row as it stands in the table, read; of a row that stands for a campaign, `Memory` is the one fault.
 pub fn read_campaign(alloc: Global, shown: &CampaignRow) -> Result<Campaign, StoreFault>
-    ensures { IfOk result (λ read. (name : Name) (campaign : CampaignData)
+    ensures same { IfOk result (λ read. (name : Name) (campaign : CampaignData)
         → IsTypedCampaign name campaign → IsCampaign shown.now campaign → read ≡ campaign) }
+    ensures fault { (name : Name) (campaign : CampaignData) → IsTypedCampaign name campaign → IsValidCampaign campaign
+        → IsCampaign shown.now campaign → IfErr result (λ fault. fault ≡ Memory) }
 {
     let reach = read_its_reach(alloc, shown)?;
     read_reached(alloc, shown, reach)
@@ -33,8 +36,10 @@ pub fn read_campaign(alloc: Global, shown: &CampaignRow) -> Result<Campaign, Sto
 
 /// The same, once the reach was read.
 fn read_reached(alloc: Global, shown: &CampaignRow, reach: Reach) -> Result<Campaign, StoreFault>
-    ensures { IfOk result (λ read. (name : Name) (campaign : CampaignData)
+    ensures same { IfOk result (λ read. (name : Name) (campaign : CampaignData)
         → IsTypedCampaign name campaign → IsCampaign shown.now campaign → reach ≡ campaign.reach → read ≡ campaign) }
+    ensures fault { (name : Name) (campaign : CampaignData) → IsTypedCampaign name campaign → IsValidCampaign campaign
+        → IsCampaign shown.now campaign → reach ≡ campaign.reach → IfErr result (λ fault. fault ≡ Memory) }
 {
     let text = shown.name.as_str().to_string(alloc)?;
     let name = ident_in(text)?;
@@ -125,8 +130,10 @@ fn put_reached(
 
 /// The reach in a row as it stands in the table, read.
 fn read_its_reach(alloc: Global, shown: &CampaignRow) -> Result<Reach, StoreFault>
-    ensures { IfOk result (λ read. (name : Name) (campaign : CampaignData)
+    ensures same { IfOk result (λ read. (name : Name) (campaign : CampaignData)
         → IsTypedCampaign name campaign → IsCampaign shown.now campaign → read ≡ campaign.reach) }
+    ensures fault { (name : Name) (campaign : CampaignData) → IsTypedCampaign name campaign → IsCampaign shown.now campaign
+        → IfErr result (λ fault. fault ≡ Memory) }
 {
     read_column(read_reach(alloc, shown.reach.as_str()))
 }

@@ -1,12 +1,12 @@
 //! Columns as values of their types: a column that isn't one is answered `Store`.
-ghost use Rattle.std.specs.Prelude.{◌≡◌, ◌≢◌, ◌<◌, ◌≤◌, ◌^◌, false, length, Ok, Err, IfOk, IfErr, string_bytes};
+ghost use Rattle.std.specs.Prelude.{◌≡◌, ◌≢◌, ◌<◌, ◌≤◌, ◌^◌, false, length, Ok, Err, IfOk, IfErr, OnOk, string_bytes};
 ghost use Rattle.up_canon.specs.Canon.{max_count};
 ghost use Rattle.up_canon.specs.Moments.{last_moment};
 ghost use Rattle.up_canon.specs.Names.{is_ident, is_file_name};
 ghost use Rattle.up_tables.specs.declared.values.StoreFault.TheVariants.{Store};
 ghost use Rattle.up_store.specs.ColumnRows.{column_fault};
 
-use crate::store::StoreFault;
+use crate::store::{MOST_NUMBER, MOST_ROWS, StoreFault};
 use up_canon::count::Count;
 use up_canon::file_name::FileName;
 use up_canon::ident::Ident;
@@ -102,4 +102,26 @@ pub fn read_column<T: Drop>(read: Result<T, Refusal>) -> Result<T, StoreFault>
         Err(Refusal::Memory) => Err(StoreFault::Memory),
         Err(_) => Err(StoreFault::Store),
     }
+}
+
+/// Refuses a version of 2^63 or more, which no column holds.
+pub fn check_version(version: u64) -> Result<(), StoreFault>
+    ensures ok { OnOk result (version < 2 ^ 63) }
+    ensures fault { IfErr result (λ fault. (fault ≡ Store) × (2 ^ 63 ≤ version)) }
+{
+    if version > MOST_NUMBER {
+        return Err(StoreFault::Store);
+    }
+    Ok(())
+}
+
+/// Refuses 2^63 rows of a vehicle or more, whose places no column holds.
+pub fn check_places(rows: usize) -> Result<(), StoreFault>
+    ensures ok { OnOk result (rows < 2 ^ 63) }
+    ensures fault { IfErr result (λ fault. (fault ≡ Store) × (2 ^ 63 ≤ rows)) }
+{
+    if rows > MOST_ROWS {
+        return Err(StoreFault::Store);
+    }
+    Ok(())
 }

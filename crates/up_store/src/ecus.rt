@@ -4,10 +4,11 @@ ghost use Rattle.std.specs.List.{AllByRecursion};
 ghost use Rattle.std.specs.Prelude.{◌≢◌, ◌≤◌, true, length, IfErr, MatchOption};
 ghost use Rattle.up_canon.specs.Canon.{max_count};
 ghost use Rattle.up_canon.specs.Names.{is_file_name};
-ghost use Rattle.up_tables.specs.declared.values.StoreFault.TheVariants.{Store};
+ghost use Rattle.up_tables.specs.declared.values.StoreFault.TheVariants.{Memory, Store};
 ghost use Rattle.up_rows.specs.SecondHashes.{TellsItsHash};
 ghost use Rattle.up_tables.specs.Ecus.{FitEcu};
 ghost use Rattle.up_store.specs.Shown.{ecu_read, installed_read, reported_sha512};
+ghost use Rattle.up_store.specs.Typed.{IsValidEcu};
 
 use crate::column_values::{count_in, file_name_in, ident_in, sha256_in};
 use crate::store::StoreFault;
@@ -31,9 +32,10 @@ pub fn read_ecus(alloc: Global, shown: Vec<EcuShown>) -> Result<Listed<EcuRow>, 
     Ok(Listed::new(read))
 }
 
-/// A row as it stands in the table, read.
+/// A row as it stands in the table, read; of a row that stands for an ECU, `Memory` is the one fault.
 fn read_ecu(alloc: Global, shown: EcuShown) -> Result<EcuRow, StoreFault>
-    ensures { IfOk result (λ read. read ≡ ecu_read shown) }
+    ensures same { IfOk result (λ read. read ≡ ecu_read shown) }
+    ensures fault { IsValidEcu (ecu_read shown) → IfErr result (λ fault. fault ≡ Memory) }
 {
     let sha512 = told_sha512(alloc, &shown.report)?;
     Ok(EcuRow {

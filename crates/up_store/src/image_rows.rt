@@ -1,10 +1,11 @@
 //! The rows of images, read and made.
-ghost use Rattle.std.specs.Prelude.{◌≡◌, IfOk, OnOk, option_map};
+ghost use Rattle.std.specs.Prelude.{◌≡◌, IfOk, IfErr, OnOk, option_map};
 ghost use Rattle.up_canon.specs.Names.{Name, Table as Named};
 ghost use Rattle.up_plan.specs.Images.{ImageData};
 ghost use Rattle.up_tables.specs.Forms.{FitImage};
 ghost use Rattle.up_store.specs.ColumnRows.{IsImage, AreImages, AreHashesOf};
-ghost use Rattle.up_store.specs.Typed.{IsTypedImage};
+ghost use Rattle.up_store.specs.Typed.{IsTypedImage, IsValidImage};
+ghost use Rattle.up_tables.specs.declared.values.StoreFault.TheVariants.{Memory};
 ghost use Rattle.std.specs.FinMap as table;
 
 use crate::column_values::{count_in, file_name_in, read_column, sha256_in};
@@ -29,10 +30,11 @@ struct ImageLists {
     conflicts: Listed<FileName>,
 }
 
-/// The lists of a row as it stands in the table, read.
+/// The lists of a row as it stands in the table, read; of a row that stands for an image, `Memory` is the one fault.
 fn read_lists(alloc: Global, shown: &ImageRow) -> Result<ImageLists, StoreFault>
-    ensures { IfOk result (λ lists. (file : Name) (image : ImageData) → IsTypedImage file image → IsImage shown.now image
+    ensures same { IfOk result (λ lists. (file : Name) (image : ImageData) → IsTypedImage file image → IsImage shown.now image
         → (lists.hardware ≡ image.hardware) × (lists.needs ≡ image.needs) × (lists.conflicts ≡ image.conflicts)) }
+    ensures fault { (file : Name) (image : ImageData) → IsTypedImage file image → IsImage shown.now image → IfErr result (λ fault. fault ≡ Memory) }
 {
     let hardware = read_column(read_names(alloc, shown.hardware.as_str()))?;
     let needs = read_column(read_needs(alloc, shown.needs.as_str()))?;
@@ -44,14 +46,16 @@ fn read_lists(alloc: Global, shown: &ImageRow) -> Result<ImageLists, StoreFault>
     })
 }
 
-/// A row as it stands in the table, read, with the image's second hash.
+/// A row as it stands in the table, read, with the image's second hash; of a row that stands for an image, `Memory` is the one fault.
 pub fn read_image(
     alloc: Global,
     shown: ImageRow,
     sha512: Option<[u8; 64]>,
 ) -> Result<Image, StoreFault>
-    ensures { IfOk result (λ read. (file : Name) (image : ImageData)
+    ensures same { IfOk result (λ read. (file : Name) (image : ImageData)
         → IsTypedImage file image → IsImage shown image → sha512 ≡ image.sha512 → read ≡ image) }
+    ensures fault { (file : Name) (image : ImageData) → IsTypedImage file image → IsValidImage image → IsImage shown image
+        → IfErr result (λ fault. fault ≡ Memory) }
 {
     let sha256 = sha256_in(shown.sha256.as_slice())?;
     let length = count_in(shown.length)?;

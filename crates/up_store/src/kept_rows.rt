@@ -1,11 +1,11 @@
 //! The rows of kept manifests, read and made.
-ghost use Rattle.std.specs.Prelude.{◌≡◌, ◌↔◌, ◌⊎◌, ◌≤◌, ◌^◌, Err, IfOk, OnOk};
+ghost use Rattle.std.specs.Prelude.{◌≡◌, ◌↔◌, ◌⊎◌, ◌≤◌, ◌^◌, Err, IfOk, IfErr, OnOk};
 ghost use Rattle.up_canon.specs.Names.{Name};
 ghost use Rattle.up_machine.specs.declared.rows.Kept.{Kept as KeptData};
 ghost use Rattle.up_tables.specs.Forms.{FitKept};
-ghost use Rattle.up_tables.specs.declared.values.StoreFault.TheVariants.{Store};
+ghost use Rattle.up_tables.specs.declared.values.StoreFault.TheVariants.{Memory, Store};
 ghost use Rattle.up_store.specs.ColumnRows.{IsKept};
-ghost use Rattle.up_store.specs.Typed.{IsTypedKept};
+ghost use Rattle.up_store.specs.Typed.{IsTypedKept, IsValidKept};
 
 use crate::column_values::{count_in, ident_in, moment_in, read_column};
 use crate::store::{MOST_NUMBER, StoreFault};
@@ -15,9 +15,11 @@ use up_columns::plans::{plan_text, read_plan};
 use up_machine::rows::Kept;
 use up_tables::kept::KeptRow;
 
-/// A row as it stands in the table, read.
+/// A row as it stands in the table, read; of a row that stands for a kept manifest, `Memory` is the one fault.
 pub fn read_kept(alloc: Global, shown: KeptRow) -> Result<Kept, StoreFault>
-    ensures { IfOk result (λ read. (vehicle : Name) (row : KeptData) → IsTypedKept vehicle row → IsKept shown row → read ≡ row) }
+    ensures same { IfOk result (λ read. (vehicle : Name) (row : KeptData) → IsTypedKept vehicle row → IsKept shown row → read ≡ row) }
+    ensures fault { (vehicle : Name) (row : KeptData) → IsTypedKept vehicle row → IsValidKept row → IsKept shown row
+        → IfErr result (λ fault. fault ≡ Memory) }
 {
     let counter = count_in(shown.counter)?;
     let at = moment_in(shown.moment)?;

@@ -3,13 +3,17 @@ ghost use Rattle.std.specs.Prelude.{◌≡◌, ◌<◌, ◌^◌, ◌++◌, ◌�
 ghost use Rattle.sqlite.specs.declared.types.Value.TheVariants.{Int, Text, Blob};
 ghost use Rattle.up_roles.specs.declared.repository.Repository.TheVariants.{Director, Image};
 ghost use Rattle.std.specs.Prelude.{◌≤◌, ℕ, IfErr};
-ghost use Rattle.up_tables.specs.declared.values.StoreFault.TheVariants.{Store};
+ghost use Rattle.up_tables.specs.declared.values.StoreFault.TheVariants.{Memory, Store};
 ghost use Rattle.up_tables.specs.Forms.{FitRoleKey, role_key_row};
+ghost use Rattle.up_metadata.specs.declared.keys.KeySet.{KeySet as Keys};
+ghost use Rattle.up_metadata.specs.declared.keys.RepoKeys.{RepoKeys as Repo};
+ghost use Rattle.up_metadata.specs.declared.keys.RoleSecrets.{RoleSecrets as Role};
+ghost use Rattle.up_store.specs.Typed.{IsValidRole, AreValidKeys};
 ghost use Rattle.up_store.specs.Lines.{repository_lines, role_lines, repository_word as word_of};
 ghost use Rattle.up_store.specs.Shown.{is_key_of, secrets_of, threshold_of, IsRoleOf, AreKeysOf};
 
 use crate::column_values::threshold_in;
-use crate::store::{MOST_NUMBER, StoreFault};
+use crate::store::StoreFault;
 use std::alloc::{AllocError, Global};
 use up_canon::bytes::Bytes;
 use up_canon::listed::Listed;
@@ -29,10 +33,12 @@ pub fn repository_word(repository: Repository) -> &'static str
 
 // ---- read
 
-/// The keys of both repositories among the rows of a root version.
+/// The keys of both repositories among the rows of a root version; where the rows are of such keys, `Memory` is the one fault.
 pub fn read_keys(alloc: Global, rows: &[RoleKeyRow]) -> Result<KeySet, StoreFault>
     ensures director { IfOk result (λ keys. AreKeysOf (codes "director") rows.now keys.director) }
     ensures image { IfOk result (λ keys. AreKeysOf (codes "image") rows.now keys.image) }
+    ensures fault { (keys : Keys) → AreKeysOf (codes "director") rows.now keys.director → AreKeysOf (codes "image") rows.now keys.image
+        → AreValidKeys keys.director → AreValidKeys keys.image → IfErr result (λ fault. fault ≡ Memory) }
 {
     Ok(KeySet {
         director: read_repository(alloc, rows, "director")?,
@@ -40,13 +46,14 @@ pub fn read_keys(alloc: Global, rows: &[RoleKeyRow]) -> Result<KeySet, StoreFaul
     })
 }
 
-/// The keys of a repository among these rows.
+/// The keys of a repository among these rows; `Memory` is the one fault where they are there.
 fn read_repository(
     alloc: Global,
     rows: &[RoleKeyRow],
     repository: &str,
 ) -> Result<RepoKeys, StoreFault>
-    ensures { IfOk result (λ keys. AreKeysOf repository.now rows.now keys) }
+    ensures ok { IfOk result (λ keys. AreKeysOf repository.now rows.now keys) }
+    ensures fault { (keys : Repo) → AreKeysOf repository.now rows.now keys → AreValidKeys keys → IfErr result (λ fault. fault ≡ Memory) }
 {
     Ok(RepoKeys {
         root: read_role(alloc, rows, repository, "root")?,
@@ -56,14 +63,15 @@ fn read_repository(
     })
 }
 
-/// The keys of a role among these rows; `Store` where it has none.
+/// The keys of a role among these rows; `Store` where it has none, else `Memory` is the one fault.
 fn read_role(
     alloc: Global,
     rows: &[RoleKeyRow],
     repository: &str,
     role: &str,
 ) -> Result<RoleSecrets, StoreFault>
-    ensures { IfOk result (λ keys. IsRoleOf repository.now role.now rows.now keys) }
+    ensures ok { IfOk result (λ keys. IsRoleOf repository.now role.now rows.now keys) }
+    ensures fault { (keys : Role) → IsRoleOf repository.now role.now rows.now keys → IsValidRole keys → IfErr result (λ fault. fault ≡ Memory) }
 {
     Ok(RoleSecrets {
         keys: read_secrets(alloc, rows, repository, role)?,

@@ -17,10 +17,10 @@ ghost use Rattle.up_tables.specs.Stands.{IfClean, IsAsCommitted, IsInside};
 ghost use Rattle.up_tables.specs.Statements.{IsStep, IsOpenStep, OnlyReads};
 ghost use Rattle.up_store.specs.Connections.{NeedsOpen, Answers, FindsRows, PutsRows, PutsTables, TakesRows, CommitsRows, SparesRows};
 
-use crate::column_values::count_in;
+use crate::column_values::{check_places, count_in};
 use crate::ecus::make_ecus;
 use crate::kept_rows::{make_kept, read_kept};
-use crate::store::{MOST_ROWS, Store, StoreFault, commit};
+use crate::store::{Store, StoreFault, commit};
 use crate::vehicles::make_vehicle;
 use sqlite::{Alter, Transaction};
 use std::alloc::Global;
@@ -106,9 +106,7 @@ fn put_reported<D: Alter>(
 {
     let vehicle = make_vehicle(alloc, &new.vehicle)?;
     let ecus = make_ecus(alloc, new.ecus.as_slice())?;
-    if ecus.len() > MOST_ROWS {
-        return Err(StoreFault::Store);
-    }
+    check_places(ecus.len())?;
     upsert_vehicle(tx, &vehicle)?;
     upsert_ecus(tx, new.vehicle.vehicle.text(), ecus.as_slice())
 }

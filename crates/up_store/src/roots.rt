@@ -1,5 +1,5 @@
 //! Root versions and the files that are served.
-ghost use Rattle.std.specs.Prelude.{◌≡◌, ⊤, OnErr, IfOk, is_some};
+ghost use Rattle.std.specs.Prelude.{◌≡◌, ◌↔◌, ◌⊎◌, ◌≤◌, ◌^◌, ⊤, Option, Some, Err, OnErr, IfOk, IfErr, is_some};
 ghost use Rattle.sqlite.specs.Held.{state};
 ghost use Rattle.sqlite.specs.State.{HasCleanDisk, Survives};
 ghost use Rattle.up_rows.specs.Changes.{with_root_rows, with_register_rows};
@@ -7,7 +7,11 @@ ghost use Rattle.up_rows.specs.Lookups.{text_held};
 ghost use Rattle.up_rows.specs.StateRows.{StateRows};
 ghost use Rattle.up_tables.specs.Tables.{up_schema};
 ghost use Rattle.up_store.specs.Listing.{ListsRows};
+ghost use Rattle.up_machine.specs.declared.rows.Founding.{Founding as FoundingData};
+ghost use Rattle.up_tables.specs.Forms.{FitMeta};
+ghost use Rattle.up_tables.specs.declared.values.StoreFault.TheVariants as StoreFault;
 ghost use Rattle.up_store.specs.Shown.{meta_told, IsFoundingOf};
+ghost use Rattle.up_store.specs.Typed.{IsValidFounding};
 ghost use Rattle.up_store.specs.Lines.{root_file_lines, role_file_lines};
 ghost use Rattle.up_store.specs.Puts.{HasFilesOnce, with_founding, with_keys, with_files};
 ghost use Rattle.up_store.specs.Fitting.{IsNextRoot, IsSameRoot};
@@ -15,7 +19,7 @@ ghost use Rattle.up_tables.specs.Stands.{IfClean, IsAsCommitted, IsInside, IsOpe
 ghost use Rattle.up_tables.specs.Statements.{IsStep, IsOpenStep};
 ghost use Rattle.up_store.specs.Connections.{NeedsOpen, Answers, FindsRows, PutsRows, PutsTables, TakesRows, CommitsRows, SparesRows};
 
-use crate::column_values::moment_in;
+use crate::column_values::{check_version, moment_in};
 use crate::files::{make_role_files, make_root_files};
 use crate::keys::{make_keys, read_keys, repository_word};
 use crate::store::{MOST_NUMBER, Store, StoreFault, commit};
@@ -182,22 +186,21 @@ fn find_founded<D: Alter>(
     if row.root == 0 {
         return Ok(None);
     }
-    if row.root > MOST_NUMBER {
-        return Err(StoreFault::Store);
-    }
+    check_version(row.root)?;
     match role_keys_of(tx, alloc, row.root) {
         Ok(keys) => read_founding(alloc, row, keys.as_slice()),
         Err(fault) => Err(fault),
     }
 }
 
-/// The founding of these numbers and rows of keys, read.
+/// The founding of these numbers and rows of keys, read; where they are of a founding, `Memory` is the one fault.
 fn read_founding(
     alloc: Global,
     row: MetaRow,
     keys: &[RoleKeyRow],
 ) -> Result<Option<Founding>, StoreFault>
-    ensures { IfOk result (λ read. IsFoundingOf row keys.now read) }
+    ensures found { IfOk result (λ read. IsFoundingOf row keys.now read) }
+    ensures fault { (told : Option FoundingData) (is : IsFoundingOf row keys.now told) → IsValidFounding is.founding → IfErr result (λ fault. fault ≡ StoreFault.Memory) }
 {
     Ok(Some(Founding {
         root: row.root,
@@ -236,9 +239,7 @@ fn put_root<D: Alter>(
         (state D.Store tx.old.conn.now) (state D.Store tx.new.conn.now) result }
     ensures step { IsOpenStep D.Store tx.old.conn tx.new.conn result }
 {
-    if new.founding.root > MOST_NUMBER {
-        return Err(StoreFault::Store);
-    }
+    check_version(new.founding.root)?;
     put_founding(tx, &new.founding)?;
     put_keys(tx, alloc, &new.founding)?;
     put_root_files(tx, alloc, new)?;
@@ -269,17 +270,25 @@ fn put_founding<D: Alter>(
     ensures put { PutsTables (λ _. ⊤) (with_founding founding.now) (state D.Store tx.old.conn.now) (state D.Store tx.new.conn.now) result }
     ensures step { IsOpenStep D.Store tx.old.conn tx.new.conn result }
 {
+    let row = make_meta(founding)?;
+    update_meta(tx, &row)
+}
+
+/// The row of `meta` as it stands in the table; `Store` where one of its versions is 2^63 or more.
+fn make_meta(founding: &Founding) -> Result<MetaRow, StoreFault>
+    ensures same { IfOk result (λ made. made ≡ meta_told (Some founding.now)) }
+    ensures fit { IfOk result FitMeta }
+    ensures large { (result ≡ Err StoreFault.Store) ↔ ((2 ^ 63 ≤ founding.now.root) ⊎ (2 ^ 63 ≤ founding.now.image_version)) }
+    ensures fault { IfErr result (λ fault. fault ≡ StoreFault.Store) }
+{
     if founding.root > MOST_NUMBER || founding.image_version > MOST_NUMBER {
         return Err(StoreFault::Store);
     }
-    update_meta(
-        tx,
-        &MetaRow {
-            root: founding.root,
-            image_version: founding.image_version,
-            stamp: founding.stamp.get(),
-        },
-    )
+    Ok(MetaRow {
+        root: founding.root,
+        image_version: founding.image_version,
+        stamp: founding.stamp.get(),
+    })
 }
 
 /// Puts in the keys of the founding's root version.
@@ -293,9 +302,7 @@ fn put_keys<D: Alter>(
     ensures put { PutsTables (λ _. ⊤) (with_keys founding.now) (state D.Store tx.old.conn.now) (state D.Store tx.new.conn.now) result }
     ensures step { IsOpenStep D.Store tx.old.conn tx.new.conn result }
 {
-    if founding.root > MOST_NUMBER {
-        return Err(StoreFault::Store);
-    }
+    check_version(founding.root)?;
     let keys = make_keys(alloc, founding.root, &founding.keys)?;
     insert_role_keys(tx, keys.as_slice())
 }

@@ -16,9 +16,9 @@ ghost use Rattle.up_tables.specs.Statements.{IsStep, IsOpenStep};
 ghost use Rattle.up_tables.specs.Forms.{FitVehicle};
 ghost use Rattle.up_store.specs.Connections.{NeedsOpen, Answers, FindsRows, PutsRows, TakesRows, CommitsRows, SparesRows};
 
-use crate::column_values::{count_in, ident_in};
+use crate::column_values::{check_places, count_in, ident_in};
 use crate::ecus::{make_ecus, read_ecus};
-use crate::store::{MOST_NUMBER, MOST_ROWS, Store, StoreFault, commit};
+use crate::store::{MOST_NUMBER, Store, StoreFault, commit};
 use sqlite::{Alter, Transaction};
 use std::alloc::Global;
 use up_canon::ident::Ident;
@@ -193,9 +193,7 @@ fn put_vehicle<D: Alter>(
 {
     let vehicle = make_vehicle(alloc, &new.vehicle)?;
     let ecus = make_ecus(alloc, new.ecus.as_slice())?;
-    if ecus.len() > MOST_ROWS {
-        return Err(StoreFault::Store);
-    }
+    check_places(ecus.len())?;
     insert_vehicle(tx, &vehicle)?;
     insert_ecus(tx, new.vehicle.vehicle.text(), ecus.as_slice())
 }

@@ -1,9 +1,36 @@
-use Rattle.std.proofs.Common.{◌∙◌}
+use Rattle.std.proofs.Common.{◌≡◌, true, false, is_none, length, refl, sym, ap, ◌∙◌, arith}
+use Rattle.up_canon.specs.Names.{is_file_name}
+use Rattle.up_plan.specs.Images.{image_fits}
 use Rattle.up_store.proofs.ColumnReads.{same_image}
+use Rattle.up_store.proofs.MemoryAlone.{memory_on}
 use Rattle.up_store.proofs.image_rows.read_image.Goals as goal
 
-pub returns-in-Ok : goal.returns-in-Ok
-returns-in-Ok c = λ file image typed is second.
-    let lists = c.in_ok-lists.ensures file image typed is in
+pub returns-in-Ok-clause-same : goal.returns-in-Ok-clause-same
+returns-in-Ok-clause-same c = λ file image typed is second.
+    let lists = c.in_ok-lists.ensures.same file image typed is in
     c.in-Ok.ensures.1 ∙ same_image image _ _ _ _ _ _ _ _ (c.in_ok-file.ensures.ok ∙ is.file) (c.in_ok-length.ensures.ok ∙ is.length) (c.in_ok-sha256.ensures.ok ∙ c.as_slice.ensures.value ∙ is.sha256) second
     (c.into_vec-hardware.ensures ∙ lists.0) (c.in_ok-release.ensures.ok ∙ is.release) (c.into_vec-needs.ensures ∙ lists.1) (c.into_vec-conflicts.ensures ∙ lists.2)
+
+pub returns-in_err-sha256-clause-fault : goal.returns-in_err-sha256-clause-fault
+returns-in_err-sha256-clause-fault c = λ file image typed valid is. absurd (c.in_err-sha256.ensures.fault.1 (ap length (c.as_slice.ensures.value ∙ is.sha256) ∙ valid.sha256))
+
+pub returns-in_err-length-clause-fault : goal.returns-in_err-length-clause-fault
+returns-in_err-length-clause-fault c = λ file image typed valid is. absurd (omega (arith, c.in_err-length.ensures.fault.1, is.length, valid.size))
+
+pub returns-in_err-release-clause-fault : goal.returns-in_err-release-clause-fault
+returns-in_err-release-clause-fault c = λ file image typed valid is. absurd (omega (arith, c.in_err-release.ensures.fault.1, is.release, valid.release))
+
+pub returns-in_err-lists-clause-fault : goal.returns-in_err-lists-clause-fault
+returns-in_err-lists-clause-fault c = λ file image typed valid is.
+    memory_on c.from_residual-in_err-lists.result c.in_err-lists.field-0.0 c.from_residual-in_err-lists.ensures.1 (c.in_err-lists.ensures.fault file image typed is)
+
+pub returns-in_err-file-clause-fault : goal.returns-in_err-file-clause-fault
+returns-in_err-file-clause-fault c = λ file image typed valid is.
+    absurd (let e : true ≡ false = sym valid.file ∙ (sym (ap is_file_name is.file) ∙ c.in_err-file.ensures.fault.1) in cc)
+
+pub returns-clause-fault : goal.returns-clause-fault
+returns-clause-fault c = λ file image typed valid is.
+    let lists = c.in_ok-lists.ensures.same file image typed is in
+    let same = same_image (record image { sha512 = c.args.sha512 }) _ _ _ _ _ _ _ _ (c.in_ok-file.ensures.ok ∙ is.file) (c.in_ok-length.ensures.ok ∙ is.length) (c.in_ok-sha256.ensures.ok ∙ c.as_slice.ensures.value ∙ is.sha256) refl
+    (c.into_vec-hardware.ensures ∙ lists.0) (c.in_ok-release.ensures.ok ∙ is.release) (c.into_vec-needs.ensures ∙ lists.1) (c.into_vec-conflicts.ensures ∙ lists.2) in
+    absurd (let e : true ≡ false = sym valid.fits ∙ (sym (ap image_fits same) ∙ ap is_none c.in-Err.ensures) in cc)

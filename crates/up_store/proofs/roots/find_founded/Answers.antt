@@ -18,4 +18,4 @@ returns-in-Ok-clause-found g c clean =
     (λ read is rows within numbers.
     founding_in rows c.args.row c.in-Ok.keys.items read before after (ne_eqb c.args.row.root 0 (λ e. omega (arith, e, c.if-row-eq0.false))) (c.in-Ok.ensures.reads clean) (c.in-Ok.ensures.found clean)
     (subst (λ l. IsFoundingOf c.args.row l read) c.as_slice.ensures.value is) within numbers)
-    c.read_founding.ensures
+    c.read_founding.ensures.found
