@@ -19,12 +19,15 @@ use Rattle.up_script.specs.declared.asked.What.{What}
 use Rattle.up_script.specs.declared.asked.What.TheVariants.{Call, Show}
 use Rattle.up_heads.specs.Responses.{check_response_of, refusal_response_of}
 use Rattle.up_http.specs.Serving.{RanRequests, FinishedRequests, Stopped, cause_of, plain}
+use Rattle.up_http.specs.Serving as serving
 use Rattle.up_http.specs.declared.asked.What.{What as Requested}
 use Rattle.up_http.specs.declared.asked.What.TheVariants.{Call as Request, Fixed}
 use Rattle.up_http.specs.declared.fault.ServeFault.{ServeFault}
 use Rattle.up_http.specs.declared.served.Served.{Served}
 use Rattle.up_lines.specs.LineRuns.{RanLines, FinishedLines, Stopped as StoppedLines, print}
-use Rattle.up_lines.specs.Runs.{At}
+use Rattle.up_lines.specs.Lines as lines
+use Rattle.up_lines.specs.LineRuns as line_runs
+use Rattle.up_lines.specs.Runs.{At, LastRead}
 use Rattle.up_lines.specs.declared.fault.ScriptFault.{ScriptFault}
 use Rattle.up_desk.specs.Serving.{is_fault}
 use Rattle.up_desk.specs.Standing.{DeskView, Standing, state}
@@ -135,10 +138,11 @@ script_lasts rules g law had has first now result ran = record {
     stopped fault run = (run, law run.done run.answers run.next first.state run.last now.state run.run (hands_on (Lines rules g) print fault.cause run.next run.last now.state run.prefix run.breaks))
 
     by_result : (r : Result ℕ ScriptFault)
-        → MatchResult r (λ answered. (ran.ended ≡ true) × FinishedLines (Lines rules g) ran.came answered first now) (λ fault. StoppedLines (Lines rules g) ran.came ran.ended fault first now)
+        → MatchResult r (λ answered. (ran.ended ≡ true) × FinishedLines (Lines rules g) ran.came answered first now)
+        (λ fault. StoppedLines (Lines rules g) ran.came ran.ended fault first now × LastRead lines.piece_bytes (line_runs.WantsMore fault.lines) ran.came ran.ended)
         → MatchResult r (λ answered. (ran.ended ≡ true) × script.FinishedLast rules g ran.came answered first now) (λ fault. script.StoppedLast rules g ran.came ran.ended fault first now)
     by_result (Ok answered) h = (h.0, finished answered h.1)
-    by_result (Err fault) h = stopped fault h
+    by_result (Err fault) h = stopped fault h.0
 
 -- ---- streams
 
@@ -166,9 +170,10 @@ stream_lasts rules g at law had has first now result ran = record {
     )
 
     by_result : (r : Result Served ServeFault)
-        → MatchResult r (λ served. (more : List ℕ) → (ran.ended ≡ true → more ≡ []) → FinishedRequests (Responses rules g at) (ran.came ++ more) served.requests first now)
-        (λ fault. Stopped (Responses rules g at) ran.came ran.ended fault first now)
+        → MatchResult r (λ served. ((more : List ℕ) → (ran.ended ≡ true → more ≡ []) → FinishedRequests (Responses rules g at) (ran.came ++ more) served.requests first now)
+        × LastRead serving.piece_bytes (serving.WantsMore served.requests) ran.came ran.ended)
+        (λ fault. Stopped (Responses rules g at) ran.came ran.ended fault first now × LastRead serving.piece_bytes (serving.WantsMore fault.answered) ran.came ran.ended)
         → MatchResult r (λ served. (more : List ℕ) → (ran.ended ≡ true → more ≡ []) → stream.FinishedLast rules g at (ran.came ++ more) served.requests first now)
         (λ fault. stream.StoppedLast rules g at ran.came ran.ended fault first now)
-    by_result (Ok served) h = λ more ended. finished (ran.came ++ more) served.requests (h more ended)
-    by_result (Err fault) h = stopped fault h
+    by_result (Ok served) h = λ more ended. finished (ran.came ++ more) served.requests (h.0 more ended)
+    by_result (Err fault) h = stopped fault h.0
