@@ -16,8 +16,8 @@ import each_line
 import reference
 
 ROWS = Path(__file__).resolve().parent.parent / "rows"
-# sections that aren't carried out by calls: one has too many lines to open files before each
-APART = [each_line.STOPS, each_line.WRONG, "campaign of 16 items for 1000 vehicles"]
+# sections that aren't carried out by calls: one has too many lines to open files before each, another lines that no text holds
+APART = [each_line.STOPS, each_line.WRONG, "campaign of 16 items for 1000 vehicles", each_line.NO_TEXT]
 
 
 def lines_of(path):

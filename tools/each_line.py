@@ -7,8 +7,8 @@ row; and bodies over HTTP too. None may be answered by want of memory or by the 
 
 The rows stand in `rows/each_answer`, in sections, each from an empty database: a line of a script, or one of these words and what
 stands behind it. `times N LINE` is the line so many times, with the numbers from 0 on in place of `%`; `body
-TEXT`, `cuts TEXT` and `bytes HEX` are a body that is delivered, each of its beginnings, and a body in hex. How texts that repeat
-or change in one place are spelled is said in `up_test_rows/src/sections.rt`. What is wanted is the line printed, with the SHA-256
+TEXT`, `cuts TEXT` and `bytes HEX` are a body that is delivered, each of its beginnings, and a body in hex; `line HEX` is a line
+in hex. How texts that repeat or change in one place are spelled is said in `up_test_rows/src/sections.rt`. What is wanted is the line printed, with the SHA-256
 of a file in place of its text and of a reply behind its line, and what is shown of a vehicle without its name. In a section of
 stops a row is a whole run, its lines parted by ` ;; `, for `stops.py`.
 """
@@ -30,6 +30,7 @@ TOP = Path(__file__).resolve().parent.parent
 ROWS = TOP / "rows" / "each_answer"
 AT = 1767225600
 STOPS = "stops at each call of a disk"
+NO_TEXT = "lines that are no text"
 WRONG = "rows that are wrong on purpose"
 STATUS = {4: 413} | dict.fromkeys((5, 6, 7), 400) | dict.fromkeys((11, 12, 17), 403) | dict.fromkeys((10, 29), 404)
 
@@ -83,7 +84,7 @@ def delivery(body):
 
 
 def script(text):
-    """The lines of what is given; none of a body that is no text."""
+    """The lines of what is given, texts or bytes; none of a body that is no text."""
     word, _, rest = text.partition(" ")
     if word == "times":
         number, _, line = rest.partition(" ")
@@ -92,6 +93,8 @@ def script(text):
         return [delivery(rest)]
     if word == "cuts":
         return [delivery(rest[:n]) for n in range(len(rest))]
+    if word == "line":
+        return [bytes.fromhex(rest)]
     return [] if word == "bytes" else [text]
 
 
@@ -146,7 +149,7 @@ class Desk(reference.Desk):
     def told(self, text):
         lines = script(text)
         if lines:
-            return told([self.answer(line.encode()) for line in lines])
+            return told([self.answer(line if isinstance(line, bytes) else line.encode()) for line in lines])
         return "".join(short(self.body(body)) for body in bodies(text)) or "no hex"
 
 

@@ -1,4 +1,5 @@
 """The program's words, exit statuses and messages: what `docs/PROGRAM.md` says, tried."""
+import hashlib
 import os
 import resource
 import subprocess
@@ -99,12 +100,20 @@ def told_memory(program):
     return within(program, high * MEBIBYTE, long) == (4, NOT_JSON, stopped(1, b"memory"))
 
 
+def digests_of(given):
+    """The line of a file of these bytes."""
+    return b"%d %s %s\n" % (len(given), hashlib.sha256(given).hexdigest().encode(), hashlib.sha512(given).hexdigest().encode())
+
+
 def digests(program):
     with tempfile.TemporaryDirectory() as folder:
         path = str(Path(folder) / "abc")
         yield "no file to digest", answers(program, ["digest", path], b"", 4, b"", UNREAD)
         Path(path).write_bytes(b"abc")
         yield "the digest of abc", answers(program, ["digest", path], b"", 0, ABC, b"")
+        for given in (b"", 2_000_000 * b"a"):
+            Path(path).write_bytes(given)
+            yield "the digest of %d bytes" % len(given), answers(program, ["digest", path], b"", 0, digests_of(given), b"")
         yield "a directory to digest", answers(program, ["digest", folder], b"", 4, b"", UNREAD)
         yield "a digest that can't be printed", into_full(program, ["digest", path], b"") == (0, b"")
         os.truncate(path, LARGEST_FILE + 1)

@@ -212,6 +212,9 @@ def older(program, own):
 
 DAMAGED_IMAGES, DAMAGED_CAMPAIGNS = "UPDATE image SET needs = 'x'", "UPDATE campaign SET items = 'x'"
 CLOSED_CAMPAIGNS = DAMAGED_CAMPAIGNS + " WHERE running = 0"
+SEVENTEEN = [{"hardware": "H%d" % number, "release": 1} for number in range(17)]
+LONG_NEEDS = "UPDATE image SET needs = '%s' WHERE file = 'b'" % reference.canonical(SEVENTEEN)
+LONG_ITEMS = "UPDATE campaign SET items = '%s' WHERE name = 'theirs'" % reference.canonical([{"file": "b", "hardware": "HS"}] * 17)
 OTHER_IMAGES, OTHER_CAMPAIGNS = DAMAGED_IMAGES + " WHERE file <> 'a'", DAMAGED_CAMPAIGNS + " WHERE name <> 'mine'"
 INSTALLED = ("file", "length", "sha256")
 NOT_CANONICAL = '{"signatures":[{"keyid":"k","method":"m","sig":"aa"}],"signed":{"x":1.5}}'
@@ -404,6 +407,8 @@ def read(program, own):
         "others": (founded(), [OTHER_IMAGES, OTHER_CAMPAIGNS], others_damaged()),
         "one image": (founded(), [OTHER_IMAGES], one_damaged()),
         "one campaign": (founded(), [DAMAGED_CAMPAIGNS + " WHERE name = 'theirs'"], one_damaged()),
+        "an image of 17 needs": (founded(), [LONG_NEEDS], one_damaged()),
+        "a campaign of 17 items": (founded(), [LONG_ITEMS], one_damaged()),
         "closed campaigns": (founded(), [CLOSED_CAMPAIGNS], closed_damaged()),
         "second hashes": (founded(), ["INSERT INTO image_sha512 SELECT file, x'00' FROM image"], second_hashes_damaged()),
         **{"installed " + " and ".join(columns): (founded(), [emptied(columns)], installed_in_part()) for columns in in_part()},

@@ -1,12 +1,14 @@
 //! The reach and the items of a campaign.
-ghost use Rattle.std.specs.Prelude.{◌≡◌, List, Ok, IfOk, OnOk, string_bytes, true};
+ghost use Rattle.std.specs.Prelude.{◌≡◌, List, Ok, Err, IfOk, IfErr, OnOk, string_bytes, true, false};
 ghost use Rattle.std.specs.List.{list_all};
 ghost use Rattle.serde_json.specs.View.{view};
+ghost use Rattle.up_canon.specs.Members.{list_of as list_of_value};
 ghost use Rattle.up_canon.specs.Refusals.{Gives};
 ghost use Rattle.up_columns.specs.CampaignColumns.{reach_data, reach_column, is_all as is_all_word, named_of, reach_of as reach_of_value, reach_in, items_column, campaign_items_in};
 ghost use Rattle.up_columns.specs.Typed.{is_typed_item, is_typed_reach};
 ghost use Rattle.up_plan.specs.declared.campaign.Item.{Item as ItemData};
 ghost use Rattle.up_plan.specs.declared.campaign.Reach.{Reach as ReachData};
+ghost use Rattle.up_plan.specs.declared.campaign.Reach.TheVariants.{All};
 
 use crate::lists::{ToValue, list_value, read_items};
 use crate::values::column_value;
@@ -113,7 +115,9 @@ fn reach_in_column(alloc: Global, column: &str) -> Result<Reach, Refusal>
 /// The reach that the value is, `"all"` or a list of vehicles; the name is that of the fault.
 #[tactic(auto, unfolding(crate::specs::CampaignColumns::reach_of))]
 pub fn reach_of(alloc: Global, value: &Value, name: &'static str) -> Result<Reach, Refusal>
-    ensures { Gives result (reach_of_value name.now (view value.now)) }
+    ensures reach { Gives result (reach_of_value name.now (view value.now)) }
+    ensures all { is_all_word (view value.now) ≡ true → result ≡ Ok All }
+    ensures list { is_all_word (view value.now) ≡ false → IfErr (list_of_value name.now (view value.now)) (λ r. result ≡ Err r) }
 {
     if is_all(value) {
         Ok(Reach::All)
@@ -124,7 +128,8 @@ pub fn reach_of(alloc: Global, value: &Value, name: &'static str) -> Result<Reac
 
 #[tactic(auto, unfolding(crate::specs::CampaignColumns::named_of, up_canon::specs::Steps::and_then))]
 fn named(alloc: Global, value: &Value, name: &'static str) -> Result<Reach, Refusal>
-    ensures { Gives result (named_of name.now (view value.now)) }
+    ensures reach { Gives result (named_of name.now (view value.now)) }
+    ensures list { IfErr (list_of_value name.now (view value.now)) (λ r. result ≡ Err r) }
 {
     let values = list_of(value, name)?;
     let vehicles = each_of::<IdentReading>(alloc, values.as_slice(), name)?;

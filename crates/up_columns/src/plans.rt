@@ -1,11 +1,11 @@
 //! Plans: the images that a vehicle gets, or why it gets none.
-ghost use Rattle.std.specs.Prelude.{◌≡◌, ◌++◌, codes, Ok, Some, IfOk, OnOk, map, string_bytes, true};
+ghost use Rattle.std.specs.Prelude.{◌≡◌, ◌++◌, codes, Ok, Err, None, Some, IfOk, IfErr, OnOk, MatchResult, map, string_bytes, true, false};
 ghost use Rattle.std.specs.List.{list_all};
 ghost use Rattle.serde_json.specs.Find.{get};
 ghost use Rattle.serde_json.specs.View.{view};
 ghost use Rattle.up_canon.specs.Build.{list_with};
 ghost use Rattle.up_canon.specs.Canon.{text};
-ghost use Rattle.up_canon.specs.Members.{object_of_map};
+ghost use Rattle.up_canon.specs.Members.{object_of as object_of_value, object_of_map, member_in, list_in};
 ghost use Rattle.up_canon.specs.Refusals.{Gives};
 ghost use Rattle.up_columns.specs.PlanColumns.{assigned_data, plan_column, cause_data, is_null as is_null_value, demand_of, cause_of, some_cause_of, withheld_in, assigned_in, plan_of, plan_in};
 ghost use Rattle.up_columns.specs.Typed.{is_typed_assigned, is_typed_cause, is_typed_plan};
@@ -154,7 +154,8 @@ fn plan_in_column(alloc: Global, column: &str) -> Result<Plan, Refusal>
 
 #[tactic(auto, unfolding(crate::specs::PlanColumns::plan_of, up_canon::specs::Steps::and_then))]
 fn plan_at(alloc: Global, value: &Value) -> Result<Plan, Refusal>
-    ensures { Gives result (plan_of (view value.now)) }
+    ensures plan { Gives result (plan_of (view value.now)) }
+    ensures object { MatchResult (object_of_value (codes "plan") (view value.now)) (λ d. IfErr (list_in (codes "assigned") d) (λ r. result ≡ Err r)) (λ r. result ≡ Err r) }
 {
     let map = object_of(value, "plan")?;
     let assigned = assigned_at(alloc, map)?;
@@ -166,7 +167,8 @@ fn plan_at(alloc: Global, value: &Value) -> Result<Plan, Refusal>
 
 #[tactic(auto, unfolding(crate::specs::PlanColumns::assigned_in, up_canon::specs::Steps::and_then))]
 fn assigned_at(alloc: Global, map: &Map<String, Value>) -> Result<Listed<Assigned>, Refusal>
-    ensures { Gives result (assigned_in (object_of_map map.now.entries)) }
+    ensures assigned { Gives result (assigned_in (object_of_map map.now.entries)) }
+    ensures list { IfErr (list_in (codes "assigned") (object_of_map map.now.entries)) (λ r. result ≡ Err r) }
 {
     let values = list_at(map, "assigned")?;
     each_of::<AssignedReading>(alloc, values.as_slice(), "assigned")
@@ -174,7 +176,11 @@ fn assigned_at(alloc: Global, map: &Map<String, Value>) -> Result<Listed<Assigne
 
 #[tactic(auto, unfolding(crate::specs::PlanColumns::withheld_in, up_canon::specs::Steps::and_then))]
 fn withheld_at(alloc: Global, map: &Map<String, Value>) -> Result<Option<Cause>, Refusal>
-    ensures { Gives result (withheld_in (object_of_map map.now.entries)) }
+    ensures withheld { Gives result (withheld_in (object_of_map map.now.entries)) }
+    ensures none { MatchResult (member_in (codes "withheld") (object_of_map map.now.entries))
+        (λ value. is_null_value value ≡ true → result ≡ Ok None) (λ r. result ≡ Err r) }
+    ensures object { IfOk (member_in (codes "withheld") (object_of_map map.now.entries))
+        (λ value. is_null_value value ≡ false → IfErr (object_of_value (codes "withheld") value) (λ r. result ≡ Err r)) }
 {
     let value = member_at(map, "withheld")?;
     if is_null(value) {
@@ -186,14 +192,16 @@ fn withheld_at(alloc: Global, map: &Map<String, Value>) -> Result<Option<Cause>,
 
 #[tactic(auto, unfolding(crate::specs::PlanColumns::some_cause_of, up_canon::specs::Steps::and_then))]
 fn some_cause(alloc: Global, value: &Value) -> Result<Option<Cause>, Refusal>
-    ensures { Gives result (some_cause_of (view value.now)) }
+    ensures cause { Gives result (some_cause_of (view value.now)) }
+    ensures object { IfErr (object_of_value (codes "withheld") (view value.now)) (λ r. result ≡ Err r) }
 {
     Ok(Some(cause_at(alloc, value)?))
 }
 
 #[tactic(auto, unfolding(crate::specs::PlanColumns::cause_of, up_canon::specs::Steps::and_then))]
 fn cause_at(alloc: Global, value: &Value) -> Result<Cause, Refusal>
-    ensures { Gives result (cause_of (view value.now)) }
+    ensures cause { Gives result (cause_of (view value.now)) }
+    ensures object { IfErr (object_of_value (codes "withheld") (view value.now)) (λ r. result ≡ Err r) }
 {
     let map = object_of(value, "withheld")?;
     let ecu = ident_at(alloc, map, "ecu")?;

@@ -1,6 +1,7 @@
 //! The JSON value of a column.
-ghost use Rattle.std.specs.Prelude.{◌≡◌, ◌≤◌, ◌++◌, ◌∷◌, [], codes, length, IfOk, IfSome, true};
+ghost use Rattle.std.specs.Prelude.{◌≡◌, ◌≢◌, ◌≤◌, ◌++◌, ◌∷◌, [], ℕ, List, codes, length, None, Ok, IfOk, IfSome, IsOkAnd, IsTrue, is_some, true};
 ghost use Rattle.std.specs.List.{list_all};
+ghost use Rattle.std.specs.Result.{IsOk};
 ghost use Rattle.serde_json.specs.Data.{depth, string};
 ghost use Rattle.serde_json.specs.View.{view};
 ghost use Rattle.up_canon.specs.Build.{object_with};
@@ -8,6 +9,7 @@ ghost use Rattle.up_canon.specs.Canon.{has_canon, is_plain, text};
 ghost use Rattle.up_canon.specs.JsonText.{value_within as value_within_of};
 ghost use Rattle.up_canon.specs.Names.{is_file_byte};
 ghost use Rattle.up_canon.specs.Refusals.{GivesAs};
+ghost use Rattle.up_columns.specs.Plain.{HasNoPlainItem};
 
 use serde_json::{Value, json};
 use std::alloc::{AllocError, Global};
@@ -19,7 +21,8 @@ use up_canon::refusal::Refusal;
 /// The value that a column is read as. The reader of JSON clears 16 kB of room for each text, however short, so what most
 /// columns are, the word `all` and lists of names and of a campaign's items, is told without it.
 pub(crate) fn column_value(alloc: Global, column: &str) -> Result<Value, Refusal>
-    ensures { GivesAs view result (value_within_of (length column.now) column.now) }
+    ensures value { GivesAs view result (value_within_of (length column.now) column.now) }
+    ensures empty { column.now ≡ codes "[]" → IsOk result }
 {
     canonical_laws();
     match plain_value(alloc, column)? {
@@ -33,7 +36,10 @@ pub(crate) fn column_value(alloc: Global, column: &str) -> Result<Value, Refusal
 
 /// The value whose canonical text the column is, where it is one of those.
 fn plain_value(alloc: Global, column: &str) -> Result<Option<Value>, AllocError>
-    ensures { IfOk result (λ found. IfSome found (λ value. (has_canon (view value) ≡ true) × (column.now ≡ text (view value)))) }
+    ensures value { IfOk result (λ found. IfSome found (λ value. (has_canon (view value) ≡ true) × (column.now ≡ text (view value)))) }
+    ensures empty { column.now ≡ codes "[]" → IsOkAnd result (λ found. IsTrue (is_some found)) }
+    ensures none { column.now ≢ codes "\"all\"" → ((rest : List ℕ) → column.now ≢ codes "[" ++ rest) → result ≡ Ok None }
+    ensures list { (items : List ℕ) → column.now ≡ codes "[" ++ items → column.now ≢ codes "[]" → HasNoPlainItem items → result ≡ Ok None }
 {
     if column == "[]" {
         return Ok(Some(Value::Array(Vec::new(alloc))));
@@ -49,7 +55,8 @@ fn plain_value(alloc: Global, column: &str) -> Result<Option<Value>, AllocError>
 
 /// The same of a list, behind its opening bracket.
 fn plain_list(alloc: Global, items: &str) -> Result<Option<Value>, AllocError>
-    ensures { IfOk result (λ found. IfSome found (λ value. (has_canon (view value) ≡ true) × (codes "[" ++ items.now ≡ text (view value)))) }
+    ensures value { IfOk result (λ found. IfSome found (λ value. (has_canon (view value) ≡ true) × (codes "[" ++ items.now ≡ text (view value)))) }
+    ensures none { HasNoPlainItem items.now → result ≡ Ok None }
 {
     let mut values = Vec::new(alloc);
     let mut rest = items;
@@ -68,7 +75,8 @@ fn plain_list(alloc: Global, items: &str) -> Result<Option<Value>, AllocError>
 
 /// The item of a list that the text begins with, and what stands behind it.
 fn plain_item(alloc: Global, items: &str) -> Result<Option<(Value, &str)>, AllocError>
-    ensures { IfOk result (λ found. IfSome found (λ x. (is_plain (view x.0) ≡ true) × (depth (view x.0) ≤ 1) × (items.now ≡ text (view x.0) ++ x.1.now))) }
+    ensures value { IfOk result (λ found. IfSome found (λ x. (is_plain (view x.0) ≡ true) × (depth (view x.0) ≤ 1) × (items.now ≡ text (view x.0) ++ x.1.now))) }
+    ensures none { HasNoPlainItem items.now → result ≡ Ok None }
 {
     if let Some(item) = items.strip_prefix("{\"file\":\"") {
         return plain_pair(alloc, item);

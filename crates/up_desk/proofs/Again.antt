@@ -44,7 +44,7 @@ use Rattle.up_machine.proofs.Places.{nth_last}
 use Rattle.up_machine.proofs.Fetched.{in_time}
 use Rattle.up_rows.specs.StateRows.{rows_of_state}
 use Rattle.up_store.specs.Connections.{KeepsState}
-use Rattle.up_desk.specs.Laws.{ActsOnce, replaced_in, replaces_own, LeaveAlone, ActsOnceFrom, DeliveriesActOnce, FindsState, IsCalled, CrashesActOnce, ReopenedActsOnce}
+use Rattle.up_desk.specs.Laws.{ActsOnce, replaced_in, replaces_own, LeaveAlone, ActsOnceFrom, DeliveriesActOnce, FindsState, IsCalled, CrashesActOnce, ReopenedActsOnce, ReopenedOutlast}
 use Rattle.up_desk.specs.Serving.{HoldsState}
 
 -- ---- a vehicle that is left alone
@@ -350,5 +350,15 @@ crashes_act_once g stale counters grow thin stays k s at body incoming old new i
 
 pub reopened_acts_once : {D : Type 0} (g : DiskGhosts D) → RepeatsAreStale → CountersFindRepeats → RunsGrow → ServedIsThinned → ServedStaysSound → ReopenedActsOnce g
 reopened_acts_once g stale counters grow thin stays k s at body incoming old new it clean stopped again whole left may opened is found =
-    ∥∥₁_map (again whole (rows_of_state k s) (rows_of_state k (serve k s at (Deliver body)).next) (either over_files k s at body incoming old new it clean) left may opened is found)
-    (both_act stale counters grow thin stays k s at body incoming it.accepted it.sound it.reads it.accepts (λ t. KeepsState k t (file_state opened)))
+    let f = again whole left may opened is found in
+    let next = (serve k s at (Deliver body)).next in
+    ∥∥₁_map f.left (λ r. both_act stale counters grow thin stays k s at body incoming it.accepted it.sound it.reads it.accepts (λ t. KeepsState k t (file_state opened))
+      (elim (either over_files k s at body incoming old new it clean (file_state opened).committed.trees r) [
+        | inl was ↦ inl (f.shown (rows_of_state k s) was)
+        | inr made ↦ inr (f.shown (rows_of_state k next) made)
+      ]))
+
+pub reopened_outlast : {D : Type 0} (g : DiskGhosts D) → ReopenedOutlast g
+reopened_outlast g k cs answers old new outlasts s sound keeps before rest m made clean stopped again whole left may opened is found =
+    let f = again whole left may opened is found in
+    ∥∥₁_map f.left (λ r. let held = outlasts s sound keeps before rest m made clean (file_state opened).committed.trees r in (held.0, held.1, f.shown (rows_of_state k held.0) held.2))

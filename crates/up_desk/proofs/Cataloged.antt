@@ -1,6 +1,6 @@
 -- What is kept in memory, and what keeps it.
-use Rattle.std.proofs.Common.{◌≡◌, ◌+◌, ◌≤◌, ℕ, List, [], ◌∷◌, Bool, true, false, cond, Option, Some, None, Result, Ok, Err, filter, refl, sym, ap, ◌∙◌, subst, arith}
-use Rattle.std.specs.Prelude.{⊤, ◌&&◌, if◌then◌else◌, IfSome, OnErr, OnOk, MatchBool, flat_map, is_some}
+use Rattle.std.proofs.Common.{◌≡◌, ◌+◌, ◌≤◌, ℕ, List, [], ◌∷◌, Bool, true, false, cond, Option, Some, None, Result, Ok, Err, filter, inl, inr, refl, sym, ap, ◌∙◌, subst, arith}
+use Rattle.std.specs.Prelude.{⊤, ◌⊎◌, ◌&&◌, if◌then◌else◌, IfSome, OnErr, OnOk, MatchBool, flat_map, is_some}
 use Rattle.std.specs.FinMap.{get-empty, len-empty, len-insert}
 use Rattle.std.specs.Ordering.{nat_cmp}
 use Rattle.std.specs.Cmp.Lexicographic.{slice_cmp}
@@ -37,7 +37,7 @@ use Rattle.up_machine.specs.State.{State, Vehicle}
 use Rattle.up_machine.proofs.Tables.{get_after-insert, kept_by_insert}
 use Rattle.up_store.specs.Found.{values_where}
 use Rattle.up_desk.specs.Serving.{is_failed, IsAnswered, outcome_due}
-use Rattle.up_desk.specs.Standing.{AreFew, ArePrimaries, CanDecide, IsOf, Fits, IsLoaded, KeepsMore, StayKept, StaysLoaded, StillFits, keeps_catalog, kept_for}
+use Rattle.up_desk.specs.Standing.{AreFew, ArePrimaries, CanDecide, Come, IsOf, Fits, IsLoaded, KeepsMore, StayKept, StaysLoaded, StillFits, keeps_catalog, kept_for, primaries_in}
 use Rattle.up_desk.specs.declared.catalog.Catalog.{Catalog}
 use Rattle.up_desk.proofs.Serving.{next_is}
 use Rattle.up_desk.proofs.Told.{running_sorted}
@@ -260,6 +260,43 @@ few_none = omega (arith, len-empty (slice_cmp nat_cmp) Primary)
 pub put_or_not : {E : Type 0} (P : Table Primary → Type 0) (result : Result ⊤ E) (old new put : Table Primary) → OnOk result (new ≡ put) → OnErr result (new ≡ old) → P old → P put → P new
 put_or_not P (Ok done) old new put ok err before after = subst P (sym ok) after
 put_or_not P (Err e) old new put ok err before after = subst P (sym err) before
+
+-- none comes
+pub come_none : (P : Name → Primary → Type 0) (kept : Table Primary) → Come P kept kept
+come_none P kept vehicle primary there = inl there
+
+pub come_empty : (P : Name → Primary → Type 0) (old new : Table Primary) → new ≡ table.empty → Come P old new
+come_empty P old new is vehicle primary there = absurd (let e = sym (get-empty (slice_cmp nat_cmp) vehicle) ∙ ap (λ (t : Table Primary). table.get t vehicle) (sym is) ∙ there in cc)
+
+-- the one that is inserted comes
+pub come_one : (kept : Table Primary) (vehicle : Name) (primary : Primary) → Come (λ name found. name ≡ vehicle) kept (table.insert kept vehicle primary)
+come_one kept vehicle primary name found there = get_after-insert (λ n p. (table.get kept n ≡ Some p) ⊎ (n ≡ vehicle)) kept vehicle name found primary there (inr refl) (λ was. inl was)
+
+pub come_as : (P Q : Name → Primary → Type 0) (old new : Table Primary) → ((vehicle : Name) (primary : Primary) → P vehicle primary → Q vehicle primary) → Come P old new → Come Q old new
+come_as P Q old new each come vehicle primary there = by_case (come vehicle primary there)
+  where
+    by_case : (table.get old vehicle ≡ Some primary) ⊎ P vehicle primary → (table.get old vehicle ≡ Some primary) ⊎ Q vehicle primary
+    by_case (inl was) = inl was
+    by_case (inr is) = inr (each vehicle primary is)
+
+pub come_then : (P : Name → Primary → Type 0) (a b c : Table Primary) → Come P a b → Come P b c → Come P a c
+come_then P a b c ab bc vehicle primary there = by_case (bc vehicle primary there)
+  where
+    by_case : (table.get b vehicle ≡ Some primary) ⊎ P vehicle primary → (table.get a vehicle ≡ Some primary) ⊎ P vehicle primary
+    by_case (inl was) = ab vehicle primary was
+    by_case (inr is) = inr is
+
+-- where none was loaded with them
+pub come_loaded : (P : Name → Primary → Type 0) (a b c : Table Primary) → Come (λ vehicle primary. ⊥) a b → Come P b c → Come P a c
+come_loaded P a b c ab bc = come_then P a b c (come_as (λ vehicle primary. ⊥) P a b (λ vehicle primary none. absurd none) ab) bc
+
+-- none comes where what is kept is dropped
+come_by : (P : Name → Primary → Type 0) (old mid : Option Catalog) (b : Bool) → mid ≡ (if b then old else None) → Come P (primaries_in old) (primaries_in mid)
+come_by P old mid true is = subst (λ o. Come P (primaries_in old) (primaries_in o)) (sym is) (come_none P (primaries_in old))
+come_by P old mid false is = come_empty P (primaries_in old) (primaries_in mid) (ap primaries_in is)
+
+pub come_kept : (P : Name → Primary → Type 0) (c : Command) (old mid : Option Catalog) → mid ≡ kept_for c old → Come P (primaries_in old) (primaries_in mid)
+come_kept P c old mid is = come_by P old mid (keeps_catalog c) is
 
 -- what is kept stays where nothing is done
 pub stays : (o : Option Catalog) → StaysLoaded o o

@@ -1,12 +1,12 @@
 -- Who sent a manifest, by the Primary that is kept and by the rows of its vehicle.
 use Rattle.std.proofs.Common.{◌≡◌, ℕ, List, Bool, true, false, Option, None, Some, Result, Ok, Err, inl, inr, refl, sym, ap, ◌∙◌, subst}
-use Rattle.std.specs.Prelude.{⊤, ◌⊎◌, IfSome, MatchBool, is_some, option_and_then}
+use Rattle.std.specs.Prelude.{⊤, ◌⊎◌, ◌||◌, IfOk, IfSome, MatchBool, is_some, option_and_then}
 use Rattle.std.specs.FinMap as table
-use Rattle.up_canon.specs.Names.{Table}
+use Rattle.up_canon.specs.Names.{Name, Table}
 use Rattle.up_canon.specs.Refusals.{is_memory}
 use Rattle.up_canon.specs.Steps.{error_of}
 use Rattle.up_canon.specs.declared.refusal.Refusal.{Refusal}
-use Rattle.up_canon.specs.declared.refusal.Refusal.TheVariants.{Memory, UnknownVehicle}
+use Rattle.up_canon.specs.declared.refusal.Refusal.TheVariants.{Memory, NotFounded, UnknownVehicle}
 use Rattle.up_sign.specs.Schemes.{Rules}
 use Rattle.up_manifest.specs.declared.manifest.Incoming.{Incoming}
 use Rattle.up_manifest.specs.Manifests.{incoming_in}
@@ -19,14 +19,21 @@ use Rattle.up_machine.specs.declared.rows.Founding.{Founding}
 use Rattle.up_machine.specs.declared.rows.VehicleRows.{VehicleRows}
 use Rattle.up_machine.specs.State.{State}
 use Rattle.up_machine.specs.Decisions.{decide_incoming}
-use Rattle.up_machine.specs.Deliveries.{receive_manifest}
-use Rattle.up_machine.specs.Primaries.{GivesSent, check_sent}
+use Rattle.up_machine.specs.Deliveries.{Received, receive_manifest}
+use Rattle.up_machine.specs.Primaries.{GivesSent, check_sent, primary_of}
 use Rattle.up_machine.specs.Rows.{founding_row, vehicle_rows}
+use Rattle.up_machine.proofs.Primaries.{gives_sent}
 use Rattle.up_machine.proofs.Senders.{no_vehicle, refused_first}
 use Rattle.up_desk.specs.declared.catalog.Catalog.{Catalog}
-use Rattle.up_desk.specs.Delivering.{AnswersRead, GivesSenderRows, GivesVehicle, RefusesRead, RefusesUnread, forged_by, refused_by, refused_in, refused_read}
-use Rattle.up_desk.specs.Serving.{is_fault, told}
-use Rattle.up_desk.specs.Standing.{kept_for}
+use Rattle.up_desk.specs.Delivering.{AnswersRead, GivesSenderRows, GivesVehicle, IsDeliveredBy, IsLoadedBehind, IsReadBy, IsSentBy, IsThere, Loads, RefusesRead, RefusesUnread, forged_by, refused_by, refused_in, refused_read}
+use Rattle.up_desk.specs.Serving.{is_failed, is_fault, is_store, told}
+use Rattle.up_desk.specs.Standing.{ArePrimaries, Come, kept_for}
+use Rattle.up_desk.proofs.Cataloged.{come_as}
+
+-- what is due, or a fault
+pub due : (b : Bool) (X : Type 0) → X → MatchBool b ⊤ X
+due true X h = tt
+due false X h = h
 
 -- ---- what the kept Primary refuses
 
@@ -96,6 +103,18 @@ unread_body A o store read incoming r h reads = by_refusal o
     by_refusal None = tt
     by_refusal (Some q) = record { refused = inr (ap (λ x. Err x) (by_memory (is_memory r) refl h)); unread = refl }
 
+-- one that can't be is refused for itself, or for want of memory
+pub none_unread : (read : Result Incoming Refusal) (incoming : Incoming) (P : Refusal → Type 0) → read ≡ Ok incoming → IfSome (error_of read) P
+none_unread read incoming P is = subst (λ r. IfSome (error_of r) P) (sym is) tt
+
+pub body_refused : {S : Type 0} (A : Type 0) (store : S) (read : Result Incoming Refusal) (r : Refusal) → MatchBool (is_memory r) ⊤ (read ≡ Err r) → IfSome (error_of read) (RefusesRead {A = A} store store (Err r))
+body_refused A store (Ok incoming) r h = tt
+body_refused A store (Err q) r h = record { refused = by_memory (is_memory r) refl h; unread = refl }
+  where
+    by_memory : (b : Bool) → is_memory r ≡ b → MatchBool b ⊤ (◌≡◌ {A = Result Incoming Refusal} (Err q) (Err r)) → (◌≡◌ {A = Result A Refusal} (Err r) (Err q)) ⊎ (◌≡◌ {A = Result A Refusal} (Err r) (Err Memory))
+    by_memory true is h = inr (ap (λ x. Err x) (memory_is r is))
+    by_memory false is h = let same : r ≡ q = cc in inl (ap (λ x. Err x) same)
+
 -- ---- the command that delivers it
 
 -- no other command delivers a manifest
@@ -136,12 +155,66 @@ forged_told (Some r) old new given answer is h = record { refused = by_refusal h
     by_refusal (inl due) = inl (is ∙ ap told due)
     by_refusal (inr due) = inr (is ∙ ap told due)
 
--- ---- the rows of its vehicle
+-- ---- which Primary comes to be kept
 
--- what is due, or a fault
-pub due : (b : Bool) (X : Type 0) → X → MatchBool b ⊤ X
-due true X h = tt
-due false X h = h
+-- that of a vehicle from which a manifest was received sent it
+sent_checked : (k : Rules) (s : State) (incoming : Incoming) (founding : Founding) (primary : Primary) (received : Received) → founding_row s ≡ Some founding
+    → primary_of s incoming.manifest.vehicle ≡ Some primary → receive_manifest k s incoming ≡ Ok received → check_sent k primary incoming ≡ Ok tt
+sent_checked k s incoming founding primary received there is receives = by_check (check_sent k primary incoming) refl
+  where
+    by_check : (r : Result ⊤ Refusal) → check_sent k primary incoming ≡ r → check_sent k primary incoming ≡ Ok tt
+    by_check (Ok passed) same = same
+    by_check (Err r) same = absurd (let no : ◌≡◌ {A = Result Received Refusal} (Ok received) (Err r) = sym receives ∙ gives_sent k s incoming founding primary (Err r) there is (sym same) in cc)
+
+pub come_sent : (k : Rules) (s : State) (incoming : Incoming) (founding : Founding) (received : Received) (old new : Table Primary) → founding_row s ≡ Some founding
+    → receive_manifest k s incoming ≡ Ok received → ArePrimaries s new → Come (λ name primary. name ≡ incoming.manifest.vehicle) old new → Come (IsSentBy k incoming) old new
+come_sent k s incoming founding received old new there receives are come vehicle primary found = by_case (come vehicle primary found)
+  where
+    by_case : (table.get old vehicle ≡ Some primary) ⊎ (vehicle ≡ incoming.manifest.vehicle) → (table.get old vehicle ≡ Some primary) ⊎ IsSentBy k incoming vehicle primary
+    by_case (inl was) = inl was
+    by_case (inr same) = inr (same, sent_checked k s incoming founding primary received there (subst (λ (n : Name). primary_of s n ≡ Some primary) same (are vehicle primary found)) receives)
+
+pub come_read : (k : Rules) (read : Result Incoming Refusal) (incoming : Incoming) (old new : Table Primary) → read ≡ Ok incoming → Come (IsSentBy k incoming) old new → Come (IsReadBy k read) old new
+come_read k read incoming old new is come =
+    come_as (IsSentBy k incoming) (IsReadBy k read) old new (λ vehicle primary h. subst (λ (r : Result Incoming Refusal). IsReadBy k r vehicle primary) (sym is) h) come
+
+pub come_delivered : (k : Rules) (c : Command) (body : List ℕ) (old new : Table Primary) → c ≡ Deliver body → Come (IsReadBy k (incoming_in body)) old new → Come (IsDeliveredBy k c) old new
+come_delivered k c body old new is come =
+    come_as (IsReadBy k (incoming_in body)) (IsDeliveredBy k c) old new (λ vehicle primary h. subst (λ (d : Command). IsDeliveredBy k d vehicle primary) (sym is) h) come
+
+-- ---- what is loaded for it
+
+-- the refusal of one step is that of the next
+pub still_there : (A B : Type 0) (r : Refusal) (catalog : Option Catalog) → IsThere {A = A} (Err r) catalog → IsThere {A = B} (Err r) catalog
+still_there A B r catalog (inl is) = let same : r ≡ NotFounded = cc in inl (ap (λ x. Err x) same)
+still_there A B r catalog (inr there) = inr there
+
+-- what passed was founded
+pub there_behind : (A B : Type 0) (x : A) (result : Result B Refusal) (catalog : Option Catalog) → IsThere {A = A} (Ok x) catalog → IsThere result catalog
+there_behind A B x result catalog (inl is) = let no : ◌≡◌ {A = Result A Refusal} (Ok x) (Err NotFounded) = is in cc
+there_behind A B x result catalog (inr there) = inr there
+
+pub loaded_told : (result : Result Answer Refusal) (catalog : Option Catalog) → IsThere result catalog → IsLoadedBehind (told result) catalog
+loaded_told result catalog (inl is) = due (is_failed (told result)) _ (inl (ap told is))
+loaded_told result catalog (inr there) = due (is_failed (told result)) _ (inr there)
+
+pub loaded_read : (read : Result Incoming Refusal) (P : Type 0) → P → IfOk read (λ incoming. P)
+loaded_read (Ok incoming) P h = h
+loaded_read (Err r) P h = tt
+
+-- a body that can be read is refused for want of memory alone
+pub unread_loads : (read : Result Incoming Refusal) (r : Refusal) (X : Type 0) → MatchBool (is_memory r) ⊤ (read ≡ Err r) → IfOk read (λ incoming. MatchBool (is_fault r) ⊤ X)
+unread_loads (Err q) r X h = tt
+unread_loads (Ok incoming) r X h = by_memory (is_memory r) h
+  where
+    by_memory : (b : Bool) → MatchBool b ⊤ (◌≡◌ {A = Result Incoming Refusal} (Ok incoming) (Err r)) → MatchBool (b || is_store r) ⊤ X
+    by_memory true h = tt
+    by_memory false h = absurd (let no : ◌≡◌ {A = Result Incoming Refusal} (Ok incoming) (Err r) = h in cc)
+
+pub loads_as : (c d : Command) (a : Answer) (catalog : Option Catalog) → c ≡ d → Loads d a catalog → Loads c a catalog
+loads_as c d a catalog is h = subst (λ (e : Command). Loads e a catalog) (sym is) h
+
+-- ---- the rows of its vehicle
 
 pub unknown_refused : (k : Rules) (s : State) (incoming : Incoming) (founding : Founding) (r : Refusal) → founding_row s ≡ Some founding → GivesVehicle s incoming.manifest.vehicle (Err r)
     → MatchBool (is_fault r) ⊤ (receive_manifest k s incoming ≡ Err r)

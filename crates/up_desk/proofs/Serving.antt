@@ -1,10 +1,10 @@
 -- What is due is what a command over the rows comes to.
-use Rattle.std.proofs.Common.{◌≡◌, ℕ, ◌<◌, ◌≤◌, List, Bool, true, false, Option, Some, None, Result, Ok, Err, refl, sym, ap, ◌∙◌, subst, arith}
+use Rattle.std.proofs.Common.{◌≡◌, ℕ, ◌<◌, ◌≤◌, List, Bool, true, false, Option, Some, None, Result, Ok, Err, inl, refl, sym, ap, ◌∙◌, subst, arith}
 use Rattle.std.specs.Prelude.{◌||◌, ⊤, nat_lt, if◌then◌else◌, codes, length, IfSome, option_and_then, MatchBool, IsTrue}
 use Rattle.std.specs.List.{list_all}
 use Rattle.std.proofs.lemmas.Bool.Decides.{nat_tests}
 use Rattle.up_canon.specs.Moments.{last_command_moment}
-use Rattle.up_canon.specs.Steps.{and_then, refuse_if, unless, value_of}
+use Rattle.up_canon.specs.Steps.{and_then, error_of, refuse_if, unless, value_of}
 use Rattle.up_canon.specs.Refusals.{is_memory}
 use Rattle.up_canon.specs.declared.refusal.Refusal.{Refusal}
 use Rattle.up_canon.specs.declared.refusal.Refusal.TheVariants.{MomentOutOfRange, TooLarge, BadShape}
@@ -36,7 +36,8 @@ use Rattle.up_machine.proofs.Fetched.{in_time}
 use Rattle.sqlite.specs.State.{State as Connected, HasCleanDisk, Survives}
 use Rattle.up_tables.specs.Stands.{IfClean, LeavesOnly}
 use Rattle.up_store.specs.Connections.{KeepsState}
-use Rattle.up_desk.specs.Serving.{is_store, is_fault, is_failed, IsAnswered, told, outcome_due, outright_in_time, outright, HoldsState, Leaves, IsCommit, Serves}
+use Rattle.up_desk.specs.Delivering.{RefusesRead, RefusesUnread}
+use Rattle.up_desk.specs.Serving.{is_store, is_fault, is_failed, IsAnswered, told, outcome_due, outright_in_time, outright, alone_in_time, refused_alone, HoldsState, Leaves, IsCommit, Serves}
 
 -- ---- the moment
 
@@ -235,6 +236,39 @@ late_outright k at c result h is =
 pub told_outright : (o : Option Refusal) (given : Result Answer Refusal) (answer : Answer) → answer ≡ told given → IfSome o (λ r. given ≡ Err r) → IfSome o (λ r. answer ≡ Refused r)
 told_outright None given answer is h = tt
 told_outright (Some r) given answer is h = is ∙ ap told h
+
+-- ---- what is refused with nothing read
+
+-- a command that isn't refused for itself
+pub none_alone : (k : Rules) (c d : Command) (P : Refusal → Type 0) → c ≡ d → alone_in_time k d ≡ None → IfSome (alone_in_time k c) P
+none_alone k c d P is none = subst (λ (e : Command). IfSome (alone_in_time k e) P) (sym is) (subst (λ r. IfSome r P) (sym none) tt)
+
+pub key_alone : {S : Type 0} (k : Rules) (new : NewVehicleData) (c : Command) (before after : S) (result : Result Answer Refusal) → c ≡ AddVehicle new
+    → (list_all (λ e. public_fits k e.public) new.ecus ≡ false → RefusesUnread before after result (BadShape (codes "key"))) → IfSome (alone_in_time k c) (RefusesRead before after result)
+key_alone k new c before after result is refused =
+    subst (λ (d : Command). IfSome (alone_in_time k d) (RefusesRead before after result)) (sym is) (by_test (list_all (λ e. public_fits k e.public) new.ecus) refl)
+  where
+    by_test : (t : Bool) → list_all (λ e. public_fits k e.public) new.ecus ≡ t → IfSome (if t then None else Some (BadShape (codes "key"))) (RefusesRead before after result)
+    by_test true is = tt
+    by_test false is = let it = refused is in record { refused = inl it.refused; unread = it.unread }
+
+pub ecu_alone : {S : Type 0} (k : Rules) (new : Replacement) (c : Command) (before after : S) (result : Result Answer Refusal) → c ≡ ReplaceEcu new
+    → (public_fits k new.ecu.public ≡ false → RefusesUnread before after result (BadShape (codes "key"))) → IfSome (alone_in_time k c) (RefusesRead before after result)
+ecu_alone k new c before after result is refused =
+    subst (λ (d : Command). IfSome (alone_in_time k d) (RefusesRead before after result)) (sym is) (by_test (public_fits k new.ecu.public) refl)
+  where
+    by_test : (t : Bool) → public_fits k new.ecu.public ≡ t → IfSome (if t then None else Some (BadShape (codes "key"))) (RefusesRead before after result)
+    by_test true is = tt
+    by_test false is = let it = refused is in record { refused = inl it.refused; unread = it.unread }
+
+pub body_alone : (k : Rules) (body : List ℕ) (c : Command) (P : Refusal → Type 0) → c ≡ Deliver body → IfSome (error_of (incoming_in body)) P → IfSome (alone_in_time k c) P
+body_alone k body c P is h = subst (λ (d : Command). IfSome (alone_in_time k d) P) (sym is) h
+
+pub in_time_alone : (k : Rules) (at : ℕ) (c : Command) (P : Refusal → Type 0) → at ≤ last_command_moment → IfSome (alone_in_time k c) P → IfSome (refused_alone k at c) P
+in_time_alone k at c P h refused = subst (λ t. IfSome (if t then Some MomentOutOfRange else alone_in_time k c) P) (sym (in_time_test at h)) refused
+
+pub late_alone : (k : Rules) (at : ℕ) (c : Command) (P : Refusal → Type 0) → last_command_moment < at → P MomentOutOfRange → IfSome (refused_alone k at c) P
+late_alone k at c P h is = subst (λ t. IfSome (if t then Some MomentOutOfRange else alone_in_time k c) P) (sym (late_test at h)) is
 
 -- ---- a disk that is clean was clean
 

@@ -1,11 +1,11 @@
 -- What a desk decides on a manifest, by what it knows so far.
-use Rattle.std.specs.Prelude.{◌≡◌, ◌⊎◌, ℕ, Bool, Option, None, Some, option_and_then, Result, Ok, Err, MatchBool, ⊤}
+use Rattle.std.specs.Prelude.{◌≡◌, ◌⊎◌, ℕ, Bool, true, Option, None, Some, is_some, option_and_then, Result, Ok, Err, IfOk, IsOkAnd, MatchBool, ⊤}
 use Rattle.std.specs.FinMap as table
 use Rattle.sqlite.specs.State.{State as Connected, HasCleanDisk}
 use Rattle.up_canon.specs.Names.{Name, Table}
 use Rattle.up_canon.specs.Steps.{error_of}
 use Rattle.up_canon.specs.declared.refusal.Refusal.{Refusal}
-use Rattle.up_canon.specs.declared.refusal.Refusal.TheVariants.{Memory, UnknownVehicle}
+use Rattle.up_canon.specs.declared.refusal.Refusal.TheVariants.{Memory, NotFounded, UnknownVehicle}
 use Rattle.up_sign.specs.Schemes.{Rules}
 use Rattle.up_manifest.specs.declared.manifest.Incoming.{Incoming}
 use Rattle.up_manifest.specs.Manifests.{incoming_in}
@@ -27,7 +27,7 @@ use Rattle.up_machine.specs.State.{State}
 use Rattle.up_tables.specs.Stands.{IfClean}
 use Rattle.up_store.specs.Connections.{KeepsState}
 use Rattle.up_desk.specs.declared.catalog.Catalog.{Catalog}
-use Rattle.up_desk.specs.Serving.{GivesOrFails, is_fault}
+use Rattle.up_desk.specs.Serving.{GivesOrFails, is_failed, is_fault}
 use Rattle.up_desk.specs.Standing.{IsOf}
 
 -- ---- who sent it
@@ -50,12 +50,25 @@ abbrev pub forged_by : Rules → Option Catalog → Command → Option Refusal
 forged_by k catalog (Deliver body) = refused_read k catalog (incoming_in body)
 forged_by k catalog c = None
 
+-- it is of this vehicle, and this Primary sent it
+abbrev pub IsSentBy : Rules → Incoming → Name → Primary → Type 0
+IsSentBy k incoming vehicle primary = (vehicle ≡ incoming.manifest.vehicle) × (check_sent k primary incoming ≡ Ok tt)
+
+-- of a manifest that was read, or not
+abbrev pub IsReadBy : Rules → Result Incoming Refusal → Name → Primary → Type 0
+IsReadBy k read vehicle primary = IsOkAnd read (λ incoming. IsSentBy k incoming vehicle primary)
+
+-- of the manifest that a command delivers
+abbrev pub IsDeliveredBy : Rules → Command → Name → Primary → Type 0
+IsDeliveredBy k (Deliver body) vehicle primary = IsReadBy k (incoming_in body) vehicle primary
+IsDeliveredBy k c vehicle primary = ⊥
+
 -- it is refused so, whatever the database does, and nothing is read of the tables
 pub record RefusesUnread {S A : Type 0} (old new : S) (result : Result A Refusal) (r : Refusal) : Type 0 where
   pub refused : result ≡ Err r
   pub unread : new ≡ old
 
--- the same, but that there may be no memory to read its body
+-- the same, but that there may be no memory to read a body
 pub record RefusesRead {S A : Type 0} (old new : S) (result : Result A Refusal) (r : Refusal) : Type 0 where
   pub refused : (result ≡ Err r) ⊎ (result ≡ Err Memory)
   pub unread : new ≡ old
@@ -79,6 +92,21 @@ GivesVehicle s name (Err r) = MatchBool (is_fault r) ⊤ ((vehicle_rows s name �
 abbrev pub GivesSenderRows : Rules → State → Incoming → Founding → Result VehicleRows Refusal → Type 0
 GivesSenderRows k s incoming founding (Ok vehicle) = IsSenderOf k s incoming (record { founding = founding; vehicle = vehicle })
 GivesSenderRows k s incoming founding (Err r) = MatchBool (is_fault r) ⊤ (receive_manifest k s incoming ≡ Err r)
+
+-- ---- what is loaded for it
+
+-- a catalog is there, unless the repositories aren't founded
+abbrev pub IsThere : {A : Type 0} → Result A Refusal → Option Catalog → Type 0
+IsThere result catalog = (result ≡ Err NotFounded) ⊎ (is_some catalog ≡ true)
+
+-- the same behind an answer, unless it is a fault
+abbrev pub IsLoadedBehind : Answer → Option Catalog → Type 0
+IsLoadedBehind a catalog = MatchBool (is_failed a) ⊤ ((a ≡ Refused NotFounded) ⊎ (is_some catalog ≡ true))
+
+-- so behind the delivery of a body that can be read
+abbrev pub Loads : Command → Answer → Option Catalog → Type 0
+Loads (Deliver body) a catalog = IfOk (incoming_in body) (λ incoming. IsLoadedBehind a catalog)
+Loads c a catalog = ⊤
 
 -- ---- what is decided
 

@@ -20,6 +20,7 @@ use Rattle.up_manifest.specs.declared.manifest.Incoming.{Incoming}
 use Rattle.up_manifest.specs.Manifests.{incoming_in}
 use Rattle.up_machine.specs.declared.command.Command.{Command}
 use Rattle.up_machine.specs.declared.command.Command.TheVariants.{ReplaceEcu, Deliver}
+use Rattle.up_machine.specs.declared.answer.Answer.{Answer}
 use Rattle.up_machine.specs.declared.answer.Answer.TheVariants.{Reply as Replied}
 use Rattle.up_machine.specs.declared.answer.Reply.{Reply}
 use Rattle.up_machine.specs.Deciding.{Outcome}
@@ -31,7 +32,10 @@ use Rattle.up_machine.specs.State.{Entry, Vehicle, State, nth}
 use Rattle.up_tables.specs.Stands.{IfClean, LeavesOnly}
 use Rattle.up_store.specs.Connections.{KeepsState}
 use Rattle.up_store.specs.Stopped.{AreFoundAgain}
+use Rattle.up_desk.specs.Runs.{sent, outcome_behind, IsAnsweredCommit, StaysOrComesTo, OutlastsCalls}
 use Rattle.up_desk.specs.Serving.{HoldsState, IsCommit}
+use Rattle.up_desk.specs.Standing.{Stored}
+use Rattle.up_desk.specs.Standing as standing
 
 -- ---- commits
 
@@ -101,3 +105,16 @@ abbrev pub ReopenedActsOnce : {D : Type 0} → DiskGhosts D → Type 0
 ReopenedActsOnce {D} g = (k : Rules) (s : State) (at : ℕ) (body : List ℕ) (incoming : Incoming) (old new : Held (FileStore D g)) → IsCalled over_files k s at body incoming old new
     → HasCleanDisk (file_state new) → (stopped : FileStore D g) → AreFoundAgain new stopped → IsTrue (view stopped).is_clean → (left : Image) → (files.state stopped).may_leave left
     → (opened : Held (FileStore D g)) → IsOpened opened → FindsIn left (file_state opened) → ∥ FindsState k body incoming (λ t. KeepsState k t (file_state opened)) ∥₁
+
+-- ---- lists
+
+-- Behind each commit of a list that was answered, an open finds of the files that a crash left the state behind it, or the one after some of the
+-- commands that follow.
+abbrev pub ReopenedOutlast : {D : Type 0} → DiskGhosts D → Type 0
+ReopenedOutlast {D} g = (k : Rules) (cs : List (ℕ × Command)) (answers : List Answer) (old new : Stored (FileStore D g))
+    → OutlastsCalls k cs answers (standing.state over_files old) (standing.state over_files new)
+    → (s : State) → IsSound k s → standing.IfClean (standing.KeepsState k s) (standing.state over_files old)
+    → (before rest : List Sent) (m : Sent) → IsAnsweredCommit k s (sent cs answers) before rest m
+    → HasCleanDisk (file_state new.held) → (stopped : FileStore D g) → AreFoundAgain new.held stopped → IsTrue (view stopped).is_clean → (left : Image) → (files.state stopped).may_leave left
+    → (opened : Held (FileStore D g)) → IsOpened opened → FindsIn left (file_state opened)
+    → ∥ ((at : State) × StaysOrComesTo k (outcome_behind k s before m).next rest at × KeepsState k at (file_state opened)) ∥₁

@@ -7,7 +7,7 @@ use Rattle.sqlite.specs.Tree.{Trees}
 use Rattle.up_canon.specs.Moments.{last_command_moment}
 use Rattle.up_canon.specs.Names.{Name}
 use Rattle.up_canon.specs.Refusals.{is_memory}
-use Rattle.up_canon.specs.Steps.{◌>>=◌}
+use Rattle.up_canon.specs.Steps.{◌>>=◌, error_of}
 use Rattle.up_canon.specs.declared.refusal.Refusal.{Refusal}
 use Rattle.up_canon.specs.declared.refusal.Refusal.TheVariants.{Memory, Store, MomentOutOfRange, TooLarge, BadShape}
 use Rattle.up_sign.specs.Schemes.{Rules}
@@ -64,6 +64,17 @@ outright_in_time k c = None
 -- that of a moment past the last one, before all others
 abbrev pub outright : Rules → ℕ → Command → Option Refusal
 outright k at c = if nat_lt last_command_moment at then Some MomentOutOfRange else outright_in_time k c
+
+-- ---- refusals for which nothing is read of the tables
+
+-- of a command in time: those, and that of a body that can't be read
+abbrev pub alone_in_time : Rules → Command → Option Refusal
+alone_in_time k (Deliver body) = error_of (incoming_in body)
+alone_in_time k c = outright_in_time k c
+
+-- that of a moment past the last one, before all others
+abbrev pub refused_alone : Rules → ℕ → Command → Option Refusal
+refused_alone k at c = if nat_lt last_command_moment at then Some MomentOutOfRange else alone_in_time k c
 
 -- ---- one command
 

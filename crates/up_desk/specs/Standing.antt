@@ -1,6 +1,6 @@
 -- What a desk stands on: the connection to its tables, and what it keeps of them in memory. The tables show a state to a desk where they
 -- show it, and what the desk keeps is of that state. A new desk keeps nothing, so to it they show what they show.
-use Rattle.std.specs.Prelude.{◌≡◌, ◌≤◌, ℕ, ⊤, Bool, true, false, MatchBool, if◌then◌else◌, Option, Some, None, Result, IsTrue}
+use Rattle.std.specs.Prelude.{◌≡◌, ◌≤◌, ◌⊎◌, ℕ, ⊤, Bool, true, false, MatchBool, if◌then◌else◌, Option, Some, None, Result, IsTrue}
 use Rattle.std.specs.FinMap as table
 use Rattle.sqlite.specs.Held.{Held}
 use Rattle.sqlite.specs.Held as holding
@@ -59,6 +59,15 @@ pub record KeepsMore (old new : Catalog) : Type 0 where
   pub rest : new ≡ record old { primaries = new.primaries }
   pub primaries : StayKept old.primaries new.primaries
   pub few : AreFew old.primaries → AreFew new.primaries
+
+-- the Primaries that are kept
+abbrev pub primaries_in : Option Catalog → Table Primary
+primaries_in None = table.empty
+primaries_in (Some c) = c.primaries
+
+-- each Primary that comes to be kept is such a one
+abbrev pub Come : (Name → Primary → Type 0) → Table Primary → Table Primary → Type 0
+Come P old new = (vehicle : Name) (primary : Primary) → table.get new vehicle ≡ Some primary → (table.get old vehicle ≡ Some primary) ⊎ P vehicle primary
 
 -- what is kept stays, whatever is answered, and Primaries may come to it; it may be loaded where nothing is
 abbrev pub StaysLoaded : Option Catalog → Option Catalog → Type 0

@@ -1,5 +1,6 @@
 //! What a desk keeps in memory of its tables, so that deliveries needn't read it again.
 ghost use Rattle.std.specs.Prelude.{◌≡◌, Some, Ok, IfOk, IfSome, IsTrue, OnOk, is_some, true};
+ghost use Rattle.std.specs.FinMap as table;
 ghost use Rattle.sqlite.specs.Held.{state};
 ghost use Rattle.sqlite.specs.State.{HasCleanDisk};
 ghost use Rattle.up_plan.specs.Campaigns.{CampaignData};
@@ -11,7 +12,7 @@ ghost use Rattle.up_store.specs.Connections.{KeepsState};
 ghost use Rattle.up_store.specs.Found.{values_where};
 ghost use Rattle.up_tables.specs.Stands.{IfClean};
 ghost use Rattle.up_desk.specs.Serving.{Reads, Tells};
-ghost use Rattle.up_desk.specs.Standing.{CanDecide, Fits, IsLoaded, StaysLoaded, kept_for, keeps_catalog as keeps_catalog_in};
+ghost use Rattle.up_desk.specs.Standing.{CanDecide, Come, Fits, IsLoaded, StaysLoaded, kept_for, keeps_catalog as keeps_catalog_in, primaries_in};
 
 use crate::reads::read_founding;
 use sqlite::Alter;
@@ -69,6 +70,7 @@ pub(crate) fn load<K: Scheme, D: Alter>(
     ensures fits { HasCleanDisk (state D.Store store.new) → (k : Rules) (s : State) → IfClean (KeepsState k s) (state D.Store store.old) → Fits s catalog.old → Fits s catalog.new }
     ensures loaded { HasCleanDisk (state D.Store store.new) → OnOk result ((k : Rules) (s : State) → IfClean (KeepsState k s) (state D.Store store.old) → Fits s catalog.old → IsLoaded s catalog.new) }
     ensures kept { StaysLoaded catalog.old catalog.new }
+    ensures came { Come (λ vehicle primary. ⊥) (primaries_in catalog.old) (primaries_in catalog.new) }
     ensures there { is_some catalog.old ≡ true → (result ≡ Ok tt) × (catalog.new ≡ catalog.old) × (store.new ≡ store.old) }
     ensures reads { Reads (state D.Store store.old) (state D.Store store.new) }
 {
@@ -92,6 +94,7 @@ fn read_catalog<K: Scheme, D: Alter>(
 ) -> Result<Option<Catalog>, StoreFault>
     ensures told { HasCleanDisk (state D.Store store.new) → IfOk result (λ read. (k : Rules) (s : State) → IfClean (KeepsState k s) (state D.Store store.old) → IsLoaded s read) }
     ensures can { IfOk result (λ read. IfSome read (CanDecide (K.rules scheme.now))) }
+    ensures none { IfOk result (λ read. primaries_in read ≡ table.empty) }
     ensures reads { Reads (state D.Store store.old) (state D.Store store.new) }
 {
     match read_founding(store, alloc, scheme) {
@@ -111,6 +114,7 @@ fn read_registers<K: Scheme, D: Alter>(
     requires { IsTrue (founding_fits (K.rules scheme.now) founding) }
     ensures told { HasCleanDisk (state D.Store store.new) → IfOk result (λ read. (k : Rules) (s : State) → IfClean (KeepsState k s) (state D.Store store.old) → founding_row s ≡ Some founding → IsLoaded s read) }
     ensures can { IfOk result (λ read. IfSome read (CanDecide (K.rules scheme.now))) }
+    ensures none { IfOk result (λ read. primaries_in read ≡ table.empty) }
     ensures reads { Reads (state D.Store store.old) (state D.Store store.new) }
 {
     let hashed = match hashed_roles(alloc, scheme, &founding.keys.director) {

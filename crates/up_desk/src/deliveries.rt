@@ -1,12 +1,12 @@
 //! Manifests that vehicles deliver.
-ghost use Rattle.std.specs.Prelude.{◌≡◌, ◌≤◌, ◌<◌, length, Result, Ok, Err, IfSome};
+ghost use Rattle.std.specs.Prelude.{◌≡◌, ◌≤◌, ◌<◌, length, Result, Ok, Err, IfOk, IfSome};
 ghost use Rattle.sqlite.specs.Held.{state};
 ghost use Rattle.sqlite.specs.State.{HasCleanDisk};
 ghost use Rattle.up_canon.specs.Moments.{last_command_moment};
 ghost use Rattle.up_canon.specs.Names.{Name};
 ghost use Rattle.up_canon.specs.declared.refusal.Refusal.{Refusal};
 ghost use Rattle.up_canon.specs.declared.refusal.Refusal.TheVariants.{TooLarge};
-ghost use Rattle.up_canon.specs.Steps.{and_then};
+ghost use Rattle.up_canon.specs.Steps.{and_then, error_of};
 ghost use Rattle.up_sign.specs.Schemes.{Rules};
 ghost use Rattle.up_manifest.specs.Manifests.{largest_body, incoming_in};
 ghost use Rattle.up_manifest.specs.declared.manifest.Incoming.{Incoming};
@@ -19,9 +19,9 @@ ghost use Rattle.up_machine.specs.Sound.{IsSound};
 ghost use Rattle.up_machine.specs.State.{State};
 ghost use Rattle.up_store.specs.Connections.{KeepsState};
 ghost use Rattle.up_tables.specs.Stands.{IfClean};
-ghost use Rattle.up_desk.specs.Delivering.{Decides, IsSent, RefusesRead, RefusesUnread, refused_by, refused_in};
-ghost use Rattle.up_desk.specs.Serving.{Reads, Serves};
-ghost use Rattle.up_desk.specs.Standing.{CanDecide, Fits, IsLoaded, IsOf, KeepsMore, StaysLoaded};
+ghost use Rattle.up_desk.specs.Delivering.{Decides, IsLoadedBehind, IsReadBy, IsSent, IsSentBy, IsThere, RefusesRead, RefusesUnread, refused_by, refused_in};
+ghost use Rattle.up_desk.specs.Serving.{Reads, Serves, told};
+ghost use Rattle.up_desk.specs.Standing.{CanDecide, Come, Fits, IsLoaded, IsOf, KeepsMore, StaysLoaded, primaries_in};
 
 use crate::catalog::{Catalog, load};
 use crate::ecu_keys::keep_ecus;
@@ -45,7 +45,8 @@ use up_sign::scheme::Scheme;
 use up_store::store::Store;
 
 /// Takes in a manifest, or answers a repeat by the reply that was kept for it. What is kept in memory of the tables is loaded
-/// where nothing is, and kept whatever is answered. `keys` gets the keys of ECUs that are met, and no answer depends on it.
+/// where nothing is, and kept whatever is answered. `keys` gets the keys of ECUs that are met, and no answer depends on it. Nothing
+/// is read of the tables for a body that can't be read.
 pub fn deliver<K: Scheme, D: Alter>(
     store: &mut Store<D>,
     catalog: &mut Option<Catalog>,
@@ -57,12 +58,16 @@ pub fn deliver<K: Scheme, D: Alter>(
 ) -> Result<Answer, Refusal>
     requires moment { at ≤ last_command_moment }
     requires can { IfSome catalog.old (CanDecide (K.rules scheme.now)) }
-    ensures large { largest_body < length body.now → result ≡ Err TooLarge }
+    ensures large { largest_body < length body.now → RefusesUnread store.old store.new result TooLarge }
+    ensures unread { IfSome (error_of (incoming_in body.now)) (RefusesRead store.old store.new result) }
     ensures serves { (s : State) → IsSound (K.rules scheme.now) s → IfClean (KeepsState (K.rules scheme.now) s) (state D.Store store.old) → (HasCleanDisk (state D.Store store.old) → Fits s catalog.old)
         → Serves (K.rules scheme.now) s (state D.Store store.old) (state D.Store store.new) result
         (and_then (incoming_in body.now) (decide_incoming (K.rules scheme.now) s at)) }
     ensures fits { HasCleanDisk (state D.Store store.new) → (k : Rules) (s : State) → IfClean (KeepsState k s) (state D.Store store.old) → Fits s catalog.old → Fits s catalog.new }
     ensures kept { StaysLoaded catalog.old catalog.new }
+    ensures came { HasCleanDisk (state D.Store store.new) → (s : State) → IfClean (KeepsState (K.rules scheme.now) s) (state D.Store store.old) → Fits s catalog.old
+        → Come (IsReadBy (K.rules scheme.now) (incoming_in body.now)) (primaries_in catalog.old) (primaries_in catalog.new) }
+    ensures loads { IfOk (incoming_in body.now) (λ incoming. IsLoadedBehind (told result) catalog.new) }
     ensures can { IfSome catalog.new (CanDecide (K.rules scheme.now)) }
     ensures forged { (incoming : Incoming) → incoming_in body.now ≡ Ok incoming → IfSome (refused_in (K.rules scheme.now) catalog.old incoming) (RefusesRead store.old store.new result) }
 {
@@ -89,6 +94,9 @@ fn receive<K: Scheme, D: Alter>(
         → Serves (K.rules scheme.now) s (state D.Store store.old) (state D.Store store.new) result (decide_incoming (K.rules scheme.now) s at incoming.now) }
     ensures fits { HasCleanDisk (state D.Store store.new) → (k : Rules) (s : State) → IfClean (KeepsState k s) (state D.Store store.old) → Fits s catalog.old → Fits s catalog.new }
     ensures kept { StaysLoaded catalog.old catalog.new }
+    ensures came { HasCleanDisk (state D.Store store.new) → (s : State) → IfClean (KeepsState (K.rules scheme.now) s) (state D.Store store.old) → Fits s catalog.old
+        → Come (IsSentBy (K.rules scheme.now) incoming.now) (primaries_in catalog.old) (primaries_in catalog.new) }
+    ensures loads { IsLoadedBehind (told result) catalog.new }
     ensures can { IfSome catalog.new (CanDecide (K.rules scheme.now)) }
     ensures forged { IfSome (refused_in (K.rules scheme.now) catalog.old incoming.now) (RefusesUnread store.old store.new result) }
 {
@@ -116,6 +124,9 @@ fn receive_loaded<K: Scheme, D: Alter>(
     ensures clean { HasCleanDisk (state D.Store store.new) → HasCleanDisk (state D.Store store.old) }
     ensures fits { HasCleanDisk (state D.Store store.new) → (k : Rules) (s : State) → IfClean (KeepsState k s) (state D.Store store.old) → Fits s catalog.old → Fits s catalog.new }
     ensures kept { StaysLoaded catalog.old catalog.new }
+    ensures came { HasCleanDisk (state D.Store store.new) → (s : State) → IfClean (KeepsState (K.rules scheme.now) s) (state D.Store store.old) → Fits s catalog.old
+        → Come (IsSentBy (K.rules scheme.now) incoming.now) (primaries_in catalog.old) (primaries_in catalog.new) }
+    ensures loads { IsThere result catalog.new }
     ensures can { IfSome catalog.new (CanDecide (K.rules scheme.now)) }
     ensures forged { IfSome (refused_in (K.rules scheme.now) catalog.old incoming.now) (RefusesUnread store.old store.new result) }
 {
@@ -166,6 +177,9 @@ fn decide<K: Scheme, D: Alter>(
     ensures decided { Decides (K.rules scheme.now) at incoming.now (λ s. IsLoaded s catalog.old) (state D.Store store.old) (state D.Store store.new) result }
     ensures fits { HasCleanDisk (state D.Store store.new) → (k : Rules) (s : State) → IfClean (KeepsState k s) (state D.Store store.old) → Fits s catalog.old → Fits s catalog.new }
     ensures kept { StaysLoaded catalog.old catalog.new }
+    ensures came { HasCleanDisk (state D.Store store.new) → (s : State) → IfClean (KeepsState (K.rules scheme.now) s) (state D.Store store.old) → Fits s catalog.old
+        → Come (IsSentBy (K.rules scheme.now) incoming.now) (primaries_in catalog.old) (primaries_in catalog.new) }
+    ensures loads { IsThere result catalog.new }
     ensures can { IfSome catalog.new (CanDecide (K.rules scheme.now)) }
     ensures forged { IfSome (refused_in (K.rules scheme.now) catalog.old incoming.now) (RefusesUnread store.old store.new result) }
     ensures reads { Reads (state D.Store store.old) (state D.Store store.new) }
@@ -192,6 +206,8 @@ fn decide_founded<K: Scheme, D: Alter>(
     ensures decided { Decides (K.rules scheme.now) at incoming.now (λ s. IsOf s catalog.old) (state D.Store store.old) (state D.Store store.new) result }
     ensures of { HasCleanDisk (state D.Store store.new) → (k : Rules) (s : State) → IfClean (KeepsState k s) (state D.Store store.old) → IsOf s catalog.old → IsOf s catalog.new }
     ensures more { KeepsMore catalog.old catalog.new }
+    ensures came { HasCleanDisk (state D.Store store.new) → (s : State) → IfClean (KeepsState (K.rules scheme.now) s) (state D.Store store.old) → IsOf s catalog.old
+        → Come (IsSentBy (K.rules scheme.now) incoming.now) catalog.old.primaries catalog.new.primaries }
     ensures forged { IfSome (refused_by (K.rules scheme.now) catalog.old.primaries incoming.now) (RefusesUnread store.old store.new result) }
     ensures reads { Reads (state D.Store store.old) (state D.Store store.new) }
 {

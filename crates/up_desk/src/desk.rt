@@ -7,11 +7,12 @@ ghost use Rattle.up_machine.specs.declared.answer.Answer.TheVariants.{Refused};
 ghost use Rattle.up_machine.specs.Commands.{opens_running};
 ghost use Rattle.up_machine.specs.Reads.{ecus_of as ecus_in, version_of as version_in, installed as installed_in, assigned_to};
 ghost use Rattle.up_machine.specs.Rows.{vehicle_rows};
+ghost use Rattle.up_machine.specs.State.{State};
 ghost use Rattle.up_desk.specs.Runs.{AreOutright, CommitsCalls, OutlastsCalls, RunsCalls, SparesCalls};
 ghost use Rattle.up_desk.specs.Calls.{CommitsCall, ServesCall, SparesCall};
-ghost use Rattle.up_desk.specs.Delivering.{AnswersRead, forged_by};
-ghost use Rattle.up_desk.specs.Serving.{outright as outright_of};
-ghost use Rattle.up_desk.specs.Standing.{HasCleanDisk, Reads, StaysLoaded, Tells, bare, kept_for, state};
+ghost use Rattle.up_desk.specs.Delivering.{AnswersRead, IsDeliveredBy, Loads, forged_by};
+ghost use Rattle.up_desk.specs.Serving.{outright as outright_of, refused_alone};
+ghost use Rattle.up_desk.specs.Standing.{Come, HasCleanDisk, IfClean, KeepsState, Reads, StaysLoaded, Tells, bare, kept_for, primaries_in, state};
 
 use crate::catalog::Catalog;
 use crate::dispatch::{answer_of, dispatch, keeps_limits};
@@ -88,21 +89,27 @@ impl<K: Scheme, D: Alter> Desk<K, D> {
         &self.scheme
     }
 
-    /// Answers a command at a moment: as the plain machine does, but a repeat of an accepted manifest is answered the reply
-    /// that was kept for it, and each kept reply stays. Where memory or the database refuses (`Refused(Memory)`,
-    /// `Refused(Store)`) nothing changes; a moment past 2100-01-01T00:00:00Z, a body of more than 262,144 bytes and a key of a
-    /// new vehicle or ECU that doesn't fit are refused as that whatever they do. Whatever is answered, a crash leaves what it could
-    /// leave before, or the next state; after `Done` and a reply to a newly accepted manifest that state alone. What is kept in
-    /// memory stays over deliveries and fetches. A manifest that the kept Primary of its vehicle didn't send is refused as that, or
-    /// for want of memory, and nothing is read of the tables.
+    /// Answers a command at a moment: as the plain machine does, but a repeat of an accepted manifest is answered the reply that
+    /// was kept for it, and each kept reply stays. Where memory or the database refuses (`Refused(Memory)`, `Refused(Store)`)
+    /// nothing changes; a moment past 2100-01-01T00:00:00Z, a body of more than 262,144 bytes and a key of a new vehicle or ECU
+    /// that doesn't fit are refused as that whatever they do. Whatever is answered, a crash leaves what it could leave before, or
+    /// the next state; after `Done` and a reply to a newly accepted manifest that state alone. What is kept in memory stays over
+    /// deliveries and fetches, and is there behind each delivery in time of a body that can be read, but for `NotFounded` and
+    /// these two faults. A Primary comes to be kept by a manifest that it sent. A manifest that the kept Primary of its vehicle
+    /// didn't send, and a body that can't be read, is refused as that, or for want of memory, and nothing is read of the tables;
+    /// nor is it for such a moment or key.
     pub fn call(&mut self, alloc: Global, at: u64, command: &Command) -> Answer
         requires { IsTrue (opens_running command.now) }
         ensures served { ServesCall (K.rules self.old.scheme) at command.now result (state D.Store self.old.store) (state D.Store self.new.store) }
         ensures outright { IfSome (outright_of (K.rules self.old.scheme) at command.now) (λ r. result ≡ Refused r) }
+        ensures unread { IfSome (refused_alone (K.rules self.old.scheme) at command.now) (AnswersRead self.old.store.held self.new.store.held result) }
         ensures crash { SparesCall (K.rules self.old.scheme) at command.now (state D.Store self.old.store) (state D.Store self.new.store) }
         ensures durable { CommitsCall (K.rules self.old.scheme) at command.now result (state D.Store self.old.store) (state D.Store self.new.store) }
         ensures clean { HasCleanDisk (state D.Store self.new.store) → HasCleanDisk (state D.Store self.old.store) }
         ensures kept { StaysLoaded (kept_for command.now self.old.store.catalog) self.new.store.catalog }
+        ensures came { HasCleanDisk (state D.Store self.new.store) → (s : State) → IfClean (KeepsState (K.rules self.old.scheme) s) (state D.Store self.old.store)
+            → Come (IsDeliveredBy (K.rules self.old.scheme) command.now) (primaries_in self.old.store.catalog) (primaries_in self.new.store.catalog) }
+        ensures loads { at ≤ last_command_moment → Loads command.now result self.new.store.catalog }
         ensures forged { at ≤ last_command_moment → IfSome (forged_by (K.rules self.old.scheme) self.old.store.catalog command.now) (AnswersRead self.old.store.held self.new.store.held result) }
         ensures scheme { self.new.scheme ≡ self.old.scheme }
     {

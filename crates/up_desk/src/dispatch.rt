@@ -9,9 +9,9 @@ ghost use Rattle.up_machine.specs.Sound.{IsSound};
 ghost use Rattle.up_machine.specs.State.{State};
 ghost use Rattle.up_store.specs.Connections.{KeepsState};
 ghost use Rattle.up_tables.specs.Stands.{IfClean};
-ghost use Rattle.up_desk.specs.Delivering.{RefusesRead, forged_by};
-ghost use Rattle.up_desk.specs.Standing.{CanDecide, Fits, StaysLoaded, StillFits, kept_for};
-ghost use Rattle.up_desk.specs.Serving.{Serves, outcome_due, outright as outright_of, outright_in_time, told};
+ghost use Rattle.up_desk.specs.Delivering.{IsDeliveredBy, Loads, RefusesRead, forged_by};
+ghost use Rattle.up_desk.specs.Standing.{CanDecide, Come, Fits, StaysLoaded, StillFits, kept_for, primaries_in};
+ghost use Rattle.up_desk.specs.Serving.{Serves, alone_in_time, outcome_due, outright as outright_of, outright_in_time, refused_alone, told};
 
 use crate::campaigns::{close, open};
 use crate::catalog::{Catalog, drop_before};
@@ -32,8 +32,8 @@ use up_sign::scheme::Scheme;
 use up_store::store::Store;
 
 /// What a command comes to, whose moment is checked first. What is kept in memory is dropped before every command but a delivery
-/// and a fetch, over which it stays, whatever is answered. Of a manifest in time that the kept Primary of its vehicle didn't send,
-/// nothing is read of the tables.
+/// and a fetch, over which it stays, whatever is answered. Nothing is read of the tables for a moment that is too late, a body that
+/// can't be read, a key that doesn't fit, and a manifest that the kept Primary of its vehicle didn't send.
 pub fn dispatch<K: Scheme, D: Alter>(
     store: &mut Store<D>,
     catalog: &mut Option<Catalog>,
@@ -47,8 +47,12 @@ pub fn dispatch<K: Scheme, D: Alter>(
     ensures serves { (s : State) → IsSound (K.rules scheme.now) s → IfClean (KeepsState (K.rules scheme.now) s) (state D.Store store.old) → (HasCleanDisk (state D.Store store.old) → Fits s catalog.old)
         → Serves (K.rules scheme.now) s (state D.Store store.old) (state D.Store store.new) result (outcome_due (K.rules scheme.now) s at command.now) }
     ensures outright { IfSome (outright_of (K.rules scheme.now) at command.now) (λ r. result ≡ Err r) }
+    ensures unread { IfSome (refused_alone (K.rules scheme.now) at command.now) (RefusesRead store.old store.new result) }
     ensures fits { HasCleanDisk (state D.Store store.new) → (k : Rules) (s : State) → IfClean (KeepsState k s) (state D.Store store.old) → Fits s catalog.old → StillFits s command.now catalog.new }
     ensures kept { StaysLoaded (kept_for command.now catalog.old) catalog.new }
+    ensures came { HasCleanDisk (state D.Store store.new) → (s : State) → IfClean (KeepsState (K.rules scheme.now) s) (state D.Store store.old) → Fits s catalog.old
+        → Come (IsDeliveredBy (K.rules scheme.now) command.now) (primaries_in catalog.old) (primaries_in catalog.new) }
+    ensures loads { at ≤ last_command_moment → Loads command.now (told result) catalog.new }
     ensures can { IfSome catalog.new (CanDecide (K.rules scheme.now)) }
     ensures forged { at ≤ last_command_moment → IfSome (forged_by (K.rules scheme.now) catalog.old command.now) (RefusesRead store.old store.new result) }
 {
@@ -75,8 +79,12 @@ fn dispatch_at<K: Scheme, D: Alter>(
     ensures serves { (s : State) → IsSound (K.rules scheme.now) s → IfClean (KeepsState (K.rules scheme.now) s) (state D.Store store.old) → (HasCleanDisk (state D.Store store.old) → Fits s catalog.old)
         → Serves (K.rules scheme.now) s (state D.Store store.old) (state D.Store store.new) result (outcome_due (K.rules scheme.now) s at command.now) }
     ensures outright { IfSome (outright_in_time (K.rules scheme.now) command.now) (λ r. result ≡ Err r) }
+    ensures unread { IfSome (alone_in_time (K.rules scheme.now) command.now) (RefusesRead store.old store.new result) }
     ensures fits { HasCleanDisk (state D.Store store.new) → (k : Rules) (s : State) → IfClean (KeepsState k s) (state D.Store store.old) → Fits s catalog.old → StillFits s command.now catalog.new }
     ensures kept { StaysLoaded (kept_for command.now catalog.old) catalog.new }
+    ensures came { HasCleanDisk (state D.Store store.new) → (s : State) → IfClean (KeepsState (K.rules scheme.now) s) (state D.Store store.old) → Fits s catalog.old
+        → Come (IsDeliveredBy (K.rules scheme.now) command.now) (primaries_in catalog.old) (primaries_in catalog.new) }
+    ensures loads { Loads command.now (told result) catalog.new }
     ensures can { IfSome catalog.new (CanDecide (K.rules scheme.now)) }
     ensures forged { IfSome (forged_by (K.rules scheme.now) catalog.old command.now) (RefusesRead store.old store.new result) }
 {

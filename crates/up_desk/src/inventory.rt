@@ -1,5 +1,5 @@
 //! Vehicles of the inventory.
-ghost use Rattle.std.specs.Prelude.{◌≡◌, ◌≤◌, IfOk, is_some, map, option_copied, codes, false, Err};
+ghost use Rattle.std.specs.Prelude.{◌≡◌, ◌≤◌, IfOk, is_some, map, option_copied, codes, false};
 ghost use Rattle.std.specs.List.{list_all};
 ghost use Rattle.sqlite.specs.Held.{state};
 ghost use Rattle.sqlite.specs.State.{HasCleanDisk};
@@ -14,6 +14,7 @@ ghost use Rattle.up_machine.specs.Sound.{IsSound};
 ghost use Rattle.up_machine.specs.State.{State, added, is_taken as is_taken_in};
 ghost use Rattle.up_store.specs.Connections.{KeepsState};
 ghost use Rattle.up_tables.specs.Stands.{IfClean};
+ghost use Rattle.up_desk.specs.Delivering.{RefusesUnread};
 ghost use Rattle.up_desk.specs.Serving.{GivesOrFails, Reads, Serves, Tells};
 
 use crate::faults::{done_of, refusal_of};
@@ -42,7 +43,7 @@ pub fn add_vehicle<K: Scheme, D: Alter>(
     new: &NewVehicle,
 ) -> Result<Answer, Refusal>
     requires moment { at ≤ last_command_moment }
-    ensures key { list_all (λ e. public_fits (K.rules scheme.now) e.public) new.now.ecus ≡ false → result ≡ Err (BadShape (codes "key")) }
+    ensures key { list_all (λ e. public_fits (K.rules scheme.now) e.public) new.now.ecus ≡ false → RefusesUnread store.old store.new result (BadShape (codes "key")) }
     ensures serves { (s : State) → IsSound (K.rules scheme.now) s → IfClean (KeepsState (K.rules scheme.now) s) (state D.Store store.old)
         → Serves (K.rules scheme.now) s (state D.Store store.old) (state D.Store store.new) result (decide_vehicle_in (K.rules scheme.now) s at new.now) }
 {

@@ -1,5 +1,5 @@
 //! The laws of commits, and of deliveries that come again.
-ghost use Rattle.up_desk.specs.Laws.{NewRepliesCommit, DeliveriesActOnce, CrashesActOnce, ReopenedActsOnce};
+ghost use Rattle.up_desk.specs.Laws.{NewRepliesCommit, DeliveriesActOnce, CrashesActOnce, ReopenedActsOnce, ReopenedOutlast};
 
 use sqlite::Alter;
 use sqlite_disk::Disk;
@@ -30,3 +30,9 @@ pub fn reopened_deliveries_act_once<D: Disk>()
     repeats_change_nothing();
     states_only_grow();
 }
+
+/// Of a whole list, where the program stopped and the files are opened again as a crash left them: behind each commit that was
+/// answered the tables show the state behind it, or the one after some of the commands that follow.
+pub fn reopened_runs_outlast_crashes<D: Disk>()
+    ensures { ReopenedOutlast D.Disk }
+{}

@@ -1,8 +1,9 @@
 //! What commands read of the store.
-ghost use Rattle.std.specs.Prelude.{IfOk, IfSome, IsTrue, is_some};
+ghost use Rattle.std.specs.Prelude.{◌≡◌, IfErr, IfOk, IfSome, IsSomeAnd, IsTrue, false, is_some};
 ghost use Rattle.sqlite.specs.Held.{state};
 ghost use Rattle.up_machine.specs.Rows.{founding_row, vehicle_rows as vehicle_rows_in};
 ghost use Rattle.up_machine.specs.RowsFit.{founding_fits as founding_fits_in, rows_fit as rows_fit_in};
+ghost use Rattle.up_tables.specs.declared.values.StoreFault.TheVariants as faults;
 ghost use Rattle.up_desk.specs.Serving.{Tells, Reads};
 
 use sqlite::Alter;
@@ -33,15 +34,29 @@ pub fn read_founding<K: Scheme, D: Alter>(
     ensures fits { IfOk result (λ found. IfSome found (λ f. IsTrue (founding_fits_in (K.rules scheme.now) f))) }
 {
     match store.founding(alloc) {
-        Ok(Some(founding)) => {
+        Ok(found) => fitting_founding(scheme, found),
+        Err(fault) => Err(fault),
+    }
+}
+
+/// The founding that was read, if its keys can sign. It takes no memory.
+fn fitting_founding<K: Scheme>(
+    scheme: &K,
+    found: Option<Founding>,
+) -> Result<Option<Founding>, StoreFault>
+    ensures went { IfOk result (λ same. same ≡ found) }
+    ensures fits { IfOk result (λ same. IfSome same (λ f. IsTrue (founding_fits_in (K.rules scheme.now) f))) }
+    ensures fault { IfErr result (λ e. (e ≡ faults.Store) × IsSomeAnd found (λ f. founding_fits_in (K.rules scheme.now) f ≡ false)) }
+{
+    match found {
+        Some(founding) => {
             if founding_fits(scheme, &founding) {
                 Ok(Some(founding))
             } else {
                 Err(StoreFault::Store)
             }
         }
-        Ok(None) => Ok(None),
-        Err(fault) => Err(fault),
+        None => Ok(None),
     }
 }
 
@@ -77,14 +92,25 @@ pub fn read_fitting_vehicle<D: Alter>(
     ensures fits { IfOk result (λ found. IfSome found (λ v. IsTrue (rows_fit_in v))) }
 {
     match read_vehicle(store, alloc, name) {
-        Ok(Some(rows)) => {
+        Ok(found) => fitting_vehicle(found),
+        Err(fault) => Err(fault),
+    }
+}
+
+/// The rows that were read, if they fit. It takes no memory.
+fn fitting_vehicle(found: Option<VehicleRows>) -> Result<Option<VehicleRows>, StoreFault>
+    ensures went { IfOk result (λ same. same ≡ found) }
+    ensures fits { IfOk result (λ same. IfSome same (λ v. IsTrue (rows_fit_in v))) }
+    ensures fault { IfErr result (λ e. (e ≡ faults.Store) × IsSomeAnd found (λ v. rows_fit_in v ≡ false)) }
+{
+    match found {
+        Some(rows) => {
             if rows_fit(&rows) {
                 Ok(Some(rows))
             } else {
                 Err(StoreFault::Store)
             }
         }
-        Ok(None) => Ok(None),
-        Err(fault) => Err(fault),
+        None => Ok(None),
     }
 }

@@ -1,5 +1,5 @@
 //! ECUs that replace others.
-ghost use Rattle.std.specs.Prelude.{◌≡◌, ◌≤◌, is_some, option_copied, codes, false, Err};
+ghost use Rattle.std.specs.Prelude.{◌≡◌, ◌≤◌, is_some, option_copied, codes, false};
 ghost use Rattle.sqlite.specs.Held.{state};
 ghost use Rattle.sqlite.specs.State.{HasCleanDisk};
 ghost use Rattle.up_canon.specs.declared.refusal.Refusal.TheVariants.{BadShape};
@@ -12,6 +12,7 @@ ghost use Rattle.up_machine.specs.Sound.{IsSound};
 ghost use Rattle.up_machine.specs.State.{State};
 ghost use Rattle.up_store.specs.Connections.{KeepsState};
 ghost use Rattle.up_tables.specs.Stands.{IfClean};
+ghost use Rattle.up_desk.specs.Delivering.{RefusesUnread};
 ghost use Rattle.up_desk.specs.Serving.{GivesOrFails, Reads, Serves};
 
 use crate::faults::{done_of, refusal_of};
@@ -39,7 +40,7 @@ pub fn replace_ecu<K: Scheme, D: Alter>(
     new: &Replacement,
 ) -> Result<Answer, Refusal>
     requires moment { at ≤ last_command_moment }
-    ensures key { public_fits_in (K.rules scheme.now) new.now.ecu.public ≡ false → result ≡ Err (BadShape (codes "key")) }
+    ensures key { public_fits_in (K.rules scheme.now) new.now.ecu.public ≡ false → RefusesUnread store.old store.new result (BadShape (codes "key")) }
     ensures serves { (s : State) → IsSound (K.rules scheme.now) s → IfClean (KeepsState (K.rules scheme.now) s) (state D.Store store.old)
         → Serves (K.rules scheme.now) s (state D.Store store.old) (state D.Store store.new) result (decide_replace_in (K.rules scheme.now) s at new.now) }
 {

@@ -11,9 +11,9 @@ ghost use Rattle.up_machine.specs.RowsFit.{founding_fits, rows_fit};
 ghost use Rattle.up_machine.specs.State.{State};
 ghost use Rattle.up_store.specs.Connections.{KeepsState};
 ghost use Rattle.up_tables.specs.Stands.{IfClean};
-ghost use Rattle.up_desk.specs.Delivering.{GivesKept, GivesSenderRows, GivesVehicle, RefusesUnread, refused_by};
+ghost use Rattle.up_desk.specs.Delivering.{GivesKept, GivesSenderRows, GivesVehicle, IsSentBy, RefusesUnread, refused_by};
 ghost use Rattle.up_desk.specs.Serving.{Reads};
-ghost use Rattle.up_desk.specs.Standing.{AreFew, ArePrimaries, IsOf, KeepsMore, StayKept};
+ghost use Rattle.up_desk.specs.Standing.{AreFew, ArePrimaries, Come, IsOf, KeepsMore, StayKept};
 
 use crate::catalog::Catalog;
 use crate::ecu_keys::{keep_key, keep_primary};
@@ -53,6 +53,8 @@ pub(crate) fn read_sender<K: Scheme, D: Alter>(
     ensures fits { IfOk result (λ rows. IsTrue (rows_fit rows)) }
     ensures of { HasCleanDisk (state D.Store store.new) → (k : Rules) (s : State) → IfClean (KeepsState k s) (state D.Store store.old) → IsOf s catalog.old → IsOf s catalog.new }
     ensures more { KeepsMore catalog.old catalog.new }
+    ensures came { HasCleanDisk (state D.Store store.new) → (s : State) → IfClean (KeepsState (K.rules scheme.now) s) (state D.Store store.old) → IsOf s catalog.old
+        → Come (IsSentBy (K.rules scheme.now) incoming.now) catalog.old.primaries catalog.new.primaries }
     ensures forged { IfSome (refused_by (K.rules scheme.now) catalog.old.primaries incoming.now) (RefusesUnread store.old store.new result) }
     ensures reads { Reads (state D.Store store.old) (state D.Store store.new) }
 {
@@ -119,6 +121,8 @@ fn read_first<K: Scheme, D: Alter>(
     ensures fits { IfOk result (λ rows. IsTrue (rows_fit rows)) }
     ensures of { HasCleanDisk (state D.Store store.new) → (k : Rules) (s : State) → IfClean (KeepsState k s) (state D.Store store.old) → IsOf s catalog.old → IsOf s catalog.new }
     ensures more { KeepsMore catalog.old catalog.new }
+    ensures came { HasCleanDisk (state D.Store store.new) → (s : State) → IfClean (KeepsState (K.rules scheme.now) s) (state D.Store store.old) → IsOf s catalog.old
+        → Come (IsSentBy (K.rules scheme.now) incoming.now) catalog.old.primaries catalog.new.primaries }
     ensures reads { Reads (state D.Store store.old) (state D.Store store.new) }
 {
     match read_rows(store, alloc, &incoming.manifest.vehicle) {
@@ -145,6 +149,8 @@ fn test_by_rows<K: Scheme>(
     ensures sent { (s : State) → founding_row s ≡ Some catalog.old.founding → vehicle_rows s incoming.now.manifest.vehicle ≡ Some rows.now → GivesSent (K.rules scheme.now) s incoming.now result }
     ensures of { (s : State) → vehicle_rows s incoming.now.manifest.vehicle ≡ Some rows.now → ArePrimaries s catalog.old.primaries → ArePrimaries s catalog.new.primaries }
     ensures more { KeepsMore catalog.old catalog.new }
+    ensures came { (s : State) → founding_row s ≡ Some catalog.old.founding → vehicle_rows s incoming.now.manifest.vehicle ≡ Some rows.now → ArePrimaries s catalog.old.primaries
+        → Come (IsSentBy (K.rules scheme.now) incoming.now) catalog.old.primaries catalog.new.primaries }
 {
     keep_primary(keys, alloc, rows);
     match decide_sender(scheme, incoming, Some(&catalog.founding), Some(rows), keys) {
@@ -167,6 +173,7 @@ fn keep_sender(kept: &mut Table<Primary>, alloc: Global, vehicle: &Ident, rows: 
     requires { table.get kept.old vehicle.now ≡ None }
     ensures of { (s : State) → vehicle_rows s vehicle.now ≡ Some rows.now → ArePrimaries s kept.old → ArePrimaries s kept.new }
     ensures stay { StayKept kept.old kept.new }
+    ensures came { Come (λ name primary. name ≡ vehicle.now) kept.old kept.new }
     ensures few { AreFew kept.old → AreFew kept.new }
 {
     if kept.len() < MOST_PRIMARIES {
@@ -184,6 +191,7 @@ fn put_sender(
     requires { table.get kept.old vehicle.now ≡ None }
     ensures of { (s : State) → vehicle_rows s vehicle.now ≡ Some rows.now → ArePrimaries s kept.old → ArePrimaries s kept.new }
     ensures stay { StayKept kept.old kept.new }
+    ensures came { Come (λ name primary. name ≡ vehicle.now) kept.old kept.new }
     ensures one { table.len kept.new ≤ table.len kept.old + 1 }
 {
     let Some(primary) = primary_in(alloc, rows)? else {

@@ -36,6 +36,7 @@ pub mod DirectorTargets
 pub mod Taken
 pub mod Passing
 pub mod CheckedRows
+pub mod FittingImages
 pub mod FoundRepeats
 pub mod AcceptedManifests
 pub mod NamedImages

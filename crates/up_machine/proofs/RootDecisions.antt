@@ -17,6 +17,7 @@ use Rattle.up_machine.specs.State.{State}
 use Rattle.up_machine.specs.Deciding.{Outcome, done, already, where_new, check_founded, check_version}
 use Rattle.up_machine.specs.Repositories.{stamped, with_root, with_image, same_image, decide_found, decide_rotate, decide_new_image, decide_image, decide_refresh}
 use Rattle.up_machine.specs.Decisions.{GivesRows}
+use Rattle.up_machine.specs.Due.{GivesOutright}
 use Rattle.up_machine.proofs.Fetched.{in_time}
 use Rattle.up_canon.proofs.Steps.{bind-ok, bind-err}
 
@@ -50,6 +51,16 @@ pub passed_on : {R : Type 0} (has : R → Type 0) (next : State) (result : Resul
     → IsErrAnd result (λ r. r ≡ e) → MatchBool (is_memory e) ⊤ (computed ≡ Err e) → GivesRows has next result computed
 passed_on has next (Ok rows) computed e is h = absurd is
 passed_on has next (Err r) computed e is h = subst (λ r. MatchBool (is_memory r) ⊤ (computed ≡ Err r)) (sym is) h
+
+-- what takes no memory, in a decision that takes some
+pub outright : {R : Type 0} (has : R → Type 0) (next : State) (result : Result R Refusal) (computed : Result Outcome Refusal)
+    → GivesOutright has next result computed → GivesRows has next result computed
+outright has next (Ok rows) computed h = h
+outright has next (Err r) computed h = by_kind (is_memory r)
+  where
+    by_kind : (b : Bool) → MatchBool b ⊤ (computed ≡ Err r)
+    by_kind true = tt
+    by_kind false = h
 
 pub found_gives : (k : Rules) (s : State) (at : ℕ) (keys : KeySet) (r : Refusal) → at ≤ last_command_moment → MatchBool (is_memory r) ⊤ (check_keys k keys ≡ Err r)
     → MatchBool (is_memory r) ⊤ (decide_found k s at keys ≡ Err r)

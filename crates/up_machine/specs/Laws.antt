@@ -1,11 +1,14 @@
 -- The laws of the plain machine over single commands and over runs.
 use Rattle.std.specs.Prelude.{◌≡◌, ℕ, ◌≤◌, List, ◌++◌, false, Some, IsTrue, slice_get}
-use Rattle.std.specs.List.{AllByRecursion}
+use Rattle.std.specs.List.{All, AllByRecursion, Contains}
 use Rattle.std.specs.FinMap as table
 use Rattle.up_canon.specs.Canon.{max_count}
 use Rattle.up_canon.specs.Names.{Name}
 use Rattle.up_sign.specs.Schemes.{Rules}
+use Rattle.up_plan.specs.declared.assigned.Assigned.{Assigned}
+use Rattle.up_plan.specs.declared.assigned.Fitted.{Fitted}
 use Rattle.up_plan.specs.Images.{ImageData}
+use Rattle.up_plan.specs.Planning.{is_for, plan_of}
 use Rattle.up_metadata.specs.Files.{Root}
 use Rattle.up_machine.specs.declared.command.Command.{Command}
 use Rattle.up_machine.specs.declared.answer.Answer.TheVariants.{Refused, Already}
@@ -94,6 +97,22 @@ RetiredAreNoEcus = (k : Rules) (s : State) (ecu : Name) → IsSound k s → IsTr
 abbrev pub RetiredAreNeverRecorded : Type 0
 RetiredAreNeverRecorded = (k : Rules) (s : State) (ts : List Timed) (ecu : Name) → AllByRecursion (λ t. IsTrue (is_command t.command)) ts → IsSound k s
     → IsTrue (is_retired s ecu) → is_recorded (run k s ts) ecu ≡ false
+
+-- ---- assigned images
+
+-- an ECU of the vehicle with the file of an image that is registered and may be installed on its hardware
+pub record FitsItsEcu (s : State) (fitted : List Fitted) (a : Assigned) : Type 0 where
+  pub e : Fitted
+  pub image : ImageData
+  pub present : Contains fitted e
+  pub ecu_is : a.ecu ≡ e.ecu
+  pub known : table.get s.images a.file ≡ Some image
+  pub hardware : IsTrue (is_for e.hardware image)
+
+-- so is each image that is assigned in a sound state, whatever is reported
+abbrev pub AssignedFitTheirEcus : Type 0
+AssignedFitTheirEcus = (k : Rules) (s : State) (vehicle : Name) (fitted : List Fitted) → IsSound k s
+    → All (FitsItsEcu s fitted) (plan_of (table.values s.images) (table.values s.campaigns) vehicle fitted).assigned
 
 -- ---- kept replies
 

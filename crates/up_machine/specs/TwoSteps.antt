@@ -51,6 +51,15 @@ abbrev pub TellsRotation : Rules → ℕ → KeySet → Option Founding → Resu
 TellsRotation k at keys founding told = (s : State) → founding ≡ founding_row s
     → GivesRows (HasRoot (rotated s at keys) at keys) (rotated s at keys) told (decide_rotate k s at keys)
 
+-- the same two of keys that fit, whose tests take no memory
+abbrev pub TellsFoundingOutright : Rules → ℕ → KeySet → Bool → Result NextRoot Refusal → Type 0
+TellsFoundingOutright k at keys is_founded told = (s : State) → is_founded ≡ is_some (founding_row s)
+    → GivesOutright (HasRoot (founded s at keys) at keys) (founded s at keys) told (decide_found k s at keys)
+
+abbrev pub TellsRotationOutright : Rules → ℕ → KeySet → Option Founding → Result NextRoot Refusal → Type 0
+TellsRotationOutright k at keys founding told = (s : State) → founding ≡ founding_row s
+    → GivesOutright (HasRoot (rotated s at keys) at keys) (rotated s at keys) told (decide_rotate k s at keys)
+
 -- `root_rows`: the rows of each state of which this is due, with these images
 abbrev pub MakesRootRows : Rules → ℕ → KeySet → NextRoot → Table ImageData → Result RootRows AllocError → Type 0
 MakesRootRows k at keys new images made = (next : State) → HasRoot next at keys new → images ≡ next.images → IfOk made (HasRootRows k next)

@@ -1,10 +1,13 @@
 //! Decisions on new root versions: foundings and rotations. Each is taken over the founding's row alone;
 //! `new_files::root_rows` makes the rows of what is due.
-ghost use Rattle.std.specs.Prelude.{◌≤◌, IfOk, IfSome, IsTrue};
+ghost use Rattle.std.specs.Prelude.{◌≡◌, ◌≤◌, ℕ, Ok, IfOk, IfSome, IsTrue};
 ghost use Rattle.up_canon.specs.Moments.{last_command_moment};
+ghost use Rattle.up_sign.specs.Schemes.{Rules};
+ghost use Rattle.up_metadata.specs.Keys.{check_keys as check_keys_in, hashed_key_set};
+ghost use Rattle.up_metadata.specs.declared.keys.KeySet.{KeySet as KeySetData};
 ghost use Rattle.up_machine.specs.RowsFit.{founding_fits};
 ghost use Rattle.up_machine.specs.Due.{CanMakeRoot};
-ghost use Rattle.up_machine.specs.TwoSteps.{TellsFounding, TellsRotation};
+ghost use Rattle.up_machine.specs.TwoSteps.{TellsFounding, TellsRotation, TellsFoundingOutright, TellsRotationOutright};
 
 use crate::decision::NextRoot;
 use crate::rows::Founding;
@@ -12,6 +15,7 @@ use std::alloc::Global;
 use up_canon::count::MAX_COUNT;
 use up_canon::moment::Moment;
 use up_canon::refusal::Refusal;
+use up_metadata::hashed_keys::HashedKeySet;
 use up_metadata::key_checks::check_keys;
 use up_metadata::keys::KeySet;
 use up_sign::scheme::Scheme;
@@ -33,6 +37,15 @@ pub fn decide_found<K: Scheme>(
     ensures fits { IfOk result (λ new. CanMakeRoot (K.rules scheme.now) at keys.now new) }
 {
     let hashed = check_keys(alloc, scheme, keys)?;
+    first_root(hashed, is_founded)
+}
+
+/// The root version that is due of a founding with keys that fit; `AlreadyFounded`. It takes no memory.
+fn first_root(hashed: HashedKeySet, is_founded: bool) -> Result<NextRoot, Refusal>
+    ensures decided { (k : Rules) (at : ℕ) (keys : KeySetData) → at ≤ last_command_moment → check_keys_in k keys ≡ Ok tt → TellsFoundingOutright k at keys is_founded result }
+    ensures fits { (k : Rules) (at : ℕ) (keys : KeySetData) → at ≤ last_command_moment → check_keys_in k keys ≡ Ok tt → hashed ≡ hashed_key_set k keys
+        → IfOk result (λ new. CanMakeRoot k at keys new) }
+{
     if is_founded {
         return Err(Refusal::AlreadyFounded);
     }
@@ -59,6 +72,16 @@ pub fn decide_rotate<K: Scheme>(
     ensures fits { IfSome founding (λ f. IsTrue (founding_fits (K.rules scheme.now) f)) → IfOk result (λ new. CanMakeRoot (K.rules scheme.now) at keys.now new) }
 {
     let hashed = check_keys(alloc, scheme, keys)?;
+    next_root(hashed, founding)
+}
+
+/// The root version that is due of a rotation with keys that fit; `NotFounded`; `RootFull`; `VersionLimit`. It takes no
+/// memory.
+fn next_root(hashed: HashedKeySet, founding: Option<Founding>) -> Result<NextRoot, Refusal>
+    ensures decided { (k : Rules) (at : ℕ) (keys : KeySetData) → at ≤ last_command_moment → check_keys_in k keys ≡ Ok tt → TellsRotationOutright k at keys founding result }
+    ensures fits { (k : Rules) (at : ℕ) (keys : KeySetData) → at ≤ last_command_moment → check_keys_in k keys ≡ Ok tt → hashed ≡ hashed_key_set k keys
+        → IfSome founding (λ f. IsTrue (founding_fits k f)) → IfOk result (λ new. CanMakeRoot k at keys new) }
+{
     let Some(old) = founding else {
         return Err(Refusal::NotFounded);
     };

@@ -1,5 +1,5 @@
 //! The Director's files for a vehicle, and the reply that holds them.
-ghost use Rattle.std.specs.Prelude.{◌≡◌, ◌<◌, ◌≤◌, ◌++◌, IsTrue, IfOk, Some, filter_map, string_bytes, true};
+ghost use Rattle.std.specs.Prelude.{◌≡◌, ◌<◌, ◌≤◌, ◌++◌, [], IsTrue, IsOk, IfOk, Some, filter_map, string_bytes, true};
 ghost use Rattle.std.specs.List.{list_all};
 ghost use Rattle.up_canon.specs.Canon.{max_count};
 ghost use Rattle.up_canon.specs.Moments.{last_command_moment};
@@ -35,6 +35,7 @@ pub(crate) fn targets_for(
 ) -> Result<Listed<Target>, AllocError>
     ensures value { IfOk result (λ targets. targets ≡ filter_map (target_for images.now) assigned.now) }
     ensures fit { IfOk result (λ targets. list_all (target_fits TheDirector) targets ≡ true) }
+    ensures none { assigned.now ≡ [] → IsOk result }
 {
     let mut targets = Vec::with_capacity(alloc, assigned.len())?;
     for a in assigned {

@@ -1,5 +1,5 @@
 //! The targets of the image repository: all images in the order of their filenames.
-ghost use Rattle.std.specs.Prelude.{◌≡◌, ◌≤◌, IfOk, OnOk, insert, length, map, true, None};
+ghost use Rattle.std.specs.Prelude.{◌≡◌, ◌≤◌, [], IsOk, IfOk, OnOk, insert, length, map, true, None};
 ghost use Rattle.std.specs.List.{list_all};
 ghost use Rattle.up_roles.specs.declared.repository.Repository.TheVariants.{Image as ImageRepository};
 ghost use Rattle.up_roles.specs.Targets.{target_fits};
@@ -16,6 +16,7 @@ use up_roles::targets::Target;
 pub(crate) fn image_targets(alloc: Global, images: &[Image]) -> Result<Listed<Target>, AllocError>
     ensures value { IfOk result (λ targets. targets ≡ map (target_of_image None) images.now) }
     ensures fit { IfOk result (λ targets. list_all (target_fits ImageRepository) targets ≡ true) }
+    ensures none { images.now ≡ [] → IsOk result }
 {
     let mut targets = Vec::with_capacity(alloc, images.len())?;
     for image in images {

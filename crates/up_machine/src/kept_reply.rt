@@ -1,5 +1,5 @@
 //! The reply that a kept row holds.
-ghost use Rattle.std.specs.Prelude.{◌≡◌, IfOk, length};
+ghost use Rattle.std.specs.Prelude.{◌≡◌, ◌<◌, None, Ok, IfOk, MatchResult, length};
 ghost use Rattle.up_machine.specs.Rows.{reply_kept};
 
 use crate::answer::Reply;
@@ -21,9 +21,10 @@ pub fn reply_of(alloc: Global, row: &Kept) -> Result<Reply, AllocError>
     })
 }
 
-/// How many images a row's plan assigns. More than 4294967295, which no state has, are answered as want of memory.
+/// How many images a row's plan assigns. It takes no memory, and want of memory is answered just where they are more than
+/// 4294967295, which no state has.
 pub fn targets_in(row: &Kept) -> Result<u32, AllocError>
-    ensures { IfOk result (λ targets. targets ≡ length row.now.plan.assigned) }
+    ensures { MatchResult result (λ targets. targets ≡ length row.now.plan.assigned) (λ _. u32.MAX < length row.now.plan.assigned) }
 {
     match u32::try_from(row.plan.assigned.as_slice().len()) {
         Ok(targets) => Ok(targets),
@@ -47,7 +48,8 @@ pub fn reply_in(row: Kept, targets: u32) -> Reply
 }
 
 fn copy_cause(alloc: Global, cause: &Option<Cause>) -> Result<Option<Cause>, AllocError>
-    ensures { IfOk result (λ copied. copied ≡ cause.now) }
+    ensures value { IfOk result (λ copied. copied ≡ cause.now) }
+    ensures none { cause.now ≡ None → result ≡ Ok None }
 {
     match cause {
         Some(cause) => Ok(Some(cause.copy(alloc)?)),

@@ -1,5 +1,5 @@
 //! The laws of the plain machine.
-ghost use Rattle.up_machine.specs.Laws.{RefusalsChangeNothing, AlreadyChangesNothing, EmptyIsSound, StepsStaySound, RunsStaySound, CountersTellEntries, VersionsAreCounts, LaterIsReflexive, LaterIsTransitive, StepsGrow, RunsGrow, RetiredStayRetired, RetiredAreNoEcus, RetiredAreNeverRecorded, KeptRepliesStay, KeptRepliesOutlastRuns};
+ghost use Rattle.up_machine.specs.Laws.{RefusalsChangeNothing, AlreadyChangesNothing, EmptyIsSound, StepsStaySound, RunsStaySound, CountersTellEntries, VersionsAreCounts, LaterIsReflexive, LaterIsTransitive, StepsGrow, RunsGrow, RetiredStayRetired, RetiredAreNoEcus, RetiredAreNeverRecorded, KeptRepliesStay, KeptRepliesOutlastRuns, AssignedFitTheirEcus};
 ghost use Rattle.up_machine.specs.RepeatLaws.{RepeatsAreStale, RepeatsGetKeptReplies, CountersFindRepeats, OlderCountersAreStale, RepeatsChangeNothing, ServedIsThinned, ServedStaysSound};
 ghost use Rattle.up_machine.specs.ApartLaws.{VehiclesStandApart, DeliveriesCommute, InstalledIsOfTheVehicle};
 ghost use Rattle.up_machine.specs.Primaries.{DeliveriesKeepPrimaries};
@@ -8,6 +8,7 @@ ghost use Rattle.up_machine.specs.SignedLaws.{RootsAreSigned, ImageFilesAreSigne
 ghost use Rattle.up_machine.specs.TwoSteps.{FoundedInTwoSteps, RotatedInTwoSteps, RegisteredInTwoSteps, RefreshedInTwoSteps};
 
 use up_manifest::body_laws;
+use up_plan::laws::assigned_is_due;
 
 /// A refused command changes nothing, and neither does one whose effect is there already.
 pub fn refusals_change_nothing()
@@ -54,6 +55,13 @@ pub fn retired_stay_retired()
 pub fn deliveries_keep_primaries()
     ensures { DeliveriesKeepPrimaries }
 {}
+
+/// Each image that is assigned in a sound state is registered, and may be installed on the hardware of its ECU.
+pub fn assigned_images_fit()
+    ensures { AssignedFitTheirEcus }
+{
+    assigned_is_due();
+}
 
 /// The reply that was kept for an accepted manifest is the same text in every later state, whatever keys were rotated,
 /// images added and campaigns closed since.

@@ -1,5 +1,5 @@
 //! The checks of a manifest over the rows of its vehicle.
-ghost use Rattle.std.specs.Prelude.{◌≡◌, ◌∷◌, [], find, not, option_copied};
+ghost use Rattle.std.specs.Prelude.{◌≡◌, ◌∷◌, [], Ok, find, not, option_copied};
 ghost use Rattle.up_canon.specs.Refusals.{Gives};
 ghost use Rattle.up_sign.specs.Envelopes.{is_accepted};
 ghost use Rattle.up_machine.specs.Deliveries.{report_name};
@@ -71,7 +71,8 @@ pub(crate) fn check_reports<K: Scheme>(
     keys: &KeyCache,
     reports: &[SignedReport],
 ) -> Result<(), Refusal>
-    ensures { Gives result (check_reports_of (K.rules scheme.now) rows.now reports.now) }
+    ensures given { Gives result (check_reports_of (K.rules scheme.now) rows.now reports.now) }
+    ensures passed { check_reports_of (K.rules scheme.now) rows.now reports.now ≡ Ok tt → result ≡ Ok tt }
 {
     if let Some(unknown) = first_unknown(rows, reports) {
         return Err(Refusal::UnknownEcu(unknown.report.ecu.copy(alloc)?));

@@ -1,7 +1,8 @@
 //! A vehicle's Primary, as it may be kept from one delivery to the next: it tells who sent a manifest, and no row has to be read.
-ghost use Rattle.std.specs.Prelude.{◌≡◌, Some, IfOk};
+ghost use Rattle.std.specs.Prelude.{◌≡◌, true, Some, is_some, MatchResult};
 ghost use Rattle.up_canon.specs.Names.{Name};
 ghost use Rattle.up_machine.specs.declared.rows.Founding.{Founding};
+ghost use Rattle.up_machine.specs.ManifestRows.{row_of as row_in};
 ghost use Rattle.up_machine.specs.Primaries.{GivesSent, check_sent, primary_of};
 ghost use Rattle.up_machine.specs.Rows.{founding_row, vehicle_rows};
 ghost use Rattle.up_machine.specs.State.{State};
@@ -24,9 +25,10 @@ pub struct Primary {
     pub public: Bytes,
 }
 
-/// The Primary of a vehicle, copied from its rows. There is none where it is none of the vehicle's ECUs.
+/// The Primary of a vehicle, copied from its rows. There is none where it is none of the vehicle's ECUs; that takes no memory.
 pub fn primary_in(alloc: Global, rows: &VehicleRows) -> Result<Option<Primary>, AllocError>
-    ensures { IfOk result (λ found. (s : State) (name : Name) → vehicle_rows s name ≡ Some rows.now → found ≡ primary_of s name) }
+    ensures { MatchResult result (λ found. (s : State) (name : Name) → vehicle_rows s name ≡ Some rows.now → found ≡ primary_of s name)
+        (λ _. is_some (row_in rows.now.ecus rows.now.vehicle.primary) ≡ true) }
 {
     let ecu = &rows.vehicle.primary;
     let Some(row) = row_of(rows.ecus.as_slice(), ecu) else {

@@ -1,5 +1,5 @@
 //! The rows of ECUs after their reports.
-ghost use Rattle.std.specs.Prelude.{◌≡◌, map, option_copied, option_map, unwrap_or, IfOk};
+ghost use Rattle.std.specs.Prelude.{◌≡◌, None, Ok, map, option_copied, option_map, unwrap_or, IfOk};
 ghost use Rattle.up_machine.specs.ManifestRows.{fitted_in, fitted_with, reported_row as reported_row_of};
 ghost use Rattle.up_machine.specs.State.{report_of as report_in};
 
@@ -71,7 +71,8 @@ fn reported_row(alloc: Global, row: &EcuRow, reports: &[SignedReport]) -> Result
 }
 
 fn installed(alloc: Global, report: Option<&SignedReport>) -> Result<Option<Installed>, AllocError>
-    ensures { IfOk result (λ image. image ≡ option_map (λ r. r.report.image) (option_copied report.entry)) }
+    ensures value { IfOk result (λ image. image ≡ option_map (λ r. r.report.image) (option_copied report.entry)) }
+    ensures none { option_copied report.entry ≡ None → result ≡ Ok None }
 {
     match report {
         Some(report) => Ok(Some(report.report.image.copy(alloc)?)),
@@ -89,7 +90,8 @@ fn counter(report: Option<&SignedReport>) -> Count
 }
 
 fn signed_text(alloc: Global, report: Option<&SignedReport>) -> Result<Option<Text>, AllocError>
-    ensures { IfOk result (λ text. text ≡ option_map (λ r. r.envelope.signed) (option_copied report.entry)) }
+    ensures value { IfOk result (λ text. text ≡ option_map (λ r. r.envelope.signed) (option_copied report.entry)) }
+    ensures none { option_copied report.entry ≡ None → result ≡ Ok None }
 {
     match report {
         Some(report) => Ok(Some(report.envelope.signed.copy(alloc)?)),

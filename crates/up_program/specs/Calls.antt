@@ -12,15 +12,11 @@ numbers (suc n) = numbers n ++ suc n ∷ []
 abbrev pub Served : {F : Type 0} → (F → ℕ → Result (Unit {0}) Error → F → Type 0) → F → ℕ → F → Type 0
 Served step first count last = FoldsTo (λ old number new. step old number (Ok tt) new) first (numbers count) last
 
-abbrev pub AllServed : {F : Type 0} → (F → ℕ → Result (Unit {0}) Error → F → Type 0) → F → ℕ → Type 0
-AllServed {F} step first count = (last : F) × Served step first count last
-
--- fewer calls than that went well, and the next one didn't
-pub record Breaks {F : Type 0} (step : F → ℕ → Result (Unit {0}) Error → F → Type 0) (first : F) (count : ℕ) : Type 0 where
+-- fewer calls than that went well, and the next one didn't, which is the last
+pub record Breaks {F : Type 0} (step : F → ℕ → Result (Unit {0}) Error → F → Type 0) (first : F) (count : ℕ) (last : F) : Type 0 where
   pub done : ℕ
   pub fewer : done < count
   pub before : F
   pub served : Served step first done before
   pub fault : Error
-  pub last : F
   pub failed : step before (suc done) (Err fault) last

@@ -13,13 +13,13 @@ cause_word Read = codes "read"
 cause_word Write = codes "write"
 cause_word TooLong = codes "line limit"
 
--- what is told of a failure, without the newline behind it
-abbrev pub failure_text : Failure → List ℕ
-failure_text Usage = codes "usage: uptane_desk run FILE | serve FILE PORT COUNT | digest FILE"
-failure_text Unopened = codes "uptane_desk: cannot open the database"
-failure_text (Stopped fault) = codes "uptane_desk: stopped after " ++ decimal fault.lines ++ codes " lines: " ++ cause_word fault.cause
-failure_text Unread = codes "uptane_desk: cannot read the file"
-failure_text Unheard = codes "uptane_desk: cannot listen"
+-- the line that tells a failure
+abbrev pub failure_line : Failure → List ℕ
+failure_line Usage = codes "usage: uptane_desk run FILE | serve FILE PORT COUNT | digest FILE\n"
+failure_line Unopened = codes "uptane_desk: cannot open the database\n"
+failure_line (Stopped fault) = codes "uptane_desk: stopped after " ++ decimal fault.lines ++ codes " lines: " ++ cause_word fault.cause ++ codes "\n"
+failure_line Unread = codes "uptane_desk: cannot read the file\n"
+failure_line Unheard = codes "uptane_desk: cannot listen\n"
 
 -- the exit status of a failure
 abbrev pub status_of : Failure → ℕ

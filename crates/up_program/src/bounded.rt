@@ -1,70 +1,63 @@
 //! Readers and writers of a connection that may take only so long.
-ghost use Rattle.std.specs.IoError.{error_kind};
-ghost use Rattle.std.specs.Prelude.{◌≡◌, ◌↔◌, IsTrue};
 
-use crate::times::in_time;
+use crate::limit::Limit;
+use crate::tries::{TrySink, TrySource};
 use std::io;
-use std::io::{ErrorKind, Read, Write};
-use std::time::{Clock, Instant};
+use up_pieces::sink::Sink;
+use up_pieces::source::Source;
 
-/// How often a call is made again that a signal interrupted, as one does that stops the program for a while.
-const MOST_INTERRUPTIONS: u32 = 1_000;
+/// How often a call is made, at most, that a signal interrupts each time, as one does that stops the program for a while.
+const MOST_TRIES: u32 = 1_000;
 
-/// A reader or a writer over another one, which fails once the connection has taken as long as it may. What is read are the
-/// bytes that the inner one gives, and what is written are those that it takes; each other call fails.
+/// A reader or a writer over another one, which fails once the time has run out. What is read are the bytes that the inner one
+/// gives, and what is written are those that it takes. Each call is one of the inner one, or some more where a signal
+/// interrupted those before.
 #[derive(Drop)]
-pub struct Bounded<'a, C: Clock, S: Drop> {
-    pub clock: &'a C,
-    /// When the connection was accepted.
-    pub begun: Instant,
+pub struct Bounded<T: Drop, S: Drop> {
+    pub limit: T,
     pub inner: S,
 }
 
-impl<C: Clock, R: Read + Drop> Read for Bounded<'_, C, R> {
-    ghost remaining = { λ bounded. R.remaining bounded.inner };
+impl<T: Limit + Drop, S: TrySource + Drop> Source for Bounded<T, S> {
+    ghost use Rattle.std.specs.Prelude.{◌⊎◌};
 
-    fn read(&mut self, buf: &mut [u8]) -> io::Result<usize> {
-        for _ in 0..MOST_INTERRUPTIONS {
-            in_time(self.begun.elapsed(self.clock))?;
-            match self.inner.read(buf) {
-                Ok(n) => return Ok(n),
-                Err(error) => {
-                    if !is_interrupted(&error) {
-                        return Err(error);
-                    }
-                }
+    ghost remaining = { λ bounded. S.remaining bounded.inner };
+
+    ghost can_read = { λ bounded. S.can_read bounded.inner };
+
+    ghost has_failed = { λ bounded. S.has_failed bounded.inner ⊎ T.has_run_out bounded.limit };
+
+    ghost has_ended = { λ bounded. S.has_ended bounded.inner };
+
+    fn read_some(&mut self, buffer: &mut [u8]) -> io::Result<usize> {
+        for _ in 1..MOST_TRIES {
+            self.limit.check()?;
+            if let Some(read) = self.inner.try_read(buffer) {
+                return read;
             }
         }
-        Err(io::Error::from(ErrorKind::Interrupted))
+        self.limit.check()?;
+        self.inner.read_some(buffer)
     }
 }
 
-impl<C: Clock, W: Write + Drop> Write for Bounded<'_, C, W> {
-    ghost contents = { λ bounded. W.contents bounded.inner };
+impl<T: Limit + Drop, S: TrySink + Drop> Sink for Bounded<T, S> {
+    ghost use Rattle.std.specs.Prelude.{◌⊎◌};
 
-    fn write(&mut self, buf: &[u8]) -> io::Result<usize> {
-        for _ in 0..MOST_INTERRUPTIONS {
-            in_time(self.begun.elapsed(self.clock))?;
-            match self.inner.write(buf) {
-                Ok(n) => return Ok(n),
-                Err(error) => {
-                    if !is_interrupted(&error) {
-                        return Err(error);
-                    }
-                }
+    ghost contents = { λ bounded. S.contents bounded.inner };
+
+    ghost can_write = { λ bounded. S.can_write bounded.inner };
+
+    ghost has_failed = { λ bounded. S.has_failed bounded.inner ⊎ T.has_run_out bounded.limit };
+
+    fn write_some(&mut self, bytes: &[u8]) -> io::Result<usize> {
+        for _ in 1..MOST_TRIES {
+            self.limit.check()?;
+            if let Some(wrote) = self.inner.try_write(bytes) {
+                return wrote;
             }
         }
-        Err(io::Error::from(ErrorKind::Interrupted))
+        self.limit.check()?;
+        self.inner.write_some(bytes)
     }
-
-    fn flush(&mut self) -> io::Result<()> {
-        self.inner.flush()
-    }
-}
-
-/// Whether a signal interrupted the call.
-fn is_interrupted(error: &io::Error) -> bool
-    ensures { IsTrue result ↔ (error_kind error.now ≡ ErrorKind.Interrupted) }
-{
-    error.kind() == ErrorKind::Interrupted
 }

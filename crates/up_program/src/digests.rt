@@ -1,11 +1,12 @@
 //! The line that tells the digests of a file.
-ghost use Rattle.std.specs.Prelude.{◌≡◌, ◌*◌, Some, length};
-ghost use Rattle.std.specs.Fmt.{DisplaysOnOk};
+ghost use Rattle.std.specs.Prelude.{◌≡◌, ◌++◌, ◌+◌, ◌*◌, ◌≤◌, length};
 ghost use Rattle.hex.specs.Hex.{encode_lower};
-ghost use Rattle.up_program.specs.Messages.{digests_of, digests_text};
+ghost use Rattle.up_program.specs.Messages.{digests_of, digests_line};
 
 use crate::failure::Failure;
-use std::{fmt, str};
+use crate::line::Line;
+use itoa::Buffer;
+use std::str;
 
 /// The length of a file in bytes, its SHA-256 and its SHA-512.
 #[derive(Clone, Copy, Debug, PartialEq, Eq, Drop)]
@@ -35,32 +36,33 @@ impl Digests {
             Err(_) => Err(Failure::Unread),
         }
     }
-}
 
-impl fmt::Display for Digests {
-    ghost output = { λ digests. Some (digests_text digests.length digests.sha256 digests.sha512) };
-
-    fn fmt<W: fmt::Write>(&self, f: &mut fmt::Formatter<W>) -> fmt::Result {
+    /// The line that tells them.
+    pub fn line(&self) -> Line
+        ensures { result.bytes ≡ digests_line self.now.length self.now.sha256 self.now.sha512 }
+    {
+        let mut line = Line::new();
         let mut digits = [0; 128];
-        write!(f, "{} ", self.length)?;
-        write_hex(f, &self.sha256, &mut digits[..64])?;
-        f.write_str(" ")?;
-        write_hex(f, &self.sha512, &mut digits)
+        line.push_str(Buffer::new().format(self.length));
+        line.push_str(" ");
+        push_hex(&mut line, &self.sha256, &mut digits[..64]);
+        line.push_str(" ");
+        push_hex(&mut line, &self.sha512, &mut digits);
+        line.push_str("\n");
+        line
     }
 }
 
-/// Writes the digits of the bytes, made in the buffer.
-fn write_hex<W: fmt::Write>(
-    f: &mut fmt::Formatter<W>,
-    bytes: &[u8],
-    digits: &mut [u8],
-) -> fmt::Result
-    requires { length digits.old ≡ 2 * length bytes.now }
-    ensures { DisplaysOnOk W.write_str_gives f.old result (Some (encode_lower bytes.now)) f.new }
+/// Appends the digits of the bytes, made in the buffer.
+fn push_hex(line: &mut Line, bytes: &[u8], digits: &mut [u8])
+    requires digits { length digits.old ≡ 2 * length bytes.now }
+    requires room { length line.old.bytes + 2 * length bytes.now ≤ 256 }
+    ensures bytes { line.new.bytes ≡ line.old.bytes ++ encode_lower bytes.now }
+    ensures len { length line.new.bytes ≡ length line.old.bytes + 2 * length bytes.now }
 {
     hex::encode_to_slice(bytes, digits).unwrap();
     let Ok(text) = str::from_utf8(digits) else {
         unreachable!();
     };
-    f.write_str(text)
+    line.push_str(text);
 }

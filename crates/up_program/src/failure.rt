@@ -1,12 +1,14 @@
 //! Why the program ends without having done its job, and what it then tells.
-ghost use Rattle.std.specs.Prelude.{◌≡◌};
+ghost use Rattle.std.specs.Prelude.{◌≡◌, IfErr, OnOk};
 ghost use Rattle.std.specs.Process.{exit_status};
-ghost use Rattle.up_program.specs.Failures.{cause_word, failure_text, status_of, ended_of, exit_of};
+ghost use Rattle.up_program.specs.Failures.{cause_word, failure_line, status_of, ended_of, exit_of};
+ghost use Rattle.up_program.specs.Messages.{IsWritten};
 
-use std::fmt;
-use std::io::Eprint;
+use crate::line::{Line, write_line};
+use itoa::Buffer;
 use std::process::ExitCode;
 use up_lines::fault::{ScriptCause, ScriptFault};
+use up_pieces::sink::Sink;
 
 /// Why the program ends without having done its job. Each has its exit status and its message.
 #[derive(Clone, Copy, Debug, PartialEq, Eq, Drop)]
@@ -36,26 +38,28 @@ impl Failure {
             Failure::Unheard => 4,
         }
     }
-}
 
-impl fmt::Display for Failure {
-    ghost use Rattle.std.specs.Prelude.{Some};
-
-    ghost output = { λ failure. Some (failure_text failure) };
-
-    fn fmt<W: fmt::Write>(&self, f: &mut fmt::Formatter<W>) -> fmt::Result {
+    /// The line that tells it.
+    pub fn line(self) -> Line
+        ensures { result.bytes ≡ failure_line self }
+    {
+        let mut line = Line::new();
         match self {
-            Failure::Usage => {
-                f.write_str("usage: uptane_desk run FILE | serve FILE PORT COUNT | digest FILE")
-            }
-            Failure::Unopened => f.write_str("uptane_desk: cannot open the database"),
+            Failure::Usage => line.push_str(
+                "usage: uptane_desk run FILE | serve FILE PORT COUNT | digest FILE\n",
+            ),
+            Failure::Unopened => line.push_str("uptane_desk: cannot open the database\n"),
             Failure::Stopped(fault) => {
-                let (lines, cause) = (fault.lines, word_of(fault.cause));
-                write!(f, "uptane_desk: stopped after {lines} lines: {cause}")
+                line.push_str("uptane_desk: stopped after ");
+                line.push_str(Buffer::new().format(fault.lines));
+                line.push_str(" lines: ");
+                line.push_str(word_of(fault.cause));
+                line.push_str("\n");
             }
-            Failure::Unread => f.write_str("uptane_desk: cannot read the file"),
-            Failure::Unheard => f.write_str("uptane_desk: cannot listen"),
+            Failure::Unread => line.push_str("uptane_desk: cannot read the file\n"),
+            Failure::Unheard => line.push_str("uptane_desk: cannot listen\n"),
         }
+        line
     }
 }
 
@@ -81,12 +85,15 @@ pub fn ended(ran: Result<u32, ScriptFault>) -> Result<(), Failure>
     }
 }
 
-/// Writes why the program ends to standard error, and hands it on. A line that can't be written is ignored.
-pub fn told<E: Eprint>(rt: &E, ended: Result<(), Failure>) -> Result<(), Failure>
-    ensures { result ≡ ended }
+/// Writes why the program ends, and hands it on; nothing where it did its job. A line that can't be written is ignored.
+pub fn told<W: Sink>(errors: &mut W, ended: Result<(), Failure>) -> Result<(), Failure>
+    requires { W.can_write errors.old }
+    ensures same { result ≡ ended }
+    ensures silent { OnOk ended (errors.new ≡ errors.old) }
+    ensures written { IfErr ended (λ failure. IsWritten W.contents W.has_failed errors.old (failure_line failure) errors.new) }
 {
     if let Err(failure) = &ended {
-        eprintln!(rt; "{failure}").ok();
+        write_line(errors, &failure.line());
     }
     ended
 }

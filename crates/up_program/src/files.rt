@@ -20,11 +20,12 @@ pub fn journal_of(alloc: Global, path: &str) -> Result<String, AllocError>
 
 /// Whether a file of this length, none where there is no file, may be opened as a database. A file of one byte is left of some
 /// other file, as of a database that was cut, unless that byte is 0: a stop while a new database is made may leave such a one.
-/// Of no other file the bytes are looked at.
-pub fn may_open<F: FnOnce() -> Option<Vec<u8>>>(length: Option<u64>, bytes: F) -> bool
-    requires { F.IsAlwaysCallable bytes }
+/// Its bytes are asked for once, and those of no other file are.
+pub fn may_open<F: FnMut() -> Option<Vec<u8>>>(length: Option<u64>, bytes: &mut F) -> bool
+    requires { F.IsAlwaysCallable bytes.old }
     ensures other { length ≢ Some 1 → IsTrue result }
-    ensures one { length ≡ Some 1 → (told : _) × F.post bytes told × (IsTrue result ↔ IsBegun told) }
+    ensures unread { length ≢ Some 1 → bytes.new ≡ bytes.old }
+    ensures one { length ≡ Some 1 → (told : _) × F.step bytes.old told bytes.new × (IsTrue result ↔ IsBegun told) }
 {
     length != Some(1) || is_begun(bytes())
 }

@@ -69,6 +69,12 @@ asks_running (Show vehicle) = true
 
 -- ---- lines
 
+-- the word, then the moment
+unfoldable pub head_in : Data → Result ℕ Refusal
+head_in d = do
+  word ← word_in d
+  count_in (codes "at") d
+
 -- the word, then the moment, then the word's members
 unfoldable pub asked_of : Rules → Data → Result Asked Refusal
 asked_of k d = do

@@ -14,14 +14,31 @@ use Rattle.up_metadata.specs.declared.keys.KeySet.{KeySet}
 unfoldable pub key_of : List ℕ → Data → Result (List ℕ) Refusal
 key_of place value = hex_of 2 512 place value
 
+-- a number of 32 bits
+unfoldable pub threshold_in : Data → Result ℕ Refusal
+threshold_in d = do
+  threshold ← count_in (codes "threshold") d
+  fitting (λ n. nat_lt n (2 ^ 32)) (codes "threshold") threshold
+
+-- the keys of a role, not yet read
+unfoldable pub key_list_in : List ℕ → Data → Result (List Data) Refusal
+key_list_in name d = do
+  role ← object_in name d
+  list_in (codes "keys") role
+
 unfoldable pub role_in : List ℕ → Data → Result RoleSecrets Refusal
 role_in name d = do
   role ← object_in name d
   values ← list_in (codes "keys") role
   keys ← each (key_of (codes "keys")) values
-  given ← count_in (codes "threshold") role
-  threshold ← fitting (λ n. nat_lt n (2 ^ 32)) (codes "threshold") given
+  threshold ← threshold_in role
   Ok (record { keys = keys; threshold = threshold })
+
+-- the keys of a repository's root role, not yet read: they come first
+unfoldable pub root_list_in : List ℕ → Data → Result (List Data) Refusal
+root_list_in name d = do
+  repository ← object_in name d
+  key_list_in (codes "root") repository
 
 unfoldable pub repository_in : List ℕ → Data → Result RepoKeys Refusal
 repository_in name d = do

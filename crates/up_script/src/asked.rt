@@ -1,12 +1,12 @@
 //! What a line of a script asks.
-ghost use Rattle.std.specs.Prelude.{◌≡◌, IfOk, IsTrue};
+ghost use Rattle.std.specs.Prelude.{◌≡◌, Err, IfErr, IfOk, IsTrue, IsUtf8};
 ghost use Rattle.serde_json.specs.View.{view};
 ghost use Rattle.up_canon.specs.JsonText.{value_in};
 ghost use Rattle.up_canon.specs.Members.{object_of_map};
 ghost use Rattle.up_canon.specs.Refusals.{Gives, GivesAs};
 ghost use Rattle.up_canon.specs.Steps.{or_error};
 ghost use Rattle.up_canon.specs.declared.refusal.Refusal.TheVariants.{NotJson};
-ghost use Rattle.up_script.specs.AskedLines.{asked_in, asked_of, asks_running};
+ghost use Rattle.up_script.specs.AskedLines.{asked_in, asked_of, asks_running, head_in};
 
 use crate::plain_line::plain_delivery;
 use crate::what::what_at;
@@ -40,10 +40,11 @@ pub enum What {
 }
 
 /// What a line asks, or its first fault: that it is no JSON, then of `do`, `at` and the members of its word, in this order.
-/// A `bench` line has a signed manifest delivered.
+/// A `bench` line has a signed manifest delivered. A line that isn't UTF-8 is told as no JSON, whatever memory there is.
 pub fn asked_by<K: Scheme>(alloc: Global, scheme: &K, line: &[u8]) -> Result<Asked, Refusal>
     ensures value { Gives result (asked_in (K.rules scheme.now) line.now) }
     ensures running { IfOk result (λ asked. IsTrue (asks_running asked.what)) }
+    ensures text { (IsUtf8 line.now → ⊥) → result ≡ Err NotJson }
 {
     let Ok(text) = str::from_utf8(line) else {
         return Err(Refusal::NotJson);
@@ -65,7 +66,8 @@ fn asked_of_json<K: Scheme>(alloc: Global, scheme: &K, line: &str) -> Result<Ask
     asked_at(alloc, scheme, members)
 }
 
-#[tactic(auto, unfolding(crate::specs::AskedLines::asked_of, up_canon::specs::Steps::and_then))]
+/// The same of the members of a line. Want of memory is never told for a fault of `do` or `at`.
+#[tactic(auto, unfolding(crate::specs::AskedLines::asked_of, crate::specs::AskedLines::head_in, up_canon::specs::Steps::and_then))]
 fn asked_at<K: Scheme>(
     alloc: Global,
     scheme: &K,
@@ -73,6 +75,7 @@ fn asked_at<K: Scheme>(
 ) -> Result<Asked, Refusal>
     ensures value { Gives result (asked_of (K.rules scheme.now) (object_of_map members.now.entries)) }
     ensures running { IfOk result (λ asked. IsTrue (asks_running asked.what)) }
+    ensures outright { IfErr (head_in (object_of_map members.now.entries)) (λ r. result ≡ Err r) }
 {
     let word = word_at(members)?;
     let at = count_at(members, "at")?;

@@ -1,9 +1,11 @@
 //! Lines that sign reports and their manifest, as ECUs and their Primary would, and deliver it.
-ghost use Rattle.std.specs.Prelude.{◌≡◌, ◌∷◌, [], Ok, IsTrue, IfOk, MatchResult, codes, length};
+ghost use Rattle.std.specs.Prelude.{◌≡◌, ◌∷◌, [], Ok, IfNone, IfOk, IsTrue, MatchResult, codes, length};
 ghost use Rattle.std.specs.List.{list_all};
+ghost use Rattle.serde_json.specs.Find.{get};
 ghost use Rattle.serde_json.specs.View.{view};
 ghost use Rattle.up_canon.specs.Members.{IsFault, object_of_map, values_of};
 ghost use Rattle.up_canon.specs.Refusals.{Gives, GivesAs};
+ghost use Rattle.up_canon.specs.Readers.{fitting};
 ghost use Rattle.up_canon.specs.Steps.{each};
 ghost use Rattle.up_sign.specs.Envelopes.{key_block, sealed};
 ghost use Rattle.up_sign.specs.Formats.{envelope_fits};
@@ -140,6 +142,14 @@ fn secret_at<K: Scheme>(
     ensures fits { IfOk result (λ key. IsTrue ((K.rules scheme.now).secret_fits key)) }
 {
     let key = hex_at(alloc, members, "key", 2, 512)?;
+    fitting_secret(scheme, key)
+}
+
+/// The key where the scheme takes it as a secret, else its fault, which is never want of memory.
+fn fitting_secret<K: Scheme>(scheme: &K, key: Bytes) -> Result<Bytes, Refusal>
+    ensures value { result ≡ fitting (K.rules scheme.now).secret_fits (codes "key") key }
+    ensures fits { IfOk result (λ fitting. IsTrue ((K.rules scheme.now).secret_fits fitting)) }
+{
     if scheme.secret_fits(key.as_slice()) {
         Ok(key)
     } else {
@@ -158,7 +168,8 @@ fn time_at(members: &Map<String, Value>) -> Result<Moment, &'static str>
 
 #[tactic(auto, unfolding(crate::specs::BenchLines::attack_in, up_canon::specs::Steps::and_then))]
 fn attack_at(alloc: Global, members: &Map<String, Value>) -> Result<Note, Refusal>
-    ensures { Gives result (attack_in (object_of_map members.now.entries)) }
+    ensures value { Gives result (attack_in (object_of_map members.now.entries)) }
+    ensures left_out { IfNone (get (codes "attack") (object_of_map members.now.entries)) (result ≡ Ok []) }
 {
     match find(members, "attack") {
         Some(value) => note_of(alloc, value, "attack"),
@@ -167,7 +178,7 @@ fn attack_at(alloc: Global, members: &Map<String, Value>) -> Result<Note, Refusa
 }
 
 fn no_attack(alloc: Global) -> Result<Note, Refusal>
-    ensures { Gives result (Ok []) }
+    ensures { result ≡ Ok [] }
 {
     Ok(Note::new(String::new(alloc)).ok_or("attack")?)
 }

@@ -1,8 +1,8 @@
 //! Lines with the keys of both repositories.
-ghost use Rattle.std.specs.Prelude.{◌≡◌};
+ghost use Rattle.std.specs.Prelude.{◌≡◌, Err, IfErr, codes};
 ghost use Rattle.up_canon.specs.Members.{object_of_map};
 ghost use Rattle.up_canon.specs.Refusals.{Gives};
-ghost use Rattle.up_script.specs.KeyLines.{role_in, repository_in, key_set_in};
+ghost use Rattle.up_script.specs.KeyLines.{key_list_in, threshold_in, role_in, root_list_in, repository_in, key_set_in};
 
 use serde_json::{Map, Value};
 use std::alloc::Global;
@@ -32,20 +32,22 @@ impl Reading for KeyReading {
 /// The keys of both repositories, or the first fault of shape.
 #[tactic(auto, unfolding(crate::specs::KeyLines::key_set_in, up_canon::specs::Steps::and_then))]
 pub fn key_set_at(alloc: Global, line: &Map<String, Value>) -> Result<KeySet, Refusal>
-    ensures { Gives result (key_set_in (object_of_map line.now.entries)) }
+    ensures value { Gives result (key_set_in (object_of_map line.now.entries)) }
+    ensures outright { IfErr (root_list_in (codes "director") (object_of_map line.now.entries)) (λ r. result ≡ Err r) }
 {
     let director = repository_at(alloc, line, "director")?;
     let image = repository_at(alloc, line, "image")?;
     Ok(KeySet { director, image })
 }
 
-#[tactic(auto, unfolding(crate::specs::KeyLines::repository_in, up_canon::specs::Steps::and_then))]
+#[tactic(auto, unfolding(crate::specs::KeyLines::repository_in, crate::specs::KeyLines::root_list_in, up_canon::specs::Steps::and_then))]
 fn repository_at(
     alloc: Global,
     line: &Map<String, Value>,
     name: &'static str,
 ) -> Result<RepoKeys, Refusal>
-    ensures { Gives result (repository_in name.now (object_of_map line.now.entries)) }
+    ensures value { Gives result (repository_in name.now (object_of_map line.now.entries)) }
+    ensures outright { IfErr (root_list_in name.now (object_of_map line.now.entries)) (λ r. result ≡ Err r) }
 {
     let repository = object_at(line, name)?;
     let root = role_at(alloc, repository, "root")?;
@@ -60,22 +62,29 @@ fn repository_at(
     })
 }
 
-#[tactic(auto, unfolding(crate::specs::KeyLines::role_in, up_canon::specs::Steps::and_then))]
+#[tactic(auto, unfolding(crate::specs::KeyLines::role_in, crate::specs::KeyLines::key_list_in, up_canon::specs::Steps::and_then))]
 fn role_at(
     alloc: Global,
     repository: &Map<String, Value>,
     name: &'static str,
 ) -> Result<RoleSecrets, Refusal>
-    ensures { Gives result (role_in name.now (object_of_map repository.now.entries)) }
+    ensures value { Gives result (role_in name.now (object_of_map repository.now.entries)) }
+    ensures outright { IfErr (key_list_in name.now (object_of_map repository.now.entries)) (λ r. result ≡ Err r) }
 {
     let role = object_at(repository, name)?;
     let keys = each_of::<KeyReading>(alloc, list_at(role, "keys")?.as_slice(), "keys")?;
+    let threshold = threshold_at(role)?;
+    Ok(RoleSecrets { keys, threshold })
+}
+
+/// The threshold of a role, or its fault, which is never want of memory.
+#[tactic(auto, unfolding(crate::specs::KeyLines::threshold_in, up_canon::specs::Steps::and_then))]
+fn threshold_at(role: &Map<String, Value>) -> Result<u32, Refusal>
+    ensures { result ≡ threshold_in (object_of_map role.now.entries) }
+{
     let threshold = count_at(role, "threshold")?.get();
     if threshold >= 4294967296 {
         return Err("threshold".into());
     }
-    Ok(RoleSecrets {
-        keys,
-        threshold: threshold as u32,
-    })
+    Ok(threshold as u32)
 }

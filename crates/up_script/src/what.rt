@@ -1,7 +1,8 @@
 //! What each word of a line asks.
-ghost use Rattle.std.specs.Prelude.{IfOk, IsTrue};
-ghost use Rattle.up_canon.specs.Members.{object_of_map};
+ghost use Rattle.std.specs.Prelude.{◌≡◌, Err, IfErr, IfOk, IsTrue, codes};
+ghost use Rattle.up_canon.specs.Members.{object_of_map, text_in};
 ghost use Rattle.up_canon.specs.Refusals.{Gives};
+ghost use Rattle.up_roles.specs.Payload.{repository_in};
 ghost use Rattle.up_script.specs.AskedLines.{what_in, deliver_in, fetch_in, asks_running};
 
 use crate::asked::What;
@@ -55,6 +56,7 @@ pub(crate) fn what_at<K: Scheme>(
 fn delivery_at(alloc: Global, line: &Map<String, Value>) -> Result<What, Refusal>
     ensures value { Gives result (deliver_in (object_of_map line.now.entries)) }
     ensures running { IfOk result (λ what. IsTrue (asks_running what)) }
+    ensures outright { IfErr (text_in (codes "body") (object_of_map line.now.entries)) (λ r. result ≡ Err r) }
 {
     let body = text_at(line, "body")?.as_bytes().to_vec(alloc)?;
     Ok(What::Call(Command::Deliver(Bytes::new(body))))
@@ -64,6 +66,7 @@ fn delivery_at(alloc: Global, line: &Map<String, Value>) -> Result<What, Refusal
 fn fetch_at(alloc: Global, line: &Map<String, Value>) -> Result<What, Refusal>
     ensures value { Gives result (fetch_in (object_of_map line.now.entries)) }
     ensures running { IfOk result (λ what. IsTrue (asks_running what)) }
+    ensures outright { IfErr (repository_in (object_of_map line.now.entries)) (λ r. result ≡ Err r) }
 {
     let repository = repository_at(line)?;
     let file = file_name_at(alloc, line, "file")?;

@@ -15,20 +15,18 @@ use Rattle.up_machine.specs.Deciding.{Outcome}
 use Rattle.up_machine.specs.Repeats.{serve}
 use Rattle.up_machine.specs.State.{State}
 use Rattle.up_desk.specs.Serving.{is_fault, is_failed, IsCommit}
-use Rattle.up_desk.specs.Standing.{DeskView, Standing, HasCleanDisk, Survives, state}
-use Rattle.up_desk.specs.Calls.{ServesCall, SparesCall, CommitsCall}
+use Rattle.up_desk.specs.Standing.{DeskView, Standing, Survives, state}
 use Rattle.up_script.specs.AskedLines.{asked_in}
 use Rattle.up_script.specs.declared.asked.Asked.{Asked}
 use Rattle.up_script.specs.declared.asked.What.{What}
 use Rattle.up_script.specs.declared.asked.What.TheVariants.{Call, Show}
 use Rattle.up_script.specs.PrintedLines.{answer_text, refused_text}
-use Rattle.up_heads.specs.Responses.{check_response_of, refusal_response_of}
-use Rattle.up_heads.specs.declared.check.Check.{Check}
-use Rattle.up_http.specs.declared.asked.What.{What as Requested}
-use Rattle.up_http.specs.declared.asked.What.TheVariants.{Fixed}
+use Rattle.up_heads.specs.Responses.{refusal_response_of}
 use Rattle.up_service.specs.Answers.{answered_as, HoldsNext, IsCommitted, IsAnswerOrFailed, AnswersAs}
-use Rattle.up_service.specs.LineAnswers.{line_answer, answer_to, carried_out, command_answer, viewed, shown_in, shown_text, Sees, AnswersLine, IsViewText, IsTextOf, IsLineTo, IsLine, Prints, Lines}
-use Rattle.up_service.specs.Responses.{answer_response, AnswersCall, IsResponseTo}
+use Rattle.up_service.specs.Desks.{IsCalled}
+use Rattle.up_service.specs.LineAnswers.{line_answer, answer_to, carried_out, command_answer, viewed, shown_in, shown_text, AnswersLine, IsViewText, IsTextOf, IsLineTo, IsLine, Prints, Lines}
+use Rattle.up_service.specs.Responses.{answer_response, AnswersCall}
+use Rattle.up_service.proofs.Showing.{Sees}
 use Rattle.up_service.proofs.Failing.{AreApart, not_committed, failed_refusal, failed_answer, lines_apart, responses_apart}
 
 -- ---- commands
@@ -47,13 +45,6 @@ committed tell tell_answer same apart true Already old new o is h told commit = 
 committed tell tell_answer same apart true (Reply r) old new o is h told commit = absurd (cc)
 committed tell tell_answer same apart true (File f) old new o is h told commit = absurd (cc)
 committed tell tell_answer same apart true (Refused r) old new o is h told commit = absurd (not_committed tell tell_answer apart r o.answer old o.next is commit (sym (same r) ∙ told))
-
--- what a call of the desk comes to
-pub record IsCalled (k : Rules) (at : ℕ) (c : Command) (a : Answer) (old new : Standing) : Type 0 where
-  pub clean : HasCleanDisk new → HasCleanDisk old
-  pub served : ServesCall k at c a old new
-  pub crash : SparesCall k at c old new
-  pub durable : CommitsCall k at c a old new
 
 -- what is told of what the desk answered a command
 called : (tell : Refusal → List ℕ) (tell_answer : Answer → List ℕ) → ((r : Refusal) → tell_answer (Refused r) ≡ tell r) → AreApart tell tell_answer
@@ -95,7 +86,7 @@ nothing_committed : (k : Rules) (s : State) (a : Result Asked Refusal) → refus
 nothing_committed k s (Ok asked) told commit = no_commit k s asked.at asked.what told commit
 nothing_committed k s (Err r) told commit = commit
 
-memory_by : (r : Refusal) → is_memory r ≡ true → r ≡ Memory
+pub memory_by : (r : Refusal) → is_memory r ≡ true → r ≡ Memory
 memory_by Memory h = refl
 memory_by other h = cc
 
@@ -165,12 +156,6 @@ told_refusal k vehicle r t old new sees is = record {
     by_loss_of : (s : State) (b : Bool) → is_fault r ≡ b → MatchBool b ⊤ (shown_in s vehicle ≡ Err r) → IsAnswerOrFailed refused_text (viewed s vehicle) s t s
     by_loss_of s true same due = inr (failed_refusal refused_text r t same is, refl)
     by_loss_of s false same due = inl (is ∙ sym (ap shown_text due), refl)
-
--- a fixed answer leaves the desk as it is
-pub checked : {K D : Type 0} (rules : K → Rules) (g : Ghosts D) (at : ℕ) (desk : DeskView K D) (what : Requested) (check : Check) (last head : Bool) → what ≡ Fixed check
-    → (text : List ℕ) × IsResponseTo rules g at desk what last head text desk
-checked rules g at desk what check last head is =
-    subst (λ w. (text : List ℕ) × IsResponseTo rules g at desk w last head text desk) (sym is) (check_response_of check last head, (refl, refl))
 
 -- ---- what holds after a fault
 

@@ -3,4 +3,7 @@ pub mod Decimals
 pub mod Failing
 pub mod Lasting
 pub mod LastingRuns
+pub mod Reopening
 pub mod Showing
+pub mod Telling
+pub mod Weaker

@@ -1,5 +1,5 @@
 -- A view, step by step.
-use Rattle.std.proofs.Common.{◌≡◌, inr, IfErr, ℕ, List, ◌++◌, Bool, true, false, Option, Some, None, Result, Ok, Err, refl, sym, subst, ap, ap₂, ◌∙◌, arith, take, map, length, get_or, ◌<◌, ◌+◌, [], ◌∷◌}
+use Rattle.std.proofs.Common.{◌≡◌, ℕ, List, ◌++◌, Bool, true, false, Option, Some, None, Result, Ok, Err, refl, sym, subst, ap, ap₂, ◌∙◌, arith, take, map, length, get_or, ◌<◌, ◌+◌, [], ◌∷◌}
 use Rattle.std.specs.Prelude.{◌||◌, ⊤, IsTrue, IfOk, bytes_eq, flat_map, option_map, MatchBool}
 use Rattle.std.specs.List.{AllByRecursion}
 use Rattle.std.specs.FinMap as table
@@ -26,9 +26,23 @@ use Rattle.up_rows.specs.StateRows.{rows_of_state}
 use Rattle.up_tables.specs.declared.values.StoreFault.{StoreFault}
 use Rattle.up_tables.specs.declared.values.StoreFault.TheVariants as fault
 use Rattle.up_desk.specs.Serving.{is_fault, refusal_told}
-use Rattle.up_desk.specs.Standing.{Standing, HasCleanDisk, IfClean, KeepsState, Fits, Reads, Tells}
+use Rattle.up_desk.specs.Standing.{Standing, HasCleanDisk, IfClean, KeepsState, Survives, Fits, Reads, Tells}
 use Rattle.up_script.specs.PrintedLines.{ecu_text, vehicle_text}
-use Rattle.up_service.specs.LineAnswers.{Sees, GivesShown, ShowsRows, ecus_text, row_text, rows_text, line_of, shown_in, shown_with}
+use Rattle.up_service.specs.LineAnswers.{ecus_text, row_text, rows_text, line_of, shown_in, shown_with}
+
+-- ---- what is shown
+
+-- the line, or the refusal that is due, unless memory or the database refused
+abbrev pub GivesShown : Result (List ℕ) Refusal → Result (List ℕ) Refusal → Type 0
+GivesShown (Ok text) computed = computed ≡ Ok text
+GivesShown (Err r) computed = MatchBool (is_fault r) ⊤ (computed ≡ Err r)
+
+-- a step of a view, over a disk that has returned what was written so far: this holds of each sound state that the tables show, and
+-- they go on showing it; a crash leaves what it could leave before
+pub record Sees (holds : State → Type 0) (old new : Standing) : Type 0 where
+  pub clean : HasCleanDisk new → HasCleanDisk old
+  pub seen : HasCleanDisk new → (k : Rules) (s : State) → IsSound k s → IfClean (KeepsState k s) old → holds s × KeepsState k s new
+  pub crash : Survives old new (λ trees. ⊥)
 
 -- ---- steps
 
@@ -73,28 +87,12 @@ sees_weaker P Q old new first weaker = record {
   crash = first.crash;
 }
 
--- ---- what is shown
-
-pub fault_shown : (r : Refusal) (f : StoreFault) (computed : Result (List ℕ) Refusal) → r ≡ refusal_told f → MatchBool (is_fault r) ⊤ (computed ≡ Err r)
-fault_shown r f computed is = subst (λ q. MatchBool (is_fault q) ⊤ (computed ≡ Err q)) (sym is) (by_fault f)
-  where
-    by_fault : (f : StoreFault) → MatchBool (is_fault (refusal_told f)) ⊤ (computed ≡ Err (refusal_told f))
-    by_fault fault.Memory = tt
-    by_fault fault.Store = tt
+-- ---- a vehicle
 
 -- a fault of the store is one, as a refusal
-pub told_fault : (r : Refusal) (f : StoreFault) → r ≡ refusal_told f → IsTrue (is_fault r)
-told_fault r f is = subst (λ q. IsTrue (is_fault q)) (sym is) (by_fault f)
-  where
-    by_fault : (f : StoreFault) → IsTrue (is_fault (refusal_told f))
-    by_fault fault.Memory = refl
-    by_fault fault.Store = refl
-
--- the line of rows, or want of memory
-pub shows_rows : {S : Type 0} (bytes : S → List ℕ) (result : Result S Refusal) (plan : Option Plan) (rows : VehicleRows) → GivesShown bytes result (Ok (rows_text plan rows)) → IfErr result (λ r. r ≡ Memory)
-    → ShowsRows bytes result
-shows_rows bytes (Ok text) plan rows gives memory = (plan, rows, (let same : rows_text plan rows ≡ bytes text = cc in sym same))
-shows_rows bytes (Err r) plan rows gives memory = inr (subst (λ q. IsTrue (is_fault q)) (sym memory) refl)
+pub told_fault : (f : StoreFault) → IsTrue (is_fault (refusal_told f))
+told_fault fault.Memory = refl
+told_fault fault.Store = refl
 
 -- of an unknown vehicle
 pub no_vehicle : (vehicle : Name) (s : State) → None ≡ vehicle_rows s vehicle → shown_in s vehicle ≡ Err UnknownVehicle

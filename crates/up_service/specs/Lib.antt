@@ -1,4 +1,5 @@
 pub mod Answers
+pub mod Desks
 pub mod Digests
 pub mod Jobs
 pub mod LineAnswers
@@ -6,3 +7,4 @@ pub mod Responses
 pub mod Runs
 pub mod Scripts
 pub mod Streams
+pub mod Told

@@ -1,5 +1,5 @@
 -- What each line of a script is answered, and the state that it leaves.
-use Rattle.std.specs.Prelude.{◌≡◌, ◌⊎◌, ℕ, List, ◌++◌, flat_map, MatchBool, ⊤, IsTrue, Option, None, IfSome, Result, Ok, Err}
+use Rattle.std.specs.Prelude.{◌≡◌, ◌⊎◌, ℕ, List, ◌++◌, flat_map, Option, None, IfSome, Result, Ok, Err}
 use Rattle.sqlite_trees.specs.declared.store.Store.{Ghosts}
 use Rattle.up_canon.specs.Names.{Name}
 use Rattle.up_canon.specs.Steps.{◌>>=◌, or_error}
@@ -13,10 +13,9 @@ use Rattle.up_machine.specs.declared.command.Command.{Command}
 use Rattle.up_machine.specs.declared.rows.EcuRow.{EcuRow}
 use Rattle.up_machine.specs.declared.rows.VehicleRows.{VehicleRows}
 use Rattle.up_machine.specs.Reads.{ecus_of, version_of, installed, assigned_to}
-use Rattle.up_machine.specs.Sound.{IsSound}
 use Rattle.up_machine.specs.State.{State}
-use Rattle.up_desk.specs.Serving.{is_fault, outright}
-use Rattle.up_desk.specs.Standing.{DeskView, Standing, HasCleanDisk, IfClean, KeepsState, Survives, state}
+use Rattle.up_desk.specs.Serving.{outright}
+use Rattle.up_desk.specs.Standing.{DeskView, Standing, state}
 use Rattle.up_script.specs.AskedLines.{asked_in}
 use Rattle.up_script.specs.PrintedLines.{answer_text, refused_text, vehicle_text, ecu_text}
 use Rattle.up_script.specs.declared.asked.Asked.{Asked}
@@ -52,28 +51,10 @@ shown_in s vehicle = do
   version ← or_error UnknownVehicle (version_of s vehicle)
   shown_with s vehicle version
 
--- the line, or the refusal that is due, unless memory or the database refused
-abbrev pub GivesShown : {S : Type 0} → (S → List ℕ) → Result S Refusal → Result (List ℕ) Refusal → Type 0
-GivesShown bytes (Ok text) computed = computed ≡ Ok (bytes text)
-GivesShown bytes (Err r) computed = MatchBool (is_fault r) ⊤ (computed ≡ Err r)
-
--- whatever the database does and its tables show: the line of some rows of a vehicle, or a refusal, which tells that there is none, or that
--- memory or the database refused
-abbrev pub ShowsRows : {S : Type 0} → (S → List ℕ) → Result S Refusal → Type 0
-ShowsRows bytes (Ok text) = (plan : Option Plan) × (rows : VehicleRows) × (bytes text ≡ rows_text plan rows)
-ShowsRows bytes (Err r) = (r ≡ UnknownVehicle) ⊎ IsTrue (is_fault r)
-
 -- the text that is told of it
 abbrev pub shown_text : Result (List ℕ) Refusal → List ℕ
 shown_text (Ok text) = text
 shown_text (Err r) = refused_text r
-
--- a step of a view, over a disk that has returned what was written so far: this holds of each sound state that the tables show, and
--- they go on showing it; a crash leaves what it could leave before
-pub record Sees (holds : State → Type 0) (old new : Standing) : Type 0 where
-  pub clean : HasCleanDisk new → HasCleanDisk old
-  pub seen : HasCleanDisk new → (k : Rules) (s : State) → IsSound k s → IfClean (KeepsState k s) old → holds s × KeepsState k s new
-  pub crash : Survives old new (λ trees. ⊥)
 
 -- ---- lines
 

@@ -1,5 +1,13 @@
 -- What a whole run over lines or over requests comes to: its answers, the state that the tables show then, and what a crash leaves.
-use Rattle.std.specs.Prelude.{◌≡◌, ◌⊎◌, ◌||◌, ℕ, Bool, false, ⊤, IsTrue, if◌then◌else◌, List, [], ◌∷◌, ◌++◌, Option, Some, None, bytes_eq}
+use Rattle.std.specs.Prelude.{◌≡◌, ◌⊎◌, ◌||◌, ℕ, Bool, false, ⊤, IsTrue, IsSome, if◌then◌else◌, List, [], ◌∷◌, ◌++◌, Option, Some, None, bytes_eq}
+use Rattle.sqlite_disk.specs.declared.Disk.{Ghosts as DiskGhosts}
+use Rattle.sqlite_wal.specs.Recovery.{Image}
+use Rattle.sqlite_store.specs.declared.store.FileStore.{FileStore}
+use Rattle.sqlite_store.specs.FileStore.{view}
+use Rattle.sqlite_store.specs.FileStore as files
+use Rattle.sqlite.specs.Files.{over_files, file_state, IsOpened}
+use Rattle.sqlite.specs.Held.{Held}
+use Rattle.sqlite.specs.Start.{FindsIn}
 use Rattle.sqlite.specs.Tree.{Trees}
 use Rattle.sqlite_trees.specs.declared.store.Store.{Ghosts}
 use Rattle.up_canon.specs.declared.refusal.Refusal.{Refusal}
@@ -8,8 +16,10 @@ use Rattle.up_sign.specs.Schemes.{Rules}
 use Rattle.up_machine.specs.Sound.{IsSound}
 use Rattle.up_machine.specs.State.{State}
 use Rattle.up_lines.specs.Runs.{Run}
+use Rattle.up_store.specs.Connections as connections
+use Rattle.up_store.specs.Stopped.{AreFoundAgain}
 use Rattle.up_desk.specs.Serving.{HoldsState}
-use Rattle.up_desk.specs.Standing.{DeskView, Standing, HasCleanDisk, IfClean, KeepsState, Survives, LeavesOnly, state}
+use Rattle.up_desk.specs.Standing.{DeskView, Stored, Standing, HasCleanDisk, IfClean, KeepsState, Survives, LeavesOnly, state}
 use Rattle.up_service.specs.Answers.{Answered, HoldsNext, IsCommitted}
 
 -- ---- items, answered one after another
@@ -98,3 +108,25 @@ HandsOn gives (Some item) old new = (text : List ℕ) × gives old item text new
 abbrev pub RunsLast : {K D I : Type 0} → (K → Service I) → Ghosts D → (DeskView K D → I → List ℕ → DeskView K D → Type 0) → Type 0
 RunsLast {K} {D} {I} u g gives = (items : List I) (texts : List (List ℕ)) (next : Option I) (old last new : DeskView K D)
     → Run gives old items texts last → HandsOn gives next last new → LastsFrom u g old items texts next new
+
+-- ---- what an open finds of the files that a crash left
+
+-- it is what an item makes of the state, if that is a command
+abbrev pub IsMade : {I : Type 0} → Service I → State → I → State → Type 0
+IsMade v s item at = IsSome (v.answer s item).called × (at ≡ (v.answer s item).next)
+
+-- it is what one of the items makes of the state behind those before it; one more item may have been handed on behind them
+abbrev pub IsMadeBySome : {I : Type 0} → Service I → State → List (Told I) → Option I → State → Type 0
+IsMadeBySome v s [] None at = ⊥
+IsMadeBySome v s [] (Some item) at = IsMade v s item at
+IsMadeBySome v s (m ∷ ms) next at = IsMade v s m.item at ⊎ IsMadeBySome v (behind v s m) ms next at
+
+-- The program stopped behind a run, and the files are opened again as a crash left them: behind each commit that was answered the tables show
+-- the state behind it, or what one of the items that follow makes from there on.
+abbrev pub ReopenedLast : {D : Type 0} → Type 0 → DiskGhosts D → Type 0
+ReopenedLast {D} I g = (v : Service I) (s : State) (ms : List (Told I)) (next : Option I) (old new : Stored (FileStore D g))
+    → Lasts v s ms next (state over_files old) (state over_files new) → (before rest : List (Told I)) (m : Told I) → IsAnsweredCommit v s ms before rest m
+    → HasCleanDisk (state over_files new) → (stopped : FileStore D g) → AreFoundAgain new.held stopped → IsTrue (view stopped).is_clean → (left : Image) → (files.state stopped).may_leave left
+    → (opened : Held (FileStore D g)) → IsOpened opened → FindsIn left (file_state opened)
+    → ∥ ((at : State) × ((at ≡ behind v (after v s before) m) ⊎ IsMadeBySome v (behind v (after v s before) m) rest next at)
+        × connections.KeepsState v.rules at (file_state opened)) ∥₁

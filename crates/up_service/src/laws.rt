@@ -1,8 +1,12 @@
 //! The laws of whole scripts and whole streams.
+ghost use Rattle.std.specs.Prelude.{ℕ, List};
+ghost use Rattle.up_http.specs.declared.asked.Next.{Next};
+ghost use Rattle.up_service.specs.Runs.{ReopenedLast};
 ghost use Rattle.up_service.specs.Scripts.{LinesLast};
 ghost use Rattle.up_service.specs.Streams.{RequestsLast};
 
 use sqlite::Alter;
+use sqlite_disk::Disk;
 use up_machine::laws::refusals_change_nothing;
 use up_sign::scheme::Scheme;
 
@@ -25,3 +29,14 @@ pub fn streams_outlast_crashes<K: Scheme, D: Alter>()
 {
     refusals_change_nothing();
 }
+
+/// What an open finds behind a script, where the program stopped and the files are opened again as a crash left them: behind each
+/// `done`, and each reply to a new manifest, the state behind that line, or what one of the lines that follow makes from there on.
+pub fn reopened_scripts_outlast_crashes<D: Disk>()
+    ensures { ReopenedLast (List ℕ) D.Disk }
+{}
+
+/// The same of the requests of a stream.
+pub fn reopened_streams_outlast_crashes<D: Disk>()
+    ensures { ReopenedLast Next D.Disk }
+{}

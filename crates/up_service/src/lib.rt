@@ -1,6 +1,7 @@
 //! The service: scripts, streams of HTTP requests, digests of files, and what the words of the command line ask.
 #![tactic(auto)]
 
+mod desk;
 pub mod digest;
 pub mod job;
 pub mod laws;

@@ -2,19 +2,17 @@
 ghost use Rattle.std.specs.Prelude.{◌≡◌, List, ℕ, IsTrue, IfOk, OnErr, string_bytes};
 ghost use Rattle.up_machine.specs.Commands.{opens_running};
 ghost use Rattle.up_http.specs.Requests.{asks_running};
-ghost use Rattle.up_http.specs.declared.asked.What.TheVariants.{Call};
-ghost use Rattle.up_service.specs.Responses.{Responses, IsResponseTo, answer_response as answer_response_of, ok_response};
+ghost use Rattle.up_service.specs.Responses.{answer_response as answer_response_of, ok_response};
+ghost use Rattle.up_service.specs.Told.{TellsCall, TellsNext};
 
+use crate::desk::Called;
 use http::StatusCode;
-use sqlite::Alter;
 use std::alloc::{AllocError, Global};
-use up_desk::desk::Desk;
 use up_heads::responses::{check_response, refusal_response, response_text};
 use up_http::asked::{Next, What};
 use up_http::respond::Respond;
 use up_machine::answer::Answer;
 use up_machine::command::Command;
-use up_sign::scheme::Scheme;
 
 /// Answers the requests of a stream at a desk.
 #[derive(Clone, Copy, Debug, Drop)]
@@ -23,17 +21,12 @@ pub struct Responder {
     pub at: u64,
 }
 
-impl<K: Scheme, D: Alter> Respond<Desk<K, D>> for Responder {
-    ghost use Rattle.up_service.specs.Responses.{Responses};
+impl<C: Called> Respond<C> for Responder {
+    ghost use Rattle.up_service.specs.Told.{TellsNext};
 
-    ghost gives = { λ r. Responses (K.rules) D.Store r.at };
+    ghost gives = { λ r. TellsNext C.gives r.at };
 
-    fn respond(
-        &self,
-        alloc: Global,
-        desk: &mut Desk<K, D>,
-        next: &Next,
-    ) -> Result<Vec<u8>, AllocError> {
+    fn respond(&self, alloc: Global, desk: &mut C, next: &Next) -> Result<Vec<u8>, AllocError> {
         let text = response(alloc, desk, self.at, next)?;
         Ok(text.into_bytes())
     }
@@ -41,15 +34,15 @@ impl<K: Scheme, D: Alter> Respond<Desk<K, D>> for Responder {
 
 /// The response to a request, whose command is carried out at the desk.
 #[tactic(auto, unfolding(up_http::specs::Requests::asks_running))]
-fn response<K: Scheme, D: Alter>(
+fn response<C: Called>(
     alloc: Global,
-    desk: &mut Desk<K, D>,
+    desk: &mut C,
     at: u64,
     next: &Next,
 ) -> Result<String, AllocError>
     requires { IsTrue (asks_running next.now.what) }
-    ensures ok { IfOk result (λ t. Responses (K.rules) D.Store at desk.old next.now (string_bytes t) desk.new) }
-    ensures err { OnErr result ((text : List ℕ) × Responses (K.rules) D.Store at desk.old next.now text desk.new) }
+    ensures ok { IfOk result (λ t. TellsNext C.gives at desk.old next.now (string_bytes t) desk.new) }
+    ensures err { OnErr result ((text : List ℕ) × TellsNext C.gives at desk.old next.now text desk.new) }
 {
     match &next.what {
         What::Call(command) => called_response(alloc, desk, at, command, next.last, next.head),
@@ -58,17 +51,17 @@ fn response<K: Scheme, D: Alter>(
 }
 
 /// The response to a command, which is carried out at the desk.
-fn called_response<K: Scheme, D: Alter>(
+fn called_response<C: Called>(
     alloc: Global,
-    desk: &mut Desk<K, D>,
+    desk: &mut C,
     at: u64,
     command: &Command,
     last: bool,
     head: bool,
 ) -> Result<String, AllocError>
     requires { IsTrue (opens_running command.now) }
-    ensures ok { IfOk result (λ t. IsResponseTo (K.rules) D.Store at desk.old (Call command.now) last head (string_bytes t) desk.new) }
-    ensures err { OnErr result ((text : List ℕ) × IsResponseTo (K.rules) D.Store at desk.old (Call command.now) last head text desk.new) }
+    ensures ok { IfOk result (λ t. TellsCall C.gives (λ answer. answer_response_of answer last head) desk.old at command.now (string_bytes t) desk.new) }
+    ensures err { OnErr result ((text : List ℕ) × TellsCall C.gives (λ answer. answer_response_of answer last head) desk.old at command.now text desk.new) }
 {
     let answer = desk.call(alloc, at, command);
     answer_response(alloc, &answer, last, head)

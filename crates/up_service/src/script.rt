@@ -13,6 +13,7 @@ use std::alloc::Global;
 use up_desk::desk::Desk;
 use up_lines::fault::{ScriptCause, ScriptFault};
 use up_lines::run;
+use up_machine::laws::vehicles_stand_apart;
 use up_pieces::sink::Sink;
 use up_pieces::source::Source;
 use up_sign::scheme::Scheme;
@@ -64,6 +65,7 @@ pub fn run_script<K: Scheme, D: Alter, R: Source, W: Sink>(
         (W.has_failed writer.new) (W.can_write writer.new)) }
     ensures ended { OnOk result (R.has_ended reader.new) }
 {
+    vehicles_stand_apart();
     scripts_outlast_crashes::<K, D>();
     run(alloc, &Scripter, desk, reader, writer)
 }

@@ -1,33 +1,27 @@
 //! Views of a vehicle.
-ghost use Rattle.std.specs.Prelude.{◌≡◌, ◌++◌, Ok, IfOk, IfErr, string_bytes};
+ghost use Rattle.std.specs.Prelude.{◌≡◌, ◌++◌, Ok, Err, IfOk, IfErr, string_bytes};
 ghost use Rattle.up_canon.specs.declared.refusal.Refusal.TheVariants.{Memory};
-ghost use Rattle.up_machine.specs.Reads.{assigned_to};
-ghost use Rattle.up_desk.specs.Standing.{state};
-ghost use Rattle.up_service.specs.LineAnswers.{GivesShown, Sees, ShowsRows, row_text, rows_text, shown_in};
+ghost use Rattle.up_service.specs.LineAnswers.{row_text, rows_text};
+ghost use Rattle.up_service.specs.Told.{Shows, ShowsRows};
 
-use sqlite::Alter;
+use crate::desk::Viewed;
 use std::alloc::{AllocError, Global};
 use up_canon::ident::Ident;
 use up_canon::refusal::Refusal;
-use up_desk::desk::Desk;
 use up_desk::faults::refusal_of;
-use up_machine::laws::vehicles_stand_apart;
 use up_machine::rows::{EcuRow, VehicleRows};
 use up_plan::assigned::Plan;
 use up_script::printed::{push_ecu, vehicle_text};
-use up_sign::scheme::Scheme;
 
 /// The line that shows a vehicle: its version, and for each ECU in inventory order what is installed and what is assigned.
-pub(crate) fn shown<K: Scheme, D: Alter>(
+pub(crate) fn shown<V: Viewed>(
     alloc: Global,
-    desk: &mut Desk<K, D>,
+    desk: &mut V,
     vehicle: &Ident,
 ) -> Result<String, Refusal>
-    ensures sees { Sees (λ s. GivesShown string_bytes result (shown_in s vehicle.now)) (state D.Store desk.old.store) (state D.Store desk.new.store) }
-    ensures shows { ShowsRows string_bytes result }
-    ensures scheme { desk.new.scheme ≡ desk.old.scheme }
+    ensures line { IfOk result (λ line. Shows V.finds V.finds_plan desk.old vehicle.now (Ok (string_bytes line)) desk.new) }
+    ensures refused { IfErr result (λ r. Shows V.finds V.finds_plan desk.old vehicle.now (Err r) desk.new) }
 {
-    vehicles_stand_apart();
     match desk.vehicle(alloc, vehicle) {
         Ok(Some(rows)) => shown_with(alloc, desk, &rows),
         Ok(None) => Err(Refusal::UnknownVehicle),
@@ -36,15 +30,9 @@ pub(crate) fn shown<K: Scheme, D: Alter>(
 }
 
 /// The line of a vehicle of these rows.
-fn shown_with<K: Scheme, D: Alter>(
-    alloc: Global,
-    desk: &mut Desk<K, D>,
-    rows: &VehicleRows,
-) -> Result<String, Refusal>
-    ensures sees { Sees (λ s. GivesShown string_bytes result (Ok (rows_text (assigned_to s rows.now.vehicle.vehicle) rows.now)))
-        (state D.Store desk.old.store) (state D.Store desk.new.store) }
-    ensures shows { ShowsRows string_bytes result }
-    ensures scheme { desk.new.scheme ≡ desk.old.scheme }
+fn shown_with<V: Viewed>(alloc: Global, desk: &mut V, rows: &VehicleRows) -> Result<String, Refusal>
+    ensures line { IfOk result (λ line. ShowsRows V.finds_plan rows.now desk.old (Ok (string_bytes line)) desk.new) }
+    ensures refused { IfErr result (λ r. ShowsRows V.finds_plan rows.now desk.old (Err r) desk.new) }
 {
     match desk.assigned(alloc, &rows.vehicle.vehicle) {
         Ok(plan) => line_with(alloc, rows, &plan),
@@ -54,7 +42,7 @@ fn shown_with<K: Scheme, D: Alter>(
 
 /// The same, where this plan is assigned.
 fn line_with(alloc: Global, rows: &VehicleRows, plan: &Option<Plan>) -> Result<String, Refusal>
-    ensures shows { GivesShown string_bytes result (Ok (rows_text plan.now rows.now)) }
+    ensures line { IfOk result (λ line. string_bytes line ≡ rows_text plan.now rows.now) }
     ensures memory { IfErr result (λ r. r ≡ Memory) }
 {
     match line_of(alloc, rows, plan) {

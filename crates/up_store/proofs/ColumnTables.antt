@@ -52,6 +52,13 @@ images_more images hashes rows i r t next h at are told put so =
     whole.more image_key image_row (λ n. image_lines) (λ n. image_line) (λ n. refl) (λ n x. refl) any_image (λ n. table.get images n) rows i r is.value t next h at is.there
     (put (image_key r) is.value (are.typed (image_key r) is.value is.there) same (told is.value.file ∙ ap (λ name. second_hash (table.get images name)) (sym same.file) ∙ ap second_hash is.there) ∙ ap (λ name. table.insert t name is.value) (sym same.file)) so
 
+-- each row is of an image
+pub image_of : (images : Table ImageData) (rows : List ImageRow) (i : ℕ) (r : ImageRow) → i < length rows → r ≡ get_or rows i r → AreImages rows images
+    → (image : ImageData) × (table.get images (image_key r) ≡ Some image) × IsImage r image
+image_of images rows i r h at are =
+    let is = whole.row_is image_key image_row (λ n. image_lines) (λ n. image_line) (λ n. refl) (λ n x. refl) any_image (λ n. table.get images n) rows i r h at are.each in
+    (is.value, is.there, image_shown is.value r is.same)
+
 any_passes : (o : Option ImageData) → if_passes any_image o ≡ o
 any_passes None = refl
 any_passes (Some image) = refl
@@ -112,6 +119,13 @@ is_reached vehicle c = reaches vehicle c.reach
 
 abbrev running : Table CampaignData → Name → Option CampaignData
 running campaigns n = if_passes is_running (table.get campaigns n)
+
+-- each row is of a campaign
+pub campaign_of : (campaigns : Table CampaignData) (rows : List CampaignRow) (i : ℕ) (r : CampaignRow) → i < length rows → r ≡ get_or rows i r → AreRunning rows campaigns
+    → (campaign : CampaignData) × (table.get campaigns (campaign_key r) ≡ Some campaign) × IsCampaign r campaign
+campaign_of campaigns rows i r h at are =
+    let is = whole.row_is campaign_key campaign_row (λ n. campaign_lines) (λ n. line_of_campaign) (λ n. refl) (λ n x. refl) is_running (running campaigns) rows i r h at are.each in
+    (is.value, if_passes_some is_running (table.get campaigns (campaign_key r)) is.value is.there, campaign_shown is.value r is.same)
 
 -- those of these rows' campaigns that reach the vehicle
 abbrev pub AreReaching : Name → List CampaignRow → Table CampaignData → Table CampaignData → Type 0

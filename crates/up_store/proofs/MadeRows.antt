@@ -1,5 +1,5 @@
 -- A loop that makes rows one after another.
-use Rattle.std.proofs.Common.{◌≡◌, ◌+◌, ℕ, zero, suc, List, [], ◌∷◌, ◌++◌, All, Some, map, drop, slice_get, sym, ap, subst, ◌∙◌, arith, append_assoc}
+use Rattle.std.proofs.Common.{◌≡◌, ◌+◌, ◌<◌, ℕ, zero, suc, List, [], ◌∷◌, ◌++◌, All, Some, length, map, drop, slice_get, get_or, sym, ap, subst, ◌∙◌, arith, append_assoc}
 use Rattle.std.specs.List.{AllByRecursion}
 use Rattle.std.proofs.lemmas.List.{map-append}
 use Rattle.std.proofs.lemmas.List.Elements.{All-append, All-cons}
@@ -23,6 +23,17 @@ pub each_at : {X : Type 0} (P : X → Type 0) (rows : List X) (i : ℕ) (row : X
 each_at P [] i row all h = absurd (let e = h in cc)
 each_at P (x ∷ xs) zero row all h = let same : x ≡ row = cc in subst P same all.0
 each_at P (x ∷ xs) (suc i) row all h = each_at P xs i row all.1 h
+
+pub each_in : {X : Type 0} (P : X → Type 0) (rows : List X) (i : ℕ) (row : X) → i < length rows → row ≡ get_or rows i row → AllByRecursion P rows → P row
+each_in P [] i row low is all = absurd (omega (arith, low))
+each_in P (x ∷ xs) zero row low is all = subst P (sym is) all.0
+each_in P (x ∷ xs) (suc i) row low is all = each_in P xs i row (omega (arith, low)) is all.1
+
+-- so it does of the one that a row is read as
+pub each_read : {X Y : Type 0} (f : X → Y) (P : Y → Type 0) (rows : List X) (i : ℕ) (row : X) → i < length rows → row ≡ get_or rows i row → AllByRecursion P (map f rows) → P (f row)
+each_read f P [] i row low is all = absurd (omega (arith, low))
+each_read f P (x ∷ xs) zero row low is all = subst (λ y. P (f y)) (sym is) all.0
+each_read f P (x ∷ xs) (suc i) row low is all = each_read f P xs i row (omega (arith, low)) is all.1
 
 pub all_made : {Y : Type 0} (P : Y → Type 0) (made more : List Y) (y : Y) → All P made → P y → more ≡ made ++ y ∷ [] → All P more
 all_made P made more y so_far new is = subst (All P) (sym is) (All-append P made (y ∷ []) so_far (All-cons P y [] new (λ k d h. absurd (omega (arith, h)))))

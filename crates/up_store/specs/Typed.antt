@@ -5,7 +5,7 @@ use Rattle.std.specs.List.{AllByRecursion, list_all}
 use Rattle.std.specs.FinMap as table
 use Rattle.up_canon.specs.Canon.{max_count}
 use Rattle.up_canon.specs.Moments.{last_moment}
-use Rattle.up_canon.specs.Names.{Name, is_ident, is_file_name}
+use Rattle.up_canon.specs.Names.{Name, Table, is_ident, is_file_name}
 use Rattle.up_manifest.specs.declared.report.Installed.{Installed}
 use Rattle.up_plan.specs.Campaigns.{CampaignData, campaign_fits}
 use Rattle.up_plan.specs.Images.{ImageData, image_fits}
@@ -89,6 +89,12 @@ pub record IsValidEcu (row : EcuRow) : Type 0 where
   pub hardware : is_ident row.hardware ≡ true
   pub installed : IfSome row.installed IsValidInstalled
   pub counter : row.counter ≤ max_count
+
+abbrev pub AreValidImages : Table ImageData → Type 0
+AreValidImages images = (file : Name) (image : ImageData) → table.get images file ≡ Some image → IsValidImage image
+
+abbrev pub AreValidCampaigns : Table CampaignData → Type 0
+AreValidCampaigns campaigns = (name : Name) (campaign : CampaignData) → table.get campaigns name ≡ Some campaign → IsValidCampaign campaign
 
 abbrev pub IsValidRole : RoleSecrets → Type 0
 IsValidRole role = role.threshold < 2 ^ 32

@@ -9,7 +9,7 @@ ghost use Rattle.up_plan.specs.Planning.{reaches as is_reached};
 ghost use Rattle.up_plan.specs.declared.campaign.Reach.{Reach as ReachData};
 ghost use Rattle.up_store.specs.ColumnRows.{IsCampaign, AreRunning};
 ghost use Rattle.up_store.specs.Found.{values_where};
-ghost use Rattle.up_store.specs.Typed.{IsTypedCampaign, IsValidCampaign};
+ghost use Rattle.up_store.specs.Typed.{IsTypedCampaign, IsValidCampaign, AreValidCampaigns};
 ghost use Rattle.up_tables.specs.declared.values.StoreFault.TheVariants.{Memory};
 
 use crate::column_values::{ident_in, read_column};
@@ -53,14 +53,17 @@ fn read_reached(alloc: Global, shown: &CampaignRow, reach: Reach) -> Result<Camp
     }
 }
 
-/// The rows of running campaigns as they stand in the table, read: those that reach the vehicle.
+/// The rows of running campaigns as they stand in the table, read: those that reach the vehicle. Of rows that stand for campaigns
+/// `Memory` is the one fault.
 pub fn read_reaching(
     alloc: Global,
     vehicle: &Ident,
     shown: &[CampaignRow],
 ) -> Result<Table<Campaign>, StoreFault>
-    ensures { IfOk result (λ read. (campaigns : Named CampaignData) → AreRunning shown.now campaigns
+    ensures same { IfOk result (λ read. (campaigns : Named CampaignData) → AreRunning shown.now campaigns
         → read ≡ values_where (λ c. c.running && is_reached vehicle.now c.reach) campaigns) }
+    ensures fault { (campaigns : Named CampaignData) → AreRunning shown.now campaigns → AreValidCampaigns campaigns
+        → IfErr result (λ fault. fault ≡ Memory) }
 {
     let mut reaching = Table::new(alloc);
     let quoted = quoted_name(alloc, vehicle)?;
@@ -89,8 +92,10 @@ fn add_reaching(
     shown: &CampaignRow,
 ) -> Result<(), StoreFault>
     requires { quoted.now ≡ quoted_text vehicle.now }
-    ensures { OnOk result ((name : Name) (campaign : CampaignData) → IsTypedCampaign name campaign → IsCampaign shown.now campaign
+    ensures same { OnOk result ((name : Name) (campaign : CampaignData) → IsTypedCampaign name campaign → IsCampaign shown.now campaign
         → reaching.new ≡ (if is_reached vehicle.now campaign.reach then table.insert reaching.old campaign.name campaign else reaching.old)) }
+    ensures fault { (name : Name) (campaign : CampaignData) → IsTypedCampaign name campaign → IsValidCampaign campaign
+        → IsCampaign shown.now campaign → IfErr result (λ fault. fault ≡ Memory) }
 {
     if !may_reach(shown.reach.as_str(), quoted) {
         return Ok(());
@@ -118,9 +123,11 @@ fn put_reached(
     shown: &CampaignRow,
     reach: Reach,
 ) -> Result<(), StoreFault>
-    ensures { OnOk result ((name : Name) (campaign : CampaignData)
+    ensures same { OnOk result ((name : Name) (campaign : CampaignData)
         → IsTypedCampaign name campaign → IsCampaign shown.now campaign → reach ≡ campaign.reach
         → reaching.new ≡ table.insert reaching.old campaign.name campaign) }
+    ensures fault { (name : Name) (campaign : CampaignData) → IsTypedCampaign name campaign → IsValidCampaign campaign
+        → IsCampaign shown.now campaign → reach ≡ campaign.reach → IfErr result (λ fault. fault ≡ Memory) }
 {
     let campaign = read_reached(alloc, shown, reach)?;
     let name = name_of(alloc, campaign.name.text())?;
@@ -138,10 +145,12 @@ fn read_its_reach(alloc: Global, shown: &CampaignRow) -> Result<Reach, StoreFaul
     read_column(read_reach(alloc, shown.reach.as_str()))
 }
 
-/// The rows of running campaigns as they stand in the table, read.
+/// The rows of running campaigns as they stand in the table, read; of rows that stand for campaigns, `Memory` is the one fault.
 pub fn read_running(alloc: Global, shown: &[CampaignRow]) -> Result<Table<Campaign>, StoreFault>
-    ensures { IfOk result (λ read. (campaigns : Named CampaignData) → AreRunning shown.now campaigns
+    ensures same { IfOk result (λ read. (campaigns : Named CampaignData) → AreRunning shown.now campaigns
         → read ≡ values_where (λ c. c.running) campaigns) }
+    ensures fault { (campaigns : Named CampaignData) → AreRunning shown.now campaigns → AreValidCampaigns campaigns
+        → IfErr result (λ fault. fault ≡ Memory) }
 {
     let mut running = Table::new(alloc);
     for row in shown {
@@ -156,8 +165,10 @@ fn add_running(
     alloc: Global,
     shown: &CampaignRow,
 ) -> Result<(), StoreFault>
-    ensures { OnOk result ((name : Name) (campaign : CampaignData) → IsTypedCampaign name campaign → IsCampaign shown.now campaign
+    ensures same { OnOk result ((name : Name) (campaign : CampaignData) → IsTypedCampaign name campaign → IsCampaign shown.now campaign
         → running.new ≡ table.insert running.old campaign.name campaign) }
+    ensures fault { (name : Name) (campaign : CampaignData) → IsTypedCampaign name campaign → IsValidCampaign campaign
+        → IsCampaign shown.now campaign → IfErr result (λ fault. fault ≡ Memory) }
 {
     let campaign = read_campaign(alloc, shown)?;
     let name = name_of(alloc, campaign.name.text())?;

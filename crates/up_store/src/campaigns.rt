@@ -1,5 +1,5 @@
 //! Campaigns.
-ghost use Rattle.std.specs.Prelude.{◌≡◌, Some, IfOk, OnErr};
+ghost use Rattle.std.specs.Prelude.{◌≡◌, Some, IfOk, IfErr, OnErr};
 ghost use Rattle.sqlite.specs.Held.{state};
 ghost use Rattle.sqlite.specs.State.{HasCleanDisk, Survives};
 ghost use Rattle.std.specs.FinMap as table;
@@ -7,7 +7,8 @@ ghost use Rattle.up_canon.specs.Names.{Name};
 ghost use Rattle.up_plan.specs.Campaigns.{CampaignData};
 ghost use Rattle.up_rows.specs.Changes.{with_campaign_row};
 ghost use Rattle.up_store.specs.ColumnRows.{IsCampaign};
-ghost use Rattle.up_store.specs.Typed.{IsTypedCampaign};
+ghost use Rattle.up_store.specs.Typed.{IsTypedCampaign, IsValidCampaign};
+ghost use Rattle.up_tables.specs.declared.values.StoreFault.TheVariants.{Memory};
 ghost use Rattle.up_store.specs.Fitting.{IsNewCampaign, IsClosing};
 ghost use Rattle.up_store.specs.Found.{campaigns_found, running_found};
 ghost use Rattle.up_tables.specs.Stands.{IfClean, IsAsCommitted, IsInside};
@@ -132,10 +133,12 @@ fn find_campaign<D: Alter>(
     }
 }
 
-/// A row as it stands in the table, read.
+/// A row as it stands in the table, read; of a row that stands for a campaign, `Memory` is the one fault.
 fn some_campaign(alloc: Global, shown: &CampaignRow) -> Result<Option<Campaign>, StoreFault>
-    ensures { IfOk result (λ read. (name : Name) (campaign : CampaignData)
+    ensures same { IfOk result (λ read. (name : Name) (campaign : CampaignData)
         → IsTypedCampaign name campaign → IsCampaign shown.now campaign → read ≡ Some campaign) }
+    ensures fault { (name : Name) (campaign : CampaignData) → IsTypedCampaign name campaign → IsValidCampaign campaign
+        → IsCampaign shown.now campaign → IfErr result (λ fault. fault ≡ Memory) }
 {
     match read_campaign(alloc, shown) {
         Ok(campaign) => Ok(Some(campaign)),

@@ -1,7 +1,7 @@
 //! The rows of a vehicle's ECUs, read and made.
 ghost use Rattle.std.specs.Prelude.{◌≡◌, ◌<◌, ◌^◌, ℕ, All, IfOk, List, Option, map, option_and_then, option_map, string_bytes};
 ghost use Rattle.std.specs.List.{AllByRecursion};
-ghost use Rattle.std.specs.Prelude.{◌≢◌, ◌≤◌, true, length, IfErr, MatchOption};
+ghost use Rattle.std.specs.Prelude.{◌≢◌, ◌≤◌, true, length, None, Ok, IfErr, MatchOption};
 ghost use Rattle.up_canon.specs.Canon.{max_count};
 ghost use Rattle.up_canon.specs.Names.{is_file_name};
 ghost use Rattle.up_tables.specs.declared.values.StoreFault.TheVariants.{Memory, Store};
@@ -21,9 +21,10 @@ use up_manifest::manifest_read::report_sha512;
 use up_manifest::report::Installed;
 use up_tables::ecu::{EcuRow as EcuShown, Installed as InstalledShown};
 
-/// Rows as they stand in the table, read.
+/// Rows as they stand in the table, read; of rows that stand for ECUs, `Memory` is the one fault.
 pub fn read_ecus(alloc: Global, shown: Vec<EcuShown>) -> Result<Listed<EcuRow>, StoreFault>
-    ensures { IfOk result (λ read. read ≡ map ecu_read shown.items) }
+    ensures same { IfOk result (λ read. read ≡ map ecu_read shown.items) }
+    ensures fault { AllByRecursion IsValidEcu (map ecu_read shown.items) → IfErr result (λ fault. fault ≡ Memory) }
 {
     let mut read = Vec::with_capacity(alloc, shown.len())?;
     for row in shown {
@@ -48,9 +49,10 @@ fn read_ecu(alloc: Global, shown: EcuShown) -> Result<EcuRow, StoreFault>
     })
 }
 
-/// The second hash that the text of a report has.
+/// The second hash that the text of a report has; of no report none, which takes no memory.
 fn told_sha512(alloc: Global, report: &Option<String>) -> Result<Option<[u8; 64]>, AllocError>
-    ensures { IfOk result (λ hash. hash ≡ reported_sha512 (option_map string_bytes report.now)) }
+    ensures same { IfOk result (λ hash. hash ≡ reported_sha512 (option_map string_bytes report.now)) }
+    ensures none { report.now ≡ None → result ≡ Ok None }
 {
     match report {
         Some(text) => report_sha512(alloc, text.as_str()),
@@ -105,13 +107,14 @@ fn make_ecu(alloc: Global, row: &EcuRow) -> Result<EcuShown, AllocError>
     })
 }
 
-/// What is installed, as it stands in the table.
+/// What is installed, as it stands in the table; nothing takes no memory.
 fn make_installed(
     alloc: Global,
     installed: &Option<Installed>,
 ) -> Result<Option<InstalledShown>, AllocError>
     ensures same { IfOk result (λ made. (hash : Option (List ℕ)) → option_and_then (λ i. i.sha512) installed.now ≡ hash
         → option_map (installed_read hash) made ≡ installed.now) }
+    ensures none { installed.now ≡ None → result ≡ Ok None }
     ensures fit { IfOk result (λ made. Rattle.std.specs.Prelude.IfSome made (λ image. image.length < 2 ^ 63)) }
 {
     match installed {
@@ -124,9 +127,10 @@ fn make_installed(
     }
 }
 
-/// The text of the last report, as it stands in the table.
+/// The text of the last report, as it stands in the table; none takes no memory.
 fn make_report(alloc: Global, report: &Option<Text>) -> Result<Option<String>, AllocError>
-    ensures { IfOk result (λ made. option_map string_bytes made ≡ report.now) }
+    ensures same { IfOk result (λ made. option_map string_bytes made ≡ report.now) }
+    ensures none { report.now ≡ None → result ≡ Ok None }
 {
     match report {
         Some(text) => Ok(Some(text.as_str().to_string(alloc)?)),

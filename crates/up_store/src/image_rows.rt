@@ -4,7 +4,7 @@ ghost use Rattle.up_canon.specs.Names.{Name, Table as Named};
 ghost use Rattle.up_plan.specs.Images.{ImageData};
 ghost use Rattle.up_tables.specs.Forms.{FitImage};
 ghost use Rattle.up_store.specs.ColumnRows.{IsImage, AreImages, AreHashesOf};
-ghost use Rattle.up_store.specs.Typed.{IsTypedImage, IsValidImage};
+ghost use Rattle.up_store.specs.Typed.{IsTypedImage, IsValidImage, AreValidImages};
 ghost use Rattle.up_tables.specs.declared.values.StoreFault.TheVariants.{Memory};
 ghost use Rattle.std.specs.FinMap as table;
 
@@ -73,13 +73,15 @@ pub fn read_image(
     }
 }
 
-/// The rows of all images as they stand in the table, read, each with the second hash of its name.
+/// The rows of all images as they stand in the table, read, each with the second hash of its name; of rows that stand for images,
+/// `Memory` is the one fault.
 pub fn read_images(
     alloc: Global,
     shown: Vec<ImageRow>,
     hashes: &Table<[u8; 64]>,
 ) -> Result<Table<Image>, StoreFault>
-    ensures { IfOk result (λ read. (images : Named ImageData) → AreImages shown.items images → AreHashesOf hashes.now images → read ≡ images) }
+    ensures same { IfOk result (λ read. (images : Named ImageData) → AreImages shown.items images → AreHashesOf hashes.now images → read ≡ images) }
+    ensures fault { (images : Named ImageData) → AreImages shown.items images → AreValidImages images → IfErr result (λ fault. fault ≡ Memory) }
 {
     let mut images = Table::new(alloc);
     for row in shown {
@@ -95,8 +97,10 @@ fn add_image(
     shown: ImageRow,
     hashes: &Table<[u8; 64]>,
 ) -> Result<(), StoreFault>
-    ensures { OnOk result ((file : Name) (image : ImageData) → IsTypedImage file image → IsImage shown image
+    ensures same { OnOk result ((file : Name) (image : ImageData) → IsTypedImage file image → IsImage shown image
         → table.get hashes.now image.file ≡ image.sha512 → images.new ≡ table.insert images.old image.file image) }
+    ensures fault { (file : Name) (image : ImageData) → IsTypedImage file image → IsValidImage image → IsImage shown image
+        → IfErr result (λ fault. fault ≡ Memory) }
 {
     let sha512 = hash_named(hashes, shown.file.as_str());
     let image = read_image(alloc, shown, sha512)?;

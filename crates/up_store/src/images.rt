@@ -1,5 +1,5 @@
 //! Registered images.
-ghost use Rattle.std.specs.Prelude.{◌≡◌, None, Some, ⊤, IfOk, OnErr, OnOk};
+ghost use Rattle.std.specs.Prelude.{◌≡◌, None, Some, ⊤, IfOk, IfErr, OnErr, OnOk};
 ghost use Rattle.sqlite.specs.Held.{state};
 ghost use Rattle.sqlite.specs.State.{HasCleanDisk, Survives};
 ghost use Rattle.std.specs.FinMap as table;
@@ -11,7 +11,8 @@ ghost use Rattle.up_tables.specs.Stands.{IfClean, IsAsCommitted, IsInside};
 ghost use Rattle.up_tables.specs.Statements.{IsStep, IsOpenStep};
 ghost use Rattle.up_store.specs.ColumnRows.{IsImage, AreImages, with_image};
 ghost use Rattle.up_store.specs.Puts.{with_image_line};
-ghost use Rattle.up_store.specs.Typed.{IsTypedImage};
+ghost use Rattle.up_store.specs.Typed.{IsTypedImage, IsValidImage};
+ghost use Rattle.up_tables.specs.declared.values.StoreFault.TheVariants.{Memory};
 ghost use Rattle.up_store.specs.Connections.{NeedsOpen, Answers, FindsRows, FindsSuch, PutsRows, PutsTables, TakesRows, CommitsRows, SparesRows};
 
 use crate::image_rows::{make_image, read_image, read_images};
@@ -112,14 +113,16 @@ fn find_with_sha512<D: Alter>(
     }
 }
 
-/// A row as it stands in the table, read, with the image's second hash.
+/// A row as it stands in the table, read, with the image's second hash; of a row that stands for an image, `Memory` is the one fault.
 fn some_image(
     alloc: Global,
     shown: ImageRow,
     sha512: Option<[u8; 64]>,
 ) -> Result<Option<Image>, StoreFault>
-    ensures { IfOk result (λ read. (file : Name) (image : ImageData)
+    ensures same { IfOk result (λ read. (file : Name) (image : ImageData)
         → IsTypedImage file image → IsImage shown image → sha512 ≡ image.sha512 → read ≡ Some image) }
+    ensures fault { (file : Name) (image : ImageData) → IsTypedImage file image → IsValidImage image → IsImage shown image
+        → IfErr result (λ fault. fault ≡ Memory) }
 {
     match read_image(alloc, shown, sha512) {
         Ok(image) => Ok(Some(image)),

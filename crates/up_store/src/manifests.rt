@@ -10,7 +10,7 @@ ghost use Rattle.up_rows.specs.Changes.{with_accepted_rows};
 ghost use Rattle.up_rows.specs.Lookups.{kept_with, latest_kept};
 ghost use Rattle.up_tables.specs.declared.values.StoreFault.TheVariants as StoreFault;
 ghost use Rattle.up_store.specs.ColumnRows.{IsKept, last_found, with_kept};
-ghost use Rattle.up_store.specs.Typed.{IsTypedKept};
+ghost use Rattle.up_store.specs.Typed.{IsTypedKept, IsValidKept};
 ghost use Rattle.up_store.specs.Fitting.{IsRecorded};
 ghost use Rattle.up_store.specs.Puts.{IsReported, with_reported};
 ghost use Rattle.up_tables.specs.Stands.{IfClean, IsAsCommitted, IsInside};
@@ -145,9 +145,11 @@ fn find_kept<D: Alter>(
     }
 }
 
-/// A row as it stands in the table, read.
+/// A row as it stands in the table, read; of a row that stands for a kept manifest, `Memory` is the one fault.
 fn some_kept(alloc: Global, shown: KeptRow) -> Result<Option<Kept>, StoreFault>
-    ensures { IfOk result (λ read. (vehicle : Name) (row : KeptData) → IsTypedKept vehicle row → IsKept shown row → read ≡ Some row) }
+    ensures same { IfOk result (λ read. (vehicle : Name) (row : KeptData) → IsTypedKept vehicle row → IsKept shown row → read ≡ Some row) }
+    ensures fault { (vehicle : Name) (row : KeptData) → IsTypedKept vehicle row → IsValidKept row → IsKept shown row
+        → IfErr result (λ fault. fault ≡ StoreFault.Memory) }
 {
     match read_kept(alloc, shown) {
         Ok(row) => Ok(Some(row)),

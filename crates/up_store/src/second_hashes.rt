@@ -1,5 +1,6 @@
 //! The second hashes of images: found, read and put in.
 ghost use Rattle.std.specs.Prelude.{◌≡◌, ⊤, IfOk, option_map};
+ghost use Rattle.std.specs.List.{AllByRecursion};
 ghost use Rattle.std.specs.FinMap as table;
 ghost use Rattle.sqlite.specs.Held.{state};
 ghost use Rattle.up_canon.specs.Names.{Table as Named};
@@ -67,9 +68,10 @@ pub(crate) fn find_sha512s<D: Alter>(
     }
 }
 
-/// Rows as they stand in the table, read.
+/// Rows as they stand in the table, read; where each has 64 bytes, `Memory` is the one fault.
 fn read_sha512s(alloc: Global, shown: Vec<Sha512Row>) -> Result<Table<[u8; 64]>, StoreFault>
-    ensures { IfOk result (λ read. (images : Named ImageData) → AreSha512s shown.items images → AreHashesOf read images) }
+    ensures same { IfOk result (λ read. (images : Named ImageData) → AreSha512s shown.items images → AreHashesOf read images) }
+    ensures fault { AllByRecursion (λ row. length row.sha512.items ≡ 64) shown.items → IfErr result (λ fault. fault ≡ StoreFault.Memory) }
 {
     let mut hashes = Table::new(alloc);
     for row in shown {

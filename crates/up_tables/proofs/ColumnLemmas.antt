@@ -1,5 +1,5 @@
 -- What a row that shows no value lacks.
-use Rattle.std.proofs.Common.{◌≡◌, ◌≢◌, ◌<◌, ℕ, zero, suc, List, [], ◌∷◌, map, drop, length, slice_index_or, true, false, Option, Some, None, Result, Ok, Err, IfErr, IsUtf8, string_bytes, sym, ap, subst, ◌∙◌, arith}
+use Rattle.std.proofs.Common.{◌≡◌, ◌≢◌, ◌<◌, ℕ, zero, suc, List, [], ◌∷◌, map, drop, length, slice_index_or, true, false, Option, Some, None, Result, Ok, Err, IfOk, IfErr, IsUtf8, string_bytes, sym, ap, subst, ◌∙◌, arith}
 use Rattle.std.specs.Prelude.{IsErrAnd}
 use Rattle.std.proofs.lemmas.Str.{IsUtf8-string_bytes}
 use Rattle.sqlite.specs.declared.types.Value.TheVariants.{Null, Text}
@@ -15,6 +15,11 @@ use Rattle.up_tables.specs.Ecus.{HasInstalled}
 pub handed_on : {A : Type 0} (result : Result A StoreFault) (fault : StoreFault) (P : StoreFault → Type 0) → IsErrAnd result (λ f. f ≡ fault) → P fault → IfErr result P
 handed_on (Ok x) fault P is holds = tt
 handed_on (Err f) fault P is holds = subst P (sym is) holds
+
+-- what follows of the rows of an answer
+pub on_ok : {A E : Type 0} (answer : Result A E) (P Q : A → Type 0) → ((x : A) → P x → Q x) → IfOk answer P → IfOk answer Q
+on_ok (Ok x) P Q so holds = so x holds
+on_ok (Err e) P Q so holds = tt
 
 -- no text of a file is in its column, which isn't null
 pub no_file : (r : Row) → is_null (column r 3) ≡ false → ((s : List ℕ) → IsUtf8 s → column r 3 ≢ Text s) → (installed : Option Installed) → HasInstalled r installed → ⊥

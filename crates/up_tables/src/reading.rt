@@ -1,6 +1,6 @@
 //! Rows that are read.
 
-ghost use Rattle.std.specs.Prelude.{◌≡◌, ◌≢◌, Option, List, Err, map, IfOk, IfErr};
+ghost use Rattle.std.specs.Prelude.{◌≡◌, ◌≢◌, ◌≤◌, Option, None, List, [], Ok, Err, map, length, IfOk, IfErr};
 ghost use Rattle.std.specs.Option.{option_to_list};
 ghost use Rattle.std.specs.Result.{IsOkAnd};
 ghost use Rattle.up_tables.specs.Faults.{store_fault};
@@ -51,6 +51,8 @@ pub fn at_most_one<T: Decode + Drop>(
     ensures fault { IfErr answer (λ e. result ≡ Err (store_fault e)) }
     ensures damaged { IfOk answer (λ rows. IfErr result (λ fault. fault ≡ StoreFault.Store
         → (found : Option T) → map (columns_at T.places) rows.items ≢ map T.values (option_to_list found))) }
+    ensures none { IfOk answer (λ rows. rows.items ≡ [] → result ≡ Ok None) }
+    ensures several { IfOk answer (λ rows. 2 ≤ length rows.items → result ≡ Err StoreFault.Store) }
 {
     match answer {
         Ok(rows) => only(&rows),
@@ -63,6 +65,8 @@ fn only<T: Decode + Drop>(rows: &[Row]) -> Result<Option<T>, StoreFault>
     ensures ok { IfOk result (λ found. map (columns_at T.places) rows.now ≡ map T.values (option_to_list found)) }
     ensures fault { IfErr result (λ fault. fault ≡ StoreFault.Store
         → (found : Option T) → map (columns_at T.places) rows.now ≢ map T.values (option_to_list found)) }
+    ensures none { rows.now ≡ [] → result ≡ Ok None }
+    ensures several { 2 ≤ length rows.now → result ≡ Err StoreFault.Store }
 {
     match rows {
         [] => Ok(None),

@@ -1,6 +1,6 @@
 //! Values as they are bound and read, and faults.
 
-ghost use Rattle.std.specs.Prelude.{◌≡◌, ◌≢◌, ◌<◌, ◌^◌, ℕ, Bool, List, pos, Err, OnOk, IfOk, IfErr, IsUtf8, string_bytes};
+ghost use Rattle.std.specs.Prelude.{◌≡◌, ◌≢◌, ◌↔◌, ◌<◌, ◌^◌, ℕ, Bool, List, pos, if◌then◌else◌, None, Ok, Err, OnOk, IfOk, IfErr, IsTrue, IsUtf8, string_bytes};
 ghost use Rattle.std.specs.Result.{IsOk};
 ghost use Rattle.sqlite.specs.Order.{column};
 ghost use Rattle.sqlite_sql.specs.Ops.{is_null};
@@ -143,25 +143,58 @@ pub fn flag_at(row: &Row, at: usize) -> Result<bool, StoreFault>
     }
 }
 
-/// The text in a column; `Store` where it has none.
-pub fn text_at(row: &Row, at: usize) -> Result<String, StoreFault>
-    ensures ok { IfOk result (λ s. column row.now at ≡ Text (string_bytes s)) }
-    ensures fault { IfErr result (λ fault. fault ≡ StoreFault.Store → (s : List ℕ) → IsUtf8 s → column row.now at ≢ Text s) }
+/// Whether a column is a text, in UTF-8.
+fn is_text(row: &Row, at: usize) -> bool
+    ensures { IsTrue result ↔ ((s : List ℕ) × (column row.now at ≡ Text s) × IsUtf8 s) }
 {
-    match row.get::<String>(at) {
-        Ok(text) => Ok(text),
-        Err(error) => Err(fault_of(error)),
+    match row.get_ref(at) {
+        Ok(ValueRef::Text(text)) => str::from_utf8(text).is_ok(),
+        _ => false,
     }
 }
 
-/// The bytes in a column; `Store` where it has none.
+/// Whether a column is bytes.
+fn is_blob(row: &Row, at: usize) -> bool
+    ensures { IsTrue result ↔ ((b : List ℕ) × (column row.now at ≡ Blob b)) }
+{
+    match row.get_ref(at) {
+        Ok(ValueRef::Blob(_)) => true,
+        _ => false,
+    }
+}
+
+/// Why a column wasn't read: for want of memory where it has what was asked for.
+fn unread(is_there: bool) -> StoreFault
+    ensures { result ≡ (if is_there then StoreFault.Memory else StoreFault.Store) }
+{
+    if is_there {
+        StoreFault::Memory
+    } else {
+        StoreFault::Store
+    }
+}
+
+/// The text in a column; `Store` where it has none, and only there.
+pub fn text_at(row: &Row, at: usize) -> Result<String, StoreFault>
+    ensures ok { IfOk result (λ s. column row.now at ≡ Text (string_bytes s)) }
+    ensures fault { IfErr result (λ fault. fault ≡ StoreFault.Store → (s : List ℕ) → IsUtf8 s → column row.now at ≢ Text s) }
+    ensures kind { ((s : List ℕ) → IsUtf8 s → column row.now at ≢ Text s) → result ≡ Err StoreFault.Store }
+{
+    match row.get::<String>(at) {
+        Ok(text) => Ok(text),
+        Err(_) => Err(unread(is_text(row, at))),
+    }
+}
+
+/// The bytes in a column; `Store` where it has none, and only there.
 pub fn bytes_at(row: &Row, at: usize) -> Result<Vec<u8>, StoreFault>
     ensures ok { IfOk result (λ b. column row.now at ≡ Blob b.items) }
     ensures fault { IfErr result (λ fault. fault ≡ StoreFault.Store → (b : List ℕ) → column row.now at ≢ Blob b) }
+    ensures kind { ((b : List ℕ) → column row.now at ≢ Blob b) → result ≡ Err StoreFault.Store }
 {
     match row.get::<Vec<u8>>(at) {
         Ok(blob) => Ok(blob),
-        Err(error) => Err(fault_of(error)),
+        Err(_) => Err(unread(is_blob(row, at))),
     }
 }
 
@@ -170,6 +203,8 @@ pub fn text_or_null_at(row: &Row, at: usize) -> Result<Option<String>, StoreFaul
     ensures ok { IfOk result (λ o. column row.now at ≡ or_null (λ s. Text (string_bytes s)) o) }
     ensures fault { IfErr result (λ fault. fault ≡ StoreFault.Store
         → (column row.now at ≢ Null) × ((s : List ℕ) → IsUtf8 s → column row.now at ≢ Text s)) }
+    ensures none { column row.now at ≡ Null → result ≡ Ok None }
+    ensures kind { column row.now at ≢ Null → ((s : List ℕ) → IsUtf8 s → column row.now at ≢ Text s) → result ≡ Err StoreFault.Store }
 {
     if is_null(row, at) {
         return Ok(None);

@@ -1,15 +1,17 @@
 //! The rows of vehicles.
 
-ghost use Rattle.std.specs.Prelude.{◌≡◌, ◌∷◌, [], map, string_bytes, IsTrue, OnOk};
+ghost use Rattle.std.specs.Prelude.{◌≡◌, ◌≢◌, ◌∷◌, [], map, length, string_bytes, Err, IsTrue, OnOk, IfOk, IfErr};
 ghost use Rattle.std.specs.Option.{option_to_list};
 ghost use Rattle.std.specs.Prelude.{◌↔◌};
 ghost use Rattle.std.specs.Result.{IsOkAnd};
 ghost use Rattle.sqlite.specs.Held.{state};
+ghost use Rattle.up_tables.specs.Faults.{store_fault};
 ghost use Rattle.up_tables.specs.Tables.{vehicle_table};
 ghost use Rattle.up_tables.specs.Rows.{columns_at, with_row};
 ghost use Rattle.up_tables.specs.Forms.{vehicle_places, vehicle_row, FitVehicle};
 ghost use Rattle.up_tables.specs.Stands.{IfClean, IsInside};
 ghost use Rattle.up_tables.specs.Statements.{IsOpenStep, AltersRows, SetsVehicle, OnlyReads, Finds};
+ghost use Rattle.up_tables.specs.declared.values.StoreFault.TheVariants as StoreFault;
 
 use crate::reading::{Decode, at_most_one};
 use crate::values::{StoreFault, done, number, number_at, text_at, words};
@@ -90,7 +92,11 @@ pub fn upsert_vehicle<S: Alter>(
 
 /// Whether the answer is this row alone; `Store` where it is another.
 fn shows(answer: Result<Vec<Row>, Error>, vehicle: &VehicleRow) -> Result<(), StoreFault>
-    ensures { OnOk result (IsOkAnd answer (λ rows. map (columns_at vehicle_places) rows.items ≡ vehicle_row vehicle.now ∷ [])) }
+    ensures ok { OnOk result (IsOkAnd answer (λ rows. map (columns_at vehicle_places) rows.items ≡ vehicle_row vehicle.now ∷ [])) }
+    ensures fault { IfErr answer (λ e. result ≡ Err (store_fault e)) }
+    ensures damaged { IfOk answer (λ rows. IfErr result (λ fault. fault ≡ StoreFault.Store
+        → map (columns_at vehicle_places) rows.items ≢ vehicle_row vehicle.now ∷ [])) }
+    ensures alone { IfOk answer (λ rows. length rows.items ≢ 1 → result ≡ Err StoreFault.Store) }
 {
     match at_most_one::<VehicleRow>(answer) {
         Ok(Some(shown)) => {

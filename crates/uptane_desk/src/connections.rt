@@ -16,7 +16,9 @@ use up_pieces::source::Source;
 use up_program::bounded::Bounded;
 use up_program::connections::each_connection;
 use up_program::failure::{Failure, told};
-use up_program::messages::{ConnectionFault, Listening};
+use up_program::limit::Since;
+use up_program::line::write_line;
+use up_program::messages::{connection_fault, listening};
 use up_program::times::{seconds, waits};
 use up_service::Fault;
 use up_service::stream::serve_stream;
@@ -42,12 +44,11 @@ pub(crate) fn serve<D: Alter>(
     ensures { IfErr result (λ failure. failure ≡ Failure.Unheard) }
 {
     let Ok(listener) = TcpListener::bind(rt, ("127.0.0.1", port)) else {
-        return told(rt, Err(Failure::Unheard));
+        return told(&mut rt.stderr(), Err(Failure::Unheard));
     };
-    let line = Listening { port };
-    println!(rt; "{line}").ok();
-    let served = each_connection(count, |number| serve_next(rt, desk, &listener, number));
-    told(rt, served)
+    write_line(&mut rt.stdout(), &listening(port));
+    let served = each_connection(count, &mut |number| serve_next(rt, desk, &listener, number));
+    told(&mut rt.stderr(), served)
 }
 
 /// Accepts the next connection, serves it, and closes it. A fault of it is told on standard error.
@@ -59,8 +60,7 @@ fn serve_next<D: Alter>(
 ) -> io::Result<()> {
     let (stream, _) = listener.accept()?;
     if let Err(cause) = serve_one(rt, desk, &stream) {
-        let line = ConnectionFault { number, cause };
-        eprintln!(rt; "{line}").ok();
+        write_line(&mut rt.stderr(), &connection_fault(number, cause));
     }
     close(rt, &stream);
     Ok(())
@@ -129,10 +129,9 @@ fn half<'a>(
     rt: &'a HostRuntime,
     begun: Instant,
     stream: &'a TcpStream,
-) -> Bounded<'a, HostRuntime, &'a TcpStream> {
+) -> Bounded<Since<'a, HostRuntime>, &'a TcpStream> {
     Bounded {
-        clock: rt,
-        begun,
+        limit: Since { clock: rt, begun },
         inner: stream,
     }
 }

@@ -35,14 +35,14 @@ pub(crate) fn work_over(rt: &HostRuntime, name: &str, work: Work) -> Result<(), 
 
 fn over_memory(rt: &HostRuntime, work: Work) -> Result<(), Failure> {
     let Ok(conn) = Connection::open_in_memory(rt.alloc()) else {
-        return told(rt, Err(Failure::Unopened));
+        return told(&mut rt.stderr(), Err(Failure::Unopened));
     };
     match adopt_or_create(conn) {
         Ok(store) => {
             let mut desk = Desk::new(HmacSha256, store);
             work_at(rt, &mut desk, work)
         }
-        Err(_) => told(rt, Err(Failure::Unopened)),
+        Err(_) => told(&mut rt.stderr(), Err(Failure::Unopened)),
     }
 }
 
@@ -50,10 +50,10 @@ fn over_memory(rt: &HostRuntime, work: Work) -> Result<(), Failure> {
 /// log.
 fn over_file(rt: &HostRuntime, path: &str, work: Work) -> Result<(), Failure> {
     if !is_usable(rt, path) {
-        return told(rt, Err(Failure::Unopened));
+        return told(&mut rt.stderr(), Err(Failure::Unopened));
     }
     let Ok(conn) = open_file(rt, path, Unknown) else {
-        return told(rt, Err(Failure::Unopened));
+        return told(&mut rt.stderr(), Err(Failure::Unopened));
     };
     match adopt_or_create(conn) {
         Ok(store) => closing(
@@ -63,7 +63,7 @@ fn over_file(rt: &HostRuntime, path: &str, work: Work) -> Result<(), Failure> {
                 close_file(desk.release().release()).ok();
             },
         ),
-        Err(_) => told(rt, Err(Failure::Unopened)),
+        Err(_) => told(&mut rt.stderr(), Err(Failure::Unopened)),
     }
 }
 
@@ -80,7 +80,7 @@ fn is_usable(rt: &HostRuntime, path: &str) -> bool {
         Ok(found) => Some(found.len()),
         Err(_) => None,
     };
-    may_open(length, || fs::read(rt, path).ok())
+    may_open(length, &mut || fs::read(rt, path).ok())
 }
 
 fn work_at<D: Alter>(

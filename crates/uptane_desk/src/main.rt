@@ -37,6 +37,6 @@ fn carried_out(rt: &HostRuntime, job: Option<Job>) -> Result<(), Failure>
             work_over(rt, file.as_str(), Work::Serve { port, count })
         }
         Some(Job::Digest(file)) => digest(rt, file.as_str()),
-        None => told(rt, Err(Failure::Usage)),
+        None => told(&mut rt.stderr(), Err(Failure::Usage)),
     }
 }

@@ -18,7 +18,7 @@ pub(crate) fn answer_lines<D: Alter>(
     desk: &mut Desk<HmacSha256, D>,
 ) -> Result<(), Failure> {
     told(
-        rt,
+        &mut rt.stderr(),
         answer_script(rt.alloc(), desk, &mut rt.stdin(), &mut rt.stdout()),
     )
 }

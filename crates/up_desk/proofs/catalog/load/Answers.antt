@@ -1,6 +1,7 @@
 use Rattle.std.proofs.Common.{◌≡◌, true, false, sym, ◌∙◌}
 use Rattle.sqlite.specs.Held.{state}
-use Rattle.up_desk.proofs.Cataloged.{loaded_anew, loaded_fits, stays, there_loaded}
+use Rattle.up_desk.specs.Standing.{primaries_in}
+use Rattle.up_desk.proofs.Cataloged.{come_empty, come_none, loaded_anew, loaded_fits, stays, there_loaded}
 use Rattle.up_desk.proofs.Steps.{reads_none}
 use Rattle.up_desk.proofs.catalog.load.Goals as goal
 
@@ -30,3 +31,12 @@ returns-in-Ok-clause-there g c = λ there. absurd (let no : true ≡ false = sym
 
 pub returns-in-Err-clause-there : goal.returns-in-Err-clause-there
 returns-in-Err-clause-there g c = λ there. absurd (let no : true ≡ false = sym there ∙ sym c.is_some.ensures ∙ c.if-is_some.false in cc)
+
+pub returns-then-is_some-clause-came : goal.returns-then-is_some-clause-came
+returns-then-is_some-clause-came g c = come_none _ (primaries_in c.args.catalog.now)
+
+pub returns-in-Ok-clause-came : goal.returns-in-Ok-clause-came
+returns-in-Ok-clause-came g c = come_empty _ (primaries_in c.args.catalog.now) (primaries_in c.in-Ok.read) c.in-Ok.ensures.none
+
+pub returns-in-Err-clause-came : goal.returns-in-Err-clause-came
+returns-in-Err-clause-came g c = come_none _ (primaries_in c.args.catalog.now)

@@ -1,11 +1,11 @@
-use Rattle.std.proofs.Common.{Some, sym, subst}
+use Rattle.std.proofs.Common.{Some, inl, inr, refl, sym, subst}
 use Rattle.std.specs.Prelude.{IfSome}
 use Rattle.sqlite.specs.Held.{state}
 use Rattle.up_canon.specs.declared.refusal.Refusal.TheVariants.{NotFounded}
 use Rattle.up_machine.proofs.Senders.{no_founding, refused_first}
-use Rattle.up_desk.specs.Delivering.{RefusesUnread, refused_in}
-use Rattle.up_desk.specs.Standing.{CanDecide, Fits, IsLoaded, StaysLoaded}
-use Rattle.up_desk.proofs.Cataloged.{can_more, stays}
+use Rattle.up_desk.specs.Delivering.{IsSentBy, RefusesUnread, refused_in}
+use Rattle.up_desk.specs.Standing.{CanDecide, Come, Fits, IsLoaded, StaysLoaded, primaries_in}
+use Rattle.up_desk.proofs.Cataloged.{can_more, come_none, stays}
 use Rattle.up_desk.proofs.SentBy.{unloaded}
 use Rattle.up_desk.proofs.Steps.{reads_none}
 use Rattle.up_desk.proofs.deliveries.decide.Goals as goal
@@ -45,3 +45,17 @@ returns-in-None-clause-forged g c = unloaded (g.K.Scheme.rules c.args.scheme.now
 
 pub returns-in-None-clause-reads : goal.returns-in-None-clause-reads
 returns-in-None-clause-reads g c = reads_none (state g.D.Store c.args.store.now)
+
+pub returns-in-Some-clause-loads : goal.returns-in-Some-clause-loads
+returns-in-Some-clause-loads g c = inr refl
+
+pub returns-in-None-clause-loads : goal.returns-in-None-clause-loads
+returns-in-None-clause-loads g c = inl refl
+
+pub returns-in-Some-clause-came : goal.returns-in-Some-clause-came
+returns-in-Some-clause-came g c = λ clean s was fits.
+    subst (λ o. Come (IsSentBy (g.K.Scheme.rules c.args.scheme.now) c.args.incoming.now) (primaries_in o) c.decide_founded.new.catalog.primaries) (sym c.in-Some.is)
+    (c.decide_founded.ensures.came clean s was (subst (Fits s) c.in-Some.is fits))
+
+pub returns-in-None-clause-came : goal.returns-in-None-clause-came
+returns-in-None-clause-came g c = λ clean s was fits. come_none _ (primaries_in c.args.catalog.now)

@@ -37,3 +37,6 @@ read_sender-requires g c = c.requires.can.keys
 
 pub decide_sent-requires-clause-hashed : goal.decide_sent-requires-clause-hashed
 decide_sent-requires-clause-hashed g c = (can_more (g.K.Scheme.rules c.args.scheme.now) c.args.catalog.now c.read_sender.new.catalog c.read_sender.ensures.more c.requires.can).hashed
+
+pub returns-in-Ok-clause-came : goal.returns-in-Ok-clause-came
+returns-in-Ok-clause-came g c = λ clean s was is. c.read_sender.ensures.came (clean_before c.decide_sent.ensures.reads clean) s was is

@@ -5,7 +5,7 @@ use Rattle.up_machine.specs.Decisions.{decide_incoming, GivesDelivered}
 use Rattle.up_desk.specs.Delivering.{refused_in}
 use Rattle.up_desk.proofs.Decided.{when_repeated}
 use Rattle.up_desk.proofs.Steps.{after_reads, clean_before, keeps_after, refused, unchanged}
-use Rattle.up_desk.proofs.SentBy.{passed_on, refused_on}
+use Rattle.up_desk.proofs.SentBy.{passed_on, refused_on, still_there, there_behind}
 use Rattle.up_desk.proofs.deliveries.receive_loaded.Goals as goal
 
 pub returns-in-Ok-Repeat-clause-serves : goal.returns-in-Ok-Repeat-clause-serves
@@ -53,3 +53,15 @@ returns-in-Ok-Accepted-clause-forged g c =
 pub returns-in-Err-clause-forged : goal.returns-in-Err-clause-forged
 returns-in-Err-clause-forged g c =
     refused_on Delivered Answer (refused_in (g.K.Scheme.rules c.args.scheme.now) c.args.catalog.now c.args.incoming.now) c.args.store.now c.decide.new.store c.in-Err.refusal c.in-Err.ensures.forged
+
+pub returns-in-Ok-Repeat-clause-loads : goal.returns-in-Ok-Repeat-clause-loads
+returns-in-Ok-Repeat-clause-loads g c = there_behind Delivered Answer c.in-Ok-Repeat.field-0 _ c.decide.new.catalog c.in-Ok-Repeat.ensures.loads
+
+pub returns-in-Ok-Accepted-clause-loads : goal.returns-in-Ok-Accepted-clause-loads
+returns-in-Ok-Accepted-clause-loads g c = there_behind Delivered Answer c.in-Ok-Accepted.field-0 _ c.decide.new.catalog c.in-Ok-Accepted.ensures.loads
+
+pub returns-in-Err-clause-loads : goal.returns-in-Err-clause-loads
+returns-in-Err-clause-loads g c = still_there Delivered Answer c.in-Err.refusal c.decide.new.catalog c.in-Err.ensures.loads
+
+pub returns-in-Ok-Accepted-clause-came : goal.returns-in-Ok-Accepted-clause-came
+returns-in-Ok-Accepted-clause-came g c = λ clean s was fits. c.decide.ensures.came (c.accept.ensures.clean clean) s was fits

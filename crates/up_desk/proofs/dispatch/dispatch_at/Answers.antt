@@ -1,8 +1,11 @@
 use Rattle.std.proofs.Common.{refl}
 use Rattle.up_machine.specs.declared.command.Command.TheVariants.{Found, Rotate, AddImage, Refresh, AddVehicle, ReplaceEcu, OpenCampaign, CloseCampaign, Deliver, Fetch}
-use Rattle.up_desk.proofs.Cataloged.{kept_stays, stays, still_kept, still_of}
-use Rattle.up_desk.proofs.SentBy.{delivered_forged, unforged}
-use Rattle.up_desk.proofs.Serving.{of_command, of_delivery, key_outright, ecu_outright, large_outright}
+use Rattle.up_desk.specs.Standing.{primaries_in}
+use Rattle.up_desk.proofs.Cataloged.{come_none, kept_stays, stays, still_kept, still_of}
+use Rattle.up_desk.specs.Serving.{told}
+use Rattle.up_desk.proofs.SentBy.{come_delivered, delivered_forged, loads_as, unforged}
+use Rattle.up_desk.specs.Delivering.{RefusesRead}
+use Rattle.up_desk.proofs.Serving.{body_alone, ecu_alone, key_alone, of_command, of_delivery, key_outright, ecu_outright, large_outright}
 use Rattle.up_desk.proofs.dispatch.dispatch_at.Goals as goal
 
 pub returns-in-Found-clause-serves : goal.returns-in-Found-clause-serves
@@ -36,13 +39,23 @@ pub returns-in-Deliver-clause-serves : goal.returns-in-Deliver-clause-serves
 returns-in-Deliver-clause-serves g c = λ s sound was kept. of_delivery c.args.at c.args.command.now c.in-Deliver.body c.in-Deliver.is c.requires.moment (c.deliver.ensures.serves s sound was kept)
 
 pub returns-in-AddVehicle-clause-outright : goal.returns-in-AddVehicle-clause-outright
-returns-in-AddVehicle-clause-outright g c = key_outright (g.K.Scheme.rules c.args.scheme.now) c.in-AddVehicle.new c.args.command.now _ c.in-AddVehicle.is c.add_vehicle.ensures.key
+returns-in-AddVehicle-clause-outright g c = key_outright (g.K.Scheme.rules c.args.scheme.now) c.in-AddVehicle.new c.args.command.now _ c.in-AddVehicle.is (λ none. (c.add_vehicle.ensures.key none).refused)
 
 pub returns-in-ReplaceEcu-clause-outright : goal.returns-in-ReplaceEcu-clause-outright
-returns-in-ReplaceEcu-clause-outright g c = ecu_outright (g.K.Scheme.rules c.args.scheme.now) c.in-ReplaceEcu.new c.args.command.now _ c.in-ReplaceEcu.is c.replace_ecu.ensures.key
+returns-in-ReplaceEcu-clause-outright g c = ecu_outright (g.K.Scheme.rules c.args.scheme.now) c.in-ReplaceEcu.new c.args.command.now _ c.in-ReplaceEcu.is (λ none. (c.replace_ecu.ensures.key none).refused)
 
 pub returns-in-Deliver-clause-outright : goal.returns-in-Deliver-clause-outright
-returns-in-Deliver-clause-outright g c = large_outright (g.K.Scheme.rules c.args.scheme.now) c.in-Deliver.body c.args.command.now _ c.in-Deliver.is c.deliver.ensures.large
+returns-in-Deliver-clause-outright g c = large_outright (g.K.Scheme.rules c.args.scheme.now) c.in-Deliver.body c.args.command.now _ c.in-Deliver.is (λ large. (c.deliver.ensures.large large).refused)
+
+pub returns-in-AddVehicle-clause-unread : goal.returns-in-AddVehicle-clause-unread
+returns-in-AddVehicle-clause-unread g c = key_alone (g.K.Scheme.rules c.args.scheme.now) c.in-AddVehicle.new c.args.command.now c.args.store.now c.add_vehicle.new.store _ c.in-AddVehicle.is c.add_vehicle.ensures.key
+
+pub returns-in-ReplaceEcu-clause-unread : goal.returns-in-ReplaceEcu-clause-unread
+returns-in-ReplaceEcu-clause-unread g c = ecu_alone (g.K.Scheme.rules c.args.scheme.now) c.in-ReplaceEcu.new c.args.command.now c.args.store.now c.replace_ecu.new.store _ c.in-ReplaceEcu.is c.replace_ecu.ensures.key
+
+pub returns-in-Deliver-clause-unread : goal.returns-in-Deliver-clause-unread
+returns-in-Deliver-clause-unread g c =
+    body_alone (g.K.Scheme.rules c.args.scheme.now) c.in-Deliver.body c.args.command.now (RefusesRead c.args.store.now c.deliver.new.store c.deliver.result) c.in-Deliver.is c.deliver.ensures.unread
 
 pub returns-in-Found-clause-fits : goal.returns-in-Found-clause-fits
 returns-in-Found-clause-fits g c = λ clean k s was fits. still_kept s c.args.command.now c.args.catalog.now c.args.catalog.now c.requires.dropped fits
@@ -134,3 +147,64 @@ returns-in-Fetch-clause-forged g c = unforged (g.K.Scheme.rules c.args.scheme.no
 
 pub returns-in-Deliver-clause-forged : goal.returns-in-Deliver-clause-forged
 returns-in-Deliver-clause-forged g c = delivered_forged (g.K.Scheme.rules c.args.scheme.now) c.args.catalog.now c.args.command.now c.in-Deliver.body _ c.in-Deliver.is c.deliver.ensures.forged
+
+pub returns-in-Found-clause-loads : goal.returns-in-Found-clause-loads
+returns-in-Found-clause-loads g c = loads_as c.args.command.now (Found c.in-Found.keys) _ c.args.catalog.now c.in-Found.is tt
+
+pub returns-in-Rotate-clause-loads : goal.returns-in-Rotate-clause-loads
+returns-in-Rotate-clause-loads g c = loads_as c.args.command.now (Rotate c.in-Rotate.keys) _ c.args.catalog.now c.in-Rotate.is tt
+
+pub returns-in-AddImage-clause-loads : goal.returns-in-AddImage-clause-loads
+returns-in-AddImage-clause-loads g c = loads_as c.args.command.now (AddImage c.in-AddImage.image) _ c.args.catalog.now c.in-AddImage.is tt
+
+pub returns-in-Refresh-clause-loads : goal.returns-in-Refresh-clause-loads
+returns-in-Refresh-clause-loads g c = loads_as c.args.command.now (Refresh c.in-Refresh.version) _ c.args.catalog.now c.in-Refresh.is tt
+
+pub returns-in-AddVehicle-clause-loads : goal.returns-in-AddVehicle-clause-loads
+returns-in-AddVehicle-clause-loads g c = loads_as c.args.command.now (AddVehicle c.in-AddVehicle.new) _ c.args.catalog.now c.in-AddVehicle.is tt
+
+pub returns-in-ReplaceEcu-clause-loads : goal.returns-in-ReplaceEcu-clause-loads
+returns-in-ReplaceEcu-clause-loads g c = loads_as c.args.command.now (ReplaceEcu c.in-ReplaceEcu.new) _ c.args.catalog.now c.in-ReplaceEcu.is tt
+
+pub returns-in-OpenCampaign-clause-loads : goal.returns-in-OpenCampaign-clause-loads
+returns-in-OpenCampaign-clause-loads g c = loads_as c.args.command.now (OpenCampaign c.in-OpenCampaign.campaign) _ c.args.catalog.now c.in-OpenCampaign.is tt
+
+pub returns-in-CloseCampaign-clause-loads : goal.returns-in-CloseCampaign-clause-loads
+returns-in-CloseCampaign-clause-loads g c = loads_as c.args.command.now (CloseCampaign c.in-CloseCampaign.name) _ c.args.catalog.now c.in-CloseCampaign.is tt
+
+pub returns-in-Fetch-clause-loads : goal.returns-in-Fetch-clause-loads
+returns-in-Fetch-clause-loads g c = loads_as c.args.command.now (Fetch c.in-Fetch.repository c.in-Fetch.name) _ c.args.catalog.now c.in-Fetch.is tt
+
+pub returns-in-Deliver-clause-loads : goal.returns-in-Deliver-clause-loads
+returns-in-Deliver-clause-loads g c = loads_as c.args.command.now (Deliver c.in-Deliver.body) (told c.deliver.result) c.deliver.new.catalog c.in-Deliver.is c.deliver.ensures.loads
+
+pub returns-in-Found-clause-came : goal.returns-in-Found-clause-came
+returns-in-Found-clause-came g c = λ clean s was fits. come_none _ (primaries_in c.args.catalog.now)
+
+pub returns-in-Rotate-clause-came : goal.returns-in-Rotate-clause-came
+returns-in-Rotate-clause-came g c = λ clean s was fits. come_none _ (primaries_in c.args.catalog.now)
+
+pub returns-in-AddImage-clause-came : goal.returns-in-AddImage-clause-came
+returns-in-AddImage-clause-came g c = λ clean s was fits. come_none _ (primaries_in c.args.catalog.now)
+
+pub returns-in-Refresh-clause-came : goal.returns-in-Refresh-clause-came
+returns-in-Refresh-clause-came g c = λ clean s was fits. come_none _ (primaries_in c.args.catalog.now)
+
+pub returns-in-AddVehicle-clause-came : goal.returns-in-AddVehicle-clause-came
+returns-in-AddVehicle-clause-came g c = λ clean s was fits. come_none _ (primaries_in c.args.catalog.now)
+
+pub returns-in-ReplaceEcu-clause-came : goal.returns-in-ReplaceEcu-clause-came
+returns-in-ReplaceEcu-clause-came g c = λ clean s was fits. come_none _ (primaries_in c.args.catalog.now)
+
+pub returns-in-OpenCampaign-clause-came : goal.returns-in-OpenCampaign-clause-came
+returns-in-OpenCampaign-clause-came g c = λ clean s was fits. come_none _ (primaries_in c.args.catalog.now)
+
+pub returns-in-CloseCampaign-clause-came : goal.returns-in-CloseCampaign-clause-came
+returns-in-CloseCampaign-clause-came g c = λ clean s was fits. come_none _ (primaries_in c.args.catalog.now)
+
+pub returns-in-Fetch-clause-came : goal.returns-in-Fetch-clause-came
+returns-in-Fetch-clause-came g c = λ clean s was fits. come_none _ (primaries_in c.args.catalog.now)
+
+pub returns-in-Deliver-clause-came : goal.returns-in-Deliver-clause-came
+returns-in-Deliver-clause-came g c = λ clean s was fits.
+    come_delivered (g.K.Scheme.rules c.args.scheme.now) c.args.command.now c.in-Deliver.body (primaries_in c.args.catalog.now) (primaries_in c.deliver.new.catalog) c.in-Deliver.is (c.deliver.ensures.came clean s was fits)

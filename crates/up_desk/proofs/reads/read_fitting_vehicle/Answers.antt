@@ -1,8 +1,6 @@
-use Rattle.std.proofs.Common.{sym, ◌∙◌}
+use Rattle.std.proofs.Common.{◌∙◌}
+use Rattle.up_desk.proofs.Steps.{if_ok_then}
 use Rattle.up_desk.proofs.reads.read_fitting_vehicle.Goals as goal
 
-pub returns-then-rows_fit-clause-told : goal.returns-then-rows_fit-clause-told
-returns-then-rows_fit-clause-told g c clean k s was = sym c.in-Ok-Some.field-0-is ∙ c.in-Ok-Some.ensures.told clean k s was
-
-pub returns-in-Ok-None-clause-told : goal.returns-in-Ok-None-clause-told
-returns-in-Ok-None-clause-told g c clean k s was = sym c.in-Ok-None.field-0-is ∙ c.in-Ok-None.ensures.told clean k s was
+pub returns-in-Ok-clause-told : goal.returns-in-Ok-clause-told
+returns-in-Ok-clause-told g c clean = if_ok_then c.fitting_vehicle.result _ _ c.fitting_vehicle.ensures.went (λ found same. λ k s was. same ∙ c.in-Ok.ensures.told clean k s was)

@@ -1,7 +1,9 @@
-use Rattle.std.proofs.Common.{◌+◌, ◌≤◌, sym, ◌∙◌, subst, arith}
+use Rattle.std.proofs.Common.{◌≡◌, ◌+◌, ◌≤◌, sym, ◌∙◌, subst, arith}
 use Rattle.std.specs.FinMap as table
-use Rattle.up_desk.specs.Standing.{ArePrimaries, StayKept}
-use Rattle.up_desk.proofs.Cataloged.{are_more, one_kept, put_or_not, stay_more}
+use Rattle.up_canon.specs.Names.{Table}
+use Rattle.up_machine.specs.declared.primary.Primary.{Primary}
+use Rattle.up_desk.specs.Standing.{ArePrimaries, Come, StayKept}
+use Rattle.up_desk.proofs.Cataloged.{are_more, come_none, come_one, one_kept, put_or_not, stay_more}
 use Rattle.up_desk.proofs.senders.put_sender.Goals as goal
 
 pub returns-clause-of : goal.returns-clause-of
@@ -23,3 +25,11 @@ returns-clause-one c =
     let kept = c.args.kept.now in
     put_or_not (λ now. table.len now ≤ table.len kept + 1) c.insert.result kept c.insert.new.self _ c.insert.ensures.ok c.insert.ensures.err (omega arith)
     (one_kept kept _ c.in-Some.primary)
+
+pub returns-clause-came : goal.returns-clause-came
+returns-clause-came c =
+    let kept = c.args.kept.now in
+    let Comes : Table Primary → Type 0 = Come (λ name primary. name ≡ c.args.vehicle.now) kept in
+    put_or_not Comes c.insert.result kept c.insert.new.self _ c.insert.ensures.ok c.insert.ensures.err (come_none (λ name primary. name ≡ c.args.vehicle.now) kept)
+    (subst (λ name. Comes (table.insert kept name c.in-Some.primary)) (sym (c.in_ok-text_of.ensures ∙ c.text.ensures.value))
+    (come_one kept c.args.vehicle.now c.in-Some.primary))

@@ -1,5 +1,5 @@
 use Rattle.up_desk.specs.Serving.{is_fault}
-use Rattle.up_desk.proofs.Cataloged.{founding_more, none_more, of_more}
+use Rattle.up_desk.proofs.Cataloged.{come_none, founding_more, none_more, of_more}
 use Rattle.up_desk.proofs.SentBy.{due, unknown_refused}
 use Rattle.up_desk.proofs.senders.read_first.Goals as goal
 
@@ -30,3 +30,14 @@ returns-in-Err-clause-from g c = λ clean s was is.
 
 pub returns-in-Err-clause-more : goal.returns-in-Err-clause-more
 returns-in-Err-clause-more g c = none_more c.args.catalog.now
+
+pub returns-in-Ok-test_by_rows-clause-came : goal.returns-in-Ok-test_by_rows-clause-came
+returns-in-Ok-test_by_rows-clause-came g c = λ clean s was is.
+    c.test_by_rows.ensures.came s is.founding (c.in-Ok.ensures.told clean (g.K.Scheme.rules c.args.scheme.now) s was) is.primaries
+
+pub returns-in-Err-test_by_rows-clause-came : goal.returns-in-Err-test_by_rows-clause-came
+returns-in-Err-test_by_rows-clause-came g c = λ clean s was is.
+    c.test_by_rows.ensures.came s is.founding (c.in-Ok.ensures.told clean (g.K.Scheme.rules c.args.scheme.now) s was) is.primaries
+
+pub returns-in-Err-clause-came : goal.returns-in-Err-clause-came
+returns-in-Err-clause-came g c = λ clean s was is. come_none _ c.args.catalog.now.primaries

@@ -5,7 +5,7 @@ use Rattle.up_machine.specs.declared.rows.VehicleRows.{VehicleRows}
 use Rattle.up_machine.specs.Primaries.{GivesSent}
 use Rattle.up_desk.specs.Delivering.{refused_by}
 use Rattle.up_desk.specs.Serving.{is_fault}
-use Rattle.up_desk.proofs.Cataloged.{none_more}
+use Rattle.up_desk.proofs.Cataloged.{come_none, none_more}
 use Rattle.up_desk.proofs.Steps.{reads_none}
 use Rattle.up_desk.proofs.SentBy.{due, refused_unread, sent_rows}
 use Rattle.up_desk.proofs.senders.read_sender.Goals as goal
@@ -28,3 +28,9 @@ returns-in-Err-clause-reads g c = reads_none (state g.D.Store c.args.store.now)
 pub returns-in-Err-clause-forged : goal.returns-in-Err-clause-forged
 returns-in-Err-clause-forged g c =
     refused_unread Bool VehicleRows (refused_by (g.K.Scheme.rules c.args.scheme.now) c.args.catalog.now.primaries c.args.incoming.now) c.args.store.now c.in-Err.refusal c.in-Err.ensures.forged
+
+pub returns-in-Ok-true-clause-came : goal.returns-in-Ok-true-clause-came
+returns-in-Ok-true-clause-came g c = λ clean s was is. come_none _ c.args.catalog.now.primaries
+
+pub returns-in-Err-clause-came : goal.returns-in-Err-clause-came
+returns-in-Err-clause-came g c = λ clean s was is. come_none _ c.args.catalog.now.primaries

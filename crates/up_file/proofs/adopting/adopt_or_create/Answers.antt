@@ -24,4 +24,4 @@ pub returns-in-Err-default-NotOurs-clause-taken : goal.returns-in-Err-default-No
 returns-in-Err-default-NotOurs-clause-taken g c =
     let is : c.in-Err-default-NotOurs.field-0-1 ≡ NotOurs = search rules in
     taken_after (state g.D.Store) (state g.D.Store c.args.conn) (state g.D.Store c.in-Err-default-NotOurs.conn) c.create.result
-    c.in-Err-default-NotOurs.ensures.kept_err (c.in-Err-default-NotOurs.ensures.others is) c.create.ensures.crash c.create.ensures.empty c.create.ensures.made
+    c.in-Err-default-NotOurs.ensures.kept_err (c.in-Err-default-NotOurs.ensures.others is) c.create.ensures.crash c.create.ensures.empty c.create.ensures.made c.create.ensures.durable

@@ -1,17 +1,23 @@
 use Rattle.std.proofs.Common.{[], subst, sym}
 use Rattle.std.proofs.lemmas.List.{take_all}
-use Rattle.up_store.proofs.ColumnTables.{AreReaching, reaching_begun, reaching_more, reaching_ended}
+use Rattle.up_store.proofs.ColumnTables.{AreReaching, campaign_of, reaching_begun, reaching_more, reaching_ended}
+use Rattle.up_store.proofs.MemoryAlone.{memory_on}
 use Rattle.up_store.proofs.campaign_rows.read_reaching.Goals as goal
 
 pub loop-row-preserved : goal.loop-row-preserved
 loop-row-preserved c = λ campaigns are.
-    reaching_more c.args.vehicle.now campaigns c.args.shown.now c.loop-row.row-index c.row-item.result c.loop-row.reaching c.add_reaching.new.reaching c.loop-row-test.true c.row-item.is are c.in_ok-add_reaching.ensures
+    reaching_more c.args.vehicle.now campaigns c.args.shown.now c.loop-row.row-index c.row-item.result c.loop-row.reaching c.add_reaching.new.reaching c.loop-row-test.true c.row-item.is are c.in_ok-add_reaching.ensures.same
     (c.loop-row.invariant campaigns are)
 
 pub loop-row-init : goal.loop-row-init
 loop-row-init c = λ campaigns are. subst (AreReaching c.args.vehicle.now [] campaigns) (sym c.new-reaching.ensures) (reaching_begun c.args.vehicle.now campaigns)
 
-pub returns : goal.returns
-returns c = λ campaigns are.
+pub returns-clause-same : goal.returns-clause-same
+returns-clause-same c = λ campaigns are.
     reaching_ended c.args.vehicle.now campaigns c.args.shown.now c.loop-row.reaching are
     (subst (λ rows. AreReaching c.args.vehicle.now rows campaigns c.loop-row.reaching) (take_all c.loop-row.row-index c.args.shown.now c.loop-row-test.false) (c.loop-row.invariant campaigns are))
+
+pub returns-in_err-add_reaching-clause-fault : goal.returns-in_err-add_reaching-clause-fault
+returns-in_err-add_reaching-clause-fault c = λ campaigns are valid.
+    let of = campaign_of campaigns c.args.shown.now c.loop-row.row-index c.row-item.result c.loop-row-test.true c.row-item.is are in
+    memory_on c.from_residual-in_err-add_reaching.result c.in_err-add_reaching.field-0.0 c.from_residual-in_err-add_reaching.ensures.1 (c.in_err-add_reaching.ensures.fault _ of.0 (are.typed _ of.0 of.1) (valid _ of.0 of.1) of.2)

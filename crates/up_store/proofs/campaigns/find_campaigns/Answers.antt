@@ -7,4 +7,4 @@ pub returns-in-Ok-clause-found : goal.returns-in-Ok-clause-found
 returns-in-Ok-clause-found g c clean =
     ok_then _ _ c.read_reaching.result
     (λ read is rows within. is rows.campaigns (are_running rows (state g.D.Store c.args.tx.now.conn.now) (state g.D.Store c.running_campaigns.new.tx.conn.now) c.in-Ok.shown.items (c.in-Ok.ensures.reads clean) (c.in-Ok.ensures.found clean) within))
-    (rw c.as_slice.ensures.value at c.read_reaching.ensures)
+    (rw c.as_slice.ensures.value at c.read_reaching.ensures.same)

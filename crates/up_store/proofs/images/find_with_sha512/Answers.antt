@@ -9,4 +9,4 @@ returns-in-Ok-clause-found g c clean =
     (λ read is rows within image there same.
     let here = within.here (c.in-Ok.ensures.open clean) in
     is c.args.file.now image (here.rows.typed.images c.args.file.now image there) same (c.in-Ok.ensures.found clean rows within ∙ ap second_hash there))
-    c.some_image.ensures
+    c.some_image.ensures.same

@@ -5,4 +5,4 @@ pub returns-in-Ok-clause-found : goal.returns-in-Ok-clause-found
 returns-in-Ok-clause-found g c clean =
     ok_then _ _ c.read_images.result
     (λ read is rows within are. is rows.images are (c.in-Ok.ensures.found clean rows within))
-    c.read_images.ensures
+    c.read_images.ensures.same

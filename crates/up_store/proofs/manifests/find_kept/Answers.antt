@@ -11,7 +11,7 @@ returns-in-Ok-Some-clause-found g c clean =
     let before = state g.D.Store c.args.tx.now.conn.now in
     let after = state g.D.Store c.kept.new.tx.conn.now in
     each_ok c.some_kept.result (λ (rows : StateRows). IsWithin up_schema (ListsRows rows) before) _
-    (λ rows within. kept_found c.some_kept.result rows c.args.vehicle.now c.args.counter before after c.in-Ok-Some.field-0 c.in-Ok-Some.shown c.in-Ok-Some.field-0-is c.some_kept.ensures (c.in-Ok-Some.ensures.reads clean) (rw (c.text.ensures.value, c.get.ensures.value) at c.in-Ok-Some.ensures.found clean) within)
+    (λ rows within. kept_found c.some_kept.result rows c.args.vehicle.now c.args.counter before after c.in-Ok-Some.field-0 c.in-Ok-Some.shown c.in-Ok-Some.field-0-is c.some_kept.ensures.same (c.in-Ok-Some.ensures.reads clean) (rw (c.text.ensures.value, c.get.ensures.value) at c.in-Ok-Some.ensures.found clean) within)
 
 pub returns-in-Ok-None-clause-found : goal.returns-in-Ok-None-clause-found
 returns-in-Ok-None-clause-found g c clean rows within =

@@ -9,4 +9,4 @@ returns-in-Ok-clause-found g c clean =
     let after = state g.D.Store c.image_sha512s.new.tx.conn.now in
     ok_then _ _ c.read_sha512s.result
     (λ read is rows within. is rows.images (are_hashes rows before after c.in-Ok.shown.items (c.in-Ok.ensures.reads clean) (c.in-Ok.ensures.found clean) within))
-    c.read_sha512s.ensures
+    c.read_sha512s.ensures.same

@@ -16,4 +16,4 @@ returns-in-Ok-clause-found g c clean =
     let after = state g.D.Store c.ecus.new.tx.conn.now in
     ok_then (λ read. read ≡ map ecu_read c.in-Ok.shown.items) (λ found. (rows : StateRows) → IsWithin up_schema (ListsRows rows) before → found ≡ ecus_found c.args.vehicle.now rows) c.read_ecus.result
     (λ read is rows within. is ∙ ecus_in rows c.args.vehicle.now before after c.in-Ok.shown.items (c.in-Ok.ensures.reads clean) (rw c.text.ensures.value at c.in-Ok.ensures.found clean) within)
-    c.read_ecus.ensures
+    c.read_ecus.ensures.same

@@ -8,7 +8,7 @@ use Rattle.up_tables.proofs.vehicle.upsert_vehicle.Goals as goal
 pub returns-clause-set : goal.returns-clause-set
 returns-clause-set g c =
     sets_vehicle (λ v. v.items) c.query_all.result c.shows.result (state g.S.Store c.args.tx.now.conn.now) (state g.S.Store c.query_all.new.self.conn.now)
-    (string_bytes c.args.vehicle.now.vehicle) (string_bytes c.args.vehicle.now.primary_ecu) c.args.vehicle.now.version c.args.vehicle.now.last_counter c.query_all.ensures.survives c.requires.mode c.shows.ensures
+    (string_bytes c.args.vehicle.now.vehicle) (string_bytes c.args.vehicle.now.primary_ecu) c.args.vehicle.now.version c.args.vehicle.now.last_counter c.query_all.ensures.survives c.requires.mode c.shows.ensures.ok
     (rw (c.words.ensures, c.as_str.ensures.value, c.words-2.ensures, c.as_str-2.ensures.value, c.number.ensures, c.number-2.ensures) at c.query_all.ensures.ok)
 
 pub returns-clause-step : goal.returns-clause-step
@@ -18,6 +18,6 @@ returns-clause-step g c =
     record {
       same_reference = c.query_all.ensures.same_reference;
       steps = queries (λ v. v.items) _ _ old new c.query_all.result c.requires.mode c.query_all.ensures.survives c.query_all.ensures.ok c.query_all.ensures.err;
-      inside = on_answered _ _ c.query_all.result c.shows.result c.shows.ensures (shown_inside (λ v. v.items) _ _ old new c.query_all.result c.query_all.ensures.survives c.requires.mode c.query_all.ensures.ok);
-      is_open = on_answered _ _ c.query_all.result c.shows.result c.shows.ensures (shown_is_open (λ v. v.items) _ _ old new c.query_all.result c.query_all.ensures.ok);
+      inside = on_answered _ _ c.query_all.result c.shows.result c.shows.ensures.ok (shown_inside (λ v. v.items) _ _ old new c.query_all.result c.query_all.ensures.survives c.requires.mode c.query_all.ensures.ok);
+      is_open = on_answered _ _ c.query_all.result c.shows.result c.shows.ensures.ok (shown_is_open (λ v. v.items) _ _ old new c.query_all.result c.query_all.ensures.ok);
     }

@@ -1,0 +1,94 @@
+-- What a run leaves where each item has such an answer, it leaves where each has one of which less is said.
+use Rattle.std.proofs.Common.{◌≡◌, ℕ, List, [], ◌∷◌, Option, Some, None, Result, Ok, Err, true}
+use Rattle.std.specs.Prelude.{◌++◌, MatchResult}
+use Rattle.up_http.specs.Serving as serving
+use Rattle.up_http.specs.declared.fault.ServeFault.{ServeFault}
+use Rattle.up_http.specs.declared.served.Served.{Served}
+use Rattle.up_lines.specs.LineRuns as lines
+use Rattle.up_lines.specs.Lines.{piece_bytes}
+use Rattle.up_lines.specs.Runs.{At, Run, Breaks, AnswersUpTo, Finished, LastRead}
+use Rattle.up_lines.specs.declared.fault.ScriptCause.{ScriptCause}
+use Rattle.up_lines.specs.declared.fault.ScriptFault.{ScriptFault}
+
+-- each answer of the one is one of the other
+abbrev pub IsWeaker : {S I : Type 0} → (S → I → List ℕ → S → Type 0) → (S → I → List ℕ → S → Type 0) → Type 0
+IsWeaker {S} {I} P Q = (old new : S) (item : I) (text : List ℕ) → P old item text new → Q old item text new
+
+run_weaker : {S I : Type 0} (P Q : S → I → List ℕ → S → Type 0) → IsWeaker P Q → (items : List I) (texts : List (List ℕ)) (old new : S) → Run P old items texts new → Run Q old items texts new
+run_weaker P Q weaker [] [] old new run = run
+run_weaker P Q weaker [] (text ∷ texts) old new run = absurd run
+run_weaker P Q weaker (item ∷ items) [] old new run = absurd run
+run_weaker P Q weaker (item ∷ items) (text ∷ texts) old new run = (run.0, weaker old run.0 item text run.1, run_weaker P Q weaker items texts run.0 new run.2)
+
+breaks_weaker : {S I : Type 0} (P Q : S → I → List ℕ → S → Type 0) → IsWeaker P Q → (print : List ℕ → List ℕ) (cause : ScriptCause) (next : Option I) (old new : S) (prefix : List ℕ)
+    → Breaks P print cause next old new prefix → Breaks Q print cause next old new prefix
+breaks_weaker P Q weaker print cause None old new prefix breaks = breaks
+breaks_weaker P Q weaker print cause (Some item) old new prefix breaks = (breaks.0, weaker old new item breaks.0 breaks.1, breaks.2)
+
+pub finished_weaker : {S I : Type 0} (P Q : S → I → List ℕ → S → Type 0) → IsWeaker P Q → (print : List ℕ → List ℕ) (AreAll : List I → Type 0) (first now : At S) (answered : ℕ)
+    → Finished P print AreAll first answered now → Finished Q print AreAll first answered now
+finished_weaker P Q weaker print AreAll first now answered h = record {
+  items = h.items;
+  answers = h.answers;
+  all = h.all;
+  run = run_weaker P Q weaker h.items h.answers first.state now.state h.run;
+  answered_is = h.answered_is;
+  wrote = h.wrote;
+}
+
+pub up_to_weaker : {S I : Type 0} (P Q : S → I → List ℕ → S → Type 0) → IsWeaker P Q → (print : List ℕ → List ℕ) (AreFirst : List I → Option I → Type 0) (cause : ScriptCause) (first now : At S) (answered : ℕ)
+    → AnswersUpTo P print AreFirst cause first answered now → AnswersUpTo Q print AreFirst cause first answered now
+up_to_weaker P Q weaker print AreFirst cause first now answered h = record {
+  done = h.done;
+  next = h.next;
+  answers = h.answers;
+  last = h.last;
+  prefix = h.prefix;
+  first_ones = h.first_ones;
+  run = run_weaker P Q weaker h.done h.answers first.state h.last h.run;
+  breaks = breaks_weaker P Q weaker print cause h.next h.last now.state h.prefix h.breaks;
+  answered_is = h.answered_is;
+  wrote = h.wrote;
+}
+
+-- ---- over a reader and a writer
+
+pub lines_weaker : {S : Type 0} (P Q : lines.Gives S) → IsWeaker P Q → (had has : Option (List ℕ)) (first now : At S) (result : Result ℕ ScriptFault)
+    → lines.RanLines P had has first now result → lines.RanLines Q had has first now result
+lines_weaker P Q weaker had has first now result ran = record {
+  came = ran.came;
+  ended = ran.ended;
+  read = ran.read;
+  bounded = ran.bounded;
+  at_end = ran.at_end;
+  leaves = by_result result ran.leaves;
+}
+  where
+    by_result : (r : Result ℕ ScriptFault)
+        → MatchResult r (λ answered. (ran.ended ≡ true) × lines.FinishedLines P ran.came answered first now)
+        (λ fault. lines.Stopped P ran.came ran.ended fault first now × LastRead piece_bytes (lines.WantsMore fault.lines) ran.came ran.ended)
+        → MatchResult r (λ answered. (ran.ended ≡ true) × lines.FinishedLines Q ran.came answered first now)
+        (λ fault. lines.Stopped Q ran.came ran.ended fault first now × LastRead piece_bytes (lines.WantsMore fault.lines) ran.came ran.ended)
+    by_result (Ok answered) h = (h.0, finished_weaker P Q weaker lines.print (lines.AreAll ran.came) first now answered h.1)
+    by_result (Err fault) h = (up_to_weaker P Q weaker lines.print _ fault.cause first now fault.lines h.0, h.1)
+
+pub requests_weaker : {S : Type 0} (P Q : serving.Gives S) → IsWeaker P Q → (had has : Option (List ℕ)) (first now : At S) (result : Result Served ServeFault)
+    → serving.RanRequests P had has first now result → serving.RanRequests Q had has first now result
+requests_weaker P Q weaker had has first now result ran = record {
+  came = ran.came;
+  ended = ran.ended;
+  read = ran.read;
+  bounded = ran.bounded;
+  at_end = ran.at_end;
+  leaves = by_result result ran.leaves;
+}
+  where
+    by_result : (r : Result Served ServeFault)
+        → MatchResult r (λ served. ((more : List ℕ) → (ran.ended ≡ true → more ≡ []) → serving.FinishedRequests P (ran.came ++ more) served.requests first now)
+        × LastRead serving.piece_bytes (serving.WantsMore served.requests) ran.came ran.ended)
+        (λ fault. serving.Stopped P ran.came ran.ended fault first now × LastRead serving.piece_bytes (serving.WantsMore fault.answered) ran.came ran.ended)
+        → MatchResult r (λ served. ((more : List ℕ) → (ran.ended ≡ true → more ≡ []) → serving.FinishedRequests Q (ran.came ++ more) served.requests first now)
+        × LastRead serving.piece_bytes (serving.WantsMore served.requests) ran.came ran.ended)
+        (λ fault. serving.Stopped Q ran.came ran.ended fault first now × LastRead serving.piece_bytes (serving.WantsMore fault.answered) ran.came ran.ended)
+    by_result (Ok served) h = (λ more ended. finished_weaker P Q weaker serving.plain _ first now served.requests (h.0 more ended), h.1)
+    by_result (Err fault) h = (up_to_weaker P Q weaker serving.plain _ (serving.cause_of fault.cause) first now fault.answered h.0, h.1)

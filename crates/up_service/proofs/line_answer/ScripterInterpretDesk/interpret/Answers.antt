@@ -1,9 +1,0 @@
-use Rattle.std.proofs.Common.{inr, ap, sym, subst}
-use Rattle.up_service.specs.LineAnswers.{Lines}
-use Rattle.up_service.proofs.line_answer.ScripterInterpretDesk.interpret.Goals as goal
-
-pub returns-in-Ok-clause-ok : goal.returns-in-Ok-clause-ok
-returns-in-Ok-clause-ok g c = subst (λ t. Lines g.K.Scheme.rules g.D.Store c.args.desk.now c.args.line.now t c.line_text.new.desk) (sym (ap (λ v. v.items) c.into_bytes.ensures.value)) c.in-Ok.ensures.ok
-
-pub returns-in-Err-clause-err : goal.returns-in-Err-clause-err
-returns-in-Err-clause-err g c = inr c.in-Err.ensures.err
