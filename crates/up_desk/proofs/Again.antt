@@ -353,10 +353,10 @@ reopened_acts_once g stale counters grow thin stays k s at body incoming old new
     let f = again whole left may opened is found in
     let next = (serve k s at (Deliver body)).next in
     ∥∥₁_map f.left (λ r. both_act stale counters grow thin stays k s at body incoming it.accepted it.sound it.reads it.accepts (λ t. KeepsState k t (file_state opened))
-      (elim (either over_files k s at body incoming old new it clean (file_state opened).committed.trees r) [
-        | inl was ↦ inl (f.shown (rows_of_state k s) was)
-        | inr made ↦ inr (f.shown (rows_of_state k next) made)
-      ]))
+    (elim (either over_files k s at body incoming old new it clean (file_state opened).committed.trees r) [
+      | inl was ↦ inl (f.shown (rows_of_state k s) was)
+      | inr made ↦ inr (f.shown (rows_of_state k next) made)
+    ]))
 
 pub reopened_outlast : {D : Type 0} (g : DiskGhosts D) → ReopenedOutlast g
 reopened_outlast g k cs answers old new outlasts s sound keeps before rest m made clean stopped again whole left may opened is found =

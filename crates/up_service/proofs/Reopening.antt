@@ -39,5 +39,5 @@ pub reopened_last : {D : Type 0} (I : Type 0) (g : DiskGhosts D) → ReopenedLas
 reopened_last I g v s ms next old new lasts before rest m made clean stopped again whole left may opened is found =
     let f = again whole left may opened is found in
     ∥∥₁_map f.left (λ r.
-      let held = stays_or_made v (behind v (after v s before) m) rest next (file_state opened).committed.trees (lasts.durable before rest m made clean (file_state opened).committed.trees r) in
-      (held.0, held.1, f.shown (rows_of_state v.rules held.0) held.2))
+    let held = stays_or_made v (behind v (after v s before) m) rest next (file_state opened).committed.trees (lasts.durable before rest m made clean (file_state opened).committed.trees r) in
+    (held.0, held.1, f.shown (rows_of_state v.rules held.0) held.2))

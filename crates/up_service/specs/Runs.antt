@@ -129,4 +129,4 @@ ReopenedLast {D} I g = (v : Service I) (s : State) (ms : List (Told I)) (next : 
     → HasCleanDisk (state over_files new) → (stopped : FileStore D g) → AreFoundAgain new.held stopped → IsTrue (view stopped).is_clean → (left : Image) → (files.state stopped).may_leave left
     → (opened : Held (FileStore D g)) → IsOpened opened → FindsIn left (file_state opened)
     → ∥ ((at : State) × ((at ≡ behind v (after v s before) m) ⊎ IsMadeBySome v (behind v (after v s before) m) rest next at)
-        × connections.KeepsState v.rules at (file_state opened)) ∥₁
+    × connections.KeepsState v.rules at (file_state opened)) ∥₁
