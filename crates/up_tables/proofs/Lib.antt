@@ -46,3 +46,6 @@ pub mod RoleKeyLemmas
 pub mod ListedLemmas
 pub mod RaiseLemmas
 pub mod ColumnLemmas
+pub mod BlameLemmas
+pub mod TypedLemmas
+pub mod OwnerLemmas
