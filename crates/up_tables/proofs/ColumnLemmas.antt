@@ -1,7 +1,9 @@
 -- What a row that shows no value lacks.
-use Rattle.std.proofs.Common.{◌≡◌, ◌≢◌, ◌<◌, ℕ, zero, suc, List, [], ◌∷◌, map, drop, length, slice_index_or, true, false, Option, Some, None, Result, Ok, Err, IfOk, IfErr, IsUtf8, string_bytes, sym, ap, subst, ◌∙◌, arith}
+use Rattle.std.proofs.Common.{◌≡◌, ◌≢◌, ◌<◌, inl, inr, ℕ, zero, suc, List, [], ◌∷◌, map, drop, length, slice_index_or, true, false, Option, Some, None, Result, Ok, Err, IfOk, IfErr, IsUtf8, string_bytes, sym, ap, subst, ◌∙◌, arith}
+use Rattle.std.specs.List.{AllByRecursion}
 use Rattle.std.specs.Prelude.{IsErrAnd}
 use Rattle.std.proofs.lemmas.Str.{IsUtf8-string_bytes}
+use Rattle.sqlite.specs.declared.types.Value.{Value}
 use Rattle.sqlite.specs.declared.types.Value.TheVariants.{Null, Text}
 use Rattle.sqlite.specs.Values.{or_null}
 use Rattle.sqlite_sql.specs.Ops.{is_null}
@@ -10,6 +12,7 @@ use Rattle.up_tables.specs.declared.ecu.Installed.{Installed}
 use Rattle.up_tables.specs.declared.values.StoreFault.{StoreFault}
 use Rattle.up_tables.specs.declared.values.StoreFault.TheVariants.{Store}
 use Rattle.up_tables.specs.Ecus.{HasInstalled}
+use Rattle.up_tables.specs.Kinds.{IsWords, IsWordsOrNull}
 
 -- a fault is handed on
 pub handed_on : {A : Type 0} (result : Result A StoreFault) (fault : StoreFault) (P : StoreFault → Type 0) → IsErrAnd result (λ f. f ≡ fault) → P fault → IfErr result P
@@ -44,3 +47,18 @@ not_each f g [] i x low is none values same = absurd (omega (arith, low))
 not_each f g (y ∷ xs) i x low is none [] same = absurd (omega (arith, ap length same))
 not_each f g (y ∷ xs) zero x low is none (a ∷ values) same = none a (ap f is ∙ ap (λ (rs : List Row). slice_index_or rs 0 (f y)) same)
 not_each f g (y ∷ xs) (suc i) x low is none (a ∷ values) same = not_each f g xs i x (omega (arith, low)) is none values (ap (drop 1) same)
+
+-- ---- where the columns are of their kinds
+
+pub no_words : {v : Value} → ((s : List ℕ) → IsUtf8 s → v ≢ Text s) → IsWords v → ⊥
+no_words none w = none w.0 w.2 w.1
+
+pub no_words_or_null : {v : Value} → (v ≢ Null) × ((s : List ℕ) → IsUtf8 s → v ≢ Text s) → IsWordsOrNull v → ⊥
+no_words_or_null none (inl null) = none.0 null
+no_words_or_null none (inr w) = no_words none.1 w
+
+-- a row of all shows something else
+pub not_all : {V : Type 0} (P : V → Type 0) (xs : List V) (i : ℕ) (x : V) → i < length xs → x ≡ slice_index_or xs i x → ¬ P x → ¬ AllByRecursion P xs
+not_all P [] i x low is none all = absurd (omega (arith, low))
+not_all P (y ∷ xs) zero x low is none all = none (subst P (sym is) all.0)
+not_all P (y ∷ xs) (suc i) x low is none all = not_all P xs i x (omega (arith, low)) is none all.1

@@ -1,5 +1,5 @@
 -- Files that are served: one after another is set, and one is read.
-use Rattle.std.proofs.Common.{◌≡◌, ◌≤◌, ◌+◌, suc, take, slice_get, arith, ℕ, List, [], ◌∷◌, ◌++◌, map, filter, Bool, true, false, ◌&&◌, if◌then◌else◌, length, Some, Result, IfOk, Option, refl, sym, ap, subst, ◌∙◌, codes, string_bytes, bytes_eq, drop}
+use Rattle.std.proofs.Common.{◌≡◌, ◌≤◌, ◌+◌, suc, take, slice_get, arith, ℕ, List, [], ◌∷◌, ◌++◌, map, filter, Bool, true, false, ◌&&◌, if◌then◌else◌, length, Some, Result, IfOk, Option, refl, sym, ap, subst, ◌∙◌, codes, string_bytes, bytes_eq, drop, ◌⊎◌, Err, IfErr}
 use Rattle.std.specs.Option.{option_to_list}
 use Rattle.std.specs.Result.{IsOkAnd}
 use Rattle.std.proofs.Math.Bool.{and-true}
@@ -7,7 +7,7 @@ use Rattle.sqlite.specs.declared.types.Value.TheVariants.{Text}
 use Rattle.sqlite.specs.declared.error.Error.{Error}
 use Rattle.sqlite.specs.Order.{Row, column}
 use Rattle.sqlite.specs.Listing.{understood}
-use Rattle.sqlite.specs.State.{State, Shown}
+use Rattle.sqlite.specs.State.{State, Shown, HasCleanDisk, FailsToQuery, IsTooLate}
 use Rattle.sqlite_tied.specs.Compute.{everything}
 use Rattle.up_tables.specs.Rows.{bare, columns_at, has_text}
 use Rattle.up_tables.specs.Stands.{IsInside, Alters, HasTables}
@@ -24,6 +24,12 @@ use Rattle.up_tables.proofs.EcuInserts.{take_next, take_whole}
 use Rattle.up_tables.proofs.OthersLemmas.{alters_to, alters_none, has_after, alters_then}
 use Rattle.up_tables.proofs.ReadLemmas.{Asks, answers_some, bare_filter}
 use Rattle.up_tables.proofs.StateLemmas.{one_in, ok_then}
+use Rattle.std.specs.List.Sorted.{IsPermutation}
+use Rattle.up_tables.specs.Faults.{store_fault}
+use Rattle.up_tables.specs.declared.values.StoreFault.TheVariants.{Store}
+use Rattle.up_tables.specs.Statements.{BlamesDisk, HoldsOfFiles}
+use Rattle.up_tables.specs.Kinds.{ShowsOne, ShowsFile}
+use Rattle.up_tables.proofs.BlameLemmas.{Takes, blames, shown_one}
 
 -- ---- one after another
 
@@ -84,15 +90,39 @@ pub find_is : Asks up_schema find_file_text (over 3 (equals 1 0 ∷ equals 2 1 �
 unfolding understood everything
 find_is = (refl, refl, (refl, refl))
 
+abbrev its : List ℕ → List ℕ → Row → Bool
+its repository name x = has_text 0 repository x && has_text 1 name x
+
+its_rows : (repository name : List ℕ) (rows_of : List ℕ → List ℕ → List Row) (rows : List Row) → ListsPairs rows_of rows → rows_of repository name ≡ filter (its repository name) (bare rows)
+its_rows repository name rows_of rows lists =
+    let test : (x : Row) → has_texts 1 repository 2 name x ≡ its repository name (drop 1 x) = λ x. rw (column_after x 0, column_after x 1) refl in
+    sym (lists.parts repository name) ∙ bare_filter (has_texts 1 repository 2 name) (its repository name) test rows
+
+its_answer : (repository name : List ℕ) (old new : State) (rows : List Row) → old.now.schema ≡ up_schema → Shown find_file_text (Text repository ∷ Text name ∷ []) old new rows
+    → IsPermutation (map part (filter (its repository name) (bare (old.now.trees repo_file_table.tree)))) rows
+its_answer repository name = answers_some up_schema find_file_text 3 (equals 1 0 ∷ equals 2 1 ∷ []) (all_columns 3) names (Text repository ∷ Text name ∷ []) (its repository name) part
+    (λ x. rw (equals_text (column x 1) repository, equals_text (column x 2) name, column_after x 0, column_after x 1) (ap (λ b. has_text 0 repository (drop 1 x) && b) (and-true _)))
+    (λ x. rw (column_after x 0, column_after x 1, column_after x 2) refl) (λ db. refl) find_is
+
 pub finds_file : {X : Type 0} (items : X → List Row) (answer : Result X Error) (r : Result (Option FileRow) StoreFault) (old new : State) (repository name : List ℕ)
     → IfOk r (λ found. IsOkAnd answer (λ v. map part (items v) ≡ map file_row (option_to_list found))) → IfOk answer (λ v. Shown find_file_text (Text repository ∷ Text name ∷ []) old new (items v))
     → IfOk r (λ found. (rows_of : List ℕ → List ℕ → List Row) → HasTables old → ListsPairs rows_of (old.now.trees repo_file_table.tree) → map part (rows_of repository name) ≡ map file_row (option_to_list found))
 finds_file items answer r old new repository name h ran =
-    let params = Text repository ∷ Text name ∷ [] in
-    let q : Row → Bool = λ x. has_text 0 repository x && has_text 1 name x in
-    let test : (x : Row) → has_texts 1 repository 2 name x ≡ q (drop 1 x) = λ x. rw (column_after x 0, column_after x 1) refl in
-    let answers = answers_some up_schema find_file_text 3 (equals 1 0 ∷ equals 2 1 ∷ []) (all_columns 3) names params q part
-    (λ x. rw (equals_text (column x 1) repository, equals_text (column x 2) name, column_after x 0, column_after x 1) (ap (λ b. has_text 0 repository (drop 1 x) && b) (and-true _)))
-    (λ x. rw (column_after x 0, column_after x 1, column_after x 2) refl) (λ db. refl) find_is old new in
-    ok_then _ _ r (λ found is rows_of has lists. ap (map part) (sym (lists.parts repository name) ∙ bare_filter (has_texts 1 repository 2 name) q test (old.now.trees repo_file_table.tree)) ∙ is has)
-    (one_in items part part (λ x. refl) file_row find_file_text params old new (filter q (bare (old.now.trees repo_file_table.tree))) answer r answers h ran)
+    ok_then _ _ r (λ found is rows_of has lists. ap (map part) (its_rows repository name rows_of (old.now.trees repo_file_table.tree) lists) ∙ is has)
+    (one_in items part part (λ x. refl) file_row find_file_text (Text repository ∷ Text name ∷ []) old new (filter (its repository name) (bare (old.now.trees repo_file_table.tree))) answer r (its_answer repository name old new) h ran)
+
+-- ---- faults of the read
+
+find_file_takes : (repository name : List ℕ) → Takes find_file_text (Text repository ∷ Text name ∷ []) (over 3 (equals 1 0 ∷ equals 2 1 ∷ []) (all_columns 3) [])
+unfolding understood everything
+find_file_takes repository name = (refl, refl, λ trees h. absurd (let e = h in cc))
+
+pub find_file_blames : {X R : Type 0} (items : X → List Row) (answer : Result X Error) (r : Result R StoreFault) (old new : State) (repository name : List ℕ)
+    → IfErr answer (λ e. r ≡ Err (store_fault e)) → IfOk answer (λ v. IfErr r (λ fault. fault ≡ Store → ¬ ShowsOne ShowsFile (items v)))
+    → (HasCleanDisk new → IfOk answer (λ v. Shown find_file_text (Text repository ∷ Text name ∷ []) old new (items v)))
+    → (HasCleanDisk new → IfErr answer (λ e. FailsToQuery find_file_text (Text repository ∷ Text name ∷ []) old new e ⊎ IsTooLate find_file_text (Text repository ∷ Text name ∷ []) old new e))
+    → BlamesDisk (HoldsOfFiles (λ rows_of. ShowsOne ShowsFile (rows_of repository name))) old new r
+find_file_blames items answer r old new repository name =
+    blames items find_file_text (Text repository ∷ Text name ∷ []) 3 (equals 1 0 ∷ equals 2 1 ∷ []) (all_columns 3) [] names find_is (find_file_takes repository name) answer r old new (HoldsOfFiles (λ rows_of. ShowsOne ShowsFile (rows_of repository name))) (ShowsOne ShowsFile)
+    (λ ready holds rows h. shown_one part ShowsFile ShowsFile (λ x k. k) _ rows (its_answer repository name old new rows ready.here.schema_is h)
+    (subst (ShowsOne ShowsFile) (its_rows repository name holds.0 (old.now.trees repo_file_table.tree) holds.1) holds.2))

@@ -1,5 +1,5 @@
 -- The statements on images.
-use Rattle.std.proofs.Common.{◌≡◌, ◌==◌, ℕ, pos, List, [], ◌∷◌, map, filter, Bool, true, false, length, Ok, Err, Result, OnOk, IfOk, Option, IsTrue, refl, sym, ap, ◌∙◌, codes, string_bytes, append-nil, bytes_eq}
+use Rattle.std.proofs.Common.{◌≡◌, ◌==◌, ℕ, pos, List, [], ◌∷◌, map, filter, Bool, true, false, length, Ok, Err, Result, OnOk, IfOk, Option, IsTrue, refl, sym, ap, ◌∙◌, codes, string_bytes, append-nil, bytes_eq, ◌⊎◌, IfErr, inl, inr, subst}
 use Rattle.std.specs.Option.{option_to_list}
 use Rattle.std.specs.Result.{IsOkAnd}
 use Rattle.sqlite.specs.declared.types.Value.TheVariants.{Null, Text}
@@ -10,9 +10,11 @@ use Rattle.sqlite.specs.Cast.{cast_row}
 use Rattle.sqlite.specs.Source.TheVariants.{Values}
 use Rattle.sqlite.specs.Command.TheVariants.{Insert}
 use Rattle.sqlite.specs.Listing.{understood}
-use Rattle.sqlite.specs.State.{State, HasCleanDisk, Survives, ExecutesInside, Shown}
+use Rattle.sqlite.specs.State.{State, HasCleanDisk, Survives, ExecutesInside, Shown, FailsToQuery, IsTooLate}
 use Rattle.sqlite.proofs.Callers.{IsPlain, command_of}
 use Rattle.sqlite_tied.specs.Compute.{everything}
+use Rattle.up_tables.proofs.RefusalLemmas.{Writes}
+use Rattle.up_tables.specs.Texts.{insert_image_text}
 use Rattle.up_tables.specs.Tables.{up_schema, image_table}
 use Rattle.up_tables.specs.Rows.{columns_at, with_row}
 use Rattle.up_tables.specs.Forms.{image_row, image_places}
@@ -20,18 +22,24 @@ use Rattle.up_tables.specs.Stands.{Lists, IfClean, IsInside, Alters, HasTables}
 use Rattle.up_tables.specs.declared.image.ImageRow.{ImageRow}
 use Rattle.up_tables.specs.declared.values.StoreFault.{StoreFault}
 use Rattle.up_tables.proofs.AnswerLemmas.{over, given, all_columns}
-use Rattle.up_tables.proofs.ByNameLemmas.{listed_in, named_in, all_in, filter_true}
+use Rattle.up_tables.proofs.ByNameLemmas.{listed_in, named_in, all_in, filter_true, named_blames, all_blames}
 use Rattle.up_tables.proofs.Casts.{cast_int, cast_null}
 use Rattle.up_tables.proofs.EcuRows.{text_is, column_after}
 use Rattle.up_tables.proofs.EcuUpsert.{equals}
 use Rattle.up_tables.proofs.InsertLemmas.{inserts_in}
 use Rattle.up_tables.proofs.ReadLemmas.{Asks, answers_all, by_rowid}
 use Rattle.up_tables.proofs.StateLemmas.{ok_then}
+use Rattle.up_tables.specs.Faults.{store_fault}
+use Rattle.up_tables.specs.declared.values.StoreFault.TheVariants.{Store}
+use Rattle.up_tables.specs.Statements.{BlamesDisk, HoldsBy}
+use Rattle.up_tables.specs.Kinds.{ShowsOne, ShowsImage}
+use Rattle.up_tables.proofs.BlameLemmas.{Takes, blames_where}
+use Rattle.up_tables.proofs.TypedLemmas.{HasTextAt, first_texts}
+use Rattle.std.specs.List.{AllByRecursion}
+use Rattle.sqlite.specs.Tree.{Trees}
+use Rattle.sqlite_catalog.specs.Listing.{IsSound}
 
 -- ---- put in
-
-abbrev pub insert_image_text : List ℕ
-insert_image_text = codes "INSERT INTO image (file, length, sha256, hardware, release_count, needs, conflicts) VALUES (?1, ?2, ?3, ?4, ?5, ?6, ?7)"
 
 insert_is : (command_of (understood up_schema insert_image_text) ≡ Insert 3 (Values (given 7) 8)) × IsPlain (understood up_schema insert_image_text)
 unfolding understood everything
@@ -85,3 +93,39 @@ finds_images items list answer r old new h ran =
     ok_then _ _ r (λ found is rows_of has lists name. ap (map part) (sym (filter_true (rows_of name))) ∙ is rows_of has lists name)
     (all_in items list image_table all_images_text part image_row (λ i. string_bytes i.file) (λ _. true) (λ x. refl) (λ x n. refl) (λ x n. text_is (string_bytes x.file) n) answer r old new
     (λ shown' has table. answers_all up_schema all_images_text 5 [] (all_columns 7) names [] (λ _. true) part (λ x. refl) (shows []) (λ db. refl) all_is old new shown' has table) h ran)
+
+-- ---- faults of the reads
+
+find_image_takes : (name : List ℕ) → Takes find_image_text (Text name ∷ []) (over 5 (equals 1 0 ∷ []) (all_columns 7) [])
+unfolding understood everything
+find_image_takes name = (refl, refl, λ trees h. absurd (let e = h in cc))
+
+pub find_image_blames : {X : Type 0} (items : X → List Row) (answer : Result X Error) (r : Result (Option ImageRow) StoreFault) (old new : State) (name : List ℕ)
+    → IfErr answer (λ e. r ≡ Err (store_fault e)) → IfOk answer (λ v. IfErr r (λ fault. fault ≡ Store → ¬ ShowsOne ShowsImage (items v)))
+    → (HasCleanDisk new → IfOk answer (λ v. Shown find_image_text (Text name ∷ []) old new (items v)))
+    → (HasCleanDisk new → IfErr answer (λ e. FailsToQuery find_image_text (Text name ∷ []) old new e ⊎ IsTooLate find_image_text (Text name ∷ []) old new e))
+    → BlamesDisk (HoldsBy image_table 1 (λ rows_of. ShowsOne ShowsImage (rows_of name))) old new r
+find_image_blames items answer r old new name =
+    named_blames items image_table 0 find_image_text (all_columns 7) names part image_row name find_is (λ db. refl) (shows (Text name ∷ [])) (λ x. refl) ShowsImage (λ x h. h) (find_image_takes name) answer r old new
+
+all_images_takes : Takes all_images_text [] (over 5 [] (all_columns 7) by_rowid)
+unfolding understood everything
+all_images_takes = (refl, refl, λ trees h. absurd (let e = h in cc))
+
+all_images_texts : (db : Trees) → IsSound up_schema db → AllByRecursion (HasTextAt 1) (db image_table.tree)
+all_images_texts db sound = first_texts image_table (inr (inr (inr (inl refl)))) refl db sound (codes "file") _ refl
+
+pub all_images_blames : {X R : Type 0} (items : X → List Row) (answer : Result X Error) (r : Result R StoreFault) (old new : State)
+    → IfErr answer (λ e. r ≡ Err (store_fault e)) → IfOk answer (λ v. IfErr r (λ fault. fault ≡ Store → ¬ AllByRecursion ShowsImage (items v)))
+    → (HasCleanDisk new → IfOk answer (λ v. Shown all_images_text [] old new (items v)))
+    → (HasCleanDisk new → IfErr answer (λ e. FailsToQuery all_images_text [] old new e ⊎ IsTooLate all_images_text [] old new e))
+    → BlamesDisk (HoldsBy image_table 1 (λ rows_of. (name : List ℕ) → AllByRecursion ShowsImage (rows_of name))) old new r
+all_images_blames items answer r old new fault kinds ok err =
+    blames_where (HoldsBy image_table 1 (λ rows_of. (name : List ℕ) → AllByRecursion ShowsImage (rows_of name))) (HoldsBy image_table 1 (λ rows_of. (name : List ℕ) → AllByRecursion ShowsImage (filter (λ _. true) (rows_of name)))) old new r (λ holds. (holds.0, holds.1, λ name. subst (AllByRecursion ShowsImage) (sym (filter_true (holds.0 name))) (holds.2 name)))
+    (all_blames items image_table all_images_text part (λ _. true) ShowsImage (λ x h. h) [] (all_columns 7) names all_is all_images_takes (λ was now rows has table h. answers_all up_schema all_images_text 5 [] (all_columns 7) names [] (λ _. true) part (λ x. refl) (shows []) (λ db. refl) all_is was now rows has table h) all_images_texts answer r old new fault kinds ok err)
+
+-- ---- faults of the write
+
+pub image_writes : (i : ImageRow) → Writes insert_image_text (image_row i) (Insert 3 (Values (given 7) 8))
+unfolding understood everything
+image_writes i = record { is = insert_is.0; plain = insert_is.1; writes = refl; whole = refl; count = refl }

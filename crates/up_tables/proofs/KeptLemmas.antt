@@ -1,5 +1,5 @@
 -- The statements on kept manifests.
-use Rattle.std.proofs.Common.{◌≡◌, ℕ, pos, List, [], ◌∷◌, map, filter, Bool, ◌&&◌, Result, OnOk, IfOk, Option, IsTrue, refl, sym, ap, ◌∙◌, codes, string_bytes, append-nil, drop}
+use Rattle.std.proofs.Common.{◌≡◌, ℕ, pos, List, [], ◌∷◌, map, filter, Bool, ◌&&◌, Result, OnOk, IfOk, Option, IsTrue, refl, sym, ap, ◌∙◌, codes, string_bytes, append-nil, drop, ◌⊎◌, Err, IfErr, subst}
 use Rattle.std.specs.Option.{option_to_list}
 use Rattle.std.specs.Result.{IsOkAnd}
 use Rattle.std.specs.Ordering.{is_eq}
@@ -11,9 +11,11 @@ use Rattle.sqlite.specs.Cast.{cast_row}
 use Rattle.sqlite.specs.Source.TheVariants.{Values}
 use Rattle.sqlite.specs.Command.TheVariants.{Insert}
 use Rattle.sqlite.specs.Listing.{understood}
-use Rattle.sqlite.specs.State.{State, HasCleanDisk, Survives, ExecutesInside, Shown}
+use Rattle.sqlite.specs.State.{State, HasCleanDisk, Survives, ExecutesInside, Shown, FailsToQuery, IsTooLate}
 use Rattle.sqlite.proofs.Callers.{IsPlain, command_of}
 use Rattle.sqlite_tied.specs.Compute.{everything}
+use Rattle.up_tables.proofs.RefusalLemmas.{Writes}
+use Rattle.up_tables.specs.Texts.{insert_kept_text}
 use Rattle.up_tables.specs.Rows.{bare, columns_at, has_text, has_number, with_row}
 use Rattle.up_tables.specs.Stands.{Lists, IfClean, IsInside, Alters, HasTables}
 use Rattle.up_tables.specs.declared.values.StoreFault.{StoreFault}
@@ -28,11 +30,14 @@ use Rattle.up_tables.specs.declared.kept.KeptRow.{KeptRow}
 use Rattle.up_tables.proofs.ByNameLemmas.{listed_in}
 use Rattle.up_tables.proofs.ReadLemmas.{Asks, answers_some, bare_filter, filter_both}
 use Rattle.up_tables.proofs.StateLemmas.{one_in, ok_then}
+use Rattle.std.specs.List.Sorted.{IsPermutation}
+use Rattle.up_tables.specs.Faults.{store_fault}
+use Rattle.up_tables.specs.declared.values.StoreFault.TheVariants.{Store}
+use Rattle.up_tables.specs.Statements.{BlamesDisk, HoldsBy}
+use Rattle.up_tables.specs.Kinds.{ShowsOne, ShowsKept}
+use Rattle.up_tables.proofs.BlameLemmas.{Takes, blames, shown_one}
 
 -- ---- put in
-
-abbrev pub insert_kept_text : List ℕ
-insert_kept_text = codes "INSERT INTO kept (vehicle, counter, version, moment, root, signed, plan_text, reply) VALUES (?1, ?2, ?3, ?4, ?5, ?6, ?7, ?8)"
 
 insert_is : (command_of (understood up_schema insert_kept_text) ≡ Insert 7 (Values (given 8) 9)) × IsPlain (understood up_schema insert_kept_text)
 unfolding understood everything
@@ -63,17 +68,45 @@ pub find_is : Asks up_schema find_kept_text (over 14 (equals 1 0 ∷ equals 2 1 
 unfolding understood everything
 find_is = (refl, refl, (refl, refl))
 
+abbrev its : List ℕ → ℕ → Row → Bool
+its vehicle counter x = has_text 0 vehicle x && has_number 1 (pos counter) x
+
+its_rows : (vehicle : List ℕ) (counter : ℕ) (rows_of : List ℕ → List Row) (rows : List Row) → Lists 1 rows_of rows → filter (has_number 1 (pos counter)) (rows_of vehicle) ≡ filter (its vehicle counter) (bare rows)
+its_rows vehicle counter rows_of rows lists =
+    let test : (x : Row) → has_text 1 vehicle x ≡ has_text 0 vehicle (drop 1 x) = λ x. ap (λ v. is_eq (value_cmp v (Text vehicle))) (column_after x 0) in
+    ap (filter (has_number 1 (pos counter))) (sym (lists.parts vehicle) ∙ bare_filter (has_text 1 vehicle) (has_text 0 vehicle) test rows) ∙ sym (filter_both (has_text 0 vehicle) (has_number 1 (pos counter)) (bare rows))
+
+its_answer : (vehicle : List ℕ) (counter : ℕ) (old new : State) (rows : List Row) → old.now.schema ≡ up_schema → Shown find_kept_text (Text vehicle ∷ Int (pos counter) ∷ []) old new rows
+    → IsPermutation (map part (filter (its vehicle counter) (bare (old.now.trees kept_table.tree)))) rows
+its_answer vehicle counter = answers_some up_schema find_kept_text 14 (equals 1 0 ∷ equals 2 1 ∷ []) (all_columns 8) names (Text vehicle ∷ Int (pos counter) ∷ []) (its vehicle counter) part
+    (λ x. rw (equals_text (column x 1) vehicle, equals_int (column x 2) (pos counter), column_after x 0, column_after x 1) (ap (λ b. has_text 0 vehicle (drop 1 x) && b) (and-true _)))
+    (λ x. rw (column_after x 0, column_after x 1, column_after x 2, column_after x 3, column_after x 4, column_after x 5, column_after x 6, column_after x 7) refl) (λ db. refl) find_is
+
 pub finds_kept : {X : Type 0} (items : X → List Row) (answer : Result X Error) (r : Result (Option KeptRow) StoreFault) (old new : State) (vehicle : List ℕ) (counter : ℕ)
     → IfOk r (λ found. IsOkAnd answer (λ v. map part (items v) ≡ map kept_row (option_to_list found))) → IfOk answer (λ v. Shown find_kept_text (Text vehicle ∷ Int (pos counter) ∷ []) old new (items v))
     → IfOk r (λ found. (rows_of : List ℕ → List Row) → HasTables old → Lists 1 rows_of (old.now.trees kept_table.tree) → map part (filter (has_number 1 (pos counter)) (rows_of vehicle)) ≡ map kept_row (option_to_list found))
 finds_kept items answer r old new vehicle counter h ran =
-    let params = Text vehicle ∷ Int (pos counter) ∷ [] in
-    let q : Row → Bool = λ x. has_text 0 vehicle x && has_number 1 (pos counter) x in
-    let test : (x : Row) → has_text 1 vehicle x ≡ has_text 0 vehicle (drop 1 x) = λ x. ap (λ v. is_eq (value_cmp v (Text vehicle))) (column_after x 0) in
-    let answers = answers_some up_schema find_kept_text 14 (equals 1 0 ∷ equals 2 1 ∷ []) (all_columns 8) names params q part
-    (λ x. rw (equals_text (column x 1) vehicle, equals_int (column x 2) (pos counter), column_after x 0, column_after x 1) (ap (λ b. has_text 0 vehicle (drop 1 x) && b) (and-true _)))
-    (λ x. rw (column_after x 0, column_after x 1, column_after x 2, column_after x 3, column_after x 4, column_after x 5, column_after x 6, column_after x 7) refl) (λ db. refl) find_is old new in
-    ok_then _ _ r (λ found is rows_of has lists.
-    ap (λ xs. map part (filter (has_number 1 (pos counter)) xs)) (sym (lists.parts vehicle) ∙ bare_filter (has_text 1 vehicle) (has_text 0 vehicle) test (old.now.trees kept_table.tree))
-    ∙ ap (map part) (sym (filter_both (has_text 0 vehicle) (has_number 1 (pos counter)) (bare (old.now.trees kept_table.tree)))) ∙ is has)
-    (one_in items part part (λ x. refl) kept_row find_kept_text params old new (filter q (bare (old.now.trees kept_table.tree))) answer r answers h ran)
+    ok_then _ _ r (λ found is rows_of has lists. ap (map part) (its_rows vehicle counter rows_of (old.now.trees kept_table.tree) lists) ∙ is has)
+    (one_in items part part (λ x. refl) kept_row find_kept_text (Text vehicle ∷ Int (pos counter) ∷ []) old new (filter (its vehicle counter) (bare (old.now.trees kept_table.tree))) answer r (its_answer vehicle counter old new) h ran)
+
+-- ---- faults of the read
+
+find_kept_takes : (vehicle : List ℕ) (counter : ℕ) → Takes find_kept_text (Text vehicle ∷ Int (pos counter) ∷ []) (over 14 (equals 1 0 ∷ equals 2 1 ∷ []) (all_columns 8) [])
+unfolding understood everything
+find_kept_takes vehicle counter = (refl, refl, λ trees h. absurd (let e = h in cc))
+
+pub find_kept_blames : {X R : Type 0} (items : X → List Row) (answer : Result X Error) (r : Result R StoreFault) (old new : State) (vehicle : List ℕ) (counter : ℕ)
+    → IfErr answer (λ e. r ≡ Err (store_fault e)) → IfOk answer (λ v. IfErr r (λ fault. fault ≡ Store → ¬ ShowsOne ShowsKept (items v)))
+    → (HasCleanDisk new → IfOk answer (λ v. Shown find_kept_text (Text vehicle ∷ Int (pos counter) ∷ []) old new (items v)))
+    → (HasCleanDisk new → IfErr answer (λ e. FailsToQuery find_kept_text (Text vehicle ∷ Int (pos counter) ∷ []) old new e ⊎ IsTooLate find_kept_text (Text vehicle ∷ Int (pos counter) ∷ []) old new e))
+    → BlamesDisk (HoldsBy kept_table 1 (λ rows_of. ShowsOne ShowsKept (filter (has_number 1 (pos counter)) (rows_of vehicle)))) old new r
+find_kept_blames items answer r old new vehicle counter =
+    blames items find_kept_text (Text vehicle ∷ Int (pos counter) ∷ []) 14 (equals 1 0 ∷ equals 2 1 ∷ []) (all_columns 8) [] names find_is (find_kept_takes vehicle counter) answer r old new (HoldsBy kept_table 1 (λ rows_of. ShowsOne ShowsKept (filter (has_number 1 (pos counter)) (rows_of vehicle)))) (ShowsOne ShowsKept)
+    (λ ready holds rows h. shown_one part ShowsKept ShowsKept (λ x k. k) _ rows (its_answer vehicle counter old new rows ready.here.schema_is h)
+    (subst (ShowsOne ShowsKept) (its_rows vehicle counter holds.0 (old.now.trees kept_table.tree) holds.1) holds.2))
+
+-- ---- faults of the write
+
+pub kept_writes : (k : KeptRow) → Writes insert_kept_text (kept_row k) (Insert 7 (Values (given 8) 9))
+unfolding understood everything
+kept_writes k = record { is = insert_is.0; plain = insert_is.1; writes = refl; whole = refl; count = refl }

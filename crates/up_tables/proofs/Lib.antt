@@ -46,3 +46,7 @@ pub mod RoleKeyLemmas
 pub mod ListedLemmas
 pub mod RaiseLemmas
 pub mod ColumnLemmas
+pub mod BlameLemmas
+pub mod RefusalLemmas
+pub mod TypedLemmas
+pub mod OwnerLemmas

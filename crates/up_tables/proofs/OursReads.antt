@@ -1,6 +1,5 @@
 -- What the query on `meta` answers over tables of this product, whichever version of its schema they have.
-use Rattle.std.proofs.Common.{◌≡◌, ◌⊎◌, inl, inr, ℕ, pos, List, [], ◌∷◌, map, filter, length, Bool, true, false, None, Ok, Err, Result, IsTrue, refl, sym, ap, subst, ◌∙◌, codes, append-nil}
-use Rattle.std.proofs.Math.Dec.{leb}
+use Rattle.std.proofs.Common.{◌≡◌, ℕ, pos, List, [], ◌∷◌, map, filter, length, true, false, None, Some, Ok, Err, Result, IsTrue, refl, sym, ap, subst, ◌∙◌, codes}
 use Rattle.std.proofs.Math.Path.{fun_ext}
 use Rattle.std.proofs.Math.Bool.{and-true}
 use Rattle.std.proofs.lemmas.Bool.{leb-true}
@@ -31,6 +30,7 @@ use Rattle.up_tables.specs.Rows.{has_number}
 use Rattle.up_tables.specs.Versions.{schema_of}
 use Rattle.up_tables.specs.Ours.{find_meta_text}
 use Rattle.up_tables.proofs.AnswerLemmas.{over, outputs, passing, answer_is, shows_passing, equals_int}
+use Rattle.up_tables.proofs.BlameLemmas.{IsMistyped, is_whole, count_of, same_count, is_statement as understood_is_statement, never_refused, at_no_time}
 use Rattle.up_tables.proofs.MetaReads.{is_one}
 use Rattle.up_tables.specs.Tables.{meta_table}
 
@@ -55,38 +55,21 @@ find_plain One = (refl, refl)
 find_plain Two = (refl, refl)
 find_plain Three = (refl, refl)
 
-abbrev is_whole : Result Compiled CompileError → Bool
-is_whole (Ok c) = leb (length find_meta_text) c.tail
-is_whole (Err e) = false
-
-abbrev count_of : Result Compiled CompileError → ℕ
-count_of (Ok c) = length c.names
-count_of (Err e) = 1
-
-find_whole : (version : SchemaVersion) → is_whole (understood (schema_of version) find_meta_text) ≡ true
+find_whole : (version : SchemaVersion) → is_whole find_meta_text (understood (schema_of version) find_meta_text) ≡ true
 unfolding understood everything
 find_whole One = refl
 find_whole Two = refl
 find_whole Three = refl
 
-find_count : (version : SchemaVersion) → count_of (understood (schema_of version) find_meta_text) ≡ 0
+find_count : (version : SchemaVersion) → count_of (understood (schema_of version) find_meta_text) ≡ Some 0
 unfolding understood everything
 find_count One = refl
 find_count Two = refl
 find_count Three = refl
 
-none_of : {A B C X Y Z : Type 0} → (A → ⊥) → (B → ⊥) → (C → ⊥) → (A × X) ⊎ ((B × Y) ⊎ (C × Z)) → ⊥
-none_of f g h (inl k) = f k.0
-none_of f g h (inr (inl k)) = g k.0
-none_of f g h (inr (inr k)) = h k.0
-
 -- it is a statement
 pub is_statement : (version : SchemaVersion) (s : State) (e : Error) → s.now.schema ≡ schema_of version → IsNoStatement s find_meta_text [] e → ⊥
-is_statement version s e has (inl h) = subst IsPlain (sym (ap (λ x. understood x find_meta_text) has) ∙ h.1) (find_plain version)
-is_statement version s e has (inr h) =
-    let known : understood (schema_of version) find_meta_text ≡ Ok h.0 = sym (ap (λ x. understood x find_meta_text) has) ∙ h.1 in
-    none_of (λ cut. cut (leb-true (length find_meta_text) h.0.tail (ap is_whole (sym known) ∙ find_whole version))) (λ more. more (sym (ap count_of (sym known) ∙ find_count version)))
-    (λ timed. timed (subst IsPlain known (find_plain version)).1) h.2
+is_statement version = understood_is_statement (schema_of version) find_meta_text [] (find_plain version) (find_whole version) (find_count version)
 
 itself_unchanged : (s : State) → IsTrue s.is_open → IsUnchanged s s
 itself_unchanged s is_open = (record { was_open = is_open; is_open = is_open; now_is = refl; committed_is = refl; mode = refl }, record { changes = refl; last_rowid = refl }, refl)
@@ -143,7 +126,7 @@ accepts Three trees = record { typed = refl; answer = sure trees }
 answers : (made : SchemaVersion) (db : Database) → db.schema ≡ schema_of made → Answers db program [] (answer_of db.trees)
 answers made db has = let known = accepts made db.trees in record { typed = rw has known.typed; answer = known.answer }
 
-the_compiled : (r : Result Compiled CompileError) → is_whole r ≡ true → (c : Compiled) × (r ≡ Ok c)
+the_compiled : (r : Result Compiled CompileError) → is_whole find_meta_text r ≡ true → (c : Compiled) × (r ≡ Ok c)
 the_compiled (Ok c) h = (c, refl)
 the_compiled (Err e) h = absurd cc
 
@@ -165,8 +148,8 @@ finds made s has =
       compiled = c;
       it = record {
         is = ap (λ x. understood x find_meta_text) has ∙ known;
-        whole = leb-true (length find_meta_text) c.tail (ap is_whole (sym known) ∙ find_whole made);
-        given = sym (ap count_of (sym known) ∙ find_count made);
+        whole = leb-true (length find_meta_text) c.tail (ap (is_whole find_meta_text) (sym known) ∙ find_whole made);
+        given = same_count (sym (ap count_of (sym known) ∙ find_count made));
         now = 0;
       };
       source = subst (λ b. IsSourceOf b s.now s.now) (sym (ap (λ x. reads_listing x find_meta_text) has ∙ (find_is made).1)) refl;
@@ -175,23 +158,11 @@ finds made s has =
     }
 
 -- it is not refused
-refuses : (version : SchemaVersion) (trees : Rattle.sqlite.specs.Tree.Trees) (e : Error) → RefusesToRead None (Select program names) (record { schema = schema_of version; trees = trees }) [] e → ⊥
+find_typed : (version : SchemaVersion) (trees : Trees) → ¬ IsMistyped (schema_of version) trees [] (over 0 (is_one ∷ []) shown [])
 unfolding everything
-refuses One trees e (inl h) = absurd (let accepted = h.1 in cc)
-refuses One trees e (inr (inl (_, inl never))) = never
-refuses One trees e (inr (inl (_, inr more))) = more.4
-refuses One trees e (inr (inr h)) = absurd (let some = h.1 in cc)
-refuses Two trees e (inl h) = absurd (let accepted = h.1 in cc)
-refuses Two trees e (inr (inl (_, inl never))) = never
-refuses Two trees e (inr (inl (_, inr more))) = more.4
-refuses Two trees e (inr (inr h)) = absurd (let some = h.1 in cc)
-refuses Three trees e (inl h) = absurd (let accepted = h.1 in cc)
-refuses Three trees e (inr (inl (_, inl never))) = never
-refuses Three trees e (inr (inl (_, inr more))) = more.4
-refuses Three trees e (inr (inr h)) = absurd (let some = h.1 in cc)
-
-refuses_none : (version : SchemaVersion) (db : Database) (e : Error) → db.schema ≡ schema_of version → RefusesToRead None (Select program names) db [] e → ⊥
-refuses_none version db e has h = refuses version db.trees e (subst (λ s. RefusesToRead None (Select program names) (record { schema = s; trees = db.trees }) [] e) has h)
+find_typed One trees h = absurd (let e = h in cc)
+find_typed Two trees h = absurd (let e = h in cc)
+find_typed Three trees h = absurd (let e = h in cc)
 
 pub not_refused : (made : SchemaVersion) (s : State) (c : Compiled) (it : IsStatement s find_meta_text [] c) (db : Database) (e : Error) → s.now.schema ≡ schema_of made
     → IsSourceOf (reads_listing s.now.schema find_meta_text) s.now db → RefusesToRead None c.command db (timed [] c.formats it.now) e → ⊥
@@ -200,4 +171,5 @@ not_refused made s c it db e has source refused =
     let bare = subst IsPlain known (find_plain made) in
     let same : db ≡ s.now = subst (λ b. IsSourceOf b s.now db) (ap (λ x. reads_listing x find_meta_text) has ∙ (find_is made).1) source in
     let command : c.command ≡ Select program names = ap command_of (sym known) ∙ (find_is made).0 in
-    refuses_none made db e (ap (λ (d : Database). d.schema) same ∙ has) (subst (λ m. RefusesToRead None m db [] e) command (rw (bare.1, append-nil []) at refused))
+    never_refused (schema_of made) 0 (is_one ∷ []) shown [] names [] db e (ap (λ (d : Database). d.schema) same ∙ has) (find_typed made)
+    (subst (λ m. RefusesToRead None m db [] e) command (at_no_time c it.now c.command db [] e bare.1 refused))

@@ -79,11 +79,11 @@ asked schema text tree tests shown order names params is old new rows has h =
 module _ (schema : Schema) (text : List ℕ) (tree : ℕ) (tests shown : List Term) (names : List (List ℕ)) (params : Row) (q : Row → Bool) (part : Row → Row)
     (meets : (r : Row) → list_all (holds (params ∷ r ∷ [])) tests ≡ q (drop 1 r)) (shows : (r : Row) → eval_all shown (params ∷ r ∷ []) ≡ part (drop 1 r))
     (base : (db : Trees) → overlay db [] tree ≡ db tree) where
-  -- where no order is asked for, the answer is the rows that pass, in some order
-  pub answers_some : Asks schema text (over tree tests shown []) names → (old new : State) (rows : List Row) → old.now.schema ≡ schema
+  -- whichever order is asked for, the answer is the rows that pass, in some order
+  pub answers_some : {order : List (Term × Key)} → Asks schema text (over tree tests shown order) names → (old new : State) (rows : List Row) → old.now.schema ≡ schema
       → Shown text params old new rows → IsPermutation (map part (filter q (bare (old.now.trees tree)))) rows
-  answers_some is old new rows has h =
-      let all = shows_passing tests shown params _ rows (asked schema text tree tests shown [] names params is old new rows has h) in
+  answers_some {order} is old new rows has h =
+      let all = shows_passing tests shown params _ rows (asked schema text tree tests shown order names params is old new rows has h) in
       subst (λ xs. IsPermutation xs rows) (picked_bare _ q _ part meets shows (overlay old.now.trees [] tree) ∙ ap (λ xs. map part (filter q (bare xs))) (base old.now.trees)) all
 
   -- by rowid, they come in the order of the table

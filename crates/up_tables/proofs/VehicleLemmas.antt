@@ -1,5 +1,5 @@
 -- The statements on vehicles.
-use Rattle.std.proofs.Common.{◌≡◌, ◌≢◌, inl, inr, ℕ, ℤ, pos, List, [], ◌∷◌, ◌++◌, map, filter, true, Some, Ok, Err, Result, OnOk, IfOk, Option, IsTrue, refl, sym, ap, subst, ◌∙◌, arith, codes, string_bytes, append-nil, drop}
+use Rattle.std.proofs.Common.{◌≡◌, ◌≢◌, inl, inr, ℕ, ℤ, pos, List, [], ◌∷◌, ◌++◌, map, filter, true, Some, Ok, Err, Result, OnOk, IfOk, Option, IsTrue, refl, sym, ap, subst, ◌∙◌, arith, codes, string_bytes, append-nil, drop, ◌⊎◌, IfErr}
 use Rattle.std.specs.List.{AllByRecursion, list_all}
 use Rattle.std.specs.List.Sorted.{IsPermutation}
 use Rattle.std.specs.Option.{option_to_list}
@@ -20,7 +20,7 @@ use Rattle.sqlite.specs.Rows.{Written, Task, TriesEach, Tries, Updates, nothing,
 use Rattle.sqlite.specs.Source.TheVariants.{Values}
 use Rattle.sqlite.specs.Command.TheVariants.{Insert, InsertOr}
 use Rattle.sqlite.specs.Listing.{understood}
-use Rattle.sqlite.specs.State.{State, HasCleanDisk, Survives, ExecutesInside, Shown, mode_of}
+use Rattle.sqlite.specs.State.{State, HasCleanDisk, Survives, ExecutesInside, Shown, mode_of, FailsToQuery, IsTooLate}
 use Rattle.sqlite.specs.Tree.{Trees, put_row, without_rowid, has_rowid, rowid, IsTable}
 use Rattle.sqlite.proofs.Callers.{IsPlain, command_of, statement_of, one_permutation}
 use Rattle.sqlite_tied.specs.Compute.{everything}
@@ -41,6 +41,8 @@ use Rattle.sqlite_trees.specs.View.{IsShaped, is_int}
 use Rattle.sqlite_trees.specs.declared.store.Shape.TheVariants.{Table}
 use Rattle.sqlite_value.specs.Keys.{first_key}
 use Rattle.sqlite_value.specs.declared.keys.Collation.TheVariants.{Binary}
+use Rattle.up_tables.proofs.RefusalLemmas.{Writes}
+use Rattle.up_tables.specs.Texts.{insert_vehicle_text}
 use Rattle.up_tables.specs.Tables.{up_schema, vehicle_table}
 use Rattle.up_tables.specs.Rows.{columns_at, has_text, rows_with, with_row, with_only}
 use Rattle.up_tables.specs.Lines.{vehicle_line}
@@ -51,7 +53,7 @@ use Rattle.up_tables.specs.declared.vehicle.VehicleRow.{VehicleRow}
 use Rattle.up_tables.specs.declared.values.StoreFault.{StoreFault}
 use Rattle.up_tables.proofs.ReadLemmas.{Asks}
 use Rattle.up_tables.proofs.AnswerLemmas.{over, given, all_columns, equals_text, equals_int, answer_is, shows_passing}
-use Rattle.up_tables.proofs.ByNameLemmas.{listed_in, named_in}
+use Rattle.up_tables.proofs.ByNameLemmas.{listed_in, named_in, named_blames}
 use Rattle.up_tables.proofs.Casts.{cast_int, cast_null}
 use Rattle.up_tables.proofs.CreateLemmas.{went}
 use Rattle.up_tables.proofs.EcuRows.{text_is, column_after}
@@ -65,14 +67,16 @@ use Rattle.up_tables.proofs.RunLemmas.{idle}
 use Rattle.up_tables.proofs.ReturnLemmas.{IsShowing, writes_as}
 use Rattle.up_tables.proofs.StepLemmas.{shown_open, shown_after}
 use Rattle.up_tables.proofs.UpsertLemmas.{upserted, tried_each, tried, resolved, updated, rewritten_by, showing}
+use Rattle.up_tables.specs.Faults.{store_fault}
+use Rattle.up_tables.specs.declared.values.StoreFault.TheVariants.{Store}
+use Rattle.up_tables.specs.Statements.{BlamesDisk, HoldsBy}
+use Rattle.up_tables.specs.Kinds.{ShowsOne, ShowsVehicle}
+use Rattle.up_tables.proofs.BlameLemmas.{Takes}
 
 -- ---- put in
 
 casts : (name primary : List ℕ) (version last : ℕ) → cast_row vehicle_table (Null ∷ vehicle_line name primary version last) ≡ Null ∷ vehicle_line name primary version last
 casts name primary version last = rw (cast_null, cast_int (pos version), cast_int (pos last)) refl
-
-abbrev pub insert_vehicle_text : List ℕ
-insert_vehicle_text = codes "INSERT INTO vehicle (vehicle, primary_ecu, version, last_counter) VALUES (?1, ?2, ?3, ?4)"
 
 insert_is : (command_of (understood up_schema insert_vehicle_text) ≡ Insert 5 (Values (given 4) 5)) × IsPlain (understood up_schema insert_vehicle_text)
 unfolding understood everything
@@ -249,3 +253,23 @@ sets_vehicle items (Ok v) (Ok x) old new name primary version last survives insi
   where
     first_of : {a b : Row} → ◌≡◌ {A = List Row} (a ∷ []) (b ∷ []) → a ≡ b
     first_of e = cc
+
+-- ---- faults of the reads
+
+find_vehicle_takes : (name : List ℕ) → Takes find_vehicle_text (Text name ∷ []) (over 9 (equals 1 0 ∷ []) (all_columns 4) [])
+unfolding understood everything
+find_vehicle_takes name = (refl, refl, λ trees h. absurd (let e = h in cc))
+
+pub find_vehicle_blames : {X : Type 0} (items : X → List Row) (answer : Result X Error) (r : Result (Option VehicleRow) StoreFault) (old new : State) (name : List ℕ)
+    → IfErr answer (λ e. r ≡ Err (store_fault e)) → IfOk answer (λ v. IfErr r (λ fault. fault ≡ Store → ¬ ShowsOne ShowsVehicle (items v)))
+    → (HasCleanDisk new → IfOk answer (λ v. Shown find_vehicle_text (Text name ∷ []) old new (items v)))
+    → (HasCleanDisk new → IfErr answer (λ e. FailsToQuery find_vehicle_text (Text name ∷ []) old new e ⊎ IsTooLate find_vehicle_text (Text name ∷ []) old new e))
+    → BlamesDisk (HoldsBy vehicle_table 1 (λ rows_of. ShowsOne ShowsVehicle (rows_of name))) old new r
+find_vehicle_blames items answer r old new name =
+    named_blames items vehicle_table 0 find_vehicle_text (all_columns 4) names part vehicle_row name find_is (λ db. refl) (λ x. rw (column_after x 0, column_after x 1, column_after x 2, column_after x 3) refl) (λ x. refl) ShowsVehicle (λ x h. h) (find_vehicle_takes name) answer r old new
+
+-- ---- faults of the write
+
+pub vehicle_writes : (v : VehicleRow) → Writes insert_vehicle_text (vehicle_row v) (Insert 5 (Values (given 4) 5))
+unfolding understood everything
+vehicle_writes v = record { is = insert_is.0; plain = insert_is.1; writes = refl; whole = refl; count = refl }

@@ -1,18 +1,25 @@
 -- What a statement does within a transaction, where the disk has returned what was written so far. What it writes or finds is said where the
 -- whole schema is there, and of the other tables nothing is altered; of what makes a table or raises those of an older version, where the
 -- schema before it is there.
-use Rattle.std.specs.Prelude.{◌≡◌, ◌≤◌, ◌++◌, pos, ℕ, ℤ, List, [], ◌∷◌, Option, Some, Result, IfOk, OnOk, map, length, string_bytes}
+use Rattle.std.specs.Prelude.{◌≡◌, ◌≤◌, ◌++◌, pos, ℕ, ℤ, List, [], ◌∷◌, Option, Some, Result, IfOk, IfErr, OnOk, map, length, string_bytes, ◌⊎◌, Err, IsTrue}
 use Rattle.std.specs.Borrow.{MutBor}
 use Rattle.sqlite_rules.specs.Lists.{Has}
 use Rattle.sqlite_trees.specs.declared.store.Store.{Ghosts}
+use Rattle.sqlite_disk.specs.Disk.{MoreFaults}
 use Rattle.sqlite.specs.Held.{Held, state}
 use Rattle.sqlite.specs.Order.{Row}
 use Rattle.sqlite.specs.Schema.{Schema}
-use Rattle.sqlite.specs.State.{State, HasCleanDisk}
+use Rattle.sqlite.specs.State.{State, HasCleanDisk, IsStatement, mode_of, text_of}
 use Rattle.sqlite.specs.Table.{Table}
+use Rattle.sqlite.specs.Does.{Does}
+use Rattle.sqlite.specs.Clock.{timed}
+use Rattle.sqlite.specs.declared.error.Error.{Error}
+use Rattle.sqlite_resolve.specs.declared.compiled.Compiled.{Compiled}
 use Rattle.up_tables.specs.declared.meta.MetaRow.{MetaRow}
 use Rattle.up_tables.specs.declared.open.SchemaVersion.{SchemaVersion}
 use Rattle.up_tables.specs.declared.repo_file.FileRow.{FileRow}
+use Rattle.up_tables.specs.declared.values.StoreFault.{StoreFault}
+use Rattle.up_tables.specs.declared.values.StoreFault.TheVariants.{Store}
 use Rattle.up_tables.specs.declared.vehicle.VehicleRow.{VehicleRow}
 use Rattle.up_tables.specs.Forms.{file_row, meta_of, set_files, vehicle_row}
 use Rattle.up_tables.specs.Lines.{EcuLine, AreInPlace, AreRecorded, IsRecorded, campaign_line, ecu_row, meta_row, meta_row_of}
@@ -21,7 +28,7 @@ use Rattle.up_tables.specs.Listed.{TableRows, ListsTables}
 use Rattle.up_tables.specs.Makes.{MakesIn}
 use Rattle.up_tables.specs.Replaced.{replaced_line, with_replaced}
 use Rattle.up_tables.specs.Rows.{with_only, with_only_at}
-use Rattle.up_tables.specs.Stands.{AnyRows, GoesOn, IfClean, IsInside, IsOpen, IsWithin, HasTables, Alters, Lists, ListsAll, ListsPairs, Reads, Steps}
+use Rattle.up_tables.specs.Stands.{AnyRows, GoesOn, IfClean, IsInside, IsOpen, IsReadable, IsWithin, HasTables, Alters, Lists, ListsAll, ListsPairs, Reads, Steps}
 use Rattle.up_tables.specs.Tables.{campaign_table, ecu_table, meta_table, repo_file_table, up_schema, vehicle_table}
 use Rattle.up_tables.specs.Versions.{ListsAs, schema_of}
 
@@ -144,6 +151,43 @@ FindsEcus vehicle read old new result =
     HasCleanDisk new → IfOk result (λ found. (rows_of : List ℕ → List Row) (es : List EcuLine) → HasTables old
     → Lists 2 rows_of (old.now.trees ecu_table.tree) → rows_of vehicle ≡ map ecu_row es → AreInPlace vehicle 0 es
     → rows_of vehicle ≡ map ecu_row (read found))
+
+-- ---- faults of reads
+
+-- where the tables can be read, and P holds of them, `Store` is told only where the disk counted a fault
+abbrev pub BlamesDisk : {A : Type 0} → (State → Type 0) → State → State → Result A StoreFault → Type 0
+BlamesDisk P old new result =
+    HasCleanDisk new → IfErr result (λ fault. fault ≡ Store → IsReadable old → P old → MoreFaults old.faults new.faults)
+
+-- P holds of the table's rows, by the text in the column at this place
+abbrev pub HoldsBy : Table → ℕ → ((List ℕ → List Row) → Type 0) → State → Type 0
+HoldsBy table at P s = (rows_of : List ℕ → List Row) × Lists at rows_of (s.now.trees table.tree) × P rows_of
+
+-- of all its rows
+abbrev pub HoldsOfAll : Table → (List Row → Type 0) → State → Type 0
+HoldsOfAll table P s = (all : List Row) × ListsAll all (s.now.trees table.tree) × P all
+
+-- of the files' rows, by repository and name
+abbrev pub HoldsOfFiles : ((List ℕ → List ℕ → List Row) → Type 0) → State → Type 0
+HoldsOfFiles P s = (rows_of : List ℕ → List ℕ → List Row) × ListsPairs rows_of (s.now.trees repo_file_table.tree) × P rows_of
+
+-- `meta` has its one row
+abbrev pub HasMeta : State → Type 0
+HasMeta s = (root : ℕ) × (image_version : ℕ) × (stamp : ℕ) × (s.now.trees meta_table.tree ≡ meta_row root image_version stamp ∷ [])
+
+-- ---- faults of writes
+
+-- the text is a statement over what the connection has, which the database refuses with these values, or to which they are too long
+abbrev pub Refuses : List ℕ → Row → State → Type 0
+Refuses text values s =
+    (c : Compiled) × (it : IsStatement s text values c) × (e : Option Error)
+    × Does s.step_limit (mode_of s) (timed values c.formats it.now) s.now (text_of text c) c.returning c.command (Err e)
+
+-- over an open connection with the whole schema, `Store` is told only where the disk counted a fault, or the database refuses the statement
+abbrev pub BlamesRefusal : {A : Type 0} → List ℕ → Row → State → State → Result A StoreFault → Type 0
+BlamesRefusal text values old new result =
+    HasCleanDisk new → IfErr result (λ fault. fault ≡ Store → IsTrue old.is_open → HasTables old
+    → MoreFaults old.faults new.faults ⊎ Refuses text values old)
 
 -- ---- tables that are made, and raised to the latest version of the schema
 

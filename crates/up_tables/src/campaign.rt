@@ -1,13 +1,17 @@
 //! The rows of campaigns.
 
-ghost use Rattle.std.specs.Prelude.{◌≡◌, ℕ, pos, List, map, filter, bytes_eq, string_bytes};
+ghost use Rattle.std.specs.Prelude.{◌≡◌, ℕ, pos, List, map, filter, bytes_eq, string_bytes, ◌∷◌, []};
 ghost use Rattle.std.specs.Option.{option_to_list};
+ghost use Rattle.sqlite.specs.declared.types.Value.TheVariants.{Text};
 ghost use Rattle.sqlite.specs.Held.{state};
+ghost use Rattle.std.specs.List.{AllByRecursion};
+ghost use Rattle.up_tables.specs.Texts.{insert_campaign_text, close_campaign_text};
+ghost use Rattle.up_tables.specs.Kinds.{ShowsOne, ShowsCampaign};
 ghost use Rattle.up_tables.specs.Tables.{campaign_table};
 ghost use Rattle.up_tables.specs.Rows.{columns_at, has_number, with_row};
 ghost use Rattle.up_tables.specs.Forms.{campaign_places, campaign_row};
 ghost use Rattle.up_tables.specs.Stands.{IfClean, IsInside};
-ghost use Rattle.up_tables.specs.Statements.{IsOpenStep, AltersRows, ClosesCampaign, OnlyReads, Finds};
+ghost use Rattle.up_tables.specs.Statements.{IsOpenStep, AltersRows, ClosesCampaign, OnlyReads, Finds, BlamesDisk, HoldsBy, BlamesRefusal};
 
 use crate::reading::{Decode, at_most_one, each_row};
 use crate::values::{StoreFault, done, flag, flag_at, text_at, words};
@@ -25,10 +29,13 @@ pub struct CampaignRow {
 
 impl Decode for CampaignRow {
     ghost use Rattle.up_tables.specs.Forms.{campaign_places, campaign_row};
+    ghost use Rattle.up_tables.specs.Kinds.{ShowsCampaign};
 
     ghost places = { campaign_places };
 
     ghost values = { campaign_row };
+
+    ghost shows = { ShowsCampaign };
 
     fn decode(row: &Row) -> Result<CampaignRow, StoreFault> {
         Ok(CampaignRow {
@@ -48,6 +55,8 @@ pub fn insert_campaign<S: Alter>(
     requires mode { IfClean IsInside (state S.Store tx.old.conn.now) }
     ensures inserted { AltersRows campaign_table 1 (with_row (string_bytes campaign.now.name) (campaign_row campaign.now))
         (state S.Store tx.old.conn.now) (state S.Store tx.new.conn.now) result }
+    ensures blame { BlamesRefusal insert_campaign_text (campaign_row campaign.now)
+        (state S.Store tx.old.conn.now) (state S.Store tx.new.conn.now) result }
     ensures step { IsOpenStep S.Store tx.old.conn tx.new.conn result }
 {
     done(tx.execute(
@@ -65,6 +74,7 @@ pub fn insert_campaign<S: Alter>(
 pub fn close_campaign<S: Alter>(tx: &mut Transaction<'_, S>, name: &str) -> Result<(), StoreFault>
     requires mode { IfClean IsInside (state S.Store tx.old.conn.now) }
     ensures closed { ClosesCampaign name.now (state S.Store tx.old.conn.now) (state S.Store tx.new.conn.now) result }
+    ensures blame { BlamesRefusal close_campaign_text (Text name.now ∷ []) (state S.Store tx.old.conn.now) (state S.Store tx.new.conn.now) result }
     ensures step { IsOpenStep S.Store tx.old.conn tx.new.conn result }
 {
     done(tx.execute(
@@ -83,6 +93,8 @@ pub fn campaign<S: Alter>(
         (λ rows_of found. map (columns_at campaign_places) (rows_of name.now) ≡ map campaign_row (option_to_list found))
         (state S.Store tx.old.conn.now) (state S.Store tx.new.conn.now) result }
     ensures reads { OnlyReads (state S.Store tx.old.conn.now) (state S.Store tx.new.conn.now) result }
+    ensures blame { BlamesDisk (HoldsBy campaign_table 1 (λ rows_of. ShowsOne ShowsCampaign (rows_of name.now)))
+        (state S.Store tx.old.conn.now) (state S.Store tx.new.conn.now) result }
     ensures step { IsOpenStep S.Store tx.old.conn tx.new.conn result }
 {
     at_most_one(tx.query_all(
@@ -102,6 +114,8 @@ pub fn running_campaigns<S: Alter>(
         ≡ map campaign_row (filter (λ c. bytes_eq (string_bytes c.name) name) found.items))
         (state S.Store tx.old.conn.now) (state S.Store tx.new.conn.now) result }
     ensures reads { OnlyReads (state S.Store tx.old.conn.now) (state S.Store tx.new.conn.now) result }
+    ensures blame { BlamesDisk (HoldsBy campaign_table 1 (λ rows_of. (name : List ℕ) → AllByRecursion ShowsCampaign (filter (has_number 3 (pos 1)) (rows_of name))))
+        (state S.Store tx.old.conn.now) (state S.Store tx.new.conn.now) result }
     ensures step { IsOpenStep S.Store tx.old.conn tx.new.conn result }
 {
     each_row(

@@ -3,11 +3,14 @@
 ghost use Rattle.std.specs.Prelude.{◌≡◌, ℕ, List, map, filter, bytes_eq, string_bytes};
 ghost use Rattle.std.specs.Option.{option_to_list};
 ghost use Rattle.sqlite.specs.Held.{state};
+ghost use Rattle.std.specs.List.{AllByRecursion};
+ghost use Rattle.up_tables.specs.Texts.{insert_image_text};
+ghost use Rattle.up_tables.specs.Kinds.{ShowsOne, ShowsImage};
 ghost use Rattle.up_tables.specs.Tables.{image_table};
 ghost use Rattle.up_tables.specs.Rows.{columns_at, with_row};
 ghost use Rattle.up_tables.specs.Forms.{image_places, image_row, FitImage};
 ghost use Rattle.up_tables.specs.Stands.{IfClean, IsInside};
-ghost use Rattle.up_tables.specs.Statements.{IsOpenStep, AltersRows, OnlyReads, Finds};
+ghost use Rattle.up_tables.specs.Statements.{IsOpenStep, AltersRows, OnlyReads, Finds, BlamesDisk, HoldsBy, BlamesRefusal};
 
 use crate::reading::{Decode, at_most_one, each_row};
 use crate::values::{StoreFault, bytes, bytes_at, done, number, number_at, text_at, words};
@@ -28,10 +31,13 @@ pub struct ImageRow {
 
 impl Decode for ImageRow {
     ghost use Rattle.up_tables.specs.Forms.{image_places, image_row};
+    ghost use Rattle.up_tables.specs.Kinds.{ShowsImage};
 
     ghost places = { image_places };
 
     ghost values = { image_row };
+
+    ghost shows = { ShowsImage };
 
     fn decode(row: &Row) -> Result<ImageRow, StoreFault> {
         Ok(ImageRow {
@@ -55,6 +61,7 @@ pub fn insert_image<S: Alter>(
     requires mode { IfClean IsInside (state S.Store tx.old.conn.now) }
     ensures inserted { AltersRows image_table 1 (with_row (string_bytes image.now.file) (image_row image.now))
         (state S.Store tx.old.conn.now) (state S.Store tx.new.conn.now) result }
+    ensures blame { BlamesRefusal insert_image_text (image_row image.now) (state S.Store tx.old.conn.now) (state S.Store tx.new.conn.now) result }
     ensures step { IsOpenStep S.Store tx.old.conn tx.new.conn result }
 {
     done(tx.execute(
@@ -80,6 +87,8 @@ pub fn image<S: Alter>(
     ensures found { Finds image_table 1 (λ rows_of found. map (columns_at image_places) (rows_of file.now) ≡ map image_row (option_to_list found))
         (state S.Store tx.old.conn.now) (state S.Store tx.new.conn.now) result }
     ensures reads { OnlyReads (state S.Store tx.old.conn.now) (state S.Store tx.new.conn.now) result }
+    ensures blame { BlamesDisk (HoldsBy image_table 1 (λ rows_of. ShowsOne ShowsImage (rows_of file.now)))
+        (state S.Store tx.old.conn.now) (state S.Store tx.new.conn.now) result }
     ensures step { IsOpenStep S.Store tx.old.conn tx.new.conn result }
 {
     at_most_one(tx.query_all(
@@ -98,6 +107,8 @@ pub fn images<S: Alter>(
         → map (columns_at image_places) (rows_of name) ≡ map image_row (filter (λ i. bytes_eq (string_bytes i.file) name) found.items))
         (state S.Store tx.old.conn.now) (state S.Store tx.new.conn.now) result }
     ensures reads { OnlyReads (state S.Store tx.old.conn.now) (state S.Store tx.new.conn.now) result }
+    ensures blame { BlamesDisk (HoldsBy image_table 1 (λ rows_of. (name : List ℕ) → AllByRecursion ShowsImage (rows_of name)))
+        (state S.Store tx.old.conn.now) (state S.Store tx.new.conn.now) result }
     ensures step { IsOpenStep S.Store tx.old.conn tx.new.conn result }
 {
     each_row(

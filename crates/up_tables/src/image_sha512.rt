@@ -3,12 +3,15 @@
 ghost use Rattle.std.specs.Prelude.{◌≡◌, ℕ, List, map, filter, bytes_eq, string_bytes};
 ghost use Rattle.std.specs.Option.{option_to_list};
 ghost use Rattle.sqlite.specs.Held.{state};
+ghost use Rattle.std.specs.List.{AllByRecursion};
+ghost use Rattle.up_tables.specs.Texts.{insert_sha512_text};
+ghost use Rattle.up_tables.specs.Kinds.{ShowsOne, ShowsSha512};
 ghost use Rattle.up_tables.specs.Tables.{image_sha512_table};
 ghost use Rattle.up_tables.specs.Rows.{columns_at, with_row};
 ghost use Rattle.up_tables.specs.Lines.{sha512_line};
 ghost use Rattle.up_tables.specs.Forms.{sha512_places, sha512_row};
 ghost use Rattle.up_tables.specs.Stands.{IfClean, IsInside};
-ghost use Rattle.up_tables.specs.Statements.{IsOpenStep, AltersRows, OnlyReads, Finds};
+ghost use Rattle.up_tables.specs.Statements.{IsOpenStep, AltersRows, OnlyReads, Finds, BlamesDisk, HoldsBy, BlamesRefusal};
 
 use crate::reading::{Decode, at_most_one, each_row};
 use crate::values::{StoreFault, bytes, bytes_at, done, text_at, words};
@@ -24,10 +27,13 @@ pub struct Sha512Row {
 
 impl Decode for Sha512Row {
     ghost use Rattle.up_tables.specs.Forms.{sha512_places, sha512_row};
+    ghost use Rattle.up_tables.specs.Kinds.{ShowsSha512};
 
     ghost places = { sha512_places };
 
     ghost values = { sha512_row };
+
+    ghost shows = { ShowsSha512 };
 
     fn decode(row: &Row) -> Result<Sha512Row, StoreFault> {
         Ok(Sha512Row {
@@ -45,6 +51,8 @@ pub fn insert_image_sha512<S: Alter>(
 ) -> Result<(), StoreFault>
     requires mode { IfClean IsInside (state S.Store tx.old.conn.now) }
     ensures inserted { AltersRows image_sha512_table 1 (with_row file.now (sha512_line file.now sha512.now))
+        (state S.Store tx.old.conn.now) (state S.Store tx.new.conn.now) result }
+    ensures blame { BlamesRefusal insert_sha512_text (sha512_line file.now sha512.now)
         (state S.Store tx.old.conn.now) (state S.Store tx.new.conn.now) result }
     ensures step { IsOpenStep S.Store tx.old.conn tx.new.conn result }
 {
@@ -64,6 +72,8 @@ pub fn image_sha512<S: Alter>(
         (λ rows_of found. map (columns_at sha512_places) (rows_of file.now) ≡ map sha512_row (option_to_list found))
         (state S.Store tx.old.conn.now) (state S.Store tx.new.conn.now) result }
     ensures reads { OnlyReads (state S.Store tx.old.conn.now) (state S.Store tx.new.conn.now) result }
+    ensures blame { BlamesDisk (HoldsBy image_sha512_table 1 (λ rows_of. ShowsOne ShowsSha512 (rows_of file.now)))
+        (state S.Store tx.old.conn.now) (state S.Store tx.new.conn.now) result }
     ensures step { IsOpenStep S.Store tx.old.conn tx.new.conn result }
 {
     at_most_one(tx.query_all(
@@ -82,6 +92,8 @@ pub fn image_sha512s<S: Alter>(
         → map (columns_at sha512_places) (rows_of name) ≡ map sha512_row (filter (λ i. bytes_eq (string_bytes i.file) name) found.items))
         (state S.Store tx.old.conn.now) (state S.Store tx.new.conn.now) result }
     ensures reads { OnlyReads (state S.Store tx.old.conn.now) (state S.Store tx.new.conn.now) result }
+    ensures blame { BlamesDisk (HoldsBy image_sha512_table 1 (λ rows_of. (name : List ℕ) → AllByRecursion ShowsSha512 (rows_of name)))
+        (state S.Store tx.old.conn.now) (state S.Store tx.new.conn.now) result }
     ensures step { IsOpenStep S.Store tx.old.conn tx.new.conn result }
 {
     each_row(

@@ -3,11 +3,13 @@
 ghost use Rattle.std.specs.Prelude.{◌≡◌, ◌<◌, ◌^◌, pos, map, filter, string_bytes};
 ghost use Rattle.std.specs.Option.{option_to_list};
 ghost use Rattle.sqlite.specs.Held.{state};
+ghost use Rattle.up_tables.specs.Texts.{insert_kept_text};
+ghost use Rattle.up_tables.specs.Kinds.{ShowsOne, ShowsKept};
 ghost use Rattle.up_tables.specs.Tables.{kept_table};
 ghost use Rattle.up_tables.specs.Rows.{columns_at, has_number, with_row};
 ghost use Rattle.up_tables.specs.Forms.{kept_places, kept_row, FitKept};
 ghost use Rattle.up_tables.specs.Stands.{IfClean, IsInside};
-ghost use Rattle.up_tables.specs.Statements.{IsOpenStep, AltersRows, OnlyReads, Finds};
+ghost use Rattle.up_tables.specs.Statements.{IsOpenStep, AltersRows, OnlyReads, Finds, BlamesDisk, HoldsBy, BlamesRefusal};
 
 use crate::reading::{Decode, at_most_one};
 use crate::values::{StoreFault, done, number, number_at, text_at, words};
@@ -28,10 +30,13 @@ pub struct KeptRow {
 
 impl Decode for KeptRow {
     ghost use Rattle.up_tables.specs.Forms.{kept_places, kept_row};
+    ghost use Rattle.up_tables.specs.Kinds.{ShowsKept};
 
     ghost places = { kept_places };
 
     ghost values = { kept_row };
+
+    ghost shows = { ShowsKept };
 
     fn decode(row: &Row) -> Result<KeptRow, StoreFault> {
         Ok(KeptRow {
@@ -53,6 +58,7 @@ pub fn insert_kept<S: Alter>(tx: &mut Transaction<'_, S>, kept: &KeptRow) -> Res
     requires mode { IfClean IsInside (state S.Store tx.old.conn.now) }
     ensures inserted { AltersRows kept_table 1 (with_row (string_bytes kept.now.vehicle) (kept_row kept.now))
         (state S.Store tx.old.conn.now) (state S.Store tx.new.conn.now) result }
+    ensures blame { BlamesRefusal insert_kept_text (kept_row kept.now) (state S.Store tx.old.conn.now) (state S.Store tx.new.conn.now) result }
     ensures step { IsOpenStep S.Store tx.old.conn tx.new.conn result }
 {
     done(tx.execute(
@@ -83,6 +89,8 @@ pub fn kept<S: Alter>(
         ≡ map kept_row (option_to_list found))
         (state S.Store tx.old.conn.now) (state S.Store tx.new.conn.now) result }
     ensures reads { OnlyReads (state S.Store tx.old.conn.now) (state S.Store tx.new.conn.now) result }
+    ensures blame { BlamesDisk (HoldsBy kept_table 1 (λ rows_of. ShowsOne ShowsKept (filter (has_number 1 (pos counter)) (rows_of vehicle.now))))
+        (state S.Store tx.old.conn.now) (state S.Store tx.new.conn.now) result }
     ensures step { IsOpenStep S.Store tx.old.conn tx.new.conn result }
 {
     at_most_one(tx.query_all(

@@ -1,9 +1,10 @@
 //! The row of `meta`.
 
 ghost use Rattle.sqlite.specs.Held.{state};
-ghost use Rattle.up_tables.specs.Forms.{FitMeta};
+ghost use Rattle.up_tables.specs.Texts.{update_meta_text};
+ghost use Rattle.up_tables.specs.Forms.{FitMeta, meta_values};
 ghost use Rattle.up_tables.specs.Stands.{IfClean, IsInside};
-ghost use Rattle.up_tables.specs.Statements.{IsOpenStep, SetsMeta, OnlyReads, FindsMeta};
+ghost use Rattle.up_tables.specs.Statements.{IsOpenStep, SetsMeta, OnlyReads, FindsMeta, BlamesDisk, HasMeta, BlamesRefusal};
 
 use crate::reading::{Decode, at_most_one};
 use crate::values::{StoreFault, done, number, number_at};
@@ -19,10 +20,13 @@ pub struct MetaRow {
 
 impl Decode for MetaRow {
     ghost use Rattle.up_tables.specs.Forms.{meta_places, meta_values};
+    ghost use Rattle.up_tables.specs.Kinds.{ShowsMeta};
 
     ghost places = { meta_places };
 
     ghost values = { meta_values };
+
+    ghost shows = { ShowsMeta };
 
     fn decode(row: &Row) -> Result<MetaRow, StoreFault> {
         Ok(MetaRow {
@@ -38,6 +42,7 @@ pub fn update_meta<S: Alter>(tx: &mut Transaction<'_, S>, meta: &MetaRow) -> Res
     requires fit { FitMeta meta.now }
     requires mode { IfClean IsInside (state S.Store tx.old.conn.now) }
     ensures set { SetsMeta meta.now (state S.Store tx.old.conn.now) (state S.Store tx.new.conn.now) result }
+    ensures blame { BlamesRefusal update_meta_text (meta_values meta.now) (state S.Store tx.old.conn.now) (state S.Store tx.new.conn.now) result }
     ensures step { IsOpenStep S.Store tx.old.conn tx.new.conn result }
 {
     done(tx.execute(
@@ -55,6 +60,7 @@ pub fn meta<S: Alter>(tx: &mut Transaction<'_, S>) -> Result<Option<MetaRow>, St
     requires mode { IfClean IsInside (state S.Store tx.old.conn.now) }
     ensures found { FindsMeta (state S.Store tx.old.conn.now) (state S.Store tx.new.conn.now) result }
     ensures reads { OnlyReads (state S.Store tx.old.conn.now) (state S.Store tx.new.conn.now) result }
+    ensures blame { BlamesDisk HasMeta (state S.Store tx.old.conn.now) (state S.Store tx.new.conn.now) result }
     ensures step { IsOpenStep S.Store tx.old.conn tx.new.conn result }
 {
     at_most_one(tx.query_all(

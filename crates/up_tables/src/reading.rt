@@ -1,9 +1,11 @@
 //! Rows that are read.
 
 ghost use Rattle.std.specs.Prelude.{◌≡◌, ◌≢◌, ◌≤◌, Option, None, List, [], Ok, Err, map, length, IfOk, IfErr};
+ghost use Rattle.std.specs.List.{AllByRecursion};
 ghost use Rattle.std.specs.Option.{option_to_list};
 ghost use Rattle.std.specs.Result.{IsOkAnd};
 ghost use Rattle.up_tables.specs.Faults.{store_fault};
+ghost use Rattle.up_tables.specs.Kinds.{ShowsOne};
 ghost use Rattle.up_tables.specs.Rows.{columns_at};
 ghost use Rattle.up_tables.specs.declared.values.StoreFault.TheVariants as StoreFault;
 
@@ -18,25 +20,31 @@ pub trait Decode: Sized {
     ghost use Rattle.up_tables.specs.Rows.{columns_at};
     ghost use Rattle.up_tables.specs.declared.values.StoreFault.TheVariants as StoreFault;
 
-    // The columns that are read, and the values of what is read of them.
+    // The columns that are read, the values of what is read of them, and which rows have columns of the right kinds.
     ghost places: { List ℕ };
 
     ghost values: { Self → Values };
 
+    ghost shows: { Values → Type 0 };
+
     /// Reads it; `Store` where the row isn't one that shows a value.
     fn decode(row: &Row) -> Result<Self, StoreFault>
         ensures ok { IfOk result (λ x. columns_at places row.now ≡ values x) }
-        ensures fault { IfErr result (λ fault. fault ≡ StoreFault.Store → (x : Self) → columns_at places row.now ≢ values x) };
+        ensures fault { IfErr result (λ fault. fault ≡ StoreFault.Store → (x : Self) → columns_at places row.now ≢ values x) }
+        ensures kinds { IfErr result (λ fault. fault ≡ StoreFault.Store → ¬ shows row.now) };
 }
 
 /// A text, the one column that is read.
 impl Decode for String {
     ghost use Rattle.std.specs.Prelude.{◌∷◌, [], string_bytes};
     ghost use Rattle.sqlite.specs.declared.types.Value.TheVariants.{Text};
+    ghost use Rattle.up_tables.specs.Kinds.{ShowsWords};
 
     ghost places = { 0 ∷ [] };
 
     ghost values = { λ text. Text (string_bytes text) ∷ [] };
+
+    ghost shows = { ShowsWords };
 
     fn decode(row: &Row) -> Result<String, StoreFault> {
         text_at(row, 0)
@@ -51,6 +59,7 @@ pub fn at_most_one<T: Decode + Drop>(
     ensures fault { IfErr answer (λ e. result ≡ Err (store_fault e)) }
     ensures damaged { IfOk answer (λ rows. IfErr result (λ fault. fault ≡ StoreFault.Store
         → (found : Option T) → map (columns_at T.places) rows.items ≢ map T.values (option_to_list found))) }
+    ensures kinds { IfOk answer (λ rows. IfErr result (λ fault. fault ≡ StoreFault.Store → ¬ ShowsOne T.shows rows.items)) }
     ensures none { IfOk answer (λ rows. rows.items ≡ [] → result ≡ Ok None) }
     ensures several { IfOk answer (λ rows. 2 ≤ length rows.items → result ≡ Err StoreFault.Store) }
 {
@@ -65,6 +74,7 @@ fn only<T: Decode + Drop>(rows: &[Row]) -> Result<Option<T>, StoreFault>
     ensures ok { IfOk result (λ found. map (columns_at T.places) rows.now ≡ map T.values (option_to_list found)) }
     ensures fault { IfErr result (λ fault. fault ≡ StoreFault.Store
         → (found : Option T) → map (columns_at T.places) rows.now ≢ map T.values (option_to_list found)) }
+    ensures kinds { IfErr result (λ fault. fault ≡ StoreFault.Store → ¬ ShowsOne T.shows rows.now) }
     ensures none { rows.now ≡ [] → result ≡ Ok None }
     ensures several { 2 ≤ length rows.now → result ≡ Err StoreFault.Store }
 {
@@ -87,6 +97,7 @@ pub fn each_row<T: Decode + Drop>(
     ensures fault { IfErr answer (λ e. result ≡ Err (store_fault e)) }
     ensures damaged { IfOk answer (λ rows. IfErr result (λ fault. fault ≡ StoreFault.Store
         → (read : List T) → map (columns_at T.places) rows.items ≢ map T.values read)) }
+    ensures kinds { IfOk answer (λ rows. IfErr result (λ fault. fault ≡ StoreFault.Store → ¬ AllByRecursion T.shows rows.items)) }
 {
     match answer {
         Ok(rows) => each_of(alloc, &rows),
@@ -98,6 +109,7 @@ pub fn each_row<T: Decode + Drop>(
 fn each_of<T: Decode + Drop>(alloc: Global, rows: &[Row]) -> Result<Vec<T>, StoreFault>
     ensures ok { IfOk result (λ read. map (columns_at T.places) rows.now ≡ map T.values read.items) }
     ensures fault { IfErr result (λ fault. fault ≡ StoreFault.Store → (read : List T) → map (columns_at T.places) rows.now ≢ map T.values read) }
+    ensures kinds { IfErr result (λ fault. fault ≡ StoreFault.Store → ¬ AllByRecursion T.shows rows.now) }
 {
     let mut read = Vec::with_capacity(alloc, rows.len())?;
     for row in rows {

@@ -3,10 +3,11 @@
 ghost use Rattle.std.specs.Prelude.{◌≡◌, map};
 ghost use Rattle.std.specs.Option.{option_to_list};
 ghost use Rattle.sqlite.specs.Held.{state};
+ghost use Rattle.up_tables.specs.Kinds.{ShowsOne, ShowsFile};
 ghost use Rattle.up_tables.specs.Rows.{columns_at};
 ghost use Rattle.up_tables.specs.Forms.{file_places, file_row};
 ghost use Rattle.up_tables.specs.Stands.{IfClean, IsInside, IsOpen};
-ghost use Rattle.up_tables.specs.Statements.{IsOpenStep, SetsFile, SetsFiles, OnlyReads, FindsFiles};
+ghost use Rattle.up_tables.specs.Statements.{IsOpenStep, SetsFile, SetsFiles, OnlyReads, FindsFiles, BlamesDisk, HoldsOfFiles};
 
 use crate::reading::{Decode, at_most_one};
 use crate::values::{StoreFault, done, text_at, words};
@@ -22,10 +23,13 @@ pub struct FileRow {
 
 impl Decode for FileRow {
     ghost use Rattle.up_tables.specs.Forms.{file_places, file_row};
+    ghost use Rattle.up_tables.specs.Kinds.{ShowsFile};
 
     ghost places = { file_places };
 
     ghost values = { file_row };
+
+    ghost shows = { ShowsFile };
 
     fn decode(row: &Row) -> Result<FileRow, StoreFault> {
         Ok(FileRow {
@@ -78,6 +82,8 @@ pub fn file<S: Alter>(
     ensures found { FindsFiles (λ rows_of found. map (columns_at file_places) (rows_of repository.now name.now) ≡ map file_row (option_to_list found))
         (state S.Store tx.old.conn.now) (state S.Store tx.new.conn.now) result }
     ensures reads { OnlyReads (state S.Store tx.old.conn.now) (state S.Store tx.new.conn.now) result }
+    ensures blame { BlamesDisk (HoldsOfFiles (λ rows_of. ShowsOne ShowsFile (rows_of repository.now name.now)))
+        (state S.Store tx.old.conn.now) (state S.Store tx.new.conn.now) result }
     ensures step { IsOpenStep S.Store tx.old.conn tx.new.conn result }
 {
     at_most_one(tx.query_all(

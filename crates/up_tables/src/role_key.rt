@@ -2,11 +2,13 @@
 
 ghost use Rattle.std.specs.Prelude.{◌≡◌, ◌<◌, ◌∷◌, [], ◌^◌, pos, map, filter, All};
 ghost use Rattle.sqlite.specs.Held.{state};
+ghost use Rattle.std.specs.List.{AllByRecursion};
+ghost use Rattle.up_tables.specs.Kinds.{ShowsRoleKey};
 ghost use Rattle.up_tables.specs.Tables.{role_key_table};
 ghost use Rattle.up_tables.specs.Rows.{columns_at, has_number};
 ghost use Rattle.up_tables.specs.Forms.{role_key_places, role_key_row, FitRoleKey};
 ghost use Rattle.up_tables.specs.Stands.{IfClean, IsInside, IsOpen};
-ghost use Rattle.up_tables.specs.Statements.{IsOpenStep, AppendsRows, OnlyReads, FindsAll};
+ghost use Rattle.up_tables.specs.Statements.{IsOpenStep, AppendsRows, OnlyReads, FindsAll, BlamesDisk, HoldsOfAll};
 
 use crate::reading::{Decode, each_row};
 use crate::values::{StoreFault, bytes, bytes_at, done, number, number_at, text_at, words};
@@ -26,10 +28,13 @@ pub struct RoleKeyRow {
 
 impl Decode for RoleKeyRow {
     ghost use Rattle.up_tables.specs.Forms.{role_key_places, role_key_row};
+    ghost use Rattle.up_tables.specs.Kinds.{ShowsRoleKey};
 
     ghost places = { role_key_places };
 
     ghost values = { role_key_row };
+
+    ghost shows = { ShowsRoleKey };
 
     fn decode(row: &Row) -> Result<RoleKeyRow, StoreFault> {
         Ok(RoleKeyRow {
@@ -95,6 +100,8 @@ pub fn role_keys_of<S: Alter>(
         (λ all found. map (columns_at role_key_places) (filter (has_number 0 (pos root)) all) ≡ map role_key_row found.items)
         (state S.Store tx.old.conn.now) (state S.Store tx.new.conn.now) result }
     ensures reads { OnlyReads (state S.Store tx.old.conn.now) (state S.Store tx.new.conn.now) result }
+    ensures blame { BlamesDisk (HoldsOfAll role_key_table (λ all. AllByRecursion ShowsRoleKey (filter (has_number 0 (pos root)) all)))
+        (state S.Store tx.old.conn.now) (state S.Store tx.new.conn.now) result }
     ensures step { IsOpenStep S.Store tx.old.conn tx.new.conn result }
 {
     each_row(
@@ -115,6 +122,8 @@ pub fn role_keys<S: Alter>(
     ensures found { FindsAll role_key_table (λ all found. map (columns_at role_key_places) all ≡ map role_key_row found.items)
         (state S.Store tx.old.conn.now) (state S.Store tx.new.conn.now) result }
     ensures reads { OnlyReads (state S.Store tx.old.conn.now) (state S.Store tx.new.conn.now) result }
+    ensures blame { BlamesDisk (HoldsOfAll role_key_table (AllByRecursion ShowsRoleKey))
+        (state S.Store tx.old.conn.now) (state S.Store tx.new.conn.now) result }
     ensures step { IsOpenStep S.Store tx.old.conn tx.new.conn result }
 {
     each_row(

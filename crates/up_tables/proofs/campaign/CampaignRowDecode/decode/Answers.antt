@@ -19,3 +19,15 @@ pub returns-in_err-text_at-3-clause-fault : goal.returns-in_err-text_at-3-clause
 returns-in_err-text_at-3-clause-fault c =
     handed_on c.from_residual-in_err-text_at-3.result c.in_err-text_at-3.field-0.0 _ c.from_residual-in_err-text_at-3.ensures.1
     (λ is (x : CampaignRow) same. c.in_err-text_at-3.ensures.fault is (string_bytes x.items) (IsUtf8-string_bytes x.items) (ap (λ (v : Row). column v 2) same))
+
+pub returns-in_err-text_at-clause-kinds : goal.returns-in_err-text_at-clause-kinds
+returns-in_err-text_at-clause-kinds c = handed_on c.from_residual.result c.in_err-text_at.field-0.0 _ c.from_residual.ensures.1 (λ is shown. c.in_err-text_at.ensures.fault is shown.0.0 shown.0.2 shown.0.1)
+
+pub returns-in_err-text_at-2-clause-kinds : goal.returns-in_err-text_at-2-clause-kinds
+returns-in_err-text_at-2-clause-kinds c = handed_on c.from_residual-in_err-text_at-2.result c.in_err-text_at-2.field-0.0 _ c.from_residual-in_err-text_at-2.ensures.1 (λ is shown. c.in_err-text_at-2.ensures.fault is shown.1.0 shown.1.2 shown.1.1)
+
+pub returns-in_err-text_at-3-clause-kinds : goal.returns-in_err-text_at-3-clause-kinds
+returns-in_err-text_at-3-clause-kinds c = handed_on c.from_residual-in_err-text_at-3.result c.in_err-text_at-3.field-0.0 _ c.from_residual-in_err-text_at-3.ensures.1 (λ is shown. c.in_err-text_at-3.ensures.fault is shown.2.0 shown.2.2 shown.2.1)
+
+pub returns-in_err-flag_at-clause-kinds : goal.returns-in_err-flag_at-clause-kinds
+returns-in_err-flag_at-clause-kinds c = handed_on c.from_residual-in_err-flag_at.result c.in_err-flag_at.field-0.0 _ c.from_residual-in_err-flag_at.ensures.1 (λ is shown. c.in_err-flag_at.ensures.fault.1 shown.3.0 shown.3.1)

@@ -24,3 +24,24 @@ pub returns-in_err-text_at-4-clause-fault : goal.returns-in_err-text_at-4-clause
 returns-in_err-text_at-4-clause-fault c =
     handed_on c.from_residual-in_err-text_at-4.result c.in_err-text_at-4.field-0.0 _ c.from_residual-in_err-text_at-4.ensures.1
     (λ is (x : ImageRow) same. c.in_err-text_at-4.ensures.fault is (string_bytes x.conflicts) (IsUtf8-string_bytes x.conflicts) (ap (λ (v : Row). column v 6) same))
+
+pub returns-in_err-text_at-clause-kinds : goal.returns-in_err-text_at-clause-kinds
+returns-in_err-text_at-clause-kinds c = handed_on c.from_residual.result c.in_err-text_at.field-0.0 _ c.from_residual.ensures.1 (λ is shown. c.in_err-text_at.ensures.fault is shown.0.0 shown.0.2 shown.0.1)
+
+pub returns-in_err-number_at-clause-kinds : goal.returns-in_err-number_at-clause-kinds
+returns-in_err-number_at-clause-kinds c = handed_on c.from_residual-in_err-number_at.result c.in_err-number_at.field-0.0 _ c.from_residual-in_err-number_at.ensures.1 (λ is shown. c.in_err-number_at.ensures.fault.1 shown.1.0 shown.1.1)
+
+pub returns-in_err-bytes_at-clause-kinds : goal.returns-in_err-bytes_at-clause-kinds
+returns-in_err-bytes_at-clause-kinds c = handed_on c.from_residual-in_err-bytes_at.result c.in_err-bytes_at.field-0.0 _ c.from_residual-in_err-bytes_at.ensures.1 (λ is shown. c.in_err-bytes_at.ensures.fault is shown.2.0 shown.2.1)
+
+pub returns-in_err-text_at-2-clause-kinds : goal.returns-in_err-text_at-2-clause-kinds
+returns-in_err-text_at-2-clause-kinds c = handed_on c.from_residual-in_err-text_at-2.result c.in_err-text_at-2.field-0.0 _ c.from_residual-in_err-text_at-2.ensures.1 (λ is shown. c.in_err-text_at-2.ensures.fault is shown.3.0 shown.3.2 shown.3.1)
+
+pub returns-in_err-number_at-2-clause-kinds : goal.returns-in_err-number_at-2-clause-kinds
+returns-in_err-number_at-2-clause-kinds c = handed_on c.from_residual-in_err-number_at-2.result c.in_err-number_at-2.field-0.0 _ c.from_residual-in_err-number_at-2.ensures.1 (λ is shown. c.in_err-number_at-2.ensures.fault.1 shown.4.0 shown.4.1)
+
+pub returns-in_err-text_at-3-clause-kinds : goal.returns-in_err-text_at-3-clause-kinds
+returns-in_err-text_at-3-clause-kinds c = handed_on c.from_residual-in_err-text_at-3.result c.in_err-text_at-3.field-0.0 _ c.from_residual-in_err-text_at-3.ensures.1 (λ is shown. c.in_err-text_at-3.ensures.fault is shown.5.0 shown.5.2 shown.5.1)
+
+pub returns-in_err-text_at-4-clause-kinds : goal.returns-in_err-text_at-4-clause-kinds
+returns-in_err-text_at-4-clause-kinds c = handed_on c.from_residual-in_err-text_at-4.result c.in_err-text_at-4.field-0.0 _ c.from_residual-in_err-text_at-4.ensures.1 (λ is shown. c.in_err-text_at-4.ensures.fault is shown.6.0 shown.6.2 shown.6.1)

@@ -19,3 +19,12 @@ pub returns-in_err-text_at-3-clause-fault : goal.returns-in_err-text_at-3-clause
 returns-in_err-text_at-3-clause-fault c =
     handed_on c.from_residual-in_err-text_at-3.result c.in_err-text_at-3.field-0.0 _ c.from_residual-in_err-text_at-3.ensures.1
     (λ is (x : FileRow) same. c.in_err-text_at-3.ensures.fault is (string_bytes x.body) (IsUtf8-string_bytes x.body) (ap (λ (v : Row). column v 2) same))
+
+pub returns-in_err-text_at-clause-kinds : goal.returns-in_err-text_at-clause-kinds
+returns-in_err-text_at-clause-kinds c = handed_on c.from_residual.result c.in_err-text_at.field-0.0 _ c.from_residual.ensures.1 (λ is shown. c.in_err-text_at.ensures.fault is shown.0.0 shown.0.2 shown.0.1)
+
+pub returns-in_err-text_at-2-clause-kinds : goal.returns-in_err-text_at-2-clause-kinds
+returns-in_err-text_at-2-clause-kinds c = handed_on c.from_residual-in_err-text_at-2.result c.in_err-text_at-2.field-0.0 _ c.from_residual-in_err-text_at-2.ensures.1 (λ is shown. c.in_err-text_at-2.ensures.fault is shown.1.0 shown.1.2 shown.1.1)
+
+pub returns-in_err-text_at-3-clause-kinds : goal.returns-in_err-text_at-3-clause-kinds
+returns-in_err-text_at-3-clause-kinds c = handed_on c.from_residual-in_err-text_at-3.result c.in_err-text_at-3.field-0.0 _ c.from_residual-in_err-text_at-3.ensures.1 (λ is shown. c.in_err-text_at-3.ensures.fault is shown.2.0 shown.2.2 shown.2.1)
