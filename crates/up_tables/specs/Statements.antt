@@ -177,7 +177,8 @@ HasMeta s = (root : ℕ) × (image_version : ℕ) × (stamp : ℕ) × (s.now.tre
 
 -- ---- faults of writes
 
--- the text is a statement over what the connection has, which the database refuses with these values, or to which they are too long
+-- the text is a statement over what the connection has, which the database refuses with these values, or whose row it can't store; where a limit is
+-- set on the steps of a query, it may be any
 abbrev pub Refuses : List ℕ → Row → State → Type 0
 Refuses text values s =
     (c : Compiled) × (it : IsStatement s text values c) × (e : Option Error)
