@@ -1,2 +1,3 @@
 pub mod Adopting
+pub mod Closing
 pub mod NewFiles

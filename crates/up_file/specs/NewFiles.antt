@@ -10,3 +10,8 @@ abbrev pub new_file_fault : ErrorKind → Result (Unit {0}) OpenFault
 new_file_fault AlreadyExists = Ok tt
 new_file_fault OutOfMemory = Err Memory
 new_file_fault _ = Err Store
+
+-- the same of the answer to the making of a file
+abbrev pub made_fault : Result (Unit {0}) ErrorKind → Result (Unit {0}) OpenFault
+made_fault (Ok _) = Ok tt
+made_fault (Err kind) = new_file_fault kind

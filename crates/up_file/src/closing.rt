@@ -1,18 +1,21 @@
 //! Closing a database file.
 
-ghost use Rattle.std.specs.Prelude.{IfOk};
+ghost use Rattle.std.specs.Prelude.{IfOk, IfErr};
 ghost use Rattle.sqlite.specs.Closing.{IsCopied};
 ghost use Rattle.sqlite_wal.specs.Reads.{AreClean};
+ghost use Rattle.up_file.specs.Closing.{FailsClosing};
 
 use sqlite::{Connection, FileStore, Files};
 use sqlite_disk::Disk;
 use up_tables::values::{StoreFault, fault_of};
 
 /// Copies the log into the database file, and gives the files back: the database file then holds the last
-/// commit by itself, also after a crash. After a fault the two files hold it together, as they did before.
+/// commit by itself, also after a crash. After a fault the two files hold it together, as they did before:
+/// `Store` only where the disk counted a failure or the connection was shut.
 /// What no transaction committed is left out.
 pub fn close_file<D: Disk + Drop>(conn: Connection<FileStore<D>>) -> Result<Files<D>, StoreFault>
     ensures copied { IfOk result (λ files. AreClean D.Disk files.log files.db → IsCopied conn files) }
+    ensures failed { IfErr result (FailsClosing conn) }
 {
     match conn.close_files() {
         Ok(files) => Ok(files),

@@ -1,6 +1,7 @@
 //! Opening a database file.
 
 ghost use Rattle.std.specs.Prelude.{◌≡◌, ◌≢◌, ◌++◌, ℕ, List, false, true, IfOk, IfErr, codes, Err};
+ghost use Rattle.std.specs.Fs.{new_options, with_create_new, with_read, with_write};
 ghost use Rattle.sqlite.specs.Files.{file_state, IsBlankAs, IsOpened};
 ghost use Rattle.std.specs.Prelude.{None};
 ghost use Rattle.sqlite.specs.Start.{FindsIn};
@@ -8,7 +9,7 @@ ghost use Rattle.sqlite.specs.State.{HasCleanDisk};
 ghost use Rattle.sqlite.specs.WalFiles.{image_at};
 ghost use Rattle.sqlite_store.specs.FileStore.{view};
 ghost use Rattle.up_tables.specs.Faults.{open_fault};
-ghost use Rattle.up_file.specs.NewFiles.{new_file_fault};
+ghost use Rattle.up_file.specs.NewFiles.{new_file_fault, made_fault};
 ghost use Rattle.up_tables.specs.declared.open.OpenFault.TheVariants.{NotOurs};
 
 use sqlite::{Connection, Error, ErrorCode, FileFrom, FileStore, Start};
@@ -45,7 +46,7 @@ pub fn open_file<S: Start>(
     if path == ":memory:" || path.starts_with("file:") {
         return Err(OpenFault::Store);
     }
-    make_for_owner(rt, path)?;
+    made(make_for_owner(rt, path))?;
     match Connection::open_from(rt, path, true, start) {
         Ok(conn) => Ok(conn),
         Err((error, _)) => Err(opening_fault(error)),
@@ -53,18 +54,30 @@ pub fn open_file<S: Start>(
 }
 
 /// Makes an empty file that its owner alone may read and write, where nothing has that name.
-fn make_for_owner(rt: &HostRuntime, path: &str) -> Result<(), OpenFault>
-    ensures { IfErr result (λ e. e ≢ NotOurs) }
-{
-    let made = OpenOptions::new()
-        .read(true)
-        .write(true)
-        .create_new(true)
-        .mode(FOR_OWNER)
-        .open(rt, path);
-    match made {
+fn make_for_owner(rt: &HostRuntime, path: &str) -> Result<(), io::ErrorKind> {
+    match new_file().mode(FOR_OWNER).open(rt, path) {
         Ok(_) => Ok(()),
-        Err(error) => not_made(error.kind()),
+        Err(error) => Err(error.kind()),
+    }
+}
+
+/// How a file is made: to be read and written, and only where nothing has its name.
+fn new_file() -> OpenOptions
+    ensures { result ≡ with_create_new (with_write (with_read new_options true) true) true }
+{
+    let mut options = OpenOptions::new();
+    options.read(true).write(true).create_new(true);
+    options
+}
+
+/// What is told where a file was made, or was not.
+fn made(made: Result<(), io::ErrorKind>) -> Result<(), OpenFault>
+    ensures told { result ≡ made_fault made }
+    ensures known { IfErr result (λ e. e ≢ NotOurs) }
+{
+    match made {
+        Ok(()) => Ok(()),
+        Err(kind) => not_made(kind),
     }
 }
 
