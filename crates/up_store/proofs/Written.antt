@@ -1,22 +1,15 @@
 -- A write from the start of its transaction to its commit.
-use Rattle.std.proofs.Common.{◌≡◌, inl, inr, [], Result, Ok, Err, OnOk, IfErr, OnErr, IsTrue, sym, ap, subst, true, false, ◌∙◌, arith}
-use Rattle.std.specs.Result.{IsOk}
-use Rattle.sqlite.specs.declared.error.Error.{Error}
-use Rattle.sqlite.specs.Steps.{FailsToCommit}
-use Rattle.sqlite_trees.specs.declared.error.StoreError.{StoreError}
-use Rattle.sqlite_trees.specs.declared.error.StoreError.TheVariants.{OutOfMemory, Io, Corrupt, Full, Broken, Unstorable}
-use Rattle.up_tables.specs.Faults.{store_fault}
-use Rattle.up_tables.specs.declared.values.StoreFault.TheVariants.{Memory, Store}
+use Rattle.std.proofs.Common.{◌≡◌, Result, Ok, Err, OnOk, IsTrue, subst, true, arith}
 use Rattle.sqlite.specs.Held.{Held, state}
-use Rattle.sqlite.specs.State.{State, HasCleanDisk, HasCause, Fails, IsRolledBack, KeepsCounts, Shows, Survives, store_error}
+use Rattle.sqlite.specs.State.{State, HasCleanDisk, Survives}
 use Rattle.sqlite.specs.Tree.{Trees}
 use Rattle.sqlite_trees.specs.declared.store.Store.{Ghosts}
 use Rattle.up_rows.specs.StateRows.{StateRows}
-use Rattle.up_tables.specs.Stands.{IfClean, IsInside, IsOpen, IsWithin, GoesOn, Steps}
+use Rattle.up_tables.specs.Stands.{IfClean, IsOpen, IsWithin, GoesOn, Steps}
 use Rattle.up_tables.specs.declared.values.StoreFault.{StoreFault}
 use Rattle.up_tables.specs.Tables.{up_schema}
 use Rattle.up_tables.proofs.TransactionLemmas.{within_begun, crash_after, stands_after, durable_after}
-use Rattle.up_store.specs.Connections.{MayWrite, Commits, HasFailed, TakesRows, CommitsRows, SparesRows}
+use Rattle.up_store.specs.Connections.{MayWrite, Commits, TakesRows, CommitsRows, SparesRows}
 use Rattle.up_store.specs.Listing.{ListsRows}
 
 on_ok : {A E : Type 0} {P Q : Type 0} (r : Result A E) → OnOk r P → (P → Q) → OnOk r Q
@@ -75,49 +68,3 @@ open_before (Ok x) steps clean opened = (steps.kept clean).was_open (opened clea
 pub was_open_before : {A E : Type 0} (r : Result A E) (s : State) → IsTrue s.is_open → OnOk r (IsTrue s.is_open)
 was_open_before (Err e) s is = tt
 was_open_before (Ok x) s is = is
-
--- ---- commits
-
-module _ {A B : Type 0} (mid last : State) (commit : Result A Error) (told : Result B StoreFault) where
-  pub committed_on : OnOk told (IsOk commit) → (HasCleanDisk last → OnOk commit (IsTrue mid.in_transaction × Shows mid last mid.now mid.now false × KeepsCounts mid last × (last.marks ≡ []))) → OnOk told (IfClean (Commits mid) last)
-  committed_on ok did = go commit told ok did
-    where
-      go : (commit : Result A Error) (told : Result B StoreFault) → OnOk told (IsOk commit) → (HasCleanDisk last → OnOk commit (IsTrue mid.in_transaction × Shows mid last mid.now mid.now false × KeepsCounts mid last × (last.marks ≡ []))) → OnOk told (IfClean (Commits mid) last)
-      go commit (Err f) ok did = tt
-      go (Ok x) (Ok y) ok did = λ clean. (did clean).1
-      go (Err e) (Ok y) ok did = absurd (let no = ok in cc)
-
-  module _ (inside : IfClean IsInside mid) (ends : Survives mid last (λ trees. trees ≡ mid.now.trees)) (went : OnOk commit (IsOk told)) where
-    before : HasCleanDisk last → HasCleanDisk mid
-    before clean = omega (arith, ends.clean)
-
-    failed : (e : Error) → HasCleanDisk last → FailsToCommit mid last e → Fails mid last ⊥ e
-    failed e clean (inl h) = h
-    failed e clean (inr h) = absurd (let no = sym h.1 ∙ inside (before clean) in cc)
-
-    pub undone_on : (HasCleanDisk last → IfErr commit (FailsToCommit mid last)) → OnErr told (IfClean (IsRolledBack mid) last)
-    undone_on err = go commit told went err
-      where
-        go : (commit : Result A Error) (told : Result B StoreFault) → OnOk commit (IsOk told) → (HasCleanDisk last → IfErr commit (FailsToCommit mid last)) → OnErr told (IfClean (IsRolledBack mid) last)
-        go commit (Ok y) went err = tt
-        go (Ok x) (Err f) went err = absurd (let no = went in cc)
-        go (Err e) (Err f) went err = λ clean. (failed e clean (err clean)).3
-
-    pub cause_on : IfErr commit (λ e. told ≡ Err (store_fault e)) → (HasCleanDisk last → IfErr commit (FailsToCommit mid last)) → HasCleanDisk last → IfErr told (λ fault. fault ≡ Store → HasFailed mid last)
-    cause_on is err clean = go commit told went is (err clean)
-      where
-        by_store : (cause : StoreError) (e : Error) → e ≡ store_error cause → HasCause mid last ⊥ cause → store_fault e ≡ Store → HasFailed mid last
-        by_store OutOfMemory e is has told = absurd (let no : Memory ≡ Store = sym (ap store_fault is) ∙ told in cc)
-        by_store Io e is has told = inr has
-        by_store Corrupt e is has told = inr has
-        by_store Full e is has told = inr has
-        by_store Broken e is has told = inl has
-        by_store Unstorable e is has told = absurd has
-
-        go : (commit : Result A Error) (told : Result B StoreFault) → OnOk commit (IsOk told) → IfErr commit (λ e. told ≡ Err (store_fault e)) → IfErr commit (FailsToCommit mid last) → IfErr told (λ fault. fault ≡ Store → HasFailed mid last)
-        go commit (Ok y) went is err = tt
-        go (Ok x) (Err f) went is err = absurd (let no = went in cc)
-        go (Err e) (Err f) went is err = λ store.
-            let h = failed e clean err in
-            let same : f ≡ store_fault e = cc in
-            by_store h.0 e h.1 h.2 (sym same ∙ store)

@@ -10,7 +10,7 @@ ghost use Rattle.up_tables.specs.declared.open.OpenFault.TheVariants.{NotOurs};
 ghost use Rattle.up_tables.specs.declared.open.OpenFault.TheVariants as Fault;
 ghost use Rattle.up_tables.specs.declared.open.SchemaVersion.{SchemaVersion};
 ghost use Rattle.up_tables.specs.Faults.{store_fault};
-ghost use Rattle.up_tables.specs.declared.values.StoreFault.TheVariants.{Store};
+ghost use Rattle.up_tables.specs.declared.values.StoreFault.TheVariants as StoreFault;
 ghost use Rattle.up_store.specs.Connections.{KeepsAs, KeepsRows, HoldsRows, MadeIn, RaisedRows, Commits, HasFailed};
 
 use sqlite::{Alter, Connection, Error, Transaction};
@@ -124,7 +124,7 @@ pub(crate) fn commit<D: Alter>(tx: Transaction<'_, D>) -> Result<(), StoreFault>
     ensures ended { tx.exit.0.now.in_transaction ≡ false }
     ensures committed { OnOk result (IfClean (Commits (state D.Store tx.entry.conn.now)) (state D.Store tx.exit.0.now)) }
     ensures undone { OnErr result (IfClean (IsRolledBack (state D.Store tx.entry.conn.now)) (state D.Store tx.exit.0.now)) }
-    ensures cause { HasCleanDisk (state D.Store tx.exit.0.now) → IfErr result (λ fault. fault ≡ Store
+    ensures cause { HasCleanDisk (state D.Store tx.exit.0.now) → IfErr result (λ fault. fault ≡ StoreFault.Store
         → HasFailed (state D.Store tx.entry.conn.now) (state D.Store tx.exit.0.now)) }
     ensures survives { Survives (state D.Store tx.entry.conn.now) (state D.Store tx.exit.0.now)
         (λ trees. trees ≡ (state D.Store tx.entry.conn.now).now.trees) }

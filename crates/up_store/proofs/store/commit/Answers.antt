@@ -1,5 +1,5 @@
 use Rattle.sqlite.specs.Held.{state}
-use Rattle.up_store.proofs.Written.{committed_on, undone_on, cause_on}
+use Rattle.up_store.proofs.Committed.{committed_on, undone_on, cause_on}
 use Rattle.up_store.proofs.store.commit.Goals as goal
 
 pub returns-clause-committed : goal.returns-clause-committed

@@ -28,21 +28,21 @@ returns-in-Err-clause-crash_err g c = raised_rows (state g.D.Store c.args.conn) 
 
 pub returns-in-Err-clause-kept_err : goal.returns-in-Err-clause-kept_err
 returns-in-Err-clause-kept_err g c = elim c.in-Err.ensures.fault [
-  | inl no ↦ took_false _ c.take_tables.result no.0 c.take_tables.ensures.kept refl
+  | inl found ↦ took_false _ c.take_tables.result found.0 c.take_tables.ensures.kept refl
   | inr told ↦ took_fault _ c.take_tables.result c.in-Err.fault told c.take_tables.ensures.kept_err
 ]
 
 pub returns-in-Err-clause-others : goal.returns-in-Err-clause-others
 returns-in-Err-clause-others g c = λ not_ours clean. elim c.in-Err.ensures.fault [
-  | inl no ↦ took_false _ c.take_tables.result no.0 c.take_tables.ensures.others refl clean
+  | inl found ↦ took_false _ c.take_tables.result found.0 c.take_tables.ensures.others refl clean
   | inr told ↦ absurd (took_fault _ c.take_tables.result c.in-Err.fault told c.take_tables.ensures.fault not_ours)
 ]
 
 pub returns-in-Err-clause-never : goal.returns-in-Err-clause-never
 returns-in-Err-clause-never g c clean version rows keeps same = elim c.in-Err.ensures.fault [
-  | inl no ↦
+  | inl found ↦
       let before : HasCleanDisk (state g.D.Store c.args.conn) = omega (arith, clean, c.take_tables.ensures.crash.clean) in
-      let listed : IsTrue false = took_false _ c.take_tables.result no.0 c.take_tables.ensures.listed clean version (ours version rows (state g.D.Store c.args.conn) (keeps before)) in
+      let listed : IsTrue false = took_false _ c.take_tables.result found.0 c.take_tables.ensures.listed clean version (ours version rows (state g.D.Store c.args.conn) (keeps before)) in
       cc
   | inr told ↦ took_fault _ c.take_tables.result c.in-Err.fault told c.take_tables.ensures.fault same
 ]
