@@ -6,18 +6,12 @@ use Rattle.up_plan.specs.Images.{ImageData}
 use Rattle.up_plan.specs.declared.campaign.Item.{Item}
 use Rattle.up_plan.specs.declared.campaign.Reach.{Reach}
 use Rattle.up_plan.specs.declared.image.Need.{Need}
-
-abbrev pub image_made : Name → ℕ → List ℕ → Option (List ℕ) → List Name → ℕ → List Need → List Name → ImageData
-image_made file size sha256 sha512 hardware release needs conflicts =
-    record { file = file; length = size; sha256 = sha256; sha512 = sha512; hardware = hardware; release = release; needs = needs; conflicts = conflicts }
+use Rattle.up_store.specs.Shown.{image_made, campaign_made}
 
 pub same_image : (image : ImageData) (file : Name) (size : ℕ) (sha256 : List ℕ) (sha512 : Option (List ℕ)) (hardware : List Name) (release : ℕ) (needs : List Need) (conflicts : List Name)
     → file ≡ image.file → size ≡ image.length → sha256 ≡ image.sha256 → sha512 ≡ image.sha512 → hardware ≡ image.hardware → release ≡ image.release → needs ≡ image.needs → conflicts ≡ image.conflicts
     → image_made file size sha256 sha512 hardware release needs conflicts ≡ image
 same_image image file size sha256 sha512 hardware release needs conflicts a b c d e f g h = λ i. image_made (a i) (b i) (c i) (d i) (e i) (f i) (g i) (h i)
-
-abbrev pub campaign_made : Name → Reach → List Item → Bool → CampaignData
-campaign_made name reach items running = record { name = name; reach = reach; items = items; running = running }
 
 pub same_campaign : (campaign : CampaignData) (name : Name) (reach : Reach) (items : List Item) (running : Bool)
     → name ≡ campaign.name → reach ≡ campaign.reach → items ≡ campaign.items → running ≡ campaign.running → campaign_made name reach items running ≡ campaign

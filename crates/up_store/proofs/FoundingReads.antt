@@ -1,5 +1,5 @@
 -- What is read of the founding: its numbers, and the keys of the last root version.
-use Rattle.std.proofs.Common.{◌≡◌, ◌≤◌, ◌<◌, ◌+◌, ◌-◌, ℕ, suc, pos, List, [], ◌∷◌, ◌++◌, Bool, true, false, ◌&&◌, Option, Some, None, map, filter, length, slice_get, refl, sym, ap, ap₂, subst, ◌∙◌, arith, append-nil, string_bytes, bytes_eq, codes, IsTrue, append_assoc}
+use Rattle.std.proofs.Common.{◌≡◌, ◌≤◌, ◌<◌, ◌+◌, ◌-◌, ℕ, suc, pos, List, [], ◌∷◌, ◌++◌, Bool, true, false, ◌&&◌, Option, Some, None, map, filter, length, slice_get, refl, sym, ap, ap₂, subst, ◌∙◌, arith, append-nil, string_bytes, bytes_eq, codes, IsTrue, append_assoc, Result, Ok, IfOk, OnOk}
 use Rattle.std.specs.Prelude.{option_map, find, flat_map, is_some, not, ◌==◌}
 use Rattle.std.specs.List.{AllByRecursion, enumerate_from}
 use Rattle.std.specs.Option.{option_or}
@@ -438,3 +438,11 @@ numbers_in rows found before was_open shows within =
     let has : HasTables before = λ is_open. let here = within.here is_open in record { schema_is = here.schema_is; sound = here.sound; rows = tt } in
     let here = within.here (was_open has) in
     shows (founding_number (λ (f : Founding). f.root) rows.founding) (founding_number (λ (f : Founding). f.image_version) rows.founding) (founding_number (λ (f : Founding). f.stamp) rows.founding) has here.rows.tables.meta
+
+-- ---- what was said of the answer, of the row that was taken out of it
+
+pub on_row : {E : Type 0} (P : Type 0) (found : Result (Option MetaRow) E) (row : MetaRow) → found ≡ Ok (Some row) → OnOk found P → P
+on_row P found row is h = subst (λ r. OnOk r P) is h
+
+pub of_row : {E : Type 0} (P : Option MetaRow → Type 0) (found : Result (Option MetaRow) E) (row : MetaRow) → found ≡ Ok (Some row) → IfOk found P → P (Some row)
+of_row P found row is h = subst (λ r. IfOk r P) is h

@@ -8,7 +8,7 @@ use Rattle.up_canon.specs.declared.refusal.Refusal.{Refusal}
 use Rattle.up_canon.specs.declared.refusal.Refusal.TheVariants as refusal
 use Rattle.up_tables.specs.declared.ecu.Installed.{Installed as InstalledShown}
 use Rattle.up_tables.specs.declared.values.StoreFault.{StoreFault}
-use Rattle.up_tables.specs.declared.values.StoreFault.TheVariants.{Memory}
+use Rattle.up_tables.specs.declared.values.StoreFault.TheVariants.{Memory, Store}
 use Rattle.up_store.specs.ColumnRows.{column_fault}
 use Rattle.up_store.specs.Shown.{installed_read}
 use Rattle.up_store.specs.Typed.{IsValidInstalled}
@@ -69,3 +69,8 @@ pub reads_installed : (shown : Option InstalledShown) (hash : Option (List ℕ))
     → IfSome (option_map (installed_read hash) shown) IsValidInstalled → ⊥
 reads_installed None hash bad valid = bad
 reads_installed (Some i) hash bad valid = bad valid.file valid.size valid.sha256
+
+-- what fits is never refused
+pub fits_alone : {A : Type 0} (P : Type 0) (result : Result A StoreFault) → IfErr result (λ f. (f ≡ Store) × P) → ¬ P → IfErr result (λ f. f ≡ Memory)
+fits_alone P (Ok x) told fits = tt
+fits_alone P (Err f) told fits = absurd (fits told.1)

@@ -41,7 +41,7 @@ use Rattle.up_store.specs.Typed.{IsTypedImage, IsTypedCampaign, IsTypedKept}
 use Rattle.up_store.proofs.OneKeys.{one_keys}
 use Rattle.up_store.proofs.RootTexts.{rows_size, same_found, one_texts, one_roots}
 use Rattle.up_store.proofs.WholeTables.{same_table}
-use Rattle.up_store.proofs.ColumnReads.{image_made, campaign_made}
+use Rattle.up_store.specs.Shown.{image_made, campaign_made}
 
 -- ---- columns
 

@@ -1,5 +1,5 @@
 -- A database that is taken: from the rows of its tables to those of a state.
-use Rattle.std.proofs.Common.{inl, inr, IsTrue}
+use Rattle.std.proofs.Common.{◌≡◌, inl, inr, Bool, true, false, Result, Ok, Err, IfOk, IfErr, IsTrue, subst}
 use Rattle.sqlite.specs.State.{State as Connected, Survives}
 use Rattle.up_rows.specs.StateRows.{StateRows}
 use Rattle.up_tables.specs.declared.open.SchemaVersion.{SchemaVersion}
@@ -51,3 +51,14 @@ raised_rows old new survives = record {
 
 pub ours : (version : SchemaVersion) (rows : StateRows) (s : Connected) → KeepsAs version rows s → ListsUs version s
 ours version rows s keeps = stands_us version (table_rows rows) s (tables_of version rows s keeps)
+
+-- ---- what was said of the answer, whichever it was
+
+pub took_true : {E : Type 0} (P : Bool → Type 0) (took : Result Bool E) → took ≡ Ok true → IfOk took P → P true
+took_true P took is h = subst (λ r. IfOk r P) is h
+
+pub took_false : {E : Type 0} (P : Bool → Type 0) (took : Result Bool E) → took ≡ Ok false → IfOk took P → P false
+took_false P took is h = subst (λ r. IfOk r P) is h
+
+pub took_fault : {E : Type 0} (P : E → Type 0) (took : Result Bool E) (e : E) → took ≡ Err e → IfErr took P → P e
+took_fault P took e is h = subst (λ r. IfErr r P) is h

@@ -4,6 +4,12 @@ use Rattle.up_manifest.specs.Manifests.{report_sha512_of}
 use Rattle.up_manifest.specs.declared.report.Installed.{Installed}
 use Rattle.up_metadata.specs.declared.keys.RoleSecrets.{RoleSecrets}
 use Rattle.up_metadata.specs.declared.keys.RepoKeys.{RepoKeys}
+use Rattle.up_canon.specs.Names.{Name}
+use Rattle.up_plan.specs.Campaigns.{CampaignData}
+use Rattle.up_plan.specs.Images.{ImageData}
+use Rattle.up_plan.specs.declared.campaign.Item.{Item}
+use Rattle.up_plan.specs.declared.campaign.Reach.{Reach}
+use Rattle.up_plan.specs.declared.image.Need.{Need}
 use Rattle.up_machine.specs.declared.rows.EcuRow.{EcuRow}
 use Rattle.up_machine.specs.declared.rows.Founding.{Founding}
 use Rattle.up_machine.specs.declared.rows.VehicleRow.{VehicleRow}
@@ -88,3 +94,12 @@ pub record IsFoundingOf (row : MetaRow) (rows : List RoleKeyRow) (read : Option 
   pub numbers : meta_told (Some founding) ≡ row
   pub director : AreKeysOf (codes "director") rows founding.keys.director
   pub image : AreKeysOf (codes "image") rows founding.keys.image
+
+-- ---- images and campaigns, of what was read of their rows
+
+abbrev pub image_made : Name → ℕ → List ℕ → Option (List ℕ) → List Name → ℕ → List Need → List Name → ImageData
+image_made file size sha256 sha512 hardware release needs conflicts =
+    record { file = file; length = size; sha256 = sha256; sha512 = sha512; hardware = hardware; release = release; needs = needs; conflicts = conflicts }
+
+abbrev pub campaign_made : Name → Reach → List Item → Bool → CampaignData
+campaign_made name reach items running = record { name = name; reach = reach; items = items; running = running }

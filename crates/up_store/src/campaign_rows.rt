@@ -4,23 +4,25 @@ ghost use Rattle.std.specs.FinMap as table;
 ghost use Rattle.up_canon.specs.Canon.{quoted as quoted_text};
 ghost use Rattle.up_canon.specs.Names.{Name, Table as Named};
 ghost use Rattle.up_columns.specs.CampaignColumns.{reach_column};
-ghost use Rattle.up_plan.specs.Campaigns.{CampaignData};
+ghost use Rattle.up_plan.specs.Campaigns.{CampaignData, campaign_fits};
 ghost use Rattle.up_plan.specs.Planning.{reaches as is_reached};
 ghost use Rattle.up_plan.specs.declared.campaign.Reach.{Reach as ReachData};
 ghost use Rattle.up_store.specs.ColumnRows.{IsCampaign, AreRunning};
 ghost use Rattle.up_store.specs.Found.{values_where};
 ghost use Rattle.up_store.specs.Typed.{IsTypedCampaign, IsValidCampaign, AreValidCampaigns};
-ghost use Rattle.up_tables.specs.declared.values.StoreFault.TheVariants.{Memory};
+ghost use Rattle.up_tables.specs.declared.values.StoreFault.TheVariants.{Memory, Store};
+ghost use Rattle.up_store.specs.Shown.{campaign_made};
 
 use crate::column_values::{ident_in, read_column};
 use crate::image_rows::name_of;
 use crate::store::StoreFault;
 use std::alloc::{AllocError, Global};
 use up_canon::ident::Ident;
+use up_canon::listed::Listed;
 use up_canon::table::Table;
 use up_canon::writing::push_ident;
 use up_columns::campaigns::{items_text, reach_text, read_campaign_items, read_reach};
-use up_plan::campaign::{Campaign, Reach};
+use up_plan::campaign::{Campaign, Item, Reach};
 use up_tables::campaign::CampaignRow;
 
 /// A row as it stands in the table, read; of a row that stands for a campaign, `Memory` is the one fault.
@@ -44,9 +46,22 @@ fn read_reached(alloc: Global, shown: &CampaignRow, reach: Reach) -> Result<Camp
     let text = shown.name.as_str().to_string(alloc)?;
     let name = ident_in(text)?;
     let items = read_column(read_campaign_items(alloc, shown.items.as_str()))?;
+    campaign_of(name, reach, items, shown.running)
+}
+
+/// The campaign of these parts; `Store` where they are past a campaign's limits, which takes no memory to tell.
+fn campaign_of(
+    name: Ident,
+    reach: Reach,
+    items: Listed<Item>,
+    running: bool,
+) -> Result<Campaign, StoreFault>
+    ensures ok { IfOk result (λ campaign. campaign ≡ campaign_made name reach items running) }
+    ensures fault { IfErr result (λ fault. (fault ≡ Store) × (campaign_fits (campaign_made name reach items running) ≡ false)) }
+{
     match Campaign::new(name, reach, items.into_vec()) {
         Ok(mut campaign) => {
-            campaign.running = shown.running;
+            campaign.running = running;
             Ok(campaign)
         }
         Err(_) => Err(StoreFault::Store),

@@ -83,6 +83,7 @@ pub fn sha256_in(bytes: &[u8]) -> Result<[u8; 32], StoreFault>
 /// The bytes as a SHA-512.
 pub fn sha512_in(bytes: &[u8]) -> Result<[u8; 64], StoreFault>
     ensures ok { IfOk result (λ hash. hash ≡ bytes.now) }
+    ensures fits { OnOk result (length bytes.now ≡ 64) }
     ensures fault { IfErr result (λ fault. (fault ≡ Store) × (length bytes.now ≢ 64)) }
 {
     match <[u8; 64]>::try_from(bytes) {

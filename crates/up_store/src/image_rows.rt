@@ -1,16 +1,18 @@
 //! The rows of images, read and made.
-ghost use Rattle.std.specs.Prelude.{◌≡◌, IfOk, IfErr, OnOk, option_map};
+ghost use Rattle.std.specs.Prelude.{◌≡◌, false, IfOk, IfErr, OnOk, option_map};
 ghost use Rattle.up_canon.specs.Names.{Name, Table as Named};
-ghost use Rattle.up_plan.specs.Images.{ImageData};
+ghost use Rattle.up_plan.specs.Images.{ImageData, image_fits};
 ghost use Rattle.up_tables.specs.Forms.{FitImage};
 ghost use Rattle.up_store.specs.ColumnRows.{IsImage, AreImages, AreHashesOf};
 ghost use Rattle.up_store.specs.Typed.{IsTypedImage, IsValidImage, AreValidImages};
-ghost use Rattle.up_tables.specs.declared.values.StoreFault.TheVariants.{Memory};
+ghost use Rattle.up_tables.specs.declared.values.StoreFault.TheVariants.{Memory, Store};
+ghost use Rattle.up_store.specs.Shown.{image_made};
 ghost use Rattle.std.specs.FinMap as table;
 
 use crate::column_values::{count_in, file_name_in, read_column, sha256_in};
 use crate::store::StoreFault;
 use std::alloc::{AllocError, Global};
+use up_canon::count::Count;
 use up_canon::file_name::FileName;
 use up_canon::ident::Ident;
 use up_canon::listed::Listed;
@@ -62,6 +64,22 @@ pub fn read_image(
     let release = count_in(shown.release_count)?;
     let lists = read_lists(alloc, &shown)?;
     let file = file_name_in(shown.file)?;
+    image_of(file, length, sha256, sha512, release, lists)
+}
+
+/// The image of these parts; `Store` where they are past an image's limits, which takes no memory to tell.
+fn image_of(
+    file: FileName,
+    length: Count,
+    sha256: [u8; 32],
+    sha512: Option<[u8; 64]>,
+    release: Count,
+    lists: ImageLists,
+) -> Result<Image, StoreFault>
+    ensures ok { IfOk result (λ image. image ≡ image_made file length sha256 sha512 lists.hardware release lists.needs lists.conflicts) }
+    ensures fault { IfErr result (λ fault. (fault ≡ Store)
+        × (image_fits (image_made file length sha256 sha512 lists.hardware release lists.needs lists.conflicts) ≡ false)) }
+{
     let hardware = lists.hardware.into_vec();
     let needs = lists.needs.into_vec();
     let conflicts = lists.conflicts.into_vec();

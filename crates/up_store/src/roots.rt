@@ -1,5 +1,5 @@
 //! Root versions and the files that are served.
-ghost use Rattle.std.specs.Prelude.{◌≡◌, ◌↔◌, ◌⊎◌, ◌≤◌, ◌^◌, ⊤, Option, Some, Err, OnErr, IfOk, IfErr, is_some};
+ghost use Rattle.std.specs.Prelude.{◌≡◌, ◌↔◌, ◌⊎◌, ◌≤◌, ◌^◌, ⊤, Option, Some, None, Ok, Err, OnErr, IfOk, IfErr, is_some};
 ghost use Rattle.sqlite.specs.Held.{state};
 ghost use Rattle.sqlite.specs.State.{HasCleanDisk, Survives};
 ghost use Rattle.up_rows.specs.Changes.{with_root_rows, with_register_rows};
@@ -150,9 +150,8 @@ fn find_founding<D: Alter>(
     ensures open { NeedsOpen (state D.Store tx.old.conn.now) (state D.Store tx.new.conn.now) result }
     ensures step { IsStep D.Store tx.old.conn tx.new.conn }
 {
-    match meta(tx) {
-        Ok(Some(row)) => find_founded(tx, alloc, row),
-        Ok(None) => Err(StoreFault::Store),
+    match the_row(meta(tx)) {
+        Ok(row) => find_founded(tx, alloc, row),
         Err(fault) => Err(fault),
     }
 }
@@ -164,8 +163,19 @@ fn find_whether_founded<D: Alter>(tx: &mut Transaction<'_, D>) -> Result<bool, S
     ensures open { NeedsOpen (state D.Store tx.old.conn.now) (state D.Store tx.new.conn.now) result }
     ensures step { IsStep D.Store tx.old.conn tx.new.conn }
 {
-    match meta(tx) {
-        Ok(Some(row)) => Ok(row.root != 0),
+    match the_row(meta(tx)) {
+        Ok(row) => Ok(row.root != 0),
+        Err(fault) => Err(fault),
+    }
+}
+
+/// The row of `meta`, which a database of this product has: `Store` where it hasn't, and each fault as it is.
+fn the_row(found: Result<Option<MetaRow>, StoreFault>) -> Result<MetaRow, StoreFault>
+    ensures some { IfOk result (λ row. found ≡ Ok (Some row)) }
+    ensures none { IfErr result (λ fault. ((found ≡ Ok None) × (fault ≡ StoreFault.Store)) ⊎ (found ≡ Err fault)) }
+{
+    match found {
+        Ok(Some(row)) => Ok(row),
         Ok(None) => Err(StoreFault::Store),
         Err(fault) => Err(fault),
     }

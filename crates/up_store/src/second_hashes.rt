@@ -4,7 +4,7 @@ ghost use Rattle.std.specs.List.{AllByRecursion};
 ghost use Rattle.std.specs.FinMap as table;
 ghost use Rattle.sqlite.specs.Held.{state};
 ghost use Rattle.up_canon.specs.Names.{Table as Named};
-ghost use Rattle.std.specs.Prelude.{◌≢◌, length, IfErr, MatchOption};
+ghost use Rattle.std.specs.Prelude.{◌≢◌, length, string_bytes, Err, IfErr, OnOk, MatchOption};
 ghost use Rattle.up_tables.specs.declared.values.StoreFault.TheVariants as StoreFault;
 ghost use Rattle.up_plan.specs.Images.{ImageData};
 ghost use Rattle.up_tables.specs.Stands.{IfClean, IsInside, IsOpen};
@@ -75,10 +75,21 @@ fn read_sha512s(alloc: Global, shown: Vec<Sha512Row>) -> Result<Table<[u8; 64]>,
 {
     let mut hashes = Table::new(alloc);
     for row in shown {
-        let hash = sha512_in(row.sha512.as_slice())?;
-        hashes.insert(Text::new(row.file), hash)?;
+        add_sha512(&mut hashes, row)?;
     }
     Ok(hashes)
+}
+
+/// Puts the second hash of a row as it stands in the table under its filename; `Store` where it hasn't 64 bytes, which takes no memory to tell,
+/// and else `Memory` is the one fault.
+fn add_sha512(hashes: &mut Table<[u8; 64]>, row: Sha512Row) -> Result<(), StoreFault>
+    ensures same { OnOk result (hashes.new ≡ table.insert hashes.old (string_bytes row.file) row.sha512.items) }
+    ensures fault { length row.sha512.items ≡ 64 → IfErr result (λ fault. fault ≡ StoreFault.Memory) }
+    ensures damaged { length row.sha512.items ≢ 64 → result ≡ Err StoreFault.Store }
+{
+    let hash = sha512_in(row.sha512.as_slice())?;
+    hashes.insert(Text::new(row.file), hash)?;
+    Ok(())
 }
 
 /// Puts in the row of an image's second hash, where it has one.

@@ -1,5 +1,6 @@
 //! The store: the tables of the two repositories over a connection to a database.
-ghost use Rattle.std.specs.Prelude.{◌≡◌, ◌≢◌, false, IfOk, IfErr, OnOk, OnErr, IsTrue};
+ghost use Rattle.std.specs.Prelude.{◌≡◌, ◌≢◌, ◌⊎◌, true, false, Ok, Err, IfOk, IfErr, OnOk, OnErr, IsTrue};
+ghost use Rattle.std.specs.Result.{IsOk};
 ghost use Rattle.sqlite.specs.Held.{state};
 ghost use Rattle.sqlite.specs.State.{HasCleanDisk, Survives, IsRolledBack};
 ghost use Rattle.up_rows.specs.StateRows.{StateRows, no_rows};
@@ -8,9 +9,11 @@ ghost use Rattle.up_tables.specs.Stands.{IfClean, IsInside, IsAsCommitted, Leave
 ghost use Rattle.up_tables.specs.declared.open.OpenFault.TheVariants.{NotOurs};
 ghost use Rattle.up_tables.specs.declared.open.OpenFault.TheVariants as Fault;
 ghost use Rattle.up_tables.specs.declared.open.SchemaVersion.{SchemaVersion};
-ghost use Rattle.up_store.specs.Connections.{KeepsAs, KeepsRows, HoldsRows, MadeIn, RaisedRows, Commits};
+ghost use Rattle.up_tables.specs.Faults.{store_fault};
+ghost use Rattle.up_tables.specs.declared.values.StoreFault.TheVariants as StoreFault;
+ghost use Rattle.up_store.specs.Connections.{KeepsAs, KeepsRows, HoldsRows, MadeIn, RaisedRows, Commits, HasFailed};
 
-use sqlite::{Alter, Connection, Transaction};
+use sqlite::{Alter, Connection, Error, Transaction};
 use std::marker::Model;
 pub use up_tables::open::OpenFault;
 use up_tables::open::{create_tables, take_tables};
@@ -88,9 +91,8 @@ impl<D: Alter> Store<D> {
         ensures crash_err { IfErr result (λ e. Survives (state D.Store conn) (state D.Store e.0) (RaisedRows (state D.Store conn))) }
         ensures mode { IfErr result (λ e. (state D.Store e.0).in_transaction ≡ false) }
     {
-        match take_tables(&mut conn) {
-            Ok(true) => Ok(Store { conn }),
-            Ok(false) => Err((conn, OpenFault::NotOurs)),
+        match taken(take_tables(&mut conn)) {
+            Ok(()) => Ok(Store { conn }),
             Err(fault) => Err((conn, fault)),
         }
     }
@@ -104,16 +106,39 @@ impl<D: Alter> Store<D> {
     }
 }
 
+/// Whether tables were taken, and else what is told: `NotOurs` where they are another's, and each fault as it is.
+fn taken(took: Result<bool, OpenFault>) -> Result<(), OpenFault>
+    ensures ours { OnOk result (took ≡ Ok true) }
+    ensures fault { IfErr result (λ e. ((took ≡ Ok false) × (e ≡ NotOurs)) ⊎ (took ≡ Err e)) }
+{
+    match took {
+        Ok(true) => Ok(()),
+        Ok(false) => Err(OpenFault::NotOurs),
+        Err(fault) => Err(fault),
+    }
+}
+
 /// Commits what a transaction wrote. A fault rolls it back.
 pub(crate) fn commit<D: Alter>(tx: Transaction<'_, D>) -> Result<(), StoreFault>
     requires mode { IfClean IsInside (state D.Store tx.conn.now) }
     ensures ended { tx.exit.0.now.in_transaction ≡ false }
     ensures committed { OnOk result (IfClean (Commits (state D.Store tx.entry.conn.now)) (state D.Store tx.exit.0.now)) }
     ensures undone { OnErr result (IfClean (IsRolledBack (state D.Store tx.entry.conn.now)) (state D.Store tx.exit.0.now)) }
+    ensures cause { HasCleanDisk (state D.Store tx.exit.0.now) → IfErr result (λ fault. fault ≡ StoreFault.Store
+        → HasFailed (state D.Store tx.entry.conn.now) (state D.Store tx.exit.0.now)) }
     ensures survives { Survives (state D.Store tx.entry.conn.now) (state D.Store tx.exit.0.now)
         (λ trees. trees ≡ (state D.Store tx.entry.conn.now).now.trees) }
 {
-    match tx.commit() {
+    committed(tx.commit())
+}
+
+/// Whether a commit went through, and else what is told of its error.
+fn committed(commit: Result<(), Error>) -> Result<(), StoreFault>
+    ensures ok { OnOk result (IsOk commit) }
+    ensures went { OnOk commit (IsOk result) }
+    ensures fault { IfErr commit (λ e. result ≡ Err (store_fault e)) }
+{
+    match commit {
         Ok(()) => Ok(()),
         Err(error) => Err(fault_of(error)),
     }

@@ -1,15 +1,18 @@
-use Rattle.std.proofs.Common.{◌≡◌, true, false, is_none, length, refl, sym, ap, ◌∙◌, arith}
+use Rattle.std.proofs.Common.{◌≡◌, true, false, length, refl, sym, ap, ◌∙◌, arith}
 use Rattle.up_canon.specs.Names.{is_file_name}
 use Rattle.up_plan.specs.Images.{image_fits}
+use Rattle.up_tables.proofs.StateLemmas.{ok_then}
 use Rattle.up_store.proofs.ColumnReads.{same_image}
-use Rattle.up_store.proofs.MemoryAlone.{memory_on}
+use Rattle.up_store.proofs.MemoryAlone.{memory_on, fits_alone}
 use Rattle.up_store.proofs.image_rows.read_image.Goals as goal
 
-pub returns-in-Ok-clause-same : goal.returns-in-Ok-clause-same
-returns-in-Ok-clause-same c = λ file image typed is second.
+pub returns-clause-same : goal.returns-clause-same
+returns-clause-same c = ok_then _ _ c.image_of.result
+    (λ read made file image typed is second.
     let lists = c.in_ok-lists.ensures.same file image typed is in
-    c.in-Ok.ensures.1 ∙ same_image image _ _ _ _ _ _ _ _ (c.in_ok-file.ensures.ok ∙ is.file) (c.in_ok-length.ensures.ok ∙ is.length) (c.in_ok-sha256.ensures.ok ∙ c.as_slice.ensures.value ∙ is.sha256) second
-    (c.into_vec-hardware.ensures ∙ lists.0) (c.in_ok-release.ensures.ok ∙ is.release) (c.into_vec-needs.ensures ∙ lists.1) (c.into_vec-conflicts.ensures ∙ lists.2)
+    made ∙ same_image image _ _ _ _ _ _ _ _ (c.in_ok-file.ensures.ok ∙ is.file) (c.in_ok-length.ensures.ok ∙ is.length) (c.in_ok-sha256.ensures.ok ∙ c.as_slice.ensures.value ∙ is.sha256) second
+    lists.0 (c.in_ok-release.ensures.ok ∙ is.release) lists.1 lists.2)
+    c.image_of.ensures.ok
 
 pub returns-in_err-sha256-clause-fault : goal.returns-in_err-sha256-clause-fault
 returns-in_err-sha256-clause-fault c = λ file image typed valid is. absurd (c.in_err-sha256.ensures.fault.1 (ap length (c.as_slice.ensures.value ∙ is.sha256) ∙ valid.sha256))
@@ -32,5 +35,5 @@ pub returns-clause-fault : goal.returns-clause-fault
 returns-clause-fault c = λ file image typed valid is.
     let lists = c.in_ok-lists.ensures.same file image typed is in
     let same = same_image (record image { sha512 = c.args.sha512 }) _ _ _ _ _ _ _ _ (c.in_ok-file.ensures.ok ∙ is.file) (c.in_ok-length.ensures.ok ∙ is.length) (c.in_ok-sha256.ensures.ok ∙ c.as_slice.ensures.value ∙ is.sha256) refl
-    (c.into_vec-hardware.ensures ∙ lists.0) (c.in_ok-release.ensures.ok ∙ is.release) (c.into_vec-needs.ensures ∙ lists.1) (c.into_vec-conflicts.ensures ∙ lists.2) in
-    absurd (let e : true ≡ false = sym valid.fits ∙ (sym (ap image_fits same) ∙ ap is_none c.in-Err.ensures) in cc)
+    lists.0 (c.in_ok-release.ensures.ok ∙ is.release) lists.1 lists.2 in
+    fits_alone _ c.image_of.result c.image_of.ensures.fault (λ bad. let e : true ≡ false = sym valid.fits ∙ (sym (ap image_fits same) ∙ bad) in cc)

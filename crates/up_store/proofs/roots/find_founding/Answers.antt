@@ -1,4 +1,4 @@
-use Rattle.std.proofs.Common.{◌≡◌, Some, sym, ◌∙◌, arith}
+use Rattle.std.proofs.Common.{◌≡◌, Some, arith}
 use Rattle.sqlite.specs.Held.{state}
 use Rattle.sqlite.specs.State.{HasCleanDisk}
 use Rattle.up_rows.specs.StateRows.{StateRows}
@@ -7,21 +7,21 @@ use Rattle.up_tables.specs.Tables.{up_schema}
 use Rattle.up_tables.proofs.StateLemmas.{ok_then}
 use Rattle.up_store.specs.Listing.{ListsRows}
 use Rattle.up_store.specs.Shown.{meta_told}
-use Rattle.up_store.proofs.FoundingReads.{within_read, numbers_in}
+use Rattle.up_store.proofs.FoundingReads.{within_read, numbers_in, on_row, of_row}
 use Rattle.up_store.proofs.RootPuts.{has_tables}
 use Rattle.up_store.proofs.roots.find_founding.Goals as goal
 
-pub returns-in-Ok-Some-clause-found : goal.returns-in-Ok-Some-clause-found
-returns-in-Ok-Some-clause-found g c clean =
+pub returns-in-Ok-clause-found : goal.returns-in-Ok-clause-found
+returns-in-Ok-clause-found g c clean =
     let before = state g.D.Store c.args.tx.now.conn.now in
     let mid = state g.D.Store c.meta.new.tx.conn.now in
     let cleanly : HasCleanDisk mid = omega (arith, c.find_founded.ensures.step.steps.survives.clean) in
-    ok_then (λ found. (rows : StateRows) → IsWithin up_schema (ListsRows rows) mid → c.in-Ok-Some.row ≡ meta_told rows.founding → found ≡ rows.founding)
+    ok_then (λ found. (rows : StateRows) → IsWithin up_schema (ListsRows rows) mid → c.in-Ok.row ≡ meta_told rows.founding → found ≡ rows.founding)
     (λ found. (rows : StateRows) → IsWithin up_schema (ListsRows rows) before → found ≡ rows.founding) c.find_founded.result
     (λ found told rows within.
-    let reads = c.in-Ok-Some.ensures.reads cleanly (has_tables (ListsRows rows) before within) in
-    let both : Some c.in-Ok-Some.row ≡ Some (meta_told rows.founding) =
-    sym c.in-Ok-Some.field-0-is ∙ numbers_in rows c.in-Ok-Some.field-0 before (λ _. reads.was_open) (c.in-Ok-Some.ensures.found cleanly) within in
-    let same : c.in-Ok-Some.row ≡ meta_told rows.founding = cc in
+    let reads = on_row _ c.meta.result c.in-Ok.row c.in-Ok.ensures.some (c.meta.ensures.reads cleanly) (has_tables (ListsRows rows) before within) in
+    let both : Some c.in-Ok.row ≡ Some (meta_told rows.founding) =
+    numbers_in rows (Some c.in-Ok.row) before (λ _. reads.was_open) (of_row _ c.meta.result c.in-Ok.row c.in-Ok.ensures.some (c.meta.ensures.found cleanly)) within in
+    let same : c.in-Ok.row ≡ meta_told rows.founding = cc in
     told rows (within_read rows before mid reads within) same)
     (c.find_founded.ensures.found clean)

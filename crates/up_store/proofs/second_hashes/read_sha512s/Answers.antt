@@ -1,20 +1,19 @@
-use Rattle.std.proofs.Common.{◌≡◌, ℕ, List, [], length, take, subst, sym, ap, ap₂, ◌∙◌}
-use Rattle.std.specs.FinMap as table
+use Rattle.std.proofs.Common.{◌≡◌, [], length, take, subst, sym, ◌∙◌}
 use Rattle.std.proofs.lemmas.Iterator.Adapters.{YieldsList-from_vec}
 use Rattle.std.proofs.lemmas.Iterator.Consumers.{YieldsList-end, YieldsList-so_far, YieldsList-turn}
 use Rattle.std.proofs.lemmas.List.{length_push}
 use Rattle.up_store.proofs.ColumnTables.{AreHashesSofar, hashes_begun, hashes_more, hashes_ended}
 use Rattle.up_tables.specs.declared.image_sha512.Sha512Row.{Sha512Row}
 use Rattle.up_store.proofs.MadeRows.{each_in}
+use Rattle.up_store.proofs.MemoryAlone.{memory_on}
 use Rattle.up_store.proofs.second_hashes.read_sha512s.Goals as goal
 
 pub loop-row-preserved : goal.loop-row-preserved
 loop-row-preserved c = λ images are.
     let all = c.args.shown.items in
     let turn = YieldsList-turn (YieldsList-from_vec all (cc) (cc)) c.loop-row.yielded _ c.loop-row.yielded_by _ c.next.new.self c.in-Some.row c.in-Some.is c.next.ensures.steps in
-    let put = c.in_ok-insert.ensures.ok ∙ ap₂ (λ (name hash : List ℕ). table.insert c.loop-row.hashes name hash) c.new.ensures (c.in_ok-hash.ensures.ok ∙ c.as_slice.ensures.value) in
-    subst (λ n. AreHashesSofar (take n all) images c.insert.new.self) (sym (length_push c.loop-row.yielded c.in-Some.row))
-    (hashes_more images all (length c.loop-row.yielded) c.in-Some.row c.loop-row.hashes c.insert.new.self turn.0 turn.1 are put (c.loop-row.invariant images are))
+    subst (λ n. AreHashesSofar (take n all) images c.add_sha512.new.hashes) (sym (length_push c.loop-row.yielded c.in-Some.row))
+    (hashes_more images all (length c.loop-row.yielded) c.in-Some.row c.loop-row.hashes c.add_sha512.new.hashes turn.0 turn.1 are c.in_ok-add_sha512.ensures.same (c.loop-row.invariant images are))
 
 pub loop-row-init : goal.loop-row-init
 loop-row-init c = λ images are. subst (AreHashesSofar [] images) (sym c.new-hashes.ensures) (hashes_begun images)
@@ -26,8 +25,9 @@ returns-clause-same c = λ images are.
     let whole = sym (YieldsList-so_far each c.loop-row.yielded _ c.loop-row.yielded_by) ∙ (YieldsList-end each c.loop-row.yielded _ c.loop-row.yielded_by _ c.next.new.self c.in-None.is c.next.ensures.steps).0 in
     hashes_ended images all c.loop-row.hashes are (subst (λ rows. AreHashesSofar rows images c.loop-row.hashes) whole (c.loop-row.invariant images are))
 
-pub returns-in_err-hash-clause-fault : goal.returns-in_err-hash-clause-fault
-returns-in_err-hash-clause-fault c = λ fit.
+pub returns-in_err-add_sha512-clause-fault : goal.returns-in_err-add_sha512-clause-fault
+returns-in_err-add_sha512-clause-fault c = λ fit.
     let all = c.args.shown.items in
     let turn = YieldsList-turn (YieldsList-from_vec all (cc) (cc)) c.loop-row.yielded _ c.loop-row.yielded_by _ c.next.new.self c.in-Some.row c.in-Some.is c.next.ensures.steps in
-    absurd (c.in_err-hash.ensures.fault.1 (ap length c.as_slice.ensures.value ∙ each_in (λ (row : Sha512Row). length row.sha512.items ≡ 64) all (length c.loop-row.yielded) c.in-Some.row turn.0 turn.1 fit))
+    memory_on c.from_residual.result c.in_err-add_sha512.field-0.0 c.from_residual.ensures.1
+    (c.in_err-add_sha512.ensures.fault (each_in (λ (row : Sha512Row). length row.sha512.items ≡ 64) all (length c.loop-row.yielded) c.in-Some.row turn.0 turn.1 fit))
