@@ -1,6 +1,6 @@
 -- Why a read tells `Store`: over the whole schema the database refuses none of our queries, so only a fault of the disk is left, or rows that
 -- show no value.
-use Rattle.std.proofs.Common.{◌≡◌, ◌⊎◌, inl, inr, ℕ, List, [], ◌∷◌, map, length, arith, Bool, true, false, Option, Some, None, Ok, Err, Result, IfOk, IfErr, IsTrue, refl, sym, ap, subst, ◌∙◌, append-nil}
+use Rattle.std.proofs.Common.{◌≡◌, ◌⊎◌, inl, inr, ℕ, List, [], map, length, arith, Bool, true, false, Option, Some, None, Ok, Err, Result, IfOk, IfErr, IsTrue, sym, ap, subst, ◌∙◌, append-nil}
 use Rattle.std.proofs.Math.Dec.{leb}
 use Rattle.std.proofs.lemmas.Bool.{leb-true}
 use Rattle.std.proofs.lemmas.List.{length-map}
@@ -20,7 +20,7 @@ use Rattle.sqlite.specs.Command.TheVariants.{Select}
 use Rattle.sqlite.specs.Clock.{timed}
 use Rattle.sqlite.specs.Effect.{Database, IsShown, RefusesToRead}
 use Rattle.sqlite.specs.Listing.{understood, reads_listing, IsSourceOf}
-use Rattle.sqlite.specs.State.{State, HasCleanDisk, HasCause, Shown, Fails, FailsToShow, FailsToQuery, IsNoStatement, IsNotRun, IsStatement, IsTooLate, store_error}
+use Rattle.sqlite.specs.State.{State, HasCleanDisk, HasCause, Shown, FailsToShow, FailsToQuery, IsNoStatement, IsNotRun, IsStatement, IsTooLate, store_error}
 use Rattle.sqlite.proofs.Callers.{IsPlain, command_of}
 use Rattle.sqlite_keyed.proofs.ListLemmas.{all_map, all_weaker}
 use Rattle.sqlite_resolve.specs.declared.compiled.Compiled.{Compiled}
@@ -87,15 +87,16 @@ never_refused schema tree tests shown order names params db e has typed (inr (in
 pub at_no_time : (c : Compiled) (now : ℕ) (command : Command) (db : Database) (params : Row) (e : Error) → c.formats ≡ [] → RefusesToRead None command db (timed params c.formats now) e → RefusesToRead None command db params e
 at_no_time c now command db params e bare h = rw (bare, append-nil params) at h
 
-module _ (old new : State) (ready : IsReadable old) (e : Error) (told : store_fault e ≡ Store) where
-  by_cause : (cause : StoreError) → e ≡ store_error cause → HasCause old new ⊥ cause → MoreFaults old.faults new.faults
-  by_cause OutOfMemory is has = absurd (let no : Memory ≡ Store = sym (ap store_fault is) ∙ told in cc)
-  by_cause Io is has = has
-  by_cause Corrupt is has = has
-  by_cause Full is has = has
-  by_cause Broken is has = absurd (let no = sym ready.is_open ∙ has in cc)
-  by_cause Unstorable is has = absurd has
+-- an error of the store, told as `Store`
+pub cause_of : (old new : State) → IsTrue old.is_open → (e : Error) → store_fault e ≡ Store → (too_big : Type 0) (cause : StoreError) → e ≡ store_error cause → HasCause old new too_big cause → MoreFaults old.faults new.faults ⊎ too_big
+cause_of old new is_open e told too_big OutOfMemory is has = absurd (let no : Memory ≡ Store = sym (ap store_fault is) ∙ told in cc)
+cause_of old new is_open e told too_big Io is has = inl has
+cause_of old new is_open e told too_big Corrupt is has = inl has
+cause_of old new is_open e told too_big Full is has = inl has
+cause_of old new is_open e told too_big Broken is has = absurd (let no = sym is_open ∙ has in cc)
+cause_of old new is_open e told too_big Unstorable is has = inr has
 
+module _ (old new : State) (ready : IsReadable old) (e : Error) (told : store_fault e ≡ Store) where
   module _ (text : List ℕ) (params : Row) (tree : ℕ) (tests shown : List Term) (order : List (Term × Key)) (names : List (List ℕ))
       (asks : Asks up_schema text (over tree tests shown order) names) (takes : Takes text params (over tree tests shown order)) where
     not_shown : (c : Compiled) (it : IsStatement old text params c) → FailsToShow old new text c (timed params c.formats it.now) e c.returning → ⊥
@@ -112,7 +113,7 @@ module _ (old new : State) (ready : IsReadable old) (e : Error) (told : store_fa
     fails : FailsToQuery text params old new e → MoreFaults old.faults new.faults
     unfolding FailsToQuery IsNotRun
     fails (inl (inl h)) = absurd (is_statement up_schema text params asks.2 takes.0 takes.1 old e ready.here.schema_is h.0)
-    fails (inl (inr h)) = by_cause h.0 h.1 h.2
+    fails (inl (inr h)) = elim (cause_of old new ready.is_open e told ⊥ h.0 h.1 h.2) [ inl more ↦ more | inr never ↦ absurd never ]
     fails (inr h) = absurd (not_shown h.0 h.1 h.2)
 
     late : IsTooLate text params old new e → ⊥
@@ -126,6 +127,9 @@ module _ (old new : State) (ready : IsReadable old) (e : Error) (told : store_fa
 
 -- ---- calls
 
+pub fault_alike : {T : Type 0} {a b : StoreFault} → ◌≡◌ {A = Result T StoreFault} (Err a) (Err b) → a ≡ b
+fault_alike p = cc
+
 module _ {X T : Type 0} (items : X → List Row) (text : List ℕ) (params : Row) (tree : ℕ) (tests shown : List Term) (order : List (Term × Key)) (names : List (List ℕ))
     (asks : Asks up_schema text (over tree tests shown order) names) (takes : Takes text params (over tree tests shown order)) where
   -- a call that hands the fault of the query on, and else tells `Store` only where the rows aren't such as stand there
@@ -137,11 +141,7 @@ module _ {X T : Type 0} (items : X → List Row) (text : List ℕ) (params : Row
   blames (Ok v) (Err f) old new P Q shows fault kinds ok err clean = λ is ready holds. absurd (kinds is (shows ready holds (items v) (ok clean)))
   blames (Err e) (Ok x) old new P Q shows fault kinds ok err clean = tt
   blames (Err e) (Err f) old new P Q shows fault kinds ok err clean = λ is ready holds.
-      let same : f ≡ store_fault e = told_alike fault in
-      faults old new ready e (sym same ∙ is) text params tree tests shown order names asks takes (err clean)
-    where
-      told_alike : {a b : StoreFault} → ◌≡◌ {A = Result T StoreFault} (Err a) (Err b) → a ≡ b
-      told_alike p = cc
+      faults old new ready e (sym (fault_alike fault) ∙ is) text params tree tests shown order names asks takes (err clean)
 
 -- what follows of other rows follows of these
 pub blames_where : {T : Type 0} (P Q : State → Type 0) (old new : State) (r : Result T StoreFault) → (P old → Q old) → BlamesDisk Q old new r → BlamesDisk P old new r

@@ -1,5 +1,5 @@
 -- The statements on campaigns that put rows in and read them.
-use Rattle.std.proofs.Common.{◌≡◌, ℕ, pos, List, [], ◌∷◌, map, filter, Result, OnOk, IfOk, Option, IsTrue, refl, ap, ◌∙◌, codes, string_bytes, append-nil, bytes_eq, drop, ◌⊎◌, Err, IfErr, Some, inl, inr, subst, sym, true}
+use Rattle.std.proofs.Common.{◌≡◌, ℕ, pos, List, [], ◌∷◌, map, filter, Result, OnOk, IfOk, Option, IsTrue, refl, ap, ◌∙◌, codes, string_bytes, append-nil, bytes_eq, drop, ◌⊎◌, Err, IfErr, inl, inr}
 use Rattle.std.specs.Option.{option_to_list}
 use Rattle.std.specs.Result.{IsOkAnd}
 use Rattle.std.specs.Ordering.{is_eq}
@@ -18,6 +18,8 @@ use Rattle.sqlite_tied.specs.Compute.{everything}
 use Rattle.sqlite_sql.specs.declared.ops.BinaryOp.TheVariants.{Compare}
 use Rattle.sqlite_sql.specs.declared.ops.CompareOp.TheVariants.{Eq}
 use Rattle.sqlite_value.specs.declared.keys.Collation.TheVariants.{Binary}
+use Rattle.up_tables.proofs.RefusalLemmas.{Writes}
+use Rattle.up_tables.specs.Texts.{insert_campaign_text}
 use Rattle.up_tables.specs.Rows.{columns_at, has_number, with_row, bare}
 use Rattle.up_tables.specs.Stands.{Lists, IfClean, IsInside, Alters, HasTables}
 use Rattle.up_tables.specs.declared.values.StoreFault.{StoreFault}
@@ -46,9 +48,6 @@ use Rattle.sqlite_catalog.specs.Listing.{IsSound}
 
 casts : (c : CampaignRow) → cast_row campaign_table (Null ∷ campaign_row c) ≡ Null ∷ campaign_row c
 casts c = rw (cast_null, cast_int (yes_or_no c.running)) refl
-
-abbrev pub insert_campaign_text : List ℕ
-insert_campaign_text = codes "INSERT INTO campaign (name, reach, items, running) VALUES (?1, ?2, ?3, ?4)"
 
 insert_is : (command_of (understood up_schema insert_campaign_text) ≡ Insert 4 (Values (given 4) 5)) × IsPlain (understood up_schema insert_campaign_text)
 unfolding understood everything
@@ -136,3 +135,9 @@ pub running_blames : {X R : Type 0} (items : X → List Row) (answer : Result X 
     → BlamesDisk (HoldsBy campaign_table 1 (λ rows_of. (name : List ℕ) → AllByRecursion ShowsCampaign (filter (has_number 3 (pos 1)) (rows_of name)))) old new r
 running_blames items answer r old new =
     all_blames items campaign_table running_text part (has_number 3 (pos 1)) ShowsCampaign (λ x h. h) (runs ∷ []) (all_columns 4) names running_is running_takes running_answer running_texts answer r old new
+
+-- ---- faults of the write
+
+pub campaign_writes : (c : CampaignRow) → Writes insert_campaign_text (campaign_row c) (Insert 4 (Values (given 4) 5))
+unfolding understood everything
+campaign_writes c = record { is = insert_is.0; plain = insert_is.1; writes = refl; whole = refl; count = refl }

@@ -21,6 +21,8 @@ use Rattle.std.proofs.Math.Bool.{and-true}
 use Rattle.sqlite_schema.specs.declared.program.Program.{Program}
 use Rattle.sqlite_trees.specs.View.{IsShaped}
 use Rattle.sqlite_trees.specs.declared.store.Shape.TheVariants.{Table}
+use Rattle.up_tables.proofs.RefusalLemmas.{Writes}
+use Rattle.up_tables.specs.Texts.{close_campaign_text}
 use Rattle.up_tables.specs.Tables.{up_schema, campaign_table}
 use Rattle.up_tables.specs.Rows.{rows_with, has_text, with_only}
 use Rattle.up_tables.specs.Lines.{campaign_line}
@@ -34,16 +36,13 @@ use Rattle.up_tables.proofs.OnlyLemmas.{alone, rewritten_shaped, rewritten_parts
 use Rattle.up_tables.proofs.RunLemmas.{IsRun, run_in, then_ok, run_alters, idle}
 use Rattle.up_tables.proofs.UpdateLemmas.{updates_row}
 
-abbrev pub close_text : List ℕ
-close_text = codes "UPDATE campaign SET running = 0 WHERE name = ?1"
-
 abbrev shown : List Term
 shown = col 1 0 ∷ col 1 0 ∷ col 1 1 ∷ col 1 2 ∷ col 1 3 ∷ lit (Int (pos 0)) ∷ []
 
 abbrev program : Program
 program = record { lets = []; body = over 7 (equals 1 0 ∷ []) shown [] }
 
-close_is : (command_of (understood up_schema close_text) ≡ Update 4 program) × IsPlain (understood up_schema close_text)
+close_is : (command_of (understood up_schema close_campaign_text) ≡ Update 4 program) × IsPlain (understood up_schema close_campaign_text)
 unfolding understood everything
 close_is = (refl, (refl, refl))
 
@@ -64,12 +63,12 @@ update_rows db name reach items running id rows listed there h =
 
 -- in a transaction: the row of a campaign that is listed says that it doesn't run
 pub closes_in : (r : Result ℕ Error) (old new : State) (name : List ℕ) → Survives old new (λ _. ⊥) → IfClean IsInside old
-    → (HasCleanDisk new → IsTrue old.in_transaction → ExecutesInside 0 close_text (Text name ∷ []) old new r)
+    → (HasCleanDisk new → IsTrue old.in_transaction → ExecutesInside 0 close_campaign_text (Text name ∷ []) old new r)
     → HasCleanDisk new → OnOk r ((rows_of : List ℕ → List Row) (reach items : List ℕ) (running : ℤ) → HasTables old → Lists 1 rows_of (old.now.trees campaign_table.tree) → rows_of name ≡ campaign_line name reach items running ∷ []
     → Alters campaign_table (Lists 1 (with_only name (campaign_line name reach items (pos 0)) rows_of)) old new)
-closes_in r old new name survives inside ran clean = then_ok r closes (run_in close_text (Text name ∷ []) old new r survives inside ran clean)
+closes_in r old new name survives inside ran clean = then_ok r closes (run_in close_campaign_text (Text name ∷ []) old new r survives inside ran clean)
   where
-    closes : IsRun close_text (Text name ∷ []) old new → (rows_of : List ℕ → List Row) (reach items : List ℕ) (running : ℤ) → HasTables old → Lists 1 rows_of (old.now.trees campaign_table.tree) → rows_of name ≡ campaign_line name reach items running ∷ []
+    closes : IsRun close_campaign_text (Text name ∷ []) old new → (rows_of : List ℕ → List Row) (reach items : List ℕ) (running : ℤ) → HasTables old → Lists 1 rows_of (old.now.trees campaign_table.tree) → rows_of name ≡ campaign_line name reach items running ∷ []
         → Alters campaign_table (Lists 1 (with_only name (campaign_line name reach items (pos 0)) rows_of)) old new
     closes run rows_of reach items running has lists is =
         let rows = old.now.trees campaign_table.tree in
@@ -77,10 +76,16 @@ closes_in r old new name survives inside ran clean = then_ok r closes (run_in cl
         let row = campaign_line name reach items (pos 0) in
         let listed = lists.parts name ∙ is in
         let it = row_in 1 name rows was lists.shaped (subst (λ xs. Has xs was) (sym listed) (inl refl)) in
-        let done = updates_row up_schema close_text 4 campaign_table program (Text name ∷ []) close_is.0 close_is.1 refl (idle 7) old new run.count it.0 row (has run.was_open).schema_is (casts it.0 name reach items (pos 0))
+        let done = updates_row up_schema close_campaign_text 4 campaign_table program (Text name ∷ []) close_is.0 close_is.1 refl (idle 7) old new run.count it.0 row (has run.was_open).schema_is (casts it.0 name reach items (pos 0))
         (λ rows. update_rows old.now.trees name reach items running it.0 rows listed it.1) run.went in
         let now : Lists 1 (with_only name row rows_of) (new.now.trees campaign_table.tree) = record {
           shaped = subst (IsShaped Table) (sym done.rows) (rewritten_shaped it.0 was row rows lists.shaped it.1);
           parts = λ n. ap (rows_with 1 n) done.rows ∙ rewritten_parts it.0 was row rows lists.shaped it.1 1 name rows_of (λ n. text_is name n) (λ n. text_is name n) lists.parts is n;
         } in
-        run_alters close_text (Text name ∷ []) campaign_table _ old new run done.schema_is done.sound now done.others
+        run_alters close_campaign_text (Text name ∷ []) campaign_table _ old new run done.schema_is done.sound now done.others
+
+-- ---- faults of the write
+
+pub close_writes : (name : List ℕ) → Writes close_campaign_text (Text name ∷ []) (Update 4 program)
+unfolding understood everything
+close_writes name = record { is = close_is.0; plain = close_is.1; writes = refl; whole = refl; count = refl }

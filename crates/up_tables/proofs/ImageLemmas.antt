@@ -1,5 +1,5 @@
 -- The statements on images.
-use Rattle.std.proofs.Common.{◌≡◌, ◌==◌, ℕ, pos, List, [], ◌∷◌, map, filter, Bool, true, false, length, Ok, Err, Result, OnOk, IfOk, Option, IsTrue, refl, sym, ap, ◌∙◌, codes, string_bytes, append-nil, bytes_eq, ◌⊎◌, IfErr, Some, inl, inr, subst}
+use Rattle.std.proofs.Common.{◌≡◌, ◌==◌, ℕ, pos, List, [], ◌∷◌, map, filter, Bool, true, false, length, Ok, Err, Result, OnOk, IfOk, Option, IsTrue, refl, sym, ap, ◌∙◌, codes, string_bytes, append-nil, bytes_eq, ◌⊎◌, IfErr, inl, inr, subst}
 use Rattle.std.specs.Option.{option_to_list}
 use Rattle.std.specs.Result.{IsOkAnd}
 use Rattle.sqlite.specs.declared.types.Value.TheVariants.{Null, Text}
@@ -13,6 +13,8 @@ use Rattle.sqlite.specs.Listing.{understood}
 use Rattle.sqlite.specs.State.{State, HasCleanDisk, Survives, ExecutesInside, Shown, FailsToQuery, IsTooLate}
 use Rattle.sqlite.proofs.Callers.{IsPlain, command_of}
 use Rattle.sqlite_tied.specs.Compute.{everything}
+use Rattle.up_tables.proofs.RefusalLemmas.{Writes}
+use Rattle.up_tables.specs.Texts.{insert_image_text}
 use Rattle.up_tables.specs.Tables.{up_schema, image_table}
 use Rattle.up_tables.specs.Rows.{columns_at, with_row}
 use Rattle.up_tables.specs.Forms.{image_row, image_places}
@@ -38,9 +40,6 @@ use Rattle.sqlite.specs.Tree.{Trees}
 use Rattle.sqlite_catalog.specs.Listing.{IsSound}
 
 -- ---- put in
-
-abbrev pub insert_image_text : List ℕ
-insert_image_text = codes "INSERT INTO image (file, length, sha256, hardware, release_count, needs, conflicts) VALUES (?1, ?2, ?3, ?4, ?5, ?6, ?7)"
 
 insert_is : (command_of (understood up_schema insert_image_text) ≡ Insert 3 (Values (given 7) 8)) × IsPlain (understood up_schema insert_image_text)
 unfolding understood everything
@@ -124,3 +123,9 @@ pub all_images_blames : {X R : Type 0} (items : X → List Row) (answer : Result
 all_images_blames items answer r old new fault kinds ok err =
     blames_where (HoldsBy image_table 1 (λ rows_of. (name : List ℕ) → AllByRecursion ShowsImage (rows_of name))) (HoldsBy image_table 1 (λ rows_of. (name : List ℕ) → AllByRecursion ShowsImage (filter (λ _. true) (rows_of name)))) old new r (λ holds. (holds.0, holds.1, λ name. subst (AllByRecursion ShowsImage) (sym (filter_true (holds.0 name))) (holds.2 name)))
     (all_blames items image_table all_images_text part (λ _. true) ShowsImage (λ x h. h) [] (all_columns 7) names all_is all_images_takes (λ was now rows has table h. answers_all up_schema all_images_text 5 [] (all_columns 7) names [] (λ _. true) part (λ x. refl) (shows []) (λ db. refl) all_is was now rows has table h) all_images_texts answer r old new fault kinds ok err)
+
+-- ---- faults of the write
+
+pub image_writes : (i : ImageRow) → Writes insert_image_text (image_row i) (Insert 3 (Values (given 7) 8))
+unfolding understood everything
+image_writes i = record { is = insert_is.0; plain = insert_is.1; writes = refl; whole = refl; count = refl }

@@ -1,5 +1,5 @@
 -- The statements on kept manifests.
-use Rattle.std.proofs.Common.{◌≡◌, ℕ, pos, List, [], ◌∷◌, map, filter, Bool, ◌&&◌, Result, OnOk, IfOk, Option, IsTrue, refl, sym, ap, ◌∙◌, codes, string_bytes, append-nil, drop, ◌⊎◌, Err, IfErr, Some, subst}
+use Rattle.std.proofs.Common.{◌≡◌, ℕ, pos, List, [], ◌∷◌, map, filter, Bool, ◌&&◌, Result, OnOk, IfOk, Option, IsTrue, refl, sym, ap, ◌∙◌, codes, string_bytes, append-nil, drop, ◌⊎◌, Err, IfErr, subst}
 use Rattle.std.specs.Option.{option_to_list}
 use Rattle.std.specs.Result.{IsOkAnd}
 use Rattle.std.specs.Ordering.{is_eq}
@@ -14,6 +14,8 @@ use Rattle.sqlite.specs.Listing.{understood}
 use Rattle.sqlite.specs.State.{State, HasCleanDisk, Survives, ExecutesInside, Shown, FailsToQuery, IsTooLate}
 use Rattle.sqlite.proofs.Callers.{IsPlain, command_of}
 use Rattle.sqlite_tied.specs.Compute.{everything}
+use Rattle.up_tables.proofs.RefusalLemmas.{Writes}
+use Rattle.up_tables.specs.Texts.{insert_kept_text}
 use Rattle.up_tables.specs.Rows.{bare, columns_at, has_text, has_number, with_row}
 use Rattle.up_tables.specs.Stands.{Lists, IfClean, IsInside, Alters, HasTables}
 use Rattle.up_tables.specs.declared.values.StoreFault.{StoreFault}
@@ -36,9 +38,6 @@ use Rattle.up_tables.specs.Kinds.{ShowsOne, ShowsKept}
 use Rattle.up_tables.proofs.BlameLemmas.{Takes, blames, shown_one}
 
 -- ---- put in
-
-abbrev pub insert_kept_text : List ℕ
-insert_kept_text = codes "INSERT INTO kept (vehicle, counter, version, moment, root, signed, plan_text, reply) VALUES (?1, ?2, ?3, ?4, ?5, ?6, ?7, ?8)"
 
 insert_is : (command_of (understood up_schema insert_kept_text) ≡ Insert 7 (Values (given 8) 9)) × IsPlain (understood up_schema insert_kept_text)
 unfolding understood everything
@@ -105,3 +104,9 @@ find_kept_blames items answer r old new vehicle counter =
     blames items find_kept_text (Text vehicle ∷ Int (pos counter) ∷ []) 14 (equals 1 0 ∷ equals 2 1 ∷ []) (all_columns 8) [] names find_is (find_kept_takes vehicle counter) answer r old new (HoldsBy kept_table 1 (λ rows_of. ShowsOne ShowsKept (filter (has_number 1 (pos counter)) (rows_of vehicle)))) (ShowsOne ShowsKept)
     (λ ready holds rows h. shown_one part ShowsKept ShowsKept (λ x k. k) _ rows (its_answer vehicle counter old new rows ready.here.schema_is h)
     (subst (ShowsOne ShowsKept) (its_rows vehicle counter holds.0 (old.now.trees kept_table.tree) holds.1) holds.2))
+
+-- ---- faults of the write
+
+pub kept_writes : (k : KeptRow) → Writes insert_kept_text (kept_row k) (Insert 7 (Values (given 8) 9))
+unfolding understood everything
+kept_writes k = record { is = insert_is.0; plain = insert_is.1; writes = refl; whole = refl; count = refl }

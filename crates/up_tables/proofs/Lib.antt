@@ -47,5 +47,6 @@ pub mod ListedLemmas
 pub mod RaiseLemmas
 pub mod ColumnLemmas
 pub mod BlameLemmas
+pub mod RefusalLemmas
 pub mod TypedLemmas
 pub mod OwnerLemmas

@@ -1,6 +1,5 @@
 -- What the query on `meta` answers over tables of this product, whichever version of its schema they have.
-use Rattle.std.proofs.Common.{◌≡◌, ◌⊎◌, inl, inr, ℕ, pos, List, [], ◌∷◌, map, filter, length, Bool, true, false, None, Some, Ok, Err, Result, IsTrue, refl, sym, ap, subst, ◌∙◌, codes, append-nil}
-use Rattle.std.proofs.Math.Dec.{leb}
+use Rattle.std.proofs.Common.{◌≡◌, ℕ, pos, List, [], ◌∷◌, map, filter, length, true, false, None, Some, Ok, Err, Result, IsTrue, refl, sym, ap, subst, ◌∙◌, codes}
 use Rattle.std.proofs.Math.Path.{fun_ext}
 use Rattle.std.proofs.Math.Bool.{and-true}
 use Rattle.std.proofs.lemmas.Bool.{leb-true}

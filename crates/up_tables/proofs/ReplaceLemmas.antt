@@ -22,6 +22,8 @@ use Rattle.sqlite_keyed.proofs.ListLemmas.{filter_same}
 use Rattle.sqlite_schema.specs.declared.program.Program.{Program}
 use Rattle.sqlite_trees.specs.View.{IsShaped}
 use Rattle.sqlite_trees.specs.declared.store.Shape.TheVariants.{Table}
+use Rattle.up_tables.proofs.RefusalLemmas.{Writes}
+use Rattle.up_tables.specs.Texts.{replace_ecu_text}
 use Rattle.up_tables.specs.Tables.{up_schema, ecu_table}
 use Rattle.up_tables.specs.Rows.{has_text, rows_with}
 use Rattle.up_tables.specs.Lines.{EcuLine, ecu_row, IsKept}
@@ -36,16 +38,13 @@ use Rattle.up_tables.proofs.PlaceLemmas.{only, unique}
 use Rattle.up_tables.proofs.RunLemmas.{IsRun, run_in, then_ok, run_alters, idle}
 use Rattle.up_tables.proofs.UpdateLemmas.{updates_row}
 
-abbrev pub replace_text : List ℕ
-replace_text = codes "UPDATE ecu SET ecu = ?1, hardware = ?2, public_key = ?3, file = NULL, length = NULL, sha256 = NULL, counter = 0, report = NULL WHERE ecu = ?4"
-
 abbrev shown : List Term
 shown = col 1 0 ∷ col 1 0 ∷ col 0 0 ∷ col 1 2 ∷ col 1 3 ∷ col 0 1 ∷ col 0 2 ∷ lit Null ∷ lit Null ∷ lit Null ∷ lit (Int (pos 0)) ∷ lit Null ∷ []
 
 abbrev program : Program
 program = record { lets = []; body = over 11 (equals 1 3 ∷ []) shown [] }
 
-replace_is : (command_of (understood up_schema replace_text) ≡ Update 6 program) × IsPlain (understood up_schema replace_text)
+replace_is : (command_of (understood up_schema replace_ecu_text) ≡ Update 6 program) × IsPlain (understood up_schema replace_ecu_text)
 unfolding understood everything
 replace_is = (refl, (refl, refl))
 
@@ -86,12 +85,12 @@ update_rows db ecu hardware public_key was id rows sound shaped there h =
 
 -- in a transaction: the new ECU's row stands in place of the old one's, under the same rowid
 pub replaces_in : (r : Result ℕ Error) (old new : State) (ecu hardware public_key key : List ℕ) → Survives old new (λ _. ⊥) → IfClean IsInside old
-    → (HasCleanDisk new → IsTrue old.in_transaction → ExecutesInside 0 replace_text (given ecu hardware public_key key) old new r)
+    → (HasCleanDisk new → IsTrue old.in_transaction → ExecutesInside 0 replace_ecu_text (given ecu hardware public_key key) old new r)
     → HasCleanDisk new → OnOk r ((rows_of : List ℕ → List Row) (was : EcuLine) → HasTables old → Lists 2 rows_of (old.now.trees ecu_table.tree) → Has (rows_of was.vehicle) (ecu_row was) → was.ecu ≡ key
     → Alters ecu_table (Lists 2 (with_replaced was (replaced_line ecu hardware public_key was) rows_of)) old new)
-replaces_in r old new ecu hardware public_key key survives inside ran clean = then_ok r replaces (run_in replace_text (given ecu hardware public_key key) old new r survives inside ran clean)
+replaces_in r old new ecu hardware public_key key survives inside ran clean = then_ok r replaces (run_in replace_ecu_text (given ecu hardware public_key key) old new r survives inside ran clean)
   where
-    replaces : IsRun replace_text (given ecu hardware public_key key) old new → (rows_of : List ℕ → List Row) (was : EcuLine) → HasTables old → Lists 2 rows_of (old.now.trees ecu_table.tree) → Has (rows_of was.vehicle) (ecu_row was) → was.ecu ≡ key
+    replaces : IsRun replace_ecu_text (given ecu hardware public_key key) old new → (rows_of : List ℕ → List Row) (was : EcuLine) → HasTables old → Lists 2 rows_of (old.now.trees ecu_table.tree) → Has (rows_of was.vehicle) (ecu_row was) → was.ecu ≡ key
         → Alters ecu_table (Lists 2 (with_replaced was (replaced_line ecu hardware public_key was) rows_of)) old new
     replaces run rows_of was has lists there named =
         let db = old.now.trees in
@@ -101,7 +100,7 @@ replaces_in r old new ecu hardware public_key key survives inside ran clean = th
         let params = given ecu hardware public_key key in
         let sound : IsSound up_schema db = subst (λ s. IsSound s db) here.schema_is here.sound in
         let it = row_in 2 was.vehicle rows (ecu_row was) lists.shaped (subst (λ xs. Has xs (ecu_row was)) (sym (lists.parts was.vehicle)) there) in
-        let done = updates_row up_schema replace_text 6 ecu_table program params replace_is.0 replace_is.1 refl (idle 11) old new run.count it.0 row here.schema_is (casts (Int it.0) (replaced_line ecu hardware public_key was) (kept ecu hardware public_key was) (cast_int it.0))
+        let done = updates_row up_schema replace_ecu_text 6 ecu_table program params replace_is.0 replace_is.1 refl (idle 11) old new run.count it.0 row here.schema_is (casts (Int it.0) (replaced_line ecu hardware public_key was) (kept ecu hardware public_key was) (cast_int it.0))
         (λ shown_rows h. update_rows db ecu hardware public_key was it.0 shown_rows sound lists.shaped it.1 (subst (λ k. Answers (record { schema = up_schema; trees = db }) program (given ecu hardware public_key k) shown_rows) (sym named) h)) run.went in
         let group : has_text 2 was.vehicle (Int it.0 ∷ ecu_row was) ≡ true = text_is was.vehicle was.vehicle ∙ own_text was.vehicle in
         let same : (n : List ℕ) → has_text 2 n (Int it.0 ∷ row) ≡ has_text 2 n (Int it.0 ∷ ecu_row was) = λ n. refl in
@@ -112,4 +111,10 @@ replaces_in r old new ecu hardware public_key key survives inside ran clean = th
           shaped = subst (IsShaped Table) (sym done.rows) (swapped_shaped 2 it.0 was.ecu was.vehicle (ecu_row was) row rows lists.shaped it.1 group same out keyed one);
           parts = λ n. ap (rows_with 2 n) done.rows ∙ swapped_parts 2 it.0 was.ecu was.vehicle (ecu_row was) row rows lists.shaped it.1 group same out keyed one rows_of lists.parts n;
         } in
-        run_alters replace_text params ecu_table _ old new run done.schema_is done.sound now done.others
+        run_alters replace_ecu_text params ecu_table _ old new run done.schema_is done.sound now done.others
+
+-- ---- faults of the write
+
+pub replace_writes : (ecu hardware public_key old : List ℕ) → Writes replace_ecu_text (given ecu hardware public_key old) (Update 6 program)
+unfolding understood everything
+replace_writes ecu hardware public_key old = record { is = replace_is.0; plain = replace_is.1; writes = refl; whole = refl; count = refl }

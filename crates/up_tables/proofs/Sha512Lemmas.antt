@@ -1,5 +1,5 @@
 -- The statements on second hashes of images.
-use Rattle.std.proofs.Common.{◌≡◌, ◌==◌, ℕ, pos, List, [], ◌∷◌, map, filter, Bool, true, false, length, Ok, Err, Result, OnOk, IfOk, Option, IsTrue, refl, sym, ap, ◌∙◌, codes, string_bytes, append-nil, bytes_eq, ◌⊎◌, IfErr, Some, inl, inr, subst}
+use Rattle.std.proofs.Common.{◌≡◌, ◌==◌, ℕ, pos, List, [], ◌∷◌, map, filter, Bool, true, false, length, Ok, Err, Result, OnOk, IfOk, Option, IsTrue, refl, sym, ap, ◌∙◌, codes, string_bytes, append-nil, bytes_eq, ◌⊎◌, IfErr, inl, inr, subst}
 use Rattle.std.specs.Option.{option_to_list}
 use Rattle.std.specs.Result.{IsOkAnd}
 use Rattle.sqlite.specs.declared.types.Value.TheVariants.{Null, Text}
@@ -13,6 +13,8 @@ use Rattle.sqlite.specs.Listing.{understood}
 use Rattle.sqlite.specs.State.{State, HasCleanDisk, Survives, ExecutesInside, Shown, FailsToQuery, IsTooLate}
 use Rattle.sqlite.proofs.Callers.{IsPlain, command_of}
 use Rattle.sqlite_tied.specs.Compute.{everything}
+use Rattle.up_tables.proofs.RefusalLemmas.{Writes}
+use Rattle.up_tables.specs.Texts.{insert_sha512_text}
 use Rattle.up_tables.specs.Tables.{up_schema, image_sha512_table}
 use Rattle.up_tables.specs.Rows.{columns_at, with_row}
 use Rattle.up_tables.specs.Lines.{sha512_line}
@@ -39,9 +41,6 @@ use Rattle.sqlite.specs.Tree.{Trees}
 use Rattle.sqlite_catalog.specs.Listing.{IsSound}
 
 -- ---- put in
-
-abbrev pub insert_sha512_text : List ℕ
-insert_sha512_text = codes "INSERT INTO image_sha512 (file, sha512) VALUES (?1, ?2)"
 
 insert_is : (command_of (understood up_schema insert_sha512_text) ≡ Insert 9 (Values (given 2) 3)) × IsPlain (understood up_schema insert_sha512_text)
 unfolding understood everything
@@ -125,3 +124,9 @@ pub all_sha512s_blames : {X R : Type 0} (items : X → List Row) (answer : Resul
 all_sha512s_blames items answer r old new fault kinds ok err =
     blames_where (HoldsBy image_sha512_table 1 (λ rows_of. (name : List ℕ) → AllByRecursion ShowsSha512 (rows_of name))) (HoldsBy image_sha512_table 1 (λ rows_of. (name : List ℕ) → AllByRecursion ShowsSha512 (filter (λ _. true) (rows_of name)))) old new r (λ holds. (holds.0, holds.1, λ name. subst (AllByRecursion ShowsSha512) (sym (filter_true (holds.0 name))) (holds.2 name)))
     (all_blames items image_sha512_table all_sha512s_text part (λ _. true) ShowsSha512 (λ x h. h) [] (all_columns 2) names all_is all_sha512s_takes (λ was now rows has table h. answers_all up_schema all_sha512s_text 19 [] (all_columns 2) names [] (λ _. true) part (λ x. refl) (shows []) (λ db. refl) all_is was now rows has table h) all_sha512s_texts answer r old new fault kinds ok err)
+
+-- ---- faults of the write
+
+pub sha512_writes : (file sha512 : List ℕ) → Writes insert_sha512_text (sha512_line file sha512) (Insert 9 (Values (given 2) 3))
+unfolding understood everything
+sha512_writes file sha512 = record { is = insert_is.0; plain = insert_is.1; writes = refl; whole = refl; count = refl }

@@ -41,6 +41,8 @@ use Rattle.sqlite_trees.specs.View.{IsShaped, is_int}
 use Rattle.sqlite_trees.specs.declared.store.Shape.TheVariants.{Table}
 use Rattle.sqlite_value.specs.Keys.{first_key}
 use Rattle.sqlite_value.specs.declared.keys.Collation.TheVariants.{Binary}
+use Rattle.up_tables.proofs.RefusalLemmas.{Writes}
+use Rattle.up_tables.specs.Texts.{insert_vehicle_text}
 use Rattle.up_tables.specs.Tables.{up_schema, vehicle_table}
 use Rattle.up_tables.specs.Rows.{columns_at, has_text, rows_with, with_row, with_only}
 use Rattle.up_tables.specs.Lines.{vehicle_line}
@@ -75,9 +77,6 @@ use Rattle.up_tables.proofs.BlameLemmas.{Takes}
 
 casts : (name primary : List ℕ) (version last : ℕ) → cast_row vehicle_table (Null ∷ vehicle_line name primary version last) ≡ Null ∷ vehicle_line name primary version last
 casts name primary version last = rw (cast_null, cast_int (pos version), cast_int (pos last)) refl
-
-abbrev pub insert_vehicle_text : List ℕ
-insert_vehicle_text = codes "INSERT INTO vehicle (vehicle, primary_ecu, version, last_counter) VALUES (?1, ?2, ?3, ?4)"
 
 insert_is : (command_of (understood up_schema insert_vehicle_text) ≡ Insert 5 (Values (given 4) 5)) × IsPlain (understood up_schema insert_vehicle_text)
 unfolding understood everything
@@ -268,3 +267,9 @@ pub find_vehicle_blames : {X : Type 0} (items : X → List Row) (answer : Result
     → BlamesDisk (HoldsBy vehicle_table 1 (λ rows_of. ShowsOne ShowsVehicle (rows_of name))) old new r
 find_vehicle_blames items answer r old new name =
     named_blames items vehicle_table 0 find_vehicle_text (all_columns 4) names part vehicle_row name find_is (λ db. refl) (λ x. rw (column_after x 0, column_after x 1, column_after x 2, column_after x 3) refl) (λ x. refl) ShowsVehicle (λ x h. h) (find_vehicle_takes name) answer r old new
+
+-- ---- faults of the write
+
+pub vehicle_writes : (v : VehicleRow) → Writes insert_vehicle_text (vehicle_row v) (Insert 5 (Values (given 4) 5))
+unfolding understood everything
+vehicle_writes v = record { is = insert_is.0; plain = insert_is.1; writes = refl; whole = refl; count = refl }

@@ -1,15 +1,17 @@
 //! The rows of campaigns.
 
-ghost use Rattle.std.specs.Prelude.{◌≡◌, ℕ, pos, List, map, filter, bytes_eq, string_bytes};
+ghost use Rattle.std.specs.Prelude.{◌≡◌, ℕ, pos, List, map, filter, bytes_eq, string_bytes, ◌∷◌, []};
 ghost use Rattle.std.specs.Option.{option_to_list};
+ghost use Rattle.sqlite.specs.declared.types.Value.TheVariants.{Text};
 ghost use Rattle.sqlite.specs.Held.{state};
 ghost use Rattle.std.specs.List.{AllByRecursion};
+ghost use Rattle.up_tables.specs.Texts.{insert_campaign_text, close_campaign_text};
 ghost use Rattle.up_tables.specs.Kinds.{ShowsOne, ShowsCampaign};
 ghost use Rattle.up_tables.specs.Tables.{campaign_table};
 ghost use Rattle.up_tables.specs.Rows.{columns_at, has_number, with_row};
 ghost use Rattle.up_tables.specs.Forms.{campaign_places, campaign_row};
 ghost use Rattle.up_tables.specs.Stands.{IfClean, IsInside};
-ghost use Rattle.up_tables.specs.Statements.{IsOpenStep, AltersRows, ClosesCampaign, OnlyReads, Finds, BlamesDisk, HoldsBy};
+ghost use Rattle.up_tables.specs.Statements.{IsOpenStep, AltersRows, ClosesCampaign, OnlyReads, Finds, BlamesDisk, HoldsBy, BlamesRefusal};
 
 use crate::reading::{Decode, at_most_one, each_row};
 use crate::values::{StoreFault, done, flag, flag_at, text_at, words};
@@ -53,6 +55,8 @@ pub fn insert_campaign<S: Alter>(
     requires mode { IfClean IsInside (state S.Store tx.old.conn.now) }
     ensures inserted { AltersRows campaign_table 1 (with_row (string_bytes campaign.now.name) (campaign_row campaign.now))
         (state S.Store tx.old.conn.now) (state S.Store tx.new.conn.now) result }
+    ensures blame { BlamesRefusal insert_campaign_text (campaign_row campaign.now)
+        (state S.Store tx.old.conn.now) (state S.Store tx.new.conn.now) result }
     ensures step { IsOpenStep S.Store tx.old.conn tx.new.conn result }
 {
     done(tx.execute(
@@ -70,6 +74,7 @@ pub fn insert_campaign<S: Alter>(
 pub fn close_campaign<S: Alter>(tx: &mut Transaction<'_, S>, name: &str) -> Result<(), StoreFault>
     requires mode { IfClean IsInside (state S.Store tx.old.conn.now) }
     ensures closed { ClosesCampaign name.now (state S.Store tx.old.conn.now) (state S.Store tx.new.conn.now) result }
+    ensures blame { BlamesRefusal close_campaign_text (Text name.now ∷ []) (state S.Store tx.old.conn.now) (state S.Store tx.new.conn.now) result }
     ensures step { IsOpenStep S.Store tx.old.conn tx.new.conn result }
 {
     done(tx.execute(

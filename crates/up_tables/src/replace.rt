@@ -1,8 +1,11 @@
 //! The row of an ECU that replaces another one.
 
+ghost use Rattle.std.specs.Prelude.{◌∷◌, []};
+ghost use Rattle.sqlite.specs.declared.types.Value.TheVariants.{Text, Blob};
 ghost use Rattle.sqlite.specs.Held.{state};
+ghost use Rattle.up_tables.specs.Texts.{replace_ecu_text};
 ghost use Rattle.up_tables.specs.Stands.{IfClean, IsInside};
-ghost use Rattle.up_tables.specs.Statements.{IsOpenStep, ReplacesEcu};
+ghost use Rattle.up_tables.specs.Statements.{IsOpenStep, ReplacesEcu, BlamesRefusal};
 
 use crate::values::{StoreFault, bytes, done, words};
 use sqlite::{Alter, Transaction};
@@ -18,6 +21,8 @@ pub fn replace_ecu<S: Alter>(
 ) -> Result<(), StoreFault>
     requires mode { IfClean IsInside (state S.Store tx.old.conn.now) }
     ensures replaced { ReplacesEcu old.now ecu.now hardware.now public_key.now
+        (state S.Store tx.old.conn.now) (state S.Store tx.new.conn.now) result }
+    ensures blame { BlamesRefusal replace_ecu_text (Text ecu.now ∷ Text hardware.now ∷ Blob public_key.now ∷ Text old.now ∷ [])
         (state S.Store tx.old.conn.now) (state S.Store tx.new.conn.now) result }
     ensures step { IsOpenStep S.Store tx.old.conn tx.new.conn result }
 {

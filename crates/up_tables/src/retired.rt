@@ -3,13 +3,14 @@
 ghost use Rattle.std.specs.Prelude.{◌≡◌, ℕ, List, option_map, string_bytes};
 ghost use Rattle.std.specs.List.{list_any};
 ghost use Rattle.sqlite.specs.Held.{state};
+ghost use Rattle.up_tables.specs.Texts.{insert_retired_text};
 ghost use Rattle.up_tables.specs.Kinds.{HasOwner};
 ghost use Rattle.up_tables.specs.Tables.{retired_table};
 ghost use Rattle.up_tables.specs.Rows.{has_text, with_row};
 ghost use Rattle.up_tables.specs.Lines.{retired_line};
 ghost use Rattle.up_tables.specs.Ecus.{owns};
 ghost use Rattle.up_tables.specs.Stands.{IfClean, IsInside};
-ghost use Rattle.up_tables.specs.Statements.{IsOpenStep, AltersRows, OnlyReads, Finds, BlamesDisk, HoldsBy};
+ghost use Rattle.up_tables.specs.Statements.{IsOpenStep, AltersRows, OnlyReads, Finds, BlamesDisk, HoldsBy, BlamesRefusal};
 
 use crate::reading::at_most_one;
 use crate::values::{StoreFault, done, words};
@@ -23,6 +24,8 @@ pub fn insert_retired<S: Alter>(
 ) -> Result<(), StoreFault>
     requires mode { IfClean IsInside (state S.Store tx.old.conn.now) }
     ensures inserted { AltersRows retired_table 2 (with_row vehicle.now (retired_line ecu.now vehicle.now))
+        (state S.Store tx.old.conn.now) (state S.Store tx.new.conn.now) result }
+    ensures blame { BlamesRefusal insert_retired_text (retired_line ecu.now vehicle.now)
         (state S.Store tx.old.conn.now) (state S.Store tx.new.conn.now) result }
     ensures step { IsOpenStep S.Store tx.old.conn tx.new.conn result }
 {

@@ -5,13 +5,14 @@ ghost use Rattle.std.specs.Option.{option_to_list};
 ghost use Rattle.std.specs.Prelude.{◌↔◌};
 ghost use Rattle.std.specs.Result.{IsOkAnd};
 ghost use Rattle.sqlite.specs.Held.{state};
+ghost use Rattle.up_tables.specs.Texts.{insert_vehicle_text};
 ghost use Rattle.up_tables.specs.Kinds.{ShowsOne, ShowsVehicle};
 ghost use Rattle.up_tables.specs.Faults.{store_fault};
 ghost use Rattle.up_tables.specs.Tables.{vehicle_table};
 ghost use Rattle.up_tables.specs.Rows.{columns_at, with_row};
 ghost use Rattle.up_tables.specs.Forms.{vehicle_places, vehicle_row, FitVehicle};
 ghost use Rattle.up_tables.specs.Stands.{IfClean, IsInside};
-ghost use Rattle.up_tables.specs.Statements.{IsOpenStep, AltersRows, SetsVehicle, OnlyReads, Finds, BlamesDisk, HoldsBy};
+ghost use Rattle.up_tables.specs.Statements.{IsOpenStep, AltersRows, SetsVehicle, OnlyReads, Finds, BlamesDisk, HoldsBy, BlamesRefusal};
 ghost use Rattle.up_tables.specs.declared.values.StoreFault.TheVariants as StoreFault;
 
 use crate::reading::{Decode, at_most_one};
@@ -55,6 +56,8 @@ pub fn insert_vehicle<S: Alter>(
     requires fit { FitVehicle vehicle.now }
     requires mode { IfClean IsInside (state S.Store tx.old.conn.now) }
     ensures inserted { AltersRows vehicle_table 1 (with_row (string_bytes vehicle.now.vehicle) (vehicle_row vehicle.now))
+        (state S.Store tx.old.conn.now) (state S.Store tx.new.conn.now) result }
+    ensures blame { BlamesRefusal insert_vehicle_text (vehicle_row vehicle.now)
         (state S.Store tx.old.conn.now) (state S.Store tx.new.conn.now) result }
     ensures step { IsOpenStep S.Store tx.old.conn tx.new.conn result }
 {
