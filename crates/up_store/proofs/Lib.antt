@@ -28,3 +28,4 @@ pub mod RootMoments
 pub mod RootTexts
 pub mod OneState
 pub mod MemoryAlone
+pub mod Blamed
