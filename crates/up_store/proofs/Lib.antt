@@ -29,3 +29,6 @@ pub mod RootTexts
 pub mod OneState
 pub mod MemoryAlone
 pub mod Blamed
+pub mod KindsOfTexts
+pub mod KindsOfImages
+pub mod KindsOfCampaigns

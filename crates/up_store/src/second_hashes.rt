@@ -12,7 +12,8 @@ ghost use Rattle.up_tables.specs.Statements.{IsStep, IsOpenStep};
 ghost use Rattle.up_store.specs.ColumnRows.{AreHashesOf, AreSha512s};
 ghost use Rattle.up_store.specs.Lines.{second_hash};
 ghost use Rattle.up_store.specs.Puts.{with_sha512_line};
-ghost use Rattle.up_store.specs.Connections.{NeedsOpen, FindsRows, FindsSuch, PutsTables};
+ghost use Rattle.up_store.specs.Typed.{HasValidImages};
+ghost use Rattle.up_store.specs.Connections.{NeedsOpen, BlamesWithin, FindsRows, FindsSuch, PutsTables};
 
 use crate::column_values::sha512_in;
 use crate::store::StoreFault;
@@ -33,6 +34,7 @@ pub(crate) fn find_sha512<D: Alter>(
     ensures found { FindsRows (λ rows. second_hash (table.get rows.images file.now))
         (state D.Store tx.old.conn.now) (state D.Store tx.new.conn.now) result }
     ensures open { NeedsOpen (state D.Store tx.old.conn.now) (state D.Store tx.new.conn.now) result }
+    ensures blame { BlamesWithin HasValidImages (state D.Store tx.old.conn.now) (state D.Store tx.new.conn.now) result }
     ensures step { IsStep D.Store tx.old.conn tx.new.conn }
 {
     match image_sha512(tx, file.text()) {
@@ -60,6 +62,7 @@ pub(crate) fn find_sha512s<D: Alter>(
     requires mode { IfClean IsInside (state D.Store tx.old.conn.now) }
     ensures found { FindsSuch (λ rows read. AreHashesOf read rows.images) (state D.Store tx.old.conn.now) (state D.Store tx.new.conn.now) result }
     ensures open { NeedsOpen (state D.Store tx.old.conn.now) (state D.Store tx.new.conn.now) result }
+    ensures blame { BlamesWithin HasValidImages (state D.Store tx.old.conn.now) (state D.Store tx.new.conn.now) result }
     ensures step { IsStep D.Store tx.old.conn tx.new.conn }
 {
     match image_sha512s(tx, alloc) {
