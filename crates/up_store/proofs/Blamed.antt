@@ -1,6 +1,7 @@
 -- Why a read tells `Store`: each of its statements does so only where the disk counted a fault, and what is read into values tells `Memory`
 -- alone.
-use Rattle.std.proofs.Common.{◌≡◌, Ok, Err, Result, IfErr, refl, sym, subst, ◌∙◌, arith, true}
+use Rattle.std.proofs.Common.{◌≡◌, List, [], ◌∷◌, Bool, true, false, cond, filter, Ok, Err, Result, IfErr, refl, sym, subst, ◌∙◌, arith}
+use Rattle.std.specs.List.{AllByRecursion}
 use Rattle.sqlite.specs.Held.{Held, state}
 use Rattle.sqlite.specs.State.{State as Connected, HasCleanDisk, Survives}
 use Rattle.sqlite_trees.specs.declared.store.Store.{Ghosts}
@@ -13,6 +14,19 @@ use Rattle.up_tables.specs.declared.values.StoreFault.TheVariants.{Memory, Store
 use Rattle.up_store.specs.Connections.{Blames, BlamesWithin}
 use Rattle.up_store.specs.Listing.{ListsRows}
 use Rattle.up_store.proofs.ColumnFound.{has_tables, within_read}
+
+-- what holds of all rows holds of those that are shown
+pub all_filtered : {X : Type 0} (P : X → Type 0) (test : X → Bool) (rows : List X) → AllByRecursion P rows → AllByRecursion P (filter test rows)
+all_filtered P test [] all = tt
+all_filtered P test (x ∷ rows) all = by_test (test x)
+  where
+    by_test : (b : Bool) → AllByRecursion P (cond b (x ∷ filter test rows) (filter test rows))
+    by_test true = (all.0, all_filtered P test rows all.1)
+    by_test false = all_filtered P test rows all.1
+
+pub if_err : {A E : Type 0} {P Q : E → Type 0} (r : Result A E) → IfErr r P → ((e : E) → P e → Q e) → IfErr r Q
+if_err (Ok x) h f = tt
+if_err (Err e) h f = f e h
 
 module _ {A : Type 0} (fits : StateRows → Type 0) where
   -- a statement, whose table has the rows that it shows

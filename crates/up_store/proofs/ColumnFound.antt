@@ -94,15 +94,28 @@ module _ {X R : Type 0} (t : NamedRows X R) where
       let has = has_tables rows before within in
       shows (λ n. t.lines (table.get (t.values rows) n)) has (t.lists rows before.now.trees (within.here (reads has).was_open).rows)
 
+  -- the row that is found is that of the name's value
+  pub record FoundIn (rows : StateRows) (name : Name) (shown : R) : Type 0 where
+    pub value : X
+    pub there : table.get (t.values rows) name ≡ Some value
+    pub typed : t.IsTyped name value
+    pub same : t.IsRow shown value
+
+  pub found_in : (rows : StateRows) (name : Name) (before after : Connected) (found : Option R) (shown : R) → found ≡ Some shown → (HasTables before → Reads before after) → Shows name found before
+      → IsWithin up_schema (ListsRows rows) before → FoundIn rows name shown
+  found_in rows name before after found shown is reads shows within =
+      let here = within.here (reads (has_tables rows before within)).was_open in
+      let f = some (table.get (t.values rows) name) shown (rows_are rows name before after found reads shows within ∙ ap (λ o. map t.row_of (option_to_list o)) is) in
+      record { value = f.value; there = f.there; typed = t.typed rows before.now.trees here.rows name f.value f.there; same = f.same }
+
   -- what is read of a row that is found is what the table has under the name
   pub some_found : {E : Type 0} (r : Result (Option X) E) (name : Name) (before after : Connected) (found : Option R) (shown : R) → found ≡ Some shown
       → IfOk r (λ read. (n : Name) (x : X) → t.IsTyped n x → t.IsRow shown x → read ≡ Some x) → (HasTables before → Reads before after) → Shows name found before
       → IfOk r (λ read. (rows : StateRows) → IsWithin up_schema (ListsRows rows) before → read ≡ table.get (t.values rows) name)
   some_found (Err e) name before after found shown is read reads shows = tt
   some_found (Ok x) name before after found shown is read reads shows = λ rows within.
-      let here = within.here (reads (has_tables rows before within)).was_open in
-      let f = some (table.get (t.values rows) name) shown (rows_are rows name before after found reads shows within ∙ ap (λ o. map t.row_of (option_to_list o)) is) in
-      read name f.value (t.typed rows before.now.trees here.rows name f.value f.there) f.same ∙ sym f.there
+      let f = found_in rows name before after found shown is reads shows within in
+      read name f.value f.typed f.same ∙ sym f.there
 
   -- the same of a row that is read together with another table's
   pub joined_found : {E : Type 0} (r : Result (Option X) E) (name : Name) (before mid : Connected) (found : Option R) (shown : R) → found ≡ Some shown
@@ -110,7 +123,7 @@ module _ {X R : Type 0} (t : NamedRows X R) where
       → (HasTables before → Reads before mid) → Shows name found before → IfOk r (λ read. (rows : StateRows) → IsWithin up_schema (ListsRows rows) before → read ≡ table.get (t.values rows) name)
   joined_found (Err e) name before mid found shown is read reads shows = tt
   joined_found (Ok x) name before mid found shown is read reads shows = λ rows within.
-      let f = some (table.get (t.values rows) name) shown (rows_are rows name before mid found reads shows within ∙ ap (λ o. map t.row_of (option_to_list o)) is) in
+      let f = found_in rows name before mid found shown is reads shows within in
       read rows (within_read rows before mid reads within) f.value f.there f.same ∙ sym f.there
 
   pub none_found : (rows : StateRows) (name : Name) (before after : Connected) (found : Option R) → found ≡ None → (HasTables before → Reads before after) → Shows name found before

@@ -4,7 +4,6 @@ use Rattle.std.specs.List.{AllByRecursion, list_all}
 use Rattle.std.specs.FinMap as table
 use Rattle.sqlite.specs.State.{State as Connected}
 use Rattle.sqlite.specs.declared.types.Value.TheVariants.{Text}
-use Rattle.sqlite_keyed.proofs.ListLemmas.{all-filter}
 use Rattle.up_canon.specs.Names.{Name}
 use Rattle.up_columns.specs.CampaignColumns.{reach_data, reach_column, items_data, items_column}
 use Rattle.up_columns.specs.Typed.{is_typed_item, is_typed_reach}
@@ -20,6 +19,7 @@ use Rattle.up_tables.specs.Tables.{campaign_table}
 use Rattle.up_store.specs.Lines.{campaign_lines}
 use Rattle.up_store.specs.Listing.{ListsRows}
 use Rattle.up_store.specs.Typed.{IsTypedCampaign, IsValidCampaign, HasValidCampaigns}
+use Rattle.up_store.proofs.Blamed.{all_filtered}
 use Rattle.up_store.proofs.KindsOfTexts.{ident, canonical}
 
 reach_words : (reach : Reach) → is_typed_reach reach ≡ true → IsWords (Text (reach_column reach))
@@ -50,4 +50,4 @@ holds_campaign name s rows lists fits = ((λ n. campaign_lines (table.get rows.c
 pub holds_running : (s : Connected) (rows : StateRows) → ListsRows rows s.now.trees → HasValidCampaigns rows
     → HoldsBy campaign_table 1 (λ rows_of. (name : List ℕ) → AllByRecursion ShowsCampaign (filter (has_number 3 (pos 1)) (rows_of name))) s
 holds_running s rows lists fits =
-    ((λ n. campaign_lines (table.get rows.campaigns n)), lists.tables.campaigns, (λ name. all-filter ShowsCampaign (has_number 3 (pos 1)) (campaign_lines (table.get rows.campaigns name)) (campaigns_show rows s lists fits name)))
+    ((λ n. campaign_lines (table.get rows.campaigns n)), lists.tables.campaigns, (λ name. all_filtered ShowsCampaign (has_number 3 (pos 1)) (campaign_lines (table.get rows.campaigns name)) (campaigns_show rows s lists fits name)))
