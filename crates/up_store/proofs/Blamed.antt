@@ -18,11 +18,11 @@ use Rattle.up_store.proofs.ColumnFound.{has_tables, within_read}
 -- what holds of all rows holds of those that are shown
 pub all_filtered : {X : Type 0} (P : X → Type 0) (test : X → Bool) (rows : List X) → AllByRecursion P rows → AllByRecursion P (filter test rows)
 all_filtered P test [] all = tt
-all_filtered P test (x ∷ rows) all = by_test (test x)
+all_filtered {X} P test (x ∷ rows) all = by_test (test x) (all_filtered P test rows all.1)
   where
-    by_test : (b : Bool) → AllByRecursion P (cond b (x ∷ filter test rows) (filter test rows))
-    by_test true = (all.0, all_filtered P test rows all.1)
-    by_test false = all_filtered P test rows all.1
+    by_test : (b : Bool) → AllByRecursion P (filter test rows) → AllByRecursion P (cond b (x ∷ filter test rows) (filter test rows))
+    by_test true rest = (all.0, rest)
+    by_test false rest = rest
 
 pub if_err : {A E : Type 0} {P Q : E → Type 0} (r : Result A E) → IfErr r P → ((e : E) → P e → Q e) → IfErr r Q
 if_err (Ok x) h f = tt
@@ -68,7 +68,7 @@ module _ {A : Type 0} (fits : StateRows → Type 0) where
       let begun : first ≡ record old { in_transaction = true } = subst (λ h. first ≡ record h { in_transaction = true }) same started in
       let now : HasCleanDisk (state g mid) = omega (arith, ends.clean) in
       let went : Steps (state g (record old { in_transaction = true })) (state g mid) = subst (λ h. Steps (state g h) (state g mid)) begun steps in
-      let told : BlamesWithin fits (state g (record old { in_transaction = true })) (state g mid) (Err f) = subst (λ h. BlamesWithin fits (state g h) (state g mid) (Err f)) begun blame in
+      let told : BlamesWithin {A = A} fits (state g (record old { in_transaction = true })) (state g mid) (Err f) = subst (λ h. BlamesWithin {A = A} fits (state g h) (state g mid) (Err f)) begun blame in
       let before : HasCleanDisk (state g old) = omega (arith, went.survives.clean) in
       let fault = told now is is_open unlimited rows (record { mode = refl; here = (keeps before).here }) fit in
       omega (arith, ends.counts, fault)

@@ -45,7 +45,7 @@ campaigns_show : (rows : StateRows) (s : Connected) → ListsRows rows s.now.tre
 campaigns_show rows s lists fits name = campaign_shows (table.get rows.campaigns name) name (lists.typed.campaigns name) (fits name)
 
 pub holds_campaign : (name : Name) (s : Connected) (rows : StateRows) → ListsRows rows s.now.trees → HasValidCampaigns rows → HoldsBy campaign_table 1 (λ rows_of. ShowsOne ShowsCampaign (rows_of name)) s
-holds_campaign name s rows lists fits = ((λ n. campaign_lines (table.get rows.campaigns n)), lists.tables.campaigns, one_campaign (table.get rows.campaigns name), campaigns_show rows s lists fits name)
+holds_campaign name s rows lists fits = ((λ n. campaign_lines (table.get rows.campaigns n)), lists.tables.campaigns, (one_campaign (table.get rows.campaigns name), campaigns_show rows s lists fits name))
 
 pub holds_running : (s : Connected) (rows : StateRows) → ListsRows rows s.now.trees → HasValidCampaigns rows
     → HoldsBy campaign_table 1 (λ rows_of. (name : List ℕ) → AllByRecursion ShowsCampaign (filter (has_number 3 (pos 1)) (rows_of name))) s

@@ -55,7 +55,7 @@ images_show : (rows : StateRows) (s : Connected) → ListsRows rows s.now.trees 
 images_show rows s lists fits name = image_shows (table.get rows.images name) name (lists.typed.images name) (fits.each name)
 
 pub holds_image : (file : Name) (s : Connected) (rows : StateRows) → ListsRows rows s.now.trees → HasValidImages rows → HoldsBy image_table 1 (λ rows_of. ShowsOne ShowsImage (rows_of file)) s
-holds_image file s rows lists fits = ((λ name. image_lines (table.get rows.images name)), lists.tables.images, one_image (table.get rows.images file), images_show rows s lists fits file)
+holds_image file s rows lists fits = ((λ name. image_lines (table.get rows.images name)), lists.tables.images, (one_image (table.get rows.images file), images_show rows s lists fits file))
 
 pub holds_images : (s : Connected) (rows : StateRows) → ListsRows rows s.now.trees → HasValidImages rows → HoldsBy image_table 1 (λ rows_of. (name : List ℕ) → AllByRecursion ShowsImage (rows_of name)) s
 holds_images s rows lists fits = ((λ name. image_lines (table.get rows.images name)), lists.tables.images, images_show rows s lists fits)
@@ -80,7 +80,7 @@ hashes_show rows s lists fits name = by_image (table.get rows.images name) (list
 
 pub holds_hash : (file : Name) (s : Connected) (rows : StateRows) → ListsRows rows s.now.trees → HasValidImages rows → HoldsBy image_sha512_table 1 (λ rows_of. ShowsOne ShowsSha512 (rows_of file)) s
 holds_hash file s rows lists fits =
-    ((λ name. sha512_lines name (second_hash (table.get rows.images name))), lists.tables.sha512s, one_hash file (second_hash (table.get rows.images file)), hashes_show rows s lists fits file)
+    ((λ name. sha512_lines name (second_hash (table.get rows.images name))), lists.tables.sha512s, (one_hash file (second_hash (table.get rows.images file)), hashes_show rows s lists fits file))
 
 pub holds_hashes : (s : Connected) (rows : StateRows) → ListsRows rows s.now.trees → HasValidImages rows → HoldsBy image_sha512_table 1 (λ rows_of. (name : List ℕ) → AllByRecursion ShowsSha512 (rows_of name)) s
 holds_hashes s rows lists fits = ((λ name. sha512_lines name (second_hash (table.get rows.images name))), lists.tables.sha512s, hashes_show rows s lists fits)
