@@ -1,6 +1,6 @@
 -- Why a read tells `Store`: each of its statements does so only where the disk counted a fault, and what is read into values tells `Memory`
 -- alone.
-use Rattle.std.proofs.Common.{◌≡◌, List, [], ◌∷◌, Bool, true, false, cond, filter, Ok, Err, Result, IfErr, refl, sym, subst, ◌∙◌, arith}
+use Rattle.std.proofs.Common.{◌≡◌, List, [], ◌∷◌, Bool, true, false, cond, filter, Option, Some, None, IfSome, Ok, Err, Result, IfErr, refl, sym, subst, ◌∙◌, arith}
 use Rattle.std.specs.List.{AllByRecursion}
 use Rattle.sqlite.specs.Held.{Held, state}
 use Rattle.sqlite.specs.State.{State as Connected, HasCleanDisk, Survives}
@@ -23,6 +23,10 @@ all_filtered {X} P test (x ∷ rows) all = by_test (test x) (all_filtered P test
     by_test : (b : Bool) → AllByRecursion P (filter test rows) → AllByRecursion P (cond b (x ∷ filter test rows) (filter test rows))
     by_test true rest = (all.0, rest)
     by_test false rest = rest
+
+pub if_some : {X : Type 0} {P : X → Type 0} (o : Option X) → ((x : X) → o ≡ Some x → P x) → IfSome o P
+if_some None each = tt
+if_some (Some x) each = each x refl
 
 pub if_err : {A E : Type 0} {P Q : E → Type 0} (r : Result A E) → IfErr r P → ((e : E) → P e → Q e) → IfErr r Q
 if_err (Ok x) h f = tt

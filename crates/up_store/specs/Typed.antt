@@ -96,14 +96,13 @@ AreValidImages images = (file : Name) (image : ImageData) → table.get images f
 abbrev pub AreValidCampaigns : Table CampaignData → Type 0
 AreValidCampaigns campaigns = (name : Name) (campaign : CampaignData) → table.get campaigns name ≡ Some campaign → IsValidCampaign campaign
 
--- the images of all rows, with their second hashes
-pub record HasValidImages (rows : StateRows) : Type 0 where
-  pub each : AreValidImages rows.images
-  pub hashes : (file : Name) (image : ImageData) → table.get rows.images file ≡ Some image → IfSome image.sha512 (λ hash. length hash ≡ 64)
+-- an image with its second hash
+pub record IsImageValue (image : ImageData) : Type 0 where
+  pub valid : IsValidImage image
+  pub sha512 : IfSome image.sha512 (λ hash. length hash ≡ 64)
 
--- the campaigns of all rows
-abbrev pub HasValidCampaigns : StateRows → Type 0
-HasValidCampaigns rows = AreValidCampaigns rows.campaigns
+abbrev pub AreImageValues : Table ImageData → Type 0
+AreImageValues images = (file : Name) (image : ImageData) → table.get images file ≡ Some image → IsImageValue image
 
 abbrev pub IsValidRole : RoleSecrets → Type 0
 IsValidRole role = role.threshold < 2 ^ 32
