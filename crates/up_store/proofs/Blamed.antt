@@ -1,6 +1,7 @@
 -- Why a read tells `Store`: each of its statements does so only where the disk counted a fault, and what is read into values tells `Memory`
 -- alone.
 use Rattle.std.proofs.Common.{◌≡◌, List, [], ◌∷◌, Bool, true, false, cond, filter, Option, Some, None, IfSome, Ok, Err, Result, IfErr, refl, sym, subst, ◌∙◌, arith}
+use Rattle.std.specs.Prelude.{⊤}
 use Rattle.std.specs.List.{AllByRecursion}
 use Rattle.sqlite.specs.Held.{Held, state}
 use Rattle.sqlite.specs.State.{State as Connected, HasCleanDisk, Survives}
@@ -32,15 +33,21 @@ pub if_err : {A E : Type 0} {P Q : E → Type 0} (r : Result A E) → IfErr r P 
 if_err (Ok x) h f = tt
 if_err (Err e) h f = f e h
 
-module _ {A : Type 0} (fits : StateRows → Type 0) where
-  -- a statement, whose table has the rows that it shows
-  pub by_statement : (P : Connected → Type 0) (old new : Connected) (r : Result A StoreFault)
-      → ((rows : StateRows) → ListsRows rows old.now.trees → fits rows → P old) → BlamesDisk P old new r → BlamesWithin fits old new r
+module _ (fits : StateRows → Type 0) where
+  -- a fault of a statement, whose table has the rows that it shows
+  pub by_statement : (P : Type 0) (old new : Connected) (r : Result ⊤ StoreFault) → ((rows : StateRows) → ListsRows rows old.now.trees → fits rows → P) → BlamesDisk (λ s. P) old new r → BlamesWithin fits old new r
   by_statement P old new (Ok x) holds blame clean = tt
   by_statement P old new (Err f) holds blame clean = λ is is_open unlimited rows within fit.
       let here = within.here is_open in
       blame clean is (record { is_open = is_open; here = record { schema_is = here.schema_is; sound = here.sound; rows = tt }; unlimited = unlimited }) (holds rows here.rows fit)
 
+  -- a fault of a step that holds of other rows
+  pub fits_blames : (next : StateRows → Type 0) (old new : Connected) (r : Result ⊤ StoreFault) → ((rows : StateRows) → ListsRows rows old.now.trees → fits rows → next rows)
+      → BlamesWithin next old new r → BlamesWithin fits old new r
+  fits_blames next old new (Ok x) fit blame clean = tt
+  fits_blames next old new (Err f) fit blame clean = λ is is_open unlimited rows within fits_before. blame clean is is_open unlimited rows within (fit rows (within.here is_open).rows fits_before)
+
+module _ {A : Type 0} (fits : StateRows → Type 0) where
   -- a step after one that went through
   pub then_blames : (next : StateRows → Type 0) (old mid new : Connected) (r : Result A StoreFault) → Steps old mid → Steps mid new
       → (HasCleanDisk mid → HasTables old → Reads old mid) → (HasCleanDisk mid → (rows : StateRows) → IsWithin up_schema (ListsRows rows) old → fits rows → next rows)
@@ -57,12 +64,6 @@ module _ {A : Type 0} (fits : StateRows → Type 0) where
       → (HasCleanDisk new → (rows : StateRows) → IsWithin up_schema (ListsRows rows) old → fits rows → IfErr r (λ fault. fault ≡ Memory)) → BlamesWithin fits old new r
   memory_blames old new (Ok x) memory clean = tt
   memory_blames old new (Err f) memory clean = λ is is_open unlimited rows within fit. absurd (let no : Memory ≡ Store = sym (memory clean rows within fit) ∙ is in cc)
-
-  -- what holds of other rows
-  pub fits_blames : (next : StateRows → Type 0) (old new : Connected) (r : Result A StoreFault) → ((rows : StateRows) → ListsRows rows old.now.trees → fits rows → next rows)
-      → BlamesWithin next old new r → BlamesWithin fits old new r
-  fits_blames next old new (Ok x) fit blame clean = tt
-  fits_blames next old new (Err f) fit blame clean = λ is is_open unlimited rows within fits_before. blame clean is is_open unlimited rows within (fit rows (within.here is_open).rows fits_before)
 
   -- a read from the start of its transaction to its end
   pub read_blames : {S : Type 0} (g : Ghosts S) {viewed : Held S} (old first mid last : Held S) (r : Result A StoreFault) → viewed ≡ old → first ≡ record viewed { in_transaction = true }

@@ -26,4 +26,4 @@ returns-in-Ok-clause-blame g c =
 
 pub returns-in-Err-clause-blame : goal.returns-in-Err-clause-blame
 returns-in-Err-clause-blame g c =
-    fits_blames _ (λ rows. IfSome (table.get rows.images c.args.file.now) IsImageValue) (state g.D.Store c.args.tx.now.conn.now) (state g.D.Store c.find_sha512.new.tx.conn.now) (Err c.in-Err.fault) (λ rows lists fits. subst (λ o. IfSome o IsImageValue) (sym fits.1) fits.3) c.in-Err.ensures.blame
+    fits_blames (λ rows. (image : ImageData) × (table.get rows.images c.args.file.now ≡ Some image) × IsImage c.args.shown image × IsImageValue image) (λ rows. IfSome (table.get rows.images c.args.file.now) IsImageValue) (state g.D.Store c.args.tx.now.conn.now) (state g.D.Store c.find_sha512.new.tx.conn.now) (Err c.in-Err.fault) (λ rows lists fits. subst (λ o. IfSome o IsImageValue) (sym fits.1) fits.3) c.in-Err.ensures.blame

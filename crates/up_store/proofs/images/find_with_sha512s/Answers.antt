@@ -19,4 +19,4 @@ returns-in-Ok-clause-blame g c =
 
 pub returns-in-Err-clause-blame : goal.returns-in-Err-clause-blame
 returns-in-Err-clause-blame g c =
-    fits_blames _ (λ rows. AreImageValues rows.images) (state g.D.Store c.args.tx.now.conn.now) (state g.D.Store c.find_sha512s.new.tx.conn.now) (Err c.in-Err.fault) (λ rows lists fits. fits.1) c.in-Err.ensures.blame
+    fits_blames (λ rows. AreImages c.args.shown.items rows.images × AreImageValues rows.images) (λ rows. AreImageValues rows.images) (state g.D.Store c.args.tx.now.conn.now) (state g.D.Store c.find_sha512s.new.tx.conn.now) (Err c.in-Err.fault) (λ rows lists fits. fits.1) c.in-Err.ensures.blame
