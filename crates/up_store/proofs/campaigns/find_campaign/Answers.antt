@@ -1,4 +1,4 @@
-use Rattle.std.proofs.Common.{IfSome, Err, subst}
+use Rattle.std.proofs.Common.{Some, IfSome, Err, subst}
 use Rattle.std.specs.FinMap as table
 use Rattle.sqlite.specs.Held.{state}
 use Rattle.up_store.specs.Typed.{IsValidCampaign}
@@ -20,7 +20,7 @@ returns-in-Ok-Some-clause-blame g c =
     memory_blames (λ rows. IfSome (table.get rows.campaigns c.args.name.now) IsValidCampaign) before after c.some_campaign.result
     (λ clean rows within fits.
     let f = found_in campaigns rows c.args.name.now before after c.in-Ok-Some.field-0 c.in-Ok-Some.shown c.in-Ok-Some.field-0-is (c.in-Ok-Some.ensures.reads clean) (rw c.text.ensures.value at c.in-Ok-Some.ensures.found clean) within in
-    c.some_campaign.ensures.fault c.args.name.now f.value f.typed (subst (λ o. IfSome o IsValidCampaign) f.there fits) f.same)
+    c.some_campaign.ensures.fault c.args.name.now f.value f.typed (subst (λ o. IfSome o IsValidCampaign) {y = Some f.value} f.there fits) f.same)
 
 pub returns-in-Err-clause-blame : goal.returns-in-Err-clause-blame
 returns-in-Err-clause-blame g c =

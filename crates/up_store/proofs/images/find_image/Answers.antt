@@ -30,7 +30,7 @@ returns-in-Ok-Some-clause-blame g c =
     c.image.ensures.step.steps c.find_with_sha512.ensures.step.steps c.in-Ok-Some.ensures.reads
     (λ clean rows within fits.
     let f = found_in images rows c.args.file.now before mid c.in-Ok-Some.field-0 c.in-Ok-Some.shown c.in-Ok-Some.field-0-is (c.in-Ok-Some.ensures.reads clean) (rw c.text.ensures.value at c.in-Ok-Some.ensures.found clean) within in
-    let value : IsImageValue f.value = subst (λ o. IfSome o IsImageValue) f.there fits in
+    let value : IsImageValue f.value = subst (λ o. IfSome o IsImageValue) {y = Some f.value} f.there fits in
     (f.value, f.there, f.same, value))
     c.find_with_sha512.ensures.blame
 
