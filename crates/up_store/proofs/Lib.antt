@@ -32,3 +32,6 @@ pub mod Blamed
 pub mod KindsOfTexts
 pub mod KindsOfImages
 pub mod KindsOfCampaigns
+pub mod KindsOfVehicles
+pub mod KindsOfKept
+pub mod KindsOfFounding
