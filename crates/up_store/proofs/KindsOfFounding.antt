@@ -1,11 +1,10 @@
 -- The row of `meta`, the rows of keys and those of files have the columns that the statements show.
-use Rattle.std.proofs.Common.{◌≡◌, ℕ, suc, pos, ◌+◌, ◌≤◌, List, [], ◌∷◌, ◌++◌, Option, Some, None, map, filter, length, codes, refl, sym, subst, arith, true, IsUtf8}
+use Rattle.std.proofs.Common.{◌≡◌, ℕ, suc, pos, ◌+◌, ◌≤◌, ◌^◌, List, [], ◌∷◌, ◌++◌, Option, Some, None, map, filter, length, codes, refl, sym, subst, arith, true, IsUtf8}
 use Rattle.std.specs.Prelude.{IfSome, flat_map}
 use Rattle.std.specs.List.{AllByRecursion, enumerate_from}
 use Rattle.sqlite.specs.declared.types.Value.TheVariants.{Text}
 use Rattle.sqlite.specs.Order.{Row}
 use Rattle.sqlite.specs.State.{State as Connected}
-use Rattle.sqlite_keyed.proofs.ListLemmas.{all-filter}
 use Rattle.up_canon.specs.Names.{Name, is_file_name}
 use Rattle.up_metadata.specs.declared.keys.RepoKeys.{RepoKeys}
 use Rattle.up_machine.specs.declared.rows.Founding.{Founding}
@@ -20,6 +19,8 @@ use Rattle.up_tables.specs.Statements.{HasMeta, HoldsOfAll, HoldsOfFiles}
 use Rattle.up_tables.specs.Tables.{role_key_table}
 use Rattle.up_store.specs.Lines.{founding_number, repository_word, repository_lines, root_lines, roots_lines, file_lines}
 use Rattle.up_store.specs.Listing.{ListsRows, files_lines}
+use Rattle.up_store.specs.Typed.{IsFoundingValue}
+use Rattle.up_store.proofs.Blamed.{all_filtered}
 use Rattle.up_store.proofs.FileReads.{own_lines}
 use Rattle.up_store.proofs.FoundingReads.{key_line}
 use Rattle.up_store.proofs.KindsOfTexts.{file_name, printed}
@@ -33,6 +34,11 @@ word Image = printed (codes "image") refl
 pub holds_meta : (s : Connected) (rows : StateRows) → ListsRows rows s.now.trees → HasMeta s
 holds_meta s rows lists =
     (founding_number (λ (f : Founding). f.root) rows.founding, founding_number (λ (f : Founding). f.image_version) rows.founding, founding_number (λ (f : Founding). f.stamp) rows.founding, lists.tables.meta)
+
+-- its root version fits a column
+pub version_fits : (o : Option Founding) (root : ℕ) → root ≡ founding_number (λ (f : Founding). f.root) o → IfSome o IsFoundingValue → 2 ^ 63 ≤ root → ⊥
+version_fits None root is value large = omega (arith, is, large)
+version_fits (Some f) root is value large = omega (arith, is, large, value.root)
 
 -- ---- keys
 
@@ -57,7 +63,7 @@ roots_show i [] = tt
 roots_show i (root ∷ roots) = both_show _ _ (both_show _ _ (repository_shows i Director root.keys.director) (repository_shows i Image root.keys.image)) (roots_show (i + 1) roots)
 
 pub holds_keys : (root : ℕ) (s : Connected) (rows : StateRows) → ListsRows rows s.now.trees → HoldsOfAll role_key_table (λ all. AllByRecursion ShowsRoleKey (filter (has_number 0 (pos root)) all)) s
-holds_keys root s rows lists = (roots_lines rows.roots, lists.tables.role_keys, all-filter ShowsRoleKey (has_number 0 (pos root)) (roots_lines rows.roots) (roots_show 1 rows.roots))
+holds_keys root s rows lists = (roots_lines rows.roots, lists.tables.role_keys, all_filtered ShowsRoleKey (has_number 0 (pos root)) (roots_lines rows.roots) (roots_show 1 rows.roots))
 
 -- ---- files
 

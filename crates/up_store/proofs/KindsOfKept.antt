@@ -1,10 +1,9 @@
 -- Rows of kept manifests have the columns that the statements show, and by the table's key a vehicle has one row at most with a counter.
-use Rattle.std.proofs.Common.{◌≡◌, inl, inr, ℕ, pos, ◌≤◌, List, [], ◌∷◌, Bool, true, false, ◌&&◌, Some, filter, find, map, drop, length, IsTrue, refl, sym, ap, subst, ◌∙◌, arith}
+use Rattle.std.proofs.Common.{◌≡◌, inl, inr, ℕ, ℤ, pos, ◌≤◌, List, [], ◌∷◌, Bool, true, false, cond, ◌&&◌, Some, Ok, Err, Result, filter, find, map, drop, length, IsTrue, refl, sym, ap, ap₂, subst, ◌∙◌, arith}
 use Rattle.std.specs.Prelude.{◌==◌, IfSome}
 use Rattle.std.specs.List.{AllByRecursion}
 use Rattle.std.specs.Ordering.{is_eq}
 use Rattle.std.specs.declared.cmp.Ordering.TheVariants.{Less}
-use Rattle.std.proofs.Math.Bool.{and-true}
 use Rattle.std.proofs.lemmas.Bool.Decides.{nat_tests}
 use Rattle.std.proofs.lemmas.List.{length-map}
 use Rattle.sqlite.specs.declared.types.Value.{Value}
@@ -14,13 +13,13 @@ use Rattle.sqlite.specs.State.{State as Connected}
 use Rattle.sqlite.specs.Tree.{Trees, IsTable, rowid}
 use Rattle.sqlite_catalog.specs.Listing.{IsSound}
 use Rattle.sqlite_catalog.proofs.AlterLemmas.{keys_are_unique}
-use Rattle.sqlite_keyed.proofs.ListLemmas.{ascending-filter}
 use Rattle.sqlite_rules.specs.Lists.{Has}
 use Rattle.sqlite_rules.proofs.ListLemmas.{all_has, has_filtered}
 use Rattle.sqlite_rules.proofs.ProbeLemmas.{mapped_has, has_mapped}
-use Rattle.sqlite_schema.specs.Rules.{agree, differ}
+use Rattle.sqlite_schema.specs.Rules.{agree, differ, equal}
 use Rattle.sqlite_trees.specs.View.{is_int}
-use Rattle.sqlite_value.specs.Keys.{first_key, later, plain}
+use Rattle.sqlite_value.specs.declared.keys.Collation.TheVariants.{Binary}
+use Rattle.sqlite_value.specs.Keys.{first_key, plain}
 use Rattle.up_canon.specs.Names.{Name}
 use Rattle.up_columns.specs.PlanColumns.{plan_column, plan_data}
 use Rattle.up_columns.specs.Typed.{is_typed_plan}
@@ -32,15 +31,18 @@ use Rattle.up_rows.specs.StateRows.{StateRows}
 use Rattle.up_tables.specs.Kinds.{IsWords, ShowsOne, ShowsKept}
 use Rattle.up_tables.specs.Rows.{bare, has_text, has_number}
 use Rattle.up_tables.specs.Stands.{IsWith, Lists}
-use Rattle.up_tables.specs.Statements.{HoldsBy}
+use Rattle.up_tables.specs.Statements.{BlamesDisk, HoldsBy}
+use Rattle.up_tables.specs.declared.values.StoreFault.{StoreFault}
 use Rattle.up_tables.specs.Tables.{up_schema, kept_table}
 use Rattle.up_tables.proofs.AnswerLemmas.{equals_text, equals_int}
 use Rattle.up_tables.proofs.EcuRows.{column_after, differs, same_text, text_is}
 use Rattle.up_tables.proofs.PlaceLemmas.{any_has}
 use Rattle.up_tables.proofs.ReadLemmas.{bare_filter}
+use Rattle.up_store.specs.Connections.{BlamesWithin}
 use Rattle.up_store.specs.Lines.{kept_line}
 use Rattle.up_store.specs.Listing.{ListsRows}
 use Rattle.up_store.specs.Typed.{IsKeptValue, IsTypedKept}
+use Rattle.up_store.proofs.Blamed.{all_filtered}
 use Rattle.up_store.proofs.ColumnFound.{numbers_are}
 use Rattle.up_store.proofs.KindsOfTexts.{ident, canonical}
 
@@ -89,18 +91,30 @@ one_shows vehicle counter (row ∷ rows) typed few value = by_test (row.counter 
 
 -- ---- one at most has the counter
 
-int_value : (v : Value) → IsTrue (is_int v) → (n : _) × (v ≡ Int n)
+int_value : (v : Value) → IsTrue (is_int v) → (n : ℤ) × (v ≡ Int n)
 int_value Null int = absurd (let e = int in cc)
 int_value (Int n) int = (n, refl)
 int_value (Real x) int = absurd (let e = int in cc)
 int_value (Text t) int = absurd (let e = int in cc)
 int_value (Blob b) int = absurd (let e = int in cc)
 
+-- the rowids rise among some rows, too
+rising_filter : (test : Row → Bool) (rows : List Row) → IsTable rows → IsTable (filter test rows)
+rising_filter test [] rise = tt
+rising_filter test (x ∷ rows) rise = by_test (test x)
+  where
+    by_test : (b : Bool) → IsTable (cond b (x ∷ filter test rows) (filter test rows))
+    by_test true = (all_filtered (λ y. value_cmp (rowid x) (rowid y) ≡ Less) test rows rise.0, rising_filter test rows rise.1)
+    by_test false = rising_filter test rows rise.1
+
 -- two rows have that vehicle and that counter
 agrees : (vehicle : Name) (counter : ℕ) (a b : Row) → column b 1 ≡ Text vehicle → column b 2 ≡ Int (pos counter) → has_text 1 vehicle a ≡ true → has_number 2 (pos counter) a ≡ true
     → agree plain (1 ∷ 2 ∷ []) a (1 ∷ 2 ∷ []) b ≡ true
 unfolding first_key
-agrees vehicle counter a b text number one two = rw (text, number, equals_text (column a 1) vehicle, equals_int (column a 2) (pos counter), one, two) refl
+agrees vehicle counter a b text number one two =
+    let first : equal Binary (column a 1) (column b 1) ≡ true = ap (equal Binary (column a 1)) text ∙ equals_text (column a 1) vehicle ∙ one in
+    let second : equal Binary (column a 2) (column b 2) ≡ true = ap (equal Binary (column a 2)) number ∙ equals_int (column a 2) (pos counter) ∙ two in
+    ap₂ (λ (x y : Bool). x && (y && true)) first second
 
 module _ (vehicle : Name) (counter : ℕ) (kept : List Kept) (db : Trees) (sound : IsSound up_schema db) (rows_of : List ℕ → List Row) (lists : Lists 1 rows_of (db kept_table.tree)) (are : rows_of vehicle ≡ map kept_line kept) where
   abbrev rows : List Row
@@ -157,7 +171,7 @@ module _ (vehicle : Name) (counter : ℕ) (kept : List Kept) (db : Trees) (sound
 
   pub one_at_most : length (with_counter counter kept) ≤ 1
   one_at_most =
-      let up = ascending-filter _ (has_number 2 (pos counter)) its (ascending-filter _ (has_text 1 vehicle) rows lists.shaped.0) in
+      let up = rising_filter (has_number 2 (pos counter)) its (rising_filter (has_text 1 vehicle) rows lists.shaped.0) in
       let test : (x : Row) → has_number 2 (pos counter) x ≡ has_number 1 (pos counter) (drop 1 x) = λ x. ap (λ v. is_eq (value_cmp v (Int (pos counter)))) (column_after x 1) in
       let same : bare counted ≡ with_counter counter kept = bare_filter (has_number 2 (pos counter)) (has_number 1 (pos counter)) test its ∙ ap (filter (has_number 1 (pos counter))) (lists.parts vehicle ∙ are) in
       omega (arith, ap length same, length-map counted (drop 1), few counted is_its up)
@@ -170,3 +184,12 @@ holds_kept vehicle counter s rows here value =
     let sound : IsSound up_schema s.now.trees = subst (λ x. IsSound x s.now.trees) here.schema_is here.sound in
     let few = one_at_most vehicle counter (rows.kept vehicle) s.now.trees sound rows_of lists refl in
     (rows_of, lists, few, one_shows vehicle counter (rows.kept vehicle) (here.rows.typed.kept vehicle) few value)
+
+-- ---- a statement whose table has the rows that it shows, since its keys are obeyed
+
+pub by_sound_statement : {A : Type 0} (fits : StateRows → Type 0) (P : Connected → Type 0) (old new : Connected) (r : Result A StoreFault)
+    → ((rows : StateRows) → IsWith up_schema (ListsRows rows) old.now → fits rows → P old) → BlamesDisk P old new r → BlamesWithin fits old new r
+by_sound_statement fits P old new (Ok x) holds blame clean = tt
+by_sound_statement fits P old new (Err f) holds blame clean = λ is is_open unlimited rows within fit.
+    let here = within.here is_open in
+    blame clean is (record { is_open = is_open; here = record { schema_is = here.schema_is; sound = here.sound; rows = tt }; unlimited = unlimited }) (holds rows here fit)
