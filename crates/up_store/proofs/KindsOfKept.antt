@@ -101,11 +101,11 @@ int_value (Blob b) int = absurd (let e = int in cc)
 -- the rowids rise among some rows, too
 rising_filter : (test : Row → Bool) (rows : List Row) → IsTable rows → IsTable (filter test rows)
 rising_filter test [] rise = tt
-rising_filter test (x ∷ rows) rise = by_test (test x)
+rising_filter test (x ∷ rows) rise = by_test (test x) (rising_filter test rows rise.1)
   where
-    by_test : (b : Bool) → IsTable (cond b (x ∷ filter test rows) (filter test rows))
-    by_test true = (all_filtered (λ y. value_cmp (rowid x) (rowid y) ≡ Less) test rows rise.0, rising_filter test rows rise.1)
-    by_test false = rising_filter test rows rise.1
+    by_test : (b : Bool) → IsTable (filter test rows) → IsTable (cond b (x ∷ filter test rows) (filter test rows))
+    by_test true rest = (all_filtered (λ y. value_cmp (rowid x) (rowid y) ≡ Less) test rows rise.0, rest)
+    by_test false rest = rest
 
 -- two rows have that vehicle and that counter
 agrees : (vehicle : Name) (counter : ℕ) (a b : Row) → column b 1 ≡ Text vehicle → column b 2 ≡ Int (pos counter) → has_text 1 vehicle a ≡ true → has_number 2 (pos counter) a ≡ true
@@ -183,7 +183,7 @@ holds_kept vehicle counter s rows here value =
     let lists : Lists 1 rows_of (s.now.trees kept_table.tree) = here.rows.tables.kept in
     let sound : IsSound up_schema s.now.trees = subst (λ x. IsSound x s.now.trees) here.schema_is here.sound in
     let few = one_at_most vehicle counter (rows.kept vehicle) s.now.trees sound rows_of lists refl in
-    (rows_of, lists, few, one_shows vehicle counter (rows.kept vehicle) (here.rows.typed.kept vehicle) few value)
+    (rows_of, lists, (few, one_shows vehicle counter (rows.kept vehicle) (here.rows.typed.kept vehicle) few value))
 
 -- ---- a statement whose table has the rows that it shows, since its keys are obeyed
 
