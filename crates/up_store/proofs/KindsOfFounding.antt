@@ -1,6 +1,6 @@
 -- The row of `meta`, the rows of keys and those of files have the columns that the statements show.
 use Rattle.std.proofs.Common.{◌≡◌, ℕ, suc, pos, ◌+◌, ◌≤◌, ◌^◌, List, [], ◌∷◌, ◌++◌, Option, Some, None, map, filter, length, codes, refl, sym, subst, arith, true, IsUtf8}
-use Rattle.std.specs.Prelude.{IfSome, flat_map}
+use Rattle.std.specs.Prelude.{IfErr, IfSome, Result, flat_map}
 use Rattle.std.specs.List.{AllByRecursion, enumerate_from}
 use Rattle.sqlite.specs.declared.types.Value.TheVariants.{Text}
 use Rattle.sqlite.specs.Order.{Row}
@@ -13,13 +13,18 @@ use Rattle.up_roles.specs.declared.repository.Repository.TheVariants.{Director, 
 use Rattle.up_rows.specs.declared.root_row.RootRow.{RootRow}
 use Rattle.up_rows.specs.Lookups.{text_held}
 use Rattle.up_rows.specs.StateRows.{StateRows}
+use Rattle.up_tables.specs.declared.meta.MetaRow.{MetaRow}
+use Rattle.up_tables.specs.declared.role_key.RoleKeyRow.{RoleKeyRow}
+use Rattle.up_tables.specs.declared.values.StoreFault.{StoreFault}
+use Rattle.up_tables.specs.declared.values.StoreFault.TheVariants.{Memory}
 use Rattle.up_tables.specs.Kinds.{IsWords, ShowsOne, ShowsRoleKey, ShowsFile}
 use Rattle.up_tables.specs.Rows.{has_number}
 use Rattle.up_tables.specs.Statements.{HasMeta, HoldsOfAll, HoldsOfFiles}
 use Rattle.up_tables.specs.Tables.{role_key_table}
 use Rattle.up_store.specs.Lines.{founding_number, repository_word, repository_lines, root_lines, roots_lines, file_lines}
 use Rattle.up_store.specs.Listing.{ListsRows, files_lines}
-use Rattle.up_store.specs.Typed.{IsFoundingValue}
+use Rattle.up_store.specs.Shown.{IsFoundingOf}
+use Rattle.up_store.specs.Typed.{IsFoundingValue, IsValidFounding}
 use Rattle.up_store.proofs.Blamed.{all_filtered}
 use Rattle.up_store.proofs.FileReads.{own_lines}
 use Rattle.up_store.proofs.FoundingReads.{key_line}
@@ -39,6 +44,13 @@ holds_meta s rows lists =
 pub version_fits : (o : Option Founding) (root : ℕ) → root ≡ founding_number (λ (f : Founding). f.root) o → IfSome o IsFoundingValue → 2 ^ 63 ≤ root → ⊥
 version_fits None root is value large = omega (arith, is, large)
 version_fits (Some f) root is value large = omega (arith, is, large, value.root)
+
+-- a founding that is a value of its type is read again
+pub founded_fault : {A : Type 0} (row : MetaRow) (found : List RoleKeyRow) (o : Option Founding) → IsFoundingOf row found o → (r : Result A StoreFault)
+    → ((told : Option Founding) (is : IsFoundingOf row found told) → IsValidFounding is.founding → IfErr r (λ fault. fault ≡ Memory)) → IfSome o IsFoundingValue → IfErr r (λ fault. fault ≡ Memory)
+founded_fault row found o told r fault value =
+    let valued : IsFoundingValue told.founding = subst (λ x. IfSome x IsFoundingValue) told.is value in
+    fault o told valued.valid
 
 -- ---- keys
 

@@ -1,6 +1,6 @@
 -- Rows of kept manifests have the columns that the statements show, and by the table's key a vehicle has one row at most with a counter.
 use Rattle.std.proofs.Common.{◌≡◌, inl, inr, ℕ, ℤ, pos, ◌≤◌, List, [], ◌∷◌, Bool, true, false, cond, ◌&&◌, Some, Ok, Err, Result, filter, find, map, drop, length, IsTrue, refl, sym, ap, ap₂, subst, ◌∙◌, arith}
-use Rattle.std.specs.Prelude.{◌==◌, IfSome}
+use Rattle.std.specs.Prelude.{◌==◌, ⊤, IfSome}
 use Rattle.std.specs.List.{AllByRecursion}
 use Rattle.std.specs.Ordering.{is_eq}
 use Rattle.std.specs.declared.cmp.Ordering.TheVariants.{Less}
@@ -185,10 +185,10 @@ holds_kept vehicle counter s rows here value =
     let few = one_at_most vehicle counter (rows.kept vehicle) s.now.trees sound rows_of lists refl in
     (rows_of, lists, (few, one_shows vehicle counter (rows.kept vehicle) (here.rows.typed.kept vehicle) few value))
 
--- ---- a statement whose table has the rows that it shows, since its keys are obeyed
+-- ---- a fault of a statement, whose table has the rows that it shows since its keys are obeyed
 
-pub by_sound_statement : {A : Type 0} (fits : StateRows → Type 0) (P : Connected → Type 0) (old new : Connected) (r : Result A StoreFault)
-    → ((rows : StateRows) → IsWith up_schema (ListsRows rows) old.now → fits rows → P old) → BlamesDisk P old new r → BlamesWithin fits old new r
+pub by_sound_statement : (fits : StateRows → Type 0) (P : Type 0) (old new : Connected) (r : Result ⊤ StoreFault) → ((rows : StateRows) → IsWith up_schema (ListsRows rows) old.now → fits rows → P)
+    → BlamesDisk (λ s. P) old new r → BlamesWithin fits old new r
 by_sound_statement fits P old new (Ok x) holds blame clean = tt
 by_sound_statement fits P old new (Err f) holds blame clean = λ is is_open unlimited rows within fit.
     let here = within.here is_open in

@@ -128,7 +128,7 @@ holds_retired ecu s rows lists named = ((λ n. retired_lines n (rows.retired n))
 own : (name : Name) → bytes_eq name name ≡ true
 own name = (bytes_decides name name).1 refl
 
-pub owner_is_named : (rows : StateRows) (ecu : Name) (before after : Connected) (found : Option String) (shown : String) → found ≡ Some shown → (HasTables before → Reads before after)
+pub owner_is_named : {A : Type 0} (rows : StateRows) (ecu : Name) (before after : Connected) (found : Option (String A)) (shown : String A) → found ≡ Some shown → (HasTables before → Reads before after)
     → ((rows_of : List ℕ → List Row) → HasTables before → Lists 2 rows_of (before.now.trees ecu_table.tree) → (vehicle : List ℕ) → list_any (has_text 0 ecu) (rows_of vehicle) ≡ owns (option_map (λ s. string_bytes s) found) vehicle)
     → IsWithin up_schema (ListsRows rows) before → AreNamed rows.vehicles → is_ident (string_bytes shown) ≡ true
 owner_is_named rows ecu before after found shown is reads shows within named =
@@ -137,7 +137,7 @@ owner_is_named rows ecu before after found shown is reads shows within named =
     let name = string_bytes shown in
     owner_named rows ecu name named (shows (λ n. ecus_lines n (table.get rows.vehicles n)) has here.rows.tables.ecus name ∙ ap (λ o. owns (option_map (λ s. string_bytes s) o) name) is ∙ own name)
 
-pub last_is_named : (rows : StateRows) (ecu : Name) (before after : Connected) (found : Option String) (shown : String) → found ≡ Some shown → (HasTables before → Reads before after)
+pub last_is_named : {A : Type 0} (rows : StateRows) (ecu : Name) (before after : Connected) (found : Option (String A)) (shown : String A) → found ≡ Some shown → (HasTables before → Reads before after)
     → ((rows_of : List ℕ → List Row) → HasTables before → Lists 2 rows_of (before.now.trees retired_table.tree) → (vehicle : List ℕ) → list_any (has_text 0 ecu) (rows_of vehicle) ≡ owns (option_map (λ s. string_bytes s) found) vehicle)
     → IsWithin up_schema (ListsRows rows) before → AreNamed rows.vehicles → is_ident (string_bytes shown) ≡ true
 last_is_named rows ecu before after found shown is reads shows within named =
@@ -147,6 +147,6 @@ last_is_named rows ecu before after found shown is reads shows within named =
     last_named rows ecu name (here.rows.typed.retired name) named
     (shows (λ n. retired_lines n (rows.retired n)) has here.rows.tables.retired name ∙ ap (λ o. owns (option_map (λ s. string_bytes s) o) name) is ∙ own name)
 
-pub reads_owner : {A : Type 0} (r : Result A StoreFault) (shown : String) → is_ident (string_bytes shown) ≡ true → IfErr r (λ fault. (fault ≡ Store) × (is_ident (string_bytes shown) ≡ false)) → IfErr r (λ fault. fault ≡ Memory)
+pub reads_owner : {A B : Type 0} (r : Result A StoreFault) (shown : String B) → is_ident (string_bytes shown) ≡ true → IfErr r (λ fault. (fault ≡ Store) × (is_ident (string_bytes shown) ≡ false)) → IfErr r (λ fault. fault ≡ Memory)
 reads_owner (Ok x) shown named fault = tt
 reads_owner (Err f) shown named fault = absurd (let e : false ≡ true = sym fault.1 ∙ named in cc)

@@ -11,7 +11,7 @@ use Rattle.up_store.proofs.FoundingReads.{founding_in, founding_told}
 use Rattle.std.specs.Prelude.{IfSome}
 use Rattle.up_store.specs.Typed.{IsFoundingValue}
 use Rattle.up_store.proofs.Blamed.{by_statement, memory_blames}
-use Rattle.up_store.proofs.KindsOfFounding.{holds_keys, version_fits}
+use Rattle.up_store.proofs.KindsOfFounding.{holds_keys, version_fits, founded_fault}
 use Rattle.up_tables.specs.declared.meta.MetaRow.{MetaRow}
 use Rattle.up_store.proofs.roots.find_founded.Goals as goal
 
@@ -31,9 +31,9 @@ returns-in-Ok-clause-blame g c =
     let after = state g.D.Store c.role_keys_of.new.tx.conn.now in
     memory_blames (λ rows. (c.args.row ≡ meta_told rows.founding) × IfSome rows.founding IsFoundingValue) before after c.read_founding.result
     (λ clean rows within fits.
-    let told = founding_told rows c.args.row c.in-Ok.keys.items before after (ne_eqb c.args.row.root 0 (λ e. omega (arith, e, c.if-row-eq0.false))) (c.in-Ok.ensures.reads clean) (c.in-Ok.ensures.found clean) within fits.0 in
-    let value : IsFoundingValue told.founding = subst (λ o. IfSome o IsFoundingValue) told.is fits.1 in
-    c.read_founding.ensures.fault rows.founding (subst (λ l. IsFoundingOf c.args.row l rows.founding) (sym c.as_slice.ensures.value) told) value.valid)
+    let told = subst (λ l. IsFoundingOf c.args.row l rows.founding) (sym c.as_slice.ensures.value)
+    (founding_told rows c.args.row c.in-Ok.keys.items before after (ne_eqb c.args.row.root 0 (λ e. omega (arith, e, c.if-row-eq0.false))) (c.in-Ok.ensures.reads clean) (c.in-Ok.ensures.found clean) within fits.0) in
+    founded_fault c.args.row c.as_slice.result.now rows.founding told c.read_founding.result c.read_founding.ensures.fault fits.1)
 
 pub returns-in-Err-clause-blame : goal.returns-in-Err-clause-blame
 returns-in-Err-clause-blame g c =
