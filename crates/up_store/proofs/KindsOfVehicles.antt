@@ -1,8 +1,7 @@
 -- Rows of vehicles, of their ECUs and of those that were replaced have the columns that the statements show, and what was read of them can be
 -- read into values.
-use Rattle.std.proofs.Common.{◌≡◌, ◌⊎◌, inl, inr, ℕ, suc, pos, ◌≤◌, ◌<◌, List, [], ◌∷◌, Bool, true, false, Option, Some, None, Err, Ok, Result, IfErr, map, length, refl, sym, ap, subst, ◌∙◌, arith, string_bytes, bytes_eq, IsUtf8, IsTrue}
+use Rattle.std.proofs.Common.{◌≡◌, ◌⊎◌, inl, inr, ℕ, suc, pos, ◌<◌, List, [], ◌∷◌, true, false, Option, Some, None, Err, Ok, Result, IfErr, map, refl, sym, ap, subst, ◌∙◌, arith, string_bytes, bytes_eq, IsUtf8}
 use Rattle.std.specs.Prelude.{IfSome, String, option_map, unwrap_or}
-use Rattle.std.specs.Option.{option_to_list}
 use Rattle.std.specs.List.{AllByRecursion, list_any}
 use Rattle.std.specs.Cmp.Lexicographic.{bytes_decides}
 use Rattle.std.specs.FinMap as table
@@ -30,7 +29,7 @@ use Rattle.up_tables.specs.Stands.{IsWithin, HasTables, Reads, Lists}
 use Rattle.up_tables.specs.Statements.{HoldsBy}
 use Rattle.up_tables.specs.Tables.{up_schema, vehicle_table, ecu_table, retired_table}
 use Rattle.up_store.specs.Found.{vehicle_found, ecus_found}
-use Rattle.up_store.specs.Lines.{vehicle_lines, ecu_line, ecu_lines, ecus_lines, retired_lines}
+use Rattle.up_store.specs.Lines.{vehicle_lines, ecu_lines, ecus_lines, retired_lines}
 use Rattle.up_store.specs.Listing.{ListsRows}
 use Rattle.up_store.specs.Shown.{vehicle_read, ecu_read}
 use Rattle.up_store.specs.Typed.{AreNamed, IsEcuValue, IsValidEcu, IsValidInstalled, IsValidVehicle}
