@@ -1,6 +1,6 @@
 -- What is read of the tables of images, campaigns and kept manifests.
 use Rattle.std.proofs.Common.{◌≡◌, ℕ, pos, List, [], ◌∷◌, Bool, true, false, Option, Some, None, Result, Ok, Err, IsTrue, map, filter, refl, sym, ap, subst, ◌∙◌, string_bytes, bytes_eq, arith}
-use Rattle.std.specs.Prelude.{◌==◌, if◌then◌else◌, option_map, option_and_then, IfOk, find}
+use Rattle.std.specs.Prelude.{◌==◌, if◌then◌else◌, option_map, option_and_then, IfOk, IfErr, IfSome, find}
 use Rattle.std.specs.List.{AllByRecursion}
 use Rattle.std.specs.Option.{option_to_list}
 use Rattle.std.specs.Ordering.{is_eq}
@@ -26,6 +26,8 @@ use Rattle.up_tables.specs.declared.campaign.CampaignRow.{CampaignRow}
 use Rattle.up_tables.specs.declared.image.ImageRow.{ImageRow}
 use Rattle.up_tables.specs.declared.image_sha512.Sha512Row.{Sha512Row}
 use Rattle.up_tables.specs.declared.kept.KeptRow.{KeptRow}
+use Rattle.up_tables.specs.declared.values.StoreFault.{StoreFault}
+use Rattle.up_tables.specs.declared.values.StoreFault.TheVariants.{Memory}
 use Rattle.up_tables.specs.declared.vehicle.VehicleRow.{VehicleRow as VehicleShown}
 use Rattle.up_tables.specs.Forms.{image_places, image_row, sha512_places, sha512_row, campaign_places, campaign_row, vehicle_places, vehicle_row, kept_places, kept_row}
 use Rattle.up_tables.specs.Lines.{yes_or_no}
@@ -37,7 +39,7 @@ use Rattle.up_store.specs.Found.{vehicle_found}
 use Rattle.up_store.specs.Lines.{image_lines, second_hash, sha512_lines, campaign_lines, kept_line}
 use Rattle.up_store.specs.Listing.{ListsRows}
 use Rattle.up_store.specs.Shown.{vehicle_read}
-use Rattle.up_store.specs.Typed.{IsTypedImage, IsTypedCampaign, IsTypedKept}
+use Rattle.up_store.specs.Typed.{IsTypedImage, IsTypedCampaign, IsTypedKept, IsValidKept, IsKeptValue}
 use Rattle.up_store.proofs.VehicleReads.{vehicle_in}
 
 -- ---- within a transaction
@@ -94,15 +96,28 @@ module _ {X R : Type 0} (t : NamedRows X R) where
       let has = has_tables rows before within in
       shows (λ n. t.lines (table.get (t.values rows) n)) has (t.lists rows before.now.trees (within.here (reads has).was_open).rows)
 
+  -- the row that is found is that of the name's value
+  pub record FoundIn (rows : StateRows) (name : Name) (shown : R) : Type 0 where
+    pub value : X
+    pub there : table.get (t.values rows) name ≡ Some value
+    pub typed : t.IsTyped name value
+    pub same : t.IsRow shown value
+
+  pub found_in : (rows : StateRows) (name : Name) (before after : Connected) (found : Option R) (shown : R) → found ≡ Some shown → (HasTables before → Reads before after) → Shows name found before
+      → IsWithin up_schema (ListsRows rows) before → FoundIn rows name shown
+  found_in rows name before after found shown is reads shows within =
+      let here = within.here (reads (has_tables rows before within)).was_open in
+      let f = some (table.get (t.values rows) name) shown (rows_are rows name before after found reads shows within ∙ ap (λ o. map t.row_of (option_to_list o)) is) in
+      record { value = f.value; there = f.there; typed = t.typed rows before.now.trees here.rows name f.value f.there; same = f.same }
+
   -- what is read of a row that is found is what the table has under the name
   pub some_found : {E : Type 0} (r : Result (Option X) E) (name : Name) (before after : Connected) (found : Option R) (shown : R) → found ≡ Some shown
       → IfOk r (λ read. (n : Name) (x : X) → t.IsTyped n x → t.IsRow shown x → read ≡ Some x) → (HasTables before → Reads before after) → Shows name found before
       → IfOk r (λ read. (rows : StateRows) → IsWithin up_schema (ListsRows rows) before → read ≡ table.get (t.values rows) name)
   some_found (Err e) name before after found shown is read reads shows = tt
   some_found (Ok x) name before after found shown is read reads shows = λ rows within.
-      let here = within.here (reads (has_tables rows before within)).was_open in
-      let f = some (table.get (t.values rows) name) shown (rows_are rows name before after found reads shows within ∙ ap (λ o. map t.row_of (option_to_list o)) is) in
-      read name f.value (t.typed rows before.now.trees here.rows name f.value f.there) f.same ∙ sym f.there
+      let f = found_in rows name before after found shown is reads shows within in
+      read name f.value f.typed f.same ∙ sym f.there
 
   -- the same of a row that is read together with another table's
   pub joined_found : {E : Type 0} (r : Result (Option X) E) (name : Name) (before mid : Connected) (found : Option R) (shown : R) → found ≡ Some shown
@@ -110,7 +125,7 @@ module _ {X R : Type 0} (t : NamedRows X R) where
       → (HasTables before → Reads before mid) → Shows name found before → IfOk r (λ read. (rows : StateRows) → IsWithin up_schema (ListsRows rows) before → read ≡ table.get (t.values rows) name)
   joined_found (Err e) name before mid found shown is read reads shows = tt
   joined_found (Ok x) name before mid found shown is read reads shows = λ rows within.
-      let f = some (table.get (t.values rows) name) shown (rows_are rows name before mid found reads shows within ∙ ap (λ o. map t.row_of (option_to_list o)) is) in
+      let f = found_in rows name before mid found shown is reads shows within in
       read rows (within_read rows before mid reads within) f.value f.there f.same ∙ sym f.there
 
   pub none_found : (rows : StateRows) (name : Name) (before after : Connected) (found : Option R) → found ≡ None → (HasTables before → Reads before after) → Shows name found before
@@ -176,7 +191,7 @@ campaigns = record {
 
 -- ---- tables read whole
 
-numbers_are : (a b : ℕ) → is_eq (value_cmp (Int (pos a)) (Int (pos b))) ≡ (a == b)
+pub numbers_are : (a b : ℕ) → is_eq (value_cmp (Int (pos a)) (Int (pos b))) ≡ (a == b)
 numbers_are a b = ap is_eq (value_cmp-Int (pos a) (pos b)) ∙ grind (arith, nat_tests)
 
 columns_are : (o : Option ImageData) → map (columns_at image_places) (image_lines o) ≡ image_lines o
@@ -311,16 +326,31 @@ kept_rows_are rows vehicle counter before after found reads shows within =
     let here = within.here (reads has).was_open in
     shows (λ n. map kept_line (rows.kept n)) has here.rows.tables.kept
 
+-- the row that is found is a kept manifest's
+kept_is : (rows : StateRows) (vehicle : Name) (counter : ℕ) (before after : Connected) (found : Option KeptRow) (shown : KeptRow) → found ≡ Some shown
+    → (HasTables before → Reads before after) → ShowsKept vehicle counter found before → IsWithin up_schema (ListsRows rows) before → FoundKept counter vehicle (rows.kept vehicle) shown
+kept_is rows vehicle counter before after found shown is reads shows within =
+    let has = has_tables rows before within in
+    let here = within.here (reads has).was_open in
+    kept_some counter vehicle (rows.kept vehicle) shown (here.rows.typed.kept vehicle) (kept_rows_are rows vehicle counter before after found reads shows within ∙ ap (λ o. map kept_row (option_to_list o)) is)
+
 -- the manifest that is found is that of the row
 pub kept_found : {E : Type 0} (r : Result (Option Kept) E) (rows : StateRows) (vehicle : Name) (counter : ℕ) (before after : Connected) (found : Option KeptRow) (shown : KeptRow) → found ≡ Some shown
     → IfOk r (λ read. (n : Name) (row : Kept) → IsTypedKept n row → IsKept shown row → read ≡ Some row)
     → (HasTables before → Reads before after) → ShowsKept vehicle counter found before → IsWithin up_schema (ListsRows rows) before → IfOk r (λ read. read ≡ kept_with vehicle counter rows)
 kept_found (Err e) rows vehicle counter before after found shown is read reads shows within = tt
 kept_found (Ok x) rows vehicle counter before after found shown is read reads shows within =
-    let has = has_tables rows before within in
-    let here = within.here (reads has).was_open in
-    let f = kept_some counter vehicle (rows.kept vehicle) shown (here.rows.typed.kept vehicle) (kept_rows_are rows vehicle counter before after found reads shows within ∙ ap (λ o. map kept_row (option_to_list o)) is) in
+    let f = kept_is rows vehicle counter before after found shown is reads shows within in
     read vehicle f.row f.typed f.same ∙ sym f.there
+
+-- where that is of its type, it is read again
+pub kept_reads : {A : Type 0} (r : Result A StoreFault) (rows : StateRows) (vehicle : Name) (counter : ℕ) (before after : Connected) (found : Option KeptRow) (shown : KeptRow) → found ≡ Some shown
+    → ((n : Name) (row : Kept) → IsTypedKept n row → IsValidKept row → IsKept shown row → IfErr r (λ fault. fault ≡ Memory))
+    → (HasTables before → Reads before after) → ShowsKept vehicle counter found before → IsWithin up_schema (ListsRows rows) before → IfSome (kept_with vehicle counter rows) IsKeptValue → IfErr r (λ fault. fault ≡ Memory)
+kept_reads r rows vehicle counter before after found shown is read reads shows within fits =
+    let f = kept_is rows vehicle counter before after found shown is reads shows within in
+    let value : IsKeptValue f.row = subst (λ o. IfSome o IsKeptValue) f.there fits in
+    read vehicle f.row f.typed value.valid f.same
 
 pub kept_unknown : (rows : StateRows) (vehicle : Name) (counter : ℕ) (before after : Connected) (found : Option KeptRow) → found ≡ None → (HasTables before → Reads before after) → ShowsKept vehicle counter found before
     → IsWithin up_schema (ListsRows rows) before → None ≡ kept_with vehicle counter rows

@@ -95,6 +95,12 @@ hashes_more images rows i r t next h at are put so =
     whole.more hash_key sha512_row sha512_lines sha512_line (λ n. refl) (λ n x. refl) any_hash (hash_at images) rows i r is.value t next h at is.there
     (put ∙ ap (table.insert t (hash_key r)) (the_hash (hash_key r) is.value r is.same)) so
 
+-- each row is of a second hash
+pub hash_of : (images : Table ImageData) (rows : List Sha512Row) (i : ℕ) (r : Sha512Row) → i < length rows → r ≡ get_or rows i r → AreSha512s rows images → second_hash (table.get images (hash_key r)) ≡ Some r.sha512.items
+hash_of images rows i r h at are =
+    let is = whole.row_is hash_key sha512_row sha512_lines sha512_line (λ n. refl) (λ n x. refl) any_hash (hash_at images) rows i r h at are in
+    is.there ∙ ap Some (sym (the_hash (hash_key r) is.value r is.same))
+
 any_hash_passes : (o : Option (List ℕ)) → if_passes any_hash o ≡ o
 any_hash_passes None = refl
 any_hash_passes (Some hash) = refl

@@ -24,7 +24,7 @@ text_is repository name None (Some f) h = cc
 text_is repository name (Some text) None h = cc
 text_is repository name (Some text) (Some f) h = let same : string_bytes f.body ≡ text = cc in ap Some same
 
-own_lines : (rows : StateRows) (repository : Repository) (name : Name) → files_lines rows (repository_word repository) name ≡ file_lines repository name (text_held rows repository name)
+pub own_lines : (rows : StateRows) (repository : Repository) (name : Name) → files_lines rows (repository_word repository) name ≡ file_lines repository name (text_held rows repository name)
 own_lines rows Director name = refl
 own_lines rows Image name = refl
 

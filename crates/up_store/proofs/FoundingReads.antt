@@ -272,10 +272,13 @@ module _ (m : ℕ) (repository : Repository) (keys : RepoKeys) (rows : List Role
 
 -- ---- the keys that were read are the root version's
 
-role_is : (w o : List ℕ) (rows : List RoleKeyRow) (kept read : RoleSecrets) → Has w o rows kept.keys (Some kept.threshold) → IsRoleOf w o rows read → read ≡ kept
-role_is w o rows kept read has is =
-    let keys : read.keys ≡ kept.keys = is.secrets ∙ has.secrets_are in
-    let some : Some read.threshold ≡ Some kept.threshold = sym is.threshold ∙ has.threshold_is in
+role_has : (w o : List ℕ) (rows : List RoleKeyRow) (kept : RoleSecrets) → Has w o rows kept.keys (Some kept.threshold) → IsRoleOf w o rows kept
+role_has w o rows kept has = record { secrets = sym has.secrets_are; threshold = has.threshold_is }
+
+one_role : (w o : List ℕ) (rows : List RoleKeyRow) (read kept : RoleSecrets) → IsRoleOf w o rows read → IsRoleOf w o rows kept → read ≡ kept
+one_role w o rows read kept is told =
+    let keys : read.keys ≡ kept.keys = is.secrets ∙ sym told.secrets in
+    let some : Some read.threshold ≡ Some kept.threshold = sym is.threshold ∙ told.threshold in
     let threshold : read.threshold ≡ kept.threshold = cc in
     λ i. record { keys = keys i; threshold = threshold i }
 
@@ -294,46 +297,59 @@ after_none w o xs ys keys p a b = has_both w o xs ys [] keys None p a b
 before_none : (w o : List ℕ) (xs ys : List RoleKeyRow) (keys : List (List ℕ)) (n : ℕ) → Has w o xs keys (Some n) → Has w o ys [] None → Has w o (xs ++ ys) keys (Some n)
 before_none w o xs ys keys n a b = bare_end w o (xs ++ ys) keys (Some n) (has_both w o xs ys keys [] (Some n) None a b)
 
--- the keys of a repository are read of the rows of its four roles
-four_are : (w : List ℕ) (rows : List RoleKeyRow) (kept read : RepoKeys) → AreKeysOf w rows read → Has w (codes "root") rows kept.root.keys (Some kept.root.threshold)
-    → Has w (codes "targets") rows kept.targets.keys (Some kept.targets.threshold) → Has w (codes "snapshot") rows kept.snapshot.keys (Some kept.snapshot.threshold)
-    → Has w (codes "timestamp") rows kept.timestamp.keys (Some kept.timestamp.threshold) → read ≡ kept
-four_are w rows kept read is a b c d =
-    let root = role_is w (codes "root") rows kept.root read.root a is.root in
-    let targets = role_is w (codes "targets") rows kept.targets read.targets b is.targets in
-    let snapshot = role_is w (codes "snapshot") rows kept.snapshot read.snapshot c is.snapshot in
-    let timestamp = role_is w (codes "timestamp") rows kept.timestamp read.timestamp d is.timestamp in
+-- the keys of a repository are those of the rows of its four roles
+one_repository : (w : List ℕ) (rows : List RoleKeyRow) (read kept : RepoKeys) → AreKeysOf w rows read → AreKeysOf w rows kept → read ≡ kept
+one_repository w rows read kept is told =
+    let root = one_role w (codes "root") rows read.root kept.root is.root told.root in
+    let targets = one_role w (codes "targets") rows read.targets kept.targets is.targets told.targets in
+    let snapshot = one_role w (codes "snapshot") rows read.snapshot kept.snapshot is.snapshot told.snapshot in
+    let timestamp = one_role w (codes "timestamp") rows read.timestamp kept.timestamp is.timestamp told.timestamp in
     λ i. record { root = root i; targets = targets i; snapshot = snapshot i; timestamp = timestamp i }
 
-director_is : (m : ℕ) (kept : KeySet) (read : RepoKeys) (xs ys : List RoleKeyRow) → Parts m Director kept.director xs → Parts m Image kept.image ys → HaveKeys kept.director
-    → AreKeysOf (codes "director") (xs ++ ys) read → read ≡ kept.director
-director_is m kept read xs ys px py have is =
+director_has : (m : ℕ) (kept : KeySet) (xs ys : List RoleKeyRow) → Parts m Director kept.director xs → Parts m Image kept.image ys → HaveKeys kept.director
+    → AreKeysOf (codes "director") (xs ++ ys) kept.director
+director_has m kept xs ys px py have =
     let w = codes "director" in
     let none : (o : List ℕ) → Has w o ys [] None = λ o. none_of m Image kept.image ys py w o refl refl refl refl in
-    four_are w (xs ++ ys) kept.director read is (before_none w (codes "root") xs ys _ _ (bare_three w (codes "root") xs _ _ (root_of m Director kept.director xs px w (codes "root") refl refl refl refl have.root)) (none (codes "root")))
-    (before_none w (codes "targets") xs ys _ _ (bare_two w (codes "targets") xs _ _ (targets_of m Director kept.director xs px w (codes "targets") refl refl refl refl have.targets)) (none (codes "targets")))
-    (before_none w (codes "snapshot") xs ys _ _ (bare_end w (codes "snapshot") xs _ _ (snapshot_of m Director kept.director xs px w (codes "snapshot") refl refl refl refl have.snapshot)) (none (codes "snapshot")))
-    (before_none w (codes "timestamp") xs ys _ _ (timestamp_of m Director kept.director xs px w (codes "timestamp") refl refl refl refl have.timestamp) (none (codes "timestamp")))
+    record {
+      root = role_has w (codes "root") (xs ++ ys) kept.director.root
+          (before_none w (codes "root") xs ys _ _ (bare_three w (codes "root") xs _ _ (root_of m Director kept.director xs px w (codes "root") refl refl refl refl have.root)) (none (codes "root")));
+      targets = role_has w (codes "targets") (xs ++ ys) kept.director.targets
+          (before_none w (codes "targets") xs ys _ _ (bare_two w (codes "targets") xs _ _ (targets_of m Director kept.director xs px w (codes "targets") refl refl refl refl have.targets)) (none (codes "targets")));
+      snapshot = role_has w (codes "snapshot") (xs ++ ys) kept.director.snapshot
+          (before_none w (codes "snapshot") xs ys _ _ (bare_end w (codes "snapshot") xs _ _ (snapshot_of m Director kept.director xs px w (codes "snapshot") refl refl refl refl have.snapshot)) (none (codes "snapshot")));
+      timestamp = role_has w (codes "timestamp") (xs ++ ys) kept.director.timestamp
+          (before_none w (codes "timestamp") xs ys _ _ (timestamp_of m Director kept.director xs px w (codes "timestamp") refl refl refl refl have.timestamp) (none (codes "timestamp")));
+    }
 
-image_is : (m : ℕ) (kept : KeySet) (read : RepoKeys) (xs ys : List RoleKeyRow) → Parts m Director kept.director xs → Parts m Image kept.image ys → HaveKeys kept.image
-    → AreKeysOf (codes "image") (xs ++ ys) read → read ≡ kept.image
-image_is m kept read xs ys px py have is =
+image_has : (m : ℕ) (kept : KeySet) (xs ys : List RoleKeyRow) → Parts m Director kept.director xs → Parts m Image kept.image ys → HaveKeys kept.image
+    → AreKeysOf (codes "image") (xs ++ ys) kept.image
+image_has m kept xs ys px py have =
     let w = codes "image" in
     let none : (o : List ℕ) → Has w o xs [] None = λ o. none_of m Director kept.director xs px w o refl refl refl refl in
-    four_are w (xs ++ ys) kept.image read is (after_none w (codes "root") xs ys _ _ (none (codes "root")) (bare_three w (codes "root") ys _ _ (root_of m Image kept.image ys py w (codes "root") refl refl refl refl have.root)))
-    (after_none w (codes "targets") xs ys _ _ (none (codes "targets")) (bare_two w (codes "targets") ys _ _ (targets_of m Image kept.image ys py w (codes "targets") refl refl refl refl have.targets)))
-    (after_none w (codes "snapshot") xs ys _ _ (none (codes "snapshot")) (bare_end w (codes "snapshot") ys _ _ (snapshot_of m Image kept.image ys py w (codes "snapshot") refl refl refl refl have.snapshot)))
-    (after_none w (codes "timestamp") xs ys _ _ (none (codes "timestamp")) (timestamp_of m Image kept.image ys py w (codes "timestamp") refl refl refl refl have.timestamp))
+    record {
+      root = role_has w (codes "root") (xs ++ ys) kept.image.root
+          (after_none w (codes "root") xs ys _ _ (none (codes "root")) (bare_three w (codes "root") ys _ _ (root_of m Image kept.image ys py w (codes "root") refl refl refl refl have.root)));
+      targets = role_has w (codes "targets") (xs ++ ys) kept.image.targets
+          (after_none w (codes "targets") xs ys _ _ (none (codes "targets")) (bare_two w (codes "targets") ys _ _ (targets_of m Image kept.image ys py w (codes "targets") refl refl refl refl have.targets)));
+      snapshot = role_has w (codes "snapshot") (xs ++ ys) kept.image.snapshot
+          (after_none w (codes "snapshot") xs ys _ _ (none (codes "snapshot")) (bare_end w (codes "snapshot") ys _ _ (snapshot_of m Image kept.image ys py w (codes "snapshot") refl refl refl refl have.snapshot)));
+      timestamp = role_has w (codes "timestamp") (xs ++ ys) kept.image.timestamp
+          (after_none w (codes "timestamp") xs ys _ _ (none (codes "timestamp")) (timestamp_of m Image kept.image ys py w (codes "timestamp") refl refl refl refl have.timestamp));
+    }
 
-pub keys_are : (m : ℕ) (root : RootRow) (rows : List RoleKeyRow) (director image : RepoKeys) → root_lines m root ≡ map role_key_row rows → EachHasKeys root.keys
-    → AreKeysOf (codes "director") rows director → AreKeysOf (codes "image") rows image → (director ≡ root.keys.director) × (image ≡ root.keys.image)
-keys_are m root rows director image h have isd isi =
+-- the rows of a root version are of its keys
+pub record AreKeys (rows : List RoleKeyRow) (keys : KeySet) : Type 0 where
+  pub director : AreKeysOf (codes "director") rows keys.director
+  pub image : AreKeysOf (codes "image") rows keys.image
+
+keys_told : (m : ℕ) (root : RootRow) (rows : List RoleKeyRow) → root_lines m root ≡ map role_key_row rows → EachHasKeys root.keys → AreKeys rows root.keys
+keys_told m root rows h have =
     let two = split role_key_row rows (repository_lines m Director root.keys.director) (repository_lines m Image root.keys.image) h in
     let px = parts_of m Director root.keys.director two.0 two.3 in
-    let py = parts_of m Image root.keys.image two.1 two.4 in (
-      director_is m root.keys director two.0 two.1 px py have.director (subst (λ (l : List RoleKeyRow). AreKeysOf (codes "director") l director) two.2 isd),
-      image_is m root.keys image two.0 two.1 px py have.image (subst (λ (l : List RoleKeyRow). AreKeysOf (codes "image") l image) two.2 isi),
-    )
+    let py = parts_of m Image root.keys.image two.1 two.4 in
+    subst (λ (l : List RoleKeyRow). AreKeys l root.keys) (sym two.2)
+    (record { director = director_has m root.keys two.0 two.1 px py have.director; image = image_has m root.keys two.0 two.1 px py have.image })
 
 -- ---- the last root version
 
@@ -350,11 +366,10 @@ last_of_all : {A : Type 0} (P : A → Type 0) (xs : List A) (x : A) → AllByRec
 last_of_all P [] x all = all.0
 last_of_all P (y ∷ ys) x all = last_of_all P ys x all.1
 
--- of the last root version that is kept: the founding that was read has its keys
-founding_is : (rows : StateRows) (f read : Founding) (found : List RoleKeyRow) (root : RootRow) → root.keys ≡ f.keys → slice_get rows.roots (length rows.roots - 1) ≡ Some root → f.root ≡ length rows.roots
-    → AllByRecursion (λ (r : RootRow). EachHasKeys r.keys) rows.roots → map (columns_at role_key_places) (filter (has_number 0 (pos f.root)) (roots_lines rows.roots)) ≡ map role_key_row found
-    → meta_told (Some read) ≡ meta_told (Some f) → AreKeysOf (codes "director") found read.keys.director → AreKeysOf (codes "image") found read.keys.image → read ≡ f
-founding_is rows f read found root keys at number typed shows numbers director image =
+-- of the last root version that is kept: the rows are of the founding's keys
+last_told : (rows : StateRows) (f : Founding) (found : List RoleKeyRow) (root : RootRow) → root.keys ≡ f.keys → slice_get rows.roots (length rows.roots - 1) ≡ Some root → f.root ≡ length rows.roots
+    → AllByRecursion (λ (r : RootRow). EachHasKeys r.keys) rows.roots → map (columns_at role_key_places) (filter (has_number 0 (pos f.root)) (roots_lines rows.roots)) ≡ map role_key_row found → AreKeys found f.keys
+last_told rows f found root keys at number typed shows =
     let two = split_last rows.roots root at in
     let n = length two.0 + 1 in
     let size : f.root ≡ n = number ∙ ap length two.1 ∙ length_push two.0 root in
@@ -362,28 +377,35 @@ founding_is rows f read found root keys at number typed shows numbers director i
     sym (whole_root n root) ∙ ap (map (columns_at role_key_places)) (sym (last_lines two.0 root)) ∙ ap (λ (l : List RootRow). map (columns_at role_key_places) (filter (has_number 0 (pos n)) (roots_lines l))) (sym two.1)
     ∙ ap (λ (m : ℕ). map (columns_at role_key_places) (filter (has_number 0 (pos m)) (roots_lines rows.roots))) (sym size) ∙ shows in
     let have = last_of_all (λ (r : RootRow). EachHasKeys r.keys) two.0 root (subst (AllByRecursion (λ (r : RootRow). EachHasKeys r.keys)) two.1 typed) in
-    let same = keys_are n root found read.keys.director read.keys.image lines have director image in
-    let d : read.keys.director ≡ f.keys.director = same.0 ∙ ap (λ (k : KeySet). k.director) keys in
-    let i : read.keys.image ≡ f.keys.image = same.1 ∙ ap (λ (k : KeySet). k.image) keys in
-    let r : read.root ≡ f.root = ap (λ (m : MetaRow). m.root) numbers in
-    let v : read.image_version ≡ f.image_version = ap (λ (m : MetaRow). m.image_version) numbers in
-    let s : read.stamp ≡ f.stamp = ap (λ (m : MetaRow). m.stamp) numbers in
-    λ j. record { root = r j; keys = record { director = d j; image = i j }; image_version = v j; stamp = s j }
+    subst (AreKeys found) keys (keys_told n root found lines have)
+
+-- the rows and the numbers are of one founding
+one_founding : (row : MetaRow) (found : List RoleKeyRow) (read kept : Option Founding) → IsFoundingOf row found read → IsFoundingOf row found kept → read ≡ kept
+one_founding row found read kept a b =
+    let numbers = a.numbers ∙ sym b.numbers in
+    let d : a.founding.keys.director ≡ b.founding.keys.director = one_repository (codes "director") found a.founding.keys.director b.founding.keys.director a.director b.director in
+    let i : a.founding.keys.image ≡ b.founding.keys.image = one_repository (codes "image") found a.founding.keys.image b.founding.keys.image a.image b.image in
+    let r : a.founding.root ≡ b.founding.root = ap (λ (m : MetaRow). m.root) numbers in
+    let v : a.founding.image_version ≡ b.founding.image_version = ap (λ (m : MetaRow). m.image_version) numbers in
+    let s : a.founding.stamp ≡ b.founding.stamp = ap (λ (m : MetaRow). m.stamp) numbers in
+    let same : a.founding ≡ b.founding = λ j. record { root = r j; keys = record { director = d j; image = i j }; image_version = v j; stamp = s j } in
+    a.is ∙ ap Some same ∙ sym b.is
 
 keyed : (o : Option RootRow) (keys : KeySet) → option_map (λ (r : RootRow). r.keys) o ≡ Some keys → (root : RootRow) × (o ≡ Some root) × (root.keys ≡ keys)
 keyed None keys h = absurd (let e = h in cc)
 keyed (Some root) keys h = (root, refl, let same : root.keys ≡ keys = cc in same)
 
-pub founding_in : (rows : StateRows) (row : MetaRow) (found : List RoleKeyRow) (read : Option Founding) (before after : Connected) → (row.root == 0) ≡ false → (HasTables before → Reads before after)
+-- the rows that were found are the founding's
+pub founding_told : (rows : StateRows) (row : MetaRow) (found : List RoleKeyRow) (before after : Connected) → (row.root == 0) ≡ false → (HasTables before → Reads before after)
     → ((all : List Row) → HasTables before → ListsAll all (before.now.trees role_key_table.tree) → map (columns_at role_key_places) (filter (has_number 0 (pos row.root)) all) ≡ map role_key_row found)
-    → IsFoundingOf row found read → IsWithin up_schema (ListsRows rows) before → row ≡ meta_told rows.founding → read ≡ rows.founding
-founding_in rows row found read before after founded reads shows is within numbers =
+    → IsWithin up_schema (ListsRows rows) before → row ≡ meta_told rows.founding → IsFoundingOf row found rows.founding
+founding_told rows row found before after founded reads shows within numbers =
     let has : HasTables before = λ is_open. let here = within.here is_open in record { schema_is = here.schema_is; sound = here.sound; rows = tt } in
     let here = within.here (reads has).was_open in
     go rows.founding refl here.rows.last (shows (roots_lines rows.roots) has here.rows.tables.role_keys) here.rows.typed.roots
   where
     go : (o : Option Founding) → rows.founding ≡ o → IsOfLastRoot o rows.roots → map (columns_at role_key_places) (filter (has_number 0 (pos row.root)) (roots_lines rows.roots)) ≡ map role_key_row found
-        → AllByRecursion (λ (r : RootRow). EachHasKeys r.keys) rows.roots → read ≡ rows.founding
+        → AllByRecursion (λ (r : RootRow). EachHasKeys r.keys) rows.roots → IsFoundingOf row found rows.founding
     go None same last lines typed =
         let zero : row.root ≡ 0 = ap (λ (m : MetaRow). m.root) (numbers ∙ ap meta_told same) in
         absurd (let e = sym (ap (λ n. n == 0) zero) ∙ founded in cc)
@@ -391,8 +413,14 @@ founding_in rows row found read before after founded reads shows is within numbe
         let told : row ≡ meta_told (Some f) = numbers ∙ ap meta_told same in
         let root = keyed (slice_get rows.roots (length rows.roots - 1)) f.keys last.1 in
         let number : row.root ≡ f.root = ap (λ (m : MetaRow). m.root) told in
-        is.is ∙ ap Some (founding_is rows f is.founding found root.0 root.2 root.1 last.0 typed
-        (ap (λ (m : ℕ). map (columns_at role_key_places) (filter (has_number 0 (pos m)) (roots_lines rows.roots))) (sym number) ∙ lines) (is.numbers ∙ told) is.director is.image) ∙ sym same
+        let are = last_told rows f found root.0 root.2 root.1 last.0 typed (ap (λ (m : ℕ). map (columns_at role_key_places) (filter (has_number 0 (pos m)) (roots_lines rows.roots))) (sym number) ∙ lines) in
+        record { founding = f; is = same; numbers = sym told; director = are.director; image = are.image }
+
+pub founding_in : (rows : StateRows) (row : MetaRow) (found : List RoleKeyRow) (read : Option Founding) (before after : Connected) → (row.root == 0) ≡ false → (HasTables before → Reads before after)
+    → ((all : List Row) → HasTables before → ListsAll all (before.now.trees role_key_table.tree) → map (columns_at role_key_places) (filter (has_number 0 (pos row.root)) all) ≡ map role_key_row found)
+    → IsFoundingOf row found read → IsWithin up_schema (ListsRows rows) before → row ≡ meta_told rows.founding → read ≡ rows.founding
+founding_in rows row found read before after founded reads shows is within numbers =
+    one_founding row found read rows.founding is (founding_told rows row found before after founded reads shows within numbers)
 
 -- ---- the numbers
 

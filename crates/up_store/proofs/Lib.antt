@@ -29,3 +29,10 @@ pub mod RootTexts
 pub mod OneState
 pub mod MemoryAlone
 pub mod Committed
+pub mod Blamed
+pub mod KindsOfTexts
+pub mod KindsOfImages
+pub mod KindsOfCampaigns
+pub mod KindsOfVehicles
+pub mod KindsOfKept
+pub mod KindsOfFounding

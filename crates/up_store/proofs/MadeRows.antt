@@ -1,5 +1,5 @@
 -- A loop that makes rows one after another.
-use Rattle.std.proofs.Common.{◌≡◌, ◌+◌, ◌<◌, ℕ, zero, suc, List, [], ◌∷◌, ◌++◌, All, Some, length, map, drop, slice_get, get_or, sym, ap, subst, ◌∙◌, arith, append_assoc}
+use Rattle.std.proofs.Common.{◌≡◌, ◌+◌, ◌<◌, ℕ, zero, suc, List, [], ◌∷◌, ◌++◌, All, Some, length, map, drop, slice_get, get_or, refl, sym, ap, subst, ◌∙◌, arith, append_assoc}
 use Rattle.std.specs.List.{AllByRecursion}
 use Rattle.std.proofs.lemmas.List.{map-append}
 use Rattle.std.proofs.lemmas.List.Elements.{All-append, All-cons}
@@ -28,6 +28,10 @@ pub each_in : {X : Type 0} (P : X → Type 0) (rows : List X) (i : ℕ) (row : X
 each_in P [] i row low is all = absurd (omega (arith, low))
 each_in P (x ∷ xs) zero row low is all = subst P (sym is) all.0
 each_in P (x ∷ xs) (suc i) row low is all = each_in P xs i row (omega (arith, low)) is all.1
+
+pub each_so : {X : Type 0} (P : X → Type 0) (rows : List X) → ((i : ℕ) (row : X) → i < length rows → row ≡ get_or rows i row → P row) → AllByRecursion P rows
+each_so P [] so = tt
+each_so P (x ∷ xs) so = (so 0 x (omega arith) refl, each_so P xs (λ i row low is. so (suc i) row (omega (arith, low)) is))
 
 -- so it does of the one that a row is read as
 pub each_read : {X Y : Type 0} (f : X → Y) (P : Y → Type 0) (rows : List X) (i : ℕ) (row : X) → i < length rows → row ≡ get_or rows i row → AllByRecursion P (map f rows) → P (f row)

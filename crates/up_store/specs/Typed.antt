@@ -1,6 +1,6 @@
 -- What the types of rows say of them: each stands under its own name, what is kept as JSON can be read again, the text of an ECU's last
 -- report has the second hash of the installed image, and an ECU was replaced in a vehicle that is there.
-use Rattle.std.specs.Prelude.{◌≡◌, ◌≤◌, ◌<◌, ◌^◌, [], Some, None, IfSome, true, length}
+use Rattle.std.specs.Prelude.{◌≡◌, ◌≤◌, ◌<◌, ◌^◌, [], Some, None, IfSome, IsUtf8, true, length}
 use Rattle.std.specs.List.{AllByRecursion, list_all}
 use Rattle.std.specs.FinMap as table
 use Rattle.up_canon.specs.Canon.{max_count}
@@ -12,6 +12,7 @@ use Rattle.up_plan.specs.Images.{ImageData, image_fits}
 use Rattle.up_metadata.specs.declared.keys.RoleSecrets.{RoleSecrets}
 use Rattle.up_metadata.specs.declared.keys.RepoKeys.{RepoKeys}
 use Rattle.up_metadata.specs.declared.keys.KeySet.{KeySet}
+use Rattle.up_machine.specs.declared.rows.VehicleRow.{VehicleRow}
 use Rattle.up_machine.specs.declared.rows.VehicleRows.{VehicleRows}
 use Rattle.up_machine.specs.declared.rows.EcuRow.{EcuRow}
 use Rattle.up_machine.specs.declared.rows.Founding.{Founding}
@@ -79,6 +80,11 @@ pub record IsValidKept (row : Kept) : Type 0 where
   pub counter : row.counter ≤ max_count
   pub moment : row.at ≤ last_moment
 
+pub record IsValidVehicle (row : VehicleRow) : Type 0 where
+  pub vehicle : is_ident row.vehicle ≡ true
+  pub primary : is_ident row.primary ≡ true
+  pub last : row.last ≤ max_count
+
 pub record IsValidInstalled (installed : Installed) : Type 0 where
   pub file : is_file_name installed.file ≡ true
   pub size : installed.length ≤ max_count
@@ -96,6 +102,14 @@ AreValidImages images = (file : Name) (image : ImageData) → table.get images f
 abbrev pub AreValidCampaigns : Table CampaignData → Type 0
 AreValidCampaigns campaigns = (name : Name) (campaign : CampaignData) → table.get campaigns name ≡ Some campaign → IsValidCampaign campaign
 
+-- an image with its second hash
+pub record IsImageValue (image : ImageData) : Type 0 where
+  pub valid : IsValidImage image
+  pub sha512 : IfSome image.sha512 (λ hash. length hash ≡ 64)
+
+abbrev pub AreImageValues : Table ImageData → Type 0
+AreImageValues images = (file : Name) (image : ImageData) → table.get images file ≡ Some image → IsImageValue image
+
 abbrev pub IsValidRole : RoleSecrets → Type 0
 IsValidRole role = role.threshold < 2 ^ 32
 
@@ -109,6 +123,25 @@ pub record IsValidFounding (founding : Founding) : Type 0 where
   pub director : AreValidKeys founding.keys.director
   pub image : AreValidKeys founding.keys.image
   pub stamp : founding.stamp ≤ last_moment
+
+-- ---- the same, with texts in UTF-8 and numbers that a column holds
+
+pub record IsKeptValue (row : Kept) : Type 0 where
+  pub valid : IsValidKept row
+  pub signed : IsUtf8 row.signed
+  pub reply : IsUtf8 row.reply
+
+pub record IsEcuValue (row : EcuRow) : Type 0 where
+  pub valid : IsValidEcu row
+  pub report : IfSome row.report IsUtf8
+
+pub record IsFoundingValue (founding : Founding) : Type 0 where
+  pub valid : IsValidFounding founding
+  pub root : founding.root < 2 ^ 63
+
+-- each value stands under an identifier
+abbrev pub AreNamed : {X : Type 0} → Table X → Type 0
+AreNamed {X} t = (name : Name) (x : X) → table.get t name ≡ Some x → is_ident name ≡ true
 
 -- ---- all rows
 

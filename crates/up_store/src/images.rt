@@ -1,5 +1,5 @@
 //! Registered images.
-ghost use Rattle.std.specs.Prelude.{◌≡◌, None, Some, ⊤, IfOk, IfErr, OnErr, OnOk};
+ghost use Rattle.std.specs.Prelude.{◌≡◌, None, Some, ⊤, IfOk, IfErr, IfSome, OnErr, OnOk};
 ghost use Rattle.sqlite.specs.Held.{state};
 ghost use Rattle.sqlite.specs.State.{HasCleanDisk, Survives};
 ghost use Rattle.std.specs.FinMap as table;
@@ -11,9 +11,9 @@ ghost use Rattle.up_tables.specs.Stands.{IfClean, IsAsCommitted, IsInside};
 ghost use Rattle.up_tables.specs.Statements.{IsStep, IsOpenStep};
 ghost use Rattle.up_store.specs.ColumnRows.{IsImage, AreImages, with_image};
 ghost use Rattle.up_store.specs.Puts.{with_image_line};
-ghost use Rattle.up_store.specs.Typed.{IsTypedImage, IsValidImage};
+ghost use Rattle.up_store.specs.Typed.{IsTypedImage, IsValidImage, IsImageValue, AreImageValues};
 ghost use Rattle.up_tables.specs.declared.values.StoreFault.TheVariants.{Memory};
-ghost use Rattle.up_store.specs.Connections.{NeedsOpen, Answers, FindsRows, FindsSuch, PutsRows, PutsTables, TakesRows, CommitsRows, SparesRows};
+ghost use Rattle.up_store.specs.Connections.{NeedsOpen, Answers, Blames, BlamesWithin, FindsRows, FindsSuch, PutsRows, PutsTables, TakesRows, CommitsRows, SparesRows};
 
 use crate::image_rows::{make_image, read_image, read_images};
 use crate::roots::put_register;
@@ -34,6 +34,7 @@ impl<D: Alter> Store<D> {
         ensures kept { IfClean (IsAsCommitted (state D.Store self.old)) (state D.Store self.new) }
         ensures crash { Survives (state D.Store self.old) (state D.Store self.new) (λ _. ⊥) }
         ensures open { NeedsOpen (state D.Store self.old) (state D.Store self.new) result }
+        ensures blame { Blames (λ rows. IfSome (table.get rows.images file.now) IsImageValue) (state D.Store self.old) (state D.Store self.new) result }
     {
         let mut tx = self.conn.transaction();
         find_image(&mut tx, alloc, file)
@@ -45,6 +46,7 @@ impl<D: Alter> Store<D> {
         ensures kept { IfClean (IsAsCommitted (state D.Store self.old)) (state D.Store self.new) }
         ensures crash { Survives (state D.Store self.old) (state D.Store self.new) (λ _. ⊥) }
         ensures open { NeedsOpen (state D.Store self.old) (state D.Store self.new) result }
+        ensures blame { Blames (λ rows. AreImageValues rows.images) (state D.Store self.old) (state D.Store self.new) result }
     {
         let mut tx = self.conn.transaction();
         find_images(&mut tx, alloc)
@@ -84,6 +86,8 @@ fn find_image<D: Alter>(
     requires mode { IfClean IsInside (state D.Store tx.old.conn.now) }
     ensures found { FindsRows (λ rows. table.get rows.images file.now) (state D.Store tx.old.conn.now) (state D.Store tx.new.conn.now) result }
     ensures open { NeedsOpen (state D.Store tx.old.conn.now) (state D.Store tx.new.conn.now) result }
+    ensures blame { BlamesWithin (λ rows. IfSome (table.get rows.images file.now) IsImageValue)
+        (state D.Store tx.old.conn.now) (state D.Store tx.new.conn.now) result }
     ensures step { IsStep D.Store tx.old.conn tx.new.conn }
 {
     match image_shown(tx, file.text()) {
@@ -105,6 +109,8 @@ fn find_with_sha512<D: Alter>(
         → table.get rows.images file.now ≡ Some image → IsImage shown image → read ≡ Some image)
         (state D.Store tx.old.conn.now) (state D.Store tx.new.conn.now) result }
     ensures open { NeedsOpen (state D.Store tx.old.conn.now) (state D.Store tx.new.conn.now) result }
+    ensures blame { BlamesWithin (λ rows. (image : ImageData) × (table.get rows.images file.now ≡ Some image) × IsImage shown image × IsImageValue image)
+        (state D.Store tx.old.conn.now) (state D.Store tx.new.conn.now) result }
     ensures step { IsStep D.Store tx.old.conn tx.new.conn }
 {
     match find_sha512(tx, file) {
@@ -138,6 +144,7 @@ fn find_images<D: Alter>(
     requires mode { IfClean IsInside (state D.Store tx.old.conn.now) }
     ensures found { FindsRows (λ rows. rows.images) (state D.Store tx.old.conn.now) (state D.Store tx.new.conn.now) result }
     ensures open { NeedsOpen (state D.Store tx.old.conn.now) (state D.Store tx.new.conn.now) result }
+    ensures blame { BlamesWithin (λ rows. AreImageValues rows.images) (state D.Store tx.old.conn.now) (state D.Store tx.new.conn.now) result }
     ensures step { IsStep D.Store tx.old.conn tx.new.conn }
 {
     match images_shown(tx, alloc) {
@@ -156,6 +163,8 @@ fn find_with_sha512s<D: Alter>(
     ensures found { FindsSuch (λ rows read. AreImages shown.items rows.images → read ≡ rows.images)
         (state D.Store tx.old.conn.now) (state D.Store tx.new.conn.now) result }
     ensures open { NeedsOpen (state D.Store tx.old.conn.now) (state D.Store tx.new.conn.now) result }
+    ensures blame { BlamesWithin (λ rows. AreImages shown.items rows.images × AreImageValues rows.images)
+        (state D.Store tx.old.conn.now) (state D.Store tx.new.conn.now) result }
     ensures step { IsStep D.Store tx.old.conn tx.new.conn }
 {
     match find_sha512s(tx, alloc) {

@@ -2,7 +2,7 @@
 ghost use Rattle.std.specs.Prelude.{◌≡◌, ⊤, Some, IfOk, OnErr, OnOk};
 ghost use Rattle.sqlite.specs.Held.{state};
 ghost use Rattle.sqlite.specs.State.{HasCleanDisk, Survives};
-ghost use Rattle.std.specs.Prelude.{◌<◌, IfErr};
+ghost use Rattle.std.specs.Prelude.{◌<◌, IfErr, IfSome};
 ghost use Rattle.up_canon.specs.Canon.{max_count};
 ghost use Rattle.up_canon.specs.Names.{Name};
 ghost use Rattle.up_machine.specs.declared.rows.Kept.{Kept as KeptData};
@@ -10,12 +10,13 @@ ghost use Rattle.up_rows.specs.Changes.{with_accepted_rows};
 ghost use Rattle.up_rows.specs.Lookups.{kept_with, latest_kept};
 ghost use Rattle.up_tables.specs.declared.values.StoreFault.TheVariants as StoreFault;
 ghost use Rattle.up_store.specs.ColumnRows.{IsKept, last_found, with_kept};
-ghost use Rattle.up_store.specs.Typed.{IsTypedKept, IsValidKept};
+ghost use Rattle.up_store.specs.Found.{vehicle_found};
+ghost use Rattle.up_store.specs.Typed.{IsKeptValue, IsTypedKept, IsValidKept, IsValidVehicle};
 ghost use Rattle.up_store.specs.Fitting.{IsRecorded};
 ghost use Rattle.up_store.specs.Puts.{IsReported, with_reported};
 ghost use Rattle.up_tables.specs.Stands.{IfClean, IsAsCommitted, IsInside};
 ghost use Rattle.up_tables.specs.Statements.{IsStep, IsOpenStep, OnlyReads};
-ghost use Rattle.up_store.specs.Connections.{NeedsOpen, Answers, FindsRows, PutsRows, PutsTables, TakesRows, CommitsRows, SparesRows};
+ghost use Rattle.up_store.specs.Connections.{NeedsOpen, Answers, FindsRows, Blames, BlamesWithin, PutsRows, PutsTables, TakesRows, CommitsRows, SparesRows};
 
 use crate::column_values::{check_places, count_in};
 use crate::ecus::make_ecus;
@@ -41,6 +42,7 @@ impl<D: Alter> Store<D> {
         counter: Count,
     ) -> Result<Option<Kept>, StoreFault>
         ensures told { Answers (kept_with vehicle.now counter) (state D.Store self.old) (state D.Store self.new) result }
+        ensures blame { Blames (λ rows. IfSome (kept_with vehicle.now counter rows) IsKeptValue) (state D.Store self.old) (state D.Store self.new) result }
         ensures kept { IfClean (IsAsCommitted (state D.Store self.old)) (state D.Store self.new) }
         ensures crash { Survives (state D.Store self.old) (state D.Store self.new) (λ _. ⊥) }
         ensures open { NeedsOpen (state D.Store self.old) (state D.Store self.new) result }
@@ -52,6 +54,7 @@ impl<D: Alter> Store<D> {
     /// The vehicle's row with its greatest counter, none of an unknown vehicle and before its first manifest.
     pub fn latest(&mut self, alloc: Global, vehicle: &Ident) -> Result<Option<Kept>, StoreFault>
         ensures told { Answers (latest_kept vehicle.now) (state D.Store self.old) (state D.Store self.new) result }
+        ensures blame { Blames (λ rows. IfSome (vehicle_found vehicle.now rows) IsValidVehicle × IfSome (latest_kept vehicle.now rows) IsKeptValue) (state D.Store self.old) (state D.Store self.new) result }
         ensures kept { IfClean (IsAsCommitted (state D.Store self.old)) (state D.Store self.new) }
         ensures crash { Survives (state D.Store self.old) (state D.Store self.new) (λ _. ⊥) }
         ensures open { NeedsOpen (state D.Store self.old) (state D.Store self.new) result }
@@ -135,6 +138,8 @@ fn find_kept<D: Alter>(
 ) -> Result<Option<Kept>, StoreFault>
     requires mode { IfClean IsInside (state D.Store tx.old.conn.now) }
     ensures found { FindsRows (kept_with vehicle.now counter) (state D.Store tx.old.conn.now) (state D.Store tx.new.conn.now) result }
+    ensures blame { BlamesWithin (λ rows. IfSome (kept_with vehicle.now counter rows) IsKeptValue)
+        (state D.Store tx.old.conn.now) (state D.Store tx.new.conn.now) result }
     ensures open { NeedsOpen (state D.Store tx.old.conn.now) (state D.Store tx.new.conn.now) result }
     ensures step { IsStep D.Store tx.old.conn tx.new.conn }
 {
@@ -165,6 +170,8 @@ fn find_latest<D: Alter>(
 ) -> Result<Option<Kept>, StoreFault>
     requires mode { IfClean IsInside (state D.Store tx.old.conn.now) }
     ensures found { FindsRows (latest_kept vehicle.now) (state D.Store tx.old.conn.now) (state D.Store tx.new.conn.now) result }
+    ensures blame { BlamesWithin (λ rows. IfSome (vehicle_found vehicle.now rows) IsValidVehicle × IfSome (latest_kept vehicle.now rows) IsKeptValue)
+        (state D.Store tx.old.conn.now) (state D.Store tx.new.conn.now) result }
     ensures open { NeedsOpen (state D.Store tx.old.conn.now) (state D.Store tx.new.conn.now) result }
     ensures step { IsStep D.Store tx.old.conn tx.new.conn }
 {
@@ -182,6 +189,8 @@ fn find_last<D: Alter>(
 ) -> Result<Option<Count>, StoreFault>
     requires mode { IfClean IsInside (state D.Store tx.old.conn.now) }
     ensures found { FindsRows (last_found vehicle.now) (state D.Store tx.old.conn.now) (state D.Store tx.new.conn.now) result }
+    ensures blame { BlamesWithin (λ rows. IfSome (vehicle_found vehicle.now rows) IsValidVehicle)
+        (state D.Store tx.old.conn.now) (state D.Store tx.new.conn.now) result }
     ensures reads { OnlyReads (state D.Store tx.old.conn.now) (state D.Store tx.new.conn.now) result }
     ensures inside { OnOk result (IfClean IsInside (state D.Store tx.new.conn.now)) }
     ensures open { NeedsOpen (state D.Store tx.old.conn.now) (state D.Store tx.new.conn.now) result }

@@ -1,5 +1,5 @@
 //! Root versions and the files that are served.
-ghost use Rattle.std.specs.Prelude.{◌≡◌, ◌↔◌, ◌⊎◌, ◌≤◌, ◌^◌, ⊤, Option, Some, None, Ok, Err, OnErr, IfOk, IfErr, is_some};
+ghost use Rattle.std.specs.Prelude.{◌≡◌, ◌↔◌, ◌⊎◌, ◌≤◌, ◌^◌, ⊤, Option, Some, None, Ok, Err, OnErr, IfOk, IfErr, IfSome, IsUtf8, is_some};
 ghost use Rattle.sqlite.specs.Held.{state};
 ghost use Rattle.sqlite.specs.State.{HasCleanDisk, Survives};
 ghost use Rattle.up_rows.specs.Changes.{with_root_rows, with_register_rows};
@@ -11,13 +11,13 @@ ghost use Rattle.up_machine.specs.declared.rows.Founding.{Founding as FoundingDa
 ghost use Rattle.up_tables.specs.Forms.{FitMeta};
 ghost use Rattle.up_tables.specs.declared.values.StoreFault.TheVariants as StoreFault;
 ghost use Rattle.up_store.specs.Shown.{meta_told, IsFoundingOf};
-ghost use Rattle.up_store.specs.Typed.{IsValidFounding};
+ghost use Rattle.up_store.specs.Typed.{IsFoundingValue, IsValidFounding};
 ghost use Rattle.up_store.specs.Lines.{root_file_lines, role_file_lines};
 ghost use Rattle.up_store.specs.Puts.{HasFilesOnce, with_founding, with_keys, with_files};
 ghost use Rattle.up_store.specs.Fitting.{IsNextRoot, IsSameRoot};
 ghost use Rattle.up_tables.specs.Stands.{IfClean, IsAsCommitted, IsInside, IsOpen, IsWithin};
 ghost use Rattle.up_tables.specs.Statements.{IsStep, IsOpenStep};
-ghost use Rattle.up_store.specs.Connections.{NeedsOpen, Answers, FindsRows, PutsRows, PutsTables, TakesRows, CommitsRows, SparesRows};
+ghost use Rattle.up_store.specs.Connections.{NeedsOpen, Answers, FindsRows, Blames, BlamesWithin, PutsRows, PutsTables, TakesRows, CommitsRows, SparesRows};
 
 use crate::column_values::{check_version, moment_in};
 use crate::files::{make_role_files, make_root_files};
@@ -39,6 +39,7 @@ impl<D: Alter> Store<D> {
     /// The founding: the last root version with its keys, the image repository's version and its moment; none before founding.
     pub fn founding(&mut self, alloc: Global) -> Result<Option<Founding>, StoreFault>
         ensures told { Answers (λ rows. rows.founding) (state D.Store self.old) (state D.Store self.new) result }
+        ensures blame { Blames (λ rows. IfSome rows.founding IsFoundingValue) (state D.Store self.old) (state D.Store self.new) result }
         ensures kept { IfClean (IsAsCommitted (state D.Store self.old)) (state D.Store self.new) }
         ensures crash { Survives (state D.Store self.old) (state D.Store self.new) (λ _. ⊥) }
         ensures open { NeedsOpen (state D.Store self.old) (state D.Store self.new) result }
@@ -50,6 +51,7 @@ impl<D: Alter> Store<D> {
     /// Whether the repositories are founded.
     pub fn is_founded(&mut self) -> Result<bool, StoreFault>
         ensures told { Answers (λ rows. is_some rows.founding) (state D.Store self.old) (state D.Store self.new) result }
+        ensures blame { Blames (λ _. ⊤) (state D.Store self.old) (state D.Store self.new) result }
         ensures kept { IfClean (IsAsCommitted (state D.Store self.old)) (state D.Store self.new) }
         ensures crash { Survives (state D.Store self.old) (state D.Store self.new) (λ _. ⊥) }
         ensures open { NeedsOpen (state D.Store self.old) (state D.Store self.new) result }
@@ -66,6 +68,7 @@ impl<D: Alter> Store<D> {
         name: &FileName,
     ) -> Result<Option<Text>, StoreFault>
         ensures told { Answers (λ rows. text_held rows repository name.now) (state D.Store self.old) (state D.Store self.new) result }
+        ensures blame { Blames (λ rows. IfSome (text_held rows repository name.now) IsUtf8) (state D.Store self.old) (state D.Store self.new) result }
         ensures kept { IfClean (IsAsCommitted (state D.Store self.old)) (state D.Store self.new) }
         ensures crash { Survives (state D.Store self.old) (state D.Store self.new) (λ _. ⊥) }
         ensures open { NeedsOpen (state D.Store self.old) (state D.Store self.new) result }
@@ -147,6 +150,8 @@ fn find_founding<D: Alter>(
 ) -> Result<Option<Founding>, StoreFault>
     requires mode { IfClean IsInside (state D.Store tx.old.conn.now) }
     ensures found { FindsRows (λ rows. rows.founding) (state D.Store tx.old.conn.now) (state D.Store tx.new.conn.now) result }
+    ensures blame { BlamesWithin (λ rows. IfSome rows.founding IsFoundingValue)
+        (state D.Store tx.old.conn.now) (state D.Store tx.new.conn.now) result }
     ensures open { NeedsOpen (state D.Store tx.old.conn.now) (state D.Store tx.new.conn.now) result }
     ensures step { IsStep D.Store tx.old.conn tx.new.conn }
 {
@@ -160,6 +165,7 @@ fn find_founding<D: Alter>(
 fn find_whether_founded<D: Alter>(tx: &mut Transaction<'_, D>) -> Result<bool, StoreFault>
     requires mode { IfClean IsInside (state D.Store tx.old.conn.now) }
     ensures found { FindsRows (λ rows. is_some rows.founding) (state D.Store tx.old.conn.now) (state D.Store tx.new.conn.now) result }
+    ensures blame { BlamesWithin (λ _. ⊤) (state D.Store tx.old.conn.now) (state D.Store tx.new.conn.now) result }
     ensures open { NeedsOpen (state D.Store tx.old.conn.now) (state D.Store tx.new.conn.now) result }
     ensures step { IsStep D.Store tx.old.conn tx.new.conn }
 {
@@ -191,6 +197,8 @@ fn find_founded<D: Alter>(
     requires open { IfClean IsOpen (state D.Store tx.old.conn.now) }
     ensures found { HasCleanDisk (state D.Store tx.new.conn.now) → IfOk result (λ found. (rows : StateRows)
         → IsWithin up_schema (ListsRows rows) (state D.Store tx.old.conn.now) → row ≡ meta_told rows.founding → found ≡ rows.founding) }
+    ensures blame { BlamesWithin (λ rows. (row ≡ meta_told rows.founding) × IfSome rows.founding IsFoundingValue)
+        (state D.Store tx.old.conn.now) (state D.Store tx.new.conn.now) result }
     ensures step { IsStep D.Store tx.old.conn tx.new.conn }
 {
     if row.root == 0 {
@@ -228,6 +236,8 @@ fn find_file<D: Alter>(
 ) -> Result<Option<Text>, StoreFault>
     requires mode { IfClean IsInside (state D.Store tx.old.conn.now) }
     ensures found { FindsRows (λ rows. text_held rows repository name.now) (state D.Store tx.old.conn.now) (state D.Store tx.new.conn.now) result }
+    ensures blame { BlamesWithin (λ rows. IfSome (text_held rows repository name.now) IsUtf8)
+        (state D.Store tx.old.conn.now) (state D.Store tx.new.conn.now) result }
     ensures open { NeedsOpen (state D.Store tx.old.conn.now) (state D.Store tx.new.conn.now) result }
     ensures step { IsStep D.Store tx.old.conn tx.new.conn }
 {

@@ -4,7 +4,7 @@ ghost use Rattle.std.specs.List.{AllByRecursion};
 ghost use Rattle.std.specs.FinMap as table;
 ghost use Rattle.sqlite.specs.Held.{state};
 ghost use Rattle.up_canon.specs.Names.{Table as Named};
-ghost use Rattle.std.specs.Prelude.{◌≢◌, length, string_bytes, Err, IfErr, OnOk, MatchOption};
+ghost use Rattle.std.specs.Prelude.{◌≢◌, length, string_bytes, Err, IfErr, IfSome, OnOk, MatchOption};
 ghost use Rattle.up_tables.specs.declared.values.StoreFault.TheVariants as StoreFault;
 ghost use Rattle.up_plan.specs.Images.{ImageData};
 ghost use Rattle.up_tables.specs.Stands.{IfClean, IsInside, IsOpen};
@@ -12,7 +12,8 @@ ghost use Rattle.up_tables.specs.Statements.{IsStep, IsOpenStep};
 ghost use Rattle.up_store.specs.ColumnRows.{AreHashesOf, AreSha512s};
 ghost use Rattle.up_store.specs.Lines.{second_hash};
 ghost use Rattle.up_store.specs.Puts.{with_sha512_line};
-ghost use Rattle.up_store.specs.Connections.{NeedsOpen, FindsRows, FindsSuch, PutsTables};
+ghost use Rattle.up_store.specs.Typed.{IsImageValue, AreImageValues};
+ghost use Rattle.up_store.specs.Connections.{NeedsOpen, BlamesWithin, FindsRows, FindsSuch, PutsTables};
 
 use crate::column_values::sha512_in;
 use crate::store::StoreFault;
@@ -33,6 +34,8 @@ pub(crate) fn find_sha512<D: Alter>(
     ensures found { FindsRows (λ rows. second_hash (table.get rows.images file.now))
         (state D.Store tx.old.conn.now) (state D.Store tx.new.conn.now) result }
     ensures open { NeedsOpen (state D.Store tx.old.conn.now) (state D.Store tx.new.conn.now) result }
+    ensures blame { BlamesWithin (λ rows. IfSome (table.get rows.images file.now) IsImageValue)
+        (state D.Store tx.old.conn.now) (state D.Store tx.new.conn.now) result }
     ensures step { IsStep D.Store tx.old.conn tx.new.conn }
 {
     match image_sha512(tx, file.text()) {
@@ -60,6 +63,7 @@ pub(crate) fn find_sha512s<D: Alter>(
     requires mode { IfClean IsInside (state D.Store tx.old.conn.now) }
     ensures found { FindsSuch (λ rows read. AreHashesOf read rows.images) (state D.Store tx.old.conn.now) (state D.Store tx.new.conn.now) result }
     ensures open { NeedsOpen (state D.Store tx.old.conn.now) (state D.Store tx.new.conn.now) result }
+    ensures blame { BlamesWithin (λ rows. AreImageValues rows.images) (state D.Store tx.old.conn.now) (state D.Store tx.new.conn.now) result }
     ensures step { IsStep D.Store tx.old.conn tx.new.conn }
 {
     match image_sha512s(tx, alloc) {

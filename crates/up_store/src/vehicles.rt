@@ -4,17 +4,19 @@ ghost use Rattle.sqlite.specs.Held.{state};
 ghost use Rattle.sqlite.specs.State.{HasCleanDisk, Survives};
 ghost use Rattle.up_rows.specs.Changes.{with_vehicle_rows};
 ghost use Rattle.up_store.specs.Fitting.{IsNewVehicle};
-ghost use Rattle.std.specs.Prelude.{◌↔◌, ◌<◌, ◌≤◌, ◌^◌, true, false, Err, IfErr};
+ghost use Rattle.std.specs.Prelude.{◌↔◌, ◌<◌, ◌≤◌, ◌^◌, true, false, Err, IfErr, IfSome};
+ghost use Rattle.std.specs.List.{AllByRecursion};
 ghost use Rattle.up_canon.specs.Canon.{max_count};
 ghost use Rattle.up_canon.specs.Names.{is_ident};
 ghost use Rattle.up_tables.specs.declared.values.StoreFault.TheVariants as StoreFault;
 ghost use Rattle.up_store.specs.Shown.{vehicle_read};
+ghost use Rattle.up_store.specs.Typed.{AreNamed, IsEcuValue, IsValidVehicle};
 ghost use Rattle.up_rows.specs.Lookups.{last_owner, owner_found};
 ghost use Rattle.up_store.specs.Found.{vehicle_found, ecus_found};
 ghost use Rattle.up_tables.specs.Stands.{IfClean, IsAsCommitted, IsInside};
 ghost use Rattle.up_tables.specs.Statements.{IsStep, IsOpenStep};
 ghost use Rattle.up_tables.specs.Forms.{FitVehicle};
-ghost use Rattle.up_store.specs.Connections.{NeedsOpen, Answers, FindsRows, PutsRows, TakesRows, CommitsRows, SparesRows};
+ghost use Rattle.up_store.specs.Connections.{NeedsOpen, Answers, FindsRows, Blames, BlamesWithin, PutsRows, TakesRows, CommitsRows, SparesRows};
 
 use crate::column_values::{check_places, count_in, ident_in};
 use crate::ecus::{make_ecus, read_ecus};
@@ -36,6 +38,7 @@ impl<D: Alter> Store<D> {
         vehicle: &Ident,
     ) -> Result<Option<VehicleRow>, StoreFault>
         ensures told { Answers (vehicle_found vehicle.now) (state D.Store self.old) (state D.Store self.new) result }
+        ensures blame { Blames (λ rows. IfSome (vehicle_found vehicle.now rows) IsValidVehicle) (state D.Store self.old) (state D.Store self.new) result }
         ensures kept { IfClean (IsAsCommitted (state D.Store self.old)) (state D.Store self.new) }
         ensures crash { Survives (state D.Store self.old) (state D.Store self.new) (λ _. ⊥) }
         ensures open { NeedsOpen (state D.Store self.old) (state D.Store self.new) result }
@@ -48,6 +51,7 @@ impl<D: Alter> Store<D> {
     /// The vehicle's ECUs in inventory order; empty of an unknown vehicle.
     pub fn ecus(&mut self, alloc: Global, vehicle: &Ident) -> Result<Listed<EcuRow>, StoreFault>
         ensures told { Answers (ecus_found vehicle.now) (state D.Store self.old) (state D.Store self.new) result }
+        ensures blame { Blames (λ rows. AllByRecursion IsEcuValue (ecus_found vehicle.now rows)) (state D.Store self.old) (state D.Store self.new) result }
         ensures kept { IfClean (IsAsCommitted (state D.Store self.old)) (state D.Store self.new) }
         ensures crash { Survives (state D.Store self.old) (state D.Store self.new) (λ _. ⊥) }
         ensures open { NeedsOpen (state D.Store self.old) (state D.Store self.new) result }
@@ -59,6 +63,7 @@ impl<D: Alter> Store<D> {
     /// The vehicle in which the ECU stands, else the one in which an ECU of the name was replaced; none of an unknown ECU.
     pub fn ecu_owner(&mut self, alloc: Global, ecu: &Ident) -> Result<Option<Ident>, StoreFault>
         ensures told { Answers (owner_found ecu.now) (state D.Store self.old) (state D.Store self.new) result }
+        ensures blame { Blames (λ rows. AreNamed rows.vehicles) (state D.Store self.old) (state D.Store self.new) result }
         ensures kept { IfClean (IsAsCommitted (state D.Store self.old)) (state D.Store self.new) }
         ensures crash { Survives (state D.Store self.old) (state D.Store self.new) (λ _. ⊥) }
         ensures open { NeedsOpen (state D.Store self.old) (state D.Store self.new) result }
@@ -94,6 +99,8 @@ fn find_vehicle<D: Alter>(
 ) -> Result<Option<VehicleRow>, StoreFault>
     requires mode { IfClean IsInside (state D.Store tx.old.conn.now) }
     ensures found { FindsRows (vehicle_found vehicle.now) (state D.Store tx.old.conn.now) (state D.Store tx.new.conn.now) result }
+    ensures blame { BlamesWithin (λ rows. IfSome (vehicle_found vehicle.now rows) IsValidVehicle)
+        (state D.Store tx.old.conn.now) (state D.Store tx.new.conn.now) result }
     ensures open { NeedsOpen (state D.Store tx.old.conn.now) (state D.Store tx.new.conn.now) result }
     ensures step { IsStep D.Store tx.old.conn tx.new.conn }
 {
@@ -126,6 +133,8 @@ fn find_ecus<D: Alter>(
 ) -> Result<Listed<EcuRow>, StoreFault>
     requires mode { IfClean IsInside (state D.Store tx.old.conn.now) }
     ensures found { FindsRows (ecus_found vehicle.now) (state D.Store tx.old.conn.now) (state D.Store tx.new.conn.now) result }
+    ensures blame { BlamesWithin (λ rows. AllByRecursion IsEcuValue (ecus_found vehicle.now rows))
+        (state D.Store tx.old.conn.now) (state D.Store tx.new.conn.now) result }
     ensures open { NeedsOpen (state D.Store tx.old.conn.now) (state D.Store tx.new.conn.now) result }
     ensures step { IsStep D.Store tx.old.conn tx.new.conn }
 {
@@ -142,6 +151,7 @@ fn find_owner<D: Alter>(
 ) -> Result<Option<Ident>, StoreFault>
     requires mode { IfClean IsInside (state D.Store tx.old.conn.now) }
     ensures found { FindsRows (owner_found ecu.now) (state D.Store tx.old.conn.now) (state D.Store tx.new.conn.now) result }
+    ensures blame { BlamesWithin (λ rows. AreNamed rows.vehicles) (state D.Store tx.old.conn.now) (state D.Store tx.new.conn.now) result }
     ensures open { NeedsOpen (state D.Store tx.old.conn.now) (state D.Store tx.new.conn.now) result }
     ensures step { IsStep D.Store tx.old.conn tx.new.conn }
 {
@@ -159,6 +169,7 @@ fn find_retired<D: Alter>(
 ) -> Result<Option<Ident>, StoreFault>
     requires mode { IfClean IsInside (state D.Store tx.old.conn.now) }
     ensures found { FindsRows (last_owner ecu.now) (state D.Store tx.old.conn.now) (state D.Store tx.new.conn.now) result }
+    ensures blame { BlamesWithin (λ rows. AreNamed rows.vehicles) (state D.Store tx.old.conn.now) (state D.Store tx.new.conn.now) result }
     ensures open { NeedsOpen (state D.Store tx.old.conn.now) (state D.Store tx.new.conn.now) result }
     ensures step { IsStep D.Store tx.old.conn tx.new.conn }
 {

@@ -4,6 +4,8 @@ use Rattle.up_store.specs.Shown.{meta_told}
 use Rattle.up_store.proofs.FoundingReads.{founded_by, numbers_in, on_row, of_row}
 use Rattle.up_store.proofs.RootPuts.{has_tables}
 use Rattle.up_store.specs.Listing.{ListsRows}
+use Rattle.std.specs.Prelude.{⊤}
+use Rattle.up_store.proofs.KindsOfFounding.{row_blames}
 use Rattle.up_store.proofs.roots.find_whether_founded.Goals as goal
 
 pub returns-in-Ok-clause-found : goal.returns-in-Ok-clause-found
@@ -14,3 +16,7 @@ returns-in-Ok-clause-found g c clean rows within =
     numbers_in rows (Some c.in-Ok.row) before (λ _. reads.was_open) (of_row _ c.meta.result c.in-Ok.row c.in-Ok.ensures.some (c.meta.ensures.found clean)) within in
     let same : c.in-Ok.row ≡ meta_told rows.founding = cc in
     founded_by rows c.in-Ok.row before reads.was_open within same
+
+pub returns-in-Err-clause-blame : goal.returns-in-Err-clause-blame
+returns-in-Err-clause-blame g c =
+    row_blames (λ _. ⊤) (state g.D.Store c.args.tx.now.conn.now) (state g.D.Store c.meta.new.tx.conn.now) c.meta.result c.in-Err.fault c.in-Err.ensures.none c.meta.ensures.found c.meta.ensures.blame

@@ -1,7 +1,11 @@
-use Rattle.std.proofs.Common.{◌∙◌}
+use Rattle.std.proofs.Common.{◌∙◌, IfSome, Err}
+use Rattle.std.specs.FinMap as table
 use Rattle.sqlite.specs.Held.{state}
 use Rattle.up_tables.proofs.StateLemmas.{ok_then}
+use Rattle.up_store.specs.Typed.{IsImageValue}
+use Rattle.up_store.proofs.Blamed.{by_statement, if_err, memory_blames}
 use Rattle.up_store.proofs.ColumnFound.{hash_found}
+use Rattle.up_store.proofs.KindsOfImages.{holds_hash, hash_reads}
 use Rattle.up_store.proofs.second_hashes.find_sha512.Goals as goal
 
 pub returns-in-Ok-clause-found : goal.returns-in-Ok-clause-found
@@ -11,3 +15,16 @@ returns-in-Ok-clause-found g c clean =
     ok_then _ _ c.read_sha512.result
     (λ read is rows within. is ∙ hash_found rows c.args.file.now before after c.in-Ok.shown (c.in-Ok.ensures.reads clean) (rw c.text.ensures.value at c.in-Ok.ensures.found clean) within)
     c.read_sha512.ensures.ok
+
+pub returns-in-Ok-clause-blame : goal.returns-in-Ok-clause-blame
+returns-in-Ok-clause-blame g c =
+    let before = state g.D.Store c.args.tx.now.conn.now in
+    let after = state g.D.Store c.image_sha512.new.tx.conn.now in
+    memory_blames (λ rows. IfSome (table.get rows.images c.args.file.now) IsImageValue) before after c.read_sha512.result
+    (λ clean rows within fits.
+    if_err c.read_sha512.result c.read_sha512.ensures.fault
+    (λ fault bad. absurd (hash_reads rows c.args.file.now c.in-Ok.shown fits (hash_found rows c.args.file.now before after c.in-Ok.shown (c.in-Ok.ensures.reads clean) (rw c.text.ensures.value at c.in-Ok.ensures.found clean) within) bad.1)))
+
+pub returns-in-Err-clause-blame : goal.returns-in-Err-clause-blame
+returns-in-Err-clause-blame g c =
+    by_statement (λ rows. IfSome (table.get rows.images c.args.file.now) IsImageValue) _ (state g.D.Store c.args.tx.now.conn.now) (state g.D.Store c.image_sha512.new.tx.conn.now) (Err c.in-Err.fault) (holds_hash c.args.file.now (state g.D.Store c.args.tx.now.conn.now)) (rw c.text.ensures.value at c.in-Err.ensures.blame)

@@ -1,4 +1,4 @@
-use Rattle.std.proofs.Common.{◌≡◌, Option, Some, arith, sym, ap, ◌∙◌, string_bytes}
+use Rattle.std.proofs.Common.{◌≡◌, Option, Some, arith, sym, ap, ◌∙◌, string_bytes, Err}
 use Rattle.std.specs.Prelude.{option_map}
 use Rattle.std.specs.Option.{option_or}
 use Rattle.sqlite.specs.Held.{state}
@@ -12,6 +12,9 @@ use Rattle.up_tables.proofs.StateLemmas.{ok_then}
 use Rattle.up_store.specs.Listing.{ListsRows}
 use Rattle.up_store.proofs.ColumnFound.{within_read}
 use Rattle.up_store.proofs.EcuReads.{owner_in}
+use Rattle.up_store.specs.Typed.{AreNamed}
+use Rattle.up_store.proofs.Blamed.{by_statement, then_blames, memory_blames}
+use Rattle.up_store.proofs.KindsOfVehicles.{holds_owner, owner_is_named, reads_owner}
 use Rattle.up_store.proofs.vehicles.find_owner.Goals as goal
 
 pub returns-in-Ok-Some-clause-found : goal.returns-in-Ok-Some-clause-found
@@ -30,3 +33,22 @@ returns-in-Ok-None-clause-found g c clean =
     (λ read is rows within. is rows (within_read rows before mid (c.in-Ok-None.ensures.reads then) within) ∙ ap (λ (o : Option Name). option_or o (last_owner c.args.ecu.now rows)) (ap (option_map string_bytes) (sym c.in-Ok-None.field-0-is)
     ∙ owner_in rows c.args.ecu.now before mid (option_map string_bytes c.in-Ok-None.field-0) (c.in-Ok-None.ensures.reads then) (rw c.text.ensures.value at c.in-Ok-None.ensures.found then) within))
     (c.find_retired.ensures.found clean)
+
+pub returns-in-Ok-Some-clause-blame : goal.returns-in-Ok-Some-clause-blame
+returns-in-Ok-Some-clause-blame g c =
+    let before = state g.D.Store c.args.tx.now.conn.now in
+    let after = state g.D.Store c.ecu_owner.new.tx.conn.now in
+    memory_blames (λ rows. AreNamed rows.vehicles) before after c.read_owner.result
+    (λ clean rows within named.
+    reads_owner c.read_owner.result c.in-Ok-Some.shown (owner_is_named rows c.args.ecu.now before after c.in-Ok-Some.field-0 c.in-Ok-Some.shown c.in-Ok-Some.field-0-is (c.in-Ok-Some.ensures.reads clean) (rw c.text.ensures.value at c.in-Ok-Some.ensures.found clean) within named)
+    c.read_owner.ensures.fault)
+
+pub returns-in-Ok-None-clause-blame : goal.returns-in-Ok-None-clause-blame
+returns-in-Ok-None-clause-blame g c =
+    then_blames (λ rows. AreNamed rows.vehicles) (λ rows. AreNamed rows.vehicles) (state g.D.Store c.args.tx.now.conn.now) (state g.D.Store c.ecu_owner.new.tx.conn.now) (state g.D.Store c.find_retired.new.tx.conn.now) c.find_retired.result
+    c.ecu_owner.ensures.step.steps c.find_retired.ensures.step.steps c.in-Ok-None.ensures.reads (λ clean rows within named. named) c.find_retired.ensures.blame
+
+pub returns-in-Err-clause-blame : goal.returns-in-Err-clause-blame
+returns-in-Err-clause-blame g c =
+    let before = state g.D.Store c.args.tx.now.conn.now in
+    by_statement (λ rows. AreNamed rows.vehicles) _ before (state g.D.Store c.ecu_owner.new.tx.conn.now) (Err c.in-Err.fault) (holds_owner c.args.ecu.now before) (rw c.text.ensures.value at c.in-Err.ensures.blame)

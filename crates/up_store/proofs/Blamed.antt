@@ -1,0 +1,79 @@
+-- Why a read tells `Store`: each of its statements does so only where the disk counted a fault, and what is read into values tells `Memory`
+-- alone.
+use Rattle.std.proofs.Common.{◌≡◌, List, [], ◌∷◌, Bool, true, false, cond, filter, Option, Some, None, IfSome, Ok, Err, Result, IfErr, refl, sym, subst, ◌∙◌, arith}
+use Rattle.std.specs.Prelude.{⊤}
+use Rattle.std.specs.List.{AllByRecursion}
+use Rattle.sqlite.specs.Held.{Held, state}
+use Rattle.sqlite.specs.State.{State as Connected, HasCleanDisk, Survives}
+use Rattle.sqlite_trees.specs.declared.store.Store.{Ghosts}
+use Rattle.up_rows.specs.StateRows.{StateRows}
+use Rattle.up_tables.specs.Stands.{IsWithin, HasTables, Reads, Steps}
+use Rattle.up_tables.specs.Statements.{BlamesDisk}
+use Rattle.up_tables.specs.Tables.{up_schema}
+use Rattle.up_tables.specs.declared.values.StoreFault.{StoreFault}
+use Rattle.up_tables.specs.declared.values.StoreFault.TheVariants.{Memory, Store}
+use Rattle.up_store.specs.Connections.{Blames, BlamesWithin}
+use Rattle.up_store.specs.Listing.{ListsRows}
+use Rattle.up_store.proofs.ColumnFound.{has_tables, within_read}
+
+-- what holds of all rows holds of those that are shown
+pub all_filtered : {X : Type 0} (P : X → Type 0) (test : X → Bool) (rows : List X) → AllByRecursion P rows → AllByRecursion P (filter test rows)
+all_filtered P test [] all = tt
+all_filtered {X} P test (x ∷ rows) all = by_test (test x) (all_filtered P test rows all.1)
+  where
+    by_test : (b : Bool) → AllByRecursion P (filter test rows) → AllByRecursion P (cond b (x ∷ filter test rows) (filter test rows))
+    by_test true rest = (all.0, rest)
+    by_test false rest = rest
+
+pub if_some : {X : Type 0} {P : X → Type 0} (o : Option X) → ((x : X) → o ≡ Some x → P x) → IfSome o P
+if_some None each = tt
+if_some (Some x) each = each x refl
+
+pub if_err : {A E : Type 0} {P Q : E → Type 0} (r : Result A E) → IfErr r P → ((e : E) → P e → Q e) → IfErr r Q
+if_err (Ok x) h f = tt
+if_err (Err e) h f = f e h
+
+module _ (fits : StateRows → Type 0) where
+  -- a fault of a statement, whose table has the rows that it shows
+  pub by_statement : (P : Type 0) (old new : Connected) (r : Result ⊤ StoreFault) → ((rows : StateRows) → ListsRows rows old.now.trees → fits rows → P) → BlamesDisk (λ s. P) old new r → BlamesWithin fits old new r
+  by_statement P old new (Ok x) holds blame clean = tt
+  by_statement P old new (Err f) holds blame clean = λ is is_open unlimited rows within fit.
+      let here = within.here is_open in
+      blame clean is (record { is_open = is_open; here = record { schema_is = here.schema_is; sound = here.sound; rows = tt }; unlimited = unlimited }) (holds rows here.rows fit)
+
+  -- a fault of a step that holds of other rows
+  pub fits_blames : (next : StateRows → Type 0) (old new : Connected) (r : Result ⊤ StoreFault) → ((rows : StateRows) → ListsRows rows old.now.trees → fits rows → next rows)
+      → BlamesWithin next old new r → BlamesWithin fits old new r
+  fits_blames next old new (Ok x) fit blame clean = tt
+  fits_blames next old new (Err f) fit blame clean = λ is is_open unlimited rows within fits_before. blame clean is is_open unlimited rows within (fit rows (within.here is_open).rows fits_before)
+
+module _ {A : Type 0} (fits : StateRows → Type 0) where
+  -- a step after one that went through
+  pub then_blames : (next : StateRows → Type 0) (old mid new : Connected) (r : Result A StoreFault) → Steps old mid → Steps mid new
+      → (HasCleanDisk mid → HasTables old → Reads old mid) → (HasCleanDisk mid → (rows : StateRows) → IsWithin up_schema (ListsRows rows) old → fits rows → next rows)
+      → BlamesWithin next mid new r → BlamesWithin fits old new r
+  then_blames next old mid new (Ok x) first second reads fit blame clean = tt
+  then_blames next old mid new (Err f) first second reads fit blame clean = λ is is_open unlimited rows within fits_before.
+      let then : HasCleanDisk mid = omega (arith, second.survives.clean) in
+      let read = reads then (has_tables rows old within) in
+      let fault = blame clean is read.is_open (first.survives.limit ∙ unlimited) rows (within_read rows old mid (reads then) within) (fit then rows within fits_before) in
+      omega (arith, first.survives.counts, fault)
+
+  -- what is shown, read into values
+  pub memory_blames : (old new : Connected) (r : Result A StoreFault)
+      → (HasCleanDisk new → (rows : StateRows) → IsWithin up_schema (ListsRows rows) old → fits rows → IfErr r (λ fault. fault ≡ Memory)) → BlamesWithin fits old new r
+  memory_blames old new (Ok x) memory clean = tt
+  memory_blames old new (Err f) memory clean = λ is is_open unlimited rows within fit. absurd (let no : Memory ≡ Store = sym (memory clean rows within fit) ∙ is in cc)
+
+  -- a read from the start of its transaction to its end
+  pub read_blames : {S : Type 0} (g : Ghosts S) {viewed : Held S} (old first mid last : Held S) (r : Result A StoreFault) → viewed ≡ old → first ≡ record viewed { in_transaction = true }
+      → Steps (state g first) (state g mid) → BlamesWithin fits (state g first) (state g mid) r → Survives (state g mid) (state g last) (λ _. ⊥) → Blames fits (state g old) (state g last) r
+  read_blames g old first mid last (Ok x) same started steps blame ends clean = tt
+  read_blames {S} g old first mid last (Err f) same started steps blame ends clean = λ is is_open unlimited rows keeps fit.
+      let begun : first ≡ record old { in_transaction = true } = subst (λ h. first ≡ record h { in_transaction = true }) same started in
+      let now : HasCleanDisk (state g mid) = omega (arith, ends.clean) in
+      let went : Steps (state g (record old { in_transaction = true })) (state g mid) = subst (λ h. Steps (state g h) (state g mid)) begun steps in
+      let told : BlamesWithin {A = A} fits (state g (record old { in_transaction = true })) (state g mid) (Err f) = subst (λ h. BlamesWithin {A = A} fits (state g h) (state g mid) (Err f)) begun blame in
+      let before : HasCleanDisk (state g old) = omega (arith, went.survives.clean) in
+      let fault = told now is is_open unlimited rows (record { mode = refl; here = (keeps before).here }) fit in
+      omega (arith, ends.counts, fault)
