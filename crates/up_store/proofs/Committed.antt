@@ -7,10 +7,11 @@ use Rattle.sqlite.specs.Steps.{FailsToCommit}
 use Rattle.sqlite_trees.specs.declared.error.StoreError.{StoreError}
 use Rattle.sqlite_trees.specs.declared.error.StoreError.TheVariants.{OutOfMemory, Io, Corrupt, Full, Broken, Unstorable}
 use Rattle.up_tables.specs.Faults.{store_fault}
+use Rattle.up_tables.specs.Ours.{HasFailed}
 use Rattle.up_tables.specs.Stands.{IfClean, IsInside}
 use Rattle.up_tables.specs.declared.values.StoreFault.{StoreFault}
 use Rattle.up_tables.specs.declared.values.StoreFault.TheVariants.{Memory, Store}
-use Rattle.up_store.specs.Connections.{Commits, HasFailed}
+use Rattle.up_store.specs.Connections.{Commits}
 
 pub committed_on : {A B : Type 0} (mid last : State) (commit : Result A Error) (told : Result B StoreFault) → OnOk told (IsOk commit)
     → (HasCleanDisk last → OnOk commit (IsTrue mid.in_transaction × Shows mid last mid.now mid.now false × KeepsCounts mid last × (last.marks ≡ []))) → OnOk told (IfClean (Commits mid) last)

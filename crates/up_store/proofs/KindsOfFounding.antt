@@ -48,7 +48,7 @@ pub row_blames : {A : Type 0} (fits : StateRows → Type 0) (old new : Connected
     → FindsMeta old new found → BlamesDisk HasMeta old new found → BlamesWithin {A = A} fits old new (Err fault)
 row_blames fits old new found fault (inl none) finds blame clean = λ told is_open unlimited rows within value.
     let gone : None ≡ Some (meta_told rows.founding) = numbers_in rows None old (λ _. is_open) (subst (λ r. IfOk r (λ (f : Option MetaRow). (root : ℕ) (image_version : ℕ) (stamp : ℕ) → HasTables old
-      → old.now.trees meta_table.tree ≡ meta_row root image_version stamp ∷ [] → f ≡ Some (record { root = root; image_version = image_version; stamp = stamp }))) none.0 (finds clean)) within in
+    → old.now.trees meta_table.tree ≡ meta_row root image_version stamp ∷ [] → f ≡ Some (record { root = root; image_version = image_version; stamp = stamp }))) none.0 (finds clean)) within in
     absurd cc
 row_blames fits old new found fault (inr is) finds blame = by_statement fits _ old new (Err fault) (λ rows lists value. holds_meta old rows lists) (subst (λ r. BlamesDisk HasMeta old new r) is blame)
 

@@ -50,3 +50,5 @@ pub mod BlameLemmas
 pub mod RefusalLemmas
 pub mod TypedLemmas
 pub mod OwnerLemmas
+pub mod OpenedLemmas
+pub mod HinderedLemmas

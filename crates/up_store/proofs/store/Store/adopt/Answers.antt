@@ -1,6 +1,7 @@
 use Rattle.std.proofs.Common.{◌≡◌, inl, inr, Ok, Err, IfOk, IfErr, OnErr, IsTrue, true, false, subst, sym, ap, ◌∙◌, refl, arith}
 use Rattle.sqlite.specs.Held.{state}
 use Rattle.sqlite.specs.State.{HasCleanDisk}
+use Rattle.up_tables.specs.declared.open.OpenFault.TheVariants.{NotOurs, Store}
 use Rattle.up_store.specs.Listing.{table_rows}
 use Rattle.up_store.proofs.Raised.{tables_of, rows_again, raised_rows, ours, took_true, took_false, took_fault}
 use Rattle.up_store.proofs.store.Store.adopt.Goals as goal
@@ -45,4 +46,10 @@ returns-in-Err-clause-never g c clean version rows keeps same = elim c.in-Err.en
       let listed : IsTrue false = took_false _ c.take_tables.result found.0 c.take_tables.ensures.listed clean version (ours version rows (state g.D.Store c.args.conn) (keeps before)) in
       cc
   | inr told ↦ took_fault _ c.take_tables.result c.in-Err.fault told c.take_tables.ensures.fault same
+]
+
+pub returns-in-Err-clause-cause : goal.returns-in-Err-clause-cause
+returns-in-Err-clause-cause g c = λ store clean. elim c.in-Err.ensures.fault [
+  | inl found ↦ absurd (let no : NotOurs ≡ Store = sym found.1 ∙ store in cc)
+  | inr told ↦ took_fault _ c.take_tables.result c.in-Err.fault told (c.take_tables.ensures.cause clean) store
 ]
