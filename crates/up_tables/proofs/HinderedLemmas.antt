@@ -60,7 +60,7 @@ none_compiled schema = none_planned schema (first find_meta_text) find_is_query
 
 none_of_select : (r : Result Compiled CompileError) → NeverReturns r → NeverReturns (if_select r)
 none_of_select (Err e) none = tt
-none_of_select (Ok c) none = elim (is_select c.command) as (λ b. NeverReturns (Rattle.std.specs.Prelude.if◌then◌else◌ b (Ok c) (Err _))) [ true ↦ none | false ↦ tt ]
+none_of_select (Ok c) none = elim (is_select c.command) as (λ b. NeverReturns (Rattle.std.specs.Prelude.if◌then◌else◌ b (Ok c) (Err NoSuchTable))) [ true ↦ none | false ↦ tt ]
 
 never_returns : (schema : Schema) → NeverReturns (understood schema find_meta_text)
 unfolding understood
