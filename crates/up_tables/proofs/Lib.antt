@@ -46,3 +46,5 @@ pub mod RoleKeyLemmas
 pub mod ListedLemmas
 pub mod RaiseLemmas
 pub mod ColumnLemmas
+pub mod OpenedLemmas
+pub mod HinderedLemmas

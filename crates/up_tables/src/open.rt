@@ -3,7 +3,8 @@
 ghost use Rattle.std.specs.Prelude.{◌≡◌, ◌≢◌, false, OnOk, OnErr, Err, None, Some, IfOk, IfErr, IfSome, IsTrue, codes, pos};
 ghost use Rattle.sqlite.specs.declared.types.Value.TheVariants.{Int, Text};
 ghost use Rattle.sqlite.specs.Order.{column};
-ghost use Rattle.std.specs.Prelude.{◌↔◌};
+ghost use Rattle.std.specs.Prelude.{◌↔◌, ◌⊎◌};
+ghost use Rattle.std.specs.Result.{IsOk};
 ghost use Rattle.sqlite.specs.Held.{state};
 ghost use Rattle.sqlite.specs.State.{HasCleanDisk, Survives, IsLive};
 ghost use Rattle.up_tables.specs.Tables.{no_schema, up_schema};
@@ -11,7 +12,7 @@ ghost use Rattle.up_tables.specs.Lines.{AreNew};
 ghost use Rattle.up_tables.specs.Stands.{IfClean, IsInside, IsOpen, LeavesOnly, Stands, AreWith, HasNoTables, IsAsCommitted};
 ghost use Rattle.up_tables.specs.Listed.{TableRows, ListsTables};
 ghost use Rattle.up_tables.specs.Versions.{number_of, StandsAs};
-ghost use Rattle.up_tables.specs.Ours.{NamesUs, NamesVersion, NamesOthers, ListsUs, IsOurs, Raised, is_refused};
+ghost use Rattle.up_tables.specs.Ours.{NamesUs, NamesVersion, NamesOlder, NamesOthers, ListsUs, IsOurs, IsHindered, Raised, is_refused};
 ghost use Rattle.up_tables.specs.Faults.{open_fault};
 ghost use Rattle.up_tables.specs.declared.open.OpenFault.TheVariants as OpenFault;
 ghost use Rattle.up_tables.specs.Statements.{IsStep};
@@ -74,20 +75,17 @@ pub fn create_tables<S: Alter>(conn: &mut Connection<S>) -> Result<(), OpenFault
         return Err(OpenFault::Store);
     }
     let mut tx = conn.transaction();
-    if let Err(error) = make_all(&mut tx) {
-        return Err(opening_fault(error));
+    if let Err(fault) = opened(make_all(&mut tx)) {
+        return Err(fault);
     }
-    match tx.commit() {
-        Ok(()) => Ok(()),
-        Err(error) => Err(opening_fault(error)),
-    }
+    opened(tx.commit())
 }
 
 /// Takes tables of this product, whatever version of its schema `meta` names, and raises those of an older one in one transaction. `false` where
 /// `meta` doesn't name it: where the database refuses the query on it, as one without such a table does, or answers anything but the one row.
-/// `Memory` for want of memory; `Store` where the disk failed, a limit on steps was met, or a statement that raises was refused, as where a table
-/// that it makes is there already. Whatever it answers but `true`, the database is as it was committed. It looks at `meta` alone, not at which
-/// other tables there are.
+/// `Memory` for want of memory; `Store` only where the connection was shut, the disk failed, a limit on steps was met, or, of an older version, a
+/// statement that raises was refused, as where a table that it makes is there already. Whatever it answers but `true`, the database is as it was
+/// committed. It looks at `meta` alone, not at which other tables there are.
 pub fn take_tables<S: Alter>(conn: &mut Connection<S>) -> Result<bool, OpenFault>
     requires { (state S.Store conn.old).in_transaction ≡ false }
     ensures ours { IfOk result (λ b. IsTrue b → HasCleanDisk (state S.Store conn.new) → NamesUs (state S.Store conn.old)) }
@@ -97,6 +95,8 @@ pub fn take_tables<S: Alter>(conn: &mut Connection<S>) -> Result<bool, OpenFault
     ensures taken { IfOk result (λ b. IsTrue b → HasCleanDisk (state S.Store conn.new) → (version : SchemaVersion) (rows : TableRows)
         → StandsAs version rows (state S.Store conn.old) → Stands up_schema (ListsTables rows) (state S.Store conn.new)) }
     ensures fault { IfErr result (λ e. e ≢ OpenFault.NotOurs) }
+    ensures cause { HasCleanDisk (state S.Store conn.new)
+        → IfErr result (λ e. e ≡ OpenFault.Store → IsHindered (state S.Store conn.old) (state S.Store conn.new) ⊎ NamesOlder (state S.Store conn.old)) }
     ensures kept { IfOk result (λ b. b ≡ false → IfClean (IsAsCommitted (state S.Store conn.old)) (state S.Store conn.new)) }
     ensures kept_err { OnErr result (IfClean (IsAsCommitted (state S.Store conn.old)) (state S.Store conn.new)) }
     ensures autocommit { (state S.Store conn.new).in_transaction ≡ false }
@@ -123,6 +123,8 @@ fn version_there<S: Alter>(conn: &mut Connection<S>) -> Result<Option<SchemaVers
     ensures tells { HasCleanDisk (state S.Store conn.new)
         → IfOk result (λ found. (version : SchemaVersion) → ListsUs version (state S.Store conn.old) → found ≡ Some version) }
     ensures fault { IfErr result (λ e. e ≢ OpenFault.NotOurs) }
+    ensures cause { HasCleanDisk (state S.Store conn.new)
+        → IfErr result (λ e. e ≡ OpenFault.Store → IsHindered (state S.Store conn.old) (state S.Store conn.new)) }
     ensures kept { IfClean (IsAsCommitted (state S.Store conn.old)) (state S.Store conn.new) }
     ensures autocommit { (state S.Store conn.new).in_transaction ≡ false }
     ensures crash { Survives (state S.Store conn.old) (state S.Store conn.new) (λ _. ⊥) }
@@ -146,6 +148,8 @@ fn find_meta<S: Alter>(tx: &mut Transaction<'_, S>) -> Result<Vec<Row>, Error>
         → IfOk result (λ rows. ((version : SchemaVersion) → ¬ IsOurs version rows.items) → NamesOthers (state S.Store tx.old.conn.now)) }
     ensures refused { HasCleanDisk (state S.Store tx.new.conn.now)
         → IfErr result (λ e. IsTrue (is_refused e) → NamesOthers (state S.Store tx.old.conn.now)) }
+    ensures cause { HasCleanDisk (state S.Store tx.new.conn.now) → IfErr result (λ e. is_refused e ≡ false → open_fault e ≡ OpenFault.Store
+        → IsHindered (state S.Store tx.old.conn.now) (state S.Store tx.new.conn.now)) }
     ensures open { OnOk result (IfClean IsOpen (state S.Store tx.new.conn.now)) }
     ensures step { IsStep S.Store tx.old.conn tx.new.conn }
 {
@@ -227,8 +231,20 @@ fn not_ours(error: Error) -> Result<Option<SchemaVersion>, OpenFault>
     }
 }
 
+/// Whether a step by which the tables are made or raised was carried out, and else what is told of its error.
+pub(crate) fn opened<T: Drop>(step: Result<T, Error>) -> Result<(), OpenFault>
+    ensures ok { OnOk result (IsOk step) }
+    ensures went { OnOk step (IsOk result) }
+    ensures fault { IfErr step (λ e. result ≡ Err (open_fault e)) }
+{
+    match step {
+        Ok(_) => Ok(()),
+        Err(error) => Err(opening_fault(error)),
+    }
+}
+
 /// What is told of an error of the database where its tables are made or raised: `Memory` where memory was refused, else `Store`.
-pub(crate) fn opening_fault(error: Error) -> OpenFault
+fn opening_fault(error: Error) -> OpenFault
     ensures told { result ≡ open_fault error }
     ensures known { result ≢ OpenFault.NotOurs }
 {

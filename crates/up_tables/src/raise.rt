@@ -13,7 +13,7 @@ ghost use Rattle.up_tables.specs.declared.open.SchemaVersion.TheVariants.{One, T
 ghost use Rattle.up_tables.specs.Statements.{IsStep, NamesLatest, RaisesFrom};
 
 use crate::create::{make_image_sha512, make_retired};
-use crate::open::{OpenFault, SchemaVersion, opening_fault};
+use crate::open::{OpenFault, SchemaVersion, opened};
 use sqlite::{Alter, Connection, Error, Transaction};
 
 /// Says that the tables are of the latest version.
@@ -84,11 +84,8 @@ pub(crate) fn raise<S: Alter>(
     ensures open { HasCleanDisk (state S.Store conn.new) → OnOk result (IsTrue (state S.Store conn.old).is_open) }
 {
     let mut tx = conn.transaction();
-    if let Err(error) = raise_tables(&mut tx, version) {
-        return Err(opening_fault(error));
+    if let Err(fault) = opened(raise_tables(&mut tx, version)) {
+        return Err(fault);
     }
-    match tx.commit() {
-        Ok(()) => Ok(()),
-        Err(error) => Err(opening_fault(error)),
-    }
+    opened(tx.commit())
 }
