@@ -54,7 +54,8 @@ impl<D: Alter> Store<D> {
     /// The vehicle's row with its greatest counter, none of an unknown vehicle and before its first manifest.
     pub fn latest(&mut self, alloc: Global, vehicle: &Ident) -> Result<Option<Kept>, StoreFault>
         ensures told { Answers (latest_kept vehicle.now) (state D.Store self.old) (state D.Store self.new) result }
-        ensures blame { Blames (λ rows. IfSome (vehicle_found vehicle.now rows) IsValidVehicle × IfSome (latest_kept vehicle.now rows) IsKeptValue) (state D.Store self.old) (state D.Store self.new) result }
+        ensures blame { Blames (λ rows. IfSome (vehicle_found vehicle.now rows) IsValidVehicle × IfSome (latest_kept vehicle.now rows) IsKeptValue)
+            (state D.Store self.old) (state D.Store self.new) result }
         ensures kept { IfClean (IsAsCommitted (state D.Store self.old)) (state D.Store self.new) }
         ensures crash { Survives (state D.Store self.old) (state D.Store self.new) (λ _. ⊥) }
         ensures open { NeedsOpen (state D.Store self.old) (state D.Store self.new) result }
