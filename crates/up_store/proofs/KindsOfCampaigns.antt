@@ -43,7 +43,9 @@ holds_campaign name s rows lists fits = ((λ n. campaign_lines (table.get rows.c
 
 pub holds_running : (s : Connected) (rows : StateRows) → ListsRows rows s.now.trees → AreValidCampaigns rows.campaigns
     → HoldsBy campaign_table 1 (λ rows_of. (name : List ℕ) → AllByRecursion ShowsCampaign (filter (has_number 3 (pos 1)) (rows_of name))) s
-holds_running s rows lists fits =
-    ((λ n. campaign_lines (table.get rows.campaigns n)), lists.tables.campaigns,
-    (λ name. all_filtered ShowsCampaign (has_number 3 (pos 1)) (campaign_lines (table.get rows.campaigns name))
-    (campaign_shows (table.get rows.campaigns name) name (lists.typed.campaigns name) (if_some (table.get rows.campaigns name) (fits name))).1))
+holds_running s rows lists fits = (
+  (λ n. campaign_lines (table.get rows.campaigns n)),
+  lists.tables.campaigns,
+  (λ name. all_filtered ShowsCampaign (has_number 3 (pos 1)) (campaign_lines (table.get rows.campaigns name))
+      (campaign_shows (table.get rows.campaigns name) name (lists.typed.campaigns name) (if_some (table.get rows.campaigns name) (fits name))).1),
+)
