@@ -1,6 +1,6 @@
 -- The row of `meta`, the rows of keys and those of files have the columns that the statements show.
 use Rattle.std.proofs.Common.{◌≡◌, ◌⊎◌, inl, inr, ℕ, pos, ◌+◌, ◌≤◌, ◌^◌, List, [], ◌∷◌, ◌++◌, Option, Some, None, Ok, Err, map, filter, codes, refl, sym, subst, arith, true, IsUtf8}
-use Rattle.std.specs.Prelude.{IfOk, IfErr, IfSome, Result, flat_map}
+use Rattle.std.specs.Prelude.{⊤, IfOk, IfErr, IfSome, Result, flat_map}
 use Rattle.std.specs.List.{AllByRecursion, enumerate_from}
 use Rattle.sqlite.specs.declared.types.Value.TheVariants.{Text}
 use Rattle.sqlite.specs.Order.{Row}
@@ -44,9 +44,9 @@ holds_meta s rows lists =
     (founding_number (λ (f : Founding). f.root) rows.founding, founding_number (λ (f : Founding). f.image_version) rows.founding, founding_number (λ (f : Founding). f.stamp) rows.founding, lists.tables.meta)
 
 -- what is told where its row is not read
-pub row_blames : {A : Type 0} (fits : StateRows → Type 0) (old new : Connected) (found : Result (Option MetaRow) StoreFault) (fault : StoreFault) → ((found ≡ Ok None) × (fault ≡ Store)) ⊎ (found ≡ Err fault)
-    → FindsMeta old new found → BlamesDisk HasMeta old new found → BlamesWithin {A = A} fits old new (Err fault)
-row_blames fits old new found fault (inl none) finds blame clean = λ told is_open unlimited rows within value.
+pub row_blames : (fits : StateRows → Type 0) (old new : Connected) (found : Result (Option MetaRow) StoreFault) (fault : StoreFault) → ((found ≡ Ok None) × (fault ≡ Store)) ⊎ (found ≡ Err fault)
+    → FindsMeta old new found → BlamesDisk HasMeta old new found → BlamesWithin {A = ⊤} fits old new (Err fault)
+row_blames fits old new found fault (inl none) finds blame = λ clean told is_open unlimited rows within value.
     let gone : None ≡ Some (meta_told rows.founding) = numbers_in rows None old (λ _. is_open) (subst (λ r. IfOk r (λ (f : Option MetaRow). (root : ℕ) (image_version : ℕ) (stamp : ℕ) → HasTables old
     → old.now.trees meta_table.tree ≡ meta_row root image_version stamp ∷ [] → f ≡ Some (record { root = root; image_version = image_version; stamp = stamp }))) none.0 (finds clean)) within in
     absurd cc
