@@ -47,9 +47,7 @@ pub fn open_file<S: Start>(
     let mut maker = || make_for_owner(rt, path);
     let mut opener = |start: S|
         ensures { IfOk result (OpenedFrom (image_at S.Start)) }
-    {
-        Connection::open_from(rt, path, true, start)
-    };
+    { Connection::open_from(rt, path, true, start) };
     open_named(path, start, &mut maker, &mut opener)
 }
 
@@ -61,12 +59,7 @@ fn open_named<
     L: Drop,
     M: FnMut() -> Result<(), io::ErrorKind>,
     O: FnMut(S) -> Result<C, (Error, L)>,
->(
-    path: &str,
-    start: S,
-    maker: &mut M,
-    opener: &mut O,
-) -> Result<C, OpenFault>
+>(path: &str, start: S, maker: &mut M, opener: &mut O) -> Result<C, OpenFault>
     requires maker { M.IsAlwaysCallable maker.old }
     requires opener { O.IsAlwaysCallable opener.old }
     ensures named { OpensNamed path.now (λ made. M.step maker.old made maker.new) (maker.new ≡ maker.old) (λ opened. O.step opener.old start opened opener.new) (opener.new ≡ opener.old) result }
