@@ -1,3 +1,4 @@
 pub mod Adopting
 pub mod Closing
 pub mod NewFiles
+pub mod Opening

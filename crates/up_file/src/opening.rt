@@ -1,6 +1,6 @@
 //! Opening a database file.
 
-ghost use Rattle.std.specs.Prelude.{◌≡◌, ◌≢◌, ◌++◌, ℕ, List, false, true, IfOk, IfErr, codes, Err};
+ghost use Rattle.std.specs.Prelude.{◌≡◌, ◌≢◌, ◌↔◌, ◌++◌, ℕ, List, false, true, IfOk, IfErr, IsTrue, codes, Err};
 ghost use Rattle.std.specs.Fs.{new_options, with_create_new, with_read, with_write};
 ghost use Rattle.sqlite.specs.Files.{file_state, IsBlankAs, IsOpened};
 ghost use Rattle.std.specs.Prelude.{None};
@@ -10,6 +10,7 @@ ghost use Rattle.sqlite.specs.WalFiles.{image_at};
 ghost use Rattle.sqlite_store.specs.FileStore.{view};
 ghost use Rattle.up_tables.specs.Faults.{open_fault};
 ghost use Rattle.up_file.specs.NewFiles.{new_file_fault, made_fault};
+ghost use Rattle.up_file.specs.Opening.{NamesNoFile, OpenedFrom, OpensNamed, opened_fault};
 ghost use Rattle.up_tables.specs.declared.open.OpenFault.TheVariants.{NotOurs};
 
 use sqlite::{Connection, Error, ErrorCode, FileFrom, FileStore, Start};
@@ -43,14 +44,41 @@ pub fn open_file<S: Start>(
     ensures memory { path.now ≡ codes ":memory:" → result ≡ Err OpenFault.Store }
     ensures uri { (rest : List ℕ) → path.now ≡ codes "file:" ++ rest → result ≡ Err OpenFault.Store }
 {
-    if path == ":memory:" || path.starts_with("file:") {
+    let mut maker = || make_for_owner(rt, path);
+    let mut opener = |start: S|
+        ensures { IfOk result (OpenedFrom (image_at S.Start)) }
+    { Connection::open_from(rt, path, true, start) };
+    open_named(path, start, &mut maker, &mut opener)
+}
+
+/// What `opener` opens, once `maker` has made a file where nothing has that name. Each is asked once at most, and neither is for a
+/// path that names no file.
+fn open_named<
+    S: Drop,
+    C,
+    L: Drop,
+    M: FnMut() -> Result<(), io::ErrorKind>,
+    O: FnMut(S) -> Result<C, (Error, L)>,
+>(path: &str, start: S, maker: &mut M, opener: &mut O) -> Result<C, OpenFault>
+    requires maker { M.IsAlwaysCallable maker.old }
+    requires opener { O.IsAlwaysCallable opener.old }
+    ensures named { OpensNamed path.now (λ made. M.step maker.old made maker.new) (maker.new ≡ maker.old) (λ opened. O.step opener.old start opened opener.new) (opener.new ≡ opener.old) result }
+    ensures fault { IfErr result (λ e. e ≢ NotOurs) }
+{
+    if names_no_file(path) {
         return Err(OpenFault::Store);
     }
-    made(make_for_owner(rt, path))?;
-    match Connection::open_from(rt, path, true, start) {
-        Ok(conn) => Ok(conn),
-        Err((error, _)) => Err(opening_fault(error)),
+    match made(maker()) {
+        Ok(()) => opened(opener(start)),
+        Err(fault) => Err(fault),
     }
+}
+
+/// Whether the path is that of a database in memory, or a URI.
+fn names_no_file(path: &str) -> bool
+    ensures { IsTrue result ↔ NamesNoFile path.now }
+{
+    path == ":memory:" || path.starts_with("file:")
 }
 
 /// Makes an empty file that its owner alone may read and write, where nothing has that name.
@@ -91,6 +119,17 @@ fn not_made(kind: io::ErrorKind) -> Result<(), OpenFault>
         io::ErrorKind::AlreadyExists => Ok(()),
         io::ErrorKind::OutOfMemory => Err(OpenFault::Memory),
         _ => Err(OpenFault::Store),
+    }
+}
+
+/// What is told where a file was opened, or was not.
+fn opened<C, L: Drop>(opened: Result<C, (Error, L)>) -> Result<C, OpenFault>
+    ensures told { result ≡ opened_fault opened }
+    ensures known { IfErr result (λ e. e ≢ NotOurs) }
+{
+    match opened {
+        Ok(conn) => Ok(conn),
+        Err((error, _)) => Err(opening_fault(error)),
     }
 }
 

@@ -1,4 +1,29 @@
+use Rattle.std.proofs.Common.{inl, inr}
+use Rattle.sqlite.specs.WalFiles.{image_at}
+use Rattle.up_file.specs.Opening.{OpenedFrom}
+use Rattle.up_file.proofs.Opened.{named_then, named_none}
 use Rattle.up_file.proofs.opening.open_file.Goals as goal
 
-pub returns-in-Ok-clause-uri : goal.returns-in-Ok-clause-uri
-returns-in-Ok-clause-uri g c = λ rest is. absurd (c.if-starts_with.ensures.cases rest is)
+pub returns-clause-opened : goal.returns-clause-opened
+returns-clause-opened g c = named_then _ _ _ _ _ _ (OpenedFrom (image_at g.S.Start)) _ c.open_named.ensures.named (λ opened step. step.met.0) (λ conn it. it.opened)
+
+pub returns-clause-found : goal.returns-clause-found
+returns-clause-found g c = named_then _ _ _ _ _ _ (OpenedFrom (image_at g.S.Start)) _ c.open_named.ensures.named (λ opened step. step.met.0) (λ conn it. it.found)
+
+pub returns-clause-sums : goal.returns-clause-sums
+returns-clause-sums g c = named_then _ _ _ _ _ _ (OpenedFrom (image_at g.S.Start)) _ c.open_named.ensures.named (λ opened step. step.met.0) (λ conn it. it.sums)
+
+pub returns-clause-mode : goal.returns-clause-mode
+returns-clause-mode g c = named_then _ _ _ _ _ _ (OpenedFrom (image_at g.S.Start)) _ c.open_named.ensures.named (λ opened step. step.met.0) (λ conn it. it.mode)
+
+pub returns-clause-unlimited : goal.returns-clause-unlimited
+returns-clause-unlimited g c = named_then _ _ _ _ _ _ (OpenedFrom (image_at g.S.Start)) _ c.open_named.ensures.named (λ opened step. step.met.0) (λ conn it. it.unlimited)
+
+pub returns-clause-shielded : goal.returns-clause-shielded
+returns-clause-shielded g c = named_then _ _ _ _ _ _ (OpenedFrom (image_at g.S.Start)) _ c.open_named.ensures.named (λ opened step. step.met.0) (λ conn it. it.shielded)
+
+pub returns-clause-memory : goal.returns-clause-memory
+returns-clause-memory g c = λ is. named_none _ _ _ _ _ _ c.open_named.ensures.named (inl is)
+
+pub returns-clause-uri : goal.returns-clause-uri
+returns-clause-uri g c = λ rest is. named_none _ _ _ _ _ _ c.open_named.ensures.named (inr (rest, is))
