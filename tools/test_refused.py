@@ -579,12 +579,13 @@ class Texts(OnATree):
         impl<'a> Shown for &'a [u8] { fn fifth() {} }
         impl From<&'static str> for (u8, Held) { fn sixth() {} }
         trait Counted { fn none(); fn seventh() {} }
+        impl<R: Read> Source for R { fn eighth() {} }
         fn alone() {}
         """
         owners = {it.name: (it.owner, it.is_own) for it in functions_in(text)}
         own = {"first": ("Held", True), "second": ("Held", True)}
         others = {"third": "OtherFromVec", "fourth": "ScripterInterpretDesk", "fifth": "RefSliceU8Shown", "sixth": "Tuple2U8HeldFromRefStr"}
-        others |= {"seventh": "Counted", "alone": None}
+        others |= {"seventh": "Counted", "eighth": "AnySource", "alone": None}
         self.assertEqual(owners, own | {name: (owner, False) for name, owner in others.items()})
 
     def test_a_method_is_named_by_the_module_of_its_type(self):

@@ -13,7 +13,7 @@ Token = collections.namedtuple("Token", "line start end kind word")
 # An outermost function with a body, which lies between the bytes `opens` and `closes`. `lines` are its first and last, `cycle` is the cycle of calls
 # that it is in, or None, and `is_read_above` says that a crate above may read its body: that of a `const fn` or of a trait's default. `owner` is the
 # word that rattle puts before its name, or None: the name of its trait or of the type whose own `impl` it stands in; of a trait's `impl`, the names
-# of type and trait in one, as in `RefusalFromRefStr`. `is_own` says that it stands in a type's own `impl`: rattle names it by that type's module.
+# of type and trait in one, as in `RefusalFromRefStr`, and in `AnySource` where it is for every type. `is_own` says that it stands in a type's own `impl`: rattle names it by that type's module.
 # `modules` are the modules that it may stand in, each a tuple of names, or None where they aren't known yet. `begins` is the byte that the whole
 # function begins at, its attributes with it, where no crate above can read it unless something names it; else None. `is_private` says that those
 # above can't name it.
@@ -126,7 +126,7 @@ def owner_of(words):
             parameters.add(word)
         elif not is_parameter:
             parts[-1].append(word)
-    return "".join(_spelled(it, parameters) for it in parts[::-1]), len(parts) == 1
+    return "".join("Any" if len(it) == 1 and it[0] in parameters else _spelled(it, parameters) for it in parts[::-1]), len(parts) == 1
 
 
 def _spelled(words, parameters):

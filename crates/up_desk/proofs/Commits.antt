@@ -20,7 +20,7 @@ use Rattle.up_machine.proofs.Tables.{get_same}
 use Rattle.up_desk.specs.Laws.{NewRepliesCommit}
 
 -- one entry more is another state
-one_more : (s : State) (vehicle : Vehicle) (name : List ℕ) (e : Entry) → table.get s.vehicles name ≡ Some vehicle → with_entry s name vehicle e ≡ s → ⊥
+pub one_more : (s : State) (vehicle : Vehicle) (name : List ℕ) (e : Entry) → table.get s.vehicles name ≡ Some vehicle → with_entry s name vehicle e ≡ s → ⊥
 one_more s vehicle name e there same =
     let more : Vehicle = record vehicle { entries = vehicle.entries ++ e ∷ [] } in
     let is : more ≡ vehicle = one_value (table.get s.vehicles name) more vehicle (sym (ap (λ (t : State). table.get t.vehicles name) same) ∙ get_same s.vehicles name more) there in

@@ -1,9 +1,10 @@
 -- What is due, and its rows.
-use Rattle.std.proofs.Common.{◌≡◌, ℕ, Bool, true, false, None, Result, Ok, Err, sym, ◌∙◌, subst}
-use Rattle.std.specs.Prelude.{◌||◌, ⊤, IsErrAnd, MatchBool}
+use Rattle.std.proofs.Common.{◌≡◌, ℕ, Bool, true, None, Result, Ok, Err, refl, sym, ◌∙◌, subst}
+use Rattle.std.specs.Prelude.{IsErrAnd, MatchBool}
 use Rattle.std.specs.FinMap as table
-use Rattle.up_canon.specs.Refusals.{is_memory}
+use Rattle.sqlite.specs.State.{State as Connected}
 use Rattle.up_canon.specs.declared.refusal.Refusal.{Refusal}
+use Rattle.up_canon.specs.declared.refusal.Refusal.TheVariants.{Store}
 use Rattle.up_plan.specs.Images.{ImageData}
 use Rattle.up_machine.specs.declared.decision.Decision.{Decision}
 use Rattle.up_machine.specs.declared.decision.Decision.TheVariants.{Already, New}
@@ -13,35 +14,28 @@ use Rattle.up_machine.specs.Deciding.{Outcome, already}
 use Rattle.up_machine.specs.Repositories.{decide_new_image}
 use Rattle.up_machine.specs.Decisions.{IsDone, GivesRows, GivesDecision}
 use Rattle.up_machine.specs.Due.{HasFounding, GivesNewImage}
-use Rattle.up_desk.specs.Serving.{is_store, is_fault, GivesOrFails}
+use Rattle.up_tables.specs.declared.values.StoreFault.{StoreFault}
+use Rattle.up_tables.specs.declared.values.StoreFault.TheVariants as fault
+use Rattle.up_desk.specs.Serving.{DiskFailed, IsDueOrFails, is_fault, GivesOrFails, Reads, refusal_told}
 use Rattle.up_desk.specs.NewMetadata.{MetadataOrFails}
-use Rattle.up_desk.proofs.Steps.{failed_as}
-
-by_store : (b : Bool) {X : Type 0} → X → MatchBool b ⊤ X
-by_store true h = tt
-by_store false h = h
 
 -- ---- what is due, and its rows
 
-pub rows_made : {D R : Type 0} (due : D → Type 0) (has : R → Type 0) (next : State) (new : D) (result : Result R Refusal) (computed : Result Outcome Refusal)
-    → IsDone due next new computed → (due new → MetadataOrFails has result) → GivesOrFails (GivesRows has next) result computed
-rows_made due has next new (Ok rows) computed is made = (is.0, made is.1)
-rows_made due has next new (Err r) computed is made = failed_as (is_fault r) (computed ≡ Err r) (made is.1)
+failing : (old new : Connected) (r : Refusal) (computed : Result Outcome Refusal) → (is_fault r ≡ true) × (r ≡ Store → DiskFailed old new) → IsDueOrFails old new r computed
+failing old new r computed h = subst (λ (b : Bool). MatchBool b (r ≡ Store → DiskFailed old new) (computed ≡ Err r)) (sym h.0) h.1
 
--- a refusal that is due, or want of memory
-pub due_refused : (r : Refusal) (computed : Result Outcome Refusal) → MatchBool (is_memory r) ⊤ (computed ≡ Err r) → MatchBool (is_fault r) ⊤ (computed ≡ Err r)
-due_refused r computed h = by_memory (is_memory r) h
+-- a fault of the store, told as a refusal
+pub fails_as : {old new : Connected} → Reads old new → (r : Refusal) (f : StoreFault) → r ≡ refusal_told f → (f ≡ fault.Store → DiskFailed old new) → (is_fault r ≡ true) × (r ≡ Store → DiskFailed old new)
+fails_as {old} {new} reads r f is blame = subst (λ (q : Refusal). (is_fault q ≡ true) × (q ≡ Store → DiskFailed old new)) (sym is) (by_fault f blame)
   where
-    by_memory : (m : Bool) → MatchBool m ⊤ (computed ≡ Err r) → MatchBool (m || is_store r) ⊤ (computed ≡ Err r)
-    by_memory true h = tt
-    by_memory false h = by_store (is_store r) h
+    by_fault : (f : StoreFault) → (f ≡ fault.Store → DiskFailed old new) → (is_fault (refusal_told f) ≡ true) × (refusal_told f ≡ Store → DiskFailed old new)
+    by_fault fault.Memory blame = (refl, λ store. cc)
+    by_fault fault.Store blame = (refl, λ store. blame refl)
 
-pub surely_refused : (r : Refusal) (computed : Result Outcome Refusal) → computed ≡ Err r → MatchBool (is_fault r) ⊤ (computed ≡ Err r)
-surely_refused r computed h = by_loss (is_fault r)
-  where
-    by_loss : (b : Bool) → MatchBool b ⊤ (computed ≡ Err r)
-    by_loss true = tt
-    by_loss false = h
+pub rows_made : {D R : Type 0} {before after : Connected} → Reads before after → (due : D → Type 0) (has : R → Type 0) (next : State) (new : D) (result : Result R Refusal) (computed : Result Outcome Refusal)
+    → IsDone due next new computed → (due new → MetadataOrFails has before after result) → GivesOrFails (GivesRows has next) before after result computed
+rows_made reads due has next new (Ok rows) computed is made = (is.0, made is.1)
+rows_made {D} {R} {before} {after} reads due has next new (Err r) computed is made = failing before after r computed (made is.1)
 
 -- ---- images
 
@@ -59,7 +53,8 @@ when_new_image s at image (New other) founding computed is h = let same : other 
 pub new_rows_made : {R : Type 0} (has : R → Type 0) (next : State) (rows : R) (computed decided : Result Outcome Refusal) → computed ≡ decided → IsDone has next rows decided → IsDone has next rows computed
 new_rows_made has next rows computed decided is h = (is ∙ h.0, h.1)
 
-pub new_rows_refused : {R : Type 0} (has : R → Type 0) (s next : State) (result : Result (Decision R) Refusal) (e : Refusal) (computed decided : Result Outcome Refusal) → computed ≡ decided
-    → IsErrAnd result (λ x. x ≡ e) → MatchBool (is_fault e) ⊤ (decided ≡ Err e) → GivesOrFails (GivesDecision has s next) result computed
-new_rows_refused has s next (Ok d) e computed decided is none h = absurd none
-new_rows_refused has s next (Err r) e computed decided is same h = subst (λ r. MatchBool (is_fault r) ⊤ (computed ≡ Err r)) (sym same) (subst (λ o. MatchBool (is_fault e) ⊤ (o ≡ Err e)) (sym is) h)
+pub new_rows_refused : {R : Type 0} {before after : Connected} → Reads before after → (has : R → Type 0) (s next : State) (result : Result (Decision R) Refusal) (e : Refusal) (computed decided : Result Outcome Refusal) → computed ≡ decided
+    → IsErrAnd result (λ x. x ≡ e) → IsDueOrFails before after e decided → GivesOrFails (GivesDecision has s next) before after result computed
+new_rows_refused reads has s next (Ok d) e computed decided is none h = absurd none
+new_rows_refused {R} {before} {after} reads has s next (Err r) e computed decided is same h =
+    subst (λ (q : Refusal). IsDueOrFails before after q computed) (sym same) (subst (λ (o : Result Outcome Refusal). IsDueOrFails before after e o) (sym is) h)

@@ -1,6 +1,6 @@
 -- What is decided fits the rows that are kept, and takes them to those of the next state.
-use Rattle.std.proofs.Common.{◌≡◌, ℕ, zero, suc, ◌+◌, ◌-◌, List, [], ◌∷◌, ◌++◌, Bool, true, false, cond, Option, Some, None, Result, Ok, refl, sym, ap, ◌∙◌, subst, map, length}
-use Rattle.std.specs.Prelude.{◌==◌, option_map, nat_le, is_none, slice_get}
+use Rattle.std.proofs.Common.{◌≡◌, ℕ, zero, suc, ◌+◌, ◌-◌, List, [], ◌∷◌, ◌++◌, Bool, true, false, cond, Option, Some, None, Result, Ok, refl, sym, ap, ◌∙◌, subst, map, length, arith}
+use Rattle.std.specs.Prelude.{◌==◌, ◌<◌, ◌≤◌, ◌^◌, ⊤, if◌then◌else◌, not, codes, option_map, nat_le, is_none, slice_get}
 use Rattle.std.specs.List.{AllByRecursion, enumerate_from, list_all}
 use Rattle.std.specs.FinMap as table
 use Rattle.std.proofs.lemmas.List.{length-append}
@@ -23,22 +23,26 @@ use Rattle.up_machine.specs.declared.decision.RegisterRows.{RegisterRows}
 use Rattle.up_machine.specs.declared.decision.RootRows.{RootRows}
 use Rattle.up_machine.specs.declared.rows.EcuRow.{EcuRow}
 use Rattle.up_machine.specs.declared.rows.Founding.{Founding}
+use Rattle.up_machine.specs.declared.rows.Kept.{Kept}
 use Rattle.up_machine.specs.declared.rows.VehicleRows.{VehicleRows}
 use Rattle.up_machine.specs.declared.vehicle.Replacement.{Replacement}
-use Rattle.up_machine.specs.Vehicles.{NewVehicleData}
-use Rattle.up_machine.specs.State.{Entry, Vehicle, State, nth, root_at, added}
-use Rattle.up_machine.specs.Sound.{IsSound}
+use Rattle.up_machine.specs.declared.vehicle.NewEcu.{NewEcu}
+use Rattle.up_machine.specs.Vehicles.{NewVehicleData, has_ecu, new_vehicle_fault}
+use Rattle.up_machine.specs.State.{Entry, Vehicle, State, nth, root_at, added, version}
+use Rattle.up_machine.specs.Sound.{IsGrounded, IsSound}
 use Rattle.up_machine.specs.Deciding.{Outcome, done}
 use Rattle.up_machine.specs.Decisions.{IsDone, HasRootRows, HasRegisterRows, HasAcceptedRows, GivesReplacement}
 use Rattle.up_machine.specs.Deliveries.{with_entry}
 use Rattle.up_machine.specs.Inventory.{with_campaign, decide_open, with_vehicle, decide_vehicle, with_replacement, decide_replace}
 use Rattle.up_machine.specs.Repositories.{stamped, with_root, with_image, decide_found, decide_rotate, decide_image, decide_refresh}
-use Rattle.up_machine.specs.Rows.{rows_of, reply_kept}
+use Rattle.up_machine.specs.Rows.{ecu_row, founding_row, rows_of, reply_kept}
 use Rattle.up_metadata.proofs.Lists.{and_left, and_right}
+use Rattle.up_machine.proofs.Counters.{versions_are_counts}
 use Rattle.up_machine.proofs.Decided.{found_ok, rotate_ok}
 use Rattle.up_machine.proofs.ReplacedRows.{rows_have}
 use Rattle.up_machine.proofs.SoundRows.{row_names}
 use Rattle.up_machine.proofs.Places.{nth_last}
+use Rattle.up_machine.proofs.Tables.{get_same}
 use Rattle.up_rows.specs.SecondHashes.{TellsItsHash}
 use Rattle.up_rows.specs.StateRows.{rows_of_state, root_row, ecu_of}
 use Rattle.up_rows.specs.Changes.{with_root_rows, with_register_rows, with_image_rows, with_vehicle_rows, with_replaced_rows, with_campaign_row, with_accepted_rows}
@@ -48,32 +52,47 @@ use Rattle.up_rows.proofs.Told.{ecus_back}
 use Rattle.up_store.specs.Fitting.{IsNextRoot, IsSameRoot, IsNewImage, IsNewVehicle, IsReplacement, IsClosing, IsNewCampaign, IsRecorded}
 use Rattle.up_store.specs.Listing.{IsOfLastRoot}
 use Rattle.up_store.specs.Typed.{HasKeys, HaveKeys, EachHasKeys}
+use Rattle.up_store.specs.Writes.{FitsAccepted, FitsFounding, FitsVehicle, root_writes, register_writes, image_writes, campaign_writes, close_writes, vehicle_writes, replace_writes, accept_writes}
+use Rattle.up_store.specs.Writes as writes
 use Rattle.up_desk.proofs.Steps.{WillWrite}
+use Rattle.up_desk.proofs.Commits.{one_more}
 use Rattle.up_desk.proofs.Decided.{IsClosed, IsAccepted}
 
 -- ---- campaigns
 
 pub closing_fits : (k : Rules) (s : State) (name : Name) (row : CampaignData) (computed : Result Outcome Refusal) → IsSound k s → CampaignsAreWritten → IsClosed s name row computed
-    → WillWrite k s (IsClosing row) (λ rows. with_campaign_row rows row) Done computed
+    → WillWrite k s (close_writes row) (λ _. ⊤) (IsClosing row) (λ rows. with_campaign_row rows row) Done computed
 closing_fits k s name row computed sound written it = record {
   next = with_campaign s row;
   computed_is = it.decided;
-  fit = record { was = it.was; there = ap (table.get s.campaigns) named ∙ it.there; is = it.is };
+  fit = fit;
   rows = written k s row;
+  commit = tt;
+  holds = λ next_sound. tt;
+  refused = λ limit db one. writes.close row fit (sym (written k s row)) one;
 }
   where
     named : row.name ≡ name
     named = ap (λ (c : CampaignData). c.name) it.is ∙ (sound.campaigns name it.was it.there).named
 
+    fit : IsClosing row (rows_of_state k s)
+    fit = record { was = it.was; there = ap (table.get s.campaigns) named ∙ it.there; is = it.is }
+
 pub opening_fits : (k : Rules) (s : State) (at : ℕ) (campaign row : CampaignData) → CampaignsAreWritten → NewCampaignsAreNew
     → IsDone (λ r. r ≡ campaign) (with_campaign s campaign) row (decide_open s at campaign)
-    → WillWrite k s (IsNewCampaign row) (λ rows. with_campaign_row rows row) Done (decide_open s at campaign)
+    → WillWrite k s (campaign_writes row) (λ _. ⊤) (IsNewCampaign row) (λ rows. with_campaign_row rows row) Done (decide_open s at campaign)
 opening_fits k s at campaign row written new it = record {
   next = with_campaign s row;
   computed_is = it.0 ∙ ap (λ (c : CampaignData). Ok (done (with_campaign s c))) (sym it.1);
-  fit = ap (λ (c : CampaignData). table.get s.campaigns c.name) it.1 ∙ new s at campaign it.0;
+  fit = fit;
   rows = written k s row;
+  commit = tt;
+  holds = λ next_sound. tt;
+  refused = λ limit db one. writes.campaign row fit (sym (written k s row)) one;
 }
+  where
+    fit : IsNewCampaign row (rows_of_state k s)
+    fit = ap (λ (c : CampaignData). table.get s.campaigns c.name) it.1 ∙ new s at campaign it.0
 
 -- ---- the last root version
 
@@ -108,25 +127,66 @@ last_root k s roots version stamp f (Some root) there is =
           ∙ keys_at k s 1 roots (length roots - 1) ∙ ap (option_map (λ (r : Root). r.keys)) (nth_there roots (length roots) root there) ∙ ap (λ (g : Founding). Some g.keys) same,
     )
 
+-- ---- numbers that columns hold
+
+founding_numbers : (k : Rules) (next : State) (f : Founding) → IsSound k next → founding_row next ≡ Some f → FitsFounding f
+founding_numbers k next f sound h = by_root (root_at next (length next.roots)) h
+  where
+    by_root : (o : Option Root) → option_map (row_with next.roots next.image_version next.stamp) o ≡ Some f → FitsFounding f
+    by_root None h = cc
+    by_root (Some root) h =
+        let same : row_with next.roots next.image_version next.stamp root ≡ f = cc in
+        subst FitsFounding same (record { root = omega (arith, sound.repositories.root_limit); image_version = omega (arith, sound.repositories.version_limit) })
+
+ecu_count : (v : Vehicle) (ecus : List NewEcu) → length (map (ecu_row v) ecus) ≡ length ecus
+ecu_count v [] = refl
+ecu_count v (e ∷ ecus) = ap suc (ecu_count v ecus)
+
+few_ecus : (v : NewVehicleData) → new_vehicle_fault v ≡ None → length v.ecus ≤ 32
+few_ecus v h = by_number (is_from_to 1 32 (length v.ecus)) refl h
+  where
+    by_number : (b : Bool) → is_from_to 1 32 (length v.ecus) ≡ b → (if not b then Some (codes "ecus") else if not (has_ecu v.primary v.ecus) then Some (codes "primary") else None) ≡ None → length v.ecus ≤ 32
+    by_number true is h = leb-true _ _ (and_right (nat_le 1 (length v.ecus)) (nat_le (length v.ecus) 32) is)
+    by_number false is h = cc
+
+vehicle_numbers : (k : Rules) (next : State) (name : Name) (v : Vehicle) → IsSound k next → table.get next.vehicles name ≡ Some v → FitsVehicle (rows_of name v)
+vehicle_numbers k next name v sound there =
+    let counts = versions_are_counts k next name v sound there in
+    let few = few_ecus (record { vehicle = name; primary = v.primary; ecus = v.ecus }) (sound.vehicles name v there).fits in
+    let size = ecu_count v v.ecus in
+    record { version = omega (arith, counts.0, counts.1); ecus = omega (arith, few, size) }
+
 pub refreshing_fits : (k : Rules) (s : State) (at version : ℕ) (new : RegisterRows) → IsSound k s → FilesAreReplaced
     → IsDone (HasRegisterRows k (stamped s at version)) (stamped s at version) new (decide_refresh s at version)
-    → WillWrite k s (IsSameRoot new) (λ rows. with_register_rows rows new) Done (decide_refresh s at version)
+    → WillWrite k s (register_writes new) (λ _. FitsFounding new.founding) (IsSameRoot new) (λ rows. with_register_rows rows new) Done (decide_refresh s at version)
 refreshing_fits k s at version new sound replaced it = record {
   next = stamped s at version;
   computed_is = it.0;
-  fit = last_root k s s.roots version at new.founding (root_at s (length s.roots)) refl it.1.founding;
+  fit = fit;
   rows = replaced k s at version new sound it.1;
+  commit = tt;
+  holds = λ next_sound. founding_numbers k (stamped s at version) new.founding next_sound it.1.founding;
+  refused = λ limit db one. writes.register new fit (sym (replaced k s at version new sound it.1)) one;
 }
+  where
+    fit : IsSameRoot new (rows_of_state k s)
+    fit = last_root k s s.roots version at new.founding (root_at s (length s.roots)) refl it.1.founding
 
 pub image_fits : (k : Rules) (s : State) (at : ℕ) (image : ImageData) (new : RegisterRows) → IsSound k s → ImagesAreAdded → NewImagesAreNew
     → IsDone (HasRegisterRows k (stamped (with_image s image) at (s.image_version + 1))) (stamped (with_image s image) at (s.image_version + 1)) new (decide_image s at image)
-    → WillWrite k s (IsNewImage image new) (λ rows. with_image_rows rows image new) Done (decide_image s at image)
+    → WillWrite k s (image_writes image new) (λ _. FitsFounding new.founding) (IsNewImage image new) (λ rows. with_image_rows rows image new) Done (decide_image s at image)
 image_fits k s at image new sound added fresh it =
-    let none = fresh s at (s.image_version + 1) image it.0 in record {
+    let none = fresh s at (s.image_version + 1) image it.0 in
+    let fit : IsNewImage image new (rows_of_state k s) =
+    record { none = none; root = last_root k s s.roots (s.image_version + 1) at new.founding (root_at s (length s.roots)) refl it.1.founding } in
+    record {
       next = stamped (with_image s image) at (s.image_version + 1);
       computed_is = it.0;
-      fit = record { none = none; root = last_root k s s.roots (s.image_version + 1) at new.founding (root_at s (length s.roots)) refl it.1.founding };
+      fit = fit;
       rows = added k s at (s.image_version + 1) image new sound none it.1;
+      commit = tt;
+      holds = λ next_sound. founding_numbers k (stamped (with_image s image) at (s.image_version + 1)) new.founding next_sound it.1.founding;
+      refused = λ limit db one. writes.image image new fit (sym (added k s at (s.image_version + 1) image new sound none it.1)) one;
     }
 
 -- ---- one more root version
@@ -165,55 +225,73 @@ next_root k s at version keys new fits has =
 
 pub founding_fits : (k : Rules) (s : State) (at : ℕ) (keys : KeySet) (new : RootRows) → IsSound k s → RootsAreAdded
     → IsDone (HasRootRows k (stamped (with_root s at keys) at 1)) (stamped (with_root s at keys) at 1) new (decide_found k s at keys)
-    → WillWrite k s (IsNextRoot new) (λ rows. with_root_rows rows new) Done (decide_found k s at keys)
+    → WillWrite k s (root_writes new) (λ _. FitsFounding new.founding) (IsNextRoot new) (λ rows. with_root_rows rows new) Done (decide_found k s at keys)
 founding_fits k s at keys new sound added it = record {
   next = stamped (with_root s at keys) at 1;
   computed_is = it.0;
   fit = next_root k s at 1 keys new (found_ok k s at keys _ it.0).fits it.1;
   rows = added k s at 1 keys new sound it.1;
+  commit = tt;
+  holds = λ next_sound. founding_numbers k (stamped (with_root s at keys) at 1) new.founding next_sound it.1.founding;
+  refused = λ limit db one. writes.root new (next_root k s at 1 keys new (found_ok k s at keys _ it.0).fits it.1) (sym (added k s at 1 keys new sound it.1)) one;
 }
 
 pub rotation_fits : (k : Rules) (s : State) (at : ℕ) (keys : KeySet) (new : RootRows) → IsSound k s → RootsAreAdded
     → IsDone (HasRootRows k (stamped (with_root s at keys) at (s.image_version + 1))) (stamped (with_root s at keys) at (s.image_version + 1)) new (decide_rotate k s at keys)
-    → WillWrite k s (IsNextRoot new) (λ rows. with_root_rows rows new) Done (decide_rotate k s at keys)
+    → WillWrite k s (root_writes new) (λ _. FitsFounding new.founding) (IsNextRoot new) (λ rows. with_root_rows rows new) Done (decide_rotate k s at keys)
 rotation_fits k s at keys new sound added it = record {
   next = stamped (with_root s at keys) at (s.image_version + 1);
   computed_is = it.0;
   fit = next_root k s at (s.image_version + 1) keys new (rotate_ok k s at keys _ it.0).fits it.1;
   rows = added k s at (s.image_version + 1) keys new sound it.1;
+  commit = tt;
+  holds = λ next_sound. founding_numbers k (stamped (with_root s at keys) at (s.image_version + 1)) new.founding next_sound it.1.founding;
+  refused = λ limit db one. writes.root new (next_root k s at (s.image_version + 1) keys new (rotate_ok k s at keys _ it.0).fits it.1)
+      (sym (added k s at (s.image_version + 1) keys new sound it.1)) one;
 }
 
 -- ---- vehicles
 
 pub vehicle_fits : (k : Rules) (s : State) (at : ℕ) (new : NewVehicleData) (row : VehicleRows) → VehiclesAreFound → VehiclesAreAdded → NewVehiclesAreNew → EcusTellTheirHash
     → IsDone (λ r. r ≡ rows_of new.vehicle (added new)) (with_vehicle s new) row (decide_vehicle k s at new)
-    → WillWrite k s (IsNewVehicle row) (λ rows. with_vehicle_rows rows row) Done (decide_vehicle k s at new)
+    → WillWrite k s (vehicle_writes row) (λ rows. IsNewVehicle row rows × FitsVehicle row) (IsNewVehicle row) (λ rows. with_vehicle_rows rows row) Done (decide_vehicle k s at new)
 vehicle_fits k s at new row found written fresh tell it =
-    let none = (fresh k s at new it.0).none in record {
+    let none = (fresh k s at new it.0).none in
+    let rows = ap (with_vehicle_rows (rows_of_state k s)) it.1 ∙ written k s new none in
+    let fit : IsNewVehicle row (rows_of_state k s) = record {
+      none = ap (λ (r : VehicleRows). table.get (rows_of_state k s).vehicles r.vehicle.vehicle) it.1 ∙ found k s new.vehicle ∙ ap (option_map (rows_of new.vehicle)) none;
+      tell = subst (λ (r : VehicleRows). AllByRecursion TellsItsHash r.ecus) (sym it.1) (tell new.vehicle (added new));
+    } in
+    record {
       next = with_vehicle s new;
       computed_is = it.0;
-      fit = record {
-        none = ap (λ (r : VehicleRows). table.get (rows_of_state k s).vehicles r.vehicle.vehicle) it.1 ∙ found k s new.vehicle ∙ ap (option_map (rows_of new.vehicle)) none;
-        tell = subst (λ (r : VehicleRows). AllByRecursion TellsItsHash r.ecus) (sym it.1) (tell new.vehicle (added new));
-      };
-      rows = ap (with_vehicle_rows (rows_of_state k s)) it.1 ∙ written k s new none;
+      fit = fit;
+      rows = rows;
+      commit = tt;
+      holds = λ next_sound. (fit, subst FitsVehicle (sym it.1) (vehicle_numbers k (with_vehicle s new) new.vehicle (added new) next_sound (get_same s.vehicles new.vehicle (added new))));
+      refused = λ limit db one. writes.vehicle row fit (sym rows) one;
     }
 
 pub replacement_fits : (k : Rules) (s : State) (at : ℕ) (new : Replacement) → IsSound k s → VehiclesAreFound → EcusAreReplaced → ReplacementsFit
     → GivesReplacement s new (Ok tt) (decide_replace k s at new)
-    → WillWrite k s (IsReplacement new) (λ rows. with_replaced_rows rows new) Done (decide_replace k s at new)
+    → WillWrite k s (replace_writes new) (λ _. ⊤) (IsReplacement new) (λ rows. with_replaced_rows rows new) Done (decide_replace k s at new)
 replacement_fits k s at new sound found replaced fit it =
     let v = it.0 in
-    let fits = fit k s at new v sound it.1 it.2 in record {
+    let fits = fit k s at new v sound it.1 it.2 in
+    let is : IsReplacement new (rows_of_state k s) = record {
+      was = rows_of new.vehicle v;
+      there = found k s new.vehicle ∙ ap (option_map (rows_of new.vehicle)) it.1;
+      has = rows_have v new.old v.ecus ∙ fits.has;
+      once = ap first_repeated (row_names v v.ecus) ∙ fits.once;
+    } in
+    record {
       next = with_replacement s new v;
       computed_is = it.2;
-      fit = record {
-        was = rows_of new.vehicle v;
-        there = found k s new.vehicle ∙ ap (option_map (rows_of new.vehicle)) it.1;
-        has = rows_have v new.old v.ecus ∙ fits.has;
-        once = ap first_repeated (row_names v v.ecus) ∙ fits.once;
-      };
+      fit = is;
       rows = replaced k s new v sound it.1 fits.free;
+      commit = tt;
+      holds = λ next_sound. tt;
+      refused = λ limit db one. writes.replacement new is (sym (replaced k s new v sound it.1 fits.free)) one;
     }
 
 recorded : (k : Rules) (s : State) (name : Name) (v : Vehicle) (e : Entry) (new : AcceptedRows) → IsSound k s → VehiclesAreFound → EcusTellTheirHash → table.get s.vehicles name ≡ Some v → HasAcceptedRows k s name v e new
@@ -228,11 +306,37 @@ recorded k s name v e new sound found tell there has =
       tell = subst (λ (r : VehicleRows). AllByRecursion TellsItsHash r.ecus) (sym has.vehicle) (tell name next);
     }
 
+last_of : {A : Type 0} (P : A → Type 0) (xs : List A) (x : A) → AllByRecursion P (xs ++ x ∷ []) → P x
+last_of P [] x h = h.0
+last_of P (y ∷ xs) x h = last_of P xs x h.1
+
+accepted_numbers : (k : Rules) (s : State) (name : Name) (v : Vehicle) (e : Entry) (new : AcceptedRows) → IsSound k (with_entry s name v e) → HasAcceptedRows k s name v e new → FitsAccepted new
+accepted_numbers k s name v e new sound has =
+    let after : Vehicle = record v { entries = v.entries ++ e ∷ [] } in
+    let next = with_entry s name v e in
+    let there : table.get next.vehicles name ≡ Some after = get_same s.vehicles name after in
+    let counts = versions_are_counts k next name after sound there in
+    let size : length (v.entries ++ e ∷ []) ≡ length v.entries + 1 = length-append v.entries (e ∷ []) in
+    let version : version v.entries + 1 < 2 ^ 63 = omega (arith, counts.0, counts.1, size) in
+    let grounded = last_of (IsGrounded next) v.entries e (sound.vehicles name after there).grounded in
+    let root : e.root < 2 ^ 63 = omega (arith, grounded.to, sound.repositories.root_limit) in
+    record {
+      vehicle = subst FitsVehicle (sym has.vehicle) (vehicle_numbers k next name after sound there);
+      version = subst (λ (row : Kept). row.version < 2 ^ 63) (sym has.kept) version;
+      root = subst (λ (row : Kept). row.root < 2 ^ 63) (sym has.kept) root;
+    }
+
 pub accepting_fits : (k : Rules) (s : State) (name : Name) (new : AcceptedRows) (computed : Result Outcome Refusal) → IsSound k s → VehiclesAreFound → ManifestsAreAdded → EcusTellTheirHash → IsAccepted k s name new computed
-    → WillWrite k s (IsRecorded new) (λ rows. with_accepted_rows rows new) (Replied (reply_kept new.kept)) computed
+    → WillWrite k s (accept_writes new) (λ rows. IsRecorded new rows × FitsAccepted new) (IsRecorded new) (λ rows. with_accepted_rows rows new) (Replied (reply_kept new.kept)) computed
 accepting_fits k s name new computed sound found added tell it = record {
   next = with_entry s name it.vehicle it.entry;
   computed_is = it.decided;
-  fit = recorded k s name it.vehicle it.entry new sound found tell it.found it.has;
+  fit = fit;
   rows = added k s name it.vehicle it.entry new it.found it.has;
+  commit = one_more s it.vehicle name it.entry it.found;
+  holds = λ next_sound. (fit, accepted_numbers k s name it.vehicle it.entry new next_sound it.has);
+  refused = λ limit db one. writes.manifest new fit (sym (added k s name it.vehicle it.entry new it.found it.has)) one;
 }
+  where
+    fit : IsRecorded new (rows_of_state k s)
+    fit = recorded k s name it.vehicle it.entry new sound found tell it.found it.has

@@ -1,4 +1,6 @@
 pub mod Steps
+pub mod NeverStore
+pub mod Blamed
 pub mod Decided
 pub mod Due
 pub mod Fitting

@@ -4,14 +4,17 @@ use Rattle.std.proofs.lemmas.List.{take_more, take_all}
 use Rattle.std.specs.Prelude.{◌⊎◌, Result, Ok, Err, is_ok, is_some, MatchBool, IsTrue, IfSome, if◌then◌else◌}
 use Rattle.std.specs.List.{AllByRecursion}
 use Rattle.std.specs.FinMap as table
+use Rattle.sqlite_disk.specs.Disk.{MoreFaults}
 use Rattle.sqlite_trees.specs.View.{doubt}
 use Rattle.sqlite.specs.Tree.{Trees}
 use Rattle.sqlite.proofs.StateLemmas.{survives_then}
+use Rattle.up_canon.specs.declared.refusal.Refusal.TheVariants.{Store}
 use Rattle.up_sign.specs.Schemes.{Rules}
 use Rattle.up_machine.specs.declared.command.Command.{Command}
 use Rattle.up_machine.specs.declared.answer.Answer.{Answer}
 use Rattle.up_machine.specs.declared.answer.Answer.TheVariants.{Refused}
 use Rattle.up_machine.specs.Commands.{is_command}
+use Rattle.up_machine.specs.Deciding.{Outcome}
 use Rattle.up_machine.specs.State.{State}
 use Rattle.up_machine.specs.Machine.{run}
 use Rattle.up_machine.specs.Repeats.{Sent, Met, meet, repeat_of, serve, after, thinned, expected}
@@ -21,9 +24,11 @@ use Rattle.up_machine.specs.ApartLaws.{VehiclesStandApart, DeliveriesCommute, Ar
 use Rattle.up_machine.specs.Laws.{KeptRepliesOutlastRuns}
 use Rattle.up_machine.specs.Replies.{kept_reply}
 use Rattle.up_desk.specs.Standing.{Standing, HasCleanDisk, IfClean, KeepsState, Survives, LeavesOnly}
-use Rattle.up_desk.specs.Serving.{HoldsState, IsCommit, is_failed, IsAnswered, outright}
-use Rattle.up_desk.specs.Calls.{CommitsCall, IsServed, ServesCall, SparesCall}
-use Rattle.up_desk.specs.Runs.{AreOutright, AreNeighbours, timed, sent, unless_failed, IsRun, RunsCalls, outcome_behind, ComesTo, SparesCalls, IsAnsweredCommit, StaysOrComesTo, OutlastsCalls, CommitsCalls}
+use Rattle.up_rows.specs.StateRows.{rows_of_state}
+use Rattle.up_store.specs.Writes.{RefusesToWrite}
+use Rattle.up_desk.specs.Serving.{HoldsState, IsCommit, is_failed, IsAnswered, RefusesOutcome, outright}
+use Rattle.up_desk.specs.Calls.{BlamesCall, CommitsCall, IsServed, ServesCall, SparesCall}
+use Rattle.up_desk.specs.Runs.{AreOutright, AreRefused, BlamesCalls, RefusesThere, AreNeighbours, timed, sent, unless_failed, IsRun, RunsCalls, outcome_behind, ComesTo, SparesCalls, IsAnsweredCommit, StaysOrComesTo, OutlastsCalls, CommitsCalls}
 
 -- the calls one after another, of which some may be lost
 abbrev pub Ran : Rules → State → List (ℕ × Command) → List Answer → State → Type 0
@@ -280,6 +285,56 @@ last_stays k old new cs answers stays = λ s sound was before rest m last now tr
     ap (λ (l : List Sent). after k s l) last.made.list ∙ behind_answered k s before rest m last.made.answered ∙ after_unchanged k o.next rest last.unchanged in
     subst (λ (t : State). HoldsState k t trees) (unmoved k o.next rest it.0 last.unchanged it.1 ∙ sym end) it.2
 
+-- ---- faults
+
+-- the state behind an answer is the one that was met
+state_behind : (old mid : State) (a : Answer) (o : Outcome) → IsAnswered a old mid o → mid ≡ (if is_failed a then old else o.next)
+state_behind old mid a o h = by_loss (is_failed a) h
+  where
+    by_loss : (b : Bool) → MatchBool b (mid ≡ old) ((a ≡ o.answer) × (mid ≡ o.next)) → mid ≡ (if b then old else o.next)
+    by_loss true h = h
+    by_loss false h = h.1
+
+refused_next : (k : Rules) (s : State) (cs : List (ℕ × Command)) (answers : List Answer) (at : State) (c : ℕ × Command) (a : Answer) → Ran k s cs answers at → AreRefused k s cs answers
+    → (a ≡ Refused Store → RefusesThere k at (serve k at c.0 c.1)) → AreRefused k s (cs ++ c ∷ []) (answers ++ a ∷ [])
+refused_next k s [] [] at c a ran all here = (subst (λ (t : State). a ≡ Refused Store → RefusesThere k t (serve k t c.0 c.1)) ran here, tt)
+refused_next k s [] (b ∷ answers) at c a ran all here = absurd ran
+refused_next k s (d ∷ cs) [] at c a ran all here = absurd ran
+refused_next k s (d ∷ cs) (b ∷ answers) at c a ran all here =
+    let same : ran.0 ≡ (if is_failed b then s else (serve k s d.0 d.1).next) = state_behind s ran.0 b (serve k s d.0 d.1) ran.1 in
+    let rest = refused_next k ran.0 cs answers at c a ran.3 (subst (λ (t : State). AreRefused k t cs answers) (sym same) all.1) here in
+    (all.0, subst (λ (t : State). AreRefused k t (cs ++ c ∷ []) (answers ++ a ∷ [])) same rest)
+
+refuses_there : (k : Rules) (s : State) (mid : Standing) (o : Outcome) → KeepsState k s mid → IsTrue mid.connection.is_open → mid.connection.step_limit ≡ None → RefusesOutcome k s mid.connection o → RefusesThere k s o
+refuses_there k s mid o shown is_open unlimited h = record {
+  db = mid.connection.now;
+  shown = shown.tables.here is_open;
+  commit = h.commit;
+  refused = subst (λ (l : Option ℕ). RefusesToWrite (rows_of_state k s) (rows_of_state k o.next) l mid.connection.now) unlimited h.refused;
+}
+
+blames_next : (k : Rules) (old mid new : Standing) (cs : List (ℕ × Command)) (c : ℕ × Command) (answers : List Answer) (a : Answer)
+    → BlamesCalls k cs answers old mid → RunsFrom k old mid cs answers → SparesCalls k cs answers old mid → (HasCleanDisk new → HasCleanDisk mid) → SparesCall k c.0 c.1 mid new → BlamesCall k c.0 c.1 a mid new
+    → BlamesCalls k (cs ++ c ∷ []) (answers ++ a ∷ []) old new
+blames_next k old mid new cs c answers a far runs kept clean spares blame = λ now s sound was is_open unlimited no.
+    let before = runs (clean now) s sound was in
+    let first = kept s sound was in
+    let last = spares before.0 before.2 (λ _. before.3) in
+    let none : MoreFaults old.connection.faults mid.connection.faults → ⊥ = λ more. no (omega (arith, last.counts, more)) in
+    let later : MoreFaults mid.connection.faults new.connection.faults → ⊥ = λ more. no (omega (arith, first.counts, more)) in
+    let still = still_open (first.closes (clean now) is_open) none in
+    refused_next k s cs answers before.0 c a before.1 (far (clean now) s sound was is_open unlimited none)
+    (λ is. by_cause before.0 before.3 still (first.limit ∙ unlimited) later (blame now is before.0 before.2 (λ _. before.3) still (first.limit ∙ unlimited)))
+  where
+    still_open : IsTrue mid.connection.is_open ⊎ MoreFaults old.connection.faults mid.connection.faults → (MoreFaults old.connection.faults mid.connection.faults → ⊥) → IsTrue mid.connection.is_open
+    still_open (inl still) none = still
+    still_open (inr more) none = absurd (none more)
+
+    by_cause : (at : State) → KeepsState k at mid → IsTrue mid.connection.is_open → mid.connection.step_limit ≡ None → (MoreFaults mid.connection.faults new.connection.faults → ⊥)
+        → MoreFaults mid.connection.faults new.connection.faults ⊎ RefusesOutcome k at mid.connection (serve k at c.0 c.1) → RefusesThere k at (serve k at c.0 c.1)
+    by_cause at shown still unlimited later (inl more) = absurd (later more)
+    by_cause at shown still unlimited later (inr refuses) = refuses_there k at mid (serve k at c.0 c.1) shown still unlimited refuses
+
 -- so many commands have run, with as many answers after those that were there
 pub record SoFar (k : Rules) (old new : Standing) (cs : List (ℕ × Command)) (held answers : List Answer) : Type 0 where
   pub given : List Answer
@@ -289,6 +344,7 @@ pub record SoFar (k : Rules) (old new : Standing) (cs : List (ℕ × Command)) (
   pub spares : SparesCalls k cs given old new
   pub outlasts : OutlastsCalls k cs given old new
   pub clean : HasCleanDisk new → HasCleanDisk old
+  pub blames : BlamesCalls k cs given old new
 
 -- what is told of a call
 pub record CallOf (k : Rules) (c : ℕ × Command) (a : Answer) (mid new : Standing) : Type 0 where
@@ -297,6 +353,7 @@ pub record CallOf (k : Rules) (c : ℕ × Command) (a : Answer) (mid new : Stand
   pub commits : CommitsCall k c.0 c.1 a mid new
   pub fits : IsTrue (is_command c.1)
   pub due : IfSome (outright k c.0 c.1) (λ r. a ≡ Refused r)
+  pub blame : BlamesCall k c.0 c.1 a mid new
 
 pub none_so_far : (k : Rules) (s : Standing) (cs : List (ℕ × Command)) (held answers : List Answer) → answers ≡ held → SoFar k s s (take 0 cs) held answers
 none_so_far k s cs held answers same = record {
@@ -307,6 +364,7 @@ none_so_far k s cs held answers same = record {
   spares = λ t sound was. record { clean = omega arith; shield = λ h. h; counts = omega arith; limit = refl; closes = λ now h. inl h; crash = λ now trees h. inl h };
   outlasts = λ t sound was before rest m made now. absurd (omega (arith, ap length made.list, length-append before (m ∷ rest)));
   clean = λ now. now;
+  blames = λ now t sound was is_open unlimited no. tt;
 }
 
 so_far_next : (k : Rules) (old mid new : Standing) (cs : List (ℕ × Command)) (c : ℕ × Command) (held answers more : List Answer) (a : Answer)
@@ -319,6 +377,7 @@ so_far_next k old mid new cs c held answers more a far pushed clean call = recor
   spares = spares_next k old mid new cs c far.given a far.spares far.runs far.due clean call.spares;
   outlasts = outlasts_next k old mid new cs c far.given a far.outlasts far.runs far.due clean call.serves call.spares call.commits;
   clean = λ now. far.clean (clean now);
+  blames = blames_next k old mid new cs c far.given a far.blames far.runs far.spares clean call.spares call.blame;
 }
 
 -- one call more, by a scheme that is the same
@@ -382,7 +441,7 @@ ran_all laws k old cs answers new sound ran =
 -- over the store, the answers and the state that the tables show then
 pub run_whole : (laws : ListLaws) (k : Rules) (old new : Standing) (cs : List (ℕ × Command)) (i : ℕ) (held answers : List Answer) → length cs ≤ i → SoFar k old new (take i cs) held answers
     → (told : List Answer) × (answers ≡ held ++ told) × AreOutright k cs told × RunsCalls k cs told old new × SparesCalls k cs told old new
-    × OutlastsCalls k cs told old new × CommitsCalls k cs told old new
+    × OutlastsCalls k cs told old new × CommitsCalls k cs told old new × BlamesCalls k cs told old new
 run_whole laws k old new cs i held answers all far =
     let whole : SoFar k old new cs held answers = subst (λ (xs : List (ℕ × Command)). SoFar k old new xs held answers) (take_all i cs all) far in (
       whole.given,
@@ -394,4 +453,5 @@ run_whole laws k old new cs i held answers all far =
       whole.spares,
       whole.outlasts,
       last_stays k old new cs whole.given whole.outlasts,
+      whole.blames,
     )

@@ -3,10 +3,11 @@ use Rattle.std.proofs.Common.{◌≡◌, ℕ, List, Bool, true, false, Option, N
 use Rattle.std.specs.Prelude.{⊤, ◌⊎◌, ◌||◌, IfOk, IfSome, MatchBool, is_some, option_and_then}
 use Rattle.std.specs.FinMap as table
 use Rattle.up_canon.specs.Names.{Name, Table}
+use Rattle.sqlite.specs.State.{State as Connected}
 use Rattle.up_canon.specs.Refusals.{is_memory}
 use Rattle.up_canon.specs.Steps.{error_of}
 use Rattle.up_canon.specs.declared.refusal.Refusal.{Refusal}
-use Rattle.up_canon.specs.declared.refusal.Refusal.TheVariants.{Memory, NotFounded, UnknownVehicle}
+use Rattle.up_canon.specs.declared.refusal.Refusal.TheVariants.{Memory, NotFounded, Store, UnknownVehicle}
 use Rattle.up_sign.specs.Schemes.{Rules}
 use Rattle.up_manifest.specs.declared.manifest.Incoming.{Incoming}
 use Rattle.up_manifest.specs.Manifests.{incoming_in}
@@ -26,7 +27,7 @@ use Rattle.up_machine.proofs.Primaries.{gives_sent}
 use Rattle.up_machine.proofs.Senders.{no_vehicle, refused_first}
 use Rattle.up_desk.specs.declared.catalog.Catalog.{Catalog}
 use Rattle.up_desk.specs.Delivering.{AnswersRead, GivesSenderRows, GivesVehicle, IsDeliveredBy, IsLoadedBehind, IsReadBy, IsSentBy, IsThere, Loads, RefusesRead, RefusesUnread, forged_by, refused_by, refused_in, refused_read}
-use Rattle.up_desk.specs.Serving.{is_failed, is_fault, is_store, told}
+use Rattle.up_desk.specs.Serving.{DiskFailed, IsDueOrFails, Reads, is_failed, is_fault, is_store, told}
 use Rattle.up_desk.specs.Standing.{ArePrimaries, Come, kept_for}
 use Rattle.up_desk.proofs.Cataloged.{come_as}
 
@@ -231,10 +232,10 @@ sent_rows k s incoming founding (Ok rows) there sent told = record { founding = 
 sent_rows k s incoming founding (Err r) there sent told = unknown_refused k s incoming founding r there told
 
 -- what refuses the sender refuses the manifest
-pub sender_refused : (k : Rules) (s : State) (at : ℕ) (incoming : Incoming) (r : Refusal) → MatchBool (is_fault r) ⊤ (receive_manifest k s incoming ≡ Err r)
-    → MatchBool (is_fault r) ⊤ (decide_incoming k s at incoming ≡ Err r)
-sender_refused k s at incoming r h = by_loss (is_fault r) h
+pub sender_refused : {old new : Connected} → Reads old new → (k : Rules) (s : State) (at : ℕ) (incoming : Incoming) (r : Refusal) → (r ≡ Store → DiskFailed old new) → MatchBool (is_fault r) ⊤ (receive_manifest k s incoming ≡ Err r)
+    → IsDueOrFails old new r (decide_incoming k s at incoming)
+sender_refused {old} {new} reads k s at incoming r blame h = by_loss (is_fault r) h
   where
-    by_loss : (b : Bool) → MatchBool b ⊤ (receive_manifest k s incoming ≡ Err r) → MatchBool b ⊤ (decide_incoming k s at incoming ≡ Err r)
-    by_loss true h = tt
+    by_loss : (b : Bool) → MatchBool b ⊤ (receive_manifest k s incoming ≡ Err r) → MatchBool b (r ≡ Store → DiskFailed old new) (decide_incoming k s at incoming ≡ Err r)
+    by_loss true h = blame
     by_loss false h = refused_first k s at incoming r h

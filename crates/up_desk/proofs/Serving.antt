@@ -1,13 +1,13 @@
 -- What is due is what a command over the rows comes to.
 use Rattle.std.proofs.Common.{◌≡◌, ℕ, ◌<◌, ◌≤◌, List, Bool, true, false, Option, Some, None, Result, Ok, Err, inl, refl, sym, ap, ◌∙◌, subst, arith}
-use Rattle.std.specs.Prelude.{◌||◌, ⊤, nat_lt, if◌then◌else◌, codes, length, IfSome, option_and_then, MatchBool, IsTrue}
+use Rattle.std.specs.Prelude.{◌||◌, ⊤, nat_lt, if◌then◌else◌, codes, length, IfErr, IfSome, option_and_then, MatchBool, IsTrue}
 use Rattle.std.specs.List.{list_all}
 use Rattle.std.proofs.lemmas.Bool.Decides.{nat_tests}
 use Rattle.up_canon.specs.Moments.{last_command_moment}
 use Rattle.up_canon.specs.Steps.{and_then, error_of, refuse_if, unless, value_of}
 use Rattle.up_canon.specs.Refusals.{is_memory}
 use Rattle.up_canon.specs.declared.refusal.Refusal.{Refusal}
-use Rattle.up_canon.specs.declared.refusal.Refusal.TheVariants.{MomentOutOfRange, TooLarge, BadShape}
+use Rattle.up_canon.specs.declared.refusal.Refusal.TheVariants.{Store, MomentOutOfRange, TooLarge, BadShape}
 use Rattle.up_canon.proofs.Steps.{bind-ok, bind-err}
 use Rattle.up_sign.specs.Schemes.{Rules}
 use Rattle.up_manifest.specs.Manifests.{largest_body, incoming_in}
@@ -37,7 +37,8 @@ use Rattle.sqlite.specs.State.{State as Connected, HasCleanDisk, Survives}
 use Rattle.up_tables.specs.Stands.{IfClean, LeavesOnly}
 use Rattle.up_store.specs.Connections.{KeepsState}
 use Rattle.up_desk.specs.Delivering.{RefusesRead, RefusesUnread}
-use Rattle.up_desk.specs.Serving.{is_store, is_fault, is_failed, IsAnswered, told, outcome_due, outright_in_time, outright, alone_in_time, refused_alone, HoldsState, Leaves, IsCommit, Serves}
+use Rattle.up_desk.specs.Serving.{is_store, is_fault, is_failed, DiskFailed, IsAnswered, IsBlamed, IsDueOrFails, told, outcome_due, outright_in_time, outright, alone_in_time, refused_alone, HoldsState, Leaves, IsCommit, Reads, Serves}
+use Rattle.up_desk.proofs.NeverStore.{NeverStore}
 
 -- ---- the moment
 
@@ -51,13 +52,17 @@ too_late : (at : ℕ) → last_command_moment < at → check_moment at ≡ Err M
 too_late at h = ap (λ t. refuse_if t MomentOutOfRange) (late_test at h)
 
 -- what is refused stays so, unless it is lost
-pub stopped_or_failed : {A B : Type 0} (m : Result A Refusal) (f : A → Result B Refusal) (r : Refusal) → MatchBool (is_memory r) ⊤ (m ≡ Err r) → MatchBool (is_fault r) ⊤ (and_then m f ≡ Err r)
-stopped_or_failed m f r h = by_loss (is_memory r) (is_store r) h
+pub stopped_or_failed : {A B : Type 0} {old new : Connected} → Reads old new → (m : Result A Refusal) (f : A → Result B Refusal) (r : Refusal) → NeverStore m → MatchBool (is_memory r) ⊤ (m ≡ Err r)
+    → MatchBool (is_fault r) (r ≡ Store → DiskFailed old new) (and_then m f ≡ Err r)
+stopped_or_failed {A} {B} {old} {new} reads m f r never h = by_memory (is_memory r) refl h
   where
-    by_loss : (a b : Bool) → MatchBool a ⊤ (m ≡ Err r) → MatchBool (a || b) ⊤ (and_then m f ≡ Err r)
-    by_loss true b h = tt
-    by_loss false true h = tt
-    by_loss false false h = bind-err m f r h
+    by_store : (b : Bool) → m ≡ Err r → MatchBool b (r ≡ Store → DiskFailed old new) (and_then m f ≡ Err r)
+    by_store true h = λ store. absurd (never (h ∙ ap (λ (q : Refusal). Err q) store))
+    by_store false h = bind-err m f r h
+
+    by_memory : (a : Bool) → is_memory r ≡ a → MatchBool a ⊤ (m ≡ Err r) → MatchBool (a || is_store r) (r ≡ Store → DiskFailed old new) (and_then m f ≡ Err r)
+    by_memory true is h = λ store. absurd (let both : true ≡ false = sym is ∙ ap is_memory store in cc)
+    by_memory false is h = by_store (is_store r) h
 
 pub late_due : (k : Rules) (s : State) (at : ℕ) (c : Command) → last_command_moment < at → outcome_due k s at c ≡ Err MomentOutOfRange
 unfolding decide_found decide_rotate decide_image decide_refresh decide_fetch decide_vehicle decide_replace decide_open decide_close
@@ -96,8 +101,8 @@ pub unfit_ecu : (k : Rules) (s : State) (at : ℕ) (new : Replacement) → at �
 unfolding decide_replace
 unfit_ecu k s at new h none = bind-ok _ _ tt (in_time at h) ∙ bind-err _ _ _ (ap (λ b. unless b (BadShape (codes "key"))) none)
 
-pub by_key : (r : Refusal) (computed : Result Outcome Refusal) → computed ≡ Err (BadShape (codes "key")) → r ≡ BadShape (codes "key") → MatchBool (is_fault r) ⊤ (computed ≡ Err r)
-by_key r computed is same = subst (λ q. MatchBool (is_fault q) ⊤ (computed ≡ Err q)) (sym same) is
+pub by_key : {old new : Connected} → Reads old new → (r : Refusal) (computed : Result Outcome Refusal) → computed ≡ Err (BadShape (codes "key")) → r ≡ BadShape (codes "key") → IsDueOrFails old new r computed
+by_key {old} {new} reads r computed is same = subst (λ (q : Refusal). IsDueOrFails old new q computed) (sym same) is
 
 -- ---- repeats
 
@@ -190,6 +195,20 @@ crashed k s old new at c r h = subst (λ (n : State). Survives old new (HoldsSta
 pub committed : (k : Rules) (s : State) (old new : Connected) (at : ℕ) (c : Command) (r : Result Answer Refusal) → Serves k s old new r (outcome_due k s at c)
     → IsCommit s (told r) (serve k s at c).next → IfClean (LeavesOnly (HoldsState k (serve k s at c).next)) new
 committed k s old new at c r h = subst (λ (n : State). IsCommit s (told r) n → IfClean (LeavesOnly (HoldsState k n)) new) (next_is k s at c) h.durable
+
+-- an answer `Store` is a refusal
+refusal_told_so : (k : Rules) (s : State) (new : Connected) (r : Result Answer Refusal) (computed : Result Outcome Refusal) → Leaves k s new r computed → told r ≡ Refused Store → r ≡ Err Store
+refusal_told_so k s new (Ok a) computed leaves is = absurd (let no : true ≡ false = ap is_failed (sym is) ∙ leaves.0 in cc)
+refusal_told_so k s new (Err r) computed leaves is = let same : r ≡ Store = cc in ap (λ (q : Refusal). Err q) same
+
+pub blamed : (k : Rules) (s : State) (old new : Connected) (at : ℕ) (c : Command) (r : Result Answer Refusal) → ServedStaysSound → IsTrue (is_command c) → IsSound k s
+    → Serves k s old new r (outcome_due k s at c) → HasCleanDisk new → told r ≡ Refused Store → IsBlamed k s old new (serve k s at c)
+blamed k s old new at c r stays fits sound h clean is =
+    let same : outcome_of s (outcome_due k s at c) ≡ serve k s at c = sym (due_is k s at c) in
+    let next : IsSound k (outcome_of s (outcome_due k s at c)).next = subst (λ (o : Outcome). IsSound k o.next) (sym same) (stays k s at c fits sound) in
+    let store = refusal_told_so k s new r (outcome_due k s at c) (h.leaves clean) is in
+    let blame = subst (λ (q : Result Answer Refusal). IfErr q (λ e. e ≡ Store → IsBlamed k s old new (outcome_of s (outcome_due k s at c)))) store (h.blame clean next) in
+    subst (IsBlamed k s old new) same (blame refl)
 
 -- ---- what is refused whether or not there is memory
 

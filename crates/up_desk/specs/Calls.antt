@@ -1,13 +1,15 @@
 -- What a call of a desk comes to: the answer, the state that the tables show then, and what a crash leaves.
-use Rattle.std.specs.Prelude.{ℕ}
+use Rattle.std.specs.Prelude.{◌≡◌, ℕ}
 use Rattle.up_sign.specs.Schemes.{Rules}
 use Rattle.up_machine.specs.declared.command.Command.{Command}
 use Rattle.up_machine.specs.declared.answer.Answer.{Answer}
+use Rattle.up_machine.specs.declared.answer.Answer.TheVariants.{Refused}
+use Rattle.up_canon.specs.declared.refusal.Refusal.TheVariants.{Store}
 use Rattle.up_machine.specs.State.{State}
 use Rattle.up_machine.specs.Repeats.{serve}
 use Rattle.up_machine.specs.Sound.{IsSound}
 use Rattle.up_desk.specs.Standing.{Standing, HasCleanDisk, IfClean, KeepsState, Survives, LeavesOnly}
-use Rattle.up_desk.specs.Serving.{HoldsState, IsAnswered, IsCommit, RepliesStay}
+use Rattle.up_desk.specs.Serving.{HoldsState, IsAnswered, IsBlamed, IsCommit, RepliesStay}
 
 -- The answer and the next state are those of what is served, and where the command failed the state is as it was. Kept replies are
 -- kept on, the state stays sound, and the tables show it.
@@ -26,3 +28,8 @@ SparesCall k at c old new = (s : State) → IsSound k s → IfClean (KeepsState 
 abbrev pub CommitsCall : Rules → ℕ → Command → Answer → Standing → Standing → Type 0
 CommitsCall k at c a old new = (s : State) → IsSound k s → IfClean (KeepsState k s) old → IsCommit s a (serve k s at c).next
     → IfClean (LeavesOnly (HoldsState k (serve k s at c).next)) new
+
+-- `Store` is told only where the disk counted a fault, or the database refuses to write the rows of the next state
+abbrev pub BlamesCall : Rules → ℕ → Command → Answer → Standing → Standing → Type 0
+BlamesCall k at c a old new = HasCleanDisk new → a ≡ Refused Store → (s : State) → IsSound k s → IfClean (KeepsState k s) old
+    → IsBlamed k s old.connection new.connection (serve k s at c)

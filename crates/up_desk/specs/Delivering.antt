@@ -118,4 +118,4 @@ pub record IsSent (k : Rules) (s : State) (incoming : Incoming) (catalog : Catal
 -- what the rule gives is decided, over each sound state of which this is known and that the tables showed
 abbrev pub Decides : Rules → ℕ → Incoming → (State → Type 0) → Connected → Connected → Result Delivered Refusal → Type 0
 Decides k at incoming is_known old new result = HasCleanDisk new → (s : State) → IsSound k s → is_known s → IfClean (KeepsState k s) old
-    → GivesOrFails (GivesDelivered k s incoming.manifest.vehicle) result (decide_incoming k s at incoming)
+    → GivesOrFails (GivesDelivered k s incoming.manifest.vehicle) old new result (decide_incoming k s at incoming)

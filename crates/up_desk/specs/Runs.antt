@@ -1,8 +1,11 @@
 -- Lists of commands, answered one after another.
-use Rattle.std.specs.Prelude.{◌≡◌, ◌≢◌, ◌⊎◌, ℕ, false, List, [], ◌∷◌, ◌++◌, Option, Some, None, if◌then◌else◌, map, length, ⊤, IfSome}
+use Rattle.std.specs.Prelude.{◌≡◌, ◌≢◌, ◌⊎◌, ℕ, false, List, [], ◌∷◌, ◌++◌, Option, Some, None, if◌then◌else◌, map, length, ⊤, IfSome, IsTrue}
 use Rattle.std.specs.FinMap as table
 use Rattle.std.specs.List.{AllByRecursion}
+use Rattle.sqlite_disk.specs.Disk.{MoreFaults}
+use Rattle.sqlite.specs.Effect.{Database}
 use Rattle.up_canon.specs.Names.{Name}
+use Rattle.up_canon.specs.declared.refusal.Refusal.TheVariants.{Store}
 use Rattle.up_sign.specs.Schemes.{Rules}
 use Rattle.up_machine.specs.declared.command.Command.{Command}
 use Rattle.up_machine.specs.declared.answer.Answer.{Answer}
@@ -13,6 +16,11 @@ use Rattle.up_machine.specs.Deciding.{Outcome}
 use Rattle.up_machine.specs.Repeats.{Sent, serve, after, thinned, expected, not_lost, vehicle_of, without_others, own_answers}
 use Rattle.up_machine.specs.ApartLaws.{AreExchanged}
 use Rattle.up_machine.specs.Sound.{IsSound}
+use Rattle.up_rows.specs.StateRows.{rows_of_state}
+use Rattle.up_tables.specs.Stands.{IsWith}
+use Rattle.up_tables.specs.Tables.{up_schema}
+use Rattle.up_store.specs.Listing.{ListsRows}
+use Rattle.up_store.specs.Writes.{RefusesToWrite}
 use Rattle.up_desk.specs.Standing.{Standing, HasCleanDisk, IfClean, KeepsState, Survives, LeavesOnly}
 use Rattle.up_desk.specs.Serving.{HoldsState, IsCommit, is_failed, outright, RepliesStay}
 
@@ -106,3 +114,25 @@ pub record IsLastCommit (k : Rules) (s : State) (ms before rest : List Sent) (m 
 abbrev pub CommitsCalls : Rules → List (ℕ × Command) → List Answer → Standing → Standing → Type 0
 CommitsCalls k cs answers old new = (s : State) → IsSound k s → IfClean (KeepsState k s) old → (before rest : List Sent) (m : Sent) → IsLastCommit k s (sent cs answers) before rest m
     → IfClean (LeavesOnly (HoldsState k (after k s (sent cs answers)))) new
+
+-- ---- faults over a list
+
+-- over tables that show the state, the outcome is a commit, and the database refuses to write the rows of its next state
+pub record RefusesThere (k : Rules) (s : State) (o : Outcome) : Type 0 where
+  pub db : Database
+  pub shown : IsWith up_schema (ListsRows (rows_of_state k s)) db
+  pub commit : IsCommit s o.answer o.next
+  pub refused : RefusesToWrite (rows_of_state k s) (rows_of_state k o.next) None db
+
+-- each answer `Store` is to a command whose outcome the database refuses then
+abbrev pub AreRefused : Rules → State → List (ℕ × Command) → List Answer → Type 0
+AreRefused k s [] answers = ⊤
+AreRefused k s (c ∷ cs) [] = ⊤
+AreRefused k s (c ∷ cs) (a ∷ answers) = (a ≡ Refused Store → RefusesThere k s (serve k s c.0 c.1))
+    × AreRefused k (if is_failed a then s else (serve k s c.0 c.1).next) cs answers
+
+-- so where the disk counted no fault, on a connection that was open, with no limit on the steps of a query
+abbrev pub BlamesCalls : Rules → List (ℕ × Command) → List Answer → Standing → Standing → Type 0
+BlamesCalls k cs answers old new = HasCleanDisk new → (s : State) → IsSound k s → IfClean (KeepsState k s) old
+    → IsTrue old.connection.is_open → old.connection.step_limit ≡ None → (MoreFaults old.connection.faults new.connection.faults → ⊥)
+    → AreRefused k s cs answers

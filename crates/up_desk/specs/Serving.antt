@@ -1,7 +1,8 @@
 -- What a desk answers, the state that its tables show then, and what a crash leaves. All of it is said of a state that the tables show,
 -- over a disk that has returned what was written so far; what is answered outright is said of any.
-use Rattle.std.specs.Prelude.{◌≡◌, ◌||◌, ℕ, Bool, true, false, nat_lt, if◌then◌else◌, codes, length, Option, Some, None, MatchBool, ⊤, Result, Ok, Err, IfOk}
+use Rattle.std.specs.Prelude.{◌≡◌, ◌⊎◌, ◌||◌, ℕ, Bool, true, false, nat_lt, if◌then◌else◌, codes, length, Option, Some, None, MatchBool, ⊤, Result, Ok, Err, IfOk, IfErr, IsTrue}
 use Rattle.std.specs.List.{list_all}
+use Rattle.sqlite_disk.specs.Disk.{MoreFaults}
 use Rattle.sqlite.specs.State.{State as Connected, HasCleanDisk, Survives}
 use Rattle.sqlite.specs.Tree.{Trees}
 use Rattle.up_canon.specs.Moments.{last_command_moment}
@@ -23,11 +24,13 @@ use Rattle.up_machine.specs.Deciding.{Outcome, check_moment}
 use Rattle.up_machine.specs.Decisions.{decide_incoming}
 use Rattle.up_machine.specs.Machine.{decide, outcome_of}
 use Rattle.up_machine.specs.Replies.{kept_reply}
+use Rattle.up_machine.specs.Sound.{IsSound}
 use Rattle.up_rows.specs.StateRows.{StateRows, rows_of_state}
 use Rattle.up_tables.specs.declared.values.StoreFault.{StoreFault}
 use Rattle.up_tables.specs.declared.values.StoreFault.TheVariants as fault
 use Rattle.up_tables.specs.Stands.{IfClean, LeavesOnly}
 use Rattle.up_store.specs.Connections.{KeepsRows, KeepsState, HoldsRows}
+use Rattle.up_store.specs.Writes.{RefusesToWrite}
 
 -- ---- answers
 
@@ -109,28 +112,65 @@ IsCommit s (Replied reply) next = next ≡ s → ⊥
 IsCommit s (File text) next = ⊥
 IsCommit s (Refused r) next = ⊥
 
+-- the outcome is a commit, and the database refuses to write the rows of its next state
+pub record RefusesOutcome (k : Rules) (s : State) (c : Connected) (o : Outcome) : Type 0 where
+  pub commit : IsCommit s o.answer o.next
+  pub refused : RefusesToWrite (rows_of_state k s) (rows_of_state k o.next) c.step_limit c.now
+
+-- on a connection that was open, with no limit on the steps of a query, the disk counted a fault, or the database refuses the outcome
+abbrev pub IsBlamed : Rules → State → Connected → Connected → Outcome → Type 0
+IsBlamed k s old new o = IsTrue old.is_open → old.step_limit ≡ None → MoreFaults old.faults new.faults ⊎ RefusesOutcome k s old o
+
 -- It leaves what was computed. Whatever it answers, a crash leaves what it could leave before, or the next state; after a commit that
--- state alone.
+-- state alone. Where the next state is sound, `Store` is told only where the disk or the database is to blame.
 pub record Serves (k : Rules) (s : State) (old new : Connected) (result : Result Answer Refusal) (computed : Result Outcome Refusal) : Type 0 where
   pub leaves : HasCleanDisk new → Leaves k s new result computed
   pub crash : Survives old new (HoldsState k (outcome_of s computed).next)
   pub durable : IsCommit s (told result) (outcome_of s computed).next → IfClean (LeavesOnly (HoldsState k (outcome_of s computed).next)) new
+  pub blame : HasCleanDisk new → IsSound k (outcome_of s computed).next
+      → IfErr result (λ r. r ≡ Store → IsBlamed k s old new (outcome_of s computed))
 
 -- ---- its steps
+
+-- a connection that is open was open, and sees the database that it saw
+abbrev pub SeesSame : Connected → Connected → Type 0
+SeesSame old new = IsTrue new.is_open → IsTrue old.is_open × (new.now ≡ old.now)
 
 -- nothing is written: the tables list what they listed, and a crash leaves what it could leave before
 pub record Reads (old new : Connected) : Type 0 where
   pub kept : (rows : StateRows) → IfClean (KeepsRows rows) old → IfClean (KeepsRows rows) new
+  pub same : (rows : StateRows) → IfClean (KeepsRows rows) old → IfClean (SeesSame old) new
   pub survives : Survives old new (λ _. ⊥)
 
 -- what is read is told by the state that the tables show
 abbrev pub Tells : {A E : Type 0} → (Rules → State → A) → Connected → Connected → Result A E → Type 0
 Tells of_state old new result = HasCleanDisk new → IfOk result (λ found. (k : Rules) (s : State) → IfClean (KeepsState k s) old → found ≡ of_state k s)
 
--- what is decided is what a decision gives, but that the database may refuse too
-abbrev pub GivesOrFails : {R : Type 0} → (Result R Refusal → Result Outcome Refusal → Type 0) → Result R Refusal → Result Outcome Refusal → Type 0
-GivesOrFails gives (Ok x) computed = gives (Ok x) computed
-GivesOrFails gives (Err r) computed = MatchBool (is_fault r) ⊤ (computed ≡ Err r)
+-- on a connection that was open, with no limit on the steps of a query, the disk counted a fault
+abbrev pub DiskFailed : Connected → Connected → Type 0
+DiskFailed old new = IsTrue old.is_open → old.step_limit ≡ None → MoreFaults old.faults new.faults
+
+-- this error is told only where the disk failed
+abbrev pub BlamesDisk : {A E : Type 0} → E → Connected → Connected → Result A E → Type 0
+BlamesDisk store old new result = HasCleanDisk new → IfErr result (λ e. e ≡ store → DiskFailed old new)
+
+-- `Store` is told only so of what is read, over tables that show a state
+abbrev pub Blames : {A : Type 0} → Connected → Connected → Result A StoreFault → Type 0
+Blames old new result = (k : Rules) (s : State) → IfClean (KeepsState k s) old → BlamesDisk fault.Store old new result
+
+-- this error is told only so, over tables that show a state which is sound under these rules
+abbrev pub BlamesSound : {A E : Type 0} → E → Rules → Connected → Connected → Result A E → Type 0
+BlamesSound store k old new result = (s : State) → IsSound k s → IfClean (KeepsState k s) old → BlamesDisk store old new result
+
+-- the refusal is due, or memory was refused, or the disk failed, which is told as `Store`
+abbrev pub IsDueOrFails : Connected → Connected → Refusal → Result Outcome Refusal → Type 0
+IsDueOrFails old new r computed = MatchBool (is_fault r) (r ≡ Store → DiskFailed old new) (computed ≡ Err r)
+
+-- what is decided is what a decision gives, but that the disk may fail too
+abbrev pub GivesOrFails : {R : Type 0} → (Result R Refusal → Result Outcome Refusal → Type 0) → Connected → Connected → Result R Refusal
+    → Result Outcome Refusal → Type 0
+GivesOrFails gives old new (Ok x) computed = gives (Ok x) computed
+GivesOrFails gives old new (Err r) computed = IsDueOrFails old new r computed
 
 -- a fault of the store as a refusal
 abbrev pub refusal_told : StoreFault → Refusal

@@ -22,6 +22,7 @@ use Rattle.up_machine.specs.State.{State}
 use Rattle.up_tables.specs.Stands as stands
 use Rattle.up_store.specs.Connections as connections
 use Rattle.up_store.specs.Found.{values_where}
+use Rattle.up_tables.specs.declared.values.StoreFault.{StoreFault}
 use Rattle.up_desk.specs.Serving as serving
 use Rattle.up_desk.specs.declared.catalog.Catalog.{Catalog}
 
@@ -149,3 +150,7 @@ pub record Reads (old new : Standing) : Type 0 where
 -- what is read is told by the state that the tables show
 abbrev pub Tells : {A E : Type 0} → (Rules → State → A) → Standing → Standing → Result A E → Type 0
 Tells of_state old new result = serving.Tells of_state old.connection new.connection result
+
+-- `Store` is told only where the disk counted a fault
+abbrev pub Blames : {A : Type 0} → Standing → Standing → Result A StoreFault → Type 0
+Blames old new result = serving.Blames old.connection new.connection result

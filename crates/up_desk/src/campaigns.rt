@@ -12,7 +12,7 @@ ghost use Rattle.up_machine.specs.Sound.{IsSound};
 ghost use Rattle.up_machine.specs.State.{State};
 ghost use Rattle.up_store.specs.Connections.{KeepsState};
 ghost use Rattle.up_tables.specs.Stands.{IfClean};
-ghost use Rattle.up_desk.specs.Serving.{GivesOrFails, Reads, Serves, Tells};
+ghost use Rattle.up_desk.specs.Serving.{Blames, GivesOrFails, Reads, Serves, Tells};
 ghost use Rattle.up_desk.specs.Gathered.{gathered, item_files};
 
 use crate::faults::{done_of, refusal_of};
@@ -58,7 +58,8 @@ fn decide_opening<D: Alter>(
 ) -> Result<Decision<Campaign>, Refusal>
     requires { at ≤ last_command_moment }
     ensures decided { HasCleanDisk (state D.Store store.new) → (k : Rules) (s : State) → IfClean (KeepsState k s) (state D.Store store.old)
-        → GivesOrFails (GivesDecision (λ row. row ≡ campaign.now) s (with_campaign s campaign.now)) result (decide_open_in s at campaign.now) }
+        → GivesOrFails (GivesDecision (λ row. row ≡ campaign.now) s (with_campaign s campaign.now))
+        (state D.Store store.old) (state D.Store store.new) result (decide_open_in s at campaign.now) }
     ensures reads { Reads (state D.Store store.old) (state D.Store store.new) }
 {
     match is_founded(store) {
@@ -77,7 +78,8 @@ fn decide_founded<D: Alter>(
 ) -> Result<Decision<Campaign>, Refusal>
     requires { at ≤ last_command_moment }
     ensures decided { HasCleanDisk (state D.Store store.new) → (k : Rules) (s : State) → founded ≡ is_some (founding_row s) → IfClean (KeepsState k s) (state D.Store store.old)
-        → GivesOrFails (GivesDecision (λ row. row ≡ campaign.now) s (with_campaign s campaign.now)) result (decide_open_in s at campaign.now) }
+        → GivesOrFails (GivesDecision (λ row. row ≡ campaign.now) s (with_campaign s campaign.now))
+        (state D.Store store.old) (state D.Store store.new) result (decide_open_in s at campaign.now) }
     ensures reads { Reads (state D.Store store.old) (state D.Store store.new) }
 {
     match store.campaign(alloc, &campaign.name) {
@@ -97,7 +99,8 @@ fn decide_named<D: Alter>(
 ) -> Result<Decision<Campaign>, Refusal>
     requires { at ≤ last_command_moment }
     ensures decided { HasCleanDisk (state D.Store store.new) → (k : Rules) (s : State) → founded ≡ is_some (founding_row s) → option_copied old.entry ≡ table.get s.campaigns campaign.now.name → IfClean (KeepsState k s) (state D.Store store.old)
-        → GivesOrFails (GivesDecision (λ row. row ≡ campaign.now) s (with_campaign s campaign.now)) result (decide_open_in s at campaign.now) }
+        → GivesOrFails (GivesDecision (λ row. row ≡ campaign.now) s (with_campaign s campaign.now))
+        (state D.Store store.old) (state D.Store store.new) result (decide_open_in s at campaign.now) }
     ensures reads { Reads (state D.Store store.old) (state D.Store store.new) }
 {
     match known_vehicles(store, alloc, &campaign.reach) {
@@ -118,7 +121,8 @@ fn decide_known<D: Alter>(
 ) -> Result<Decision<Campaign>, Refusal>
     requires { at ≤ last_command_moment }
     ensures decided { HasCleanDisk (state D.Store store.new) → (k : Rules) (s : State) → founded ≡ is_some (founding_row s) → option_copied old.entry ≡ table.get s.campaigns campaign.now.name → known.now ≡ map (table.contains_key s.vehicles) (named_in campaign.now.reach) → IfClean (KeepsState k s) (state D.Store store.old)
-        → GivesOrFails (GivesDecision (λ row. row ≡ campaign.now) s (with_campaign s campaign.now)) result (decide_open_in s at campaign.now) }
+        → GivesOrFails (GivesDecision (λ row. row ≡ campaign.now) s (with_campaign s campaign.now))
+        (state D.Store store.old) (state D.Store store.new) result (decide_open_in s at campaign.now) }
     ensures reads { Reads (state D.Store store.old) (state D.Store store.new) }
 {
     match images_of(store, alloc, campaign.items.as_slice()) {
@@ -135,6 +139,7 @@ fn known_vehicles<D: Alter>(
 ) -> Result<Vec<bool>, StoreFault>
     ensures told { HasCleanDisk (state D.Store store.new) → IfOk result (λ known. (k : Rules) (s : State) → IfClean (KeepsState k s) (state D.Store store.old)
         → known.items ≡ map (table.contains_key s.vehicles) (named_in reach.now)) }
+    ensures blame { Blames (state D.Store store.old) (state D.Store store.new) result }
     ensures reads { Reads (state D.Store store.old) (state D.Store store.new) }
 {
     let names = names_in(reach);
@@ -160,6 +165,7 @@ fn names_in(reach: &Reach) -> &[Ident]
 /// Whether the vehicle is in the inventory.
 fn is_known<D: Alter>(store: &mut Store<D>, alloc: Global, name: &Ident) -> Result<bool, StoreFault>
     ensures told { Tells (λ k s. table.contains_key s.vehicles name.now) (state D.Store store.old) (state D.Store store.new) result }
+    ensures blame { Blames (state D.Store store.old) (state D.Store store.new) result }
     ensures reads { Reads (state D.Store store.old) (state D.Store store.new) }
 {
     rows_are_found();
@@ -197,7 +203,7 @@ fn decide_closing<D: Alter>(
 ) -> Result<Decision<Campaign>, Refusal>
     requires { at ≤ last_command_moment }
     ensures decided { HasCleanDisk (state D.Store store.new) → (k : Rules) (s : State) → IfClean (KeepsState k s) (state D.Store store.old)
-        → GivesOrFails (GivesClosed s name.now) result (decide_close_in s at name.now) }
+        → GivesOrFails (GivesClosed s name.now) (state D.Store store.old) (state D.Store store.new) result (decide_close_in s at name.now) }
     ensures reads { Reads (state D.Store store.old) (state D.Store store.new) }
 {
     let founded = match is_founded(store) {

@@ -11,7 +11,8 @@ ghost use Rattle.up_machine.specs.State.{State};
 ghost use Rattle.up_store.specs.Connections.{KeepsState};
 ghost use Rattle.up_store.specs.Found.{values_where};
 ghost use Rattle.up_tables.specs.Stands.{IfClean};
-ghost use Rattle.up_desk.specs.Serving.{Reads, Tells};
+ghost use Rattle.up_tables.specs.declared.values.StoreFault.TheVariants as faults;
+ghost use Rattle.up_desk.specs.Serving.{Blames, BlamesSound, Reads, Tells};
 ghost use Rattle.up_desk.specs.Standing.{CanDecide, Come, Fits, IsLoaded, StaysLoaded, kept_for, keeps_catalog as keeps_catalog_in, primaries_in};
 
 use crate::reads::read_founding;
@@ -72,6 +73,7 @@ pub(crate) fn load<K: Scheme, D: Alter>(
     ensures kept { StaysLoaded catalog.old catalog.new }
     ensures came { Come (λ vehicle primary. ⊥) (primaries_in catalog.old) (primaries_in catalog.new) }
     ensures there { is_some catalog.old ≡ true → (result ≡ Ok tt) × (catalog.new ≡ catalog.old) × (store.new ≡ store.old) }
+    ensures blame { BlamesSound faults.Store (K.rules scheme.now) (state D.Store store.old) (state D.Store store.new) result }
     ensures reads { Reads (state D.Store store.old) (state D.Store store.new) }
 {
     if catalog.is_some() {
@@ -95,6 +97,7 @@ fn read_catalog<K: Scheme, D: Alter>(
     ensures told { HasCleanDisk (state D.Store store.new) → IfOk result (λ read. (k : Rules) (s : State) → IfClean (KeepsState k s) (state D.Store store.old) → IsLoaded s read) }
     ensures can { IfOk result (λ read. IfSome read (CanDecide (K.rules scheme.now))) }
     ensures none { IfOk result (λ read. primaries_in read ≡ table.empty) }
+    ensures blame { BlamesSound faults.Store (K.rules scheme.now) (state D.Store store.old) (state D.Store store.new) result }
     ensures reads { Reads (state D.Store store.old) (state D.Store store.new) }
 {
     match read_founding(store, alloc, scheme) {
@@ -115,6 +118,7 @@ fn read_registers<K: Scheme, D: Alter>(
     ensures told { HasCleanDisk (state D.Store store.new) → IfOk result (λ read. (k : Rules) (s : State) → IfClean (KeepsState k s) (state D.Store store.old) → founding_row s ≡ Some founding → IsLoaded s read) }
     ensures can { IfOk result (λ read. IfSome read (CanDecide (K.rules scheme.now))) }
     ensures none { IfOk result (λ read. primaries_in read ≡ table.empty) }
+    ensures blame { Blames (state D.Store store.old) (state D.Store store.new) result }
     ensures reads { Reads (state D.Store store.old) (state D.Store store.new) }
 {
     let hashed = match hashed_roles(alloc, scheme, &founding.keys.director) {
@@ -140,6 +144,7 @@ fn read_registers<K: Scheme, D: Alter>(
 /// Reads the running campaigns, and makes them ready for look-ups.
 fn read_running<D: Alter>(store: &mut Store<D>, alloc: Global) -> Result<Running, StoreFault>
     ensures told { Tells (λ k s. values_where (λ (c : CampaignData). c.running) s.campaigns) (state D.Store store.old) (state D.Store store.new) result }
+    ensures blame { Blames (state D.Store store.old) (state D.Store store.new) result }
     ensures reads { Reads (state D.Store store.old) (state D.Store store.new) }
 {
     match store.running(alloc) {

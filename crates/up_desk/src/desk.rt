@@ -8,11 +8,11 @@ ghost use Rattle.up_machine.specs.Commands.{opens_running};
 ghost use Rattle.up_machine.specs.Reads.{ecus_of as ecus_in, version_of as version_in, installed as installed_in, assigned_to};
 ghost use Rattle.up_machine.specs.Rows.{vehicle_rows};
 ghost use Rattle.up_machine.specs.State.{State};
-ghost use Rattle.up_desk.specs.Runs.{AreOutright, CommitsCalls, OutlastsCalls, RunsCalls, SparesCalls};
-ghost use Rattle.up_desk.specs.Calls.{CommitsCall, ServesCall, SparesCall};
+ghost use Rattle.up_desk.specs.Runs.{AreOutright, BlamesCalls, CommitsCalls, OutlastsCalls, RunsCalls, SparesCalls};
+ghost use Rattle.up_desk.specs.Calls.{BlamesCall, CommitsCall, ServesCall, SparesCall};
 ghost use Rattle.up_desk.specs.Delivering.{AnswersRead, IsDeliveredBy, Loads, forged_by};
 ghost use Rattle.up_desk.specs.Serving.{outright as outright_of, refused_alone};
-ghost use Rattle.up_desk.specs.Standing.{Come, HasCleanDisk, IfClean, KeepsState, Reads, StaysLoaded, Tells, bare, kept_for, primaries_in, state};
+ghost use Rattle.up_desk.specs.Standing.{Blames, Come, HasCleanDisk, IfClean, KeepsState, Reads, StaysLoaded, Tells, bare, kept_for, primaries_in, state};
 
 use crate::catalog::Catalog;
 use crate::dispatch::{answer_of, dispatch, keeps_limits};
@@ -91,13 +91,14 @@ impl<K: Scheme, D: Alter> Desk<K, D> {
 
     /// Answers a command at a moment: as the plain machine does, but a repeat of an accepted manifest is answered the reply that
     /// was kept for it, and each kept reply stays. Where memory or the database refuses (`Refused(Memory)`, `Refused(Store)`)
-    /// nothing changes; a moment past 2100-01-01T00:00:00Z, a body of more than 262,144 bytes and a key of a new vehicle or ECU
-    /// that doesn't fit are refused as that whatever they do. Whatever is answered, a crash leaves what it could leave before, or
-    /// the next state; after `Done` and a reply to a newly accepted manifest that state alone. What is kept in memory stays over
-    /// deliveries and fetches, and is there behind each delivery in time of a body that can be read, but for `NotFounded` and
-    /// these two faults. A Primary comes to be kept by a manifest that it sent. A manifest that the kept Primary of its vehicle
-    /// didn't send, and a body that can't be read, is refused as that, or for want of memory, and nothing is read of the tables;
-    /// nor is it for such a moment or key.
+    /// nothing changes, and over a connection without a limit on the steps of a query `Store` is told only where the disk counted a
+    /// fault, or the database refuses to write what the command comes to; a moment past 2100-01-01T00:00:00Z, a body of more than
+    /// 262,144 bytes and a key of a new vehicle or ECU that doesn't fit are refused as that whatever they do. Whatever is answered,
+    /// a crash leaves what it could leave before, or the next state; after `Done` and a reply to a newly accepted manifest that
+    /// state alone. What is kept in memory stays over deliveries and fetches, and is there behind each delivery in time of a body
+    /// that can be read, but for `NotFounded` and these two faults. A Primary comes to be kept by a manifest that it sent. A
+    /// manifest that the kept Primary of its vehicle didn't send, and a body that can't be read, is refused as that, or for want of
+    /// memory, and nothing is read of the tables; nor is it for such a moment or key.
     pub fn call(&mut self, alloc: Global, at: u64, command: &Command) -> Answer
         requires { IsTrue (opens_running command.now) }
         ensures served { ServesCall (K.rules self.old.scheme) at command.now result (state D.Store self.old.store) (state D.Store self.new.store) }
@@ -106,6 +107,7 @@ impl<K: Scheme, D: Alter> Desk<K, D> {
         ensures crash { SparesCall (K.rules self.old.scheme) at command.now (state D.Store self.old.store) (state D.Store self.new.store) }
         ensures durable { CommitsCall (K.rules self.old.scheme) at command.now result (state D.Store self.old.store) (state D.Store self.new.store) }
         ensures clean { HasCleanDisk (state D.Store self.new.store) → HasCleanDisk (state D.Store self.old.store) }
+        ensures blame { BlamesCall (K.rules self.old.scheme) at command.now result (state D.Store self.old.store) (state D.Store self.new.store) }
         ensures kept { StaysLoaded (kept_for command.now self.old.store.catalog) self.new.store.catalog }
         ensures came { HasCleanDisk (state D.Store self.new.store) → (s : State) → IfClean (KeepsState (K.rules self.old.scheme) s) (state D.Store self.old.store)
             → Come (IsDeliveredBy (K.rules self.old.scheme) command.now) (primaries_in self.old.store.catalog) (primaries_in self.new.store.catalog) }
@@ -135,7 +137,8 @@ impl<K: Scheme, D: Alter> Desk<K, D> {
     /// disk shuts the connection. A crash leaves what it could leave before, or the state after some of the first commands. What
     /// was answered stays: behind each commit that was answered (`Done`, or a reply to a newly accepted manifest) a crash leaves
     /// the state behind it, or the one after some of the commands that follow; where none of these changes the state, the
-    /// state after all of them. An error means that nothing was done.
+    /// state after all of them. Where the disk counted no fault over the whole list, each `Refused(Store)` is to a command whose
+    /// outcome the database refuses, over tables that show the state then. An error means that nothing was done.
     pub fn run(
         &mut self,
         alloc: Global,
@@ -147,7 +150,8 @@ impl<K: Scheme, D: Alter> Desk<K, D> {
             × RunsCalls (K.rules self.old.scheme) commands.now told (state D.Store self.old.store) (state D.Store self.new.store)
             × SparesCalls (K.rules self.old.scheme) commands.now told (state D.Store self.old.store) (state D.Store self.new.store)
             × OutlastsCalls (K.rules self.old.scheme) commands.now told (state D.Store self.old.store) (state D.Store self.new.store)
-            × CommitsCalls (K.rules self.old.scheme) commands.now told (state D.Store self.old.store) (state D.Store self.new.store)) }
+            × CommitsCalls (K.rules self.old.scheme) commands.now told (state D.Store self.old.store) (state D.Store self.new.store)
+            × BlamesCalls (K.rules self.old.scheme) commands.now told (state D.Store self.old.store) (state D.Store self.new.store)) }
         ensures err { OnErr result ((answers.new.items ≡ answers.old.items) × (self.new ≡ self.old)) }
         ensures clean { HasCleanDisk (state D.Store self.new.store) → HasCleanDisk (state D.Store self.old.store) }
         ensures scheme { self.new.scheme ≡ self.old.scheme }
@@ -172,6 +176,7 @@ impl<K: Scheme, D: Alter> Desk<K, D> {
         vehicle: &Ident,
     ) -> Result<Option<VehicleRows>, StoreFault>
         ensures told { Tells (λ k s. vehicle_rows s vehicle.now) (state D.Store self.old.store) (state D.Store self.new.store) result }
+        ensures blame { Blames (state D.Store self.old.store) (state D.Store self.new.store) result }
         ensures reads { Reads (state D.Store self.old.store) (state D.Store self.new.store) }
         ensures scheme { self.new.scheme ≡ self.old.scheme }
     {
@@ -185,6 +190,7 @@ impl<K: Scheme, D: Alter> Desk<K, D> {
         vehicle: &Ident,
     ) -> Result<Option<Listed<Ident>>, StoreFault>
         ensures told { Tells (λ k s. ecus_in s vehicle.now) (state D.Store self.old.store) (state D.Store self.new.store) result }
+        ensures blame { Blames (state D.Store self.old.store) (state D.Store self.new.store) result }
         ensures reads { Reads (state D.Store self.old.store) (state D.Store self.new.store) }
         ensures scheme { self.new.scheme ≡ self.old.scheme }
     {
@@ -194,6 +200,7 @@ impl<K: Scheme, D: Alter> Desk<K, D> {
     /// How many manifests of a vehicle were accepted, none of an unknown vehicle.
     pub fn version(&mut self, alloc: Global, vehicle: &Ident) -> Result<Option<u64>, StoreFault>
         ensures told { Tells (λ k s. version_in s vehicle.now) (state D.Store self.old.store) (state D.Store self.new.store) result }
+        ensures blame { Blames (state D.Store self.old.store) (state D.Store self.new.store) result }
         ensures reads { Reads (state D.Store self.old.store) (state D.Store self.new.store) }
         ensures scheme { self.new.scheme ≡ self.old.scheme }
     {
@@ -203,6 +210,7 @@ impl<K: Scheme, D: Alter> Desk<K, D> {
     /// The image that an ECU reported last, none of an unknown ECU and before its first report.
     pub fn installed(&mut self, alloc: Global, ecu: &Ident) -> Result<Option<Installed>, StoreFault>
         ensures told { Tells (λ k s. installed_in s ecu.now) (state D.Store self.old.store) (state D.Store self.new.store) result }
+        ensures blame { Blames (state D.Store self.old.store) (state D.Store self.new.store) result }
         ensures reads { Reads (state D.Store self.old.store) (state D.Store self.new.store) }
         ensures scheme { self.new.scheme ≡ self.old.scheme }
     {
@@ -212,6 +220,7 @@ impl<K: Scheme, D: Alter> Desk<K, D> {
     /// What is assigned to a vehicle, none of an unknown vehicle and before its first manifest.
     pub fn assigned(&mut self, alloc: Global, vehicle: &Ident) -> Result<Option<Plan>, StoreFault>
         ensures told { Tells (λ k s. assigned_to s vehicle.now) (state D.Store self.old.store) (state D.Store self.new.store) result }
+        ensures blame { Blames (state D.Store self.old.store) (state D.Store self.new.store) result }
         ensures reads { Reads (state D.Store self.old.store) (state D.Store self.new.store) }
         ensures scheme { self.new.scheme ≡ self.old.scheme }
     {

@@ -57,7 +57,7 @@ fn read_file<D: Alter>(
 ) -> Result<Text, Refusal>
     requires { at ≤ last_command_moment }
     ensures decided { HasCleanDisk (state D.Store store.new) → (k : Rules) (s : State) → IfClean (KeepsState k s) (state D.Store store.old)
-        → GivesOrFails (GivesFile s) result (decide_fetch_in k s at repository name.now) }
+        → GivesOrFails (GivesFile s) (state D.Store store.old) (state D.Store store.new) result (decide_fetch_in k s at repository name.now) }
     ensures reads { Reads (state D.Store store.old) (state D.Store store.new) }
 {
     rows_are_found();
@@ -72,7 +72,7 @@ fn read_file<D: Alter>(
 fn decide_missing<D: Alter>(store: &mut Store<D>, at: Moment) -> Result<Text, Refusal>
     requires { at ≤ last_command_moment }
     ensures decided { HasCleanDisk (state D.Store store.new) → (k : Rules) (s : State) (repository : RepositoryName) (name : Name) → None ≡ file k s repository name → IfClean (KeepsState k s) (state D.Store store.old)
-        → GivesOrFails (GivesFile s) result (decide_fetch_in k s at repository name) }
+        → GivesOrFails (GivesFile s) (state D.Store store.old) (state D.Store store.new) result (decide_fetch_in k s at repository name) }
     ensures reads { Reads (state D.Store store.old) (state D.Store store.new) }
 {
     match is_founded(store) {

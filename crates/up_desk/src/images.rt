@@ -1,5 +1,5 @@
 //! Images that are read by the files that name them.
-ghost use Rattle.std.specs.Prelude.{◌≡◌, IfOk, OnOk, map};
+ghost use Rattle.std.specs.Prelude.{◌≡◌, IfErr, IfOk, OnOk, map};
 ghost use Rattle.std.specs.FinMap as table;
 ghost use Rattle.sqlite.specs.Held.{state};
 ghost use Rattle.sqlite.specs.State.{HasCleanDisk};
@@ -7,7 +7,8 @@ ghost use Rattle.up_sign.specs.Schemes.{Rules};
 ghost use Rattle.up_machine.specs.State.{State};
 ghost use Rattle.up_store.specs.Connections.{KeepsState};
 ghost use Rattle.up_tables.specs.Stands.{IfClean};
-ghost use Rattle.up_desk.specs.Serving.{Reads};
+ghost use Rattle.up_tables.specs.declared.values.StoreFault.TheVariants as faults;
+ghost use Rattle.up_desk.specs.Serving.{Blames, Reads};
 ghost use Rattle.up_desk.specs.Gathered.{IsPart, with_found, gathered, item_files};
 
 use sqlite::Alter;
@@ -27,6 +28,7 @@ pub fn images_of<D: Alter>(
 ) -> Result<Table<Image>, StoreFault>
     ensures told { HasCleanDisk (state D.Store store.new) → IfOk result (λ images. (k : Rules) (s : State) → IfClean (KeepsState k s) (state D.Store store.old)
         → images ≡ gathered s.images (item_files items.now) table.empty) }
+    ensures blame { Blames (state D.Store store.old) (state D.Store store.new) result }
     ensures reads { Reads (state D.Store store.old) (state D.Store store.new) }
 {
     let mut images = Table::new(alloc);
@@ -44,6 +46,7 @@ fn add_items<D: Alter>(
 ) -> Result<(), StoreFault>
     ensures told { HasCleanDisk (state D.Store store.new) → OnOk result ((k : Rules) (s : State) → IfClean (KeepsState k s) (state D.Store store.old)
         → IsPart s.images images.old → images.new ≡ gathered s.images (item_files items.now) images.old) }
+    ensures blame { Blames (state D.Store store.old) (state D.Store store.new) result }
     ensures reads { Reads (state D.Store store.old) (state D.Store store.new) }
 {
     for item in items {
@@ -64,6 +67,7 @@ fn add_file<D: Alter>(
 ) -> Result<(), StoreFault>
     ensures told { HasCleanDisk (state D.Store store.new) → OnOk result ((k : Rules) (s : State) → IfClean (KeepsState k s) (state D.Store store.old)
         → IsPart s.images images.old → images.new ≡ with_found s.images images.old file.now) }
+    ensures blame { Blames (state D.Store store.old) (state D.Store store.new) result }
     ensures reads { Reads (state D.Store store.old) (state D.Store store.new) }
 {
     if images.contains(file.text()) {
@@ -82,7 +86,8 @@ fn put_image(
     file: &FileName,
     image: Image,
 ) -> Result<(), StoreFault>
-    ensures { OnOk result (images.new ≡ table.insert images.old file.now image) }
+    ensures put { OnOk result (images.new ≡ table.insert images.old file.now image) }
+    ensures memory { IfErr result (λ fault. fault ≡ faults.Memory) }
 {
     let name = text_of(alloc, file.text())?;
     images.insert(name, image)?;

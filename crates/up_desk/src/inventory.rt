@@ -15,7 +15,7 @@ ghost use Rattle.up_machine.specs.State.{State, added, is_taken as is_taken_in};
 ghost use Rattle.up_store.specs.Connections.{KeepsState};
 ghost use Rattle.up_tables.specs.Stands.{IfClean};
 ghost use Rattle.up_desk.specs.Delivering.{RefusesUnread};
-ghost use Rattle.up_desk.specs.Serving.{GivesOrFails, Reads, Serves, Tells};
+ghost use Rattle.up_desk.specs.Serving.{Blames, GivesOrFails, Reads, Serves, Tells};
 
 use crate::faults::{done_of, refusal_of};
 use crate::reads::{is_founded, read_vehicle};
@@ -86,8 +86,8 @@ fn decide<K: Scheme, D: Alter>(
 ) -> Result<Decision<VehicleRows>, Refusal>
     requires { at ≤ last_command_moment }
     ensures decided { HasCleanDisk (state D.Store store.new) → (s : State) → IsSound (K.rules scheme.now) s → IfClean (KeepsState (K.rules scheme.now) s) (state D.Store store.old)
-        → GivesOrFails (GivesDecision (λ rows. rows ≡ rows_of new.now.vehicle (added new.now)) s (with_vehicle s new.now)) result
-        (decide_vehicle_in (K.rules scheme.now) s at new.now) }
+        → GivesOrFails (GivesDecision (λ rows. rows ≡ rows_of new.now.vehicle (added new.now)) s (with_vehicle s new.now))
+        (state D.Store store.old) (state D.Store store.new) result (decide_vehicle_in (K.rules scheme.now) s at new.now) }
     ensures reads { Reads (state D.Store store.old) (state D.Store store.new) }
 {
     match is_founded(store) {
@@ -107,8 +107,8 @@ fn decide_founded<K: Scheme, D: Alter>(
 ) -> Result<Decision<VehicleRows>, Refusal>
     requires { at ≤ last_command_moment }
     ensures decided { HasCleanDisk (state D.Store store.new) → (s : State) → IsSound (K.rules scheme.now) s → founded ≡ is_some (founding_row s) → IfClean (KeepsState (K.rules scheme.now) s) (state D.Store store.old)
-        → GivesOrFails (GivesDecision (λ rows. rows ≡ rows_of new.now.vehicle (added new.now)) s (with_vehicle s new.now)) result
-        (decide_vehicle_in (K.rules scheme.now) s at new.now) }
+        → GivesOrFails (GivesDecision (λ rows. rows ≡ rows_of new.now.vehicle (added new.now)) s (with_vehicle s new.now))
+        (state D.Store store.old) (state D.Store store.new) result (decide_vehicle_in (K.rules scheme.now) s at new.now) }
     ensures reads { Reads (state D.Store store.old) (state D.Store store.new) }
 {
     match read_vehicle(store, alloc, &new.vehicle) {
@@ -129,8 +129,8 @@ fn decide_named<K: Scheme, D: Alter>(
 ) -> Result<Decision<VehicleRows>, Refusal>
     requires { at ≤ last_command_moment }
     ensures decided { HasCleanDisk (state D.Store store.new) → (s : State) → IsSound (K.rules scheme.now) s → founded ≡ is_some (founding_row s) → option_copied old.entry ≡ vehicle_rows s new.now.vehicle → IfClean (KeepsState (K.rules scheme.now) s) (state D.Store store.old)
-        → GivesOrFails (GivesDecision (λ rows. rows ≡ rows_of new.now.vehicle (added new.now)) s (with_vehicle s new.now)) result
-        (decide_vehicle_in (K.rules scheme.now) s at new.now) }
+        → GivesOrFails (GivesDecision (λ rows. rows ≡ rows_of new.now.vehicle (added new.now)) s (with_vehicle s new.now))
+        (state D.Store store.old) (state D.Store store.new) result (decide_vehicle_in (K.rules scheme.now) s at new.now) }
     ensures reads { Reads (state D.Store store.old) (state D.Store store.new) }
 {
     match taken_marks(store, alloc, new.ecus.as_slice()) {
@@ -147,6 +147,7 @@ fn taken_marks<D: Alter>(
 ) -> Result<Vec<bool>, StoreFault>
     ensures told { HasCleanDisk (state D.Store store.new) → IfOk result (λ marks. (k : Rules) (s : State) → IfClean (KeepsState k s) (state D.Store store.old)
         → marks.items ≡ map (λ e. is_taken_in s e.ecu) ecus.now) }
+    ensures blame { Blames (state D.Store store.old) (state D.Store store.new) result }
     ensures reads { Reads (state D.Store store.old) (state D.Store store.new) }
 {
     let mut marks = Vec::with_capacity(alloc, ecus.len())?;
@@ -166,6 +167,7 @@ pub fn is_taken<D: Alter>(
     ecu: &Ident,
 ) -> Result<bool, StoreFault>
     ensures told { Tells (λ k s. is_taken_in s ecu.now) (state D.Store store.old) (state D.Store store.new) result }
+    ensures blame { Blames (state D.Store store.old) (state D.Store store.new) result }
     ensures reads { Reads (state D.Store store.old) (state D.Store store.new) }
 {
     rows_are_found();

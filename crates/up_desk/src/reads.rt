@@ -4,11 +4,13 @@ ghost use Rattle.sqlite.specs.Held.{state};
 ghost use Rattle.up_machine.specs.Rows.{founding_row, vehicle_rows as vehicle_rows_in};
 ghost use Rattle.up_machine.specs.RowsFit.{founding_fits as founding_fits_in, rows_fit as rows_fit_in};
 ghost use Rattle.up_tables.specs.declared.values.StoreFault.TheVariants as faults;
-ghost use Rattle.up_desk.specs.Serving.{Tells, Reads};
+ghost use Rattle.up_sign.specs.Schemes.{Rules};
+ghost use Rattle.up_desk.specs.Serving.{Tells, Blames, BlamesSound, Reads};
 
 use sqlite::Alter;
 use std::alloc::Global;
 use up_canon::ident::Ident;
+use up_machine::laws::rows_are_sound;
 use up_machine::rows::{Founding, VehicleRows};
 use up_machine::rows_fit::{founding_fits, rows_fit};
 use up_rows::laws::rows_are_found;
@@ -18,6 +20,7 @@ use up_store::store::{Store, StoreFault};
 /// Whether the repositories are founded.
 pub fn is_founded<D: Alter>(store: &mut Store<D>) -> Result<bool, StoreFault>
     ensures told { Tells (λ k s. is_some (founding_row s)) (state D.Store store.old) (state D.Store store.new) result }
+    ensures blame { Blames (state D.Store store.old) (state D.Store store.new) result }
     ensures reads { Reads (state D.Store store.old) (state D.Store store.new) }
 {
     store.is_founded()
@@ -30,9 +33,11 @@ pub fn read_founding<K: Scheme, D: Alter>(
     scheme: &K,
 ) -> Result<Option<Founding>, StoreFault>
     ensures told { Tells (λ k s. founding_row s) (state D.Store store.old) (state D.Store store.new) result }
+    ensures blame { BlamesSound faults.Store (K.rules scheme.now) (state D.Store store.old) (state D.Store store.new) result }
     ensures reads { Reads (state D.Store store.old) (state D.Store store.new) }
     ensures fits { IfOk result (λ found. IfSome found (λ f. IsTrue (founding_fits_in (K.rules scheme.now) f))) }
 {
+    rows_are_sound();
     match store.founding(alloc) {
         Ok(found) => fitting_founding(scheme, found),
         Err(fault) => Err(fault),
@@ -67,6 +72,7 @@ pub fn read_vehicle<D: Alter>(
     name: &Ident,
 ) -> Result<Option<VehicleRows>, StoreFault>
     ensures told { Tells (λ k s. vehicle_rows_in s name.now) (state D.Store store.old) (state D.Store store.new) result }
+    ensures blame { Blames (state D.Store store.old) (state D.Store store.new) result }
     ensures reads { Reads (state D.Store store.old) (state D.Store store.new) }
 {
     rows_are_found();
@@ -88,9 +94,11 @@ pub fn read_fitting_vehicle<D: Alter>(
     name: &Ident,
 ) -> Result<Option<VehicleRows>, StoreFault>
     ensures told { Tells (λ k s. vehicle_rows_in s name.now) (state D.Store store.old) (state D.Store store.new) result }
+    ensures blame { (k : Rules) → BlamesSound faults.Store k (state D.Store store.old) (state D.Store store.new) result }
     ensures reads { Reads (state D.Store store.old) (state D.Store store.new) }
     ensures fits { IfOk result (λ found. IfSome found (λ v. IsTrue (rows_fit_in v))) }
 {
+    rows_are_sound();
     match read_vehicle(store, alloc, name) {
         Ok(found) => fitting_vehicle(found),
         Err(fault) => Err(fault),

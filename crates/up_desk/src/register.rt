@@ -63,8 +63,8 @@ fn decide_adding<K: Scheme, D: Alter>(
 ) -> Result<Decision<RegisterRows>, Refusal>
     requires { at ≤ last_command_moment }
     ensures decided { HasCleanDisk (state D.Store store.new) → (s : State) → IsSound (K.rules scheme.now) s → IfClean (KeepsState (K.rules scheme.now) s) (state D.Store store.old)
-        → GivesOrFails (GivesDecision (HasRegisterRows (K.rules scheme.now) (stamped (with_image s image.now) at (s.image_version + 1))) s (stamped (with_image s image.now) at (s.image_version + 1))) result
-        (decide_image_in s at image.now) }
+        → GivesOrFails (GivesDecision (HasRegisterRows (K.rules scheme.now) (stamped (with_image s image.now) at (s.image_version + 1))) s (stamped (with_image s image.now) at (s.image_version + 1)))
+        (state D.Store store.old) (state D.Store store.new) result (decide_image_in s at image.now) }
     ensures reads { Reads (state D.Store store.old) (state D.Store store.new) }
 {
     match read_founding(store, alloc, scheme) {
@@ -85,8 +85,8 @@ fn decide_adding_after<K: Scheme, D: Alter>(
     requires moment { at ≤ last_command_moment }
     requires keys { IfSome founding (λ f. IsTrue (founding_fits (K.rules scheme.now) f)) }
     ensures decided { HasCleanDisk (state D.Store store.new) → (s : State) → IsSound (K.rules scheme.now) s → founding ≡ founding_row s → IfClean (KeepsState (K.rules scheme.now) s) (state D.Store store.old)
-        → GivesOrFails (GivesDecision (HasRegisterRows (K.rules scheme.now) (stamped (with_image s image.now) at (s.image_version + 1))) s (stamped (with_image s image.now) at (s.image_version + 1))) result
-        (decide_image_in s at image.now) }
+        → GivesOrFails (GivesDecision (HasRegisterRows (K.rules scheme.now) (stamped (with_image s image.now) at (s.image_version + 1))) s (stamped (with_image s image.now) at (s.image_version + 1)))
+        (state D.Store store.old) (state D.Store store.new) result (decide_image_in s at image.now) }
     ensures reads { Reads (state D.Store store.old) (state D.Store store.new) }
 {
     match store.image(alloc, &image.file) {
@@ -108,8 +108,8 @@ fn decide_named<K: Scheme, D: Alter>(
     requires moment { at ≤ last_command_moment }
     requires keys { IfSome founding (λ f. IsTrue (founding_fits (K.rules scheme.now) f)) }
     ensures decided { HasCleanDisk (state D.Store store.new) → (s : State) → IsSound (K.rules scheme.now) s → founding ≡ founding_row s → option_copied old.entry ≡ table.get s.images image.now.file → IfClean (KeepsState (K.rules scheme.now) s) (state D.Store store.old)
-        → GivesOrFails (GivesDecision (HasRegisterRows (K.rules scheme.now) (stamped (with_image s image.now) at (s.image_version + 1))) s (stamped (with_image s image.now) at (s.image_version + 1))) result
-        (decide_image_in s at image.now) }
+        → GivesOrFails (GivesDecision (HasRegisterRows (K.rules scheme.now) (stamped (with_image s image.now) at (s.image_version + 1))) s (stamped (with_image s image.now) at (s.image_version + 1)))
+        (state D.Store store.old) (state D.Store store.new) result (decide_image_in s at image.now) }
     ensures reads { Reads (state D.Store store.old) (state D.Store store.new) }
 {
     match decide_image(at, image, founding, old) {
@@ -133,8 +133,8 @@ fn decide_new<K: Scheme, D: Alter>(
     requires moment { at ≤ last_command_moment }
     requires keys { IsTrue (founding_fits (K.rules scheme.now) founding) }
     ensures decided { HasCleanDisk (state D.Store store.new) → (s : State) → IsSound (K.rules scheme.now) s → HasFounding s founding → table.get s.images image.now.file ≡ None → IfClean (KeepsState (K.rules scheme.now) s) (state D.Store store.old)
-        → GivesOrFails (GivesRows (HasRegisterRows (K.rules scheme.now) (stamped (with_image s image.now) at (s.image_version + 1))) (stamped (with_image s image.now) at (s.image_version + 1))) result
-        (decide_new_image_in s at image.now) }
+        → GivesOrFails (GivesRows (HasRegisterRows (K.rules scheme.now) (stamped (with_image s image.now) at (s.image_version + 1))) (stamped (with_image s image.now) at (s.image_version + 1)))
+        (state D.Store store.old) (state D.Store store.new) result (decide_new_image_in s at image.now) }
     ensures reads { Reads (state D.Store store.old) (state D.Store store.new) }
 {
     match store.images(alloc) {
@@ -172,8 +172,8 @@ fn decide_refreshing<K: Scheme, D: Alter>(
 ) -> Result<RegisterRows, Refusal>
     requires { at ≤ last_command_moment }
     ensures decided { HasCleanDisk (state D.Store store.new) → (s : State) → IsSound (K.rules scheme.now) s → IfClean (KeepsState (K.rules scheme.now) s) (state D.Store store.old)
-        → GivesOrFails (GivesRows (HasRegisterRows (K.rules scheme.now) (stamped s at version)) (stamped s at version)) result
-        (decide_refresh_in s at version) }
+        → GivesOrFails (GivesRows (HasRegisterRows (K.rules scheme.now) (stamped s at version)) (stamped s at version))
+        (state D.Store store.old) (state D.Store store.new) result (decide_refresh_in s at version) }
     ensures reads { Reads (state D.Store store.old) (state D.Store store.new) }
 {
     match read_founding(store, alloc, scheme) {
@@ -194,8 +194,8 @@ fn decide_refreshing_after<K: Scheme, D: Alter>(
     requires moment { at ≤ last_command_moment }
     requires keys { IfSome founding (λ f. IsTrue (founding_fits (K.rules scheme.now) f)) }
     ensures decided { HasCleanDisk (state D.Store store.new) → (s : State) → founding ≡ founding_row s → IfClean (KeepsState (K.rules scheme.now) s) (state D.Store store.old)
-        → GivesOrFails (GivesRows (HasRegisterRows (K.rules scheme.now) (stamped s at version)) (stamped s at version)) result
-        (decide_refresh_in s at version) }
+        → GivesOrFails (GivesRows (HasRegisterRows (K.rules scheme.now) (stamped s at version)) (stamped s at version))
+        (state D.Store store.old) (state D.Store store.new) result (decide_refresh_in s at version) }
     ensures reads { Reads (state D.Store store.old) (state D.Store store.new) }
 {
     match decide_refresh(at, version, founding) {
@@ -214,7 +214,8 @@ fn make_rows<K: Scheme, D: Alter>(
 ) -> Result<RegisterRows, Refusal>
     requires { CanMakeFiles (K.rules scheme.now) founding }
     ensures made { HasCleanDisk (state D.Store store.new) → (s next : State) → IfClean (KeepsState (K.rules scheme.now) s) (state D.Store store.old)
-        → HasFounding next founding → next.images ≡ s.images → MetadataOrFails (HasRegisterRows (K.rules scheme.now) next) result }
+        → HasFounding next founding → next.images ≡ s.images → MetadataOrFails (HasRegisterRows (K.rules scheme.now) next)
+        (state D.Store store.old) (state D.Store store.new) result }
     ensures reads { Reads (state D.Store store.old) (state D.Store store.new) }
 {
     match store.images(alloc) {

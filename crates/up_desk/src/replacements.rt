@@ -81,7 +81,8 @@ fn decide<K: Scheme, D: Alter>(
 ) -> Result<(), Refusal>
     requires { at ≤ last_command_moment }
     ensures decided { HasCleanDisk (state D.Store store.new) → (s : State) → IsSound (K.rules scheme.now) s → IfClean (KeepsState (K.rules scheme.now) s) (state D.Store store.old)
-        → GivesOrFails (GivesReplacement s new.now) result (decide_replace_in (K.rules scheme.now) s at new.now) }
+        → GivesOrFails (GivesReplacement s new.now)
+        (state D.Store store.old) (state D.Store store.new) result (decide_replace_in (K.rules scheme.now) s at new.now) }
     ensures reads { Reads (state D.Store store.old) (state D.Store store.new) }
 {
     match is_founded(store) {
@@ -101,7 +102,8 @@ fn decide_founded<K: Scheme, D: Alter>(
 ) -> Result<(), Refusal>
     requires { at ≤ last_command_moment }
     ensures decided { HasCleanDisk (state D.Store store.new) → (s : State) → IsSound (K.rules scheme.now) s → founded ≡ is_some (founding_row s) → IfClean (KeepsState (K.rules scheme.now) s) (state D.Store store.old)
-        → GivesOrFails (GivesReplacement s new.now) result (decide_replace_in (K.rules scheme.now) s at new.now) }
+        → GivesOrFails (GivesReplacement s new.now)
+        (state D.Store store.old) (state D.Store store.new) result (decide_replace_in (K.rules scheme.now) s at new.now) }
     ensures reads { Reads (state D.Store store.old) (state D.Store store.new) }
 {
     match read_vehicle(store, alloc, &new.vehicle) {
@@ -122,7 +124,8 @@ fn decide_in<K: Scheme, D: Alter>(
 ) -> Result<(), Refusal>
     requires { at ≤ last_command_moment }
     ensures decided { HasCleanDisk (state D.Store store.new) → (s : State) → IsSound (K.rules scheme.now) s → founded ≡ is_some (founding_row s) → option_copied vehicle.entry ≡ vehicle_rows s new.now.vehicle → IfClean (KeepsState (K.rules scheme.now) s) (state D.Store store.old)
-        → GivesOrFails (GivesReplacement s new.now) result (decide_replace_in (K.rules scheme.now) s at new.now) }
+        → GivesOrFails (GivesReplacement s new.now)
+        (state D.Store store.old) (state D.Store store.new) result (decide_replace_in (K.rules scheme.now) s at new.now) }
     ensures reads { Reads (state D.Store store.old) (state D.Store store.new) }
 {
     match is_taken(store, alloc, &new.ecu.ecu) {

@@ -60,8 +60,8 @@ fn decide_founding<K: Scheme, D: Alter>(
 ) -> Result<RootRows, Refusal>
     requires { at ≤ last_command_moment }
     ensures decided { HasCleanDisk (state D.Store store.new) → (s : State) → IsSound (K.rules scheme.now) s → IfClean (KeepsState (K.rules scheme.now) s) (state D.Store store.old)
-        → GivesOrFails (GivesRows (HasRootRows (K.rules scheme.now) (stamped (with_root s at keys.now) at 1)) (stamped (with_root s at keys.now) at 1)) result
-        (decide_found_in (K.rules scheme.now) s at keys.now) }
+        → GivesOrFails (GivesRows (HasRootRows (K.rules scheme.now) (stamped (with_root s at keys.now) at 1)) (stamped (with_root s at keys.now) at 1))
+        (state D.Store store.old) (state D.Store store.new) result (decide_found_in (K.rules scheme.now) s at keys.now) }
     ensures reads { Reads (state D.Store store.old) (state D.Store store.new) }
 {
     match is_founded(store) {
@@ -81,8 +81,8 @@ fn decide_founding_after<K: Scheme, D: Alter>(
 ) -> Result<RootRows, Refusal>
     requires { at ≤ last_command_moment }
     ensures decided { HasCleanDisk (state D.Store store.new) → (s : State) → founded ≡ is_some (founding_row s) → IfClean (KeepsState (K.rules scheme.now) s) (state D.Store store.old)
-        → GivesOrFails (GivesRows (HasRootRows (K.rules scheme.now) (stamped (with_root s at keys.now) at 1)) (stamped (with_root s at keys.now) at 1)) result
-        (decide_found_in (K.rules scheme.now) s at keys.now) }
+        → GivesOrFails (GivesRows (HasRootRows (K.rules scheme.now) (stamped (with_root s at keys.now) at 1)) (stamped (with_root s at keys.now) at 1))
+        (state D.Store store.old) (state D.Store store.new) result (decide_found_in (K.rules scheme.now) s at keys.now) }
     ensures reads { Reads (state D.Store store.old) (state D.Store store.new) }
 {
     match decide_found(alloc, scheme, at, keys, founded) {
@@ -120,8 +120,8 @@ fn decide_rotation<K: Scheme, D: Alter>(
 ) -> Result<RootRows, Refusal>
     requires { at ≤ last_command_moment }
     ensures decided { HasCleanDisk (state D.Store store.new) → (s : State) → IsSound (K.rules scheme.now) s → IfClean (KeepsState (K.rules scheme.now) s) (state D.Store store.old)
-        → GivesOrFails (GivesRows (HasRootRows (K.rules scheme.now) (stamped (with_root s at keys.now) at (s.image_version + 1))) (stamped (with_root s at keys.now) at (s.image_version + 1))) result
-        (decide_rotate_in (K.rules scheme.now) s at keys.now) }
+        → GivesOrFails (GivesRows (HasRootRows (K.rules scheme.now) (stamped (with_root s at keys.now) at (s.image_version + 1))) (stamped (with_root s at keys.now) at (s.image_version + 1)))
+        (state D.Store store.old) (state D.Store store.new) result (decide_rotate_in (K.rules scheme.now) s at keys.now) }
     ensures reads { Reads (state D.Store store.old) (state D.Store store.new) }
 {
     match read_founding(store, alloc, scheme) {
@@ -142,8 +142,8 @@ fn decide_rotation_after<K: Scheme, D: Alter>(
     requires moment { at ≤ last_command_moment }
     requires keys { IfSome founding (λ f. IsTrue (founding_fits (K.rules scheme.now) f)) }
     ensures decided { HasCleanDisk (state D.Store store.new) → (s : State) → founding ≡ founding_row s → IfClean (KeepsState (K.rules scheme.now) s) (state D.Store store.old)
-        → GivesOrFails (GivesRows (HasRootRows (K.rules scheme.now) (stamped (with_root s at keys.now) at (s.image_version + 1))) (stamped (with_root s at keys.now) at (s.image_version + 1))) result
-        (decide_rotate_in (K.rules scheme.now) s at keys.now) }
+        → GivesOrFails (GivesRows (HasRootRows (K.rules scheme.now) (stamped (with_root s at keys.now) at (s.image_version + 1))) (stamped (with_root s at keys.now) at (s.image_version + 1)))
+        (state D.Store store.old) (state D.Store store.new) result (decide_rotate_in (K.rules scheme.now) s at keys.now) }
     ensures reads { Reads (state D.Store store.old) (state D.Store store.new) }
 {
     match decide_rotate(alloc, scheme, at, keys, founding) {
@@ -164,7 +164,8 @@ fn make_rows<K: Scheme, D: Alter>(
 ) -> Result<RootRows, Refusal>
     requires { CanMakeRoot (K.rules scheme.now) at keys.now new.now }
     ensures made { HasCleanDisk (state D.Store store.new) → (s next : State) → IfClean (KeepsState (K.rules scheme.now) s) (state D.Store store.old)
-        → HasRoot next at keys.now new.now → next.images ≡ s.images → MetadataOrFails (HasRootRows (K.rules scheme.now) next) result }
+        → HasRoot next at keys.now new.now → next.images ≡ s.images → MetadataOrFails (HasRootRows (K.rules scheme.now) next)
+        (state D.Store store.old) (state D.Store store.new) result }
     ensures reads { Reads (state D.Store store.old) (state D.Store store.new) }
 {
     match store.images(alloc) {

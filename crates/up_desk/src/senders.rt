@@ -4,15 +4,17 @@ ghost use Rattle.std.specs.Prelude.{◌≡◌, ◌≤◌, ◌+◌, None, Some, O
 ghost use Rattle.std.specs.FinMap as table;
 ghost use Rattle.sqlite.specs.Held.{state};
 ghost use Rattle.sqlite.specs.State.{HasCleanDisk};
+ghost use Rattle.up_canon.specs.declared.refusal.Refusal.TheVariants as refusal;
 ghost use Rattle.up_sign.specs.Schemes.{Rules};
 ghost use Rattle.up_machine.specs.Primaries.{GivesSent};
 ghost use Rattle.up_machine.specs.Rows.{founding_row, vehicle_rows};
 ghost use Rattle.up_machine.specs.RowsFit.{founding_fits, rows_fit};
+ghost use Rattle.up_machine.specs.Sound.{IsSound};
 ghost use Rattle.up_machine.specs.State.{State};
 ghost use Rattle.up_store.specs.Connections.{KeepsState};
 ghost use Rattle.up_tables.specs.Stands.{IfClean};
 ghost use Rattle.up_desk.specs.Delivering.{GivesKept, GivesSenderRows, GivesVehicle, IsSentBy, RefusesUnread, refused_by};
-ghost use Rattle.up_desk.specs.Serving.{Reads};
+ghost use Rattle.up_desk.specs.Serving.{BlamesDisk, BlamesSound, Reads};
 ghost use Rattle.up_desk.specs.Standing.{AreFew, ArePrimaries, Come, IsOf, KeepsMore, StayKept};
 
 use crate::catalog::Catalog;
@@ -56,6 +58,8 @@ pub(crate) fn read_sender<K: Scheme, D: Alter>(
     ensures came { HasCleanDisk (state D.Store store.new) → (s : State) → IfClean (KeepsState (K.rules scheme.now) s) (state D.Store store.old) → IsOf s catalog.old
         → Come (IsSentBy (K.rules scheme.now) incoming.now) catalog.old.primaries catalog.new.primaries }
     ensures forged { IfSome (refused_by (K.rules scheme.now) catalog.old.primaries incoming.now) (RefusesUnread store.old store.new result) }
+    ensures blame { (s : State) → IsSound (K.rules scheme.now) s → IfClean (KeepsState (K.rules scheme.now) s) (state D.Store store.old)
+        → IsOf s catalog.old → BlamesDisk refusal.Store (state D.Store store.old) (state D.Store store.new) result }
     ensures reads { Reads (state D.Store store.old) (state D.Store store.new) }
 {
     match test_by_kept(catalog, keys, alloc, scheme, incoming) {
@@ -96,6 +100,7 @@ fn read_rows<D: Alter>(
 ) -> Result<VehicleRows, Refusal>
     ensures told { HasCleanDisk (state D.Store store.new) → (k : Rules) (s : State) → IfClean (KeepsState k s) (state D.Store store.old) → GivesVehicle s vehicle.now result }
     ensures fits { IfOk result (λ rows. IsTrue (rows_fit rows)) }
+    ensures blame { (k : Rules) → BlamesSound refusal.Store k (state D.Store store.old) (state D.Store store.new) result }
     ensures reads { Reads (state D.Store store.old) (state D.Store store.new) }
 {
     match read_fitting_vehicle(store, alloc, vehicle) {
@@ -123,6 +128,8 @@ fn read_first<K: Scheme, D: Alter>(
     ensures more { KeepsMore catalog.old catalog.new }
     ensures came { HasCleanDisk (state D.Store store.new) → (s : State) → IfClean (KeepsState (K.rules scheme.now) s) (state D.Store store.old) → IsOf s catalog.old
         → Come (IsSentBy (K.rules scheme.now) incoming.now) catalog.old.primaries catalog.new.primaries }
+    ensures blame { (s : State) → IsSound (K.rules scheme.now) s → IfClean (KeepsState (K.rules scheme.now) s) (state D.Store store.old)
+        → IsOf s catalog.old → BlamesDisk refusal.Store (state D.Store store.old) (state D.Store store.new) result }
     ensures reads { Reads (state D.Store store.old) (state D.Store store.new) }
 {
     match read_rows(store, alloc, &incoming.manifest.vehicle) {

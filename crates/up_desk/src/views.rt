@@ -1,9 +1,10 @@
 //! What is read of the inventory.
-ghost use Rattle.std.specs.Prelude.{◌≡◌, IfOk, Some, map, option_and_then, find, bytes_eq, option_copied};
+ghost use Rattle.std.specs.Prelude.{◌≡◌, IfErr, IfOk, Some, map, option_and_then, find, bytes_eq, option_copied};
 ghost use Rattle.sqlite.specs.Held.{state};
 ghost use Rattle.up_machine.specs.Reads.{ecus_of as ecus_in, version_of as version_in, installed as installed_in, assigned_to};
 ghost use Rattle.up_rows.specs.Lookups.{installed_among};
-ghost use Rattle.up_desk.specs.Serving.{Reads, Tells};
+ghost use Rattle.up_tables.specs.declared.values.StoreFault.TheVariants as faults;
+ghost use Rattle.up_desk.specs.Serving.{Blames, Reads, Tells};
 
 use crate::reads::read_vehicle;
 use sqlite::Alter;
@@ -23,6 +24,7 @@ pub fn version_of<D: Alter>(
     vehicle: &Ident,
 ) -> Result<Option<u64>, StoreFault>
     ensures told { Tells (λ k s. version_in s vehicle.now) (state D.Store store.old) (state D.Store store.new) result }
+    ensures blame { Blames (state D.Store store.old) (state D.Store store.new) result }
     ensures reads { Reads (state D.Store store.old) (state D.Store store.new) }
 {
     views_are_told();
@@ -40,6 +42,7 @@ pub fn ecus_of<D: Alter>(
     vehicle: &Ident,
 ) -> Result<Option<Listed<Ident>>, StoreFault>
     ensures told { Tells (λ k s. ecus_in s vehicle.now) (state D.Store store.old) (state D.Store store.new) result }
+    ensures blame { Blames (state D.Store store.old) (state D.Store store.new) result }
     ensures reads { Reads (state D.Store store.old) (state D.Store store.new) }
 {
     rows_are_found();
@@ -52,7 +55,8 @@ pub fn ecus_of<D: Alter>(
 }
 
 fn some_names(alloc: Global, rows: &[EcuRow]) -> Result<Option<Listed<Ident>>, StoreFault>
-    ensures { IfOk result (λ names. names ≡ Some (map (λ row. row.ecu) rows.now)) }
+    ensures made { IfOk result (λ names. names ≡ Some (map (λ row. row.ecu) rows.now)) }
+    ensures memory { IfErr result (λ fault. fault ≡ faults.Memory) }
 {
     Ok(Some(names_of(alloc, rows)?))
 }
@@ -74,6 +78,7 @@ pub fn installed_on<D: Alter>(
     ecu: &Ident,
 ) -> Result<Option<Installed>, StoreFault>
     ensures told { Tells (λ k s. installed_in s ecu.now) (state D.Store store.old) (state D.Store store.new) result }
+    ensures blame { Blames (state D.Store store.old) (state D.Store store.new) result }
     ensures reads { Reads (state D.Store store.old) (state D.Store store.new) }
 {
     views_are_told();
@@ -90,7 +95,8 @@ pub fn installed_on<D: Alter>(
 
 /// The image in the row of the ECU.
 fn image_among(alloc: Global, rows: &[EcuRow], ecu: &Ident) -> Result<Option<Installed>, StoreFault>
-    ensures { IfOk result (λ found. found ≡ installed_among ecu.now rows.now) }
+    ensures told { IfOk result (λ found. found ≡ installed_among ecu.now rows.now) }
+    ensures memory { IfErr result (λ fault. fault ≡ faults.Memory) }
 {
     Ok(image_of(alloc, row_of(rows, ecu))?)
 }
@@ -117,6 +123,7 @@ pub fn assigned_of<D: Alter>(
     vehicle: &Ident,
 ) -> Result<Option<Plan>, StoreFault>
     ensures told { Tells (λ k s. assigned_to s vehicle.now) (state D.Store store.old) (state D.Store store.new) result }
+    ensures blame { Blames (state D.Store store.old) (state D.Store store.new) result }
     ensures reads { Reads (state D.Store store.old) (state D.Store store.new) }
 {
     views_are_told();

@@ -1,2 +1,3 @@
 pub mod Adopted
 pub mod Opened
+pub mod Closed

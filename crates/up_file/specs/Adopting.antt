@@ -1,10 +1,13 @@
 -- A database that is taken.
-use Rattle.std.specs.Prelude.{◌⊎◌}
+use Rattle.std.specs.Prelude.{◌≢◌, ◌⊎◌, Result, Err, IfErr}
 use Rattle.sqlite.specs.State.{State}
 use Rattle.sqlite.specs.Tree.{Trees}
 use Rattle.up_rows.specs.StateRows.{StateRows, no_rows}
+use Rattle.up_tables.specs.declared.open.OpenFault.{OpenFault}
+use Rattle.up_tables.specs.declared.open.OpenFault.TheVariants.{NotOurs}
 use Rattle.up_tables.specs.declared.open.SchemaVersion.{SchemaVersion}
-use Rattle.up_tables.specs.Ours.{NamesUs, NamesOthers}
+use Rattle.up_tables.specs.Making.{FailsToMake, FailsToRaise}
+use Rattle.up_tables.specs.Ours.{NamesUs, NamesOthers, IsHindered}
 use Rattle.up_tables.specs.Stands.{IfClean, HasNoTables, LeavesOnly}
 use Rattle.up_store.specs.Connections.{HoldsRows, KeepsAs, KeepsRows, MadeIn, RaisedRows}
 
@@ -20,3 +23,13 @@ IsAdopted old new = (NamesUs old × KeepsOn old new) ⊎ (NamesOthers old × Has
 -- what a crash may leave of a database that is being taken: tables that were raised, or made where there were none
 abbrev pub AdoptedIn : State → Trees → Type 0
 AdoptedIn old trees = RaisedRows old trees ⊎ MadeIn old trees
+
+-- why a database is not taken: what keeps it from being adopted, or, of one that doesn't name this product, from being made
+abbrev pub FailsToTake : State → State → Type 0
+FailsToTake old new = (IsHindered old new ⊎ FailsToRaise old) ⊎ (NamesOthers old × FailsToMake old new)
+
+-- what adopting told is answered, unless it is `NotOurs`; then what making told, of what was handed back
+abbrev pub TakesOrMakes : {C S : Type 0} → (Result S (C × OpenFault) → Type 0)
+    → (C → Result S (C × OpenFault) → Type 0) → Result S (C × OpenFault) → Type 0
+TakesOrMakes {C} {S} Adopts Makes result =
+    (Adopts result × IfErr result (λ e. e.1 ≢ NotOurs)) ⊎ ((mid : C) × Adopts (Err (mid, NotOurs)) × Makes mid result)

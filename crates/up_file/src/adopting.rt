@@ -1,18 +1,20 @@
 //! Adopting a database, or making its tables.
 
-ghost use Rattle.std.specs.Prelude.{◌≡◌, ◌≢◌, false, IfOk, IfErr};
+ghost use Rattle.std.specs.Prelude.{◌≡◌, ◌≢◌, false, Err, IfOk, IfErr};
 ghost use Rattle.sqlite.specs.Held.{state};
 ghost use Rattle.sqlite.specs.State.{HasCleanDisk, Survives};
 ghost use Rattle.up_tables.specs.Stands.{IfClean, IsAsCommitted};
 ghost use Rattle.up_tables.specs.declared.open.OpenFault.TheVariants.{NotOurs};
-ghost use Rattle.up_file.specs.Adopting.{IsAdopted, AdoptedIn};
+ghost use Rattle.up_tables.specs.declared.open.OpenFault.TheVariants as Fault;
+ghost use Rattle.up_file.specs.Adopting.{IsAdopted, AdoptedIn, FailsToTake, TakesOrMakes};
 
 use sqlite::{Alter, Connection};
 use up_store::store::{OpenFault, Store};
 
-/// Adopts a database of this product, which raises one of an older schema, and makes the tables in one without any: `OpenFault::Store` where it has those
-/// of another. A fault hands the connection back as it was committed, with no transaction under way, and is never
-/// `OpenFault::NotOurs`.
+/// Adopts a database of this product, which raises one of an older schema, and makes the tables in one without any: `OpenFault::Store` where it
+/// has those of another. `Memory` for want of memory; else `Store` only for a cause that the database gave: the connection was shut, the disk
+/// failed, a limit on steps was met, a statement that raises or makes tables was refused, or there are tables of another product. A fault hands
+/// the connection back as it was committed, with no transaction under way, and is never `OpenFault::NotOurs`.
 pub fn adopt_or_create<D: Alter>(
     conn: Connection<D>,
 ) -> Result<Store<D>, (Connection<D>, OpenFault)>
@@ -22,11 +24,27 @@ pub fn adopt_or_create<D: Alter>(
     ensures kept { IfErr result (λ e. IfClean (IsAsCommitted (state D.Store conn)) (state D.Store e.0)) }
     ensures crash_err { IfErr result (λ e. Survives (state D.Store conn) (state D.Store e.0) (AdoptedIn (state D.Store conn))) }
     ensures fault { IfErr result (λ e. e.1 ≢ NotOurs) }
+    ensures cause { IfErr result (λ e. e.1 ≡ Fault.Store → HasCleanDisk (state D.Store e.0)
+        → FailsToTake (state D.Store conn) (state D.Store e.0)) }
     ensures mode { IfErr result (λ e. (state D.Store e.0).in_transaction ≡ false) }
 {
-    match Store::adopt(conn) {
+    or_made(conn, Store::adopt, Store::create)
+}
+
+/// What `adopter` takes, or tells; where that is `NotOurs`, what `maker` makes of what was handed back, or tells. Each is asked once at most.
+fn or_made<
+    C,
+    S,
+    A: FnOnce(C) -> Result<S, (C, OpenFault)>,
+    M: FnOnce(C) -> Result<S, (C, OpenFault)> + Drop,
+>(conn: C, adopter: A, maker: M) -> Result<S, (C, OpenFault)>
+    requires adopter { A.pre adopter conn }
+    requires maker { (mid : C) → A.post adopter conn (Err (mid, NotOurs)) → M.pre maker mid }
+    ensures told { TakesOrMakes (A.post adopter conn) (M.post maker) result }
+{
+    match adopter(conn) {
         Ok(store) => Ok(store),
-        Err((conn, OpenFault::NotOurs)) => Store::create(conn),
+        Err((conn, OpenFault::NotOurs)) => maker(conn),
         Err((conn, fault)) => Err((conn, fault)),
     }
 }

@@ -1,11 +1,11 @@
 //! Closing a database file.
 
-ghost use Rattle.std.specs.Prelude.{IfOk, IfErr};
+ghost use Rattle.std.specs.Prelude.{◌≡◌, IfOk, IfErr};
 ghost use Rattle.sqlite.specs.Closing.{IsCopied};
 ghost use Rattle.sqlite_wal.specs.Reads.{AreClean};
-ghost use Rattle.up_file.specs.Closing.{FailsClosing};
+ghost use Rattle.up_file.specs.Closing.{FailsClosing, closed_fault};
 
-use sqlite::{Connection, FileStore, Files};
+use sqlite::{Connection, Error, FileStore, Files};
 use sqlite_disk::Disk;
 use up_tables::values::{StoreFault, fault_of};
 
@@ -17,7 +17,16 @@ pub fn close_file<D: Disk + Drop>(conn: Connection<FileStore<D>>) -> Result<File
     ensures copied { IfOk result (λ files. AreClean D.Disk files.log files.db → IsCopied conn files) }
     ensures failed { IfErr result (FailsClosing conn) }
 {
-    match conn.close_files() {
+    closed(conn.close_files())
+}
+
+/// What is told of a close: the files that it gave back, or the fault of its error, whose store is closed as it is.
+fn closed<D: Disk + Drop>(
+    closed: Result<Files<D>, (Error, FileStore<D>)>,
+) -> Result<Files<D>, StoreFault>
+    ensures told { result ≡ closed_fault closed }
+{
+    match closed {
         Ok(files) => Ok(files),
         Err((error, store)) => {
             drop(store.close());

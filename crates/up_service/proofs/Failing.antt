@@ -1,4 +1,4 @@
--- What says that memory or the database refused, and that only a refusal is told so.
+-- What says that memory or the database refused, that only a refusal is told so, and that the two are told apart.
 use Rattle.std.proofs.Common.{◌≡◌, inl, inr, ℕ, List, Bool, true, refl, sym, subst, ap, ◌∙◌, arith, get_or}
 use Rattle.std.specs.Prelude.{◌⊎◌, [], None}
 use Rattle.std.specs.Fmt.{digits}
@@ -10,11 +10,11 @@ use Rattle.up_machine.specs.declared.answer.Reply.{Reply}
 use Rattle.up_machine.specs.State.{State}
 use Rattle.up_desk.specs.Serving.{is_fault, is_failed, IsCommit}
 use Rattle.up_script.specs.PrintedLines.{answer_text, refused_text}
-use Rattle.up_heads.specs.Responses.{response_of, refusal_response_of}
+use Rattle.up_heads.specs.Responses.{response_of, error_body, refusal_response_of}
 use Rattle.up_service.specs.Answers.{IsFailed}
 use Rattle.up_service.specs.Responses.{answer_response}
 
-refused_by : (r : Refusal) → is_fault r ≡ true → (r ≡ Memory) ⊎ (r ≡ Store)
+pub refused_by : (r : Refusal) → is_fault r ≡ true → (r ≡ Memory) ⊎ (r ≡ Store)
 refused_by Memory h = inl refl
 refused_by Store h = inr refl
 refused_by other h = cc
@@ -107,3 +107,39 @@ responses_apart last head r Already fault same = absurd (not_ok r [] last head f
 responses_apart last head r (Replied reply) fault same = absurd (not_ok r reply.text last head fault same)
 responses_apart last head r (File text) fault same = absurd (not_ok r text last head fault same)
 responses_apart last head r (Refused other) fault same = (other, refl)
+
+-- ---- the two are told apart
+
+-- want of memory is told otherwise than a fault of the database
+abbrev pub TellsApart : (Refusal → List ℕ) → Type 0
+TellsApart tell = tell Memory ≡ tell Store → ⊥
+
+-- lines, by the digit of the refusal's number
+ninth : List ℕ → ℕ
+ninth text = get_or text 8 0
+
+ninth_memory : ninth (refused_text Memory) ≡ 49
+unfolding ninth digits
+ninth_memory = refl
+
+ninth_store : ninth (refused_text Store) ≡ 50
+unfolding ninth digits
+ninth_store = refl
+
+pub lines_tell_apart : TellsApart refused_text
+lines_tell_apart same = absurd (let e : 49 ≡ 50 = sym ninth_memory ∙ ap ninth same ∙ ninth_store in omega arith)
+
+-- responses, by the last digit of the body's length
+unit : List ℕ → ℕ
+unit text = get_or text 83 0
+
+unit_memory : (last head : Bool) → unit (refusal_response_of Memory last head) ≡ 55
+unfolding unit response_of error_body digits
+unit_memory last head = refl
+
+unit_store : (last head : Bool) → unit (refusal_response_of Store last head) ≡ 54
+unfolding unit response_of error_body digits
+unit_store last head = refl
+
+pub responses_tell_apart : (last head : Bool) → TellsApart (λ r. refusal_response_of r last head)
+responses_tell_apart last head same = absurd (let e : 55 ≡ 54 = sym (unit_memory last head) ∙ ap unit same ∙ unit_store last head in omega arith)

@@ -99,6 +99,7 @@ fixed_answers tell k fixed text now is = record {
   answered = λ clean s sound was. (s, inl (is, refl), sound, was clean);
   crash = λ s sound was. survives_same (HoldsNext k None s) now;
   durable = λ s sound was same commit. absurd commit;
+  blame = λ clean s sound was other same. absurd (other is);
 }
 
 requests_serve : {K D : Type 0} (rules : K → Rules) (g : Ghosts D) (at : ℕ) → Serves (λ q. request_service (rules q) at) g (Responses rules g at)

@@ -9,7 +9,7 @@ use Rattle.sqlite.proofs.StateLemmas.{survives_then}
 use Rattle.up_canon.specs.Names.{Name}
 use Rattle.up_canon.specs.Steps.{and_then, ◌>>=◌, or_error}
 use Rattle.up_canon.specs.declared.refusal.Refusal.{Refusal}
-use Rattle.up_canon.specs.declared.refusal.Refusal.TheVariants.{Memory, UnknownVehicle}
+use Rattle.up_canon.specs.declared.refusal.Refusal.TheVariants.{UnknownVehicle}
 use Rattle.up_sign.specs.Schemes.{Rules}
 use Rattle.up_sign.proofs.Accepted.{bytes_eq-refl}
 use Rattle.up_plan.specs.declared.assigned.Plan.{Plan}
@@ -50,7 +50,7 @@ clean_at : (old new : Standing) → Reads old new → HasCleanDisk new → HasCl
 clean_at old new reads now = let before : HasCleanDisk old = omega (arith, reads.tables.survives.clean) in before
 
 -- what was shown before a read is shown after it
-seen_on : (k : Rules) (s : State) (old new : Standing) → Reads old new → IfClean (KeepsState k s) old → HasCleanDisk new → KeepsState k s new
+pub seen_on : (k : Rules) (s : State) (old new : Standing) → Reads old new → IfClean (KeepsState k s) old → HasCleanDisk new → KeepsState k s new
 seen_on k s old new reads was now = record {
   tables = reads.tables.kept (rows_of_state k s) (λ before. (was before).tables) now;
   memory = subst (Fits s) (sym reads.memory) (was (clean_at old new reads now)).memory;

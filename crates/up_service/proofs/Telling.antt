@@ -5,7 +5,7 @@ use Rattle.sqlite_trees.specs.declared.store.Store.{Ghosts}
 use Rattle.up_canon.specs.Names.{Name}
 use Rattle.up_canon.specs.Refusals.{is_memory}
 use Rattle.up_canon.specs.declared.refusal.Refusal.{Refusal}
-use Rattle.up_canon.specs.declared.refusal.Refusal.TheVariants.{Memory, UnknownVehicle}
+use Rattle.up_canon.specs.declared.refusal.Refusal.TheVariants.{Memory, Store, UnknownVehicle}
 use Rattle.up_sign.specs.Schemes.{Rules}
 use Rattle.up_plan.specs.declared.assigned.Plan.{Plan}
 use Rattle.up_machine.specs.ApartLaws.{InstalledIsOfTheVehicle}
@@ -15,8 +15,9 @@ use Rattle.up_machine.specs.State.{State}
 use Rattle.up_machine.specs.declared.rows.VehicleRows.{VehicleRows}
 use Rattle.up_tables.specs.declared.values.StoreFault.{StoreFault}
 use Rattle.up_tables.specs.declared.values.StoreFault.TheVariants as fault
-use Rattle.up_desk.specs.Serving.{is_fault, refusal_told}
-use Rattle.up_desk.specs.Standing.{DeskView, Standing, state}
+use Rattle.up_desk.specs.Serving.{is_fault, refusal_told, DiskFailed, Reads}
+use Rattle.up_desk.specs.Standing.{DeskView, Standing, Blames, HasCleanDisk, IfClean, KeepsState, state}
+use Rattle.up_desk.proofs.Steps.{failed_behind, reads_then}
 use Rattle.up_script.specs.AskedLines.{asked_in}
 use Rattle.up_script.specs.PrintedLines.{refused_text}
 use Rattle.up_script.specs.declared.asked.Asked.{Asked}
@@ -30,15 +31,21 @@ use Rattle.up_service.specs.LineAnswers.{rows_text, shown_in, shown_text, viewed
 use Rattle.up_service.specs.Responses.{IsResponseTo, Responses}
 use Rattle.up_service.specs.Told.{Gives, Finds as Found, ShowsPlan, ShowsRows, ShowsFound, Shows, TellsWhat, TellsAsked, TellsLine, TellsRequest, TellsNext}
 use Rattle.up_service.proofs.Answering.{memory_by, printed, responded, refused_line, asked_line, no_view, told_view, told_refusal}
-use Rattle.up_service.proofs.Showing.{GivesShown, Sees, seen_by, seen_in_fault, sees_then, sees_weaker, told_fault, no_vehicle, rows_shown}
+use Rattle.up_service.proofs.Showing.{GivesShown, Sees, seen_by, seen_in_fault, sees_then, sees_weaker, seen_on, told_fault, no_vehicle, rows_shown}
 
 -- ---- views
+
+-- `Store` is told only where the disk counted a fault
+abbrev BlamesShown : Result (List ℕ) Refusal → Standing → Standing → Type 0
+BlamesShown shown old new = shown ≡ Err Store → HasCleanDisk new → (k : Rules) (s : State) → IfClean (KeepsState k s) old → DiskFailed old.connection new.connection
 
 -- what a view shows of the states that the tables show, and whatever they show
 record Viewed {K D : Type 0} (g : Ghosts D) (P : State → Result (List ℕ) Refusal) (old : DeskView K D) (shown : Result (List ℕ) Refusal) (new : DeskView K D) : Type 0 where
   scheme : new.scheme ≡ old.scheme
   sees : Sees (λ s. GivesShown shown (P s)) (state g old.store) (state g new.store)
   text : IsViewText (shown_text shown)
+  reads : Reads (state g old.store).connection (state g new.store).connection
+  blame : BlamesShown shown (state g old.store) (state g new.store)
 
 fault_shown : (shown computed : Result (List ℕ) Refusal) (f : StoreFault) → shown ≡ Err (refusal_told f) → GivesShown shown computed
 fault_shown shown computed f is = subst (λ q. GivesShown q computed) (sym is) (by_fault f)
@@ -49,6 +56,16 @@ fault_shown shown computed f is = subst (λ q. GivesShown q computed) (sym is) (
 
 fault_text : (shown : Result (List ℕ) Refusal) (f : StoreFault) → shown ≡ Err (refusal_told f) → IsViewText (shown_text shown)
 fault_text shown f is = no_view (refusal_told f) (shown_text shown) (inr (told_fault f)) (ap shown_text is)
+
+-- the store told it
+fault_blamed : (A : Type 0) (shown : Result (List ℕ) Refusal) (f : StoreFault) (old new : Standing) → shown ≡ Err (refusal_told f) → Blames {A = A} old new (Err f) → BlamesShown shown old new
+fault_blamed A shown fault.Memory old new is blame store now k s was = cc
+fault_blamed A shown fault.Store old new is blame store now k s was = blame k s (λ before. (was before).tables) now refl
+
+-- the line of a plan is no fault, and want of memory is another one
+plan_blamed : (rows : VehicleRows) (plan : Option Plan) (shown : Result (List ℕ) Refusal) (old new : Standing) → ShowsPlan rows (Ok plan) shown → BlamesShown shown old new
+plan_blamed rows plan (Ok line) old new is store now k s was = cc
+plan_blamed rows plan (Err r) old new is store now k s was = cc
 
 plan_shown : (rows : VehicleRows) (plan due : Option Plan) (shown : Result (List ℕ) Refusal) → plan ≡ due → ShowsPlan rows (Ok plan) shown → GivesShown shown (Ok (rows_text due rows))
 plan_shown rows plan due (Ok line) same is = ap Ok (sym (is ∙ ap (λ p. rows_text p rows) same))
@@ -71,11 +88,15 @@ viewed_rows {K} {D} g rows old shown new it = by_found it.0 it.1 it.2
           (seen_by {E = StoreFault} (λ s. assigned_to s rows.vehicle.vehicle) (Ok plan) (state g old.store) (state g new.store) read.1 read.2)
           (λ s same. plan_shown rows plan (assigned_to s rows.vehicle.vehicle) shown same is);
       text = plan_text rows plan shown is;
+      reads = read.2.tables;
+      blame = plan_blamed rows plan shown (state g old.store) (state g new.store) is;
     }
     by_found (Err f) read is = record {
       scheme = read.0;
       sees = seen_in_fault _ (state g old.store) (state g new.store) read.2 (λ s. fault_shown shown _ f is);
       text = fault_text shown f is;
+      reads = read.2.tables;
+      blame = fault_blamed (Option Plan) shown f (state g old.store) (state g new.store) is read.3;
     }
 
 -- a vehicle
@@ -94,6 +115,9 @@ viewed_vehicle {K} {D} g law vehicle old shown new it = by_found it.0 it.1 it.2 
               (seen_by {E = StoreFault} (λ s. vehicle_rows s vehicle) (Ok (Some rows)) (state g old.store) (state g mid.store) read.1 read.2) next.sees
               (λ k s sound is h. subst (GivesShown shown) (rows_shown k s vehicle rows law sound is) h);
           text = next.text;
+          reads = reads_then read.2.tables next.reads;
+          blame = λ store now k s was.
+              failed_behind read.2.tables next.reads now (next.blame store now k s (seen_on k s (state g old.store) (state g mid.store) read.2 was));
         }
     by_found mid (Ok None) read rest =
         subst (λ (d : DeskView K D). Viewed g (λ s. shown_in s vehicle) old shown d) (sym rest.1)
@@ -103,6 +127,8 @@ viewed_vehicle {K} {D} g law vehicle old shown new it = by_found it.0 it.1 it.2 
           sees = sees_weaker (λ s. None ≡ vehicle_rows s vehicle) _ (state g old.store) (state g mid.store)
               (seen_by {E = StoreFault} (λ s. vehicle_rows s vehicle) (Ok None) (state g old.store) (state g mid.store) read.1 read.2) (λ s is. no_vehicle vehicle s is);
           text = no_view UnknownVehicle (refused_text UnknownVehicle) (inl refl) refl;
+          reads = read.2.tables;
+          blame = λ store now k s was. cc;
         }))
     by_found mid (Err f) read rest =
         subst (λ (d : DeskView K D). Viewed g (λ s. shown_in s vehicle) old shown d) (sym rest.1)
@@ -110,13 +136,15 @@ viewed_vehicle {K} {D} g law vehicle old shown new it = by_found it.0 it.1 it.2 
           scheme = read.0;
           sees = seen_in_fault _ (state g old.store) (state g mid.store) read.2 (λ s. fault_shown shown _ f rest.0);
           text = fault_text shown f rest.0;
+          reads = read.2.tables;
+          blame = fault_blamed (Option VehicleRows) shown f (state g old.store) (state g mid.store) rest.0 read.3;
         })
 
 -- as it is told
 view_told : (k : Rules) (vehicle : Name) (shown : Result (List ℕ) Refusal) (old new : Standing) → Sees (λ s. GivesShown shown (shown_in s vehicle)) old new
-    → AnswersLine (λ s. viewed s vehicle) k (shown_text shown) old new
-view_told k vehicle (Ok line) old new sees = told_view k vehicle line old new sees
-view_told k vehicle (Err r) old new sees = told_refusal k vehicle r (refused_text r) old new sees refl
+    → BlamesShown shown old new → AnswersLine (λ s. viewed s vehicle) k (shown_text shown) old new
+view_told k vehicle (Ok line) old new sees blame = told_view k vehicle line old new sees
+view_told k vehicle (Err r) old new sees blame = told_refusal k vehicle r (refused_text r) old new sees refl (λ store now s sound was. blame (ap Err store) now k s was)
 
 -- ---- lines
 
@@ -128,7 +156,7 @@ what_told rules g law old at (Call c) text new it =
 what_told rules g law old at (Show vehicle) text new it =
     let view = viewed_vehicle g law vehicle old it.0 new it.1 in
     subst (λ t. Prints rules g (λ k. IsTextOf k at (Show vehicle)) (λ k s. carried_out k s at (Show vehicle)) old t new) (sym it.2)
-    (view.scheme, view.text, view_told (rules old.scheme) vehicle it.0 (state g old.store) (state g new.store) view.sees)
+    (view.scheme, view.text, view_told (rules old.scheme) vehicle it.0 (state g old.store) (state g new.store) view.sees view.blame)
 
 -- the fault of a line, or want of memory
 pub fault_told : {S : Type 0} (rules : S → Rules) (gives : Gives S) (vehicles : Found S (Option VehicleRows)) (plans : Found S (Option Plan)) (desk : S) (line : List ℕ) (r : Refusal) (text : List ℕ)

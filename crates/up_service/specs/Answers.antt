@@ -1,4 +1,5 @@
--- What is told of an answer, the state that it leaves, and what a crash leaves then; or that memory or the database refused.
+-- What is told of an answer, the state that it leaves, and what a crash leaves then; or that memory or the database refused, and when
+-- that of the database may be told.
 use Rattle.std.specs.Prelude.{◌≡◌, ◌⊎◌, ℕ, List, Option, Some, None}
 use Rattle.sqlite.specs.Tree.{Trees}
 use Rattle.up_canon.specs.declared.refusal.Refusal.{Refusal}
@@ -9,7 +10,7 @@ use Rattle.up_machine.specs.declared.command.Command.{Command}
 use Rattle.up_machine.specs.Repeats.{serve}
 use Rattle.up_machine.specs.Sound.{IsSound}
 use Rattle.up_machine.specs.State.{State}
-use Rattle.up_desk.specs.Serving.{HoldsState, IsCommit}
+use Rattle.up_desk.specs.Serving.{DiskFailed, HoldsState, IsBlamed, IsCommit}
 use Rattle.up_desk.specs.Standing.{Standing, HasCleanDisk, IfClean, KeepsState, Survives, LeavesOnly}
 
 -- the text, the desk's answer if a command was called, and the state after it
@@ -32,6 +33,11 @@ abbrev pub IsCommitted : State → Option Answer → State → Type 0
 IsCommitted s (Some answer) next = IsCommit s answer next
 IsCommitted s None next = ⊥
 
+-- the disk counted a fault; or a command was called, and the database refuses to write what it comes to
+abbrev pub IsBlamedFor : Rules → State → Standing → Standing → Option Answer → State → Type 0
+IsBlamedFor k s old new (Some answer) next = IsBlamed k s old.connection new.connection (record { answer = answer; next = next })
+IsBlamedFor k s old new None next = DiskFailed old.connection new.connection
+
 -- the text tells, as refusals are told, that memory or the database refused
 abbrev pub IsFailed : (Refusal → List ℕ) → List ℕ → Type 0
 IsFailed tell text = (text ≡ tell Memory) ⊎ (text ≡ tell Store)
@@ -42,7 +48,8 @@ IsAnswerOrFailed tell a old text new = ((text ≡ a.text) × (new ≡ a.next)) �
 
 -- Of each state that the tables show, over a disk that has returned what was written so far: the text is its answer or tells that it
 -- failed, and the tables show the next state. Whatever is told, a crash leaves what it could leave before, or that which a command
--- makes of the state; where the answer is told and is a commit, that alone.
+-- makes of the state; where the answer is told and is a commit, that alone. A text other than the answer tells `Store` only where the
+-- disk or the database is to blame.
 pub record AnswersAs (tell : Refusal → List ℕ) (answer : State → Answered) (k : Rules) (text : List ℕ) (old new : Standing) : Type 0 where
   pub clean : HasCleanDisk new → HasCleanDisk old
   pub answered : HasCleanDisk new → (s : State) → IsSound k s → IfClean (KeepsState k s) old
@@ -50,3 +57,5 @@ pub record AnswersAs (tell : Refusal → List ℕ) (answer : State → Answered)
   pub crash : (s : State) → IsSound k s → IfClean (KeepsState k s) old → Survives old new (HoldsNext k (answer s).called (answer s).next)
   pub durable : (s : State) → IsSound k s → IfClean (KeepsState k s) old → text ≡ (answer s).text → IsCommitted s (answer s).called (answer s).next
       → IfClean (LeavesOnly (HoldsState k (answer s).next)) new
+  pub blame : HasCleanDisk new → (s : State) → IsSound k s → IfClean (KeepsState k s) old → (text ≡ (answer s).text → ⊥) → text ≡ tell Store
+      → IsBlamedFor k s old new (answer s).called (answer s).next

@@ -47,7 +47,7 @@ with_campaign_lines rows new name = campaign_lines (table.get (table.insert rows
 typed_closed : (rows : StateRows) (new : CampaignData) → AreTyped rows → IsClosing new rows → IsTypedCampaign new.name new
 typed_closed rows new typed fits =
     let was = typed.campaigns new.name fits.was fits.there in
-    subst (λ (c : CampaignData). IsTypedCampaign c.name c) (sym fits.is) (record { named = refl; reach = was.reach; items = was.items })
+    subst (λ (c : CampaignData). IsTypedCampaign c.name c) (sym fits.is) (record { named = refl; ident = was.ident; reach = was.reach; items = was.items; fits = was.fits })
 
 pub puts_closed : {A : Type 0} (r : Result A StoreFault) (new : CampaignData) (before after : Connected)
     → OnOk r ((rows_of : List ℕ → List Row) (reach items : List ℕ) (running : ℤ) → HasTables before → Lists 1 rows_of (before.now.trees campaign_table.tree) → rows_of new.name ≡ campaign_line new.name reach items running ∷ []

@@ -1,6 +1,6 @@
 -- What is read of the tables of images, campaigns and kept manifests.
 use Rattle.std.proofs.Common.{◌≡◌, ℕ, pos, List, [], ◌∷◌, Bool, true, false, Option, Some, None, Result, Ok, Err, IsTrue, map, filter, refl, sym, ap, subst, ◌∙◌, string_bytes, bytes_eq, arith}
-use Rattle.std.specs.Prelude.{◌==◌, if◌then◌else◌, option_map, option_and_then, IfOk, IfErr, IfSome, find}
+use Rattle.std.specs.Prelude.{◌==◌, if◌then◌else◌, option_map, option_and_then, IfOk, IfErr, find}
 use Rattle.std.specs.List.{AllByRecursion}
 use Rattle.std.specs.Option.{option_to_list}
 use Rattle.std.specs.Ordering.{is_eq}
@@ -39,7 +39,7 @@ use Rattle.up_store.specs.Found.{vehicle_found}
 use Rattle.up_store.specs.Lines.{image_lines, second_hash, sha512_lines, campaign_lines, kept_line}
 use Rattle.up_store.specs.Listing.{ListsRows}
 use Rattle.up_store.specs.Shown.{vehicle_read}
-use Rattle.up_store.specs.Typed.{IsTypedImage, IsTypedCampaign, IsTypedKept, IsValidKept, IsKeptValue}
+use Rattle.up_store.specs.Typed.{AreTyped, IsTypedImage, IsTypedCampaign, IsTypedKept}
 use Rattle.up_store.proofs.VehicleReads.{vehicle_in}
 
 -- ---- within a transaction
@@ -54,6 +54,10 @@ within_read rows before after reads within =
       mode = subst IsTrue (sym r.mode) within.mode;
       here = λ is_open. subst (IsWith up_schema (ListsRows rows)) (sym r.now_is) (within.here r.was_open);
     }
+
+-- the rows are typed
+pub typed_in : (rows : StateRows) (before after : Connected) → (HasTables before → Reads before after) → IsWithin up_schema (ListsRows rows) before → AreTyped rows
+typed_in rows before after reads within = (within.here (reads (has_tables rows before within)).was_open).rows.typed
 
 -- ---- the row of a name
 
@@ -343,14 +347,13 @@ kept_found (Ok x) rows vehicle counter before after found shown is read reads sh
     let f = kept_is rows vehicle counter before after found shown is reads shows within in
     read vehicle f.row f.typed f.same ∙ sym f.there
 
--- where that is of its type, it is read again
+-- it is read again
 pub kept_reads : {A : Type 0} (r : Result A StoreFault) (rows : StateRows) (vehicle : Name) (counter : ℕ) (before after : Connected) (found : Option KeptRow) (shown : KeptRow) → found ≡ Some shown
-    → ((n : Name) (row : Kept) → IsTypedKept n row → IsValidKept row → IsKept shown row → IfErr r (λ fault. fault ≡ Memory))
-    → (HasTables before → Reads before after) → ShowsKept vehicle counter found before → IsWithin up_schema (ListsRows rows) before → IfSome (kept_with vehicle counter rows) IsKeptValue → IfErr r (λ fault. fault ≡ Memory)
-kept_reads r rows vehicle counter before after found shown is read reads shows within fits =
+    → ((n : Name) (row : Kept) → IsTypedKept n row → IsKept shown row → IfErr r (λ fault. fault ≡ Memory))
+    → (HasTables before → Reads before after) → ShowsKept vehicle counter found before → IsWithin up_schema (ListsRows rows) before → IfErr r (λ fault. fault ≡ Memory)
+kept_reads r rows vehicle counter before after found shown is read reads shows within =
     let f = kept_is rows vehicle counter before after found shown is reads shows within in
-    let value : IsKeptValue f.row = subst (λ o. IfSome o IsKeptValue) f.there fits in
-    read vehicle f.row f.typed value.valid f.same
+    read vehicle f.row f.typed f.same
 
 pub kept_unknown : (rows : StateRows) (vehicle : Name) (counter : ℕ) (before after : Connected) (found : Option KeptRow) → found ≡ None → (HasTables before → Reads before after) → ShowsKept vehicle counter found before
     → IsWithin up_schema (ListsRows rows) before → None ≡ kept_with vehicle counter rows

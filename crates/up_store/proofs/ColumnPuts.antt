@@ -1,6 +1,6 @@
 -- Images, campaigns and kept manifests are put into the tables.
 use Rattle.std.proofs.Common.{◌≡◌, ℕ, pos, List, [], ◌∷◌, ◌++◌, Bool, true, false, Option, Some, None, Result, Ok, Err, OnOk, IsTrue, refl, sym, ap, ◌∙◌, string_bytes, bytes_eq, append-nil}
-use Rattle.std.specs.Prelude.{if◌then◌else◌}
+use Rattle.std.specs.Prelude.{if◌then◌else◌, IfSome, length}
 use Rattle.std.specs.FinMap as table
 use Rattle.sqlite.specs.declared.types.Value.TheVariants.{Int, Text, Blob}
 use Rattle.sqlite.specs.Order.{Row}
@@ -11,7 +11,6 @@ use Rattle.up_plan.specs.Campaigns.{CampaignData}
 use Rattle.up_plan.specs.Images.{ImageData}
 use Rattle.up_machine.specs.declared.decision.RegisterRows.{RegisterRows}
 use Rattle.up_machine.specs.declared.rows.Kept.{Kept}
-use Rattle.up_machine.proofs.Tables.{get_after-insert}
 use Rattle.up_rows.specs.Changes.{with_campaign_row, with_image_rows, with_register_rows}
 use Rattle.up_rows.specs.StateRows.{StateRows}
 use Rattle.up_tables.specs.declared.campaign.CampaignRow.{CampaignRow}
@@ -30,11 +29,11 @@ use Rattle.up_store.specs.Fitting.{IsNewCampaign, IsNewImage, IsSameRoot}
 use Rattle.up_store.specs.Lines.{image_lines, second_hash, sha512_lines, campaign_lines, kept_line}
 use Rattle.up_store.specs.Listing.{ListsRows, table_rows}
 use Rattle.up_store.specs.Puts.{with_image_line, with_sha512_line}
-use Rattle.up_store.specs.Typed.{AreTyped, IsTypedImage, IsTypedCampaign}
+use Rattle.up_store.specs.Typed.{IsTypedImage, IsTypedCampaign}
 use Rattle.up_store.proofs.Alike.{lists_as, alters_as}
 use Rattle.up_store.proofs.Inserted.{changed_inserted, row_inserted}
 use Rattle.up_store.proofs.RootPuts.{within_goes, goes_as, tables_within}
-use Rattle.up_store.proofs.TypedRows.{typed_campaign}
+use Rattle.up_store.proofs.TypedRows.{typed_campaign, typed_image}
 
 -- ---- a row of a new name, in a table of one row a name
 
@@ -59,19 +58,9 @@ puts_named (Ok done) listed lines values name x made_name row Fits next before a
 
 -- ---- images
 
-image_is : (made : ImageRow) (image : ImageData) → IsImage made image → image_row made ∷ [] ≡ image_lines (Some image)
+pub image_is : (made : ImageRow) (image : ImageData) → IsImage made image → image_row made ∷ [] ≡ image_lines (Some image)
 image_is made image is = λ i.
     (Text (is.file i) ∷ Int (pos (is.length i)) ∷ Blob (is.sha256 i) ∷ Text (is.hardware i) ∷ Int (pos (is.release i)) ∷ Text (is.needs i) ∷ Text (is.conflicts i) ∷ []) ∷ []
-
-typed_one : (rows : StateRows) (image : ImageData) → AreTyped rows → IsTypedImage image.file image → AreTyped (with_image rows image)
-typed_one rows image typed is = record {
-  roots = typed.roots;
-  images = λ file other found. get_after-insert IsTypedImage rows.images image.file file other image found is (typed.images file other);
-  campaigns = typed.campaigns;
-  vehicles = typed.vehicles;
-  kept = typed.kept;
-  retired = typed.retired;
-}
 
 pub puts_image : {A : Type 0} (r : Result A StoreFault) (image : ImageData) (made : ImageRow) (before after : Connected) → IsImage made image
     → OnOk r ((rows_of : List ℕ → List Row) → HasTables before → Lists 1 rows_of (before.now.trees image_table.tree) → Alters image_table (Lists 1 (with_row (string_bytes made.file) (image_row made) rows_of)) before after)
@@ -136,10 +125,11 @@ puts_no_sha512 image s is is_open rows within fits =
 -- both rows of an image
 pub puts_image_rows : {A : Type 0} (r : Result A StoreFault) (image : ImageData) (before mid after : Connected)
     → ((rows : TableRows) → IsWithin up_schema (ListsTables rows) before → Unit {0} → GoesOn up_schema (ListsTables (with_image_line image rows)) mid)
-    → OnOk r ((rows : TableRows) → IsWithin up_schema (ListsTables rows) mid → Unit {0} → GoesOn up_schema (ListsTables (with_sha512_line image rows)) after) → IsTypedImage image.file image → IsTrue before.is_open
+    → OnOk r ((rows : TableRows) → IsWithin up_schema (ListsTables rows) mid → Unit {0} → GoesOn up_schema (ListsTables (with_sha512_line image rows)) after)
+    → (IfSome image.sha512 (λ hash. length hash ≡ 64) → IsTypedImage image.file image) → OnOk r (IfSome image.sha512 (λ hash. length hash ≡ 64)) → IsTrue before.is_open
     → OnOk r ((rows : StateRows) → IsWithin up_schema (ListsRows rows) before → table.get rows.images image.file ≡ None → GoesOn up_schema (ListsRows (with_image rows image)) after)
-puts_image_rows (Err e) image before mid after first second typed was_open = tt
-puts_image_rows (Ok done) image before mid after first second typed was_open = λ rows within new.
+puts_image_rows (Err e) image before mid after first second typed hash was_open = tt
+puts_image_rows (Ok done) image before mid after first second typed hash was_open = λ rows within new.
     let here = within.here was_open in
     let one = first (table_rows rows) (tables_within rows before within) tt in
     let two = second (with_image_line image (table_rows rows)) (within_goes (ListsTables (with_image_line image (table_rows rows))) mid one) tt in
@@ -148,7 +138,7 @@ puts_image_rows (Ok done) image before mid after first second typed was_open = �
     goes_as two (record {
       last = here.rows.last;
       numbered = here.rows.numbered;
-      typed = typed_one rows image here.rows.typed typed;
+      typed = typed_image rows image here.rows.typed (typed hash);
       tables = record {
         meta = t.meta;
         role_keys = t.role_keys;
@@ -177,7 +167,7 @@ puts_both (Ok done) image new before mid after first second = λ rows within fit
 
 -- ---- campaigns
 
-campaign_is : (made : CampaignRow) (campaign : CampaignData) → IsCampaign made campaign → campaign_row made ∷ [] ≡ campaign_lines (Some campaign)
+pub campaign_is : (made : CampaignRow) (campaign : CampaignData) → IsCampaign made campaign → campaign_row made ∷ [] ≡ campaign_lines (Some campaign)
 campaign_is made campaign is = λ i. (Text (is.name i) ∷ Text (is.reach i) ∷ Text (is.items i) ∷ Int (yes_or_no (is.running i)) ∷ []) ∷ []
 
 pub puts_campaign : {A : Type 0} (r : Result A StoreFault) (new : CampaignData) (made : CampaignRow) (before after : Connected) → IsCampaign made new → IsTypedCampaign new.name new
@@ -190,7 +180,7 @@ puts_campaign r new made before after is typed puts was_open =
 
 -- ---- kept manifests
 
-kept_is : (made : KeptRow) (row : Kept) → IsKept made row → kept_row made ≡ kept_line row
+pub kept_is : (made : KeptRow) (row : Kept) → IsKept made row → kept_row made ≡ kept_line row
 kept_is made row is = λ i.
     Text (is.vehicle i) ∷ Int (pos (is.counter i)) ∷ Int (pos (is.version i)) ∷ Int (pos (is.moment i)) ∷ Int (pos (is.root i)) ∷ Text (is.signed i) ∷ Text (is.plan_text i) ∷ Text (is.reply i) ∷ []
 

@@ -17,6 +17,7 @@ use Rattle.up_roles.specs.declared.repository.Repository.TheVariants.{Director, 
 use Rattle.up_metadata.specs.declared.keys.KeySet.{KeySet}
 use Rattle.up_metadata.specs.declared.keys.RepoKeys.{RepoKeys}
 use Rattle.up_metadata.specs.declared.keys.RoleSecrets.{RoleSecrets}
+use Rattle.up_metadata.proofs.Lists.{each_weaker}
 use Rattle.up_machine.specs.declared.rows.Founding.{Founding}
 use Rattle.up_rows.specs.declared.root_row.RootRow.{RootRow}
 use Rattle.up_rows.specs.StateRows.{StateRows}
@@ -31,7 +32,7 @@ use Rattle.up_tables.specs.Forms.{role_key_places, role_key_row}
 use Rattle.up_tables.specs.Rows.{columns_at, has_number}
 use Rattle.up_store.specs.Lines.{founding_number, repository_word, role_lines, repository_lines, root_lines, roots_lines}
 use Rattle.up_store.specs.Shown.{is_key_of, secrets_of, threshold_of, IsRoleOf, AreKeysOf, IsFoundingOf, meta_told}
-use Rattle.up_store.specs.Typed.{HasKeys, HaveKeys, EachHasKeys}
+use Rattle.up_store.specs.Typed.{HasKeys, HaveKeys, EachHasKeys, IsTypedRoot}
 
 -- ---- rows of one root version
 
@@ -402,7 +403,8 @@ pub founding_told : (rows : StateRows) (row : MetaRow) (found : List RoleKeyRow)
 founding_told rows row found before after founded reads shows within numbers =
     let has : HasTables before = λ is_open. let here = within.here is_open in record { schema_is = here.schema_is; sound = here.sound; rows = tt } in
     let here = within.here (reads has).was_open in
-    go rows.founding refl here.rows.last (shows (roots_lines rows.roots) has here.rows.tables.role_keys) here.rows.typed.roots
+    go rows.founding refl here.rows.last (shows (roots_lines rows.roots) has here.rows.tables.role_keys)
+    (each_weaker IsTypedRoot (λ (r : RootRow). EachHasKeys r.keys) (λ r is. is.keys) rows.roots here.rows.typed.roots)
   where
     go : (o : Option Founding) → rows.founding ≡ o → IsOfLastRoot o rows.roots → map (columns_at role_key_places) (filter (has_number 0 (pos row.root)) (roots_lines rows.roots)) ≡ map role_key_row found
         → AllByRecursion (λ (r : RootRow). EachHasKeys r.keys) rows.roots → IsFoundingOf row found rows.founding

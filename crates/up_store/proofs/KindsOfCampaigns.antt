@@ -1,6 +1,5 @@
 -- Rows of campaigns have the columns that the statements show.
 use Rattle.std.proofs.Common.{◌≡◌, ℕ, pos, List, Option, Some, None, filter, refl, arith, true}
-use Rattle.std.specs.Prelude.{IfSome}
 use Rattle.std.specs.List.{AllByRecursion, list_all}
 use Rattle.std.specs.FinMap as table
 use Rattle.sqlite.specs.State.{State as Connected}
@@ -19,8 +18,8 @@ use Rattle.up_tables.specs.Statements.{HoldsBy}
 use Rattle.up_tables.specs.Tables.{campaign_table}
 use Rattle.up_store.specs.Lines.{campaign_lines}
 use Rattle.up_store.specs.Listing.{ListsRows}
-use Rattle.up_store.specs.Typed.{IsTypedCampaign, IsValidCampaign, AreValidCampaigns}
-use Rattle.up_store.proofs.Blamed.{all_filtered, if_some}
+use Rattle.up_store.specs.Typed.{IsTypedCampaign}
+use Rattle.up_store.proofs.Blamed.{all_filtered}
 use Rattle.up_store.proofs.KindsOfTexts.{ident, canonical}
 
 reach_words : (reach : Reach) → is_typed_reach reach ≡ true → IsWords (Text (reach_column reach))
@@ -31,21 +30,21 @@ items_words : (items : List Item) → list_all is_typed_item items ≡ true → 
 unfolding items_column
 items_words items h = canonical (items_data items) (items-canon items h)
 
-campaign_shows : (o : Option CampaignData) (name : Name) → ((campaign : CampaignData) → o ≡ Some campaign → IsTypedCampaign name campaign) → IfSome o IsValidCampaign → ShowsOne ShowsCampaign (campaign_lines o)
-campaign_shows None name typed valid = (omega arith, tt)
-campaign_shows (Some c) name typed valid =
+campaign_shows : (o : Option CampaignData) (name : Name) → ((campaign : CampaignData) → o ≡ Some campaign → IsTypedCampaign name campaign) → ShowsOne ShowsCampaign (campaign_lines o)
+campaign_shows None name typed = (omega arith, tt)
+campaign_shows (Some c) name typed =
     let t = typed c refl in
-    (omega arith, ((ident c.name valid.name, reach_words c.reach t.reach, items_words c.items t.items, (c.running, refl)), tt))
+    (omega arith, ((ident c.name t.ident, reach_words c.reach t.reach, items_words c.items t.items, (c.running, refl)), tt))
 
-pub holds_campaign : (name : Name) (s : Connected) (rows : StateRows) → ListsRows rows s.now.trees → IfSome (table.get rows.campaigns name) IsValidCampaign
+pub holds_campaign : (name : Name) (s : Connected) (rows : StateRows) → ListsRows rows s.now.trees
     → HoldsBy campaign_table 1 (λ rows_of. ShowsOne ShowsCampaign (rows_of name)) s
-holds_campaign name s rows lists fits = ((λ n. campaign_lines (table.get rows.campaigns n)), lists.tables.campaigns, campaign_shows (table.get rows.campaigns name) name (lists.typed.campaigns name) fits)
+holds_campaign name s rows lists = ((λ n. campaign_lines (table.get rows.campaigns n)), lists.tables.campaigns, campaign_shows (table.get rows.campaigns name) name (lists.typed.campaigns name))
 
-pub holds_running : (s : Connected) (rows : StateRows) → ListsRows rows s.now.trees → AreValidCampaigns rows.campaigns
+pub holds_running : (s : Connected) (rows : StateRows) → ListsRows rows s.now.trees
     → HoldsBy campaign_table 1 (λ rows_of. (name : List ℕ) → AllByRecursion ShowsCampaign (filter (has_number 3 (pos 1)) (rows_of name))) s
-holds_running s rows lists fits = (
+holds_running s rows lists = (
   (λ n. campaign_lines (table.get rows.campaigns n)),
   lists.tables.campaigns,
   (λ name. all_filtered ShowsCampaign (has_number 3 (pos 1)) (campaign_lines (table.get rows.campaigns name))
-      (campaign_shows (table.get rows.campaigns name) name (lists.typed.campaigns name) (if_some (table.get rows.campaigns name) (fits name))).1),
+      (campaign_shows (table.get rows.campaigns name) name (lists.typed.campaigns name)).1),
 )

@@ -1,17 +1,20 @@
 -- The row of `meta`, the rows of keys and those of files have the columns that the statements show.
-use Rattle.std.proofs.Common.{◌≡◌, ◌⊎◌, inl, inr, ℕ, pos, ◌+◌, ◌≤◌, ◌^◌, List, [], ◌∷◌, ◌++◌, Option, Some, None, Ok, Err, map, filter, codes, refl, sym, subst, arith, true, IsUtf8}
-use Rattle.std.specs.Prelude.{⊤, IfOk, IfErr, IfSome, Result, flat_map}
+use Rattle.std.proofs.Common.{◌≡◌, ◌⊎◌, inl, inr, ℕ, pos, ◌+◌, ◌-◌, ◌≤◌, ◌^◌, zero, suc, Bool, cond, length, bytes_eq, false, List, [], ◌∷◌, ◌++◌, Option, Some, None, Ok, Err, map, filter, codes, refl, sym, subst, arith, true, IsUtf8}
+use Rattle.std.specs.Prelude.{⊤, IfOk, IfErr, IfSome, Result, flat_map, find, slice_get, if◌then◌else◌, option_map}
+use Rattle.std.specs.Option.{option_or}
 use Rattle.std.specs.List.{AllByRecursion, enumerate_from}
 use Rattle.sqlite.specs.declared.types.Value.TheVariants.{Text}
 use Rattle.sqlite.specs.Order.{Row}
 use Rattle.sqlite.specs.State.{State as Connected}
 use Rattle.up_canon.specs.Names.{Name, is_file_name}
 use Rattle.up_metadata.specs.declared.keys.RepoKeys.{RepoKeys}
+use Rattle.up_metadata.specs.declared.role_files.RoleTexts.{RoleTexts}
 use Rattle.up_machine.specs.declared.rows.Founding.{Founding}
+use Rattle.up_machine.specs.Files.{File, texts_in}
 use Rattle.up_roles.specs.declared.repository.Repository.{Repository}
 use Rattle.up_roles.specs.declared.repository.Repository.TheVariants.{Director, Image}
 use Rattle.up_rows.specs.declared.root_row.RootRow.{RootRow}
-use Rattle.up_rows.specs.Lookups.{text_held}
+use Rattle.up_rows.specs.Lookups.{text_in, row_named, other_text, text_held}
 use Rattle.up_rows.specs.StateRows.{StateRows}
 use Rattle.up_tables.specs.declared.meta.MetaRow.{MetaRow}
 use Rattle.up_tables.specs.declared.role_key.RoleKeyRow.{RoleKeyRow}
@@ -27,7 +30,7 @@ use Rattle.up_store.specs.Connections.{BlamesWithin}
 use Rattle.up_store.specs.Lines.{founding_number, repository_word, repository_lines, root_lines, roots_lines, file_lines}
 use Rattle.up_store.specs.Listing.{ListsRows, files_lines}
 use Rattle.up_store.specs.Shown.{IsFoundingOf, meta_told}
-use Rattle.up_store.specs.Typed.{IsFoundingValue, IsValidFounding}
+use Rattle.up_store.specs.Typed.{AreTyped, AreTypedTexts, IsTypedFounding, IsTypedRoot}
 use Rattle.up_store.proofs.Blamed.{all_filtered, by_statement}
 use Rattle.up_store.proofs.FileReads.{own_lines}
 use Rattle.up_store.proofs.FoundingReads.{key_line, numbers_in}
@@ -53,16 +56,14 @@ row_blames fits old new found fault (inl none) finds blame = λ clean told is_op
 row_blames fits old new found fault (inr is) finds blame = by_statement fits _ old new (Err fault) (λ rows lists value. holds_meta old rows lists) (subst (λ r. BlamesDisk HasMeta old new r) is blame)
 
 -- its root version fits a column
-pub version_fits : (o : Option Founding) (root : ℕ) → root ≡ founding_number (λ (f : Founding). f.root) o → IfSome o IsFoundingValue → 2 ^ 63 ≤ root → ⊥
-version_fits None root is value large = omega (arith, is, large)
-version_fits (Some f) root is value large = omega (arith, is, large, value.root)
+pub version_fits : (o : Option Founding) (root : ℕ) → root ≡ founding_number (λ (f : Founding). f.root) o → IfSome o IsTypedFounding → 2 ^ 63 ≤ root → ⊥
+version_fits None root is typed large = omega (arith, is, large)
+version_fits (Some f) root is typed large = omega (arith, is, large, typed.root)
 
--- a founding that is a value of its type is read again
+-- a founding that is typed is read again
 pub founded_fault : {A : Type 0} (row : MetaRow) (found : List RoleKeyRow) (o : Option Founding) → IsFoundingOf row found o → (r : Result A StoreFault)
-    → ((told : Option Founding) (is : IsFoundingOf row found told) → IsValidFounding is.founding → IfErr r (λ fault. fault ≡ Memory)) → IfSome o IsFoundingValue → IfErr r (λ fault. fault ≡ Memory)
-founded_fault row found o told r fault value =
-    let valued : IsFoundingValue told.founding = subst (λ x. IfSome x IsFoundingValue) told.is value in
-    fault o told valued.valid
+    → ((told : Option Founding) (is : IsFoundingOf row found told) → IsTypedFounding is.founding → IfErr r (λ fault. fault ≡ Memory)) → IfSome o IsTypedFounding → IfErr r (λ fault. fault ≡ Memory)
+founded_fault row found o told r fault typed = fault o told (subst (λ x. IfSome x IsTypedFounding) told.is typed)
 
 -- ---- keys
 
@@ -95,7 +96,53 @@ file_shows : (repository : Repository) (name : Name) (o : Option (List ℕ)) →
 file_shows repository name None fits utf8 = (omega arith, tt)
 file_shows repository name (Some text) fits utf8 = (omega arith, ((word repository, file_name name fits, (text, refl, utf8)), tt))
 
-pub holds_file : (repository : Repository) (name : Name) → is_file_name name ≡ true → (s : Connected) (rows : StateRows) → ListsRows rows s.now.trees → IfSome (text_held rows repository name) IsUtf8
-    → HoldsOfFiles (λ rows_of. ShowsOne ShowsFile (rows_of (repository_word repository) name)) s
-holds_file repository name fits s rows lists utf8 =
-    (files_lines rows, lists.tables.files, subst (ShowsOne ShowsFile) (sym (own_lines rows repository name)) (file_shows repository name (text_held rows repository name) fits utf8))
+first_typed : {X : Type 0} (P : X → Type 0) (test : X → Bool) (xs : List X) → AllByRecursion P xs → IfSome (find test xs) P
+first_typed P test [] all = tt
+first_typed {X} P test (x ∷ xs) all = by_test (test x) (first_typed P test xs all.1)
+  where
+    by_test : (b : Bool) → IfSome (find test xs) P → IfSome (cond b (Some x) (find test xs)) P
+    by_test true rest = all.0
+    by_test false rest = rest
+
+one_typed : {X : Type 0} (P : X → Type 0) (xs : List X) (i : ℕ) → AllByRecursion P xs → IfSome (slice_get xs i) P
+one_typed P [] i all = tt
+one_typed P (x ∷ xs) zero all = all.0
+one_typed P (x ∷ xs) (suc i) all = one_typed P xs i all.1
+
+either_typed : {X : Type 0} (P : X → Type 0) (a b : Option X) → IfSome a P → IfSome b P → IfSome (option_or a b) P
+either_typed P None b first second = second
+either_typed P (Some x) b first second = first
+
+named_typed : (name : Name) (roots : List RootRow) → AllByRecursion IsTypedRoot roots → IfSome (row_named name roots) IsTypedRoot
+named_typed name roots all =
+    either_typed IsTypedRoot (if bytes_eq (codes "root.json") name then slice_get roots (length roots - 1) else None) (find (λ (row : RootRow). bytes_eq row.name name) roots) (by_test (bytes_eq (codes "root.json") name)) (first_typed IsTypedRoot (λ (row : RootRow). bytes_eq row.name name) roots all)
+  where
+    by_test : (b : Bool) → IfSome (if b then slice_get roots (length roots - 1) else None) IsTypedRoot
+    by_test true = one_typed IsTypedRoot roots (length roots - 1) all
+    by_test false = tt
+
+root_typed : (repository : Repository) (o : Option RootRow) → IfSome o IsTypedRoot → IfSome (option_map (text_in repository) o) IsUtf8
+root_typed repository None typed = tt
+root_typed Director (Some root) typed = typed.director
+root_typed Image (Some root) typed = typed.image
+
+texts_typed : (texts : Option RoleTexts) → IfSome texts AreTypedTexts → AllByRecursion (λ (f : File). IsUtf8 f.1) (texts_in texts)
+texts_typed None typed = tt
+texts_typed (Some texts) typed = (typed.targets, (typed.snapshot, (typed.timestamp, tt)))
+
+other_typed : (repository : Repository) (texts : Option RoleTexts) (name : Name) → IfSome texts AreTypedTexts → IfSome (other_text repository texts name) IsUtf8
+other_typed Director texts name typed = tt
+other_typed Image texts name typed = by_file (find (λ (f : File). bytes_eq f.0 name) (texts_in texts)) (first_typed (λ (f : File). IsUtf8 f.1) (λ (f : File). bytes_eq f.0 name) (texts_in texts) (texts_typed texts typed))
+  where
+    by_file : (o : Option File) → IfSome o (λ (f : File). IsUtf8 f.1) → IfSome (option_map (λ (f : File). f.1) o) IsUtf8
+    by_file None typed = tt
+    by_file (Some f) typed = typed
+
+-- a text that is held is in UTF-8
+held_typed : (rows : StateRows) (repository : Repository) (name : Name) → AreTyped rows → IfSome (text_held rows repository name) IsUtf8
+held_typed rows repository name typed =
+    either_typed IsUtf8 (option_map (text_in repository) (row_named name rows.roots)) (other_text repository rows.files name) (root_typed repository (row_named name rows.roots) (named_typed name rows.roots typed.roots)) (other_typed repository rows.files name typed.files)
+
+pub holds_file : (repository : Repository) (name : Name) → is_file_name name ≡ true → (s : Connected) (rows : StateRows) → ListsRows rows s.now.trees → HoldsOfFiles (λ rows_of. ShowsOne ShowsFile (rows_of (repository_word repository) name)) s
+holds_file repository name fits s rows lists =
+    (files_lines rows, lists.tables.files, subst (ShowsOne ShowsFile) (sym (own_lines rows repository name)) (file_shows repository name (text_held rows repository name) fits (held_typed rows repository name lists.typed)))

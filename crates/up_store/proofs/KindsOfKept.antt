@@ -1,6 +1,6 @@
 -- Rows of kept manifests have the columns that the statements show, and by the table's key a vehicle has one row at most with a counter.
-use Rattle.std.proofs.Common.{◌≡◌, inl, inr, ℕ, ℤ, pos, ◌≤◌, List, [], ◌∷◌, Bool, true, false, cond, ◌&&◌, Ok, Err, Result, filter, find, map, drop, length, IsTrue, refl, sym, ap, ap₂, subst, ◌∙◌, arith}
-use Rattle.std.specs.Prelude.{◌==◌, ⊤, IfSome}
+use Rattle.std.proofs.Common.{◌≡◌, inl, inr, ℕ, ℤ, pos, ◌≤◌, List, [], ◌∷◌, Bool, true, false, cond, ◌&&◌, Ok, Err, Result, filter, map, drop, length, IsTrue, refl, sym, ap, ap₂, subst, ◌∙◌, arith}
+use Rattle.std.specs.Prelude.{◌==◌, ⊤}
 use Rattle.std.specs.List.{AllByRecursion}
 use Rattle.std.specs.Ordering.{is_eq}
 use Rattle.std.specs.declared.cmp.Ordering.TheVariants.{Less}
@@ -26,7 +26,6 @@ use Rattle.up_columns.specs.Typed.{is_typed_plan}
 use Rattle.up_columns.proofs.PlansRead.{plan-canon}
 use Rattle.up_machine.specs.declared.rows.Kept.{Kept}
 use Rattle.up_plan.specs.declared.assigned.Plan.{Plan}
-use Rattle.up_rows.specs.Lookups.{kept_with}
 use Rattle.up_rows.specs.StateRows.{StateRows}
 use Rattle.up_tables.specs.Kinds.{IsWords, ShowsOne, ShowsKept}
 use Rattle.up_tables.specs.Rows.{bare, has_text, has_number}
@@ -41,7 +40,7 @@ use Rattle.up_tables.proofs.ReadLemmas.{bare_filter}
 use Rattle.up_store.specs.Connections.{BlamesWithin}
 use Rattle.up_store.specs.Lines.{kept_line}
 use Rattle.up_store.specs.Listing.{ListsRows}
-use Rattle.up_store.specs.Typed.{IsKeptValue, IsTypedKept}
+use Rattle.up_store.specs.Typed.{IsTypedKept}
 use Rattle.up_store.proofs.Blamed.{all_filtered}
 use Rattle.up_store.proofs.ColumnFound.{numbers_are}
 use Rattle.up_store.proofs.KindsOfTexts.{ident, canonical}
@@ -52,42 +51,24 @@ plan_words : (plan : Plan) → is_typed_plan plan ≡ true → IsWords (Text (pl
 unfolding plan_column
 plan_words plan h = canonical (plan_data plan) (plan-canon plan h)
 
-kept_shows : (vehicle : Name) (row : Kept) → IsTypedKept vehicle row → IsKeptValue row → ShowsKept (kept_line row)
-kept_shows vehicle row typed value = (
-  ident row.vehicle value.valid.vehicle,
+kept_shows : (vehicle : Name) (row : Kept) → IsTypedKept vehicle row → ShowsKept (kept_line row)
+kept_shows vehicle row typed = (
+  ident row.vehicle typed.ident,
   (row.counter, refl),
   (row.version, refl),
   (row.at, refl),
   (row.root, refl),
-  (row.signed, refl, value.signed),
+  (row.signed, refl, typed.signed),
   plan_words row.plan typed.plan,
-  (row.reply, refl, value.reply),
+  (row.reply, refl, typed.reply),
 )
+
+all_show : (vehicle : Name) (rows : List Kept) → AllByRecursion (IsTypedKept vehicle) rows → AllByRecursion ShowsKept (map kept_line rows)
+all_show vehicle [] typed = tt
+all_show vehicle (row ∷ rows) typed = (kept_shows vehicle row typed.0, all_show vehicle rows typed.1)
 
 abbrev with_counter : ℕ → List Kept → List Row
 with_counter counter rows = filter (has_number 1 (pos counter)) (map kept_line rows)
-
-none_more : (row : Row) (rows : List Row) → length (row ∷ rows) ≤ 1 → AllByRecursion ShowsKept rows
-none_more row [] few = tt
-none_more row (x ∷ rows) few = absurd (omega (arith, few))
-
--- where one at most has the counter, what it shows is what the first shows
-one_shows : (vehicle : Name) (counter : ℕ) (rows : List Kept) → AllByRecursion (IsTypedKept vehicle) rows → length (with_counter counter rows) ≤ 1 → IfSome (find (λ (k : Kept). k.counter == counter) rows) IsKeptValue
-    → AllByRecursion ShowsKept (with_counter counter rows)
-one_shows vehicle counter [] typed few value = tt
-one_shows vehicle counter (row ∷ rows) typed few value = by_test (row.counter == counter) refl (one_shows vehicle counter rows typed.1)
-  where
-    by_test : (b : Bool) → (row.counter == counter) ≡ b
-        → (length (with_counter counter rows) ≤ 1 → IfSome (find (λ (k : Kept). k.counter == counter) rows) IsKeptValue → AllByRecursion ShowsKept (with_counter counter rows))
-        → AllByRecursion ShowsKept (with_counter counter (row ∷ rows))
-    by_test true is rest =
-        let test = numbers_are row.counter counter ∙ is in
-        let first : IsKeptValue row = rw is at value in
-        let one : length (kept_line row ∷ with_counter counter rows) ≤ 1 = rw test at few in
-        rw test (kept_shows vehicle row typed.0 first, none_more (kept_line row) (with_counter counter rows) one)
-    by_test false is rest =
-        let test = numbers_are row.counter counter ∙ is in
-        rw test (rest (rw test at few) (rw is at value))
 
 -- ---- one at most has the counter
 
@@ -176,14 +157,14 @@ module _ (vehicle : Name) (counter : ℕ) (kept : List Kept) (db : Trees) (sound
       let same : bare counted ≡ with_counter counter kept = bare_filter (has_number 2 (pos counter)) (has_number 1 (pos counter)) test its ∙ ap (filter (has_number 1 (pos counter))) (lists.parts vehicle ∙ are) in
       omega (arith, ap length same, length-map counted (drop 1), few counted is_its up)
 
-pub holds_kept : (vehicle : Name) (counter : ℕ) (s : Connected) (rows : StateRows) → IsWith up_schema (ListsRows rows) s.now → IfSome (kept_with vehicle counter rows) IsKeptValue
+pub holds_kept : (vehicle : Name) (counter : ℕ) (s : Connected) (rows : StateRows) → IsWith up_schema (ListsRows rows) s.now
     → HoldsBy kept_table 1 (λ rows_of. ShowsOne ShowsKept (filter (has_number 1 (pos counter)) (rows_of vehicle))) s
-holds_kept vehicle counter s rows here value =
+holds_kept vehicle counter s rows here =
     let rows_of : List ℕ → List Row = λ n. map kept_line (rows.kept n) in
     let lists : Lists 1 rows_of (s.now.trees kept_table.tree) = here.rows.tables.kept in
     let sound : IsSound up_schema s.now.trees = subst (λ x. IsSound x s.now.trees) here.schema_is here.sound in
     let few = one_at_most vehicle counter (rows.kept vehicle) s.now.trees sound rows_of lists refl in
-    (rows_of, lists, (few, one_shows vehicle counter (rows.kept vehicle) (here.rows.typed.kept vehicle) few value))
+    (rows_of, lists, (few, all_filtered ShowsKept (has_number 1 (pos counter)) (map kept_line (rows.kept vehicle)) (all_show vehicle (rows.kept vehicle) (here.rows.typed.kept vehicle))))
 
 -- ---- a fault of a statement, whose table has the rows that it shows since its keys are obeyed
 

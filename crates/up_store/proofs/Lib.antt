@@ -5,6 +5,7 @@ pub mod Created
 pub mod Raised
 pub mod Closed
 pub mod Written
+pub mod WriteBlames
 pub mod VehicleReads
 pub mod Inserted
 pub mod EcuReads
@@ -19,6 +20,7 @@ pub mod ReplacePuts
 pub mod ColumnReads
 pub mod ColumnFound
 pub mod ColumnPuts
+pub mod PutBlames
 pub mod WholeTables
 pub mod ValuesWhere
 pub mod ColumnTables
@@ -36,3 +38,6 @@ pub mod KindsOfCampaigns
 pub mod KindsOfVehicles
 pub mod KindsOfKept
 pub mod KindsOfFounding
+pub mod WentOn
+pub mod RootBlames
+pub mod AcceptBlames

@@ -1,5 +1,5 @@
 -- A loop that makes rows one after another.
-use Rattle.std.proofs.Common.{◌≡◌, ◌+◌, ◌<◌, ℕ, zero, suc, List, [], ◌∷◌, ◌++◌, All, Some, length, map, drop, slice_get, get_or, refl, sym, ap, subst, ◌∙◌, arith, append_assoc}
+use Rattle.std.proofs.Common.{◌≡◌, ◌+◌, ◌<◌, ℕ, zero, suc, List, [], ◌∷◌, ◌++◌, All, Some, length, map, drop, take, slice_get, get_or, refl, sym, ap, subst, ◌∙◌, arith, append_assoc}
 use Rattle.std.specs.List.{AllByRecursion}
 use Rattle.std.proofs.lemmas.List.{map-append}
 use Rattle.std.proofs.lemmas.List.Elements.{All-append, All-cons}
@@ -23,6 +23,14 @@ pub each_at : {X : Type 0} (P : X → Type 0) (rows : List X) (i : ℕ) (row : X
 each_at P [] i row all h = absurd (let e = h in cc)
 each_at P (x ∷ xs) zero row all h = let same : x ≡ row = cc in subst P same all.0
 each_at P (x ∷ xs) (suc i) row all h = each_at P xs i row all.1 h
+
+-- what holds of the rows before a place and of the one there holds of those before the next
+pub each_more : {X : Type 0} (P : X → Type 0) (rows : List X) (i : ℕ) (row : X) → AllByRecursion P (take i rows) → slice_get rows i ≡ Some row → P row → AllByRecursion P (take (i + 1) rows)
+each_more P [] i row all h new = absurd (let e = h in cc)
+each_more P (x ∷ xs) zero row all h new = let same : x ≡ row = cc in (subst P (sym same) new, tt)
+each_more P (x ∷ xs) (suc i) row all h new =
+    let next : suc (i + 1) ≡ suc i + 1 = omega arith in
+    subst (λ (n : ℕ). AllByRecursion P (take n (x ∷ xs))) next (all.0, each_more P xs i row all.1 h new)
 
 pub each_in : {X : Type 0} (P : X → Type 0) (rows : List X) (i : ℕ) (row : X) → i < length rows → row ≡ get_or rows i row → AllByRecursion P rows → P row
 each_in P [] i row low is all = absurd (omega (arith, low))

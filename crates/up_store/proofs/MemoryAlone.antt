@@ -11,7 +11,7 @@ use Rattle.up_tables.specs.declared.values.StoreFault.{StoreFault}
 use Rattle.up_tables.specs.declared.values.StoreFault.TheVariants.{Memory, Store}
 use Rattle.up_store.specs.ColumnRows.{column_fault}
 use Rattle.up_store.specs.Shown.{installed_read}
-use Rattle.up_store.specs.Typed.{IsValidInstalled}
+use Rattle.up_store.specs.Typed.{IsTypedInstalled}
 
 -- want of memory is handed on
 pub memory_on : {A : Type 0} (result : Result A StoreFault) (fault : StoreFault) → IsErrAnd result (λ f. f ≡ fault) → fault ≡ Memory → IfErr result (λ f. f ≡ Memory)
@@ -66,7 +66,7 @@ read_again read x y gives is = let e : Gives (Ok y) (Ok x) = subst (λ r. Gives 
 
 -- an image that is installed
 pub reads_installed : (shown : Option InstalledShown) (hash : Option (List ℕ)) → MatchOption shown ⊥ (λ image. is_file_name (string_bytes image.file) ≡ true → image.length ≤ max_count → length image.sha256.items ≢ 32)
-    → IfSome (option_map (installed_read hash) shown) IsValidInstalled → ⊥
+    → IfSome (option_map (installed_read hash) shown) IsTypedInstalled → ⊥
 reads_installed None hash bad valid = bad
 reads_installed (Some i) hash bad valid = bad valid.file valid.size valid.sha256
 

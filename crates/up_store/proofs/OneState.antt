@@ -37,7 +37,8 @@ use Rattle.up_rows.proofs.Tables.{get_changed}
 use Rattle.up_tables.specs.Lines.{ecu_row, meta_row, yes_or_no}
 use Rattle.up_store.specs.Lines.{founding_number, image_lines, campaign_lines, vehicle_lines, ecu_lines, ecus_lines, kept_line, retired_lines, second_hash, sha512_lines}
 use Rattle.up_store.specs.Listing.{ListsRows, IsOfLastRoot}
-use Rattle.up_store.specs.Typed.{IsTypedImage, IsTypedCampaign, IsTypedKept}
+use Rattle.up_store.specs.Typed.{EachHasKeys, IsTypedImage, IsTypedCampaign, IsTypedKept, IsTypedRoot}
+use Rattle.up_metadata.proofs.Lists.{each_weaker}
 use Rattle.up_store.proofs.OneKeys.{one_keys}
 use Rattle.up_store.proofs.RootTexts.{rows_size, same_found, one_texts, one_roots}
 use Rattle.up_store.proofs.WholeTables.{same_table}
@@ -214,7 +215,7 @@ module _ (law : CanonIsRead) (moments : MomentsAreRead) (tell : RowsTellTheState
   sizes = sym (counted first.founding first.roots one.last) ∙ numbers.0 ∙ counted second.founding second.roots two.last
 
   keys : map (λ (r : RootRow). r.keys) first.roots ≡ map (λ (r : RootRow). r.keys) second.roots
-  keys = one_keys first.roots second.roots sizes one.typed.roots two.typed.roots (sym one.tables.role_keys.every ∙ two.tables.role_keys.every)
+  keys = one_keys first.roots second.roots sizes (each_weaker IsTypedRoot (λ (r : RootRow). EachHasKeys r.keys) (λ r is. is.keys) first.roots one.typed.roots) (each_weaker IsTypedRoot (λ (r : RootRow). EachHasKeys r.keys) (λ r is. is.keys) second.roots two.typed.roots) (sym one.tables.role_keys.every ∙ two.tables.role_keys.every)
 
   keys_told : (u : State) → IsSound k u → map (λ (r : RootRow). r.keys) (rows_of_state k u).roots ≡ map (λ (r : Root). r.keys) u.roots
   keys_told u is = sym (keys_again (rows_of_state k u).roots) ∙ ap (λ (x : State). map (λ (r : Root). r.keys) x.roots) (tell k u is)

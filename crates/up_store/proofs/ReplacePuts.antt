@@ -30,6 +30,7 @@ use Rattle.up_tables.proofs.ListedLemmas.{goes_on, lists_ecus, lists_retired}
 use Rattle.up_store.specs.Fitting.{IsReplacement}
 use Rattle.up_store.specs.Lines.{vehicle_lines, ecu_line, ecu_lines, ecus_lines, retired_lines}
 use Rattle.up_store.specs.Listing.{ListsRows, table_rows}
+use Rattle.up_store.specs.Typed.{IsTypedEcu}
 use Rattle.up_store.proofs.Alike.{lists_as, alters_as}
 use Rattle.up_store.proofs.Closed.{got}
 use Rattle.up_store.proofs.Inserted.{changed_inserted}
@@ -120,9 +121,9 @@ pub puts_replaced : {A : Type 0} (r : Result A StoreFault) (new : Replacement) (
     → ((rows_of : List ℕ → List Row) (was : EcuLine) → HasTables before → Lists 2 rows_of (before.now.trees ecu_table.tree) → Has (rows_of was.vehicle) (ecu_row was) → was.ecu ≡ new.old
     → Alters ecu_table (Lists 2 (with_replaced was (replaced_line new.ecu.ecu new.ecu.hardware new.ecu.public was) rows_of)) before mid)
     → OnOk r ((rows_of : List ℕ → List Row) → HasTables mid → Lists 2 rows_of (mid.now.trees retired_table.tree) → Alters retired_table (Lists 2 (with_row new.vehicle (retired_line new.old new.vehicle) rows_of)) mid after)
-    → OnOk r (IsTrue before.is_open) → OnOk r ((rows : StateRows) → IsWithin up_schema (ListsRows rows) before → IsReplacement new rows → GoesOn up_schema (ListsRows (with_replaced_rows rows new)) after)
-puts_replaced (Err e) new before mid after first second was_open = tt
-puts_replaced (Ok x) new before mid after first second was_open = λ rows within fits.
+    → IsTypedEcu (new_row new.ecu) → OnOk r (IsTrue before.is_open) → OnOk r ((rows : StateRows) → IsWithin up_schema (ListsRows rows) before → IsReplacement new rows → GoesOn up_schema (ListsRows (with_replaced_rows rows new)) after)
+puts_replaced (Err e) new before mid after first second typed was_open = tt
+puts_replaced (Ok x) new before mid after first second typed was_open = λ rows within fits.
     let here = within.here was_open in
     let name = new.vehicle in
     let was = fits.was in
@@ -148,7 +149,7 @@ puts_replaced (Ok x) new before mid after first second was_open = λ rows within
     goes_on retired_table _ (ListsRows next) mid after two (record {
       last = here.rows.last;
       numbered = here.rows.numbered;
-      typed = typed_replaced rows new here.rows.typed fits;
+      typed = typed_replaced rows new here.rows.typed typed fits;
       tables = record {
         meta = t.meta;
         role_keys = t.role_keys;

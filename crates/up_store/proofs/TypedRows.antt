@@ -18,32 +18,45 @@ use Rattle.up_machine.specs.declared.vehicle.Replacement.{Replacement}
 use Rattle.up_machine.specs.Rows.{new_row}
 use Rattle.up_machine.proofs.Tables.{get_new, get_same, get_after-insert}
 use Rattle.up_machine.proofs.Lists.{each_one_more}
-use Rattle.up_rows.specs.declared.root_row.RootRow.{RootRow}
-use Rattle.up_rows.specs.Changes.{new_root, with_root_rows, with_register_rows, with_image_rows, with_vehicle_rows, in_place_of_row, replaced_rows, with_replaced_rows, with_campaign_row, with_accepted_rows}
+use Rattle.up_rows.specs.Changes.{new_root, with_root_rows, with_register_rows, with_vehicle_rows, in_place_of_row, replaced_rows, with_replaced_rows, with_campaign_row, with_accepted_rows}
 use Rattle.up_rows.specs.SecondHashes.{TellsItsHash}
 use Rattle.up_rows.specs.StateRows.{StateRows}
+use Rattle.up_store.specs.ColumnRows.{with_image}
 use Rattle.up_store.specs.Fitting.{IsReplacement}
-use Rattle.up_store.specs.Typed.{AreTyped, EachHasKeys, IsTypedCampaign, IsTypedImage, IsTypedVehicle, IsTypedKept}
+use Rattle.up_store.specs.Typed.{AreTyped, AreTypedTexts, IsTypedCampaign, IsTypedEcu, IsTypedFounding, IsTypedImage, IsTypedKept, IsTypedRoot, IsTypedVehicle}
 
 -- ---- writes
 
-pub typed_root : (rows : StateRows) (new : RootRows) → AreTyped rows → EachHasKeys new.founding.keys → AreTyped (with_root_rows rows new)
-typed_root rows new typed keys = record {
-  roots = each_one_more (λ (root : RootRow). EachHasKeys root.keys) rows.roots (new_root new) typed.roots keys;
+pub typed_root : (rows : StateRows) (new : RootRows) → AreTyped rows → IsTypedFounding new.founding → IsTypedRoot (new_root new) → AreTypedTexts new.files → AreTyped (with_root_rows rows new)
+typed_root rows new typed founding root files = record {
+  founding = founding;
+  roots = each_one_more IsTypedRoot rows.roots (new_root new) typed.roots root;
   images = typed.images;
+  files = files;
   campaigns = typed.campaigns;
   vehicles = typed.vehicles;
   kept = typed.kept;
   retired = typed.retired;
 }
 
-pub typed_register : (rows : StateRows) (new : RegisterRows) → AreTyped rows → AreTyped (with_register_rows rows new)
-typed_register rows new typed = record { roots = typed.roots; images = typed.images; campaigns = typed.campaigns; vehicles = typed.vehicles; kept = typed.kept; retired = typed.retired }
+pub typed_register : (rows : StateRows) (new : RegisterRows) → AreTyped rows → IsTypedFounding new.founding → AreTypedTexts new.files → AreTyped (with_register_rows rows new)
+typed_register rows new typed founding files = record {
+  founding = founding;
+  roots = typed.roots;
+  images = typed.images;
+  files = files;
+  campaigns = typed.campaigns;
+  vehicles = typed.vehicles;
+  kept = typed.kept;
+  retired = typed.retired;
+}
 
-pub typed_image : (rows : StateRows) (image : ImageData) (new : RegisterRows) → AreTyped rows → IsTypedImage image.file image → AreTyped (with_image_rows rows image new)
-typed_image rows image new typed is = record {
+pub typed_image : (rows : StateRows) (image : ImageData) → AreTyped rows → IsTypedImage image.file image → AreTyped (with_image rows image)
+typed_image rows image typed is = record {
+  founding = typed.founding;
   roots = typed.roots;
   images = λ file other found. get_after-insert IsTypedImage rows.images image.file file other image found is (typed.images file other);
+  files = typed.files;
   campaigns = typed.campaigns;
   vehicles = typed.vehicles;
   kept = typed.kept;
@@ -52,8 +65,10 @@ typed_image rows image new typed is = record {
 
 pub typed_campaign : (rows : StateRows) (new : CampaignData) → AreTyped rows → IsTypedCampaign new.name new → AreTyped (with_campaign_row rows new)
 typed_campaign rows new typed is = record {
+  founding = typed.founding;
   roots = typed.roots;
   images = typed.images;
+  files = typed.files;
   campaigns = λ name other found. get_after-insert IsTypedCampaign rows.campaigns new.name name other new found is (typed.campaigns name other);
   vehicles = typed.vehicles;
   kept = typed.kept;
@@ -68,22 +83,26 @@ none_before t n q x none = by_test (eq_by_cmp (slice_cmp nat_cmp) q n) (sym (get
     by_test true h = cc
     by_test false h = h
 
-pub typed_vehicle : (rows : StateRows) (new : VehicleRows) → AreTyped rows → AllByRecursion TellsItsHash new.ecus → AreTyped (with_vehicle_rows rows new)
-typed_vehicle rows new typed tell = record {
+pub typed_vehicle : (rows : StateRows) (new : VehicleRows) → AreTyped rows → IsTypedVehicle new.vehicle.vehicle new → AreTyped (with_vehicle_rows rows new)
+typed_vehicle rows new typed is = record {
+  founding = typed.founding;
   roots = typed.roots;
   images = typed.images;
+  files = typed.files;
   campaigns = typed.campaigns;
-  vehicles = λ name other found. get_after-insert IsTypedVehicle rows.vehicles new.vehicle.vehicle name other new found (record { named = refl; tell = tell }) (typed.vehicles name other);
+  vehicles = λ name other found. get_after-insert IsTypedVehicle rows.vehicles new.vehicle.vehicle name other new found is (typed.vehicles name other);
   kept = typed.kept;
   retired = λ name none. typed.retired name (none_before rows.vehicles new.vehicle.vehicle name new none);
 }
 
-pub typed_accepted : (rows : StateRows) (new : AcceptedRows) → AreTyped rows → IsTypedKept new.kept.vehicle new.kept → AllByRecursion TellsItsHash new.vehicle.ecus → AreTyped (with_accepted_rows rows new)
-typed_accepted rows new typed is tell = record {
+pub typed_accepted : (rows : StateRows) (new : AcceptedRows) → AreTyped rows → IsTypedKept new.kept.vehicle new.kept → IsTypedVehicle new.vehicle.vehicle.vehicle new.vehicle → AreTyped (with_accepted_rows rows new)
+typed_accepted rows new typed is vehicle = record {
+  founding = typed.founding;
   roots = typed.roots;
   images = typed.images;
+  files = typed.files;
   campaigns = typed.campaigns;
-  vehicles = λ name other found. get_after-insert IsTypedVehicle rows.vehicles new.vehicle.vehicle.vehicle name other new.vehicle found (record { named = refl; tell = tell }) (typed.vehicles name other);
+  vehicles = λ name other found. get_after-insert IsTypedVehicle rows.vehicles new.vehicle.vehicle.vehicle name other new.vehicle found vehicle (typed.vehicles name other);
   kept = λ name. by_test name (bytes_eq new.kept.vehicle name) refl;
   retired = λ name none. typed.retired name (none_before rows.vehicles new.vehicle.vehicle.vehicle name new.vehicle none);
 }
@@ -92,24 +111,26 @@ typed_accepted rows new typed is tell = record {
     by_test name true same = each_one_more (IsTypedKept name) (rows.kept name) new.kept (typed.kept name) (subst (λ n. IsTypedKept n new.kept) ((bytes_decides new.kept.vehicle name).0 same) is)
     by_test name false same = typed.kept name
 
--- a new ECU has no report, and the others' rows stay
-replaced_tell : (old : Name) (new : NewEcu) (rows : List EcuRow) → AllByRecursion TellsItsHash rows → AllByRecursion TellsItsHash (map (in_place_of_row old (new_row new)) rows)
-replaced_tell old new [] tell = tt
-replaced_tell old new (row ∷ rows) tell = (by_test (bytes_eq row.ecu old), replaced_tell old new rows tell.1)
+-- what holds of the new ECU and of the others holds after a replacement
+replaced_each : (P : EcuRow → Type 0) (old : Name) (new : NewEcu) (rows : List EcuRow) → P (new_row new) → AllByRecursion P rows → AllByRecursion P (map (in_place_of_row old (new_row new)) rows)
+replaced_each P old new [] its all = tt
+replaced_each P old new (row ∷ rows) its all = (by_test (bytes_eq row.ecu old), replaced_each P old new rows its all.1)
   where
-    by_test : (b : Bool) → TellsItsHash (if b then new_row new else row)
-    by_test true = refl
-    by_test false = tell.0
+    by_test : (b : Bool) → P (if b then new_row new else row)
+    by_test true = its
+    by_test false = all.0
 
 -- the vehicles after a replacement in one that is there
 pub with_there : (rows : StateRows) (new : Replacement) (was : VehicleRows) → table.get rows.vehicles new.vehicle ≡ Some was
     → (with_replaced_rows rows new).vehicles ≡ table.insert rows.vehicles new.vehicle (replaced_rows new was)
 with_there rows new was there = ap (λ o. unwrap_or (option_map (λ (v : VehicleRows). table.insert rows.vehicles new.vehicle (replaced_rows new v)) o) rows.vehicles) there
 
-pub typed_replaced : (rows : StateRows) (new : Replacement) → AreTyped rows → IsReplacement new rows → AreTyped (with_replaced_rows rows new)
-typed_replaced rows new typed fits = record {
+pub typed_replaced : (rows : StateRows) (new : Replacement) → AreTyped rows → IsTypedEcu (new_row new.ecu) → IsReplacement new rows → AreTyped (with_replaced_rows rows new)
+typed_replaced rows new typed ecu fits = record {
+  founding = typed.founding;
   roots = typed.roots;
   images = typed.images;
+  files = typed.files;
   campaigns = typed.campaigns;
   vehicles = λ name other found. get_after-insert IsTypedVehicle rows.vehicles new.vehicle name other changed (sym (is name) ∙ found) own (typed.vehicles name other);
   kept = typed.kept;
@@ -120,7 +141,9 @@ typed_replaced rows new typed fits = record {
     changed = replaced_rows new fits.was
 
     own : IsTypedVehicle new.vehicle changed
-    own = let was = typed.vehicles new.vehicle fits.was fits.there in record { named = was.named; tell = replaced_tell new.old new.ecu fits.was.ecus was.tell }
+    own =
+        let was = typed.vehicles new.vehicle fits.was fits.there in
+        record { named = was.named; row = was.row; ecus = replaced_each IsTypedEcu new.old new.ecu fits.was.ecus ecu was.ecus; tell = replaced_each TellsItsHash new.old new.ecu fits.was.ecus refl was.tell }
 
     is : (name : Name) → table.get (with_replaced_rows rows new).vehicles name ≡ table.get (table.insert rows.vehicles new.vehicle changed) name
     is name = ap (λ t. table.get t name) (with_there rows new fits.was fits.there)

@@ -29,6 +29,7 @@ use Rattle.up_store.specs.Fitting.{IsNewVehicle}
 use Rattle.up_store.specs.Lines.{vehicle_lines, ecu_line, ecu_lines, ecus_lines}
 use Rattle.up_store.specs.Listing.{ListsRows, table_rows}
 use Rattle.up_store.specs.Shown.{vehicle_read, ecu_read, installed_read, reported_sha512}
+use Rattle.up_store.specs.Typed.{IsTypedEcu, IsTypedVehicleRow}
 use Rattle.up_store.proofs.Alike.{lists_as, alters_as}
 use Rattle.up_store.proofs.Inserted.{changed_inserted, row_inserted}
 use Rattle.up_store.proofs.TypedRows.{typed_vehicle}
@@ -75,12 +76,13 @@ vehicle_is made row same = ap (λ (r : VehicleRow). vehicle_line r.vehicle r.pri
 -- ---- what is put in
 
 pub puts_vehicle : {A : Type 0} (r : Result A StoreFault) (new : VehicleRows) (vehicle : VehicleShown) (ecus : List EcuShown) (before mid after : Connected) → vehicle_read vehicle ≡ new.vehicle → (AllByRecursion TellsItsHash new.ecus → map ecu_read ecus ≡ new.ecus)
+    → IsTypedVehicleRow new.vehicle → AllByRecursion IsTypedEcu new.ecus
     → ((rows_of : List ℕ → List Row) → HasTables before → Lists 1 rows_of (before.now.trees vehicle_table.tree) → Alters vehicle_table (Lists 1 (with_row (string_bytes vehicle.vehicle) (vehicle_row vehicle) rows_of)) before mid)
     → OnOk r ((rows_of : List ℕ → List Row) → HasTables mid → Lists 2 rows_of (mid.now.trees ecu_table.tree)
     → Alters ecu_table (Lists 2 (changed_at new.vehicle.vehicle (λ were. were ++ map ecu_row (lines new.vehicle.vehicle 0 ecus)) rows_of)) mid after)
     → IsTrue before.is_open → OnOk r ((rows : StateRows) → IsWithin up_schema (ListsRows rows) before → IsNewVehicle new rows → GoesOn up_schema (ListsRows (with_vehicle_rows rows new)) after)
-puts_vehicle (Err e) new vehicle ecus before mid after same each first second was_open = tt
-puts_vehicle (Ok done) new vehicle ecus before mid after same each first second was_open = λ rows within fits.
+puts_vehicle (Err e) new vehicle ecus before mid after same each typed ecus_typed first second was_open = tt
+puts_vehicle (Ok done) new vehicle ecus before mid after same each typed ecus_typed first second was_open = λ rows within fits.
     let here = within.here was_open in
     let name = new.vehicle.vehicle in
     let own : string_bytes vehicle.vehicle ≡ name = ap (λ (r : VehicleRow). r.vehicle) same in
@@ -100,6 +102,6 @@ puts_vehicle (Ok done) new vehicle ecus before mid after same each first second 
     goes_on ecu_table _ (ListsRows (with_vehicle_rows rows new)) mid after two (record {
       last = here.rows.last;
       numbered = here.rows.numbered;
-      typed = typed_vehicle rows new here.rows.typed fits.tell;
+      typed = typed_vehicle rows new here.rows.typed (record { named = refl; row = typed; ecus = ecus_typed; tell = fits.tell });
       tables = lists_ecus (record (table_rows rows) { vehicles = vehicles }) ecu_rows mid after lists two;
     })

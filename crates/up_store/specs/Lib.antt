@@ -4,6 +4,7 @@ pub mod Listing
 pub mod Connections
 pub mod Fitting
 pub mod Puts
+pub mod Writes
 pub mod Found
 pub mod ColumnRows
 pub mod Shown

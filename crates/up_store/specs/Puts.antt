@@ -1,16 +1,22 @@
 -- What the parts of a write change of the rows of the tables.
 use Rattle.std.specs.Prelude.{◌≡◌, ℕ, ◌≤◌, ◌++◌, List, [], ◌∷◌, Some, length, map}
 use Rattle.std.specs.List.{AllByRecursion}
+use Rattle.sqlite.specs.State.{State as Connected}
 use Rattle.up_canon.specs.Names.{Name}
 use Rattle.up_plan.specs.Images.{ImageData}
+use Rattle.up_machine.specs.declared.decision.AcceptedRows.{AcceptedRows}
 use Rattle.up_machine.specs.declared.rows.Founding.{Founding}
 use Rattle.up_machine.specs.declared.rows.VehicleRows.{VehicleRows}
 use Rattle.up_rows.specs.SecondHashes.{TellsItsHash}
+use Rattle.up_rows.specs.StateRows.{StateRows}
 use Rattle.up_tables.specs.Lines.{EcuLine, ecu_row, vehicle_line, AreSameEcus, AreDistinct, set_ecus}
-use Rattle.up_tables.specs.Listed.{TableRows}
+use Rattle.up_tables.specs.Listed.{TableRows, ListsTables}
 use Rattle.up_tables.specs.Rows.{changed_at, with_only}
 use Rattle.up_roles.specs.declared.repository.Repository.TheVariants.{Director, Image}
+use Rattle.up_store.specs.Fitting.{IsRecorded}
 use Rattle.up_store.specs.Lines.{FileLine, repository_lines, set_lines, image_lines, sha512_lines, ecu_lines}
+use Rattle.up_store.specs.Listing.{ListsRows}
+use Rattle.up_store.specs.Writes.{FitsAccepted, FitsVehicle}
 
 -- the founding's numbers
 abbrev pub with_founding : Founding → TableRows → TableRows
@@ -56,3 +62,18 @@ with_reported new rows = record rows {
   vehicles = with_only new.vehicle.vehicle (vehicle_line new.vehicle.vehicle new.vehicle.primary new.vehicle.version new.vehicle.last) rows.vehicles;
   ecus = set_ecus new.vehicle.vehicle (ecu_lines new.vehicle.vehicle 0 new.ecus) rows.ecus;
 }
+
+-- what the tables list fits such rows, with the same Primary, and the numbers fit their columns
+pub record MayReport (new : VehicleRows) (s : Connected) : Type 0 where
+  pub rows : TableRows
+  pub lists : ListsTables rows s.now.trees
+  pub reported : IsReported new rows
+  pub primary : reported.primary ≡ new.vehicle.primary
+  pub fits : FitsVehicle new
+
+-- what the tables list fits an accepted manifest, and its numbers fit their columns
+pub record MayAccept (new : AcceptedRows) (s : Connected) : Type 0 where
+  pub rows : StateRows
+  pub lists : ListsRows rows s.now.trees
+  pub recorded : IsRecorded new rows
+  pub fits : FitsAccepted new

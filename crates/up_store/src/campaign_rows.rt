@@ -9,7 +9,7 @@ ghost use Rattle.up_plan.specs.Planning.{reaches as is_reached};
 ghost use Rattle.up_plan.specs.declared.campaign.Reach.{Reach as ReachData};
 ghost use Rattle.up_store.specs.ColumnRows.{IsCampaign, AreRunning};
 ghost use Rattle.up_store.specs.Found.{values_where};
-ghost use Rattle.up_store.specs.Typed.{IsTypedCampaign, IsValidCampaign, AreValidCampaigns};
+ghost use Rattle.up_store.specs.Typed.{IsTypedCampaign};
 ghost use Rattle.up_tables.specs.declared.values.StoreFault.TheVariants.{Memory, Store};
 ghost use Rattle.up_store.specs.Shown.{campaign_made};
 
@@ -29,8 +29,8 @@ use up_tables::campaign::CampaignRow;
 pub fn read_campaign(alloc: Global, shown: &CampaignRow) -> Result<Campaign, StoreFault>
     ensures same { IfOk result (λ read. (name : Name) (campaign : CampaignData)
         → IsTypedCampaign name campaign → IsCampaign shown.now campaign → read ≡ campaign) }
-    ensures fault { (name : Name) (campaign : CampaignData) → IsTypedCampaign name campaign → IsValidCampaign campaign
-        → IsCampaign shown.now campaign → IfErr result (λ fault. fault ≡ Memory) }
+    ensures fault { (name : Name) (campaign : CampaignData) → IsTypedCampaign name campaign → IsCampaign shown.now campaign
+        → IfErr result (λ fault. fault ≡ Memory) }
 {
     let reach = read_its_reach(alloc, shown)?;
     read_reached(alloc, shown, reach)
@@ -40,8 +40,8 @@ pub fn read_campaign(alloc: Global, shown: &CampaignRow) -> Result<Campaign, Sto
 fn read_reached(alloc: Global, shown: &CampaignRow, reach: Reach) -> Result<Campaign, StoreFault>
     ensures same { IfOk result (λ read. (name : Name) (campaign : CampaignData)
         → IsTypedCampaign name campaign → IsCampaign shown.now campaign → reach ≡ campaign.reach → read ≡ campaign) }
-    ensures fault { (name : Name) (campaign : CampaignData) → IsTypedCampaign name campaign → IsValidCampaign campaign
-        → IsCampaign shown.now campaign → reach ≡ campaign.reach → IfErr result (λ fault. fault ≡ Memory) }
+    ensures fault { (name : Name) (campaign : CampaignData) → IsTypedCampaign name campaign → IsCampaign shown.now campaign
+        → reach ≡ campaign.reach → IfErr result (λ fault. fault ≡ Memory) }
 {
     let text = shown.name.as_str().to_string(alloc)?;
     let name = ident_in(text)?;
@@ -77,8 +77,7 @@ pub fn read_reaching(
 ) -> Result<Table<Campaign>, StoreFault>
     ensures same { IfOk result (λ read. (campaigns : Named CampaignData) → AreRunning shown.now campaigns
         → read ≡ values_where (λ c. c.running && is_reached vehicle.now c.reach) campaigns) }
-    ensures fault { (campaigns : Named CampaignData) → AreRunning shown.now campaigns → AreValidCampaigns campaigns
-        → IfErr result (λ fault. fault ≡ Memory) }
+    ensures fault { (campaigns : Named CampaignData) → AreRunning shown.now campaigns → IfErr result (λ fault. fault ≡ Memory) }
 {
     let mut reaching = Table::new(alloc);
     let quoted = quoted_name(alloc, vehicle)?;
@@ -109,8 +108,8 @@ fn add_reaching(
     requires { quoted.now ≡ quoted_text vehicle.now }
     ensures same { OnOk result ((name : Name) (campaign : CampaignData) → IsTypedCampaign name campaign → IsCampaign shown.now campaign
         → reaching.new ≡ (if is_reached vehicle.now campaign.reach then table.insert reaching.old campaign.name campaign else reaching.old)) }
-    ensures fault { (name : Name) (campaign : CampaignData) → IsTypedCampaign name campaign → IsValidCampaign campaign
-        → IsCampaign shown.now campaign → IfErr result (λ fault. fault ≡ Memory) }
+    ensures fault { (name : Name) (campaign : CampaignData) → IsTypedCampaign name campaign → IsCampaign shown.now campaign
+        → IfErr result (λ fault. fault ≡ Memory) }
 {
     if !may_reach(shown.reach.as_str(), quoted) {
         return Ok(());
@@ -141,8 +140,8 @@ fn put_reached(
     ensures same { OnOk result ((name : Name) (campaign : CampaignData)
         → IsTypedCampaign name campaign → IsCampaign shown.now campaign → reach ≡ campaign.reach
         → reaching.new ≡ table.insert reaching.old campaign.name campaign) }
-    ensures fault { (name : Name) (campaign : CampaignData) → IsTypedCampaign name campaign → IsValidCampaign campaign
-        → IsCampaign shown.now campaign → reach ≡ campaign.reach → IfErr result (λ fault. fault ≡ Memory) }
+    ensures fault { (name : Name) (campaign : CampaignData) → IsTypedCampaign name campaign → IsCampaign shown.now campaign
+        → reach ≡ campaign.reach → IfErr result (λ fault. fault ≡ Memory) }
 {
     let campaign = read_reached(alloc, shown, reach)?;
     let name = name_of(alloc, campaign.name.text())?;
@@ -164,8 +163,7 @@ fn read_its_reach(alloc: Global, shown: &CampaignRow) -> Result<Reach, StoreFaul
 pub fn read_running(alloc: Global, shown: &[CampaignRow]) -> Result<Table<Campaign>, StoreFault>
     ensures same { IfOk result (λ read. (campaigns : Named CampaignData) → AreRunning shown.now campaigns
         → read ≡ values_where (λ c. c.running) campaigns) }
-    ensures fault { (campaigns : Named CampaignData) → AreRunning shown.now campaigns → AreValidCampaigns campaigns
-        → IfErr result (λ fault. fault ≡ Memory) }
+    ensures fault { (campaigns : Named CampaignData) → AreRunning shown.now campaigns → IfErr result (λ fault. fault ≡ Memory) }
 {
     let mut running = Table::new(alloc);
     for row in shown {
@@ -182,8 +180,8 @@ fn add_running(
 ) -> Result<(), StoreFault>
     ensures same { OnOk result ((name : Name) (campaign : CampaignData) → IsTypedCampaign name campaign → IsCampaign shown.now campaign
         → running.new ≡ table.insert running.old campaign.name campaign) }
-    ensures fault { (name : Name) (campaign : CampaignData) → IsTypedCampaign name campaign → IsValidCampaign campaign
-        → IsCampaign shown.now campaign → IfErr result (λ fault. fault ≡ Memory) }
+    ensures fault { (name : Name) (campaign : CampaignData) → IsTypedCampaign name campaign → IsCampaign shown.now campaign
+        → IfErr result (λ fault. fault ≡ Memory) }
 {
     let campaign = read_campaign(alloc, shown)?;
     let name = name_of(alloc, campaign.name.text())?;

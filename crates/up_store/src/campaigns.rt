@@ -1,5 +1,5 @@
 //! Campaigns.
-ghost use Rattle.std.specs.Prelude.{◌≡◌, Some, IfOk, IfErr, IfSome, OnErr};
+ghost use Rattle.std.specs.Prelude.{◌≡◌, ⊤, Some, IfOk, IfErr, OnErr};
 ghost use Rattle.sqlite.specs.Held.{state};
 ghost use Rattle.sqlite.specs.State.{HasCleanDisk, Survives};
 ghost use Rattle.std.specs.FinMap as table;
@@ -7,13 +7,15 @@ ghost use Rattle.up_canon.specs.Names.{Name};
 ghost use Rattle.up_plan.specs.Campaigns.{CampaignData};
 ghost use Rattle.up_rows.specs.Changes.{with_campaign_row};
 ghost use Rattle.up_store.specs.ColumnRows.{IsCampaign};
-ghost use Rattle.up_store.specs.Typed.{IsTypedCampaign, IsValidCampaign, AreValidCampaigns};
+ghost use Rattle.up_store.specs.Typed.{IsTypedCampaign};
 ghost use Rattle.up_tables.specs.declared.values.StoreFault.TheVariants.{Memory};
 ghost use Rattle.up_store.specs.Fitting.{IsNewCampaign, IsClosing};
 ghost use Rattle.up_store.specs.Found.{campaigns_found, running_found};
 ghost use Rattle.up_tables.specs.Stands.{IfClean, IsAsCommitted, IsInside};
 ghost use Rattle.up_tables.specs.Statements.{IsStep, IsOpenStep};
-ghost use Rattle.up_store.specs.Connections.{NeedsOpen, Answers, Blames, BlamesWithin, FindsRows, PutsRows, TakesRows, CommitsRows, SparesRows};
+ghost use Rattle.up_tables.specs.Tried.{BlamesOne, Ran};
+ghost use Rattle.up_store.specs.Writes.{campaign_writes, close_writes};
+ghost use Rattle.up_store.specs.Connections.{NeedsOpen, Answers, Blames, BlamesWithin, BlamesWrite, FindsRows, PutsRows, RanWrite, TakesRows, CommitsRows, SparesRows};
 
 use crate::campaign_rows::{make_campaign, read_campaign, read_reaching, read_running};
 use crate::store::{Store, StoreFault, commit};
@@ -34,7 +36,7 @@ impl<D: Alter> Store<D> {
         ensures kept { IfClean (IsAsCommitted (state D.Store self.old)) (state D.Store self.new) }
         ensures crash { Survives (state D.Store self.old) (state D.Store self.new) (λ _. ⊥) }
         ensures open { NeedsOpen (state D.Store self.old) (state D.Store self.new) result }
-        ensures blame { Blames (λ rows. IfSome (table.get rows.campaigns name.now) IsValidCampaign) (state D.Store self.old) (state D.Store self.new) result }
+        ensures blame { Blames (state D.Store self.old) (state D.Store self.new) result }
     {
         let mut tx = self.conn.transaction();
         find_campaign(&mut tx, alloc, name)
@@ -50,7 +52,7 @@ impl<D: Alter> Store<D> {
         ensures kept { IfClean (IsAsCommitted (state D.Store self.old)) (state D.Store self.new) }
         ensures crash { Survives (state D.Store self.old) (state D.Store self.new) (λ _. ⊥) }
         ensures open { NeedsOpen (state D.Store self.old) (state D.Store self.new) result }
-        ensures blame { Blames (λ rows. AreValidCampaigns rows.campaigns) (state D.Store self.old) (state D.Store self.new) result }
+        ensures blame { Blames (state D.Store self.old) (state D.Store self.new) result }
     {
         let mut tx = self.conn.transaction();
         find_campaigns(&mut tx, alloc, vehicle)
@@ -62,7 +64,7 @@ impl<D: Alter> Store<D> {
         ensures kept { IfClean (IsAsCommitted (state D.Store self.old)) (state D.Store self.new) }
         ensures crash { Survives (state D.Store self.old) (state D.Store self.new) (λ _. ⊥) }
         ensures open { NeedsOpen (state D.Store self.old) (state D.Store self.new) result }
-        ensures blame { Blames (λ rows. AreValidCampaigns rows.campaigns) (state D.Store self.old) (state D.Store self.new) result }
+        ensures blame { Blames (state D.Store self.old) (state D.Store self.new) result }
     {
         let mut tx = self.conn.transaction();
         find_running(&mut tx, alloc)
@@ -79,6 +81,8 @@ impl<D: Alter> Store<D> {
             (state D.Store self.old) (state D.Store self.new) }
         ensures clean { HasCleanDisk (state D.Store self.new) → HasCleanDisk (state D.Store self.old) }
         ensures open { NeedsOpen (state D.Store self.old) (state D.Store self.new) result }
+        ensures ran { RanWrite (campaign_writes new.now) (state D.Store self.old) (state D.Store self.new) result }
+        ensures blame { BlamesWrite (campaign_writes new.now) (λ _. ⊤) (state D.Store self.old) (state D.Store self.new) result }
     {
         let mut tx = self.conn.transaction();
         if let Err(fault) = put_campaign(&mut tx, alloc, new) {
@@ -98,6 +102,8 @@ impl<D: Alter> Store<D> {
             (state D.Store self.old) (state D.Store self.new) }
         ensures clean { HasCleanDisk (state D.Store self.new) → HasCleanDisk (state D.Store self.old) }
         ensures open { NeedsOpen (state D.Store self.old) (state D.Store self.new) result }
+        ensures ran { RanWrite (close_writes closed.now) (state D.Store self.old) (state D.Store self.new) result }
+        ensures blame { BlamesWrite (close_writes closed.now) (λ _. ⊤) (state D.Store self.old) (state D.Store self.new) result }
     {
         let _ = alloc;
         let mut tx = self.conn.transaction();
@@ -113,6 +119,8 @@ fn put_closed<D: Alter>(tx: &mut Transaction<'_, D>, closed: &Campaign) -> Resul
     requires mode { IfClean IsInside (state D.Store tx.old.conn.now) }
     ensures put { PutsRows (IsClosing closed.now) (λ rows. with_campaign_row rows closed.now)
         (state D.Store tx.old.conn.now) (state D.Store tx.new.conn.now) result }
+    ensures ran { Ran (close_writes closed.now) (state D.Store tx.old.conn.now) (state D.Store tx.new.conn.now) result }
+    ensures blame { BlamesOne (close_writes closed.now) (λ _. ⊤) (state D.Store tx.old.conn.now) (state D.Store tx.new.conn.now) result }
     ensures step { IsOpenStep D.Store tx.old.conn tx.new.conn result }
 {
     close_campaign(tx, closed.name.text())
@@ -127,8 +135,7 @@ fn find_campaign<D: Alter>(
     requires mode { IfClean IsInside (state D.Store tx.old.conn.now) }
     ensures found { FindsRows (λ rows. table.get rows.campaigns name.now) (state D.Store tx.old.conn.now) (state D.Store tx.new.conn.now) result }
     ensures open { NeedsOpen (state D.Store tx.old.conn.now) (state D.Store tx.new.conn.now) result }
-    ensures blame { BlamesWithin (λ rows. IfSome (table.get rows.campaigns name.now) IsValidCampaign)
-        (state D.Store tx.old.conn.now) (state D.Store tx.new.conn.now) result }
+    ensures blame { BlamesWithin (λ _. ⊤) (state D.Store tx.old.conn.now) (state D.Store tx.new.conn.now) result }
     ensures step { IsStep D.Store tx.old.conn tx.new.conn }
 {
     match campaign_shown(tx, name.text()) {
@@ -142,8 +149,8 @@ fn find_campaign<D: Alter>(
 fn some_campaign(alloc: Global, shown: &CampaignRow) -> Result<Option<Campaign>, StoreFault>
     ensures same { IfOk result (λ read. (name : Name) (campaign : CampaignData)
         → IsTypedCampaign name campaign → IsCampaign shown.now campaign → read ≡ Some campaign) }
-    ensures fault { (name : Name) (campaign : CampaignData) → IsTypedCampaign name campaign → IsValidCampaign campaign
-        → IsCampaign shown.now campaign → IfErr result (λ fault. fault ≡ Memory) }
+    ensures fault { (name : Name) (campaign : CampaignData) → IsTypedCampaign name campaign → IsCampaign shown.now campaign
+        → IfErr result (λ fault. fault ≡ Memory) }
 {
     match read_campaign(alloc, shown) {
         Ok(campaign) => Ok(Some(campaign)),
@@ -160,7 +167,7 @@ fn find_campaigns<D: Alter>(
     requires mode { IfClean IsInside (state D.Store tx.old.conn.now) }
     ensures found { FindsRows (campaigns_found vehicle.now) (state D.Store tx.old.conn.now) (state D.Store tx.new.conn.now) result }
     ensures open { NeedsOpen (state D.Store tx.old.conn.now) (state D.Store tx.new.conn.now) result }
-    ensures blame { BlamesWithin (λ rows. AreValidCampaigns rows.campaigns) (state D.Store tx.old.conn.now) (state D.Store tx.new.conn.now) result }
+    ensures blame { BlamesWithin (λ _. ⊤) (state D.Store tx.old.conn.now) (state D.Store tx.new.conn.now) result }
     ensures step { IsStep D.Store tx.old.conn tx.new.conn }
 {
     match running_shown(tx, alloc) {
@@ -177,7 +184,7 @@ fn find_running<D: Alter>(
     requires mode { IfClean IsInside (state D.Store tx.old.conn.now) }
     ensures found { FindsRows running_found (state D.Store tx.old.conn.now) (state D.Store tx.new.conn.now) result }
     ensures open { NeedsOpen (state D.Store tx.old.conn.now) (state D.Store tx.new.conn.now) result }
-    ensures blame { BlamesWithin (λ rows. AreValidCampaigns rows.campaigns) (state D.Store tx.old.conn.now) (state D.Store tx.new.conn.now) result }
+    ensures blame { BlamesWithin (λ _. ⊤) (state D.Store tx.old.conn.now) (state D.Store tx.new.conn.now) result }
     ensures step { IsStep D.Store tx.old.conn tx.new.conn }
 {
     match running_shown(tx, alloc) {
@@ -195,6 +202,8 @@ fn put_campaign<D: Alter>(
     requires mode { IfClean IsInside (state D.Store tx.old.conn.now) }
     ensures put { PutsRows (IsNewCampaign new.now) (λ rows. with_campaign_row rows new.now)
         (state D.Store tx.old.conn.now) (state D.Store tx.new.conn.now) result }
+    ensures ran { Ran (campaign_writes new.now) (state D.Store tx.old.conn.now) (state D.Store tx.new.conn.now) result }
+    ensures blame { BlamesOne (campaign_writes new.now) (λ _. ⊤) (state D.Store tx.old.conn.now) (state D.Store tx.new.conn.now) result }
     ensures step { IsOpenStep D.Store tx.old.conn tx.new.conn result }
 {
     let row = make_campaign(alloc, new)?;

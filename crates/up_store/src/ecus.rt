@@ -1,14 +1,14 @@
 //! The rows of a vehicle's ECUs, read and made.
 ghost use Rattle.std.specs.Prelude.{◌≡◌, ◌<◌, ◌^◌, ℕ, All, IfOk, List, Option, map, option_and_then, option_map, string_bytes};
 ghost use Rattle.std.specs.List.{AllByRecursion};
-ghost use Rattle.std.specs.Prelude.{◌≢◌, ◌≤◌, true, length, None, Ok, IfErr, MatchOption};
+ghost use Rattle.std.specs.Prelude.{◌≢◌, ◌≤◌, true, length, None, Ok, IfErr, IfSome, OnOk, IsUtf8, MatchOption};
 ghost use Rattle.up_canon.specs.Canon.{max_count};
 ghost use Rattle.up_canon.specs.Names.{is_file_name};
 ghost use Rattle.up_tables.specs.declared.values.StoreFault.TheVariants.{Memory, Store};
 ghost use Rattle.up_rows.specs.SecondHashes.{TellsItsHash};
 ghost use Rattle.up_tables.specs.Ecus.{FitEcu};
 ghost use Rattle.up_store.specs.Shown.{ecu_read, installed_read, reported_sha512};
-ghost use Rattle.up_store.specs.Typed.{IsValidEcu};
+ghost use Rattle.up_store.specs.Typed.{IsTypedEcu, IsTypedInstalled};
 
 use crate::column_values::{count_in, file_name_in, ident_in, sha256_in};
 use crate::store::StoreFault;
@@ -24,7 +24,7 @@ use up_tables::ecu::{EcuRow as EcuShown, Installed as InstalledShown};
 /// Rows as they stand in the table, read; of rows that stand for ECUs, `Memory` is the one fault.
 pub fn read_ecus(alloc: Global, shown: Vec<EcuShown>) -> Result<Listed<EcuRow>, StoreFault>
     ensures same { IfOk result (λ read. read ≡ map ecu_read shown.items) }
-    ensures fault { AllByRecursion IsValidEcu (map ecu_read shown.items) → IfErr result (λ fault. fault ≡ Memory) }
+    ensures fault { AllByRecursion IsTypedEcu (map ecu_read shown.items) → IfErr result (λ fault. fault ≡ Memory) }
 {
     let mut read = Vec::with_capacity(alloc, shown.len())?;
     for row in shown {
@@ -36,7 +36,7 @@ pub fn read_ecus(alloc: Global, shown: Vec<EcuShown>) -> Result<Listed<EcuRow>, 
 /// A row as it stands in the table, read; of a row that stands for an ECU, `Memory` is the one fault.
 fn read_ecu(alloc: Global, shown: EcuShown) -> Result<EcuRow, StoreFault>
     ensures same { IfOk result (λ read. read ≡ ecu_read shown) }
-    ensures fault { IsValidEcu (ecu_read shown) → IfErr result (λ fault. fault ≡ Memory) }
+    ensures fault { IsTypedEcu (ecu_read shown) → IfErr result (λ fault. fault ≡ Memory) }
 {
     let sha512 = told_sha512(alloc, &shown.report)?;
     Ok(EcuRow {
@@ -84,6 +84,7 @@ fn read_installed(
 pub fn make_ecus(alloc: Global, rows: &[EcuRow]) -> Result<Vec<EcuShown>, AllocError>
     ensures same { IfOk result (λ made. AllByRecursion TellsItsHash rows.now → map ecu_read made.items ≡ rows.now) }
     ensures fit { IfOk result (λ made. All FitEcu made.items) }
+    ensures typed { OnOk result (AllByRecursion IsTypedEcu rows.now) }
 {
     let mut made = Vec::with_capacity(alloc, rows.len())?;
     for row in rows {
@@ -96,6 +97,7 @@ pub fn make_ecus(alloc: Global, rows: &[EcuRow]) -> Result<Vec<EcuShown>, AllocE
 fn make_ecu(alloc: Global, row: &EcuRow) -> Result<EcuShown, AllocError>
     ensures same { IfOk result (λ made. TellsItsHash row.now → ecu_read made ≡ row.now) }
     ensures fit { IfOk result FitEcu }
+    ensures typed { OnOk result (IsTypedEcu row.now) }
 {
     Ok(EcuShown {
         ecu: row.ecu.text().to_string(alloc)?,
@@ -115,7 +117,8 @@ fn make_installed(
     ensures same { IfOk result (λ made. (hash : Option (List ℕ)) → option_and_then (λ i. i.sha512) installed.now ≡ hash
         → option_map (installed_read hash) made ≡ installed.now) }
     ensures none { installed.now ≡ None → result ≡ Ok None }
-    ensures fit { IfOk result (λ made. Rattle.std.specs.Prelude.IfSome made (λ image. image.length < 2 ^ 63)) }
+    ensures fit { IfOk result (λ made. IfSome made (λ image. image.length < 2 ^ 63)) }
+    ensures typed { OnOk result (IfSome installed.now IsTypedInstalled) }
 {
     match installed {
         Some(image) => Ok(Some(InstalledShown {
@@ -131,6 +134,7 @@ fn make_installed(
 fn make_report(alloc: Global, report: &Option<Text>) -> Result<Option<String>, AllocError>
     ensures same { IfOk result (λ made. option_map string_bytes made ≡ report.now) }
     ensures none { report.now ≡ None → result ≡ Ok None }
+    ensures typed { OnOk result (IfSome report.now IsUtf8) }
 {
     match report {
         Some(text) => Ok(Some(text.as_str().to_string(alloc)?)),

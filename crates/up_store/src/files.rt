@@ -1,8 +1,9 @@
 //! The rows of files that are served, made.
-ghost use Rattle.std.specs.Prelude.{◌≡◌, IfOk, map, string_bytes};
+ghost use Rattle.std.specs.Prelude.{◌≡◌, IfOk, OnOk, IsUtf8, map, string_bytes};
 ghost use Rattle.up_machine.specs.Files.{numbered_root_name};
 ghost use Rattle.up_store.specs.Lines.{file_line, root_file_lines, role_file_lines};
 ghost use Rattle.up_store.specs.Shown.{file_read};
+ghost use Rattle.up_store.specs.Typed.{AreTypedTexts};
 
 use crate::keys::repository_word;
 use std::alloc::{AllocError, Global};
@@ -19,7 +20,8 @@ fn make_file(
     name: &str,
     body: &Text,
 ) -> Result<FileRow, AllocError>
-    ensures { IfOk result (λ made. file_read made ≡ file_line repository name.now body.now) }
+    ensures same { IfOk result (λ made. file_read made ≡ file_line repository name.now body.now) }
+    ensures typed { OnOk result (IsUtf8 body.now) }
 {
     Ok(FileRow {
         repository: repository_word(repository).to_string(alloc)?,
@@ -30,7 +32,8 @@ fn make_file(
 
 /// The rows of the image repository's files that are made together.
 pub fn make_role_files(alloc: Global, texts: &RoleTexts) -> Result<Vec<FileRow>, AllocError>
-    ensures { IfOk result (λ made. map file_read made.items ≡ role_file_lines texts.now) }
+    ensures same { IfOk result (λ made. map file_read made.items ≡ role_file_lines texts.now) }
+    ensures typed { OnOk result (AreTypedTexts texts.now) }
 {
     let mut made = Vec::with_capacity(alloc, 3)?;
     made.push(make_file(alloc, Repository::Image, "targets.json", &texts.targets)?)?;
@@ -48,7 +51,8 @@ fn root_name(alloc: Global, number: u64) -> Result<String, AllocError>
 
 /// The rows of the Root files of a new version, which is the latest, too.
 pub fn make_root_files(alloc: Global, new: &RootRows) -> Result<Vec<FileRow>, AllocError>
-    ensures { IfOk result (λ made. map file_read made.items ≡ root_file_lines new.now) }
+    ensures same { IfOk result (λ made. map file_read made.items ≡ root_file_lines new.now) }
+    ensures typed { OnOk result (IsUtf8 new.now.director × IsUtf8 new.now.image) }
 {
     let name = root_name(alloc, new.founding.root)?;
     let mut made = Vec::with_capacity(alloc, 4)?;

@@ -1,10 +1,10 @@
 //! The rows of images, read and made.
-ghost use Rattle.std.specs.Prelude.{◌≡◌, false, IfOk, IfErr, OnOk, option_map};
+ghost use Rattle.std.specs.Prelude.{◌≡◌, false, length, IfOk, IfErr, IfSome, OnOk, option_map};
 ghost use Rattle.up_canon.specs.Names.{Name, Table as Named};
 ghost use Rattle.up_plan.specs.Images.{ImageData, image_fits};
 ghost use Rattle.up_tables.specs.Forms.{FitImage};
 ghost use Rattle.up_store.specs.ColumnRows.{IsImage, AreImages, AreHashesOf};
-ghost use Rattle.up_store.specs.Typed.{IsTypedImage, IsValidImage, AreValidImages};
+ghost use Rattle.up_store.specs.Typed.{IsTypedImage};
 ghost use Rattle.up_tables.specs.declared.values.StoreFault.TheVariants.{Memory, Store};
 ghost use Rattle.up_store.specs.Shown.{image_made};
 ghost use Rattle.std.specs.FinMap as table;
@@ -56,8 +56,7 @@ pub fn read_image(
 ) -> Result<Image, StoreFault>
     ensures same { IfOk result (λ read. (file : Name) (image : ImageData)
         → IsTypedImage file image → IsImage shown image → sha512 ≡ image.sha512 → read ≡ image) }
-    ensures fault { (file : Name) (image : ImageData) → IsTypedImage file image → IsValidImage image → IsImage shown image
-        → IfErr result (λ fault. fault ≡ Memory) }
+    ensures fault { (file : Name) (image : ImageData) → IsTypedImage file image → IsImage shown image → IfErr result (λ fault. fault ≡ Memory) }
 {
     let sha256 = sha256_in(shown.sha256.as_slice())?;
     let length = count_in(shown.length)?;
@@ -99,7 +98,7 @@ pub fn read_images(
     hashes: &Table<[u8; 64]>,
 ) -> Result<Table<Image>, StoreFault>
     ensures same { IfOk result (λ read. (images : Named ImageData) → AreImages shown.items images → AreHashesOf hashes.now images → read ≡ images) }
-    ensures fault { (images : Named ImageData) → AreImages shown.items images → AreValidImages images → IfErr result (λ fault. fault ≡ Memory) }
+    ensures fault { (images : Named ImageData) → AreImages shown.items images → IfErr result (λ fault. fault ≡ Memory) }
 {
     let mut images = Table::new(alloc);
     for row in shown {
@@ -117,8 +116,7 @@ fn add_image(
 ) -> Result<(), StoreFault>
     ensures same { OnOk result ((file : Name) (image : ImageData) → IsTypedImage file image → IsImage shown image
         → table.get hashes.now image.file ≡ image.sha512 → images.new ≡ table.insert images.old image.file image) }
-    ensures fault { (file : Name) (image : ImageData) → IsTypedImage file image → IsValidImage image → IsImage shown image
-        → IfErr result (λ fault. fault ≡ Memory) }
+    ensures fault { (file : Name) (image : ImageData) → IsTypedImage file image → IsImage shown image → IfErr result (λ fault. fault ≡ Memory) }
 {
     let sha512 = hash_named(hashes, shown.file.as_str());
     let image = read_image(alloc, shown, sha512)?;
@@ -145,7 +143,7 @@ pub(crate) fn name_of(alloc: Global, name: &str) -> Result<Text, AllocError>
 pub fn make_image(alloc: Global, image: &Image) -> Result<ImageRow, AllocError>
     ensures same { IfOk result (λ made. IsImage made image.now) }
     ensures fit { IfOk result FitImage }
-    ensures typed { OnOk result (IsTypedImage image.now.file image.now) }
+    ensures typed { OnOk result (IfSome image.now.sha512 (λ hash. length hash ≡ 64) → IsTypedImage image.now.file image.now) }
 {
     let hardware = names_text(alloc, image.hardware.as_slice())?;
     let needs = needs_text(alloc, image.needs.as_slice())?;

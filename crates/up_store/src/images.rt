@@ -1,5 +1,5 @@
 //! Registered images.
-ghost use Rattle.std.specs.Prelude.{◌≡◌, None, Some, ⊤, IfOk, IfErr, IfSome, OnErr, OnOk};
+ghost use Rattle.std.specs.Prelude.{◌≡◌, None, Some, ⊤, length, IfOk, IfErr, IfSome, OnErr, OnOk};
 ghost use Rattle.sqlite.specs.Held.{state};
 ghost use Rattle.sqlite.specs.State.{HasCleanDisk, Survives};
 ghost use Rattle.std.specs.FinMap as table;
@@ -9,11 +9,16 @@ ghost use Rattle.up_rows.specs.Changes.{with_image_rows};
 ghost use Rattle.up_store.specs.Fitting.{IsNewImage};
 ghost use Rattle.up_tables.specs.Stands.{IfClean, IsAsCommitted, IsInside};
 ghost use Rattle.up_tables.specs.Statements.{IsStep, IsOpenStep};
+ghost use Rattle.up_tables.specs.Texts.{insert_image_text};
+ghost use Rattle.up_tables.specs.Tried.{BlamesOne, Ran};
 ghost use Rattle.up_store.specs.ColumnRows.{IsImage, AreImages, with_image};
+ghost use Rattle.up_store.specs.Lines.{image_lines};
 ghost use Rattle.up_store.specs.Puts.{with_image_line};
-ghost use Rattle.up_store.specs.Typed.{IsTypedImage, IsValidImage, IsImageValue, AreImageValues};
+ghost use Rattle.up_store.specs.Writes.{FitsFounding, each_with, image_row_writes, image_writes};
+ghost use Rattle.up_store.specs.Typed.{IsTypedImage};
 ghost use Rattle.up_tables.specs.declared.values.StoreFault.TheVariants.{Memory};
 ghost use Rattle.up_store.specs.Connections.{NeedsOpen, Answers, Blames, BlamesWithin, FindsRows, FindsSuch, PutsRows, PutsTables, TakesRows, CommitsRows, SparesRows};
+ghost use Rattle.up_store.specs.Connections.{BlamesWrite, RanWrite};
 
 use crate::image_rows::{make_image, read_image, read_images};
 use crate::roots::put_register;
@@ -34,7 +39,7 @@ impl<D: Alter> Store<D> {
         ensures kept { IfClean (IsAsCommitted (state D.Store self.old)) (state D.Store self.new) }
         ensures crash { Survives (state D.Store self.old) (state D.Store self.new) (λ _. ⊥) }
         ensures open { NeedsOpen (state D.Store self.old) (state D.Store self.new) result }
-        ensures blame { Blames (λ rows. IfSome (table.get rows.images file.now) IsImageValue) (state D.Store self.old) (state D.Store self.new) result }
+        ensures blame { Blames (state D.Store self.old) (state D.Store self.new) result }
     {
         let mut tx = self.conn.transaction();
         find_image(&mut tx, alloc, file)
@@ -46,7 +51,7 @@ impl<D: Alter> Store<D> {
         ensures kept { IfClean (IsAsCommitted (state D.Store self.old)) (state D.Store self.new) }
         ensures crash { Survives (state D.Store self.old) (state D.Store self.new) (λ _. ⊥) }
         ensures open { NeedsOpen (state D.Store self.old) (state D.Store self.new) result }
-        ensures blame { Blames (λ rows. AreImageValues rows.images) (state D.Store self.old) (state D.Store self.new) result }
+        ensures blame { Blames (state D.Store self.old) (state D.Store self.new) result }
     {
         let mut tx = self.conn.transaction();
         find_images(&mut tx, alloc)
@@ -68,6 +73,9 @@ impl<D: Alter> Store<D> {
             (state D.Store self.old) (state D.Store self.new) }
         ensures clean { HasCleanDisk (state D.Store self.new) → HasCleanDisk (state D.Store self.old) }
         ensures open { NeedsOpen (state D.Store self.old) (state D.Store self.new) result }
+        ensures ran { RanWrite (image_writes image.now new.now) (state D.Store self.old) (state D.Store self.new) result }
+        ensures blame { BlamesWrite (image_writes image.now new.now) (λ _. FitsFounding new.now.founding)
+            (state D.Store self.old) (state D.Store self.new) result }
     {
         let mut tx = self.conn.transaction();
         if let Err(fault) = put_image(&mut tx, alloc, image, new) {
@@ -86,8 +94,7 @@ fn find_image<D: Alter>(
     requires mode { IfClean IsInside (state D.Store tx.old.conn.now) }
     ensures found { FindsRows (λ rows. table.get rows.images file.now) (state D.Store tx.old.conn.now) (state D.Store tx.new.conn.now) result }
     ensures open { NeedsOpen (state D.Store tx.old.conn.now) (state D.Store tx.new.conn.now) result }
-    ensures blame { BlamesWithin (λ rows. IfSome (table.get rows.images file.now) IsImageValue)
-        (state D.Store tx.old.conn.now) (state D.Store tx.new.conn.now) result }
+    ensures blame { BlamesWithin (λ _. ⊤) (state D.Store tx.old.conn.now) (state D.Store tx.new.conn.now) result }
     ensures step { IsStep D.Store tx.old.conn tx.new.conn }
 {
     match image_shown(tx, file.text()) {
@@ -109,7 +116,7 @@ fn find_with_sha512<D: Alter>(
         → table.get rows.images file.now ≡ Some image → IsImage shown image → read ≡ Some image)
         (state D.Store tx.old.conn.now) (state D.Store tx.new.conn.now) result }
     ensures open { NeedsOpen (state D.Store tx.old.conn.now) (state D.Store tx.new.conn.now) result }
-    ensures blame { BlamesWithin (λ rows. (image : ImageData) × (table.get rows.images file.now ≡ Some image) × IsImage shown image × IsImageValue image)
+    ensures blame { BlamesWithin (λ rows. (image : ImageData) × (table.get rows.images file.now ≡ Some image) × IsImage shown image)
         (state D.Store tx.old.conn.now) (state D.Store tx.new.conn.now) result }
     ensures step { IsStep D.Store tx.old.conn tx.new.conn }
 {
@@ -127,8 +134,7 @@ fn some_image(
 ) -> Result<Option<Image>, StoreFault>
     ensures same { IfOk result (λ read. (file : Name) (image : ImageData)
         → IsTypedImage file image → IsImage shown image → sha512 ≡ image.sha512 → read ≡ Some image) }
-    ensures fault { (file : Name) (image : ImageData) → IsTypedImage file image → IsValidImage image → IsImage shown image
-        → IfErr result (λ fault. fault ≡ Memory) }
+    ensures fault { (file : Name) (image : ImageData) → IsTypedImage file image → IsImage shown image → IfErr result (λ fault. fault ≡ Memory) }
 {
     match read_image(alloc, shown, sha512) {
         Ok(image) => Ok(Some(image)),
@@ -144,7 +150,7 @@ fn find_images<D: Alter>(
     requires mode { IfClean IsInside (state D.Store tx.old.conn.now) }
     ensures found { FindsRows (λ rows. rows.images) (state D.Store tx.old.conn.now) (state D.Store tx.new.conn.now) result }
     ensures open { NeedsOpen (state D.Store tx.old.conn.now) (state D.Store tx.new.conn.now) result }
-    ensures blame { BlamesWithin (λ rows. AreImageValues rows.images) (state D.Store tx.old.conn.now) (state D.Store tx.new.conn.now) result }
+    ensures blame { BlamesWithin (λ _. ⊤) (state D.Store tx.old.conn.now) (state D.Store tx.new.conn.now) result }
     ensures step { IsStep D.Store tx.old.conn tx.new.conn }
 {
     match images_shown(tx, alloc) {
@@ -163,8 +169,7 @@ fn find_with_sha512s<D: Alter>(
     ensures found { FindsSuch (λ rows read. AreImages shown.items rows.images → read ≡ rows.images)
         (state D.Store tx.old.conn.now) (state D.Store tx.new.conn.now) result }
     ensures open { NeedsOpen (state D.Store tx.old.conn.now) (state D.Store tx.new.conn.now) result }
-    ensures blame { BlamesWithin (λ rows. AreImages shown.items rows.images × AreImageValues rows.images)
-        (state D.Store tx.old.conn.now) (state D.Store tx.new.conn.now) result }
+    ensures blame { BlamesWithin (λ rows. AreImages shown.items rows.images) (state D.Store tx.old.conn.now) (state D.Store tx.new.conn.now) result }
     ensures step { IsStep D.Store tx.old.conn tx.new.conn }
 {
     match find_sha512s(tx, alloc) {
@@ -183,6 +188,9 @@ fn put_image<D: Alter>(
     requires mode { IfClean IsInside (state D.Store tx.old.conn.now) }
     ensures put { PutsRows (IsNewImage image.now new.now) (λ rows. with_image_rows rows image.now new.now)
         (state D.Store tx.old.conn.now) (state D.Store tx.new.conn.now) result }
+    ensures ran { Ran (image_writes image.now new.now) (state D.Store tx.old.conn.now) (state D.Store tx.new.conn.now) result }
+    ensures blame { BlamesOne (image_writes image.now new.now) (λ _. FitsFounding new.now.founding)
+        (state D.Store tx.old.conn.now) (state D.Store tx.new.conn.now) result }
     ensures step { IsOpenStep D.Store tx.old.conn tx.new.conn result }
 {
     if let Err(fault) = put_image_rows(tx, alloc, image) {
@@ -200,6 +208,8 @@ fn put_image_rows<D: Alter>(
     requires mode { IfClean IsInside (state D.Store tx.old.conn.now) }
     ensures put { PutsRows (λ rows. table.get rows.images image.now.file ≡ None) (λ rows. with_image rows image.now)
         (state D.Store tx.old.conn.now) (state D.Store tx.new.conn.now) result }
+    ensures ran { Ran (image_row_writes image.now) (state D.Store tx.old.conn.now) (state D.Store tx.new.conn.now) result }
+    ensures blame { BlamesOne (image_row_writes image.now) (λ _. ⊤) (state D.Store tx.old.conn.now) (state D.Store tx.new.conn.now) result }
     ensures step { IsOpenStep D.Store tx.old.conn tx.new.conn result }
 {
     if let Err(fault) = put_image_row(tx, alloc, image) {
@@ -216,7 +226,11 @@ fn put_image_row<D: Alter>(
 ) -> Result<(), StoreFault>
     requires mode { IfClean IsInside (state D.Store tx.old.conn.now) }
     ensures put { PutsTables (λ _. ⊤) (with_image_line image.now) (state D.Store tx.old.conn.now) (state D.Store tx.new.conn.now) result }
-    ensures typed { OnOk result (IsTypedImage image.now.file image.now) }
+    ensures typed { OnOk result (IfSome image.now.sha512 (λ hash. length hash ≡ 64) → IsTypedImage image.now.file image.now) }
+    ensures ran { Ran (each_with insert_image_text (image_lines (Some image.now)))
+        (state D.Store tx.old.conn.now) (state D.Store tx.new.conn.now) result }
+    ensures blame { BlamesOne (each_with insert_image_text (image_lines (Some image.now))) (λ _. ⊤)
+        (state D.Store tx.old.conn.now) (state D.Store tx.new.conn.now) result }
     ensures step { IsOpenStep D.Store tx.old.conn tx.new.conn result }
 {
     let row = make_image(alloc, image)?;

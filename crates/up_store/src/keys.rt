@@ -8,7 +8,7 @@ ghost use Rattle.up_tables.specs.Forms.{FitRoleKey, role_key_row};
 ghost use Rattle.up_metadata.specs.declared.keys.KeySet.{KeySet as Keys};
 ghost use Rattle.up_metadata.specs.declared.keys.RepoKeys.{RepoKeys as Repo};
 ghost use Rattle.up_metadata.specs.declared.keys.RoleSecrets.{RoleSecrets as Role};
-ghost use Rattle.up_store.specs.Typed.{IsValidRole, AreValidKeys};
+ghost use Rattle.up_store.specs.Typed.{IsTypedRole, AreTypedKeys};
 ghost use Rattle.up_store.specs.Lines.{repository_lines, role_lines, repository_word as word_of};
 ghost use Rattle.up_store.specs.Shown.{is_key_of, secrets_of, threshold_of, IsRoleOf, AreKeysOf};
 
@@ -38,7 +38,7 @@ pub fn read_keys(alloc: Global, rows: &[RoleKeyRow]) -> Result<KeySet, StoreFaul
     ensures director { IfOk result (λ keys. AreKeysOf (codes "director") rows.now keys.director) }
     ensures image { IfOk result (λ keys. AreKeysOf (codes "image") rows.now keys.image) }
     ensures fault { (keys : Keys) → AreKeysOf (codes "director") rows.now keys.director → AreKeysOf (codes "image") rows.now keys.image
-        → AreValidKeys keys.director → AreValidKeys keys.image → IfErr result (λ fault. fault ≡ Memory) }
+        → AreTypedKeys keys.director → AreTypedKeys keys.image → IfErr result (λ fault. fault ≡ Memory) }
 {
     Ok(KeySet {
         director: read_repository(alloc, rows, "director")?,
@@ -53,7 +53,7 @@ fn read_repository(
     repository: &str,
 ) -> Result<RepoKeys, StoreFault>
     ensures ok { IfOk result (λ keys. AreKeysOf repository.now rows.now keys) }
-    ensures fault { (keys : Repo) → AreKeysOf repository.now rows.now keys → AreValidKeys keys → IfErr result (λ fault. fault ≡ Memory) }
+    ensures fault { (keys : Repo) → AreKeysOf repository.now rows.now keys → AreTypedKeys keys → IfErr result (λ fault. fault ≡ Memory) }
 {
     Ok(RepoKeys {
         root: read_role(alloc, rows, repository, "root")?,
@@ -71,7 +71,7 @@ fn read_role(
     role: &str,
 ) -> Result<RoleSecrets, StoreFault>
     ensures ok { IfOk result (λ keys. IsRoleOf repository.now role.now rows.now keys) }
-    ensures fault { (keys : Role) → IsRoleOf repository.now role.now rows.now keys → IsValidRole keys → IfErr result (λ fault. fault ≡ Memory) }
+    ensures fault { (keys : Role) → IsRoleOf repository.now role.now rows.now keys → IsTypedRole keys → IfErr result (λ fault. fault ≡ Memory) }
 {
     Ok(RoleSecrets {
         keys: read_secrets(alloc, rows, repository, role)?,
@@ -118,6 +118,22 @@ fn read_threshold(rows: &[RoleKeyRow], repository: &str, role: &str) -> Result<u
 }
 
 // ---- made
+
+/// Notes for proofs that the thresholds of a repository's roles are numbers of 32 bits.
+pub(crate) fn keeps_thresholds(keys: &RepoKeys)
+    ensures { AreTypedKeys keys.now }
+{
+    keeps_threshold(&keys.root);
+    keeps_threshold(&keys.targets);
+    keeps_threshold(&keys.snapshot);
+    keeps_threshold(&keys.timestamp);
+}
+
+fn keeps_threshold(role: &RoleSecrets) -> u32
+    ensures { IsTypedRole role.now }
+{
+    role.threshold
+}
 
 /// The rows of the keys of a root version.
 pub fn make_keys(alloc: Global, root: u64, keys: &KeySet) -> Result<Vec<RoleKeyRow>, AllocError>

@@ -2,21 +2,27 @@
 ghost use Rattle.std.specs.Prelude.{◌≡◌, ⊤, Some, IfOk, OnErr, OnOk};
 ghost use Rattle.sqlite.specs.Held.{state};
 ghost use Rattle.sqlite.specs.State.{HasCleanDisk, Survives};
-ghost use Rattle.std.specs.Prelude.{◌<◌, IfErr, IfSome};
+ghost use Rattle.std.specs.Prelude.{◌<◌, ◌^◌, ◌∷◌, [], IfErr};
+ghost use Rattle.std.specs.List.{AllByRecursion};
 ghost use Rattle.up_canon.specs.Canon.{max_count};
 ghost use Rattle.up_canon.specs.Names.{Name};
 ghost use Rattle.up_machine.specs.declared.rows.Kept.{Kept as KeptData};
 ghost use Rattle.up_rows.specs.Changes.{with_accepted_rows};
 ghost use Rattle.up_rows.specs.Lookups.{kept_with, latest_kept};
+ghost use Rattle.up_rows.specs.SecondHashes.{TellsItsHash};
 ghost use Rattle.up_tables.specs.declared.values.StoreFault.TheVariants as StoreFault;
 ghost use Rattle.up_store.specs.ColumnRows.{IsKept, last_found, with_kept};
-ghost use Rattle.up_store.specs.Found.{vehicle_found};
-ghost use Rattle.up_store.specs.Typed.{IsKeptValue, IsTypedKept, IsValidKept, IsValidVehicle};
+ghost use Rattle.up_store.specs.Typed.{IsTypedKept, IsTypedVehicle};
 ghost use Rattle.up_store.specs.Fitting.{IsRecorded};
-ghost use Rattle.up_store.specs.Puts.{IsReported, with_reported};
+ghost use Rattle.up_store.specs.Puts.{IsReported, MayAccept, MayReport, with_reported};
 ghost use Rattle.up_tables.specs.Stands.{IfClean, IsAsCommitted, IsInside};
 ghost use Rattle.up_tables.specs.Statements.{IsStep, IsOpenStep, OnlyReads};
+ghost use Rattle.up_tables.specs.Texts.{insert_kept_text};
+ghost use Rattle.up_tables.specs.Tried.{BlamesOne, Ran};
+ghost use Rattle.up_store.specs.Lines.{kept_line};
+ghost use Rattle.up_store.specs.Writes.{FitsAccepted, accept_writes, each_with, reported_writes};
 ghost use Rattle.up_store.specs.Connections.{NeedsOpen, Answers, FindsRows, Blames, BlamesWithin, PutsRows, PutsTables, TakesRows, CommitsRows, SparesRows};
+ghost use Rattle.up_store.specs.Connections.{BlamesWrite, RanWrite};
 
 use crate::column_values::{check_places, count_in};
 use crate::ecus::make_ecus;
@@ -42,7 +48,7 @@ impl<D: Alter> Store<D> {
         counter: Count,
     ) -> Result<Option<Kept>, StoreFault>
         ensures told { Answers (kept_with vehicle.now counter) (state D.Store self.old) (state D.Store self.new) result }
-        ensures blame { Blames (λ rows. IfSome (kept_with vehicle.now counter rows) IsKeptValue) (state D.Store self.old) (state D.Store self.new) result }
+        ensures blame { Blames (state D.Store self.old) (state D.Store self.new) result }
         ensures kept { IfClean (IsAsCommitted (state D.Store self.old)) (state D.Store self.new) }
         ensures crash { Survives (state D.Store self.old) (state D.Store self.new) (λ _. ⊥) }
         ensures open { NeedsOpen (state D.Store self.old) (state D.Store self.new) result }
@@ -54,8 +60,7 @@ impl<D: Alter> Store<D> {
     /// The vehicle's row with its greatest counter, none of an unknown vehicle and before its first manifest.
     pub fn latest(&mut self, alloc: Global, vehicle: &Ident) -> Result<Option<Kept>, StoreFault>
         ensures told { Answers (latest_kept vehicle.now) (state D.Store self.old) (state D.Store self.new) result }
-        ensures blame { Blames (λ rows. IfSome (vehicle_found vehicle.now rows) IsValidVehicle × IfSome (latest_kept vehicle.now rows) IsKeptValue)
-            (state D.Store self.old) (state D.Store self.new) result }
+        ensures blame { Blames (state D.Store self.old) (state D.Store self.new) result }
         ensures kept { IfClean (IsAsCommitted (state D.Store self.old)) (state D.Store self.new) }
         ensures crash { Survives (state D.Store self.old) (state D.Store self.new) (λ _. ⊥) }
         ensures open { NeedsOpen (state D.Store self.old) (state D.Store self.new) result }
@@ -74,6 +79,10 @@ impl<D: Alter> Store<D> {
         ensures crash { SparesRows (IsRecorded new.now) (λ rows. with_accepted_rows rows new.now) (state D.Store self.old) (state D.Store self.new) }
         ensures clean { HasCleanDisk (state D.Store self.new) → HasCleanDisk (state D.Store self.old) }
         ensures open { NeedsOpen (state D.Store self.old) (state D.Store self.new) result }
+        ensures ran { AllByRecursion TellsItsHash new.now.vehicle.ecus → RanWrite (accept_writes new.now)
+            (state D.Store self.old) (state D.Store self.new) result }
+        ensures blame { BlamesWrite (accept_writes new.now) (λ rows. IsRecorded new.now rows × FitsAccepted new.now)
+            (state D.Store self.old) (state D.Store self.new) result }
     {
         let mut tx = self.conn.transaction();
         if let Err(fault) = put_accepted(&mut tx, alloc, new) {
@@ -92,6 +101,9 @@ fn put_accepted<D: Alter>(
     requires mode { IfClean IsInside (state D.Store tx.old.conn.now) }
     ensures put { PutsRows (IsRecorded new.now) (λ rows. with_accepted_rows rows new.now)
         (state D.Store tx.old.conn.now) (state D.Store tx.new.conn.now) result }
+    ensures ran { AllByRecursion TellsItsHash new.now.vehicle.ecus → Ran (accept_writes new.now)
+        (state D.Store tx.old.conn.now) (state D.Store tx.new.conn.now) result }
+    ensures blame { BlamesOne (accept_writes new.now) (MayAccept new.now) (state D.Store tx.old.conn.now) (state D.Store tx.new.conn.now) result }
     ensures step { IsOpenStep D.Store tx.old.conn tx.new.conn result }
 {
     put_reported(tx, alloc, &new.vehicle)?;
@@ -106,6 +118,10 @@ fn put_reported<D: Alter>(
 ) -> Result<(), StoreFault>
     requires mode { IfClean IsInside (state D.Store tx.old.conn.now) }
     ensures put { PutsTables (IsReported new.now) (with_reported new.now) (state D.Store tx.old.conn.now) (state D.Store tx.new.conn.now) result }
+    ensures typed { OnOk result (AllByRecursion TellsItsHash new.now.ecus → IsTypedVehicle new.now.vehicle.vehicle new.now) }
+    ensures ran { AllByRecursion TellsItsHash new.now.ecus → Ran (reported_writes new.now)
+        (state D.Store tx.old.conn.now) (state D.Store tx.new.conn.now) result }
+    ensures blame { BlamesOne (reported_writes new.now) (MayReport new.now) (state D.Store tx.old.conn.now) (state D.Store tx.new.conn.now) result }
     ensures step { IsOpenStep D.Store tx.old.conn tx.new.conn result }
 {
     let vehicle = make_vehicle(alloc, &new.vehicle)?;
@@ -124,6 +140,9 @@ fn insert_kept_row<D: Alter>(
     requires mode { IfClean IsInside (state D.Store tx.old.conn.now) }
     ensures put { PutsTables (λ _. ⊤) (with_kept kept.now) (state D.Store tx.old.conn.now) (state D.Store tx.new.conn.now) result }
     ensures typed { OnOk result (IsTypedKept kept.now.vehicle kept.now) }
+    ensures ran { Ran (each_with insert_kept_text (kept_line kept.now ∷ [])) (state D.Store tx.old.conn.now) (state D.Store tx.new.conn.now) result }
+    ensures blame { BlamesOne (each_with insert_kept_text (kept_line kept.now ∷ [])) (λ _. (kept.now.version < 2 ^ 63) × (kept.now.root < 2 ^ 63))
+        (state D.Store tx.old.conn.now) (state D.Store tx.new.conn.now) result }
     ensures step { IsOpenStep D.Store tx.old.conn tx.new.conn result }
 {
     let row = make_kept(alloc, kept)?;
@@ -139,8 +158,7 @@ fn find_kept<D: Alter>(
 ) -> Result<Option<Kept>, StoreFault>
     requires mode { IfClean IsInside (state D.Store tx.old.conn.now) }
     ensures found { FindsRows (kept_with vehicle.now counter) (state D.Store tx.old.conn.now) (state D.Store tx.new.conn.now) result }
-    ensures blame { BlamesWithin (λ rows. IfSome (kept_with vehicle.now counter rows) IsKeptValue)
-        (state D.Store tx.old.conn.now) (state D.Store tx.new.conn.now) result }
+    ensures blame { BlamesWithin (λ _. ⊤) (state D.Store tx.old.conn.now) (state D.Store tx.new.conn.now) result }
     ensures open { NeedsOpen (state D.Store tx.old.conn.now) (state D.Store tx.new.conn.now) result }
     ensures step { IsStep D.Store tx.old.conn tx.new.conn }
 {
@@ -154,7 +172,7 @@ fn find_kept<D: Alter>(
 /// A row as it stands in the table, read; of a row that stands for a kept manifest, `Memory` is the one fault.
 fn some_kept(alloc: Global, shown: KeptRow) -> Result<Option<Kept>, StoreFault>
     ensures same { IfOk result (λ read. (vehicle : Name) (row : KeptData) → IsTypedKept vehicle row → IsKept shown row → read ≡ Some row) }
-    ensures fault { (vehicle : Name) (row : KeptData) → IsTypedKept vehicle row → IsValidKept row → IsKept shown row
+    ensures fault { (vehicle : Name) (row : KeptData) → IsTypedKept vehicle row → IsKept shown row
         → IfErr result (λ fault. fault ≡ StoreFault.Memory) }
 {
     match read_kept(alloc, shown) {
@@ -171,8 +189,7 @@ fn find_latest<D: Alter>(
 ) -> Result<Option<Kept>, StoreFault>
     requires mode { IfClean IsInside (state D.Store tx.old.conn.now) }
     ensures found { FindsRows (latest_kept vehicle.now) (state D.Store tx.old.conn.now) (state D.Store tx.new.conn.now) result }
-    ensures blame { BlamesWithin (λ rows. IfSome (vehicle_found vehicle.now rows) IsValidVehicle × IfSome (latest_kept vehicle.now rows) IsKeptValue)
-        (state D.Store tx.old.conn.now) (state D.Store tx.new.conn.now) result }
+    ensures blame { BlamesWithin (λ _. ⊤) (state D.Store tx.old.conn.now) (state D.Store tx.new.conn.now) result }
     ensures open { NeedsOpen (state D.Store tx.old.conn.now) (state D.Store tx.new.conn.now) result }
     ensures step { IsStep D.Store tx.old.conn tx.new.conn }
 {
@@ -190,8 +207,7 @@ fn find_last<D: Alter>(
 ) -> Result<Option<Count>, StoreFault>
     requires mode { IfClean IsInside (state D.Store tx.old.conn.now) }
     ensures found { FindsRows (last_found vehicle.now) (state D.Store tx.old.conn.now) (state D.Store tx.new.conn.now) result }
-    ensures blame { BlamesWithin (λ rows. IfSome (vehicle_found vehicle.now rows) IsValidVehicle)
-        (state D.Store tx.old.conn.now) (state D.Store tx.new.conn.now) result }
+    ensures blame { BlamesWithin (λ _. ⊤) (state D.Store tx.old.conn.now) (state D.Store tx.new.conn.now) result }
     ensures reads { OnlyReads (state D.Store tx.old.conn.now) (state D.Store tx.new.conn.now) result }
     ensures inside { OnOk result (IfClean IsInside (state D.Store tx.new.conn.now)) }
     ensures open { NeedsOpen (state D.Store tx.old.conn.now) (state D.Store tx.new.conn.now) result }

@@ -1,12 +1,14 @@
 //! An ECU that another one replaces.
-ghost use Rattle.std.specs.Prelude.{OnErr};
+ghost use Rattle.std.specs.Prelude.{⊤, OnErr};
 ghost use Rattle.sqlite.specs.Held.{state};
 ghost use Rattle.sqlite.specs.State.{HasCleanDisk};
 ghost use Rattle.up_rows.specs.Changes.{with_replaced_rows};
 ghost use Rattle.up_store.specs.Fitting.{IsReplacement};
 ghost use Rattle.up_tables.specs.Stands.{IfClean, IsAsCommitted, IsInside};
 ghost use Rattle.up_tables.specs.Statements.{IsOpenStep};
-ghost use Rattle.up_store.specs.Connections.{NeedsOpen, PutsRows, TakesRows, CommitsRows, SparesRows};
+ghost use Rattle.up_tables.specs.Tried.{BlamesOne, Ran};
+ghost use Rattle.up_store.specs.Writes.{replace_writes};
+ghost use Rattle.up_store.specs.Connections.{NeedsOpen, BlamesWrite, PutsRows, RanWrite, TakesRows, CommitsRows, SparesRows};
 
 use crate::store::{Store, StoreFault, commit};
 use sqlite::{Alter, Transaction};
@@ -27,6 +29,8 @@ impl<D: Alter> Store<D> {
             (state D.Store self.old) (state D.Store self.new) }
         ensures clean { HasCleanDisk (state D.Store self.new) → HasCleanDisk (state D.Store self.old) }
         ensures open { NeedsOpen (state D.Store self.old) (state D.Store self.new) result }
+        ensures ran { RanWrite (replace_writes new.now) (state D.Store self.old) (state D.Store self.new) result }
+        ensures blame { BlamesWrite (replace_writes new.now) (λ _. ⊤) (state D.Store self.old) (state D.Store self.new) result }
     {
         let _ = alloc;
         let mut tx = self.conn.transaction();
@@ -42,6 +46,8 @@ fn put_replaced<D: Alter>(tx: &mut Transaction<'_, D>, new: &Replacement) -> Res
     requires mode { IfClean IsInside (state D.Store tx.old.conn.now) }
     ensures put { PutsRows (IsReplacement new.now) (λ rows. with_replaced_rows rows new.now)
         (state D.Store tx.old.conn.now) (state D.Store tx.new.conn.now) result }
+    ensures ran { Ran (replace_writes new.now) (state D.Store tx.old.conn.now) (state D.Store tx.new.conn.now) result }
+    ensures blame { BlamesOne (replace_writes new.now) (λ _. ⊤) (state D.Store tx.old.conn.now) (state D.Store tx.new.conn.now) result }
     ensures step { IsOpenStep D.Store tx.old.conn tx.new.conn result }
 {
     replace_ecu(

@@ -1,5 +1,5 @@
 //! Root versions and the files that are served.
-ghost use Rattle.std.specs.Prelude.{◌≡◌, ◌↔◌, ◌⊎◌, ◌≤◌, ◌^◌, ⊤, Option, Some, None, Ok, Err, OnErr, IfOk, IfErr, IfSome, IsUtf8, is_some};
+ghost use Rattle.std.specs.Prelude.{◌≡◌, ◌↔◌, ◌⊎◌, ◌≤◌, ◌^◌, ⊤, Option, Some, None, Ok, Err, OnErr, OnOk, IfOk, IfErr, IsUtf8, is_some};
 ghost use Rattle.sqlite.specs.Held.{state};
 ghost use Rattle.sqlite.specs.State.{HasCleanDisk, Survives};
 ghost use Rattle.up_rows.specs.Changes.{with_root_rows, with_register_rows};
@@ -11,17 +11,20 @@ ghost use Rattle.up_machine.specs.declared.rows.Founding.{Founding as FoundingDa
 ghost use Rattle.up_tables.specs.Forms.{FitMeta};
 ghost use Rattle.up_tables.specs.declared.values.StoreFault.TheVariants as StoreFault;
 ghost use Rattle.up_store.specs.Shown.{meta_told, IsFoundingOf};
-ghost use Rattle.up_store.specs.Typed.{IsFoundingValue, IsValidFounding};
+ghost use Rattle.up_store.specs.Typed.{IsTypedFounding, AreTypedTexts};
 ghost use Rattle.up_store.specs.Lines.{root_file_lines, role_file_lines};
 ghost use Rattle.up_store.specs.Puts.{HasFilesOnce, with_founding, with_keys, with_files};
 ghost use Rattle.up_store.specs.Fitting.{IsNextRoot, IsSameRoot};
 ghost use Rattle.up_tables.specs.Stands.{IfClean, IsAsCommitted, IsInside, IsOpen, IsWithin};
 ghost use Rattle.up_tables.specs.Statements.{IsStep, IsOpenStep};
+ghost use Rattle.up_tables.specs.Tried.{BlamesOne, Ran};
+ghost use Rattle.up_store.specs.Writes.{FitsFounding, founding_writes, key_writes, file_writes, register_writes, root_writes};
 ghost use Rattle.up_store.specs.Connections.{NeedsOpen, Answers, FindsRows, Blames, BlamesWithin, PutsRows, PutsTables, TakesRows, CommitsRows, SparesRows};
+ghost use Rattle.up_store.specs.Connections.{BlamesWrite, RanWrite};
 
 use crate::column_values::{check_version, moment_in};
 use crate::files::{make_role_files, make_root_files};
-use crate::keys::{make_keys, read_keys, repository_word};
+use crate::keys::{keeps_thresholds, make_keys, read_keys, repository_word};
 use crate::store::{MOST_NUMBER, Store, StoreFault, commit};
 use sqlite::{Alter, Transaction};
 use std::alloc::Global;
@@ -39,7 +42,7 @@ impl<D: Alter> Store<D> {
     /// The founding: the last root version with its keys, the image repository's version and its moment; none before founding.
     pub fn founding(&mut self, alloc: Global) -> Result<Option<Founding>, StoreFault>
         ensures told { Answers (λ rows. rows.founding) (state D.Store self.old) (state D.Store self.new) result }
-        ensures blame { Blames (λ rows. IfSome rows.founding IsFoundingValue) (state D.Store self.old) (state D.Store self.new) result }
+        ensures blame { Blames (state D.Store self.old) (state D.Store self.new) result }
         ensures kept { IfClean (IsAsCommitted (state D.Store self.old)) (state D.Store self.new) }
         ensures crash { Survives (state D.Store self.old) (state D.Store self.new) (λ _. ⊥) }
         ensures open { NeedsOpen (state D.Store self.old) (state D.Store self.new) result }
@@ -51,7 +54,7 @@ impl<D: Alter> Store<D> {
     /// Whether the repositories are founded.
     pub fn is_founded(&mut self) -> Result<bool, StoreFault>
         ensures told { Answers (λ rows. is_some rows.founding) (state D.Store self.old) (state D.Store self.new) result }
-        ensures blame { Blames (λ _. ⊤) (state D.Store self.old) (state D.Store self.new) result }
+        ensures blame { Blames (state D.Store self.old) (state D.Store self.new) result }
         ensures kept { IfClean (IsAsCommitted (state D.Store self.old)) (state D.Store self.new) }
         ensures crash { Survives (state D.Store self.old) (state D.Store self.new) (λ _. ⊥) }
         ensures open { NeedsOpen (state D.Store self.old) (state D.Store self.new) result }
@@ -68,7 +71,7 @@ impl<D: Alter> Store<D> {
         name: &FileName,
     ) -> Result<Option<Text>, StoreFault>
         ensures told { Answers (λ rows. text_held rows repository name.now) (state D.Store self.old) (state D.Store self.new) result }
-        ensures blame { Blames (λ rows. IfSome (text_held rows repository name.now) IsUtf8) (state D.Store self.old) (state D.Store self.new) result }
+        ensures blame { Blames (state D.Store self.old) (state D.Store self.new) result }
         ensures kept { IfClean (IsAsCommitted (state D.Store self.old)) (state D.Store self.new) }
         ensures crash { Survives (state D.Store self.old) (state D.Store self.new) (λ _. ⊥) }
         ensures open { NeedsOpen (state D.Store self.old) (state D.Store self.new) result }
@@ -88,6 +91,9 @@ impl<D: Alter> Store<D> {
         ensures crash { SparesRows (IsNextRoot new.now) (λ rows. with_root_rows rows new.now) (state D.Store self.old) (state D.Store self.new) }
         ensures clean { HasCleanDisk (state D.Store self.new) → HasCleanDisk (state D.Store self.old) }
         ensures open { NeedsOpen (state D.Store self.old) (state D.Store self.new) result }
+        ensures ran { RanWrite (root_writes new.now) (state D.Store self.old) (state D.Store self.new) result }
+        ensures blame { BlamesWrite (root_writes new.now) (λ _. FitsFounding new.now.founding)
+            (state D.Store self.old) (state D.Store self.new) result }
     {
         self.write_root(alloc, new)
     }
@@ -102,6 +108,9 @@ impl<D: Alter> Store<D> {
         ensures crash { SparesRows (IsNextRoot new.now) (λ rows. with_root_rows rows new.now) (state D.Store self.old) (state D.Store self.new) }
         ensures clean { HasCleanDisk (state D.Store self.new) → HasCleanDisk (state D.Store self.old) }
         ensures open { NeedsOpen (state D.Store self.old) (state D.Store self.new) result }
+        ensures ran { RanWrite (root_writes new.now) (state D.Store self.old) (state D.Store self.new) result }
+        ensures blame { BlamesWrite (root_writes new.now) (λ _. FitsFounding new.now.founding)
+            (state D.Store self.old) (state D.Store self.new) result }
     {
         self.write_root(alloc, new)
     }
@@ -116,6 +125,9 @@ impl<D: Alter> Store<D> {
         ensures crash { SparesRows (IsNextRoot new.now) (λ rows. with_root_rows rows new.now) (state D.Store self.old) (state D.Store self.new) }
         ensures clean { HasCleanDisk (state D.Store self.new) → HasCleanDisk (state D.Store self.old) }
         ensures open { NeedsOpen (state D.Store self.old) (state D.Store self.new) result }
+        ensures ran { RanWrite (root_writes new.now) (state D.Store self.old) (state D.Store self.new) result }
+        ensures blame { BlamesWrite (root_writes new.now) (λ _. FitsFounding new.now.founding)
+            (state D.Store self.old) (state D.Store self.new) result }
     {
         let mut tx = self.conn.transaction();
         if let Err(fault) = put_root(&mut tx, alloc, new) {
@@ -134,6 +146,9 @@ impl<D: Alter> Store<D> {
         ensures crash { SparesRows (IsSameRoot new.now) (λ rows. with_register_rows rows new.now) (state D.Store self.old) (state D.Store self.new) }
         ensures clean { HasCleanDisk (state D.Store self.new) → HasCleanDisk (state D.Store self.old) }
         ensures open { NeedsOpen (state D.Store self.old) (state D.Store self.new) result }
+        ensures ran { RanWrite (register_writes new.now) (state D.Store self.old) (state D.Store self.new) result }
+        ensures blame { BlamesWrite (register_writes new.now) (λ _. FitsFounding new.now.founding)
+            (state D.Store self.old) (state D.Store self.new) result }
     {
         let mut tx = self.conn.transaction();
         if let Err(fault) = put_register(&mut tx, alloc, new) {
@@ -150,8 +165,7 @@ fn find_founding<D: Alter>(
 ) -> Result<Option<Founding>, StoreFault>
     requires mode { IfClean IsInside (state D.Store tx.old.conn.now) }
     ensures found { FindsRows (λ rows. rows.founding) (state D.Store tx.old.conn.now) (state D.Store tx.new.conn.now) result }
-    ensures blame { BlamesWithin (λ rows. IfSome rows.founding IsFoundingValue)
-        (state D.Store tx.old.conn.now) (state D.Store tx.new.conn.now) result }
+    ensures blame { BlamesWithin (λ _. ⊤) (state D.Store tx.old.conn.now) (state D.Store tx.new.conn.now) result }
     ensures open { NeedsOpen (state D.Store tx.old.conn.now) (state D.Store tx.new.conn.now) result }
     ensures step { IsStep D.Store tx.old.conn tx.new.conn }
 {
@@ -197,8 +211,7 @@ fn find_founded<D: Alter>(
     requires open { IfClean IsOpen (state D.Store tx.old.conn.now) }
     ensures found { HasCleanDisk (state D.Store tx.new.conn.now) → IfOk result (λ found. (rows : StateRows)
         → IsWithin up_schema (ListsRows rows) (state D.Store tx.old.conn.now) → row ≡ meta_told rows.founding → found ≡ rows.founding) }
-    ensures blame { BlamesWithin (λ rows. (row ≡ meta_told rows.founding) × IfSome rows.founding IsFoundingValue)
-        (state D.Store tx.old.conn.now) (state D.Store tx.new.conn.now) result }
+    ensures blame { BlamesWithin (λ rows. row ≡ meta_told rows.founding) (state D.Store tx.old.conn.now) (state D.Store tx.new.conn.now) result }
     ensures step { IsStep D.Store tx.old.conn tx.new.conn }
 {
     if row.root == 0 {
@@ -218,7 +231,7 @@ fn read_founding(
     keys: &[RoleKeyRow],
 ) -> Result<Option<Founding>, StoreFault>
     ensures found { IfOk result (λ read. IsFoundingOf row keys.now read) }
-    ensures fault { (told : Option FoundingData) (is : IsFoundingOf row keys.now told) → IsValidFounding is.founding → IfErr result (λ fault. fault ≡ StoreFault.Memory) }
+    ensures fault { (told : Option FoundingData) (is : IsFoundingOf row keys.now told) → IsTypedFounding is.founding → IfErr result (λ fault. fault ≡ StoreFault.Memory) }
 {
     Ok(Some(Founding {
         root: row.root,
@@ -236,8 +249,7 @@ fn find_file<D: Alter>(
 ) -> Result<Option<Text>, StoreFault>
     requires mode { IfClean IsInside (state D.Store tx.old.conn.now) }
     ensures found { FindsRows (λ rows. text_held rows repository name.now) (state D.Store tx.old.conn.now) (state D.Store tx.new.conn.now) result }
-    ensures blame { BlamesWithin (λ rows. IfSome (text_held rows repository name.now) IsUtf8)
-        (state D.Store tx.old.conn.now) (state D.Store tx.new.conn.now) result }
+    ensures blame { BlamesWithin (λ _. ⊤) (state D.Store tx.old.conn.now) (state D.Store tx.new.conn.now) result }
     ensures open { NeedsOpen (state D.Store tx.old.conn.now) (state D.Store tx.new.conn.now) result }
     ensures step { IsStep D.Store tx.old.conn tx.new.conn }
 {
@@ -257,6 +269,9 @@ fn put_root<D: Alter>(
     requires mode { IfClean IsInside (state D.Store tx.old.conn.now) }
     ensures put { PutsRows (IsNextRoot new.now) (λ rows. with_root_rows rows new.now)
         (state D.Store tx.old.conn.now) (state D.Store tx.new.conn.now) result }
+    ensures ran { Ran (root_writes new.now) (state D.Store tx.old.conn.now) (state D.Store tx.new.conn.now) result }
+    ensures blame { BlamesOne (root_writes new.now) (λ _. FitsFounding new.now.founding)
+        (state D.Store tx.old.conn.now) (state D.Store tx.new.conn.now) result }
     ensures step { IsOpenStep D.Store tx.old.conn tx.new.conn result }
 {
     check_version(new.founding.root)?;
@@ -275,6 +290,9 @@ pub(crate) fn put_register<D: Alter>(
     requires mode { IfClean IsInside (state D.Store tx.old.conn.now) }
     ensures put { PutsRows (IsSameRoot new.now) (λ rows. with_register_rows rows new.now)
         (state D.Store tx.old.conn.now) (state D.Store tx.new.conn.now) result }
+    ensures ran { Ran (register_writes new.now) (state D.Store tx.old.conn.now) (state D.Store tx.new.conn.now) result }
+    ensures blame { BlamesOne (register_writes new.now) (λ _. FitsFounding new.now.founding)
+        (state D.Store tx.old.conn.now) (state D.Store tx.new.conn.now) result }
     ensures step { IsOpenStep D.Store tx.old.conn tx.new.conn result }
 {
     put_founding(tx, &new.founding)?;
@@ -288,6 +306,10 @@ fn put_founding<D: Alter>(
 ) -> Result<(), StoreFault>
     requires mode { IfClean IsInside (state D.Store tx.old.conn.now) }
     ensures put { PutsTables (λ _. ⊤) (with_founding founding.now) (state D.Store tx.old.conn.now) (state D.Store tx.new.conn.now) result }
+    ensures typed { OnOk result (IsTypedFounding founding.now) }
+    ensures ran { Ran (founding_writes founding.now) (state D.Store tx.old.conn.now) (state D.Store tx.new.conn.now) result }
+    ensures blame { BlamesOne (founding_writes founding.now) (λ _. FitsFounding founding.now)
+        (state D.Store tx.old.conn.now) (state D.Store tx.new.conn.now) result }
     ensures step { IsOpenStep D.Store tx.old.conn tx.new.conn result }
 {
     let row = make_meta(founding)?;
@@ -298,12 +320,15 @@ fn put_founding<D: Alter>(
 fn make_meta(founding: &Founding) -> Result<MetaRow, StoreFault>
     ensures same { IfOk result (λ made. made ≡ meta_told (Some founding.now)) }
     ensures fit { IfOk result FitMeta }
+    ensures typed { OnOk result (IsTypedFounding founding.now) }
     ensures large { (result ≡ Err StoreFault.Store) ↔ ((2 ^ 63 ≤ founding.now.root) ⊎ (2 ^ 63 ≤ founding.now.image_version)) }
     ensures fault { IfErr result (λ fault. fault ≡ StoreFault.Store) }
 {
     if founding.root > MOST_NUMBER || founding.image_version > MOST_NUMBER {
         return Err(StoreFault::Store);
     }
+    keeps_thresholds(&founding.keys.director);
+    keeps_thresholds(&founding.keys.image);
     Ok(MetaRow {
         root: founding.root,
         image_version: founding.image_version,
@@ -320,6 +345,9 @@ fn put_keys<D: Alter>(
     requires mode { IfClean IsInside (state D.Store tx.old.conn.now) }
     requires open { IfClean IsOpen (state D.Store tx.old.conn.now) }
     ensures put { PutsTables (λ _. ⊤) (with_keys founding.now) (state D.Store tx.old.conn.now) (state D.Store tx.new.conn.now) result }
+    ensures ran { Ran (key_writes founding.now) (state D.Store tx.old.conn.now) (state D.Store tx.new.conn.now) result }
+    ensures blame { BlamesOne (key_writes founding.now) (λ _. FitsFounding founding.now)
+        (state D.Store tx.old.conn.now) (state D.Store tx.new.conn.now) result }
     ensures step { IsOpenStep D.Store tx.old.conn tx.new.conn result }
 {
     check_version(founding.root)?;
@@ -337,6 +365,10 @@ fn put_root_files<D: Alter>(
     requires open { IfClean IsOpen (state D.Store tx.old.conn.now) }
     ensures put { PutsTables HasFilesOnce (with_files (root_file_lines new.now))
         (state D.Store tx.old.conn.now) (state D.Store tx.new.conn.now) result }
+    ensures typed { OnOk result (IsUtf8 new.now.director × IsUtf8 new.now.image) }
+    ensures ran { Ran (file_writes (root_file_lines new.now)) (state D.Store tx.old.conn.now) (state D.Store tx.new.conn.now) result }
+    ensures blame { BlamesOne (file_writes (root_file_lines new.now)) (λ _. ⊤)
+        (state D.Store tx.old.conn.now) (state D.Store tx.new.conn.now) result }
     ensures step { IsOpenStep D.Store tx.old.conn tx.new.conn result }
 {
     let files = make_root_files(alloc, new)?;
@@ -352,6 +384,10 @@ fn put_role_files<D: Alter>(
     requires mode { IfClean IsInside (state D.Store tx.old.conn.now) }
     requires open { IfClean IsOpen (state D.Store tx.old.conn.now) }
     ensures put { PutsTables HasFilesOnce (with_files (role_file_lines texts.now))
+        (state D.Store tx.old.conn.now) (state D.Store tx.new.conn.now) result }
+    ensures typed { OnOk result (AreTypedTexts texts.now) }
+    ensures ran { Ran (file_writes (role_file_lines texts.now)) (state D.Store tx.old.conn.now) (state D.Store tx.new.conn.now) result }
+    ensures blame { BlamesOne (file_writes (role_file_lines texts.now)) (λ _. ⊤)
         (state D.Store tx.old.conn.now) (state D.Store tx.new.conn.now) result }
     ensures step { IsOpenStep D.Store tx.old.conn tx.new.conn result }
 {

@@ -9,10 +9,12 @@ ghost use Rattle.up_tables.specs.declared.values.StoreFault.TheVariants as Store
 ghost use Rattle.up_plan.specs.Images.{ImageData};
 ghost use Rattle.up_tables.specs.Stands.{IfClean, IsInside, IsOpen};
 ghost use Rattle.up_tables.specs.Statements.{IsStep, IsOpenStep};
+ghost use Rattle.up_tables.specs.Texts.{insert_sha512_text};
+ghost use Rattle.up_tables.specs.Tried.{BlamesOne, Ran};
 ghost use Rattle.up_store.specs.ColumnRows.{AreHashesOf, AreSha512s};
-ghost use Rattle.up_store.specs.Lines.{second_hash};
+ghost use Rattle.up_store.specs.Lines.{second_hash, sha512_lines};
+ghost use Rattle.up_store.specs.Writes.{each_with};
 ghost use Rattle.up_store.specs.Puts.{with_sha512_line};
-ghost use Rattle.up_store.specs.Typed.{IsImageValue, AreImageValues};
 ghost use Rattle.up_store.specs.Connections.{NeedsOpen, BlamesWithin, FindsRows, FindsSuch, PutsTables};
 
 use crate::column_values::sha512_in;
@@ -34,8 +36,7 @@ pub(crate) fn find_sha512<D: Alter>(
     ensures found { FindsRows (λ rows. second_hash (table.get rows.images file.now))
         (state D.Store tx.old.conn.now) (state D.Store tx.new.conn.now) result }
     ensures open { NeedsOpen (state D.Store tx.old.conn.now) (state D.Store tx.new.conn.now) result }
-    ensures blame { BlamesWithin (λ rows. IfSome (table.get rows.images file.now) IsImageValue)
-        (state D.Store tx.old.conn.now) (state D.Store tx.new.conn.now) result }
+    ensures blame { BlamesWithin (λ _. ⊤) (state D.Store tx.old.conn.now) (state D.Store tx.new.conn.now) result }
     ensures step { IsStep D.Store tx.old.conn tx.new.conn }
 {
     match image_sha512(tx, file.text()) {
@@ -63,7 +64,7 @@ pub(crate) fn find_sha512s<D: Alter>(
     requires mode { IfClean IsInside (state D.Store tx.old.conn.now) }
     ensures found { FindsSuch (λ rows read. AreHashesOf read rows.images) (state D.Store tx.old.conn.now) (state D.Store tx.new.conn.now) result }
     ensures open { NeedsOpen (state D.Store tx.old.conn.now) (state D.Store tx.new.conn.now) result }
-    ensures blame { BlamesWithin (λ rows. AreImageValues rows.images) (state D.Store tx.old.conn.now) (state D.Store tx.new.conn.now) result }
+    ensures blame { BlamesWithin (λ _. ⊤) (state D.Store tx.old.conn.now) (state D.Store tx.new.conn.now) result }
     ensures step { IsStep D.Store tx.old.conn tx.new.conn }
 {
     match image_sha512s(tx, alloc) {
@@ -104,6 +105,11 @@ pub(crate) fn put_sha512<D: Alter>(
     requires mode { IfClean IsInside (state D.Store tx.old.conn.now) }
     requires open { IfClean IsOpen (state D.Store tx.old.conn.now) }
     ensures put { PutsTables (λ _. ⊤) (with_sha512_line image.now) (state D.Store tx.old.conn.now) (state D.Store tx.new.conn.now) result }
+    ensures typed { OnOk result (IfSome image.now.sha512 (λ hash. length hash ≡ 64)) }
+    ensures ran { Ran (each_with insert_sha512_text (sha512_lines image.now.file image.now.sha512))
+        (state D.Store tx.old.conn.now) (state D.Store tx.new.conn.now) result }
+    ensures blame { BlamesOne (each_with insert_sha512_text (sha512_lines image.now.file image.now.sha512)) (λ _. ⊤)
+        (state D.Store tx.old.conn.now) (state D.Store tx.new.conn.now) result }
     ensures step { IsOpenStep D.Store tx.old.conn tx.new.conn result }
 {
     match &image.sha512 {

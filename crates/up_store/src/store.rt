@@ -4,7 +4,8 @@ ghost use Rattle.std.specs.Result.{IsOk};
 ghost use Rattle.sqlite.specs.Held.{state};
 ghost use Rattle.sqlite.specs.State.{HasCleanDisk, Survives, IsRolledBack};
 ghost use Rattle.up_rows.specs.StateRows.{StateRows, no_rows};
-ghost use Rattle.up_tables.specs.Ours.{NamesUs, NamesOlder, NamesOthers, HasFailed, IsHindered};
+ghost use Rattle.up_tables.specs.Making.{FailsToMake, FailsToRaise};
+ghost use Rattle.up_tables.specs.Ours.{NamesUs, NamesOthers, HasFailed, IsHindered};
 ghost use Rattle.up_tables.specs.Stands.{IfClean, IsInside, IsAsCommitted, LeavesOnly, HasNoTables};
 ghost use Rattle.up_tables.specs.declared.open.OpenFault.TheVariants.{NotOurs};
 ghost use Rattle.up_tables.specs.declared.open.OpenFault.TheVariants as Fault;
@@ -59,6 +60,8 @@ impl<D: Alter> Store<D> {
         ensures durable { IfOk result (λ s. IfClean (LeavesOnly (HoldsRows no_rows)) (state D.Store s)) }
         ensures empty { IfOk result (λ s. HasCleanDisk (state D.Store s) → HasNoTables (state D.Store conn)) }
         ensures full { IfErr result (λ e. IsTrue (state D.Store conn).is_open → ¬ HasNoTables (state D.Store conn) → e.1 ≡ Fault.Store) }
+        ensures cause { IfErr result (λ e. e.1 ≡ Fault.Store → HasCleanDisk (state D.Store e.0)
+            → FailsToMake (state D.Store conn) (state D.Store e.0)) }
         ensures crash { IfOk result (λ s. Survives (state D.Store conn) (state D.Store s) (MadeIn (state D.Store conn))) }
         ensures open { IfOk result (λ s. HasCleanDisk (state D.Store s) → IsTrue (state D.Store conn).is_open) }
         ensures kept { IfErr result (λ e. IfClean (IsAsCommitted (state D.Store conn)) (state D.Store e.0)) }
@@ -75,8 +78,9 @@ impl<D: Alter> Store<D> {
     /// Takes a database that this product left, and raises one of an older schema, in one transaction: no ECU of a database of schema 1 was replaced,
     /// and no image of one of schema 1 or 2 has a second hash. `NotOurs` where the database refuses the query on `meta`, as one without such a
     /// table does, or `meta` names another product or a schema but 1, 2 and 3, and never of tables that list rows of this product. `Memory` for
-    /// want of memory, and `Store` only where the connection was shut, the disk failed, a limit on steps was met, or, of an older schema, a
-    /// statement that raises the tables was refused. What the tables show stays, and a fault hands the connection back as it was committed, with no transaction under way.
+    /// want of memory, and `Store` only where the connection was shut, the disk failed, a limit on steps was met, or `meta` names an older schema,
+    /// and then of tables of this product only where the database refuses one of the statements that raise them. What the tables show stays, and a
+    /// fault hands the connection back as it was committed, with no transaction under way.
     pub fn adopt(mut conn: Connection<D>) -> Result<Store<D>, (Connection<D>, OpenFault)>
         requires { (state D.Store conn).in_transaction ≡ false }
         ensures ours { IfOk result (λ s. HasCleanDisk (state D.Store s) → NamesUs (state D.Store conn)) }
@@ -89,7 +93,7 @@ impl<D: Alter> Store<D> {
         ensures never { IfErr result (λ e. HasCleanDisk (state D.Store e.0)
             → (version : SchemaVersion) (rows : StateRows) → IfClean (KeepsAs version rows) (state D.Store conn) → e.1 ≢ NotOurs) }
         ensures cause { IfErr result (λ e. e.1 ≡ Fault.Store → HasCleanDisk (state D.Store e.0)
-            → IsHindered (state D.Store conn) (state D.Store e.0) ⊎ NamesOlder (state D.Store conn)) }
+            → IsHindered (state D.Store conn) (state D.Store e.0) ⊎ FailsToRaise (state D.Store conn)) }
         ensures crash_err { IfErr result (λ e. Survives (state D.Store conn) (state D.Store e.0) (RaisedRows (state D.Store conn))) }
         ensures mode { IfErr result (λ e. (state D.Store e.0).in_transaction ≡ false) }
     {

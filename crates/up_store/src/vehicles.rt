@@ -1,22 +1,25 @@
 //! Vehicles and their ECUs.
-ghost use Rattle.std.specs.Prelude.{◌≡◌, OnErr, IfOk, Some, string_bytes};
+ghost use Rattle.std.specs.Prelude.{◌≡◌, ⊤, OnErr, OnOk, IfOk, Some, string_bytes};
 ghost use Rattle.sqlite.specs.Held.{state};
 ghost use Rattle.sqlite.specs.State.{HasCleanDisk, Survives};
 ghost use Rattle.up_rows.specs.Changes.{with_vehicle_rows};
 ghost use Rattle.up_store.specs.Fitting.{IsNewVehicle};
-ghost use Rattle.std.specs.Prelude.{◌↔◌, ◌<◌, ◌≤◌, ◌^◌, true, false, Err, IfErr, IfSome};
+ghost use Rattle.std.specs.Prelude.{◌↔◌, ◌<◌, ◌≤◌, ◌^◌, true, false, Err, IfErr};
 ghost use Rattle.std.specs.List.{AllByRecursion};
 ghost use Rattle.up_canon.specs.Canon.{max_count};
 ghost use Rattle.up_canon.specs.Names.{is_ident};
 ghost use Rattle.up_tables.specs.declared.values.StoreFault.TheVariants as StoreFault;
 ghost use Rattle.up_store.specs.Shown.{vehicle_read};
-ghost use Rattle.up_store.specs.Typed.{AreNamed, IsEcuValue, IsValidVehicle};
+ghost use Rattle.up_store.specs.Typed.{IsTypedVehicleRow};
 ghost use Rattle.up_rows.specs.Lookups.{last_owner, owner_found};
 ghost use Rattle.up_store.specs.Found.{vehicle_found, ecus_found};
 ghost use Rattle.up_tables.specs.Stands.{IfClean, IsAsCommitted, IsInside};
 ghost use Rattle.up_tables.specs.Statements.{IsStep, IsOpenStep};
+ghost use Rattle.up_tables.specs.Tried.{BlamesOne, Ran};
+ghost use Rattle.up_rows.specs.SecondHashes.{TellsItsHash};
+ghost use Rattle.up_store.specs.Writes.{FitsVehicle, vehicle_writes};
 ghost use Rattle.up_tables.specs.Forms.{FitVehicle};
-ghost use Rattle.up_store.specs.Connections.{NeedsOpen, Answers, FindsRows, Blames, BlamesWithin, PutsRows, TakesRows, CommitsRows, SparesRows};
+ghost use Rattle.up_store.specs.Connections.{NeedsOpen, Answers, FindsRows, Blames, BlamesWithin, BlamesWrite, PutsRows, RanWrite, TakesRows, CommitsRows, SparesRows};
 
 use crate::column_values::{check_places, count_in, ident_in};
 use crate::ecus::{make_ecus, read_ecus};
@@ -38,7 +41,7 @@ impl<D: Alter> Store<D> {
         vehicle: &Ident,
     ) -> Result<Option<VehicleRow>, StoreFault>
         ensures told { Answers (vehicle_found vehicle.now) (state D.Store self.old) (state D.Store self.new) result }
-        ensures blame { Blames (λ rows. IfSome (vehicle_found vehicle.now rows) IsValidVehicle) (state D.Store self.old) (state D.Store self.new) result }
+        ensures blame { Blames (state D.Store self.old) (state D.Store self.new) result }
         ensures kept { IfClean (IsAsCommitted (state D.Store self.old)) (state D.Store self.new) }
         ensures crash { Survives (state D.Store self.old) (state D.Store self.new) (λ _. ⊥) }
         ensures open { NeedsOpen (state D.Store self.old) (state D.Store self.new) result }
@@ -51,7 +54,7 @@ impl<D: Alter> Store<D> {
     /// The vehicle's ECUs in inventory order; empty of an unknown vehicle.
     pub fn ecus(&mut self, alloc: Global, vehicle: &Ident) -> Result<Listed<EcuRow>, StoreFault>
         ensures told { Answers (ecus_found vehicle.now) (state D.Store self.old) (state D.Store self.new) result }
-        ensures blame { Blames (λ rows. AllByRecursion IsEcuValue (ecus_found vehicle.now rows)) (state D.Store self.old) (state D.Store self.new) result }
+        ensures blame { Blames (state D.Store self.old) (state D.Store self.new) result }
         ensures kept { IfClean (IsAsCommitted (state D.Store self.old)) (state D.Store self.new) }
         ensures crash { Survives (state D.Store self.old) (state D.Store self.new) (λ _. ⊥) }
         ensures open { NeedsOpen (state D.Store self.old) (state D.Store self.new) result }
@@ -63,7 +66,7 @@ impl<D: Alter> Store<D> {
     /// The vehicle in which the ECU stands, else the one in which an ECU of the name was replaced; none of an unknown ECU.
     pub fn ecu_owner(&mut self, alloc: Global, ecu: &Ident) -> Result<Option<Ident>, StoreFault>
         ensures told { Answers (owner_found ecu.now) (state D.Store self.old) (state D.Store self.new) result }
-        ensures blame { Blames (λ rows. AreNamed rows.vehicles) (state D.Store self.old) (state D.Store self.new) result }
+        ensures blame { Blames (state D.Store self.old) (state D.Store self.new) result }
         ensures kept { IfClean (IsAsCommitted (state D.Store self.old)) (state D.Store self.new) }
         ensures crash { Survives (state D.Store self.old) (state D.Store self.new) (λ _. ⊥) }
         ensures open { NeedsOpen (state D.Store self.old) (state D.Store self.new) result }
@@ -83,6 +86,10 @@ impl<D: Alter> Store<D> {
         ensures crash { SparesRows (IsNewVehicle new.now) (λ rows. with_vehicle_rows rows new.now) (state D.Store self.old) (state D.Store self.new) }
         ensures clean { HasCleanDisk (state D.Store self.new) → HasCleanDisk (state D.Store self.old) }
         ensures open { NeedsOpen (state D.Store self.old) (state D.Store self.new) result }
+        ensures ran { AllByRecursion TellsItsHash new.now.ecus → RanWrite (vehicle_writes new.now)
+            (state D.Store self.old) (state D.Store self.new) result }
+        ensures blame { BlamesWrite (vehicle_writes new.now) (λ rows. IsNewVehicle new.now rows × FitsVehicle new.now)
+            (state D.Store self.old) (state D.Store self.new) result }
     {
         let mut tx = self.conn.transaction();
         if let Err(fault) = put_vehicle(&mut tx, alloc, new) {
@@ -99,8 +106,7 @@ fn find_vehicle<D: Alter>(
 ) -> Result<Option<VehicleRow>, StoreFault>
     requires mode { IfClean IsInside (state D.Store tx.old.conn.now) }
     ensures found { FindsRows (vehicle_found vehicle.now) (state D.Store tx.old.conn.now) (state D.Store tx.new.conn.now) result }
-    ensures blame { BlamesWithin (λ rows. IfSome (vehicle_found vehicle.now rows) IsValidVehicle)
-        (state D.Store tx.old.conn.now) (state D.Store tx.new.conn.now) result }
+    ensures blame { BlamesWithin (λ _. ⊤) (state D.Store tx.old.conn.now) (state D.Store tx.new.conn.now) result }
     ensures open { NeedsOpen (state D.Store tx.old.conn.now) (state D.Store tx.new.conn.now) result }
     ensures step { IsStep D.Store tx.old.conn tx.new.conn }
 {
@@ -133,8 +139,7 @@ fn find_ecus<D: Alter>(
 ) -> Result<Listed<EcuRow>, StoreFault>
     requires mode { IfClean IsInside (state D.Store tx.old.conn.now) }
     ensures found { FindsRows (ecus_found vehicle.now) (state D.Store tx.old.conn.now) (state D.Store tx.new.conn.now) result }
-    ensures blame { BlamesWithin (λ rows. AllByRecursion IsEcuValue (ecus_found vehicle.now rows))
-        (state D.Store tx.old.conn.now) (state D.Store tx.new.conn.now) result }
+    ensures blame { BlamesWithin (λ _. ⊤) (state D.Store tx.old.conn.now) (state D.Store tx.new.conn.now) result }
     ensures open { NeedsOpen (state D.Store tx.old.conn.now) (state D.Store tx.new.conn.now) result }
     ensures step { IsStep D.Store tx.old.conn tx.new.conn }
 {
@@ -151,7 +156,7 @@ fn find_owner<D: Alter>(
 ) -> Result<Option<Ident>, StoreFault>
     requires mode { IfClean IsInside (state D.Store tx.old.conn.now) }
     ensures found { FindsRows (owner_found ecu.now) (state D.Store tx.old.conn.now) (state D.Store tx.new.conn.now) result }
-    ensures blame { BlamesWithin (λ rows. AreNamed rows.vehicles) (state D.Store tx.old.conn.now) (state D.Store tx.new.conn.now) result }
+    ensures blame { BlamesWithin (λ _. ⊤) (state D.Store tx.old.conn.now) (state D.Store tx.new.conn.now) result }
     ensures open { NeedsOpen (state D.Store tx.old.conn.now) (state D.Store tx.new.conn.now) result }
     ensures step { IsStep D.Store tx.old.conn tx.new.conn }
 {
@@ -169,7 +174,7 @@ fn find_retired<D: Alter>(
 ) -> Result<Option<Ident>, StoreFault>
     requires mode { IfClean IsInside (state D.Store tx.old.conn.now) }
     ensures found { FindsRows (last_owner ecu.now) (state D.Store tx.old.conn.now) (state D.Store tx.new.conn.now) result }
-    ensures blame { BlamesWithin (λ rows. AreNamed rows.vehicles) (state D.Store tx.old.conn.now) (state D.Store tx.new.conn.now) result }
+    ensures blame { BlamesWithin (λ _. ⊤) (state D.Store tx.old.conn.now) (state D.Store tx.new.conn.now) result }
     ensures open { NeedsOpen (state D.Store tx.old.conn.now) (state D.Store tx.new.conn.now) result }
     ensures step { IsStep D.Store tx.old.conn tx.new.conn }
 {
@@ -200,6 +205,10 @@ fn put_vehicle<D: Alter>(
     requires mode { IfClean IsInside (state D.Store tx.old.conn.now) }
     ensures put { PutsRows (IsNewVehicle new.now) (λ rows. with_vehicle_rows rows new.now)
         (state D.Store tx.old.conn.now) (state D.Store tx.new.conn.now) result }
+    ensures ran { AllByRecursion TellsItsHash new.now.ecus → Ran (vehicle_writes new.now)
+        (state D.Store tx.old.conn.now) (state D.Store tx.new.conn.now) result }
+    ensures blame { BlamesOne (vehicle_writes new.now) (λ _. FitsVehicle new.now × AllByRecursion TellsItsHash new.now.ecus)
+        (state D.Store tx.old.conn.now) (state D.Store tx.new.conn.now) result }
     ensures step { IsOpenStep D.Store tx.old.conn tx.new.conn result }
 {
     let vehicle = make_vehicle(alloc, &new.vehicle)?;
@@ -213,6 +222,7 @@ fn put_vehicle<D: Alter>(
 pub(crate) fn make_vehicle(alloc: Global, row: &VehicleRow) -> Result<VehicleShown, StoreFault>
     ensures same { IfOk result (λ made. vehicle_read made ≡ row.now) }
     ensures fit { IfOk result FitVehicle }
+    ensures typed { OnOk result (IsTypedVehicleRow row.now) }
     ensures large { (result ≡ Err StoreFault.Store) ↔ (2 ^ 63 ≤ row.now.version) }
 {
     if row.version > MOST_NUMBER {

@@ -56,14 +56,23 @@ none_of f g h (inr (inr k)) = h k.0
 pub same_count : {m n : ℕ} → Some m ≡ Some n → m ≡ n
 same_count p = cc
 
+-- it is a statement that doesn't read the time
+abbrev pub IsUntimed : Result Compiled CompileError → Type 0
+IsUntimed (Ok c) = c.formats ≡ []
+IsUntimed (Err e) = ⊥
+
+pub plain_untimed : (r : Result Compiled CompileError) → IsPlain r → IsUntimed r
+plain_untimed (Ok c) plain = plain.1
+plain_untimed (Err e) plain = plain
+
 -- a text that is understood whole, with so many parameters, is a statement
-pub is_statement : (schema : Schema) (text : List ℕ) (params : Row) → IsPlain (understood schema text) → is_whole text (understood schema text) ≡ true → count_of (understood schema text) ≡ Some (length params)
+pub is_statement : (schema : Schema) (text : List ℕ) (params : Row) → IsUntimed (understood schema text) → is_whole text (understood schema text) ≡ true → count_of (understood schema text) ≡ Some (length params)
     → (s : State) (e : Error) → s.now.schema ≡ schema → IsNoStatement s text params e → ⊥
-is_statement schema text params plain whole count s e has (inl h) = subst IsPlain (sym (ap (λ x. understood x text) has) ∙ h.1) plain
-is_statement schema text params plain whole count s e has (inr h) =
+is_statement schema text params untimed whole count s e has (inl h) = subst IsUntimed (sym (ap (λ x. understood x text) has) ∙ h.1) untimed
+is_statement schema text params untimed whole count s e has (inr h) =
     let known : understood schema text ≡ Ok h.0 = sym (ap (λ x. understood x text) has) ∙ h.1 in
     none_of (λ cut. cut (leb-true (length text) h.0.tail (ap (is_whole text) (sym known) ∙ whole))) (λ more. more (same_count (sym count ∙ ap count_of known)))
-    (λ timed. timed (subst IsPlain known plain).1) h.2
+    (λ timed. timed (subst IsUntimed known untimed)) h.2
 
 -- ---- queries on one table
 
@@ -112,7 +121,7 @@ module _ (old new : State) (ready : IsReadable old) (e : Error) (told : store_fa
 
     fails : FailsToQuery text params old new e → MoreFaults old.faults new.faults
     unfolding FailsToQuery IsNotRun
-    fails (inl (inl h)) = absurd (is_statement up_schema text params asks.2 takes.0 takes.1 old e ready.here.schema_is h.0)
+    fails (inl (inl h)) = absurd (is_statement up_schema text params (plain_untimed _ asks.2) takes.0 takes.1 old e ready.here.schema_is h.0)
     fails (inl (inr h)) = elim (cause_of old new ready.is_open e told ⊥ h.0 h.1 h.2) [ inl more ↦ more | inr never ↦ absurd never ]
     fails (inr h) = absurd (not_shown h.0 h.1 h.2)
 

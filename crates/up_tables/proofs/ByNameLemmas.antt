@@ -1,5 +1,5 @@
 -- Tables that list rows by name: a row is put in, and all are read.
-use Rattle.std.proofs.Common.{◌≡◌, ℕ, suc, List, [], ◌∷◌, ◌++◌, map, filter, Bool, true, false, cond, ◌&&◌, if◌then◌else◌, Option, Ok, Err, Result, OnOk, IfOk, IfErr, ◌⊎◌, refl, sym, ap, subst, ◌∙◌, drop, append-nil, bytes_eq}
+use Rattle.std.proofs.Common.{◌≡◌, ℕ, suc, List, [], ◌∷◌, ◌++◌, map, filter, Bool, true, false, cond, if◌then◌else◌, Option, Ok, Err, Result, OnOk, IfOk, IfErr, ◌⊎◌, refl, sym, ap, subst, ◌∙◌, drop, append-nil, bytes_eq}
 use Rattle.std.specs.List.{AllByRecursion}
 use Rattle.std.specs.List.Sorted.{IsPermutation}
 use Rattle.std.specs.Ordering.{is_eq}

@@ -1,5 +1,5 @@
 -- The rows of a vehicle's ECUs are put in, one after another.
-use Rattle.std.proofs.Common.{◌≡◌, ℕ, zero, suc, ◌+◌, List, [], ◌∷◌, ◌++◌, map, take, length, slice_get, Some, Result, OnOk, IsTrue, Bool, true, false, if◌then◌else◌, refl, sym, ap, subst, ◌∙◌, codes, append-nil, append_assoc, bytes_eq, arith}
+use Rattle.std.proofs.Common.{◌≡◌, ℕ, zero, suc, ◌+◌, List, [], ◌∷◌, ◌++◌, map, take, length, slice_get, Some, Result, OnOk, IsTrue, Bool, true, false, if◌then◌else◌, refl, sym, ap, subst, ◌∙◌, append-nil, append_assoc, bytes_eq, arith}
 use Rattle.std.proofs.lemmas.List.{map-append}
 use Rattle.sqlite.specs.declared.types.Value.TheVariants.{Null}
 use Rattle.sqlite.specs.declared.error.Error.{Error}
@@ -11,6 +11,7 @@ use Rattle.sqlite.specs.State.{State, HasCleanDisk, Survives, ExecutesInside}
 use Rattle.sqlite.proofs.Callers.{IsPlain, command_of}
 use Rattle.sqlite_tied.specs.Compute.{everything}
 use Rattle.up_tables.specs.Tables.{up_schema, ecu_table}
+use Rattle.up_tables.specs.Texts.{insert_ecu_text}
 use Rattle.up_tables.specs.Rows.{changed_at, with_row}
 use Rattle.up_tables.specs.Lines.{EcuLine, ecu_row, IsKept}
 use Rattle.up_tables.specs.Stands.{Lists, IfClean, IsInside, IsOpen, Alters, HasTables}
@@ -20,14 +21,16 @@ use Rattle.up_tables.proofs.EcuRows.{text_is}
 use Rattle.up_tables.proofs.EcuSets.{lists_same}
 use Rattle.up_tables.proofs.EcuUpsert.{terms, casts}
 use Rattle.up_tables.proofs.InsertLemmas.{inserts_in}
+use Rattle.up_tables.proofs.RefusalLemmas.{Writes}
 use Rattle.up_tables.proofs.OthersLemmas.{alters_to, alters_none, has_after, alters_then}
-
-abbrev pub insert_ecu_text : List ℕ
-insert_ecu_text = codes "INSERT INTO ecu (ecu, vehicle, place, hardware, public_key, file, length, sha256, counter, report) VALUES (?1, ?2, ?3, ?4, ?5, ?6, ?7, ?8, ?9, ?10)"
 
 insert_is : (command_of (understood up_schema insert_ecu_text) ≡ Insert 6 (Values terms 11)) × IsPlain (understood up_schema insert_ecu_text)
 unfolding understood everything
 insert_is = (refl, (refl, refl))
+
+pub insert_ecu_writes : (e : EcuLine) → Writes insert_ecu_text (ecu_row e) (Insert 6 (Values terms 11))
+unfolding understood everything
+insert_ecu_writes e = record { is = insert_is.0; plain = insert_is.1; writes = refl; whole = refl; count = refl }
 
 pub ecu_inserts : (r : Result ℕ Error) (old new : State) (e : EcuLine) → IsKept e → Survives old new (λ _. ⊥) → IfClean IsInside old
     → (HasCleanDisk new → IsTrue old.in_transaction → ExecutesInside 0 insert_ecu_text (ecu_row e) old new r)

@@ -12,10 +12,10 @@ use Rattle.sqlite_rules.specs.Lists.{Has}
 use Rattle.sqlite_trees.specs.View.{IsShaped}
 use Rattle.sqlite_trees.specs.declared.store.Shape.TheVariants.{Table}
 use Rattle.up_tables.specs.Tables.{up_schema, ecu_table}
+use Rattle.up_tables.specs.Texts.{upsert_ecu_text}
 use Rattle.up_tables.specs.Rows.{has_text, rows_with, changed_at}
 use Rattle.up_tables.specs.Stands.{Lists, IfClean, IsInside, IsOpen, Alters, HasTables}
 use Rattle.up_tables.specs.Lines.{EcuLine, ecu_row, IsKept, IsSameEcu, swapped, set_ecu, AreSameEcus, AreDistinct, IsRecorded, AreRecorded, set_first, set_ecus}
-use Rattle.up_tables.proofs.EcuUpsert.{upsert_ecu_text}
 use Rattle.up_tables.proofs.EcuRows.{text_is, own_text, same_text, swapped_parts, swapped_shaped}
 use Rattle.up_tables.proofs.OthersLemmas.{alters_to, alters_none, has_after, alters_then}
 use Rattle.up_tables.proofs.RunLemmas.{IsRun, run_in, then_ok, run_alters}

@@ -24,6 +24,7 @@ use Rattle.sqlite_schema.specs.declared.command.Conflict.TheVariants.{Abort}
 use Rattle.sqlite_trees.specs.View.{IsShaped, is_int}
 use Rattle.sqlite_trees.specs.declared.store.Shape.TheVariants.{Table}
 use Rattle.up_tables.specs.Tables.{up_schema, ecu_table}
+use Rattle.up_tables.specs.Texts.{upsert_ecu_text}
 use Rattle.up_tables.specs.Rows.{rows_with, has_text}
 use Rattle.up_tables.specs.Lines.{EcuLine, ecu_row, IsKept, IsSameEcu}
 use Rattle.up_tables.proofs.AnswerLemmas.{answer_is, shows_passing, equals_int}
@@ -32,7 +33,7 @@ use Rattle.up_tables.proofs.KeyLemmas.{one_key}
 use Rattle.up_tables.proofs.PlaceLemmas.{only, unique}
 use Rattle.up_tables.proofs.RunLemmas.{idle}
 use Rattle.up_tables.proofs.UpsertLemmas.{tried, resolved, updated, rewritten_by, tries_row}
-use Rattle.up_tables.proofs.EcuUpsert.{upsert_ecu_text, terms, update, clause, update_shown, equals, upsert_is, conflicts_are, casts}
+use Rattle.up_tables.proofs.EcuUpsert.{terms, update, clause, update_shown, equals, upsert_is, conflicts_are, casts}
 use Rattle.up_tables.proofs.EcuRows.{differs, text_is, own_text}
 
 pub with_id : (it row : Row) → is_int (rowid it) ≡ true → drop 1 it ≡ row → (id : ℤ) × (it ≡ Int id ∷ row)

@@ -1,5 +1,5 @@
 -- What the upsert of a file's row does.
-use Rattle.std.proofs.Common.{◌≡◌, ◌≢◌, ◌≤◌, inl, inr, arith, ℕ, ℤ, List, [], ◌∷◌, ◌++◌, map, filter, Bool, true, false, ◌&&◌, if◌then◌else◌, length, Some, Ok, Result, OnOk, Option, IsTrue, refl, sym, ap, subst, ◌∙◌, codes, append-nil, bytes_eq, drop}
+use Rattle.std.proofs.Common.{◌≡◌, ◌≢◌, ◌≤◌, inl, inr, arith, ℕ, ℤ, List, [], ◌∷◌, ◌++◌, map, filter, Bool, true, false, ◌&&◌, if◌then◌else◌, length, Some, Ok, Result, OnOk, Option, IsTrue, refl, sym, ap, subst, ◌∙◌, append-nil, bytes_eq, drop}
 use Rattle.std.specs.Ordering.{is_eq}
 use Rattle.std.proofs.Math.Bool.{and-true}
 use Rattle.sqlite.specs.declared.types.Value.TheVariants.{Null, Int, Text, Blob}
@@ -43,6 +43,7 @@ use Rattle.sqlite_trees.specs.declared.store.Shape.TheVariants.{Table}
 use Rattle.sqlite_value.proofs.OrderLemmas.{value_cmp-apart}
 use Rattle.sqlite_value.specs.Keys.{first_key}
 use Rattle.up_tables.specs.Tables.{up_schema, repo_file_table}
+use Rattle.up_tables.specs.Texts.{upsert_file_text}
 use Rattle.up_tables.specs.Rows.{has_texts, with_only_at}
 use Rattle.up_tables.specs.Stands.{ListsPairs}
 use Rattle.up_tables.proofs.AnswerLemmas.{answer_is, shows_passing}
@@ -53,10 +54,8 @@ use Rattle.up_tables.proofs.EcuSteps.{with_id}
 use Rattle.up_tables.proofs.OnlyLemmas.{rewritten_shaped, part_in, part_out}
 use Rattle.up_tables.proofs.RunLemmas.{IsRun, run_in, then_ok, run_alters, idle}
 use Rattle.up_tables.proofs.PlaceLemmas.{only}
+use Rattle.up_tables.proofs.RefusalLemmas.{Writes}
 use Rattle.up_tables.proofs.UpsertLemmas.{tried, updated, rewritten_by, tries_row}
-
-abbrev pub upsert_file_text : List ℕ
-upsert_file_text = codes "INSERT INTO repo_file (repository, name, body) VALUES (?1, ?2, ?3) ON CONFLICT (repository, name) DO UPDATE SET body = excluded.body"
 
 abbrev update_shown : List Term
 update_shown = col 1 0 ∷ col 1 0 ∷ col 1 1 ∷ col 1 2 ∷ col 0 7 ∷ []
@@ -73,6 +72,10 @@ upsert_is = (refl, (refl, refl))
 
 abbrev pub file_line : List ℕ → List ℕ → List ℕ → Row
 file_line repository name body = Text repository ∷ Text name ∷ Text body ∷ []
+
+pub file_writes : (repository name body : List ℕ) → Writes upsert_file_text (file_line repository name body) (InsertOr 2 Abort (Values (given 3) 4) (clause ∷ []))
+unfolding understood everything
+file_writes repository name body = record { is = upsert_is.0; plain = upsert_is.1; writes = refl; whole = refl; count = refl }
 
 casts : (repository name body : List ℕ) → cast_row repo_file_table (Null ∷ file_line repository name body) ≡ Null ∷ file_line repository name body
 casts repository name body = rw cast_null refl

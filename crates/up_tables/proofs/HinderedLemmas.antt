@@ -1,5 +1,5 @@
 -- Why the query on `meta` was not answered.
-use Rattle.std.proofs.Common.{◌≡◌, ◌≢◌, ◌⊎◌, ◌≤◌, inl, inr, ℕ, List, [], Option, None, Some, Ok, Err, Result, IfErr, IsTrue, IsSome, Bool, true, false, refl, sym, ap, subst, ◌∙◌, arith}
+use Rattle.std.proofs.Common.{◌≡◌, ◌≢◌, ◌⊎◌, ◌≤◌, inl, inr, ℕ, List, [], Option, None, Ok, Err, Result, IfErr, IsSome, Bool, true, false, refl, sym, ap, subst, ◌∙◌, arith}
 use Rattle.std.specs.Prelude.{⊤}
 use Rattle.sqlite.specs.declared.error.Error.{Error}
 use Rattle.sqlite.specs.Held.{Held, state}
@@ -8,7 +8,6 @@ use Rattle.sqlite.specs.Effect.{Database, RefusesToRead}
 use Rattle.sqlite.specs.Listing.{understood, reads_listing, listing_schema, if_select, is_select}
 use Rattle.sqlite.specs.Order.{Row}
 use Rattle.sqlite.specs.State.{State, HasCleanDisk, HasCause, Survives, FailsToShow, FailsToQuery, IsNotRun, IsNoStatement, IsTooLate, store_error}
-use Rattle.sqlite.specs.Tree.{Trees}
 use Rattle.sqlite_resolve.specs.Compile.{compiled, first, planned, meaning, returning, command, with_command}
 use Rattle.sqlite_resolve.specs.Lowering.{Checked, and_then}
 use Rattle.sqlite_resolve.specs.declared.compiled.Compiled.{Compiled}

@@ -38,6 +38,7 @@ pub mod CampaignSteps
 pub mod KeptLemmas
 pub mod CampaignLemmas
 pub mod EcuInserts
+pub mod EachLemmas
 pub mod EcuReads
 pub mod FileSteps
 pub mod FileLemmas
@@ -48,7 +49,12 @@ pub mod RaiseLemmas
 pub mod ColumnLemmas
 pub mod BlameLemmas
 pub mod RefusalLemmas
+pub mod TriedLemmas
 pub mod TypedLemmas
 pub mod OwnerLemmas
 pub mod OpenedLemmas
 pub mod HinderedLemmas
+pub mod MakingLemmas
+pub mod UndoneLemmas
+pub mod UnmadeLemmas
+mod UnraisedLemmas

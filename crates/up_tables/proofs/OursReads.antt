@@ -30,7 +30,7 @@ use Rattle.up_tables.specs.Rows.{has_number}
 use Rattle.up_tables.specs.Versions.{schema_of}
 use Rattle.up_tables.specs.Ours.{find_meta_text}
 use Rattle.up_tables.proofs.AnswerLemmas.{over, outputs, passing, answer_is, shows_passing, equals_int}
-use Rattle.up_tables.proofs.BlameLemmas.{IsMistyped, is_whole, count_of, same_count, is_statement as understood_is_statement, never_refused, at_no_time}
+use Rattle.up_tables.proofs.BlameLemmas.{IsMistyped, is_whole, count_of, same_count, plain_untimed, is_statement as understood_is_statement, never_refused, at_no_time}
 use Rattle.up_tables.proofs.MetaReads.{is_one}
 use Rattle.up_tables.specs.Tables.{meta_table}
 
@@ -69,7 +69,7 @@ find_count Three = refl
 
 -- it is a statement
 pub is_statement : (version : SchemaVersion) (s : State) (e : Error) → s.now.schema ≡ schema_of version → IsNoStatement s find_meta_text [] e → ⊥
-is_statement version = understood_is_statement (schema_of version) find_meta_text [] (find_plain version) (find_whole version) (find_count version)
+is_statement version = understood_is_statement (schema_of version) find_meta_text [] (plain_untimed _ (find_plain version)) (find_whole version) (find_count version)
 
 itself_unchanged : (s : State) → IsTrue s.is_open → IsUnchanged s s
 itself_unchanged s is_open = (record { was_open = is_open; is_open = is_open; now_is = refl; committed_is = refl; mode = refl }, record { changes = refl; last_rowid = refl }, refl)

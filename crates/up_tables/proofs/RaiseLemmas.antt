@@ -1,5 +1,5 @@
 -- Tables of an older version are raised.
-use Rattle.std.proofs.Common.{◌≡◌, ℕ, pos, List, [], ◌∷◌, map, filter, true, Result, OnOk, IsTrue, refl, sym, ap, subst, ◌∙◌, codes, drop}
+use Rattle.std.proofs.Common.{◌≡◌, ℕ, pos, List, [], ◌∷◌, map, filter, true, Result, OnOk, IsTrue, refl, sym, ap, subst, ◌∙◌, drop}
 use Rattle.std.specs.List.{list_all}
 use Rattle.std.specs.List.Sorted.{IsPermutation}
 use Rattle.std.proofs.Math.Bool.{and-true}
@@ -23,6 +23,7 @@ use Rattle.up_tables.specs.Tables.{first_schema, second_schema, up_schema, meta_
 use Rattle.up_tables.specs.Lines.{meta_row, meta_row_of}
 use Rattle.up_tables.specs.Listed.{TableRows, ListsTables}
 use Rattle.up_tables.specs.Makes.{MakesIn}
+use Rattle.up_tables.specs.Making.{set_schema_text}
 use Rattle.up_tables.specs.Rows.{rows_with}
 use Rattle.up_tables.specs.Stands.{Lists, ListsAll, ListsPairs, AnyRows, IfClean, IsInside, IsWithin, GoesOn, Alters, HasTables, OthersStay}
 use Rattle.up_tables.specs.Versions.{ListsEight, ListsAs}
@@ -36,9 +37,6 @@ use Rattle.up_tables.proofs.RunLemmas.{IsRun, run_in, then_ok, run_alters, idle}
 use Rattle.up_tables.proofs.UpdateLemmas.{updates_row}
 
 -- ---- the schema's number is set
-
-abbrev pub set_schema_text : List ℕ
-set_schema_text = codes "UPDATE meta SET schema = 3 WHERE id = 1"
 
 abbrev update_shown : List Term
 update_shown = col 1 0 ∷ col 1 0 ∷ lit Null ∷ col 1 2 ∷ lit (Int (pos 3)) ∷ col 1 4 ∷ col 1 5 ∷ col 1 6 ∷ []

@@ -27,6 +27,7 @@ use Rattle.sqlite.specs.Tree.{IsTable}
 use Rattle.sqlite_trees.specs.View.{IsShaped}
 use Rattle.sqlite_trees.specs.declared.store.Shape.TheVariants.{Table}
 use Rattle.up_tables.specs.Tables.{up_schema, role_key_table}
+use Rattle.up_tables.specs.Texts.{insert_role_key_text}
 use Rattle.up_tables.specs.Forms.{role_key_row, role_key_places}
 use Rattle.up_tables.specs.Stands.{IsOpen}
 use Rattle.up_tables.specs.declared.role_key.RoleKeyRow.{RoleKeyRow}
@@ -40,17 +41,19 @@ use Rattle.up_tables.specs.declared.values.StoreFault.TheVariants.{Store}
 use Rattle.up_tables.specs.Statements.{BlamesDisk, HoldsOfAll}
 use Rattle.up_tables.specs.Kinds.{ShowsRoleKey}
 use Rattle.up_tables.proofs.BlameLemmas.{Takes, blames}
+use Rattle.up_tables.proofs.RefusalLemmas.{Writes}
 use Rattle.std.specs.List.{AllByRecursion}
 use Rattle.sqlite_keyed.proofs.ListLemmas.{all_map}
 
 -- ---- put in
 
-abbrev pub insert_role_key_text : List ℕ
-insert_role_key_text = codes "INSERT INTO role_key (root, repository, role, place, secret, threshold) VALUES (?1, ?2, ?3, ?4, ?5, ?6)"
-
 insert_is : (command_of (understood up_schema insert_role_key_text) ≡ Insert 1 (Values (given 6) 7)) × IsPlain (understood up_schema insert_role_key_text)
 unfolding understood everything
 insert_is = (refl, (refl, refl))
+
+pub role_key_writes : (k : RoleKeyRow) → Writes insert_role_key_text (role_key_row k) (Insert 1 (Values (given 6) 7))
+unfolding understood everything
+role_key_writes k = record { is = insert_is.0; plain = insert_is.1; writes = refl; whole = refl; count = refl }
 
 casts : (k : RoleKeyRow) → cast_row role_key_table (Null ∷ role_key_row k) ≡ Null ∷ role_key_row k
 casts k = rw (cast_null, cast_int (pos k.root), cast_int (pos k.place), cast_int (pos k.threshold)) refl

@@ -33,6 +33,7 @@ use Rattle.sqlite_rules.proofs.ProbeLemmas.{mapped_has, has_mapped}
 use Rattle.sqlite_sql.specs.declared.ops.BinaryOp.TheVariants.{Compare}
 use Rattle.sqlite_sql.specs.declared.ops.CompareOp.TheVariants.{Eq}
 use Rattle.sqlite_schema.specs.declared.schema.Keys.TheVariants.{Enforced}
+use Rattle.sqlite_schema.specs.declared.command.Command.{Command}
 use Rattle.sqlite_schema.specs.declared.command.Upsert.{Upsert}
 use Rattle.sqlite_schema.specs.declared.command.Returning.{Returning}
 use Rattle.sqlite_schema.specs.declared.command.Conflict.TheVariants.{Abort}
@@ -41,8 +42,8 @@ use Rattle.sqlite_trees.specs.View.{IsShaped, is_int}
 use Rattle.sqlite_trees.specs.declared.store.Shape.TheVariants.{Table}
 use Rattle.sqlite_value.specs.Keys.{first_key}
 use Rattle.sqlite_value.specs.declared.keys.Collation.TheVariants.{Binary}
-use Rattle.up_tables.proofs.RefusalLemmas.{Writes}
-use Rattle.up_tables.specs.Texts.{insert_vehicle_text}
+use Rattle.up_tables.proofs.RefusalLemmas.{Writes, WritesShowing, refusal_showing, shown_writing}
+use Rattle.up_tables.specs.Texts.{insert_vehicle_text, upsert_vehicle_text}
 use Rattle.up_tables.specs.Tables.{up_schema, vehicle_table}
 use Rattle.up_tables.specs.Rows.{columns_at, has_text, rows_with, with_row, with_only}
 use Rattle.up_tables.specs.Lines.{vehicle_line}
@@ -69,9 +70,11 @@ use Rattle.up_tables.proofs.StepLemmas.{shown_open, shown_after}
 use Rattle.up_tables.proofs.UpsertLemmas.{upserted, tried_each, tried, resolved, updated, rewritten_by, showing}
 use Rattle.up_tables.specs.Faults.{store_fault}
 use Rattle.up_tables.specs.declared.values.StoreFault.TheVariants.{Store}
-use Rattle.up_tables.specs.Statements.{BlamesDisk, HoldsBy}
+use Rattle.up_tables.specs.Statements.{BlamesDisk, HasVehicle, HoldsBy}
+use Rattle.up_tables.specs.Tried.{BlamesOne, Ran}
 use Rattle.up_tables.specs.Kinds.{ShowsOne, ShowsVehicle}
-use Rattle.up_tables.proofs.BlameLemmas.{Takes}
+use Rattle.up_tables.proofs.BlameLemmas.{Takes, fault_alike}
+use Rattle.up_tables.proofs.TriedLemmas.{ran_showing}
 
 -- ---- put in
 
@@ -113,9 +116,6 @@ pub finds_vehicle : {X : Type 0} (items : X → List Row) (answer : Result X Err
 finds_vehicle items answer r old new name = named_in items vehicle_table 0 find_vehicle_text (all_columns 4) names part vehicle_row name find_is (λ db. refl) (λ x. rw (column_after x 0, column_after x 1, column_after x 2, column_after x 3) refl) (λ x. refl) answer r old new
 
 -- ---- its numbers are set
-
-abbrev pub upsert_vehicle_text : List ℕ
-upsert_vehicle_text = codes "INSERT INTO vehicle (vehicle, primary_ecu, version, last_counter) VALUES (?1, ?2, ?3, ?4) ON CONFLICT (vehicle) DO UPDATE SET version = excluded.version, last_counter = excluded.last_counter RETURNING vehicle, primary_ecu, version, last_counter"
 
 abbrev update_shown : List Term
 update_shown = col 1 0 ∷ col 1 0 ∷ col 1 1 ∷ col 1 2 ∷ col 0 8 ∷ col 0 9 ∷ []
@@ -268,8 +268,39 @@ pub find_vehicle_blames : {X : Type 0} (items : X → List Row) (answer : Result
 find_vehicle_blames items answer r old new name =
     named_blames items vehicle_table 0 find_vehicle_text (all_columns 4) names part vehicle_row name find_is (λ db. refl) (λ x. rw (column_after x 0, column_after x 1, column_after x 2, column_after x 3) refl) (λ x. refl) ShowsVehicle (λ x h. h) (find_vehicle_takes name) answer r old new
 
--- ---- faults of the write
+-- ---- faults of the writes
 
 pub vehicle_writes : (v : VehicleRow) → Writes insert_vehicle_text (vehicle_row v) (Insert 5 (Values (given 4) 5))
 unfolding understood everything
 vehicle_writes v = record { is = insert_is.0; plain = insert_is.1; writes = refl; whole = refl; count = refl }
+
+abbrev upsert : Command
+upsert = InsertOr 5 Abort (Values (given 4) 5) (clause ∷ [])
+
+upsert_writes : (name primary : List ℕ) (version last : ℕ) → WritesShowing upsert_vehicle_text (vehicle_line name primary version last) upsert what
+unfolding understood everything
+upsert_writes name primary version last = record { is = upsert_is.0; shows = upsert_is.1; writes = refl; whole = refl; count = refl }
+
+pub upsert_ran : {X T : Type 0} (items : X → List Row) (answer : Result X Error) (r : Result T StoreFault) (old new : State) (v : VehicleRow) → OnOk r (IsOkAnd answer (λ shown. map part (items shown) ≡ vehicle_row v ∷ []))
+    → (HasCleanDisk new → IfOk answer (λ shown. Shown upsert_vehicle_text (vehicle_row v) old new (items shown))) → Ran ((upsert_vehicle_text, vehicle_row v) ∷ []) old new r
+upsert_ran items answer r old new v told ok =
+    ran_showing items (λ shown. map part (items shown) ≡ vehicle_row v ∷ []) upsert_vehicle_text (vehicle_row v) upsert what (upsert_writes (string_bytes v.vehicle) (string_bytes v.primary_ecu) v.version v.last_counter) answer r old new told ok
+
+-- where the vehicle stands with its Primary, the row that comes back is the one that was to be written
+pub upsert_blames : {X T : Type 0} (items : X → List Row) (answer : Result X Error) (r : Result T StoreFault) (old new : State) (v : VehicleRow) → Survives old new (λ _. ⊥) → IfClean IsInside old
+    → IfErr answer (λ e. r ≡ Err (store_fault e)) → IfOk answer (λ shown. IfErr r (λ fault. fault ≡ Store → map part (items shown) ≢ vehicle_row v ∷ []))
+    → (HasCleanDisk new → IfOk answer (λ shown. Shown upsert_vehicle_text (vehicle_row v) old new (items shown)))
+    → (HasCleanDisk new → IfErr answer (λ e. FailsToQuery upsert_vehicle_text (vehicle_row v) old new e ⊎ IsTooLate upsert_vehicle_text (vehicle_row v) old new e))
+    → BlamesOne ((upsert_vehicle_text, vehicle_row v) ∷ []) (HasVehicle v) old new r
+upsert_blames items (Ok shown) (Ok x) old new v survives inside fault damaged ok err clean = tt
+upsert_blames items (Ok shown) (Err f) old new v survives inside fault damaged ok err clean = λ is is_open has holds.
+    let here = has is_open in
+    let name = string_bytes v.vehicle in
+    let primary = string_bytes v.primary_ecu in
+    let done = upserts_vehicle old new name primary primary v.version v.last_counter holds.2.0 holds.2.1 (items shown) here.schema_is holds.1.shaped (holds.1.parts name ∙ holds.2.2) (ok clean) in
+    absurd (damaged is (ap (map part) done.3))
+upsert_blames items (Err e) (Ok x) old new v survives inside fault damaged ok err clean = tt
+upsert_blames items (Err e) (Err f) old new v survives inside fault damaged ok err clean = λ is is_open has holds.
+    let before : HasCleanDisk old = omega (arith, survives.clean) in
+    let it = upsert_writes (string_bytes v.vehicle) (string_bytes v.primary_ecu) v.version v.last_counter in
+    elim (refusal_showing upsert_vehicle_text (vehicle_row v) upsert (shown_writing it) old is_open has new e (sym (fault_alike fault) ∙ is) what it.shows (inside before) (err clean)) [ inl more ↦ inl more | inr refused ↦ inr (inl refused) ]

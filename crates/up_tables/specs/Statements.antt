@@ -1,7 +1,7 @@
 -- What a statement does within a transaction, where the disk has returned what was written so far. What it writes or finds is said where the
 -- whole schema is there, and of the other tables nothing is altered; of what makes a table or raises those of an older version, where the
 -- schema before it is there.
-use Rattle.std.specs.Prelude.{◌≡◌, ◌≤◌, ◌++◌, pos, ℕ, ℤ, List, [], ◌∷◌, Option, Some, Result, IfOk, IfErr, OnOk, map, length, string_bytes, ◌⊎◌, Err, IsTrue}
+use Rattle.std.specs.Prelude.{◌≡◌, ◌≤◌, ◌++◌, pos, ℕ, ℤ, List, [], ◌∷◌, Option, Some, Result, IfOk, IfErr, OnOk, map, length, string_bytes}
 use Rattle.std.specs.Borrow.{MutBor}
 use Rattle.sqlite_rules.specs.Lists.{Has}
 use Rattle.sqlite_trees.specs.declared.store.Store.{Ghosts}
@@ -9,12 +9,8 @@ use Rattle.sqlite_disk.specs.Disk.{MoreFaults}
 use Rattle.sqlite.specs.Held.{Held, state}
 use Rattle.sqlite.specs.Order.{Row}
 use Rattle.sqlite.specs.Schema.{Schema}
-use Rattle.sqlite.specs.State.{State, HasCleanDisk, IsStatement, mode_of, text_of}
+use Rattle.sqlite.specs.State.{State, HasCleanDisk}
 use Rattle.sqlite.specs.Table.{Table}
-use Rattle.sqlite.specs.Does.{Does}
-use Rattle.sqlite.specs.Clock.{timed}
-use Rattle.sqlite.specs.declared.error.Error.{Error}
-use Rattle.sqlite_resolve.specs.declared.compiled.Compiled.{Compiled}
 use Rattle.up_tables.specs.declared.meta.MetaRow.{MetaRow}
 use Rattle.up_tables.specs.declared.open.SchemaVersion.{SchemaVersion}
 use Rattle.up_tables.specs.declared.repo_file.FileRow.{FileRow}
@@ -175,20 +171,11 @@ HoldsOfFiles P s = (rows_of : List ℕ → List ℕ → List Row) × ListsPairs 
 abbrev pub HasMeta : State → Type 0
 HasMeta s = (root : ℕ) × (image_version : ℕ) × (stamp : ℕ) × (s.now.trees meta_table.tree ≡ meta_row root image_version stamp ∷ [])
 
--- ---- faults of writes
-
--- the text is a statement over what the connection has, which the database refuses with these values, or whose row it can't store; where a limit is
--- set on the steps of a query, it may be any
-abbrev pub Refuses : List ℕ → Row → State → Type 0
-Refuses text values s =
-    (c : Compiled) × (it : IsStatement s text values c) × (e : Option Error)
-    × Does s.step_limit (mode_of s) (timed values c.formats it.now) s.now (text_of text c) c.returning c.command (Err e)
-
--- over an open connection with the whole schema, `Store` is told only where the disk counted a fault, or the database refuses the statement
-abbrev pub BlamesRefusal : {A : Type 0} → List ℕ → Row → State → State → Result A StoreFault → Type 0
-BlamesRefusal text values old new result =
-    HasCleanDisk new → IfErr result (λ fault. fault ≡ Store → IsTrue old.is_open → HasTables old
-    → MoreFaults old.faults new.faults ⊎ Refuses text values old)
+-- the vehicle stands there, with its Primary
+abbrev pub HasVehicle : VehicleRow → State → Type 0
+HasVehicle vehicle =
+    HoldsBy vehicle_table 1 (λ rows_of. (version : ℕ) × (last : ℕ)
+    × (rows_of (string_bytes vehicle.vehicle) ≡ vehicle_line (string_bytes vehicle.vehicle) (string_bytes vehicle.primary_ecu) version last ∷ []))
 
 -- ---- tables that are made, and raised to the latest version of the schema
 

@@ -11,7 +11,8 @@ ghost use Rattle.up_tables.specs.Tables.{campaign_table};
 ghost use Rattle.up_tables.specs.Rows.{columns_at, has_number, with_row};
 ghost use Rattle.up_tables.specs.Forms.{campaign_places, campaign_row};
 ghost use Rattle.up_tables.specs.Stands.{IfClean, IsInside};
-ghost use Rattle.up_tables.specs.Statements.{IsOpenStep, AltersRows, ClosesCampaign, OnlyReads, Finds, BlamesDisk, HoldsBy, BlamesRefusal};
+ghost use Rattle.up_tables.specs.Statements.{IsOpenStep, AltersRows, ClosesCampaign, OnlyReads, Finds, BlamesDisk, HoldsBy};
+ghost use Rattle.up_tables.specs.Tried.{BlamesRefusal, Ran, Undoes};
 
 use crate::reading::{Decode, at_most_one, each_row};
 use crate::values::{StoreFault, done, flag, flag_at, text_at, words};
@@ -57,6 +58,9 @@ pub fn insert_campaign<S: Alter>(
         (state S.Store tx.old.conn.now) (state S.Store tx.new.conn.now) result }
     ensures blame { BlamesRefusal insert_campaign_text (campaign_row campaign.now)
         (state S.Store tx.old.conn.now) (state S.Store tx.new.conn.now) result }
+    ensures ran { Ran ((insert_campaign_text, campaign_row campaign.now) ∷ [])
+        (state S.Store tx.old.conn.now) (state S.Store tx.new.conn.now) result }
+    ensures memory { Undoes (state S.Store tx.old.conn.now) (state S.Store tx.new.conn.now) result }
     ensures step { IsOpenStep S.Store tx.old.conn tx.new.conn result }
 {
     done(tx.execute(
@@ -75,6 +79,8 @@ pub fn close_campaign<S: Alter>(tx: &mut Transaction<'_, S>, name: &str) -> Resu
     requires mode { IfClean IsInside (state S.Store tx.old.conn.now) }
     ensures closed { ClosesCampaign name.now (state S.Store tx.old.conn.now) (state S.Store tx.new.conn.now) result }
     ensures blame { BlamesRefusal close_campaign_text (Text name.now ∷ []) (state S.Store tx.old.conn.now) (state S.Store tx.new.conn.now) result }
+    ensures ran { Ran ((close_campaign_text, Text name.now ∷ []) ∷ []) (state S.Store tx.old.conn.now) (state S.Store tx.new.conn.now) result }
+    ensures memory { Undoes (state S.Store tx.old.conn.now) (state S.Store tx.new.conn.now) result }
     ensures step { IsOpenStep S.Store tx.old.conn tx.new.conn result }
 {
     done(tx.execute(

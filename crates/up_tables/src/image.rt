@@ -1,6 +1,6 @@
 //! The rows of images.
 
-ghost use Rattle.std.specs.Prelude.{◌≡◌, ℕ, List, map, filter, bytes_eq, string_bytes};
+ghost use Rattle.std.specs.Prelude.{◌≡◌, ◌∷◌, ℕ, List, [], map, filter, bytes_eq, string_bytes};
 ghost use Rattle.std.specs.Option.{option_to_list};
 ghost use Rattle.sqlite.specs.Held.{state};
 ghost use Rattle.std.specs.List.{AllByRecursion};
@@ -10,7 +10,8 @@ ghost use Rattle.up_tables.specs.Tables.{image_table};
 ghost use Rattle.up_tables.specs.Rows.{columns_at, with_row};
 ghost use Rattle.up_tables.specs.Forms.{image_places, image_row, FitImage};
 ghost use Rattle.up_tables.specs.Stands.{IfClean, IsInside};
-ghost use Rattle.up_tables.specs.Statements.{IsOpenStep, AltersRows, OnlyReads, Finds, BlamesDisk, HoldsBy, BlamesRefusal};
+ghost use Rattle.up_tables.specs.Statements.{IsOpenStep, AltersRows, OnlyReads, Finds, BlamesDisk, HoldsBy};
+ghost use Rattle.up_tables.specs.Tried.{BlamesRefusal, Ran, Undoes};
 
 use crate::reading::{Decode, at_most_one, each_row};
 use crate::values::{StoreFault, bytes, bytes_at, done, number, number_at, text_at, words};
@@ -62,6 +63,8 @@ pub fn insert_image<S: Alter>(
     ensures inserted { AltersRows image_table 1 (with_row (string_bytes image.now.file) (image_row image.now))
         (state S.Store tx.old.conn.now) (state S.Store tx.new.conn.now) result }
     ensures blame { BlamesRefusal insert_image_text (image_row image.now) (state S.Store tx.old.conn.now) (state S.Store tx.new.conn.now) result }
+    ensures ran { Ran ((insert_image_text, image_row image.now) ∷ []) (state S.Store tx.old.conn.now) (state S.Store tx.new.conn.now) result }
+    ensures memory { Undoes (state S.Store tx.old.conn.now) (state S.Store tx.new.conn.now) result }
     ensures step { IsOpenStep S.Store tx.old.conn tx.new.conn result }
 {
     done(tx.execute(

@@ -1,10 +1,12 @@
 //! The row of `meta`.
 
+ghost use Rattle.std.specs.Prelude.{◌∷◌, []};
 ghost use Rattle.sqlite.specs.Held.{state};
 ghost use Rattle.up_tables.specs.Texts.{update_meta_text};
 ghost use Rattle.up_tables.specs.Forms.{FitMeta, meta_values};
 ghost use Rattle.up_tables.specs.Stands.{IfClean, IsInside};
-ghost use Rattle.up_tables.specs.Statements.{IsOpenStep, SetsMeta, OnlyReads, FindsMeta, BlamesDisk, HasMeta, BlamesRefusal};
+ghost use Rattle.up_tables.specs.Statements.{IsOpenStep, SetsMeta, OnlyReads, FindsMeta, BlamesDisk, HasMeta};
+ghost use Rattle.up_tables.specs.Tried.{BlamesRefusal, Ran, Undoes};
 
 use crate::reading::{Decode, at_most_one};
 use crate::values::{StoreFault, done, number, number_at};
@@ -43,6 +45,8 @@ pub fn update_meta<S: Alter>(tx: &mut Transaction<'_, S>, meta: &MetaRow) -> Res
     requires mode { IfClean IsInside (state S.Store tx.old.conn.now) }
     ensures set { SetsMeta meta.now (state S.Store tx.old.conn.now) (state S.Store tx.new.conn.now) result }
     ensures blame { BlamesRefusal update_meta_text (meta_values meta.now) (state S.Store tx.old.conn.now) (state S.Store tx.new.conn.now) result }
+    ensures ran { Ran ((update_meta_text, meta_values meta.now) ∷ []) (state S.Store tx.old.conn.now) (state S.Store tx.new.conn.now) result }
+    ensures memory { Undoes (state S.Store tx.old.conn.now) (state S.Store tx.new.conn.now) result }
     ensures step { IsOpenStep S.Store tx.old.conn tx.new.conn result }
 {
     done(tx.execute(

@@ -12,8 +12,9 @@ ghost use Rattle.up_tables.specs.Lines.{AreNew};
 ghost use Rattle.up_tables.specs.Stands.{IfClean, IsInside, IsOpen, LeavesOnly, Stands, AreWith, HasNoTables, IsAsCommitted};
 ghost use Rattle.up_tables.specs.Listed.{TableRows, ListsTables};
 ghost use Rattle.up_tables.specs.Versions.{number_of, StandsAs};
-ghost use Rattle.up_tables.specs.Ours.{NamesUs, NamesVersion, NamesOlder, NamesOthers, ListsUs, IsOurs, IsHindered, Raised, is_refused};
+ghost use Rattle.up_tables.specs.Ours.{NamesUs, NamesVersion, NamesOthers, ListsUs, IsOurs, IsHindered, Raised, is_refused};
 ghost use Rattle.up_tables.specs.Faults.{open_fault};
+ghost use Rattle.up_tables.specs.Making.{FailsToMake, FailsToRaise};
 ghost use Rattle.up_tables.specs.declared.open.OpenFault.TheVariants as OpenFault;
 ghost use Rattle.up_tables.specs.Statements.{IsStep};
 
@@ -56,7 +57,8 @@ fn has_no_table<S: Alter>(conn: &Connection<S>) -> bool
     schema.tables.is_empty() && schema.indexes.is_empty() && schema.views.is_empty()
 }
 
-/// Makes the tables, empty but for the row of `meta`, in one transaction, in a database that has none: `Store` where it has. A fault leaves the
+/// Makes the tables, empty but for the row of `meta`, in one transaction, in a database that has none: `Store` where it has. `Memory` for want of
+/// memory; else `Store` only where the connection was shut, the disk failed, or the database refuses one of the statements. A fault leaves the
 /// database as it was committed.
 pub fn create_tables<S: Alter>(conn: &mut Connection<S>) -> Result<(), OpenFault>
     requires { (state S.Store conn.old).in_transaction ≡ false }
@@ -65,6 +67,8 @@ pub fn create_tables<S: Alter>(conn: &mut Connection<S>) -> Result<(), OpenFault
     ensures empty { HasCleanDisk (state S.Store conn.new) → OnOk result (HasNoTables (state S.Store conn.old)) }
     ensures full { IsTrue (state S.Store conn.old).is_open → ¬ HasNoTables (state S.Store conn.old) → result ≡ Err OpenFault.Store }
     ensures fault { IfErr result (λ e. e ≢ OpenFault.NotOurs) }
+    ensures cause { HasCleanDisk (state S.Store conn.new)
+        → IfErr result (λ e. e ≡ OpenFault.Store → FailsToMake (state S.Store conn.old) (state S.Store conn.new)) }
     ensures kept { OnErr result (IfClean (IsAsCommitted (state S.Store conn.old)) (state S.Store conn.new)) }
     ensures autocommit { (state S.Store conn.new).in_transaction ≡ false }
     ensures crash { Survives (state S.Store conn.old) (state S.Store conn.new)
@@ -83,9 +87,10 @@ pub fn create_tables<S: Alter>(conn: &mut Connection<S>) -> Result<(), OpenFault
 
 /// Takes tables of this product, whatever version of its schema `meta` names, and raises those of an older one in one transaction. `false` where
 /// `meta` doesn't name it: where the database refuses the query on it, as one without such a table does, or answers anything but the one row.
-/// `Memory` for want of memory; `Store` only where the connection was shut, the disk failed, a limit on steps was met, or, of an older version, a
-/// statement that raises was refused, as where a table that it makes is there already. Whatever it answers but `true`, the database is as it was
-/// committed. It looks at `meta` alone, not at which other tables there are.
+/// `Memory` for want of memory; `Store` only where the connection was shut, the disk failed, a limit on steps was met, or `meta` names an older
+/// version, and then of tables of this product only where the database refuses one of the statements that raise them. Of others it may be told too,
+/// as where a table that a raise makes is there already. Whatever it answers but `true`, the database is as it was committed. It looks at `meta`
+/// alone, not at which other tables there are.
 pub fn take_tables<S: Alter>(conn: &mut Connection<S>) -> Result<bool, OpenFault>
     requires { (state S.Store conn.old).in_transaction ≡ false }
     ensures ours { IfOk result (λ b. IsTrue b → HasCleanDisk (state S.Store conn.new) → NamesUs (state S.Store conn.old)) }
@@ -96,13 +101,15 @@ pub fn take_tables<S: Alter>(conn: &mut Connection<S>) -> Result<bool, OpenFault
         → StandsAs version rows (state S.Store conn.old) → Stands up_schema (ListsTables rows) (state S.Store conn.new)) }
     ensures fault { IfErr result (λ e. e ≢ OpenFault.NotOurs) }
     ensures cause { HasCleanDisk (state S.Store conn.new)
-        → IfErr result (λ e. e ≡ OpenFault.Store → IsHindered (state S.Store conn.old) (state S.Store conn.new) ⊎ NamesOlder (state S.Store conn.old)) }
+        → IfErr result (λ e. e ≡ OpenFault.Store
+        → IsHindered (state S.Store conn.old) (state S.Store conn.new) ⊎ FailsToRaise (state S.Store conn.old)) }
     ensures kept { IfOk result (λ b. b ≡ false → IfClean (IsAsCommitted (state S.Store conn.old)) (state S.Store conn.new)) }
     ensures kept_err { OnErr result (IfClean (IsAsCommitted (state S.Store conn.old)) (state S.Store conn.new)) }
     ensures autocommit { (state S.Store conn.new).in_transaction ≡ false }
     ensures crash { Survives (state S.Store conn.old) (state S.Store conn.new) (Raised (state S.Store conn.old)) }
     ensures open { HasCleanDisk (state S.Store conn.new) → OnOk result (IsTrue (state S.Store conn.old).is_open) }
 {
+    let _idle = conn.is_autocommit();
     match version_there(conn) {
         Ok(None) => Ok(false),
         Ok(Some(SchemaVersion::Three)) => Ok(true),

@@ -5,7 +5,8 @@ ghost use Rattle.sqlite.specs.declared.types.Value.TheVariants.{Text, Blob};
 ghost use Rattle.sqlite.specs.Held.{state};
 ghost use Rattle.up_tables.specs.Texts.{replace_ecu_text};
 ghost use Rattle.up_tables.specs.Stands.{IfClean, IsInside};
-ghost use Rattle.up_tables.specs.Statements.{IsOpenStep, ReplacesEcu, BlamesRefusal};
+ghost use Rattle.up_tables.specs.Statements.{IsOpenStep, ReplacesEcu};
+ghost use Rattle.up_tables.specs.Tried.{BlamesRefusal, Ran, Undoes};
 
 use crate::values::{StoreFault, bytes, done, words};
 use sqlite::{Alter, Transaction};
@@ -24,6 +25,9 @@ pub fn replace_ecu<S: Alter>(
         (state S.Store tx.old.conn.now) (state S.Store tx.new.conn.now) result }
     ensures blame { BlamesRefusal replace_ecu_text (Text ecu.now ∷ Text hardware.now ∷ Blob public_key.now ∷ Text old.now ∷ [])
         (state S.Store tx.old.conn.now) (state S.Store tx.new.conn.now) result }
+    ensures ran { Ran ((replace_ecu_text, Text ecu.now ∷ Text hardware.now ∷ Blob public_key.now ∷ Text old.now ∷ []) ∷ [])
+        (state S.Store tx.old.conn.now) (state S.Store tx.new.conn.now) result }
+    ensures memory { Undoes (state S.Store tx.old.conn.now) (state S.Store tx.new.conn.now) result }
     ensures step { IsOpenStep S.Store tx.old.conn tx.new.conn result }
 {
     done(tx.execute(

@@ -1,11 +1,13 @@
 //! The rows of files that are served.
 
-ghost use Rattle.std.specs.Prelude.{◌≡◌, map};
+ghost use Rattle.std.specs.Prelude.{◌≡◌, ◌∷◌, [], ⊤, map};
 ghost use Rattle.std.specs.Option.{option_to_list};
 ghost use Rattle.sqlite.specs.Held.{state};
 ghost use Rattle.up_tables.specs.Kinds.{ShowsOne, ShowsFile};
 ghost use Rattle.up_tables.specs.Rows.{columns_at};
 ghost use Rattle.up_tables.specs.Forms.{file_places, file_row};
+ghost use Rattle.up_tables.specs.Texts.{upsert_file_text};
+ghost use Rattle.up_tables.specs.Tried.{BlamesRefusal, BlamesOne, Ran, Undoes};
 ghost use Rattle.up_tables.specs.Stands.{IfClean, IsInside, IsOpen};
 ghost use Rattle.up_tables.specs.Statements.{IsOpenStep, SetsFile, SetsFiles, OnlyReads, FindsFiles, BlamesDisk, HoldsOfFiles};
 
@@ -44,6 +46,9 @@ impl Decode for FileRow {
 fn upsert_file<S: Alter>(tx: &mut Transaction<'_, S>, file: &FileRow) -> Result<(), StoreFault>
     requires mode { IfClean IsInside (state S.Store tx.old.conn.now) }
     ensures set { SetsFile file.now (state S.Store tx.old.conn.now) (state S.Store tx.new.conn.now) result }
+    ensures ran { Ran ((upsert_file_text, file_row file.now) ∷ []) (state S.Store tx.old.conn.now) (state S.Store tx.new.conn.now) result }
+    ensures blame { BlamesRefusal upsert_file_text (file_row file.now) (state S.Store tx.old.conn.now) (state S.Store tx.new.conn.now) result }
+    ensures memory { Undoes (state S.Store tx.old.conn.now) (state S.Store tx.new.conn.now) result }
     ensures step { IsOpenStep S.Store tx.old.conn tx.new.conn result }
 {
     done(tx.execute(
@@ -64,6 +69,11 @@ pub fn upsert_files<S: Alter>(
     requires mode { IfClean IsInside (state S.Store tx.old.conn.now) }
     requires open { IfClean IsOpen (state S.Store tx.old.conn.now) }
     ensures set { SetsFiles files.now (state S.Store tx.old.conn.now) (state S.Store tx.new.conn.now) result }
+    ensures ran { Ran (map (λ f. (upsert_file_text, file_row f)) files.now)
+        (state S.Store tx.old.conn.now) (state S.Store tx.new.conn.now) result }
+    ensures blame { BlamesOne (map (λ f. (upsert_file_text, file_row f)) files.now) (λ _. ⊤)
+        (state S.Store tx.old.conn.now) (state S.Store tx.new.conn.now) result }
+    ensures memory { Undoes (state S.Store tx.old.conn.now) (state S.Store tx.new.conn.now) result }
     ensures step { IsOpenStep S.Store tx.old.conn tx.new.conn result }
 {
     for file in files {

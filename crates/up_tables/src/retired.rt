@@ -1,6 +1,6 @@
 //! The rows of ECUs that were replaced.
 
-ghost use Rattle.std.specs.Prelude.{◌≡◌, ℕ, List, option_map, string_bytes};
+ghost use Rattle.std.specs.Prelude.{◌≡◌, ◌∷◌, ℕ, List, [], option_map, string_bytes};
 ghost use Rattle.std.specs.List.{list_any};
 ghost use Rattle.sqlite.specs.Held.{state};
 ghost use Rattle.up_tables.specs.Texts.{insert_retired_text};
@@ -10,7 +10,8 @@ ghost use Rattle.up_tables.specs.Rows.{has_text, with_row};
 ghost use Rattle.up_tables.specs.Lines.{retired_line};
 ghost use Rattle.up_tables.specs.Ecus.{owns};
 ghost use Rattle.up_tables.specs.Stands.{IfClean, IsInside};
-ghost use Rattle.up_tables.specs.Statements.{IsOpenStep, AltersRows, OnlyReads, Finds, BlamesDisk, HoldsBy, BlamesRefusal};
+ghost use Rattle.up_tables.specs.Statements.{IsOpenStep, AltersRows, OnlyReads, Finds, BlamesDisk, HoldsBy};
+ghost use Rattle.up_tables.specs.Tried.{BlamesRefusal, Ran, Undoes};
 
 use crate::reading::at_most_one;
 use crate::values::{StoreFault, done, words};
@@ -27,6 +28,9 @@ pub fn insert_retired<S: Alter>(
         (state S.Store tx.old.conn.now) (state S.Store tx.new.conn.now) result }
     ensures blame { BlamesRefusal insert_retired_text (retired_line ecu.now vehicle.now)
         (state S.Store tx.old.conn.now) (state S.Store tx.new.conn.now) result }
+    ensures ran { Ran ((insert_retired_text, retired_line ecu.now vehicle.now) ∷ [])
+        (state S.Store tx.old.conn.now) (state S.Store tx.new.conn.now) result }
+    ensures memory { Undoes (state S.Store tx.old.conn.now) (state S.Store tx.new.conn.now) result }
     ensures step { IsOpenStep S.Store tx.old.conn tx.new.conn result }
 {
     done(tx.execute(

@@ -1,10 +1,12 @@
 //! The rows of the keys of roles.
 
-ghost use Rattle.std.specs.Prelude.{◌≡◌, ◌<◌, ◌∷◌, [], ◌^◌, pos, map, filter, All};
+ghost use Rattle.std.specs.Prelude.{◌≡◌, ◌<◌, ◌∷◌, [], ◌^◌, ⊤, pos, map, filter, All};
 ghost use Rattle.sqlite.specs.Held.{state};
 ghost use Rattle.std.specs.List.{AllByRecursion};
 ghost use Rattle.up_tables.specs.Kinds.{ShowsRoleKey};
 ghost use Rattle.up_tables.specs.Tables.{role_key_table};
+ghost use Rattle.up_tables.specs.Texts.{insert_role_key_text};
+ghost use Rattle.up_tables.specs.Tried.{BlamesRefusal, BlamesOne, Ran, Undoes};
 ghost use Rattle.up_tables.specs.Rows.{columns_at, has_number};
 ghost use Rattle.up_tables.specs.Forms.{role_key_places, role_key_row, FitRoleKey};
 ghost use Rattle.up_tables.specs.Stands.{IfClean, IsInside, IsOpen};
@@ -56,6 +58,9 @@ fn insert_role_key<S: Alter>(
     requires fit { FitRoleKey key.now }
     requires mode { IfClean IsInside (state S.Store tx.old.conn.now) }
     ensures inserted { AppendsRows role_key_table (role_key_row key.now ∷ []) (state S.Store tx.old.conn.now) (state S.Store tx.new.conn.now) result }
+    ensures ran { Ran ((insert_role_key_text, role_key_row key.now) ∷ []) (state S.Store tx.old.conn.now) (state S.Store tx.new.conn.now) result }
+    ensures blame { BlamesRefusal insert_role_key_text (role_key_row key.now) (state S.Store tx.old.conn.now) (state S.Store tx.new.conn.now) result }
+    ensures memory { Undoes (state S.Store tx.old.conn.now) (state S.Store tx.new.conn.now) result }
     ensures step { IsOpenStep S.Store tx.old.conn tx.new.conn result }
 {
     done(tx.execute(
@@ -80,6 +85,11 @@ pub fn insert_role_keys<S: Alter>(
     requires mode { IfClean IsInside (state S.Store tx.old.conn.now) }
     requires open { IfClean IsOpen (state S.Store tx.old.conn.now) }
     ensures inserted { AppendsRows role_key_table (map role_key_row keys.now) (state S.Store tx.old.conn.now) (state S.Store tx.new.conn.now) result }
+    ensures ran { Ran (map (λ k. (insert_role_key_text, role_key_row k)) keys.now)
+        (state S.Store tx.old.conn.now) (state S.Store tx.new.conn.now) result }
+    ensures blame { BlamesOne (map (λ k. (insert_role_key_text, role_key_row k)) keys.now) (λ _. ⊤)
+        (state S.Store tx.old.conn.now) (state S.Store tx.new.conn.now) result }
+    ensures memory { Undoes (state S.Store tx.old.conn.now) (state S.Store tx.new.conn.now) result }
     ensures step { IsOpenStep S.Store tx.old.conn tx.new.conn result }
 {
     for key in keys {

@@ -5,14 +5,15 @@ ghost use Rattle.std.specs.Option.{option_to_list};
 ghost use Rattle.std.specs.Prelude.{◌↔◌};
 ghost use Rattle.std.specs.Result.{IsOkAnd};
 ghost use Rattle.sqlite.specs.Held.{state};
-ghost use Rattle.up_tables.specs.Texts.{insert_vehicle_text};
+ghost use Rattle.up_tables.specs.Texts.{insert_vehicle_text, upsert_vehicle_text};
 ghost use Rattle.up_tables.specs.Kinds.{ShowsOne, ShowsVehicle};
 ghost use Rattle.up_tables.specs.Faults.{store_fault};
 ghost use Rattle.up_tables.specs.Tables.{vehicle_table};
 ghost use Rattle.up_tables.specs.Rows.{columns_at, with_row};
 ghost use Rattle.up_tables.specs.Forms.{vehicle_places, vehicle_row, FitVehicle};
 ghost use Rattle.up_tables.specs.Stands.{IfClean, IsInside};
-ghost use Rattle.up_tables.specs.Statements.{IsOpenStep, AltersRows, SetsVehicle, OnlyReads, Finds, BlamesDisk, HoldsBy, BlamesRefusal};
+ghost use Rattle.up_tables.specs.Statements.{IsOpenStep, AltersRows, SetsVehicle, OnlyReads, Finds, BlamesDisk, HoldsBy, HasVehicle};
+ghost use Rattle.up_tables.specs.Tried.{BlamesRefusal, BlamesOne, Ran, Undoes};
 ghost use Rattle.up_tables.specs.declared.values.StoreFault.TheVariants as StoreFault;
 
 use crate::reading::{Decode, at_most_one};
@@ -59,6 +60,8 @@ pub fn insert_vehicle<S: Alter>(
         (state S.Store tx.old.conn.now) (state S.Store tx.new.conn.now) result }
     ensures blame { BlamesRefusal insert_vehicle_text (vehicle_row vehicle.now)
         (state S.Store tx.old.conn.now) (state S.Store tx.new.conn.now) result }
+    ensures ran { Ran ((insert_vehicle_text, vehicle_row vehicle.now) ∷ []) (state S.Store tx.old.conn.now) (state S.Store tx.new.conn.now) result }
+    ensures memory { Undoes (state S.Store tx.old.conn.now) (state S.Store tx.new.conn.now) result }
     ensures step { IsOpenStep S.Store tx.old.conn tx.new.conn result }
 {
     done(tx.execute(
@@ -81,6 +84,9 @@ pub fn upsert_vehicle<S: Alter>(
     requires fit { FitVehicle vehicle.now }
     requires mode { IfClean IsInside (state S.Store tx.old.conn.now) }
     ensures set { SetsVehicle vehicle.now (state S.Store tx.old.conn.now) (state S.Store tx.new.conn.now) result }
+    ensures blame { BlamesOne ((upsert_vehicle_text, vehicle_row vehicle.now) ∷ []) (HasVehicle vehicle.now)
+        (state S.Store tx.old.conn.now) (state S.Store tx.new.conn.now) result }
+    ensures ran { Ran ((upsert_vehicle_text, vehicle_row vehicle.now) ∷ []) (state S.Store tx.old.conn.now) (state S.Store tx.new.conn.now) result }
     ensures step { IsOpenStep S.Store tx.old.conn tx.new.conn result }
 {
     shows(

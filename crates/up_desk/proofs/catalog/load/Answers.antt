@@ -40,3 +40,6 @@ returns-in-Ok-clause-came g c = come_empty _ (primaries_in c.args.catalog.now) (
 
 pub returns-in-Err-clause-came : goal.returns-in-Err-clause-came
 returns-in-Err-clause-came g c = come_none _ (primaries_in c.args.catalog.now)
+
+pub returns-in-Err-clause-blame : goal.returns-in-Err-clause-blame
+returns-in-Err-clause-blame g c = c.in-Err.ensures.blame

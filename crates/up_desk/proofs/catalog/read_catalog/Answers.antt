@@ -2,6 +2,7 @@ use Rattle.std.proofs.Common.{sym, subst, ◌∙◌}
 use Rattle.std.specs.Prelude.{IfSome, IsTrue}
 use Rattle.up_machine.specs.RowsFit.{founding_fits}
 use Rattle.up_desk.proofs.Steps.{clean_before, if_ok_then, keeps_after, reads_then}
+use Rattle.up_desk.proofs.Blamed.{blamed_behind}
 use Rattle.up_desk.proofs.catalog.read_catalog.Goals as goal
 
 pub returns-in-Ok-Some-clause-told : goal.returns-in-Ok-Some-clause-told
@@ -19,3 +20,11 @@ returns-in-Ok-None-clause-told g c = λ clean k s was. sym (sym c.in-Ok-None.fie
 
 pub read_registers-requires : goal.read_registers-requires
 read_registers-requires g c = subst (λ o. IfSome o (λ f. IsTrue (founding_fits (g.K.Scheme.rules c.args.scheme.now) f))) c.in-Ok-Some.field-0-is c.in-Ok-Some.ensures.fits
+
+pub returns-in-Ok-Some-clause-blame : goal.returns-in-Ok-Some-clause-blame
+returns-in-Ok-Some-clause-blame g c = λ s sound was.
+    let k = g.K.Scheme.rules c.args.scheme.now in
+    blamed_behind _ c.read_registers.result c.read_founding.ensures.reads c.read_registers.ensures.reads (c.read_registers.ensures.blame k s (keeps_after k s was c.read_founding.ensures.reads))
+
+pub returns-in-Err-clause-blame : goal.returns-in-Err-clause-blame
+returns-in-Err-clause-blame g c = c.in-Err.ensures.blame

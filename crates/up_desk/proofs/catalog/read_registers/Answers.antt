@@ -4,6 +4,7 @@ use Rattle.up_rows.specs.StateRows.{rows_of_state}
 use Rattle.up_desk.specs.Standing.{AreFew, ArePrimaries}
 use Rattle.up_desk.proofs.Cataloged.{are_none, few_none}
 use Rattle.up_desk.proofs.Steps.{clean_before, keeps_after, reads_none, reads_then, store_reads}
+use Rattle.up_desk.proofs.Blamed.{blamed_then}
 use Rattle.up_desk.proofs.catalog.read_registers.Goals as goal
 
 pub returns-in-Ok-images-clause-told : goal.returns-in-Ok-images-clause-told
@@ -27,3 +28,11 @@ returns-in-Err-images-clause-reads g c = reads_then c.read_running.ensures.reads
 
 pub returns-in-Err-clause-reads : goal.returns-in-Err-clause-reads
 returns-in-Err-clause-reads g c = reads_none (state g.D.Store c.args.store.now)
+
+pub returns-in-Err-read_running-clause-blame : goal.returns-in-Err-read_running-clause-blame
+returns-in-Err-read_running-clause-blame g c = c.in-Err-read_running.ensures.blame
+
+pub returns-in-Err-images-clause-blame : goal.returns-in-Err-images-clause-blame
+returns-in-Err-images-clause-blame g c = λ k s was.
+    blamed_then c.read_running.ensures.reads (store_reads c.images.ensures.kept c.images.ensures.crash)
+    (λ clean is is_open unlimited. c.in-Err-images.ensures.blame clean is is_open unlimited (rows_of_state k s) (keeps_after k s was c.read_running.ensures.reads))

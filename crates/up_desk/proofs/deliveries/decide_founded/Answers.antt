@@ -1,8 +1,9 @@
 use Rattle.up_machine.specs.declared.decision.Delivered.{Delivered}
 use Rattle.up_machine.specs.declared.rows.VehicleRows.{VehicleRows}
+use Rattle.up_machine.specs.Decisions.{decide_incoming, GivesDelivered}
 use Rattle.up_desk.specs.Delivering.{refused_by}
 use Rattle.up_desk.proofs.Cataloged.{can_more}
-use Rattle.up_desk.proofs.Steps.{clean_before, keeps_after, reads_then}
+use Rattle.up_desk.proofs.Steps.{clean_before, gives_behind, keeps_after, reads_then}
 use Rattle.up_desk.proofs.SentBy.{passed_on, refused_on, sender_refused}
 use Rattle.up_desk.proofs.deliveries.decide_founded.Goals as goal
 
@@ -10,9 +11,11 @@ pub returns-in-Ok-clause-decided : goal.returns-in-Ok-clause-decided
 returns-in-Ok-clause-decided g c = λ clean s sound is was.
     let k = g.K.Scheme.rules c.args.scheme.now in
     let mid = clean_before c.decide_sent.ensures.reads clean in
-    c.decide_sent.ensures.decided clean s sound
+    let incoming = c.args.incoming.now in
+    gives_behind (GivesDelivered k s incoming.manifest.vehicle) c.decide_sent.result (decide_incoming k s c.args.at incoming) c.read_sender.ensures.reads c.decide_sent.ensures.reads clean
+    (c.decide_sent.ensures.decided clean s sound
     (record { kept = c.read_sender.ensures.of mid k s was is; from = c.in-Ok.ensures.from mid s was is })
-    (keeps_after k s was c.read_sender.ensures.reads)
+    (keeps_after k s was c.read_sender.ensures.reads))
 
 pub returns-in-Ok-clause-of : goal.returns-in-Ok-clause-of
 returns-in-Ok-clause-of g c = λ clean k s was is. c.read_sender.ensures.of (clean_before c.decide_sent.ensures.reads clean) k s was is
@@ -26,7 +29,7 @@ returns-in-Ok-clause-reads g c = reads_then c.read_sender.ensures.reads c.decide
 
 pub returns-in-Err-clause-decided : goal.returns-in-Err-clause-decided
 returns-in-Err-clause-decided g c = λ clean s sound is was.
-    sender_refused (g.K.Scheme.rules c.args.scheme.now) s c.args.at c.args.incoming.now c.in-Err.refusal (c.in-Err.ensures.from clean s was is)
+    sender_refused c.read_sender.ensures.reads (g.K.Scheme.rules c.args.scheme.now) s c.args.at c.args.incoming.now c.in-Err.refusal (c.in-Err.ensures.blame s sound was is clean) (c.in-Err.ensures.from clean s was is)
 
 pub returns-in-Err-clause-forged : goal.returns-in-Err-clause-forged
 returns-in-Err-clause-forged g c =

@@ -1,11 +1,12 @@
 use Rattle.sqlite.specs.Held.{state}
 use Rattle.up_machine.specs.Decisions.{GivesDelivered}
+use Rattle.up_desk.proofs.NeverStore.{never_delivered}
 use Rattle.up_desk.proofs.Steps.{gives_or_fails, reads_none}
 use Rattle.up_desk.proofs.deliveries.decide_sent.Goals as goal
 
 pub returns-then-is_later-clause-decided : goal.returns-then-is_later-clause-decided
 returns-then-is_later-clause-decided g c = λ clean s sound sent was.
-    gives_or_fails (GivesDelivered (g.K.Scheme.rules c.args.scheme.now) s c.args.incoming.now.manifest.vehicle) c.decide_later.result _ (λ r h. h) (c.decide_later.ensures s sound sent)
+    gives_or_fails (reads_none (state g.D.Store c.args.store.now)) (GivesDelivered (g.K.Scheme.rules c.args.scheme.now) s c.args.incoming.now.manifest.vehicle) c.decide_later.result _ (never_delivered (g.K.Scheme.rules c.args.scheme.now) s c.args.at c.args.incoming.now) (λ r h. h) (c.decide_later.ensures s sound sent)
 
 pub returns-else-is_later-clause-decided : goal.returns-else-is_later-clause-decided
 returns-else-is_later-clause-decided g c = λ clean s sound sent was.

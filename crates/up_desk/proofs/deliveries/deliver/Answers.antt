@@ -13,6 +13,7 @@ use Rattle.up_desk.specs.Delivering.{RefusesRead, refused_in}
 use Rattle.up_desk.specs.Serving.{Serves}
 use Rattle.up_desk.specs.Standing.{primaries_in}
 use Rattle.up_desk.proofs.Cataloged.{come_none, stays}
+use Rattle.up_desk.proofs.NeverStore.{never_incoming}
 use Rattle.up_desk.proofs.SentBy.{body_refused, come_read, loaded_read, none_unread, read_refused, unread_body, unread_loads}
 use Rattle.up_desk.proofs.Serving.{stopped_or_failed}
 use Rattle.up_desk.proofs.Steps.{refused, reads_none}
@@ -28,7 +29,7 @@ pub returns-in-Err-clause-serves : goal.returns-in-Err-clause-serves
 returns-in-Err-clause-serves g c = λ s sound was kept.
     let k = g.K.Scheme.rules c.args.scheme.now in
     refused was
-    (reads_none (state g.D.Store c.args.store.now)) (λ clean. stopped_or_failed (incoming_in c.args.body.now) (decide_incoming k s c.args.at) c.in-Err.refusal (subst (λ b. MatchBool (is_memory c.in-Err.refusal) ⊤ (incoming_in b ≡ Err c.in-Err.refusal)) c.as_slice.ensures c.in-Err.ensures.value))
+    (reads_none (state g.D.Store c.args.store.now)) (λ clean. stopped_or_failed (reads_none (state g.D.Store c.args.store.now)) (incoming_in c.args.body.now) (decide_incoming k s c.args.at) c.in-Err.refusal (never_incoming c.args.body.now) (subst (λ b. MatchBool (is_memory c.in-Err.refusal) ⊤ (incoming_in b ≡ Err c.in-Err.refusal)) c.as_slice.ensures c.in-Err.ensures.value))
 
 pub returns-in-Err-clause-fits : goal.returns-in-Err-clause-fits
 returns-in-Err-clause-fits g c = λ clean k s was fits. fits

@@ -2,13 +2,13 @@ use Rattle.up_desk.specs.Delivering.{IsSentBy}
 use Rattle.up_desk.specs.Standing.{primaries_in}
 use Rattle.up_desk.proofs.Cataloged.{come_as, come_loaded, stays_then}
 use Rattle.up_desk.proofs.SentBy.{loaded_told, none_loaded, still_refused}
-use Rattle.up_desk.proofs.Steps.{after_reads, clean_before, keeps_after, failed_told, refused}
+use Rattle.up_desk.proofs.Steps.{after_reads, clean_before, keeps_after, failed_told, fault_told, refused}
 use Rattle.up_desk.proofs.deliveries.receive.Goals as goal
 
 pub returns-in-Ok-clause-serves : goal.returns-in-Ok-clause-serves
 returns-in-Ok-clause-serves g c = λ s sound was kept.
     let k = g.K.Scheme.rules c.args.scheme.now in
-    after_reads c.load.ensures.reads
+    after_reads was c.load.ensures.reads
     (c.receive_loaded.ensures.serves s sound (keeps_after k s was c.load.ensures.reads)
     (λ mid. c.in-Ok.ensures.loaded mid k s was (kept (clean_before c.load.ensures.reads mid))))
 
@@ -26,7 +26,7 @@ returns-in-Ok-clause-forged g c =
 
 pub returns-in-Err-clause-serves : goal.returns-in-Err-clause-serves
 returns-in-Err-clause-serves g c = λ s sound was kept.
-    refused was c.load.ensures.reads (λ clean. failed_told c.refusal_of.result c.in-Err.fault _ c.refusal_of.ensures)
+    refused was c.load.ensures.reads (λ clean. fault_told c.load.ensures.reads c.refusal_of.result c.in-Err.fault _ c.refusal_of.ensures (c.in-Err.ensures.blame s sound was clean))
 
 pub returns-in-Err-clause-forged : goal.returns-in-Err-clause-forged
 returns-in-Err-clause-forged g c =

@@ -23,7 +23,7 @@ returns-in-Ok-Accepted-clause-serves g c = λ s sound was loaded.
     let k = g.K.Scheme.rules c.args.scheme.now in
     let name = c.args.incoming.now.manifest.vehicle in
     let computed = decide_incoming k s c.args.at c.args.incoming.now in
-    after_reads c.decide.ensures.reads
+    after_reads was c.decide.ensures.reads
     (c.accept.ensures.serves k s name computed sound (keeps_after k s was c.decide.ensures.reads)
     (λ clean. subst (λ d. GivesDelivered k s name (Ok d) computed) c.in-Ok-Accepted.field-0-is
     (c.in-Ok-Accepted.ensures.decided clean s sound (loaded (clean_before c.decide.ensures.reads clean)) was)))

@@ -4,6 +4,7 @@ use Rattle.up_plan.specs.declared.campaign.Item.{Item}
 use Rattle.up_desk.specs.Gathered.{gathered, item_files}
 use Rattle.up_desk.proofs.Loops.{files_more, mapped_more}
 use Rattle.up_desk.proofs.Steps.{clean_before, keeps_after, reads_then}
+use Rattle.up_desk.proofs.Blamed.{blamed_then}
 use Rattle.up_desk.proofs.images.add_items.Goals as goal
 
 pub loop-item-preserved : goal.loop-item-preserved
@@ -19,3 +20,6 @@ returns-clause-told g c clean = λ k s was part. c.loop-item.invariant.found cle
 
 pub returns-in-Err-clause-reads : goal.returns-in-Err-clause-reads
 returns-in-Err-clause-reads g c = reads_then c.loop-item.invariant.reads c.add_file.ensures.reads
+
+pub returns-in-Err-clause-blame : goal.returns-in-Err-clause-blame
+returns-in-Err-clause-blame g c = λ k s was. blamed_then c.loop-item.invariant.reads c.add_file.ensures.reads (c.in-Err.ensures.blame k s (keeps_after k s was c.loop-item.invariant.reads))

@@ -19,7 +19,7 @@ returns-else-publics_fit-clause-serves g c = λ s sound was.
     let all = λ (es : List NewEcu). list_all (λ (e : NewEcu). public_fits k e.public) es in
     let none : all c.args.new.now.ecus ≡ false = sym (c.publics_fit.ensures ∙ ap all (c.as_slice.ensures ∙ ap (λ (d : NewVehicleData). d.ecus) c.new.view_is)) ∙ c.if-publics_fit.false in
     refused was (reads_none (state g.D.Store c.args.store.now))
-    (λ clean. by_key c.from.result _ (unfit_vehicle k s c.args.at c.args.new.now c.requires.moment none) c.from.ensures)
+    (λ clean. by_key (reads_none (state g.D.Store c.args.store.now)) c.from.result _ (unfit_vehicle k s c.args.at c.args.new.now c.requires.moment none) c.from.ensures)
 
 pub returns-else-publics_fit-clause-key : goal.returns-else-publics_fit-clause-key
 returns-else-publics_fit-clause-key g c = λ none. record { refused = ap (λ r. Err r) c.from.ensures; unread = refl }

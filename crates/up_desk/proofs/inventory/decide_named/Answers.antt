@@ -6,7 +6,8 @@ use Rattle.up_machine.specs.State.{State, added, is_taken}
 use Rattle.up_machine.specs.Vehicles.{NewVehicleData, ecu_names}
 use Rattle.up_machine.specs.declared.rows.VehicleRows.{VehicleRows}
 use Rattle.up_machine.specs.declared.vehicle.NewEcu.{NewEcu}
-use Rattle.up_desk.proofs.Steps.{gives_or_fails, failed_told}
+use Rattle.up_desk.proofs.NeverStore.{never_vehicle}
+use Rattle.up_desk.proofs.Steps.{fault_told, gives_or_fails}
 use Rattle.up_desk.proofs.inventory.decide_named.Goals as goal
 
 -- the marks of ECUs are those of their names
@@ -18,10 +19,10 @@ pub returns-in-Ok-clause-decided : goal.returns-in-Ok-clause-decided
 returns-in-Ok-clause-decided g c clean = λ s sound founded old was.
     let k = g.K.Scheme.rules c.args.scheme.now in
     let given = c.args.new.now in
-    gives_or_fails (GivesDecision (λ (rows : VehicleRows). rows ≡ rows_of given.vehicle (added given)) s (with_vehicle s given)) c.decide_vehicle.result (decide_vehicle k s c.args.at given) (λ r h. h)
+    gives_or_fails c.taken_marks.ensures.reads (GivesDecision (λ (rows : VehicleRows). rows ≡ rows_of given.vehicle (added given)) s (with_vehicle s given)) c.decide_vehicle.result (decide_vehicle k s c.args.at given) (never_vehicle k s c.args.at given) (λ r h. h)
     (c.decide_vehicle.ensures.decided s sound founded old
     (c.as_slice-in-Ok.ensures.value ∙ c.in-Ok.ensures.told clean k s was ∙ ap (map (λ (e : NewEcu). is_taken s e.ecu)) (c.as_slice.ensures ∙ ap (λ (d : NewVehicleData). d.ecus) c.new.view_is)
     ∙ marks_of_names s given.ecus))
 
 pub returns-in-Err-clause-decided : goal.returns-in-Err-clause-decided
-returns-in-Err-clause-decided g c = λ clean s sound founded old was. failed_told c.refusal_of.result c.in-Err.fault _ c.refusal_of.ensures
+returns-in-Err-clause-decided g c = λ clean s sound founded old was. fault_told c.taken_marks.ensures.reads c.refusal_of.result c.in-Err.fault _ c.refusal_of.ensures (c.in-Err.ensures.blame (g.K.Scheme.rules c.args.scheme.now) s was clean)

@@ -1,7 +1,7 @@
 use Rattle.up_machine.specs.declared.vehicle.NewEcu.{NewEcu}
 use Rattle.up_machine.specs.State.{State, is_taken}
 use Rattle.up_desk.proofs.Marks.{one_more_mark}
-use Rattle.up_desk.proofs.Steps.{reads_then}
+use Rattle.up_desk.proofs.Steps.{failed_behind, keeps_after, reads_then}
 use Rattle.up_desk.proofs.inventory.taken_marks.Goals as goal
 
 pub loop-ecu-preserved : goal.loop-ecu-preserved
@@ -13,3 +13,7 @@ returns-in_err-push-in-Ok-clause-reads g c = reads_then c.loop-ecu.invariant.rea
 
 pub returns-in-Err-clause-reads : goal.returns-in-Err-clause-reads
 returns-in-Err-clause-reads g c = reads_then c.loop-ecu.invariant.reads c.is_taken.ensures.reads
+
+pub returns-in-Err-clause-blame : goal.returns-in-Err-clause-blame
+returns-in-Err-clause-blame g c = λ k s was clean is.
+    failed_behind c.loop-ecu.invariant.reads c.is_taken.ensures.reads clean (c.in-Err.ensures.blame k s (keeps_after k s was c.loop-ecu.invariant.reads) clean is)

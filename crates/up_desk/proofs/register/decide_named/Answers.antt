@@ -4,8 +4,9 @@ use Rattle.sqlite.specs.Held.{state}
 use Rattle.up_machine.specs.Decisions.{HasRegisterRows}
 use Rattle.up_machine.specs.Repositories.{decide_image, stamped, with_image}
 use Rattle.up_machine.specs.RowsFit.{founding_fits}
-use Rattle.up_desk.proofs.Due.{when_there, when_new_image, new_rows_made, new_rows_refused, surely_refused}
-use Rattle.up_desk.proofs.Steps.{reads_none}
+use Rattle.up_desk.proofs.Due.{when_there, when_new_image, new_rows_made, new_rows_refused}
+use Rattle.up_desk.proofs.NeverStore.{never_image}
+use Rattle.up_desk.proofs.Steps.{reads_none, surely_due}
 use Rattle.up_desk.proofs.register.decide_named.Goals as goal
 
 pub returns-in-Ok-Already-clause-decided : goal.returns-in-Ok-Already-clause-decided
@@ -31,11 +32,11 @@ pub returns-in_err-decide_new-in-Ok-New-clause-decided : goal.returns-in_err-dec
 returns-in_err-decide_new-in-Ok-New-clause-decided g c clean = λ s sound founding old was.
     let next = stamped (with_image s c.args.image.now) c.args.at (s.image_version + 1) in
     let it = when_new_image s c.args.at c.args.image.now c.in-Ok-New.field-0 c.in-Ok-New.founding (decide_image s c.args.at c.args.image.now) c.in-Ok-New.field-0-is (c.in-Ok-New.ensures.decided s founding old) in
-    new_rows_refused (HasRegisterRows (g.K.Scheme.rules c.args.scheme.now) next) s next c.from_residual.result c.in_err-decide_new-in-Ok-New.field-0.0 _ _ it.2 c.from_residual.ensures.1 (c.in_err-decide_new-in-Ok-New.ensures.decided clean s sound it.0 it.1 was)
+    new_rows_refused c.decide_new.ensures.reads (HasRegisterRows (g.K.Scheme.rules c.args.scheme.now) next) s next c.from_residual.result c.in_err-decide_new-in-Ok-New.field-0.0 _ _ it.2 c.from_residual.ensures.1 (c.in_err-decide_new-in-Ok-New.ensures.decided clean s sound it.0 it.1 was)
 
 pub returns-in-Err-clause-decided : goal.returns-in-Err-clause-decided
 returns-in-Err-clause-decided g c = λ clean s sound founding old was.
-    surely_refused c.in-Err.refusal (decide_image s c.args.at c.args.image.now) (c.in-Err.ensures.decided s founding old)
+    surely_due (reads_none (state g.D.Store c.args.store.now)) c.in-Err.refusal (decide_image s c.args.at c.args.image.now) (never_image s c.args.at c.args.image.now) (c.in-Err.ensures.decided s founding old)
 
 pub returns-in-Err-clause-reads : goal.returns-in-Err-clause-reads
 returns-in-Err-clause-reads g c = reads_none (state g.D.Store c.args.store.now)

@@ -15,7 +15,7 @@ returns-else-public_fits-clause-serves g c = λ s sound was.
     let k = g.K.Scheme.rules c.args.scheme.now in
     let none : public_fits k c.args.new.now.ecu.public ≡ false = sym (c.public_fits.ensures ∙ ap (public_fits k) c.as_slice.ensures) ∙ c.if-public_fits.false in
     refused was (reads_none (state g.D.Store c.args.store.now))
-    (λ clean. by_key c.from.result _ (unfit_ecu k s c.args.at c.args.new.now c.requires.moment none) c.from.ensures)
+    (λ clean. by_key (reads_none (state g.D.Store c.args.store.now)) c.from.result _ (unfit_ecu k s c.args.at c.args.new.now c.requires.moment none) c.from.ensures)
 
 pub returns-else-public_fits-clause-key : goal.returns-else-public_fits-clause-key
 returns-else-public_fits-clause-key g c = λ none. record { refused = ap (λ r. Err r) c.from.ensures; unread = refl }

@@ -1,6 +1,9 @@
+use Rattle.std.proofs.Common.{Err, ap, ◌∙◌}
+use Rattle.up_canon.specs.declared.refusal.Refusal.{Refusal}
 use Rattle.up_desk.specs.Serving.{is_fault}
 use Rattle.up_desk.proofs.Cataloged.{come_none, founding_more, none_more, of_more}
 use Rattle.up_desk.proofs.SentBy.{due, unknown_refused}
+use Rattle.up_desk.proofs.NeverStore.{never_received}
 use Rattle.up_desk.proofs.senders.read_first.Goals as goal
 
 pub returns-in-Ok-test_by_rows-clause-from : goal.returns-in-Ok-test_by_rows-clause-from
@@ -41,3 +44,11 @@ returns-in-Err-test_by_rows-clause-came g c = λ clean s was is.
 
 pub returns-in-Err-clause-came : goal.returns-in-Err-clause-came
 returns-in-Err-clause-came g c = λ clean s was is. come_none _ c.args.catalog.now.primaries
+
+pub returns-in-Err-clause-blame : goal.returns-in-Err-clause-blame
+returns-in-Err-clause-blame g c = λ s sound was of. c.in-Err.ensures.blame (g.K.Scheme.rules c.args.scheme.now) s sound was
+
+pub returns-in-Err-test_by_rows-clause-blame : goal.returns-in-Err-test_by_rows-clause-blame
+returns-in-Err-test_by_rows-clause-blame g c = λ s sound was of clean is is_open unlimited.
+    let k = g.K.Scheme.rules c.args.scheme.now in
+    absurd (never_received k s c.args.incoming.now (c.in-Err-test_by_rows.ensures.sent s of.founding (c.in-Ok.ensures.told clean k s was) ∙ ap (λ (r : Refusal). Err r) is))

@@ -1,6 +1,7 @@
-use Rattle.std.proofs.Common.{Bool, subst}
+use Rattle.std.proofs.Common.{Bool, Err, ap, ◌∙◌, subst}
 use Rattle.std.specs.Prelude.{⊤, MatchBool, Ok}
 use Rattle.sqlite.specs.Held.{state}
+use Rattle.up_canon.specs.declared.refusal.Refusal.{Refusal}
 use Rattle.up_machine.specs.declared.rows.VehicleRows.{VehicleRows}
 use Rattle.up_machine.specs.Primaries.{GivesSent}
 use Rattle.up_desk.specs.Delivering.{refused_by}
@@ -8,6 +9,7 @@ use Rattle.up_desk.specs.Serving.{is_fault}
 use Rattle.up_desk.proofs.Cataloged.{come_none, none_more}
 use Rattle.up_desk.proofs.Steps.{reads_none}
 use Rattle.up_desk.proofs.SentBy.{due, refused_unread, sent_rows}
+use Rattle.up_desk.proofs.NeverStore.{never_received}
 use Rattle.up_desk.proofs.senders.read_sender.Goals as goal
 
 pub returns-in-Ok-true-clause-from : goal.returns-in-Ok-true-clause-from
@@ -34,3 +36,10 @@ returns-in-Ok-true-clause-came g c = λ clean s was is. come_none _ c.args.catal
 
 pub returns-in-Err-clause-came : goal.returns-in-Err-clause-came
 returns-in-Err-clause-came g c = λ clean s was is. come_none _ c.args.catalog.now.primaries
+
+pub returns-in-Ok-true-clause-blame : goal.returns-in-Ok-true-clause-blame
+returns-in-Ok-true-clause-blame g c = λ s sound was of. c.read_rows.ensures.blame (g.K.Scheme.rules c.args.scheme.now) s sound was
+
+pub returns-in-Err-clause-blame : goal.returns-in-Err-clause-blame
+returns-in-Err-clause-blame g c = λ s sound was of clean is is_open unlimited.
+    absurd (never_received (g.K.Scheme.rules c.args.scheme.now) s c.args.incoming.now (c.in-Err.ensures.sent s of ∙ ap (λ (r : Refusal). Err r) is))

@@ -18,6 +18,6 @@ returns-clause-same c = λ campaigns are.
     (subst (λ rows. AreRead rows campaigns c.loop-row.running) (take_all c.loop-row.row-index c.args.shown.now c.loop-row-test.false) (c.loop-row.invariant campaigns are))
 
 pub returns-in_err-add_running-clause-fault : goal.returns-in_err-add_running-clause-fault
-returns-in_err-add_running-clause-fault c = λ campaigns are valid.
+returns-in_err-add_running-clause-fault c = λ campaigns are.
     let of = campaign_of campaigns c.args.shown.now c.loop-row.row-index c.row-item.result c.loop-row-test.true c.row-item.is are in
-    memory_on c.from_residual.result c.in_err-add_running.field-0.0 c.from_residual.ensures.1 (c.in_err-add_running.ensures.fault _ of.0 (are.typed _ of.0 of.1) (valid _ of.0 of.1) of.2)
+    memory_on c.from_residual.result c.in_err-add_running.field-0.0 c.from_residual.ensures.1 (c.in_err-add_running.ensures.fault _ of.0 (are.typed _ of.0 of.1) of.2)

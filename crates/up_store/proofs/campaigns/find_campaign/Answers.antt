@@ -1,7 +1,6 @@
-use Rattle.std.proofs.Common.{Some, IfSome, Err, subst}
-use Rattle.std.specs.FinMap as table
+use Rattle.std.proofs.Common.{Err}
+use Rattle.std.specs.Prelude.{⊤}
 use Rattle.sqlite.specs.Held.{state}
-use Rattle.up_store.specs.Typed.{IsValidCampaign}
 use Rattle.up_store.proofs.Blamed.{by_statement, memory_blames}
 use Rattle.up_store.proofs.ColumnFound.{campaigns, found_in, none_found, some_found}
 use Rattle.up_store.proofs.KindsOfCampaigns.{holds_campaign}
@@ -17,11 +16,11 @@ pub returns-in-Ok-Some-clause-blame : goal.returns-in-Ok-Some-clause-blame
 returns-in-Ok-Some-clause-blame g c =
     let before = state g.D.Store c.args.tx.now.conn.now in
     let after = state g.D.Store c.campaign.new.tx.conn.now in
-    memory_blames (λ rows. IfSome (table.get rows.campaigns c.args.name.now) IsValidCampaign) before after c.some_campaign.result
+    memory_blames (λ _. ⊤) before after c.some_campaign.result
     (λ clean rows within fits.
     let f = found_in campaigns rows c.args.name.now before after c.in-Ok-Some.field-0 c.in-Ok-Some.shown c.in-Ok-Some.field-0-is (c.in-Ok-Some.ensures.reads clean) (rw c.text.ensures.value at c.in-Ok-Some.ensures.found clean) within in
-    c.some_campaign.ensures.fault c.args.name.now f.value f.typed (subst (λ o. IfSome o IsValidCampaign) {y = Some f.value} f.there fits) f.same)
+    c.some_campaign.ensures.fault c.args.name.now f.value f.typed f.same)
 
 pub returns-in-Err-clause-blame : goal.returns-in-Err-clause-blame
 returns-in-Err-clause-blame g c =
-    by_statement (λ rows. IfSome (table.get rows.campaigns c.args.name.now) IsValidCampaign) _ (state g.D.Store c.args.tx.now.conn.now) (state g.D.Store c.campaign.new.tx.conn.now) (Err c.in-Err.fault) (holds_campaign c.args.name.now (state g.D.Store c.args.tx.now.conn.now)) (rw c.text.ensures.value at c.in-Err.ensures.blame)
+    by_statement (λ _. ⊤) _ (state g.D.Store c.args.tx.now.conn.now) (state g.D.Store c.campaign.new.tx.conn.now) (Err c.in-Err.fault) (λ rows lists fits. holds_campaign c.args.name.now (state g.D.Store c.args.tx.now.conn.now) rows lists) (rw c.text.ensures.value at c.in-Err.ensures.blame)

@@ -11,4 +11,4 @@ returns-clause-same c = λ file image typed is told.
     c.in_ok-insert.ensures.ok ∙ ap₂ (λ name x. table.insert c.args.images.now name x) (c.in_ok-name.ensures ∙ c.text.ensures.value ∙ ap (λ (i : ImageData). i.file) (c.image.view_is ∙ same)) same
 
 pub returns-in_err-image-clause-fault : goal.returns-in_err-image-clause-fault
-returns-in_err-image-clause-fault c = λ file image typed valid is. memory_on c.from_residual.result c.in_err-image.field-0.0 c.from_residual.ensures.1 (c.in_err-image.ensures.fault file image typed valid is)
+returns-in_err-image-clause-fault c = λ file image typed is. memory_on c.from_residual.result c.in_err-image.field-0.0 c.from_residual.ensures.1 (c.in_err-image.ensures.fault file image typed is)

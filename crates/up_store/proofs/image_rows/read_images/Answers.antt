@@ -24,8 +24,8 @@ returns-clause-same c = λ images are told.
     images_ended images all c.loop-row.images are (subst (λ rows. AreSofar rows images c.loop-row.images) whole (c.loop-row.invariant images are told))
 
 pub returns-in_err-add_image-clause-fault : goal.returns-in_err-add_image-clause-fault
-returns-in_err-add_image-clause-fault c = λ images are valid.
+returns-in_err-add_image-clause-fault c = λ images are.
     let all = c.args.shown.items in
     let turn = YieldsList-turn (YieldsList-from_vec all (cc) (cc)) c.loop-row.yielded _ c.loop-row.yielded_by _ c.next.new.self c.in-Some.row c.in-Some.is c.next.ensures.steps in
     let of = image_of images all (length c.loop-row.yielded) c.in-Some.row turn.0 turn.1 are in
-    memory_on c.from_residual.result c.in_err-add_image.field-0.0 c.from_residual.ensures.1 (c.in_err-add_image.ensures.fault _ of.0 (are.typed _ of.0 of.1) (valid _ of.0 of.1) of.2)
+    memory_on c.from_residual.result c.in_err-add_image.field-0.0 c.from_residual.ensures.1 (c.in_err-add_image.ensures.fault _ of.0 (are.typed _ of.0 of.1) of.2)

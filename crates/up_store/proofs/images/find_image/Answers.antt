@@ -1,10 +1,10 @@
-use Rattle.std.proofs.Common.{◌≡◌, Some, IfSome, Err, subst, arith}
+use Rattle.std.specs.Prelude.{⊤}
+use Rattle.std.proofs.Common.{◌≡◌, Some, Err, arith}
 use Rattle.std.specs.FinMap as table
 use Rattle.sqlite.specs.Held.{state}
 use Rattle.sqlite.specs.State.{HasCleanDisk}
 use Rattle.up_plan.specs.Images.{ImageData}
 use Rattle.up_store.specs.ColumnRows.{IsImage}
-use Rattle.up_store.specs.Typed.{IsImageValue}
 use Rattle.up_store.proofs.Blamed.{by_statement, then_blames}
 use Rattle.up_store.proofs.ColumnFound.{images, found_in, none_found, joined_found}
 use Rattle.up_store.proofs.KindsOfImages.{holds_image}
@@ -25,15 +25,14 @@ pub returns-in-Ok-Some-clause-blame : goal.returns-in-Ok-Some-clause-blame
 returns-in-Ok-Some-clause-blame g c =
     let before = state g.D.Store c.args.tx.now.conn.now in
     let mid = state g.D.Store c.image.new.tx.conn.now in
-    then_blames (λ rows. IfSome (table.get rows.images c.args.file.now) IsImageValue)
-    (λ rows. (image : ImageData) × (table.get rows.images c.args.file.now ≡ Some image) × IsImage c.in-Ok-Some.shown image × IsImageValue image) before mid (state g.D.Store c.find_with_sha512.new.tx.conn.now) c.find_with_sha512.result
+    then_blames (λ _. ⊤)
+    (λ rows. (image : ImageData) × (table.get rows.images c.args.file.now ≡ Some image) × IsImage c.in-Ok-Some.shown image) before mid (state g.D.Store c.find_with_sha512.new.tx.conn.now) c.find_with_sha512.result
     c.image.ensures.step.steps c.find_with_sha512.ensures.step.steps c.in-Ok-Some.ensures.reads
     (λ clean rows within fits.
     let f = found_in images rows c.args.file.now before mid c.in-Ok-Some.field-0 c.in-Ok-Some.shown c.in-Ok-Some.field-0-is (c.in-Ok-Some.ensures.reads clean) (rw c.text.ensures.value at c.in-Ok-Some.ensures.found clean) within in
-    let value : IsImageValue f.value = subst (λ o. IfSome o IsImageValue) {y = Some f.value} f.there fits in
-    (f.value, f.there, f.same, value))
+    (f.value, f.there, f.same))
     c.find_with_sha512.ensures.blame
 
 pub returns-in-Err-clause-blame : goal.returns-in-Err-clause-blame
 returns-in-Err-clause-blame g c =
-    by_statement (λ rows. IfSome (table.get rows.images c.args.file.now) IsImageValue) _ (state g.D.Store c.args.tx.now.conn.now) (state g.D.Store c.image.new.tx.conn.now) (Err c.in-Err.fault) (holds_image c.args.file.now (state g.D.Store c.args.tx.now.conn.now)) (rw c.text.ensures.value at c.in-Err.ensures.blame)
+    by_statement (λ _. ⊤) _ (state g.D.Store c.args.tx.now.conn.now) (state g.D.Store c.image.new.tx.conn.now) (Err c.in-Err.fault) (λ rows lists fits. holds_image c.args.file.now (state g.D.Store c.args.tx.now.conn.now) rows lists) (rw c.text.ensures.value at c.in-Err.ensures.blame)

@@ -1,9 +1,9 @@
 use Rattle.std.proofs.Common.{Err, arith}
+use Rattle.std.specs.Prelude.{⊤}
 use Rattle.sqlite.specs.Held.{state}
 use Rattle.sqlite.specs.State.{HasCleanDisk}
 use Rattle.up_tables.proofs.StateLemmas.{ok_then}
 use Rattle.up_store.specs.ColumnRows.{AreImages}
-use Rattle.up_store.specs.Typed.{AreImageValues}
 use Rattle.up_store.proofs.Blamed.{by_statement, then_blames}
 use Rattle.up_store.proofs.ColumnFound.{within_read, are_images}
 use Rattle.up_store.proofs.KindsOfImages.{holds_images}
@@ -22,9 +22,9 @@ pub returns-in-Ok-clause-blame : goal.returns-in-Ok-clause-blame
 returns-in-Ok-clause-blame g c =
     let before = state g.D.Store c.args.tx.now.conn.now in
     let mid = state g.D.Store c.images.new.tx.conn.now in
-    then_blames (λ rows. AreImageValues rows.images) (λ rows. AreImages c.in-Ok.shown.items rows.images × AreImageValues rows.images) before mid (state g.D.Store c.find_with_sha512s.new.tx.conn.now) c.find_with_sha512s.result c.images.ensures.step.steps
-    c.find_with_sha512s.ensures.step.steps c.in-Ok.ensures.reads (λ clean rows within fits. (are_images rows before mid c.in-Ok.shown.items (c.in-Ok.ensures.reads clean) (c.in-Ok.ensures.found clean) within, fits)) c.find_with_sha512s.ensures.blame
+    then_blames (λ _. ⊤) (λ rows. AreImages c.in-Ok.shown.items rows.images) before mid (state g.D.Store c.find_with_sha512s.new.tx.conn.now) c.find_with_sha512s.result c.images.ensures.step.steps
+    c.find_with_sha512s.ensures.step.steps c.in-Ok.ensures.reads (λ clean rows within fits. are_images rows before mid c.in-Ok.shown.items (c.in-Ok.ensures.reads clean) (c.in-Ok.ensures.found clean) within) c.find_with_sha512s.ensures.blame
 
 pub returns-in-Err-clause-blame : goal.returns-in-Err-clause-blame
 returns-in-Err-clause-blame g c =
-    by_statement (λ rows. AreImageValues rows.images) _ (state g.D.Store c.args.tx.now.conn.now) (state g.D.Store c.images.new.tx.conn.now) (Err c.in-Err.fault) (holds_images (state g.D.Store c.args.tx.now.conn.now)) c.in-Err.ensures.blame
+    by_statement (λ _. ⊤) _ (state g.D.Store c.args.tx.now.conn.now) (state g.D.Store c.images.new.tx.conn.now) (Err c.in-Err.fault) (λ rows lists fits. holds_images (state g.D.Store c.args.tx.now.conn.now) rows lists) c.in-Err.ensures.blame

@@ -1,11 +1,11 @@
-use Rattle.std.proofs.Common.{◌≡◌, ◌∙◌, Some, IfSome, Err, sym, subst, ap}
+use Rattle.std.proofs.Common.{◌≡◌, ◌∙◌, Some, Err, ap}
+use Rattle.std.specs.Prelude.{⊤}
 use Rattle.std.specs.FinMap as table
 use Rattle.sqlite.specs.Held.{state}
 use Rattle.up_plan.specs.Images.{ImageData}
 use Rattle.up_tables.proofs.StateLemmas.{ok_then}
 use Rattle.up_store.specs.ColumnRows.{IsImage}
 use Rattle.up_store.specs.Lines.{second_hash}
-use Rattle.up_store.specs.Typed.{IsImageValue}
 use Rattle.up_store.proofs.Blamed.{fits_blames, memory_blames}
 use Rattle.up_store.proofs.images.find_with_sha512.Goals as goal
 
@@ -19,11 +19,11 @@ returns-in-Ok-clause-found g c clean =
 
 pub returns-in-Ok-clause-blame : goal.returns-in-Ok-clause-blame
 returns-in-Ok-clause-blame g c =
-    memory_blames (λ rows. (image : ImageData) × (table.get rows.images c.args.file.now ≡ Some image) × IsImage c.args.shown image × IsImageValue image) (state g.D.Store c.args.tx.now.conn.now) (state g.D.Store c.find_sha512.new.tx.conn.now) c.some_image.result
+    memory_blames (λ rows. (image : ImageData) × (table.get rows.images c.args.file.now ≡ Some image) × IsImage c.args.shown image) (state g.D.Store c.args.tx.now.conn.now) (state g.D.Store c.find_sha512.new.tx.conn.now) c.some_image.result
     (λ clean rows within fits.
     let here = within.here (c.in-Ok.ensures.open clean) in
-    c.some_image.ensures.fault c.args.file.now fits.0 (here.rows.typed.images c.args.file.now fits.0 fits.1) fits.3.valid fits.2)
+    c.some_image.ensures.fault c.args.file.now fits.0 (here.rows.typed.images c.args.file.now fits.0 fits.1) fits.2)
 
 pub returns-in-Err-clause-blame : goal.returns-in-Err-clause-blame
 returns-in-Err-clause-blame g c =
-    fits_blames (λ rows. (image : ImageData) × (table.get rows.images c.args.file.now ≡ Some image) × IsImage c.args.shown image × IsImageValue image) (λ rows. IfSome (table.get rows.images c.args.file.now) IsImageValue) (state g.D.Store c.args.tx.now.conn.now) (state g.D.Store c.find_sha512.new.tx.conn.now) (Err c.in-Err.fault) (λ rows lists fits. subst (λ o. IfSome o IsImageValue) (sym fits.1) fits.3) c.in-Err.ensures.blame
+    fits_blames (λ rows. (image : ImageData) × (table.get rows.images c.args.file.now ≡ Some image) × IsImage c.args.shown image) (λ _. ⊤) (state g.D.Store c.args.tx.now.conn.now) (state g.D.Store c.find_sha512.new.tx.conn.now) (Err c.in-Err.fault) (λ rows lists fits. tt) c.in-Err.ensures.blame

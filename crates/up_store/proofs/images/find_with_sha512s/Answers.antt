@@ -1,8 +1,8 @@
 use Rattle.std.proofs.Common.{Err}
+use Rattle.std.specs.Prelude.{⊤}
 use Rattle.sqlite.specs.Held.{state}
 use Rattle.up_tables.proofs.StateLemmas.{ok_then}
 use Rattle.up_store.specs.ColumnRows.{AreImages}
-use Rattle.up_store.specs.Typed.{AreImageValues}
 use Rattle.up_store.proofs.Blamed.{fits_blames, memory_blames}
 use Rattle.up_store.proofs.images.find_with_sha512s.Goals as goal
 
@@ -14,9 +14,9 @@ returns-in-Ok-clause-found g c clean =
 
 pub returns-in-Ok-clause-blame : goal.returns-in-Ok-clause-blame
 returns-in-Ok-clause-blame g c =
-    memory_blames (λ rows. AreImages c.args.shown.items rows.images × AreImageValues rows.images) (state g.D.Store c.args.tx.now.conn.now) (state g.D.Store c.find_sha512s.new.tx.conn.now) c.read_images.result
-    (λ clean rows within fits. c.read_images.ensures.fault rows.images fits.0 (λ file image there. (fits.1 file image there).valid))
+    memory_blames (λ rows. AreImages c.args.shown.items rows.images) (state g.D.Store c.args.tx.now.conn.now) (state g.D.Store c.find_sha512s.new.tx.conn.now) c.read_images.result
+    (λ clean rows within fits. c.read_images.ensures.fault rows.images fits)
 
 pub returns-in-Err-clause-blame : goal.returns-in-Err-clause-blame
 returns-in-Err-clause-blame g c =
-    fits_blames (λ rows. AreImages c.args.shown.items rows.images × AreImageValues rows.images) (λ rows. AreImageValues rows.images) (state g.D.Store c.args.tx.now.conn.now) (state g.D.Store c.find_sha512s.new.tx.conn.now) (Err c.in-Err.fault) (λ rows lists fits. fits.1) c.in-Err.ensures.blame
+    fits_blames (λ rows. AreImages c.args.shown.items rows.images) (λ _. ⊤) (state g.D.Store c.args.tx.now.conn.now) (state g.D.Store c.find_sha512s.new.tx.conn.now) (Err c.in-Err.fault) (λ rows lists fits. tt) c.in-Err.ensures.blame

@@ -5,9 +5,7 @@ use Rattle.up_tables.specs.Tables.{up_schema}
 use Rattle.up_store.specs.Listing.{ListsRows}
 use Rattle.up_store.proofs.ColumnFound.{each_ok, kept_found, kept_unknown, kept_reads}
 use Rattle.std.proofs.Common.{Err}
-use Rattle.std.specs.Prelude.{IfSome}
-use Rattle.up_rows.specs.Lookups.{kept_with}
-use Rattle.up_store.specs.Typed.{IsKeptValue}
+use Rattle.std.specs.Prelude.{⊤}
 use Rattle.up_store.proofs.Blamed.{memory_blames}
 use Rattle.up_store.proofs.KindsOfKept.{holds_kept, by_sound_statement}
 use Rattle.up_store.proofs.manifests.find_kept.Goals as goal
@@ -29,11 +27,11 @@ pub returns-in-Ok-Some-clause-blame : goal.returns-in-Ok-Some-clause-blame
 returns-in-Ok-Some-clause-blame g c =
     let before = state g.D.Store c.args.tx.now.conn.now in
     let after = state g.D.Store c.kept.new.tx.conn.now in
-    memory_blames (λ rows. IfSome (kept_with c.args.vehicle.now c.args.counter rows) IsKeptValue) before after c.some_kept.result
-    (λ clean rows within value.
-    kept_reads c.some_kept.result rows c.args.vehicle.now c.args.counter before after c.in-Ok-Some.field-0 c.in-Ok-Some.shown c.in-Ok-Some.field-0-is c.some_kept.ensures.fault (c.in-Ok-Some.ensures.reads clean) (rw (c.text.ensures.value, c.get.ensures.value) at c.in-Ok-Some.ensures.found clean) within value)
+    memory_blames (λ _. ⊤) before after c.some_kept.result
+    (λ clean rows within fits.
+    kept_reads c.some_kept.result rows c.args.vehicle.now c.args.counter before after c.in-Ok-Some.field-0 c.in-Ok-Some.shown c.in-Ok-Some.field-0-is c.some_kept.ensures.fault (c.in-Ok-Some.ensures.reads clean) (rw (c.text.ensures.value, c.get.ensures.value) at c.in-Ok-Some.ensures.found clean) within)
 
 pub returns-in-Err-clause-blame : goal.returns-in-Err-clause-blame
 returns-in-Err-clause-blame g c =
     let before = state g.D.Store c.args.tx.now.conn.now in
-    by_sound_statement (λ rows. IfSome (kept_with c.args.vehicle.now c.args.counter rows) IsKeptValue) _ before (state g.D.Store c.kept.new.tx.conn.now) (Err c.in-Err.fault) (holds_kept c.args.vehicle.now c.args.counter before) (rw (c.text.ensures.value, c.get.ensures.value) at c.in-Err.ensures.blame)
+    by_sound_statement (λ _. ⊤) _ before (state g.D.Store c.kept.new.tx.conn.now) (Err c.in-Err.fault) (λ rows here fits. holds_kept c.args.vehicle.now c.args.counter before rows here) (rw (c.text.ensures.value, c.get.ensures.value) at c.in-Err.ensures.blame)

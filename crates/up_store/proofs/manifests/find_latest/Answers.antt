@@ -1,17 +1,15 @@
-use Rattle.std.proofs.Common.{◌≡◌, arith, sym, ◌∙◌, Err, subst}
+use Rattle.std.proofs.Common.{◌≡◌, arith, sym, ◌∙◌}
 use Rattle.sqlite.specs.Held.{state}
 use Rattle.sqlite.specs.State.{HasCleanDisk}
-use Rattle.up_rows.specs.Lookups.{latest_kept, kept_with}
+use Rattle.up_rows.specs.Lookups.{latest_kept}
 use Rattle.up_rows.specs.StateRows.{StateRows}
 use Rattle.up_tables.specs.Stands.{IsWithin}
 use Rattle.up_tables.specs.Tables.{up_schema}
 use Rattle.up_tables.proofs.StateLemmas.{ok_then}
 use Rattle.up_store.specs.Listing.{ListsRows}
 use Rattle.up_store.proofs.ColumnFound.{within_read, latest_is, latest_unknown}
-use Rattle.std.specs.Prelude.{IfSome}
-use Rattle.up_store.specs.Found.{vehicle_found}
-use Rattle.up_store.specs.Typed.{IsValidVehicle, IsKeptValue}
-use Rattle.up_store.proofs.Blamed.{then_blames, fits_blames}
+use Rattle.std.specs.Prelude.{⊤}
+use Rattle.up_store.proofs.Blamed.{then_blames}
 use Rattle.up_store.proofs.manifests.find_latest.Goals as goal
 
 pub returns-in-Ok-Some-clause-found : goal.returns-in-Ok-Some-clause-found
@@ -31,13 +29,4 @@ pub returns-in-Ok-Some-clause-blame : goal.returns-in-Ok-Some-clause-blame
 returns-in-Ok-Some-clause-blame g c =
     let before = state g.D.Store c.args.tx.now.conn.now in
     let mid = state g.D.Store c.find_last.new.tx.conn.now in
-    then_blames (λ rows. IfSome (vehicle_found c.args.vehicle.now rows) IsValidVehicle × IfSome (latest_kept c.args.vehicle.now rows) IsKeptValue) (λ rows. IfSome (kept_with c.args.vehicle.now c.in-Ok-Some.last rows) IsKeptValue) before mid (state g.D.Store c.find_kept.new.tx.conn.now) c.find_kept.result
-    c.find_last.ensures.step.steps c.find_kept.ensures.step.steps c.in-Ok-Some.ensures.reads
-    (λ clean rows within fits.
-    let last = latest_is rows c.args.vehicle.now c.in-Ok-Some.last (sym c.in-Ok-Some.field-0-is ∙ c.in-Ok-Some.ensures.found clean rows within) in
-    subst (λ o. IfSome o IsKeptValue) (sym last) fits.1)
-    c.find_kept.ensures.blame
-
-pub returns-in-Err-clause-blame : goal.returns-in-Err-clause-blame
-returns-in-Err-clause-blame g c =
-    fits_blames (λ rows. IfSome (vehicle_found c.args.vehicle.now rows) IsValidVehicle × IfSome (latest_kept c.args.vehicle.now rows) IsKeptValue) (λ rows. IfSome (vehicle_found c.args.vehicle.now rows) IsValidVehicle) (state g.D.Store c.args.tx.now.conn.now) (state g.D.Store c.find_last.new.tx.conn.now) (Err c.in-Err.fault) (λ rows lists fits. fits.0) c.in-Err.ensures.blame
+    then_blames (λ _. ⊤) (λ _. ⊤) before mid (state g.D.Store c.find_kept.new.tx.conn.now) c.find_kept.result c.find_last.ensures.step.steps c.find_kept.ensures.step.steps c.in-Ok-Some.ensures.reads (λ clean rows within fits. tt) c.find_kept.ensures.blame

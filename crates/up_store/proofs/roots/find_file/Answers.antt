@@ -1,9 +1,8 @@
-use Rattle.std.proofs.Common.{Some, ◌∙◌, sym, ap, string_bytes, Err, IsUtf8}
-use Rattle.std.specs.Prelude.{option_map, IfSome}
+use Rattle.std.proofs.Common.{Some, ◌∙◌, sym, ap, string_bytes, Err}
+use Rattle.std.specs.Prelude.{⊤, option_map}
 use Rattle.sqlite.specs.Held.{state}
 use Rattle.up_tables.specs.declared.repo_file.FileRow.{FileRow}
 use Rattle.up_store.proofs.FileReads.{text_in}
-use Rattle.up_rows.specs.Lookups.{text_held}
 use Rattle.up_store.proofs.Blamed.{by_statement}
 use Rattle.up_store.proofs.KindsOfFounding.{holds_file}
 use Rattle.up_store.proofs.roots.find_file.Goals as goal
@@ -25,4 +24,4 @@ returns-in-Ok-None-clause-found g c clean rows within =
 pub returns-in-Err-clause-blame : goal.returns-in-Err-clause-blame
 returns-in-Err-clause-blame g c =
     let before = state g.D.Store c.args.tx.now.conn.now in
-    by_statement (λ rows. IfSome (text_held rows c.args.repository c.args.name.now) IsUtf8) _ before (state g.D.Store c.file.new.tx.conn.now) (Err c.in-Err.fault) (holds_file c.args.repository c.args.name.now c.text.ensures.fits before) (rw (c.repository_word.ensures, c.text.ensures.value) at c.in-Err.ensures.blame)
+    by_statement (λ _. ⊤) _ before (state g.D.Store c.file.new.tx.conn.now) (Err c.in-Err.fault) (λ rows lists fits. holds_file c.args.repository c.args.name.now c.text.ensures.fits before rows lists) (rw (c.repository_word.ensures, c.text.ensures.value) at c.in-Err.ensures.blame)

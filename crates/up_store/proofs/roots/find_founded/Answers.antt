@@ -7,9 +7,8 @@ use Rattle.up_tables.specs.Tables.{up_schema}
 use Rattle.up_tables.proofs.StateLemmas.{ok_then}
 use Rattle.up_store.specs.Listing.{ListsRows}
 use Rattle.up_store.specs.Shown.{meta_told, IsFoundingOf}
+use Rattle.up_store.proofs.ColumnFound.{typed_in}
 use Rattle.up_store.proofs.FoundingReads.{founding_in, founding_told}
-use Rattle.std.specs.Prelude.{IfSome}
-use Rattle.up_store.specs.Typed.{IsFoundingValue}
 use Rattle.up_store.proofs.Blamed.{by_statement, memory_blames}
 use Rattle.up_store.proofs.KindsOfFounding.{holds_keys, version_fits, founded_fault}
 use Rattle.up_tables.specs.declared.meta.MetaRow.{MetaRow}
@@ -29,19 +28,19 @@ pub returns-in-Ok-clause-blame : goal.returns-in-Ok-clause-blame
 returns-in-Ok-clause-blame g c =
     let before = state g.D.Store c.args.tx.now.conn.now in
     let after = state g.D.Store c.role_keys_of.new.tx.conn.now in
-    memory_blames (λ rows. (c.args.row ≡ meta_told rows.founding) × IfSome rows.founding IsFoundingValue) before after c.read_founding.result
+    memory_blames (λ rows. c.args.row ≡ meta_told rows.founding) before after c.read_founding.result
     (λ clean rows within fits.
     let told = subst (λ l. IsFoundingOf c.args.row l rows.founding) (sym c.as_slice.ensures.value)
-    (founding_told rows c.args.row c.in-Ok.keys.items before after (ne_eqb c.args.row.root 0 (λ e. omega (arith, e, c.if-row-eq0.false))) (c.in-Ok.ensures.reads clean) (c.in-Ok.ensures.found clean) within fits.0) in
-    founded_fault c.args.row c.as_slice.result.now rows.founding told c.read_founding.result c.read_founding.ensures.fault fits.1)
+    (founding_told rows c.args.row c.in-Ok.keys.items before after (ne_eqb c.args.row.root 0 (λ e. omega (arith, e, c.if-row-eq0.false))) (c.in-Ok.ensures.reads clean) (c.in-Ok.ensures.found clean) within fits) in
+    founded_fault c.args.row c.as_slice.result.now rows.founding told c.read_founding.result c.read_founding.ensures.fault (typed_in rows before after (c.in-Ok.ensures.reads clean) within).founding)
 
 pub returns-in-Err-clause-blame : goal.returns-in-Err-clause-blame
 returns-in-Err-clause-blame g c =
     let before = state g.D.Store c.args.tx.now.conn.now in
-    by_statement (λ rows. (c.args.row ≡ meta_told rows.founding) × IfSome rows.founding IsFoundingValue) _ before (state g.D.Store c.role_keys_of.new.tx.conn.now) (Err c.in-Err.fault) (λ rows lists fits. holds_keys c.args.row.root before rows lists) c.in-Err.ensures.blame
+    by_statement (λ rows. c.args.row ≡ meta_told rows.founding) _ before (state g.D.Store c.role_keys_of.new.tx.conn.now) (Err c.in-Err.fault) (λ rows lists fits. holds_keys c.args.row.root before rows lists) c.in-Err.ensures.blame
 
 pub returns-in_err-check_version-clause-blame : goal.returns-in_err-check_version-clause-blame
 returns-in_err-check_version-clause-blame g c =
     let before = state g.D.Store c.args.tx.now.conn.now in
-    memory_blames (λ rows. (c.args.row ≡ meta_told rows.founding) × IfSome rows.founding IsFoundingValue) before before c.from_residual.result
-    (λ clean rows within fits. absurd (version_fits rows.founding c.args.row.root (ap (λ (m : MetaRow). m.root) fits.0) fits.1 c.in_err-check_version.ensures.fault.1))
+    memory_blames (λ rows. c.args.row ≡ meta_told rows.founding) before before c.from_residual.result
+    (λ clean rows within fits. absurd (version_fits rows.founding c.args.row.root (ap (λ (m : MetaRow). m.root) fits) (within.here (c.requires.open clean)).rows.typed.founding c.in_err-check_version.ensures.fault.1))

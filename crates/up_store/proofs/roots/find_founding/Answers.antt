@@ -9,8 +9,7 @@ use Rattle.up_store.specs.Listing.{ListsRows}
 use Rattle.up_store.specs.Shown.{meta_told}
 use Rattle.up_store.proofs.FoundingReads.{within_read, numbers_in, on_row, of_row}
 use Rattle.up_store.proofs.RootPuts.{has_tables}
-use Rattle.std.specs.Prelude.{IfSome}
-use Rattle.up_store.specs.Typed.{IsFoundingValue}
+use Rattle.std.specs.Prelude.{⊤}
 use Rattle.up_store.proofs.Blamed.{then_blames}
 use Rattle.up_store.proofs.KindsOfFounding.{row_blames}
 use Rattle.up_store.proofs.roots.find_founding.Goals as goal
@@ -34,16 +33,16 @@ pub returns-in-Ok-clause-blame : goal.returns-in-Ok-clause-blame
 returns-in-Ok-clause-blame g c =
     let before = state g.D.Store c.args.tx.now.conn.now in
     let mid = state g.D.Store c.meta.new.tx.conn.now in
-    then_blames (λ rows. IfSome rows.founding IsFoundingValue) (λ rows. (c.in-Ok.row ≡ meta_told rows.founding) × IfSome rows.founding IsFoundingValue) before mid (state g.D.Store c.find_founded.new.tx.conn.now) c.find_founded.result
+    then_blames (λ _. ⊤) (λ rows. c.in-Ok.row ≡ meta_told rows.founding) before mid (state g.D.Store c.find_founded.new.tx.conn.now) c.find_founded.result
     c.meta.ensures.step.steps c.find_founded.ensures.step.steps (λ clean. on_row _ c.meta.result c.in-Ok.row c.in-Ok.ensures.some (c.meta.ensures.reads clean))
-    (λ clean rows within value.
+    (λ clean rows within fits.
     let reads = on_row _ c.meta.result c.in-Ok.row c.in-Ok.ensures.some (c.meta.ensures.reads clean) (has_tables (ListsRows rows) before within) in
     let both : Some c.in-Ok.row ≡ Some (meta_told rows.founding) =
     numbers_in rows (Some c.in-Ok.row) before (λ _. reads.was_open) (of_row _ c.meta.result c.in-Ok.row c.in-Ok.ensures.some (c.meta.ensures.found clean)) within in
     let same : c.in-Ok.row ≡ meta_told rows.founding = cc in
-    (same, value))
+    same)
     c.find_founded.ensures.blame
 
 pub returns-in-Err-clause-blame : goal.returns-in-Err-clause-blame
 returns-in-Err-clause-blame g c =
-    row_blames (λ rows. IfSome rows.founding IsFoundingValue) (state g.D.Store c.args.tx.now.conn.now) (state g.D.Store c.meta.new.tx.conn.now) c.meta.result c.in-Err.fault c.in-Err.ensures.none c.meta.ensures.found c.meta.ensures.blame
+    row_blames (λ _. ⊤) (state g.D.Store c.args.tx.now.conn.now) (state g.D.Store c.meta.new.tx.conn.now) c.meta.result c.in-Err.fault c.in-Err.ensures.none c.meta.ensures.found c.meta.ensures.blame

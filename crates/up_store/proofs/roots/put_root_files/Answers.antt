@@ -1,3 +1,10 @@
+use Rattle.std.proofs.Common.{map}
+use Rattle.std.specs.Prelude.{⊤}
+use Rattle.up_tables.specs.Forms.{file_row as shown_row}
+use Rattle.up_tables.specs.Texts.{upsert_file_text}
+use Rattle.up_store.specs.Lines.{file_row}
+use Rattle.up_store.proofs.PutBlames.{blames_rows}
+use Rattle.up_store.proofs.RootBlames.{files_are, ran_rows}
 use Rattle.sqlite.specs.Held.{state}
 use Rattle.up_store.specs.Lines.{root_file_lines}
 use Rattle.up_store.proofs.RootPuts.{puts_files}
@@ -6,4 +13,16 @@ use Rattle.up_store.proofs.roots.put_root_files.Goals as goal
 
 pub returns-clause-put : goal.returns-clause-put
 returns-clause-put g c clean =
-    puts_files c.upsert_files.result (root_file_lines c.args.new.now) c.in_ok-files.files.items (state g.D.Store c.args.tx.now.conn.now) (state g.D.Store c.upsert_files.new.tx.conn.now) c.in_ok-files.ensures (rw c.as_slice.ensures.value at c.upsert_files.ensures.set clean) (open_before c.upsert_files.result c.upsert_files.ensures.step.steps clean c.upsert_files.ensures.step.is_open)
+    puts_files c.upsert_files.result (root_file_lines c.args.new.now) c.in_ok-files.files.items (state g.D.Store c.args.tx.now.conn.now) (state g.D.Store c.upsert_files.new.tx.conn.now) c.in_ok-files.ensures.same (rw c.as_slice.ensures.value at c.upsert_files.ensures.set clean) (open_before c.upsert_files.result c.upsert_files.ensures.step.steps clean c.upsert_files.ensures.step.is_open)
+
+pub returns-clause-ran : goal.returns-clause-ran
+returns-clause-ran g c =
+    let files = root_file_lines c.args.new.now in
+    ran_rows upsert_file_text shown_row c.in_ok-files.files.items (map file_row files) (state g.D.Store c.args.tx.now.conn.now) (state g.D.Store c.upsert_files.new.tx.conn.now) c.upsert_files.result
+    (files_are c.in_ok-files.files.items files c.in_ok-files.ensures.same) (rw c.as_slice.ensures.value at c.upsert_files.ensures.ran)
+
+pub returns-clause-blame : goal.returns-clause-blame
+returns-clause-blame g c =
+    let files = root_file_lines c.args.new.now in
+    blames_rows (λ _. ⊤) upsert_file_text shown_row c.in_ok-files.files.items (map file_row files) (state g.D.Store c.args.tx.now.conn.now) (state g.D.Store c.upsert_files.new.tx.conn.now) c.upsert_files.result
+    (λ _. files_are c.in_ok-files.files.items files c.in_ok-files.ensures.same) (rw c.as_slice.ensures.value at c.upsert_files.ensures.blame)

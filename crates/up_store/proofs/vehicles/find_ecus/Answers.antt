@@ -7,11 +7,11 @@ use Rattle.up_tables.proofs.StateLemmas.{ok_then}
 use Rattle.up_store.specs.Found.{ecus_found}
 use Rattle.up_store.specs.Listing.{ListsRows}
 use Rattle.up_store.specs.Shown.{ecu_read}
+use Rattle.up_store.proofs.ColumnFound.{typed_in}
 use Rattle.up_store.proofs.EcuReads.{ecus_in}
-use Rattle.std.specs.List.{AllByRecursion}
-use Rattle.up_store.specs.Typed.{IsEcuValue}
+use Rattle.std.specs.Prelude.{⊤}
 use Rattle.up_store.proofs.Blamed.{by_statement, memory_blames}
-use Rattle.up_store.proofs.KindsOfVehicles.{holds_ecus, are_valid_ecus}
+use Rattle.up_store.proofs.KindsOfVehicles.{holds_ecus, are_typed_ecus}
 use Rattle.up_store.proofs.vehicles.find_ecus.Goals as goal
 
 pub returns-in-Ok-clause-found : goal.returns-in-Ok-clause-found
@@ -26,12 +26,12 @@ pub returns-in-Ok-clause-blame : goal.returns-in-Ok-clause-blame
 returns-in-Ok-clause-blame g c =
     let before = state g.D.Store c.args.tx.now.conn.now in
     let after = state g.D.Store c.ecus.new.tx.conn.now in
-    memory_blames (λ rows. AllByRecursion IsEcuValue (ecus_found c.args.vehicle.now rows)) before after c.read_ecus.result
-    (λ clean rows within values.
+    memory_blames (λ _. ⊤) before after c.read_ecus.result
+    (λ clean rows within fits.
     let same = ecus_in rows c.args.vehicle.now before after c.in-Ok.shown.items (c.in-Ok.ensures.reads clean) (rw c.text.ensures.value at c.in-Ok.ensures.found clean) within in
-    c.read_ecus.ensures.fault (are_valid_ecus c.in-Ok.shown.items (ecus_found c.args.vehicle.now rows) same values))
+    c.read_ecus.ensures.fault (are_typed_ecus rows c.args.vehicle.now c.in-Ok.shown.items (typed_in rows before after (c.in-Ok.ensures.reads clean) within) same))
 
 pub returns-in-Err-clause-blame : goal.returns-in-Err-clause-blame
 returns-in-Err-clause-blame g c =
     let before = state g.D.Store c.args.tx.now.conn.now in
-    by_statement (λ rows. AllByRecursion IsEcuValue (ecus_found c.args.vehicle.now rows)) _ before (state g.D.Store c.ecus.new.tx.conn.now) (Err c.in-Err.fault) (holds_ecus c.args.vehicle.now before) (rw c.text.ensures.value at c.in-Err.ensures.blame)
+    by_statement (λ _. ⊤) _ before (state g.D.Store c.ecus.new.tx.conn.now) (Err c.in-Err.fault) (λ rows lists fits. holds_ecus c.args.vehicle.now before rows lists) (rw c.text.ensures.value at c.in-Err.ensures.blame)

@@ -12,7 +12,7 @@ use Rattle.up_tables.proofs.StateLemmas.{ok_then}
 use Rattle.up_store.specs.Listing.{ListsRows}
 use Rattle.up_store.proofs.ColumnFound.{within_read}
 use Rattle.up_store.proofs.EcuReads.{owner_in}
-use Rattle.up_store.specs.Typed.{AreNamed}
+use Rattle.std.specs.Prelude.{⊤}
 use Rattle.up_store.proofs.Blamed.{by_statement, then_blames, memory_blames}
 use Rattle.up_store.proofs.KindsOfVehicles.{holds_owner, owner_is_named, reads_owner}
 use Rattle.up_store.proofs.vehicles.find_owner.Goals as goal
@@ -38,17 +38,17 @@ pub returns-in-Ok-Some-clause-blame : goal.returns-in-Ok-Some-clause-blame
 returns-in-Ok-Some-clause-blame g c =
     let before = state g.D.Store c.args.tx.now.conn.now in
     let after = state g.D.Store c.ecu_owner.new.tx.conn.now in
-    memory_blames (λ rows. AreNamed rows.vehicles) before after c.read_owner.result
-    (λ clean rows within named.
-    reads_owner c.read_owner.result c.in-Ok-Some.shown (owner_is_named rows c.args.ecu.now before after c.in-Ok-Some.field-0 c.in-Ok-Some.shown c.in-Ok-Some.field-0-is (c.in-Ok-Some.ensures.reads clean) (rw c.text.ensures.value at c.in-Ok-Some.ensures.found clean) within named)
+    memory_blames (λ _. ⊤) before after c.read_owner.result
+    (λ clean rows within fits.
+    reads_owner c.read_owner.result c.in-Ok-Some.shown (owner_is_named rows c.args.ecu.now before after c.in-Ok-Some.field-0 c.in-Ok-Some.shown c.in-Ok-Some.field-0-is (c.in-Ok-Some.ensures.reads clean) (rw c.text.ensures.value at c.in-Ok-Some.ensures.found clean) within)
     c.read_owner.ensures.fault)
 
 pub returns-in-Ok-None-clause-blame : goal.returns-in-Ok-None-clause-blame
 returns-in-Ok-None-clause-blame g c =
-    then_blames (λ rows. AreNamed rows.vehicles) (λ rows. AreNamed rows.vehicles) (state g.D.Store c.args.tx.now.conn.now) (state g.D.Store c.ecu_owner.new.tx.conn.now) (state g.D.Store c.find_retired.new.tx.conn.now) c.find_retired.result
-    c.ecu_owner.ensures.step.steps c.find_retired.ensures.step.steps c.in-Ok-None.ensures.reads (λ clean rows within named. named) c.find_retired.ensures.blame
+    then_blames (λ _. ⊤) (λ _. ⊤) (state g.D.Store c.args.tx.now.conn.now) (state g.D.Store c.ecu_owner.new.tx.conn.now) (state g.D.Store c.find_retired.new.tx.conn.now) c.find_retired.result
+    c.ecu_owner.ensures.step.steps c.find_retired.ensures.step.steps c.in-Ok-None.ensures.reads (λ clean rows within fits. tt) c.find_retired.ensures.blame
 
 pub returns-in-Err-clause-blame : goal.returns-in-Err-clause-blame
 returns-in-Err-clause-blame g c =
     let before = state g.D.Store c.args.tx.now.conn.now in
-    by_statement (λ rows. AreNamed rows.vehicles) _ before (state g.D.Store c.ecu_owner.new.tx.conn.now) (Err c.in-Err.fault) (holds_owner c.args.ecu.now before) (rw c.text.ensures.value at c.in-Err.ensures.blame)
+    by_statement (λ _. ⊤) _ before (state g.D.Store c.ecu_owner.new.tx.conn.now) (Err c.in-Err.fault) (λ rows lists fits. holds_owner c.args.ecu.now before rows lists) (rw c.text.ensures.value at c.in-Err.ensures.blame)

@@ -8,7 +8,7 @@ use Rattle.up_tables.specs.Tables.{up_schema}
 use Rattle.up_tables.proofs.StateLemmas.{ok_then}
 use Rattle.up_store.specs.Listing.{ListsRows}
 use Rattle.up_store.proofs.EcuReads.{last_in}
-use Rattle.up_store.specs.Typed.{AreNamed}
+use Rattle.std.specs.Prelude.{⊤}
 use Rattle.up_store.proofs.Blamed.{by_statement, memory_blames}
 use Rattle.up_store.proofs.KindsOfVehicles.{holds_retired, last_is_named, reads_owner}
 use Rattle.up_store.proofs.vehicles.find_retired.Goals as goal
@@ -29,12 +29,12 @@ pub returns-in-Ok-Some-clause-blame : goal.returns-in-Ok-Some-clause-blame
 returns-in-Ok-Some-clause-blame g c =
     let before = state g.D.Store c.args.tx.now.conn.now in
     let after = state g.D.Store c.retired_owner.new.tx.conn.now in
-    memory_blames (λ rows. AreNamed rows.vehicles) before after c.read_owner.result
-    (λ clean rows within named.
-    reads_owner c.read_owner.result c.in-Ok-Some.shown (last_is_named rows c.args.ecu.now before after c.in-Ok-Some.field-0 c.in-Ok-Some.shown c.in-Ok-Some.field-0-is (c.in-Ok-Some.ensures.reads clean) (rw c.text.ensures.value at c.in-Ok-Some.ensures.found clean) within named)
+    memory_blames (λ _. ⊤) before after c.read_owner.result
+    (λ clean rows within fits.
+    reads_owner c.read_owner.result c.in-Ok-Some.shown (last_is_named rows c.args.ecu.now before after c.in-Ok-Some.field-0 c.in-Ok-Some.shown c.in-Ok-Some.field-0-is (c.in-Ok-Some.ensures.reads clean) (rw c.text.ensures.value at c.in-Ok-Some.ensures.found clean) within)
     c.read_owner.ensures.fault)
 
 pub returns-in-Err-clause-blame : goal.returns-in-Err-clause-blame
 returns-in-Err-clause-blame g c =
     let before = state g.D.Store c.args.tx.now.conn.now in
-    by_statement (λ rows. AreNamed rows.vehicles) _ before (state g.D.Store c.retired_owner.new.tx.conn.now) (Err c.in-Err.fault) (holds_retired c.args.ecu.now before) (rw c.text.ensures.value at c.in-Err.ensures.blame)
+    by_statement (λ _. ⊤) _ before (state g.D.Store c.retired_owner.new.tx.conn.now) (Err c.in-Err.fault) (λ rows lists fits. holds_retired c.args.ecu.now before rows lists) (rw c.text.ensures.value at c.in-Err.ensures.blame)

@@ -1,5 +1,5 @@
 use Rattle.std.proofs.Common.{◌≡◌, Some, sym, ap, ◌∙◌, Err}
-use Rattle.std.specs.Prelude.{option_map, IfSome}
+use Rattle.std.specs.Prelude.{⊤, option_map}
 use Rattle.sqlite.specs.Held.{state}
 use Rattle.up_rows.specs.StateRows.{StateRows}
 use Rattle.up_tables.specs.Stands.{IsWithin}
@@ -8,10 +8,10 @@ use Rattle.up_tables.proofs.StateLemmas.{ok_then}
 use Rattle.up_store.specs.Found.{vehicle_found}
 use Rattle.up_store.specs.Listing.{ListsRows}
 use Rattle.up_store.specs.Shown.{vehicle_read}
+use Rattle.up_store.proofs.ColumnFound.{typed_in}
 use Rattle.up_store.proofs.VehicleReads.{vehicle_in}
-use Rattle.up_store.specs.Typed.{IsValidVehicle}
 use Rattle.up_store.proofs.Blamed.{by_statement, memory_blames}
-use Rattle.up_store.proofs.KindsOfVehicles.{holds_vehicle, is_valid_vehicle, reads_vehicle}
+use Rattle.up_store.proofs.KindsOfVehicles.{holds_vehicle, is_typed_vehicle, reads_vehicle}
 use Rattle.up_store.proofs.vehicles.find_vehicle.Goals as goal
 
 pub returns-in-Ok-Some-clause-found : goal.returns-in-Ok-Some-clause-found
@@ -30,12 +30,12 @@ pub returns-in-Ok-Some-clause-blame : goal.returns-in-Ok-Some-clause-blame
 returns-in-Ok-Some-clause-blame g c =
     let before = state g.D.Store c.args.tx.now.conn.now in
     let after = state g.D.Store c.vehicle.new.tx.conn.now in
-    memory_blames (λ rows. IfSome (vehicle_found c.args.vehicle.now rows) IsValidVehicle) before after c.read_vehicle.result
-    (λ clean rows within valid.
+    memory_blames (λ _. ⊤) before after c.read_vehicle.result
+    (λ clean rows within fits.
     let same = vehicle_in rows c.args.vehicle.now before after c.in-Ok-Some.field-0 (c.in-Ok-Some.ensures.reads clean) (rw c.text.ensures.value at c.in-Ok-Some.ensures.found clean) within in
-    reads_vehicle c.read_vehicle.result c.in-Ok-Some.shown (is_valid_vehicle c.in-Ok-Some.field-0 c.in-Ok-Some.shown (vehicle_found c.args.vehicle.now rows) c.in-Ok-Some.field-0-is same valid) c.read_vehicle.ensures.fault)
+    reads_vehicle c.read_vehicle.result c.in-Ok-Some.shown (is_typed_vehicle rows c.args.vehicle.now c.in-Ok-Some.field-0 c.in-Ok-Some.shown (typed_in rows before after (c.in-Ok-Some.ensures.reads clean) within) c.in-Ok-Some.field-0-is same) c.read_vehicle.ensures.fault)
 
 pub returns-in-Err-clause-blame : goal.returns-in-Err-clause-blame
 returns-in-Err-clause-blame g c =
     let before = state g.D.Store c.args.tx.now.conn.now in
-    by_statement (λ rows. IfSome (vehicle_found c.args.vehicle.now rows) IsValidVehicle) _ before (state g.D.Store c.vehicle.new.tx.conn.now) (Err c.in-Err.fault) (holds_vehicle c.args.vehicle.now before) (rw c.text.ensures.value at c.in-Err.ensures.blame)
+    by_statement (λ _. ⊤) _ before (state g.D.Store c.vehicle.new.tx.conn.now) (Err c.in-Err.fault) (λ rows lists fits. holds_vehicle c.args.vehicle.now before rows lists) (rw c.text.ensures.value at c.in-Err.ensures.blame)

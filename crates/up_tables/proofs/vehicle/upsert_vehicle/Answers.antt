@@ -1,6 +1,6 @@
 use Rattle.std.proofs.Common.{string_bytes}
 use Rattle.sqlite.specs.Held.{state}
-use Rattle.up_tables.proofs.VehicleLemmas.{sets_vehicle}
+use Rattle.up_tables.proofs.VehicleLemmas.{sets_vehicle, upsert_blames, upsert_ran}
 use Rattle.up_tables.proofs.StateLemmas.{on_answered, shown_inside, shown_is_open}
 use Rattle.up_tables.proofs.StepLemmas.{queries}
 use Rattle.up_tables.proofs.vehicle.upsert_vehicle.Goals as goal
@@ -9,6 +9,18 @@ pub returns-clause-set : goal.returns-clause-set
 returns-clause-set g c =
     sets_vehicle (λ v. v.items) c.query_all.result c.shows.result (state g.S.Store c.args.tx.now.conn.now) (state g.S.Store c.query_all.new.self.conn.now)
     (string_bytes c.args.vehicle.now.vehicle) (string_bytes c.args.vehicle.now.primary_ecu) c.args.vehicle.now.version c.args.vehicle.now.last_counter c.query_all.ensures.survives c.requires.mode c.shows.ensures.ok
+    (rw (c.words.ensures, c.as_str.ensures.value, c.words-2.ensures, c.as_str-2.ensures.value, c.number.ensures, c.number-2.ensures) at c.query_all.ensures.ok)
+
+pub returns-clause-blame : goal.returns-clause-blame
+returns-clause-blame g c =
+    upsert_blames (λ v. v.items) c.query_all.result c.shows.result (state g.S.Store c.args.tx.now.conn.now) (state g.S.Store c.query_all.new.self.conn.now) c.args.vehicle.now
+    c.query_all.ensures.survives c.requires.mode c.shows.ensures.fault c.shows.ensures.damaged
+    (rw (c.words.ensures, c.as_str.ensures.value, c.words-2.ensures, c.as_str-2.ensures.value, c.number.ensures, c.number-2.ensures) at c.query_all.ensures.ok)
+    (rw (c.words.ensures, c.as_str.ensures.value, c.words-2.ensures, c.as_str-2.ensures.value, c.number.ensures, c.number-2.ensures) at c.query_all.ensures.err)
+
+pub returns-clause-ran : goal.returns-clause-ran
+returns-clause-ran g c =
+    upsert_ran (λ v. v.items) c.query_all.result c.shows.result (state g.S.Store c.args.tx.now.conn.now) (state g.S.Store c.query_all.new.self.conn.now) c.args.vehicle.now c.shows.ensures.ok
     (rw (c.words.ensures, c.as_str.ensures.value, c.words-2.ensures, c.as_str-2.ensures.value, c.number.ensures, c.number-2.ensures) at c.query_all.ensures.ok)
 
 pub returns-clause-step : goal.returns-clause-step

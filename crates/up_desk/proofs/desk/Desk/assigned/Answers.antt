@@ -7,5 +7,5 @@ use Rattle.up_desk.proofs.desk.Desk.assigned.Goals as goal
 pub returns : goal.returns
 returns g c =
     let left : Stored _ = record { held = c.assigned_of.new.store; catalog = c.self.inside.catalog } in
-    let it = viewed g.D.Store (λ k s. assigned_to s c.args.vehicle.now) _ _ left c.assigned_of.result c.self.view_is refl c.assigned_of.ensures.told c.assigned_of.ensures.reads in
-    record { told = it.told; reads = it.reads; scheme = ap (λ d. d.scheme) c.self.view_is }
+    let it = viewed g.D.Store (λ k s. assigned_to s c.args.vehicle.now) _ _ left c.assigned_of.result c.self.view_is refl c.assigned_of.ensures.told c.assigned_of.ensures.blame c.assigned_of.ensures.reads in
+    record { told = it.told; blame = it.blame; reads = it.reads; scheme = ap (λ d. d.scheme) c.self.view_is }

@@ -22,6 +22,7 @@ loop-item-preserved g c =
         commits = c.call-answer.ensures.durable;
         fits = c.keeps_limits.ensures;
         due = c.call-answer.ensures.outright;
+        blame = c.call-answer.ensures.blame;
       });
       scheme = c.call-answer.ensures.scheme ∙ kept.scheme;
       room = omega arith;

@@ -4,5 +4,11 @@ pub returns : goal.returns
 returns g c = (
   c.call.ensures.scheme,
   c.call.ensures.outright,
-  record { clean = c.call.ensures.clean; served = c.call.ensures.served; crash = c.call.ensures.crash; durable = c.call.ensures.durable },
+  record {
+    clean = c.call.ensures.clean;
+    served = c.call.ensures.served;
+    crash = c.call.ensures.crash;
+    durable = c.call.ensures.durable;
+    blame = c.call.ensures.blame;
+  },
 )

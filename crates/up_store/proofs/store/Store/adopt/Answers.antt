@@ -1,4 +1,4 @@
-use Rattle.std.proofs.Common.{◌≡◌, inl, inr, Ok, Err, IfOk, IfErr, OnErr, IsTrue, true, false, subst, sym, ap, ◌∙◌, refl, arith}
+use Rattle.std.proofs.Common.{◌≡◌, inl, inr, IsTrue, false, sym, ◌∙◌, refl, arith}
 use Rattle.sqlite.specs.Held.{state}
 use Rattle.sqlite.specs.State.{HasCleanDisk}
 use Rattle.up_tables.specs.declared.open.OpenFault.TheVariants.{NotOurs, Store}

@@ -17,3 +17,6 @@ returns-in-Ok-clause-crash g c = made_as AreNew new_lists (state g.D.Store c.arg
 
 pub returns-in-Err-clause-crash_err : goal.returns-in-Err-clause-crash_err
 returns-in-Err-clause-crash_err g c = made_as AreNew new_lists (state g.D.Store c.args.conn) (state g.D.Store c.create_tables.new.conn) c.create_tables.ensures.crash
+
+pub returns-in-Err-clause-cause : goal.returns-in-Err-clause-cause
+returns-in-Err-clause-cause g c = λ store clean. c.in-Err.ensures.cause clean store

@@ -1,0 +1,211 @@
+-- Why a statement that makes a table, or puts in or sets the row of `meta`, is told as `Store`; and several of them, one after another.
+use Rattle.std.proofs.Common.{◌≡◌, ◌⊎◌, inl, inr, ℕ, List, [], ◌∷◌, ◌++◌, Bool, true, false, Option, Some, None, Ok, Err, Result, IsTrue, refl, sym, ap, subst, ◌∙◌, arith}
+use Rattle.std.proofs.lemmas.Bool.{cases_Bool}
+use Rattle.std.specs.Result.{IsErrAnd}
+use Rattle.sqlite.specs.declared.error.Error.{Error}
+use Rattle.sqlite.specs.Order.{Row}
+use Rattle.sqlite.specs.Change.{created}
+use Rattle.sqlite.specs.Does.{Tally, Does}
+use Rattle.sqlite.specs.Effect.{Database, is_query}
+use Rattle.sqlite.specs.Listing.{understood}
+use Rattle.sqlite.specs.Schema.{Schema}
+use Rattle.sqlite.specs.Table.{Table}
+use Rattle.sqlite.specs.Tree.{Trees}
+use Rattle.sqlite.specs.State.{State, HasCleanDisk, HasCause, Survives, ExecutesIn, ExecutesInside, EndsScope, Escapes, IsMisplaced, IsNotRun, IsStatement, Runs, RunsCommand, is_pragma, shows_rows, store_error}
+use Rattle.sqlite.specs.Clock.{timed}
+use Rattle.sqlite.proofs.Callers.{IsPlain, command_of}
+use Rattle.sqlite.proofs.StateLemmas.{survives_then}
+use Rattle.sqlite_resolve.specs.declared.compiled.Compiled.{Compiled}
+use Rattle.sqlite_schema.specs.declared.command.Command.{Command}
+use Rattle.sqlite_schema.specs.declared.command.Command.TheVariants.{CreateTable, Insert, Update}
+use Rattle.sqlite_schema.specs.declared.command.Returning.{Returning}
+use Rattle.sqlite_trees.specs.declared.error.StoreError.{StoreError}
+use Rattle.sqlite_trees.specs.declared.error.StoreError.TheVariants.{OutOfMemory, Io, Corrupt, Full, Broken, Unstorable}
+use Rattle.up_tables.specs.declared.open.OpenFault.TheVariants as opening
+use Rattle.up_tables.specs.Faults.{open_fault}
+use Rattle.up_tables.specs.Making.{Tries, alone}
+use Rattle.up_tables.specs.Ours.{HasFailed}
+use Rattle.up_tables.specs.Makes.{MakesIn}
+use Rattle.up_tables.specs.Stands.{AnyRows, AreEmpty, IfClean, IsInside, IsWithin}
+use Rattle.up_tables.specs.Tried.{IsGiven, IsRefused, Makes, MakesOf, RefusesOne, our_mode}
+use Rattle.up_tables.proofs.BlameLemmas.{is_whole, count_of, is_statement, plain_untimed}
+
+-- the command makes a table, puts in a row, or sets some
+abbrev pub is_making : Command → Bool
+is_making CreateTable = true
+is_making (Insert at from) = true
+is_making (Update at q) = true
+is_making _ = false
+
+not_query : (k : Command) → is_making k ≡ true → is_query k ≡ false
+not_query CreateTable h = refl
+not_query (Insert at from) h = refl
+not_query (Update at q) h = refl
+not_query _ h = absurd (let e = h in cc)
+
+not_pragma : (k : Command) → is_making k ≡ true → is_pragma k ≡ false
+not_pragma CreateTable h = refl
+not_pragma (Insert at from) h = refl
+not_pragma (Update at q) h = refl
+not_pragma _ h = absurd (let e = h in cc)
+
+other : {k other : Command} → is_making k ≡ true → k ≡ other → is_making other ≡ false → ⊥
+other h is apart = absurd (let e : true ≡ false = sym h ∙ ap is_making is ∙ apart in cc)
+
+placed : (s : State) (k : Command) (e : Error) → is_making k ≡ true → IsMisplaced s k e → ⊥
+placed s k e h (inl (_, inl it)) = other h it.0 refl
+placed s k e h (inl (_, inr (inl it, _))) = other h it refl
+placed s k e h (inl (_, inr (inr it, _))) = other h it refl
+placed s k e h (inr (_, name, inl it, _)) = other h it refl
+placed s k e h (inr (_, name, inr it, _)) = other h it refl
+
+stays : (held : ℕ) (s : State) (k : Command) → is_making k ≡ true → Escapes held s k → ⊥
+stays held s k h (inl (inl it)) = other h it refl
+stays held s k h (inl (inr it)) = other h it refl
+stays held s k h (inr (name, inl it, _)) = other h it refl
+stays held s k h (inr (name, inr it, _)) = other h it refl
+
+does_of : (old new : State) (returning : Option Returning) (k : Command) (text : List ℕ) (params : Row) (count : ℕ) → is_making k ≡ true → Runs old new returning k text params count
+    → (tally : Tally) × Does old.step_limit our_mode params old.now text returning k (Ok (tally, new.now))
+does_of old new returning CreateTable text params count h ran = (ran.tally, ran.changed)
+does_of old new returning (Insert at from) text params count h ran = (ran.tally, ran.changed)
+does_of old new returning (Update at q) text params count h ran = (ran.tally, ran.changed)
+does_of old new returning _ text params count h ran = absurd (let e = h in cc)
+
+pub by_cause : (old new : State) (e : Error) → open_fault e ≡ opening.Store → (too_big : Type 0) (cause : StoreError) → e ≡ store_error cause → HasCause old new too_big cause → HasFailed old new ⊎ too_big
+by_cause old new e told too_big OutOfMemory is has = absurd (let no : opening.Memory ≡ opening.Store = sym (ap open_fault is) ∙ told in cc)
+by_cause old new e told too_big Io is has = inl (inr has)
+by_cause old new e told too_big Corrupt is has = inl (inr has)
+by_cause old new e told too_big Full is has = inl (inr has)
+by_cause old new e told too_big Broken is has = inl (inl has)
+by_cause old new e told too_big Unstorable is has = inr has
+
+-- ---- one statement
+
+-- over a database of this schema the text is a statement without values, which makes a table, puts in a row, or sets some
+pub record IsMaking (schema : Schema) (text : List ℕ) : Type 0 where
+  pub plain : IsPlain (understood schema text)
+  pub makes : is_making (command_of (understood schema text)) ≡ true
+  pub whole : is_whole text (understood schema text) ≡ true
+  pub count : count_of (understood schema text) ≡ Some 0
+
+module _ (schema : Schema) (text : List ℕ) (it : IsMaking schema text) (old new : State) (here : IsTrue old.is_open → old.now.schema ≡ schema) (is_open : IsTrue old.is_open) where
+  known : (c : Compiled) → IsStatement old text [] c → understood schema text ≡ Ok c
+  known c statement = sym (ap (λ s. understood s text) (here is_open)) ∙ statement.is
+
+  making : (c : Compiled) → IsStatement old text [] c → is_making c.command ≡ true
+  making c statement = ap is_making (ap command_of (sym (known c statement))) ∙ it.makes
+
+  quiet : (c : Compiled) → IsStatement old text [] c → shows_rows false c ≡ false
+  quiet c statement = rw (not_query c.command (making c statement), not_pragma c.command (making c statement), (subst IsPlain (known c statement) it.plain).0) refl
+
+  given : (c : Compiled) → IsStatement old text [] c → IsGiven old.now text [] c
+  given c it = record { is = it.is; whole = it.whole; given = it.given; now = it.now }
+
+  made : (count : ℕ) → ExecutesInside 0 text [] old new (Ok count) → MakesOf old.step_limit text [] old.now new.now
+  unfolding ExecutesIn given
+  made count (h, _, _) =
+      let ran : Runs old new h.0.returning h.0.command _ (timed [] h.0.formats h.1.now) count = rw (quiet h.0 h.1) at h.2 in
+      let does = does_of old new h.0.returning h.0.command _ _ count (making h.0 h.1) ran in
+      (does.0, (h.0, given h.0 h.1, does.1))
+
+  module _ (e : Error) (told : open_fault e ≡ opening.Store) where
+    of_run : (c : Compiled) (statement : IsStatement old text [] c) → RunsCommand old new text c (timed [] c.formats statement.now) (Err e) → HasFailed old new ⊎ IsRefused old.step_limit text [] old.now
+    unfolding given
+    of_run c statement (inl (inl misplaced, _)) = absurd (placed old c.command e (making c statement) misplaced)
+    of_run c statement (inl (inr may, _)) = inr (Some e, (c, given c statement, may.1))
+    of_run c statement (inr fails) = elim (by_cause old new e told _ fails.0 fails.1 fails.2) [ inl failed ↦ inl failed | inr big ↦ inr (None, (c, given c statement, big)) ]
+
+    refused : ExecutesInside 0 text [] old new (Err e) → HasFailed old new ⊎ IsRefused old.step_limit text [] old.now
+    unfolding ExecutesIn IsNotRun EndsScope
+    refused (inl (inl (inl h), _)) = absurd (is_statement schema text [] (plain_untimed (understood schema text) it.plain) it.whole it.count old e (here is_open) h.0)
+    refused (inl (inl (inr h), _)) = elim (by_cause old new e told ⊥ h.0 h.1 h.2) [ inl failed ↦ inl failed | inr never ↦ absurd never ]
+    refused (inl (inr h, _)) = of_run h.0 h.1 (rw (quiet h.0 h.1) at h.2)
+    refused (inr (ends, _, _)) = absurd (stays 0 old ends.0.command (making ends.0 ends.1) ends.2)
+
+module _ (schema : Schema) (text : List ℕ) (it : IsMaking schema text) (old new : State) where
+  tries_one : (here : IsTrue old.is_open → old.now.schema ≡ schema) (r : Result ℕ Error) → ExecutesInside 0 text [] old new r → Tries (alone text) old new r
+  tries_one here (Ok count) ran = (new.now, made schema text it old new here ran.1.was_open count ran, refl)
+  tries_one here (Err e) ran = λ told. elim (cases_Bool old.is_open) [
+    | inl is_open ↦ elim (refused schema text it old new here is_open e told ran) [ inl failed ↦ inl failed | inr refuses ↦ inr (inl refuses) ]
+    | inr shut ↦ inl (inl shut)
+  ]
+
+  -- in a transaction
+  pub tries_within : (P : Trees → Type 0) (r : Result ℕ Error) → IfClean (IsWithin schema P) old → Survives old new (λ _. ⊥) → (HasCleanDisk new → IsTrue old.in_transaction → ExecutesInside 0 text [] old new r)
+      → HasCleanDisk new → Tries (alone text) old new r
+  tries_within P r was survives ran clean =
+      let before = was (omega (arith, clean, survives.clean)) in
+      tries_one (λ is_open. (before.here is_open).schema_is) r (ran clean before.mode)
+
+  pub tries_in : (r : Result ℕ Error) → IfClean IsInside old → Survives old new (λ _. ⊥) → (HasCleanDisk new → IsTrue old.in_transaction → ExecutesInside 0 text [] old new r)
+      → HasCleanDisk new → IsWithin schema AnyRows old → Tries (alone text) old new r
+  tries_in r inside survives ran clean within = tries_one (λ is_open. (within.here is_open).schema_is) r (ran clean (inside (omega (arith, clean, survives.clean))))
+
+-- ---- several, one after another
+
+makes_both : (limit : Option ℕ) (a b : List (List ℕ × Row)) (db mid after : Database) → Makes limit a db mid → Makes limit b mid after → Makes limit (a ++ b) db after
+makes_both limit [] b db mid after h k = subst (λ d. Makes limit b d after) h k
+makes_both limit (s ∷ a) b db mid after h k = (h.0, h.1, makes_both limit a b h.0 mid after h.2 k)
+
+refuses_first : (limit : Option ℕ) (a b : List (List ℕ × Row)) (db : Database) → RefusesOne limit a db → RefusesOne limit (a ++ b) db
+refuses_first limit [] b db h = absurd h
+refuses_first limit (s ∷ a) b db (inl refused) = inl refused
+refuses_first limit (s ∷ a) b db (inr later) = inr (later.0, later.1, refuses_first limit a b later.0 later.2)
+
+refuses_behind : (limit : Option ℕ) (a b : List (List ℕ × Row)) (db mid : Database) → Makes limit a db mid → RefusesOne limit b mid → RefusesOne limit (a ++ b) db
+refuses_behind limit [] b db mid h k = subst (RefusesOne limit b) h k
+refuses_behind limit (s ∷ a) b db mid h k = inr (h.0, h.1, refuses_behind limit a b h.0 mid h.2 k)
+
+-- a failure of a later step
+pub failed_later : (old mid new : State) (P Q : Trees → Type 0) → Survives old mid P → Survives mid new Q → HasCleanDisk mid → HasFailed mid new → HasFailed old new
+failed_later old mid new P Q first second clean (inr more) = inr (omega (arith, first.counts, more))
+failed_later old mid new P Q first second clean (inl shut) = elim (cases_Bool old.is_open) [
+  | inl is_open ↦ elim (first.closes clean is_open) [ inl still ↦ absurd (let no = sym still ∙ shut in cc) | inr more ↦ inr (omega (arith, more, second.counts)) ]
+  | inr was ↦ inl was
+]
+
+-- how far statements came
+pub record Came (these : List (List ℕ × Row)) (old new : State) (r : Result ℕ Error) : Type 0 where
+  pub survives : Survives old new (λ _. ⊥)
+  pub tried : HasCleanDisk new → Tries these old new r
+
+-- further ones, behind some that went through
+pub came_on : (a b : List (List ℕ × Row)) (old mid new : State) (count : ℕ) (r : Result ℕ Error) → Came a old mid (Ok count) → Came b mid new r → Came (a ++ b) old new r
+came_on a b old mid new count r one two = record {
+  survives = survives_then old mid new (λ _. ⊥) (λ _. ⊥) (λ _. ⊥) (λ _ db none. none) (λ _ db none. none) one.survives two.survives;
+  tried = λ clean. go r (omega (arith, clean, two.survives.clean)) (two.tried clean);
+}
+  where
+    go : (r : Result ℕ Error) → HasCleanDisk mid → Tries b mid new r → Tries (a ++ b) old new r
+    go (Ok n) before h = makes_both old.step_limit a b old.now mid.now new.now (one.tried before) (subst (λ l. Makes l b mid.now new.now) one.survives.limit h)
+    go (Err e) before h = λ told. elim (h told) [
+      | inl failed ↦ inl (failed_later old mid new (λ _. ⊥) (λ _. ⊥) one.survives two.survives before failed)
+      | inr refuses ↦ inr (refuses_behind old.step_limit a b old.now mid.now (one.tried before) (subst (λ l. RefusesOne l b mid.now) one.survives.limit refuses))
+    ]
+
+-- the last of some failed, and what follows wasn't asked for
+pub came_to : (a b : List (List ℕ × Row)) (old new : State) (e : Error) (r : Result ℕ Error) → IsErrAnd r (λ f. f ≡ e) → Came a old new (Err e) → HasCleanDisk new → Tries (a ++ b) old new r
+came_to a b old new e (Ok n) is came clean = absurd is
+came_to a b old new e (Err f) is came clean = λ told. elim (came.tried clean (ap open_fault (sym is) ∙ told)) [
+  | inl failed ↦ inl failed
+  | inr refuses ↦ inr (refuses_first old.step_limit a b old.now refuses)
+]
+
+-- of tables whatever their rows
+pub any_rows : (schema : Schema) (P : Trees → Type 0) (s : State) → IsWithin schema P s → IsWithin schema AnyRows s
+any_rows schema P s h = record { mode = h.mode; here = λ is_open. let it = h.here is_open in record { schema_is = it.schema_is; sound = it.sound; rows = tt } }
+
+-- two statements, of which the first makes a table
+pub came_making : (first second : Schema) (table : Table) (a b : List ℕ) → created first table ≡ second → (old mid new : State) (count : ℕ) (r : Result ℕ Error) → IfClean (IsWithin first (AreEmpty first)) old
+    → Survives old mid (λ _. ⊥) → Survives mid new (λ _. ⊥) → (HasCleanDisk mid → IsWithin first AnyRows old → MakesIn first table old mid) → (HasCleanDisk mid → IsWithin first AnyRows old → Tries (alone a) old mid (Ok count))
+    → (HasCleanDisk new → IsWithin second AnyRows mid → Tries (alone b) mid new r) → HasCleanDisk new → Tries (alone a ++ alone b) old new r
+came_making first second table a b next old mid new count r was to_mid to_new made one two clean =
+    let within : HasCleanDisk mid → IsWithin first AnyRows old = λ now. any_rows first (AreEmpty first) old (was (omega (arith, now, to_mid.clean))) in
+    (came_on (alone a) (alone b) old mid new count r (record { survives = to_mid; tried = λ now. one now (within now) }) (record {
+      survives = to_new;
+      tried = λ later.
+          let now : HasCleanDisk mid = omega (arith, later, to_new.clean) in
+          let it = made now (within now) in
+          two later (record { mode = it.mode; here = λ _. record { schema_is = it.made.schema_is ∙ next; sound = it.made.sound; rows = tt } });
+    })).tried clean

@@ -1,0 +1,178 @@
+-- What writes made of the database, one after another, and why they tell `Store`.
+use Rattle.std.proofs.Common.{◌≡◌, inl, inr, ℕ, List, [], ◌∷◌, ◌++◌, slice_get, true, Option, Some, None, Ok, Err, Result, IfOk, OnOk, IsTrue, refl, sym, ap, subst, ◌∙◌, arith}
+use Rattle.std.specs.Result.{IsOk, IsOkAnd}
+use Rattle.sqlite.specs.declared.error.Error.{Error}
+use Rattle.sqlite.specs.Does.{Does, Tally, OnRows, AtPlace}
+use Rattle.sqlite.specs.Effect.{Database}
+use Rattle.sqlite.specs.Listing.{understood}
+use Rattle.sqlite.specs.Order.{Row}
+use Rattle.sqlite.specs.Rows.{Task}
+use Rattle.sqlite.specs.State.{State, HasCleanDisk, Survives, Writes as HasWritten, Executes, ExecutesIn, ExecutesInside, IsStatement, Runs, Shown, ShowsRows, text_of}
+use Rattle.sqlite.specs.Table.{Table}
+use Rattle.sqlite.specs.Tree.{Trees}
+use Rattle.sqlite.specs.Clock.{timed}
+use Rattle.sqlite.specs.declared.run.Mode.{Mode}
+use Rattle.sqlite.proofs.Callers.{IsPlain}
+use Rattle.sqlite_resolve.specs.declared.compiled.Compiled.{Compiled}
+use Rattle.sqlite_schema.specs.declared.command.Command.{Command}
+use Rattle.sqlite_schema.specs.declared.command.Command.TheVariants.{Insert, InsertOr, Update}
+use Rattle.sqlite_schema.specs.declared.command.Returning.{Returning}
+use Rattle.up_tables.specs.Tables.{up_schema}
+use Rattle.up_tables.specs.Statements.{OnlyReads}
+use Rattle.up_tables.specs.Stands.{HasTables, IfClean, IsInside, IsOpen, IsWith, AnyRows}
+use Rattle.up_tables.specs.Tried.{BlamesOne, BlamesRefusal, Makes, MakesOf, Ran, RefusesOne, our_mode}
+use Rattle.up_tables.specs.declared.values.StoreFault.{StoreFault}
+use Rattle.up_tables.proofs.CreateLemmas.{went, same_value}
+use Rattle.up_tables.proofs.RefusalLemmas.{IsWriting, Writes, WritesShowing, as_writing, given, is_write, known, quiet, shown_writing, writing}
+use Rattle.up_tables.proofs.ReturnLemmas.{IsShowing}
+use Rattle.up_tables.proofs.StepLemmas.{shown_open}
+
+-- ---- statements in their order
+
+-- those of two lists
+pub makes_then : (limit : Option ℕ) (these those : List (List ℕ × Row)) (db mid after : Database) → Makes limit these db mid → Makes limit those mid after → Makes limit (these ++ those) db after
+makes_then limit [] those db mid after is second = subst (λ d. Makes limit those d after) is second
+makes_then limit (it ∷ more) those db mid after first second = (first.0, first.1, makes_then limit more those first.0 mid after first.2 second)
+
+-- one of the first is refused
+pub refuses_first : (limit : Option ℕ) (these those : List (List ℕ × Row)) (db : Database) → RefusesOne limit these db → RefusesOne limit (these ++ those) db
+refuses_first limit [] those db h = absurd h
+refuses_first limit (it ∷ more) those db (inl h) = inl h
+refuses_first limit (it ∷ more) those db (inr h) = inr (h.0, h.1, refuses_first limit more those h.0 h.2)
+
+-- the first went through, and one of the others is refused
+pub refuses_then : (limit : Option ℕ) (these those : List (List ℕ × Row)) (db mid : Database) → Makes limit these db mid → RefusesOne limit those mid → RefusesOne limit (these ++ those) db
+refuses_then limit [] those db mid is second = subst (RefusesOne limit those) is second
+refuses_then limit (it ∷ more) those db mid first second = inr (first.0, first.1, refuses_then limit more those first.0 mid first.2 second)
+
+-- ---- a statement that writes
+
+on_rows : (task : Task) (mode : Mode) (returning : Option Returning) (command : Command) (db : Trees) (tally : Tally) (after : Database) → OnRows task mode returning command db (Ok (tally, after)) → after.schema ≡ task.schema
+on_rows task mode returning command db tally after h = let rest = went (went (went h).2).2 in ap (λ (p : Tally × Database). p.1.schema) (same_value rest.2)
+
+on_table : (limit : Option ℕ) (mode : Mode) (params : Row) (db : Database) (returning : Option Returning) (command : Command) (tally : Tally) (after : Database) (place : Option Table)
+    → AtPlace (λ table. OnRows (record { limit = limit; keys = mode.keys; schema = db.schema; table = table; params = params }) mode returning command db.trees) place (Ok (tally, after)) → after.schema ≡ db.schema
+on_table limit mode params db returning command tally after None h = absurd (let e = h in cc)
+on_table limit mode params db returning command tally after (Some table) h =
+    on_rows (record { limit = limit; keys = mode.keys; schema = db.schema; table = table; params = params }) mode returning command db.trees tally after h
+
+-- it leaves the schema as it is
+pub keeps_schema : (limit : Option ℕ) (mode : Mode) (params : Row) (db : Database) (text : List ℕ) (returning : Option Returning) (command : Command) (tally : Tally) (after : Database) → is_write command ≡ true
+    → Does limit mode params db text returning command (Ok (tally, after)) → after.schema ≡ db.schema
+keeps_schema limit mode params db text returning (Insert at from) tally after is h = on_table limit mode params db returning (Insert at from) tally after (slice_get db.schema.tables at) h
+keeps_schema limit mode params db text returning (InsertOr at way from clauses) tally after is h = on_table limit mode params db returning (InsertOr at way from clauses) tally after (slice_get db.schema.tables at) h
+keeps_schema limit mode params db text returning (Update at q) tally after is h = on_table limit mode params db returning (Update at q) tally after (slice_get db.schema.tables at) h
+keeps_schema limit mode params db text returning _ tally after is h = absurd (let e = is in cc)
+
+writes_of : (old new : State) (returning : Option Returning) (command : Command) (text : List ℕ) (params : Row) (count : ℕ) → is_write command ≡ true → Runs old new returning command text params count → HasWritten old new returning command text params count
+writes_of old new returning (Insert at from) text params count is h = h
+writes_of old new returning (InsertOr at way from clauses) text params count is h = h
+writes_of old new returning (Update at q) text params count is h = h
+writes_of old new returning _ text params count is h = absurd (let e = is in cc)
+
+-- what a statement made of an open connection with the whole schema
+pub record HasMade (text : List ℕ) (params : Row) (old new : State) : Type 0 where
+  pub was_open : IsTrue old.is_open
+  pub made : MakesOf old.step_limit text params old.now new.now
+  pub tables : HasTables new
+
+module _ (text : List ℕ) (params : Row) (command : Command) (it : IsWriting text params command) (old : State) (is_open : IsTrue old.is_open) (has : HasTables old) (new : State) where
+  of_writes : (c : Compiled) (statement : IsStatement old text params c) (count : ℕ) → HasWritten old new c.returning c.command (text_of text c) (timed params c.formats statement.now) count → HasMade text params old new
+  of_writes c statement count w = record {
+    was_open = is_open;
+    made = (w.tally, (c, given text params command it old is_open has c statement, w.changed));
+    tables = λ _. record {
+      schema_is = keeps_schema old.step_limit our_mode (timed params c.formats statement.now) old.now (text_of text c) c.returning c.command w.tally new.now (writing text params command it old is_open has c statement) w.changed ∙ (has is_open).schema_is;
+      sound = w.sound;
+      rows = tt;
+    };
+  }
+
+  -- by `execute`
+  pub executed : IsPlain (understood up_schema text) → (count : ℕ) → Executes text params old new (Ok count) → HasMade text params old new
+  unfolding ExecutesIn
+  executed plain count h =
+      let run : Runs old new h.0.returning h.0.command (text_of text h.0) (timed params h.0.formats h.1.now) count = rw (quiet text params command it old is_open has plain h.0 h.1) at h.2 in
+      of_writes h.0 h.1 count (writes_of old new h.0.returning h.0.command _ _ count (writing text params command it old is_open has h.0 h.1) run)
+
+  -- by `query_all`
+  pub showed : (what : Returning) → IsShowing what (understood up_schema text) → (rows : List Row) → Shown text params old new rows → HasMade text params old new
+  unfolding Shown
+  showed what shows rows h =
+      let some = (subst (IsShowing what) (known text params command it old is_open has h.0 h.1) shows).0 in
+      let run : ShowsRows old new text h.0 (timed params h.0.formats h.1.now) rows (Some what) = subst (ShowsRows old new text h.0 (timed params h.0.formats h.1.now) rows) some h.2 in
+      of_writes h.0 h.1 run.0 (subst (λ r. HasWritten old new r h.0.command (text_of text h.0) (timed params h.0.formats h.1.now) run.0) (sym some) run.1)
+
+-- ---- calls
+
+-- a call that carried out one statement by `execute`
+pub ran_only : {T E : Type 0} (text : List ℕ) (params : Row) (command : Command) → Writes text params command → (written : Result ℕ Error) (r : Result T E) (old new : State) → OnOk r (IsOk written)
+    → Survives old new (λ _. ⊥) → IfClean IsInside old → (HasCleanDisk new → IsTrue old.in_transaction → ExecutesInside 0 text params old new written) → Ran ((text, params) ∷ []) old new r
+ran_only text params command it written (Err f) old new done survives inside ran clean = tt
+ran_only text params command it (Err e) (Ok x) old new done survives inside ran clean = absurd (let e' = done in cc)
+ran_only text params command it (Ok count) (Ok x) old new done survives inside ran clean = λ has.
+    let before : HasCleanDisk old = omega (arith, survives.clean) in
+    let h = ran clean (inside before) in
+    let did = executed text params command (as_writing it) old h.1.was_open has new it.plain count h.0 in
+    (did.was_open, (new.now, did.made, refl), did.tables)
+
+-- one by `query_all`
+pub ran_showing : {X T E : Type 0} (items : X → List Row) (Q : X → Type 0) (text : List ℕ) (params : Row) (command : Command) (what : Returning) → WritesShowing text params command what → (answer : Result X Error) (r : Result T E) (old new : State)
+    → OnOk r (IsOkAnd answer Q) → (HasCleanDisk new → IfOk answer (λ v. Shown text params old new (items v))) → Ran ((text, params) ∷ []) old new r
+ran_showing items Q text params command what it answer (Err f) old new done ran clean = tt
+ran_showing items Q text params command what it (Err e) (Ok x) old new done ran clean = absurd done
+ran_showing items Q text params command what it (Ok v) (Ok x) old new done ran clean = λ has.
+    let h = ran clean in
+    let did = showed text params command (shown_writing it) old (shown_open text params old new (items v) h) has new what it.shows (items v) h in
+    (did.was_open, (new.now, did.made, refl), did.tables)
+
+-- a call that tells `Store` only where its statement is refused
+pub blames_only : {T : Type 0} (P : State → Type 0) (text : List ℕ) (values : Row) (old new : State) (r : Result T StoreFault) → BlamesRefusal text values old new r → BlamesOne ((text, values) ∷ []) P old new r
+blames_only P text values old new (Ok x) h clean = tt
+blames_only P text values old new (Err f) h clean = λ is is_open has holds. elim (h clean is is_open has) [ inl more ↦ inl more | inr refused ↦ inr (inl refused) ]
+
+-- where more holds
+pub blames_so : {T : Type 0} (these : List (List ℕ × Row)) (P Q : State → Type 0) (old new : State) (r : Result T StoreFault) → (IsTrue old.is_open → HasTables old → Q old → P old) → BlamesOne these P old new r → BlamesOne these Q old new r
+blames_so these P Q old new (Ok x) so h clean = tt
+blames_so these P Q old new (Err f) so h clean = λ is is_open has holds. h clean is is_open has (so is_open has holds)
+
+-- a call that read
+pub ran_read : {T E : Type 0} (old new : State) (r : Result T E) → OnlyReads old new r → Ran [] old new r
+ran_read old new (Err f) h clean = tt
+ran_read old new (Ok x) h clean = λ has.
+    let it = h clean has in
+    (it.was_open, it.now_is, λ _. subst (IsWith up_schema AnyRows) (sym it.now_is) (has it.was_open))
+
+-- ---- a first call and a further one
+
+-- the first failed, before the further statements
+pub blames_first : {T : Type 0} (these those : List (List ℕ × Row)) (P : State → Type 0) (old new : State) (r : Result T StoreFault) → BlamesOne these P old new r → BlamesOne (these ++ those) P old new r
+blames_first these those P old new (Ok x) h clean = tt
+blames_first these those P old new (Err f) h clean = λ is is_open has holds.
+    elim (h clean is is_open has holds) [ inl more ↦ inl more | inr refuses ↦ inr (refuses_first old.step_limit these those old.now refuses) ]
+
+-- it went through
+abbrev pub Went : List (List ℕ × Row) → State → State → Type 0
+Went these old new = Ran {A = Unit {0}} {E = Unit {0}} these old new (Ok tt)
+
+module _ {T : Type 0} (these those : List (List ℕ × Row)) (old mid new : State) (first : Survives old mid (λ _. ⊥)) (second : Survives mid new (λ _. ⊥)) where
+  -- and so did the other
+  pub ran_then : {E : Type 0} (r : Result T E) → Went these old mid → Ran those mid new r → Ran (these ++ those) old new r
+  ran_then (Err f) h k clean = tt
+  ran_then (Ok y) h k clean = λ has.
+      let between : HasCleanDisk mid = omega (arith, second.clean) in
+      let one = h between has in
+      let two = k clean one.2 in
+      (one.0, makes_then old.step_limit these those old.now mid.now new.now one.1 (subst (λ l. Makes l those mid.now new.now) first.limit two.1), two.2)
+
+  -- and the other failed
+  pub blames_then : (P Q : State → Type 0) (r : Result T StoreFault) → Went these old mid → IfClean IsOpen mid → (HasCleanDisk mid → IsTrue old.is_open → HasTables old → P old → Q mid)
+      → BlamesOne those Q mid new r → BlamesOne (these ++ those) P old new r
+  blames_then P Q (Ok y) h opened so k clean = tt
+  blames_then P Q (Err f) h opened so k clean = λ is is_open has holds.
+      let between : HasCleanDisk mid = omega (arith, second.clean) in
+      let one = h between has in
+      elim (k clean is (opened between) one.2 (so between is_open has holds)) [
+        | inl more ↦ inl (omega (arith, first.counts, more))
+        | inr refuses ↦ inr (refuses_then old.step_limit these those old.now mid.now one.1 (subst (λ l. RefusesOne l those mid.now) first.limit refuses))
+      ]

@@ -1,0 +1,65 @@
+-- By which statements the tables are made, and those of an older version raised; and why they are not.
+use Rattle.std.specs.Prelude.{◌≡◌, ◌++◌, ◌⊎◌, ℕ, List, [], ◌∷◌, Result, Ok, Err, codes}
+use Rattle.sqlite.specs.declared.error.Error.{Error}
+use Rattle.sqlite.specs.Order.{Row}
+use Rattle.sqlite.specs.State.{State}
+use Rattle.up_tables.specs.declared.open.OpenFault.TheVariants.{Store}
+use Rattle.up_tables.specs.declared.open.SchemaVersion.{SchemaVersion}
+use Rattle.up_tables.specs.declared.open.SchemaVersion.TheVariants.{One, Two, Three}
+use Rattle.up_tables.specs.Faults.{open_fault}
+use Rattle.up_tables.specs.Ours.{HasFailed, ListsUs, NamesOlder}
+use Rattle.up_tables.specs.Stands.{HasNoTables}
+use Rattle.up_tables.specs.Tables.{meta_text, role_key_text, repo_file_text, image_text, campaign_text, vehicle_text, ecu_text, kept_text}
+use Rattle.up_tables.specs.Tables.{retired_text, image_sha512_text}
+use Rattle.up_tables.specs.Tried.{Makes, RefusesOne}
+
+-- ---- the statements, in their order
+
+-- a statement without values
+abbrev pub alone : List ℕ → List (List ℕ × Row)
+alone text = (text, []) ∷ []
+
+abbrev pub repositories_making : List (List ℕ × Row)
+repositories_making = (meta_text, []) ∷ (role_key_text, []) ∷ (repo_file_text, []) ∷ (image_text, []) ∷ []
+
+abbrev pub inventory_making : List (List ℕ × Row)
+inventory_making = (campaign_text, []) ∷ (vehicle_text, []) ∷ (ecu_text, []) ∷ (kept_text, []) ∷ []
+
+abbrev pub later_making : List (List ℕ × Row)
+later_making = (retired_text, []) ∷ (image_sha512_text, []) ∷ []
+
+abbrev pub tables_making : List (List ℕ × Row)
+tables_making = repositories_making ++ (inventory_making ++ later_making)
+
+abbrev pub name_text : List ℕ
+name_text = codes "INSERT INTO meta (id, app, schema, root, image_version, stamp) VALUES (1, 'uptane_desk', 3, 0, 0, 0)"
+
+-- all tables, and the row that says whose they are
+abbrev pub making : List (List ℕ × Row)
+making = tables_making ++ alone name_text
+
+abbrev pub set_schema_text : List ℕ
+set_schema_text = codes "UPDATE meta SET schema = 3 WHERE id = 1"
+
+-- of tables of this version, those of the latest
+abbrev pub raising : SchemaVersion → List (List ℕ × Row)
+raising One = (retired_text, []) ∷ (image_sha512_text, []) ∷ (set_schema_text, []) ∷ []
+raising Two = (image_sha512_text, []) ∷ (set_schema_text, []) ∷ []
+raising Three = []
+
+-- ---- what is told of them
+
+-- They all went through. Or the error isn't told as `Store`, or is only where the connection was shut, the disk counted a fault, or the database
+-- refuses one of them behind those before it.
+abbrev pub Tries : List (List ℕ × Row) → State → State → Result ℕ Error → Type 0
+Tries statements old new (Ok count) = Makes old.step_limit statements old.now new.now
+Tries statements old new (Err e) = open_fault e ≡ Store → HasFailed old new ⊎ RefusesOne old.step_limit statements old.now
+
+-- The connection was shut, or the disk counted a fault; what was committed has tables; or the database refuses one of the statements behind
+-- those before it.
+abbrev pub FailsToMake : State → State → Type 0
+FailsToMake old new = HasFailed old new ⊎ ((¬ HasNoTables old) ⊎ RefusesOne old.step_limit making old.committed)
+
+-- `meta` names an older version; and of tables of this product, the database refuses one of the statements that raise them, behind those before it
+abbrev pub FailsToRaise : State → Type 0
+FailsToRaise s = NamesOlder s × ((version : SchemaVersion) → ListsUs version s → RefusesOne s.step_limit (raising version) s.committed)
