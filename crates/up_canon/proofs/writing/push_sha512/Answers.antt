@@ -1,8 +1,0 @@
-use Rattle.up_canon.proofs.ByteTests.{sha512_typed}
-use Rattle.up_canon.proofs.writing.push_sha512.Goals as goal
-
-pub returns-in_err-push_str-clause-typed : goal.returns-in_err-push_str-clause-typed
-returns-in_err-push_str-clause-typed c = sha512_typed c.args.hash.now c.told-hash c.fits-hash
-
-pub returns-clause-typed : goal.returns-clause-typed
-returns-clause-typed c = sha512_typed c.args.hash.now c.told-hash c.fits-hash

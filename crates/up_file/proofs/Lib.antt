@@ -1,3 +1,0 @@
-pub mod Adopted
-pub mod Opened
-pub mod Closed

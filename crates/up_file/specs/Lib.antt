@@ -1,4 +1,0 @@
-pub mod Adopting
-pub mod Closing
-pub mod NewFiles
-pub mod Opening

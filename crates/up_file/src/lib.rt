@@ -1,6 +1,0 @@
-//! A database file: opened for one program alone, and closed.
-#![tactic(auto)]
-
-pub mod adopting;
-pub mod closing;
-pub mod opening;

@@ -1,3 +1,0 @@
-pub mod FieldLaws
-pub mod RoutedLaws
-pub mod RouteLaws

@@ -1,7 +1,0 @@
-pub mod HeadLaws
-pub mod TakenBytes
-pub mod FeedLaws
-pub mod StreamLaws
-pub mod ServeLaws
-pub mod InputLaws
-pub mod Blaming

@@ -1,4 +1,0 @@
-pub mod Lines
-pub mod Runs
-pub mod LineRuns
-pub mod Progress

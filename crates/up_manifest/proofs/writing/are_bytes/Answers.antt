@@ -1,6 +1,0 @@
-use Rattle.std.proofs.Common.{arith}
-use Rattle.up_canon.proofs.ByteTests.{bytes_tested}
-use Rattle.up_manifest.proofs.writing.are_bytes.Goals as goal
-
-pub returns : goal.returns
-returns c = bytes_tested c.args.hash.now (λ i. omega (arith, c.type_inv.hash i))

@@ -1,6 +1,0 @@
-pub mod Manifests
-pub mod Meaning
-pub mod Laws
-pub mod Building
-pub mod Bodies
-pub mod Plain

@@ -1,5 +1,0 @@
-use Rattle.up_plan.proofs.PlanLaws as law
-use Rattle.up_plan.proofs.laws.assigned_is_consistent.Goals as goal
-
-pub returns : goal.returns
-returns c = law.assigned_is_consistent

@@ -1,5 +1,0 @@
-use Rattle.up_plan.proofs.PlanLaws as law
-use Rattle.up_plan.proofs.laws.wanted_is_due.Goals as goal
-
-pub returns : goal.returns
-returns c = law.wanted_is_due

@@ -1,8 +1,0 @@
-pub mod Images
-pub mod Campaigns
-pub mod Planning
-pub mod Offers
-pub mod ByOffers
-pub mod ByFile
-pub mod Laws
-pub mod Running

@@ -1,5 +1,0 @@
-pub mod Failures
-pub mod Messages
-pub mod Times
-pub mod Calls
-pub mod Files

@@ -1,9 +1,0 @@
-pub mod Parts
-pub mod Payload
-pub mod Root
-pub mod Targets
-pub mod Snapshot
-pub mod Timestamp
-pub mod Lifetimes
-pub mod Meaning
-pub mod Laws

@@ -1,9 +1,0 @@
-pub mod Answering
-pub mod Decimals
-pub mod Failing
-pub mod Lasting
-pub mod LastingRuns
-pub mod Reopening
-pub mod Showing
-pub mod Telling
-pub mod Weaker
