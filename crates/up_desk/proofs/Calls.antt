@@ -17,8 +17,8 @@ use Rattle.up_tables.specs.Stands as stands
 use Rattle.up_store.specs.Connections as connections
 use Rattle.up_desk.specs.Serving.{HoldsState, told, outcome_due, outright, Serves}
 use Rattle.up_desk.specs.Standing.{Standing, HasCleanDisk, IfClean, KeepsState, Fits, StillFits}
-use Rattle.up_desk.specs.Calls.{BlamesCall, ServesCall, SparesCall, CommitsCall}
-use Rattle.up_desk.proofs.Serving.{answered, blamed, crashed, committed, clean_once, told_outright}
+use Rattle.up_desk.specs.Calls.{BlamesCall, MakesCall, ServesCall, SparesCall, CommitsCall}
+use Rattle.up_desk.proofs.Serving.{answered, blamed, crashed, committed, clean_once, made, told_outright}
 use Rattle.up_desk.proofs.Outlasting.{answered_stays}
 use Rattle.up_desk.proofs.Cataloged.{still_fits}
 
@@ -46,6 +46,7 @@ pub record IsCall (k : Rules) (at : ℕ) (c : Command) (a : Answer) (old new : S
   pub durable : CommitsCall k at c a old new
   pub clean : HasCleanDisk new → HasCleanDisk old
   pub blame : BlamesCall k at c a old new
+  pub made : MakesCall k at c a old new
 
 -- from a state that is shown
 obeyed : (k : Rules) (at : ℕ) (c : Command) (r : Result Answer Refusal) (old new : Standing) → Obeys k at c r old new → (s : State) → IsSound k s → IfClean (KeepsState k s) old
@@ -78,6 +79,7 @@ told_call laws k at c r old new fits obeys keeps due = record {
   durable = λ s sound was commit. committed k s old.connection new.connection at c r (obeyed k at c r old new obeys s sound was) commit;
   clean = cleaned laws k at c r old new obeys;
   blame = λ now is s sound was. blamed k s old.connection new.connection at c r laws.sound fits sound (obeyed k at c r old new obeys s sound was) now is;
+  made = λ now s sound was is_open. made k s old.connection new.connection at c r (obeyed k at c r old new obeys s sound was) now is_open;
 }
 
 pub called : (laws : CallLaws) (k : Rules) (at : ℕ) (c : Command) (r : Result Answer Refusal) (a : Answer) (old new : Standing) → IsTrue (is_command c) → Obeys k at c r old new → Keeps c old new

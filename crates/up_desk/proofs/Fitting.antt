@@ -69,7 +69,7 @@ closing_fits k s name row computed sound written it = record {
   rows = written k s row;
   commit = tt;
   holds = λ next_sound. tt;
-  refused = λ limit db one. writes.close row fit (sym (written k s row)) one;
+  write = writes.close row fit (sym (written k s row)) refl;
 }
   where
     named : row.name ≡ name
@@ -88,7 +88,7 @@ opening_fits k s at campaign row written new it = record {
   rows = written k s row;
   commit = tt;
   holds = λ next_sound. tt;
-  refused = λ limit db one. writes.campaign row fit (sym (written k s row)) one;
+  write = writes.campaign row fit (sym (written k s row)) refl;
 }
   where
     fit : IsNewCampaign row (rows_of_state k s)
@@ -166,7 +166,7 @@ refreshing_fits k s at version new sound replaced it = record {
   rows = replaced k s at version new sound it.1;
   commit = tt;
   holds = λ next_sound. founding_numbers k (stamped s at version) new.founding next_sound it.1.founding;
-  refused = λ limit db one. writes.register new fit (sym (replaced k s at version new sound it.1)) one;
+  write = writes.register new fit (sym (replaced k s at version new sound it.1)) refl;
 }
   where
     fit : IsSameRoot new (rows_of_state k s)
@@ -186,7 +186,7 @@ image_fits k s at image new sound added fresh it =
       rows = added k s at (s.image_version + 1) image new sound none it.1;
       commit = tt;
       holds = λ next_sound. founding_numbers k (stamped (with_image s image) at (s.image_version + 1)) new.founding next_sound it.1.founding;
-      refused = λ limit db one. writes.image image new fit (sym (added k s at (s.image_version + 1) image new sound none it.1)) one;
+      write = writes.image image new fit (sym (added k s at (s.image_version + 1) image new sound none it.1)) refl;
     }
 
 -- ---- one more root version
@@ -233,7 +233,7 @@ founding_fits k s at keys new sound added it = record {
   rows = added k s at 1 keys new sound it.1;
   commit = tt;
   holds = λ next_sound. founding_numbers k (stamped (with_root s at keys) at 1) new.founding next_sound it.1.founding;
-  refused = λ limit db one. writes.root new (next_root k s at 1 keys new (found_ok k s at keys _ it.0).fits it.1) (sym (added k s at 1 keys new sound it.1)) one;
+  write = writes.root new (next_root k s at 1 keys new (found_ok k s at keys _ it.0).fits it.1) (sym (added k s at 1 keys new sound it.1)) refl;
 }
 
 pub rotation_fits : (k : Rules) (s : State) (at : ℕ) (keys : KeySet) (new : RootRows) → IsSound k s → RootsAreAdded
@@ -246,8 +246,8 @@ rotation_fits k s at keys new sound added it = record {
   rows = added k s at (s.image_version + 1) keys new sound it.1;
   commit = tt;
   holds = λ next_sound. founding_numbers k (stamped (with_root s at keys) at (s.image_version + 1)) new.founding next_sound it.1.founding;
-  refused = λ limit db one. writes.root new (next_root k s at (s.image_version + 1) keys new (rotate_ok k s at keys _ it.0).fits it.1)
-      (sym (added k s at (s.image_version + 1) keys new sound it.1)) one;
+  write = writes.root new (next_root k s at (s.image_version + 1) keys new (rotate_ok k s at keys _ it.0).fits it.1)
+      (sym (added k s at (s.image_version + 1) keys new sound it.1)) refl;
 }
 
 -- ---- vehicles
@@ -269,7 +269,7 @@ vehicle_fits k s at new row found written fresh tell it =
       rows = rows;
       commit = tt;
       holds = λ next_sound. (fit, subst FitsVehicle (sym it.1) (vehicle_numbers k (with_vehicle s new) new.vehicle (added new) next_sound (get_same s.vehicles new.vehicle (added new))));
-      refused = λ limit db one. writes.vehicle row fit (sym rows) one;
+      write = writes.vehicle row fit (sym rows) refl;
     }
 
 pub replacement_fits : (k : Rules) (s : State) (at : ℕ) (new : Replacement) → IsSound k s → VehiclesAreFound → EcusAreReplaced → ReplacementsFit
@@ -291,7 +291,7 @@ replacement_fits k s at new sound found replaced fit it =
       rows = replaced k s new v sound it.1 fits.free;
       commit = tt;
       holds = λ next_sound. tt;
-      refused = λ limit db one. writes.replacement new is (sym (replaced k s new v sound it.1 fits.free)) one;
+      write = writes.replacement new is (sym (replaced k s new v sound it.1 fits.free)) refl;
     }
 
 recorded : (k : Rules) (s : State) (name : Name) (v : Vehicle) (e : Entry) (new : AcceptedRows) → IsSound k s → VehiclesAreFound → EcusTellTheirHash → table.get s.vehicles name ≡ Some v → HasAcceptedRows k s name v e new
@@ -335,7 +335,7 @@ accepting_fits k s name new computed sound found added tell it = record {
   rows = added k s name it.vehicle it.entry new it.found it.has;
   commit = one_more s it.vehicle name it.entry it.found;
   holds = λ next_sound. (fit, accepted_numbers k s name it.vehicle it.entry new next_sound it.has);
-  refused = λ limit db one. writes.manifest new fit (sym (added k s name it.vehicle it.entry new it.found it.has)) one;
+  write = writes.manifest new fit (sym (added k s name it.vehicle it.entry new it.found it.has)) refl;
 }
   where
     fit : IsRecorded new (rows_of_state k s)

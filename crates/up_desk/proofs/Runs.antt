@@ -6,6 +6,7 @@ use Rattle.std.specs.List.{AllByRecursion}
 use Rattle.std.specs.FinMap as table
 use Rattle.sqlite_disk.specs.Disk.{MoreFaults}
 use Rattle.sqlite_trees.specs.View.{doubt}
+use Rattle.sqlite.specs.Effect.{Database}
 use Rattle.sqlite.specs.Tree.{Trees}
 use Rattle.sqlite.proofs.StateLemmas.{survives_then}
 use Rattle.up_canon.specs.declared.refusal.Refusal.TheVariants.{Store}
@@ -24,11 +25,9 @@ use Rattle.up_machine.specs.ApartLaws.{VehiclesStandApart, DeliveriesCommute, Ar
 use Rattle.up_machine.specs.Laws.{KeptRepliesOutlastRuns}
 use Rattle.up_machine.specs.Replies.{kept_reply}
 use Rattle.up_desk.specs.Standing.{Standing, HasCleanDisk, IfClean, KeepsState, Survives, LeavesOnly}
-use Rattle.up_rows.specs.StateRows.{rows_of_state}
-use Rattle.up_store.specs.Writes.{RefusesToWrite}
-use Rattle.up_desk.specs.Serving.{HoldsState, IsCommit, is_failed, IsAnswered, RefusesOutcome, outright}
-use Rattle.up_desk.specs.Calls.{BlamesCall, CommitsCall, IsServed, ServesCall, SparesCall}
-use Rattle.up_desk.specs.Runs.{AreOutright, AreRefused, BlamesCalls, RefusesThere, AreNeighbours, timed, sent, unless_failed, IsRun, RunsCalls, outcome_behind, ComesTo, SparesCalls, IsAnsweredCommit, StaysOrComesTo, OutlastsCalls, CommitsCalls}
+use Rattle.up_desk.specs.Serving.{Becomes, HoldsState, IsCommit, is_failed, IsAnswered, RefusesOutcome, ShowsState, outright}
+use Rattle.up_desk.specs.Calls.{BlamesCall, CommitsCall, IsServed, MakesCall, ServesCall, SparesCall}
+use Rattle.up_desk.specs.Runs.{AreOutright, AreRefused, BlamesCalls, AreNeighbours, timed, sent, unless_failed, IsRun, RunsCalls, outcome_behind, ComesTo, SparesCalls, IsAnsweredCommit, StaysOrComesTo, OutlastsCalls, CommitsCalls}
 
 -- the calls one after another, of which some may be lost
 abbrev pub Ran : Rules → State → List (ℕ × Command) → List Answer → State → Type 0
@@ -295,45 +294,58 @@ state_behind old mid a o h = by_loss (is_failed a) h
     by_loss true h = h
     by_loss false h = h.1
 
-refused_next : (k : Rules) (s : State) (cs : List (ℕ × Command)) (answers : List Answer) (at : State) (c : ℕ × Command) (a : Answer) → Ran k s cs answers at → AreRefused k s cs answers
-    → (a ≡ Refused Store → RefusesThere k at (serve k at c.0 c.1)) → AreRefused k s (cs ++ c ∷ []) (answers ++ a ∷ [])
-refused_next k s [] [] at c a ran all here = (subst (λ (t : State). a ≡ Refused Store → RefusesThere k t (serve k t c.0 c.1)) ran here, tt)
-refused_next k s [] (b ∷ answers) at c a ran all here = absurd ran
-refused_next k s (d ∷ cs) [] at c a ran all here = absurd ran
-refused_next k s (d ∷ cs) (b ∷ answers) at c a ran all here =
-    let same : ran.0 ≡ (if is_failed b then s else (serve k s d.0 d.1).next) = state_behind s ran.0 b (serve k s d.0 d.1) ran.1 in
-    let rest = refused_next k ran.0 cs answers at c a ran.3 (subst (λ (t : State). AreRefused k t cs answers) (sym same) all.1) here in
-    (all.0, subst (λ (t : State). AreRefused k t (cs ++ c ∷ []) (answers ++ a ∷ [])) same rest)
+-- one command, which makes of a database the next one
+record IsStep (k : Rules) (s : State) (c : ℕ × Command) (a : Answer) (db after : Database) : Type 0 where
+  refused : a ≡ Refused Store → RefusesOutcome k s None db (serve k s c.0 c.1)
+  made : Becomes k s a (serve k s c.0 c.1).next None db after
+  shown : ShowsState k (if is_failed a then s else (serve k s c.0 c.1).next) after
 
-refuses_there : (k : Rules) (s : State) (mid : Standing) (o : Outcome) → KeepsState k s mid → IsTrue mid.connection.is_open → mid.connection.step_limit ≡ None → RefusesOutcome k s mid.connection o → RefusesThere k s o
-refuses_there k s mid o shown is_open unlimited h = record {
-  db = mid.connection.now;
-  shown = shown.tables.here is_open;
-  commit = h.commit;
-  refused = subst (λ (l : Option ℕ). RefusesToWrite (rows_of_state k s) (rows_of_state k o.next) l mid.connection.now) unlimited h.refused;
-}
+-- one more goes on from the last database
+refused_next : (k : Rules) (s : State) (db : Database) (cs : List (ℕ × Command)) (answers : List Answer) (at : State) (c : ℕ × Command) (a : Answer) (there last : Database)
+    → Ran k s cs answers at → AreRefused k s db cs answers there → IsStep k at c a there last → AreRefused k s db (cs ++ c ∷ []) (answers ++ a ∷ []) last
+refused_next k s db [] [] at c a there last ran path step =
+    let here = subst (λ (d : Database). IsStep k s c a d last) path.1 (subst (λ (t : State). IsStep k t c a there last) ran step) in
+    (path.0, here.refused, (last, here.made, (here.shown, refl)))
+refused_next k s db [] (b ∷ answers) at c a there last ran path step = absurd ran
+refused_next k s db (d ∷ cs) [] at c a there last ran path step = absurd ran
+refused_next k s db (d ∷ cs) (b ∷ answers) at c a there last ran path step =
+    let same : ran.0 ≡ (if is_failed b then s else (serve k s d.0 d.1).next) = state_behind s ran.0 b (serve k s d.0 d.1) ran.1 in
+    let after = path.2.0 in
+    let rest = refused_next k ran.0 after cs answers at c a there last ran.3 (subst (λ (t : State). AreRefused k t after cs answers there) (sym same) path.2.2) step in
+    (path.0, path.1, (after, path.2.1, subst (λ (t : State). AreRefused k t after (cs ++ c ∷ []) (answers ++ a ∷ []) last) same rest))
+
+-- no fault, so the connection is open still
+still_open : (was is : Standing) → IsTrue is.connection.is_open ⊎ MoreFaults was.connection.faults is.connection.faults → (MoreFaults was.connection.faults is.connection.faults → ⊥)
+    → IsTrue is.connection.is_open
+still_open was is (inl still) none = still
+still_open was is (inr more) none = absurd (none more)
+
+-- nor is the disk to blame
+not_by_disk : (k : Rules) (s : State) (mid new : Standing) (o : Outcome) → (MoreFaults mid.connection.faults new.connection.faults → ⊥)
+    → MoreFaults mid.connection.faults new.connection.faults ⊎ RefusesOutcome k s mid.connection.step_limit mid.connection.now o → mid.connection.step_limit ≡ None
+    → RefusesOutcome k s None mid.connection.now o
+not_by_disk k s mid new o none (inl more) limit = absurd (none more)
+not_by_disk k s mid new o none (inr refuses) limit = subst (λ (l : Option ℕ). RefusesOutcome k s l mid.connection.now o) limit refuses
 
 blames_next : (k : Rules) (old mid new : Standing) (cs : List (ℕ × Command)) (c : ℕ × Command) (answers : List Answer) (a : Answer)
-    → BlamesCalls k cs answers old mid → RunsFrom k old mid cs answers → SparesCalls k cs answers old mid → (HasCleanDisk new → HasCleanDisk mid) → SparesCall k c.0 c.1 mid new → BlamesCall k c.0 c.1 a mid new
-    → BlamesCalls k (cs ++ c ∷ []) (answers ++ a ∷ []) old new
-blames_next k old mid new cs c answers a far runs kept clean spares blame = λ now s sound was is_open unlimited no.
+    → BlamesCalls k cs answers old mid → RunsFrom k old mid cs answers → SparesCalls k cs answers old mid → (HasCleanDisk new → HasCleanDisk mid) → SparesCall k c.0 c.1 mid new
+    → ServesCall k c.0 c.1 a mid new → BlamesCall k c.0 c.1 a mid new → MakesCall k c.0 c.1 a mid new → BlamesCalls k (cs ++ c ∷ []) (answers ++ a ∷ []) old new
+blames_next k old mid new cs c answers a far runs kept clean spares serves blame makes = λ now s sound was is_open unlimited no.
     let before = runs (clean now) s sound was in
     let first = kept s sound was in
     let last = spares before.0 before.2 (λ _. before.3) in
+    let here = serves now before.0 before.2 (λ _. before.3) in
     let none : MoreFaults old.connection.faults mid.connection.faults → ⊥ = λ more. no (omega (arith, last.counts, more)) in
     let later : MoreFaults mid.connection.faults new.connection.faults → ⊥ = λ more. no (omega (arith, first.counts, more)) in
-    let still = still_open (first.closes (clean now) is_open) none in
-    refused_next k s cs answers before.0 c a before.1 (far (clean now) s sound was is_open unlimited none)
-    (λ is. by_cause before.0 before.3 still (first.limit ∙ unlimited) later (blame now is before.0 before.2 (λ _. before.3) still (first.limit ∙ unlimited)))
-  where
-    still_open : IsTrue mid.connection.is_open ⊎ MoreFaults old.connection.faults mid.connection.faults → (MoreFaults old.connection.faults mid.connection.faults → ⊥) → IsTrue mid.connection.is_open
-    still_open (inl still) none = still
-    still_open (inr more) none = absurd (none more)
-
-    by_cause : (at : State) → KeepsState k at mid → IsTrue mid.connection.is_open → mid.connection.step_limit ≡ None → (MoreFaults mid.connection.faults new.connection.faults → ⊥)
-        → MoreFaults mid.connection.faults new.connection.faults ⊎ RefusesOutcome k at mid.connection (serve k at c.0 c.1) → RefusesThere k at (serve k at c.0 c.1)
-    by_cause at shown still unlimited later (inl more) = absurd (later more)
-    by_cause at shown still unlimited later (inr refuses) = refuses_there k at mid (serve k at c.0 c.1) shown still unlimited refuses
+    let opened = still_open old mid (first.closes (clean now) is_open) none in
+    let open_now = still_open mid new (last.closes now opened) later in
+    let limit : mid.connection.step_limit ≡ None = first.limit ∙ unlimited in
+    let o = serve k before.0 c.0 c.1 in
+    refused_next k s old.connection.now cs answers before.0 c a mid.connection.now new.connection.now before.1 (far (clean now) s sound was is_open unlimited none) (record {
+      refused = λ is. not_by_disk k before.0 mid new o later (blame now is before.0 before.2 (λ _. before.3) opened limit) limit;
+      made = subst (λ (l : Option ℕ). Becomes k before.0 a o.next l mid.connection.now new.connection.now) limit (makes now before.0 before.2 (λ _. before.3) open_now);
+      shown = subst (λ (t : State). ShowsState k t new.connection.now) (state_behind before.0 here.0 a o here.1) (here.4.tables.here open_now);
+    })
 
 -- so many commands have run, with as many answers after those that were there
 pub record SoFar (k : Rules) (old new : Standing) (cs : List (ℕ × Command)) (held answers : List Answer) : Type 0 where
@@ -354,6 +366,7 @@ pub record CallOf (k : Rules) (c : ℕ × Command) (a : Answer) (mid new : Stand
   pub fits : IsTrue (is_command c.1)
   pub due : IfSome (outright k c.0 c.1) (λ r. a ≡ Refused r)
   pub blame : BlamesCall k c.0 c.1 a mid new
+  pub made : MakesCall k c.0 c.1 a mid new
 
 pub none_so_far : (k : Rules) (s : Standing) (cs : List (ℕ × Command)) (held answers : List Answer) → answers ≡ held → SoFar k s s (take 0 cs) held answers
 none_so_far k s cs held answers same = record {
@@ -364,7 +377,7 @@ none_so_far k s cs held answers same = record {
   spares = λ t sound was. record { clean = omega arith; shield = λ h. h; counts = omega arith; limit = refl; closes = λ now h. inl h; crash = λ now trees h. inl h };
   outlasts = λ t sound was before rest m made now. absurd (omega (arith, ap length made.list, length-append before (m ∷ rest)));
   clean = λ now. now;
-  blames = λ now t sound was is_open unlimited no. tt;
+  blames = λ now t sound was is_open unlimited no. ((was now).tables.here is_open, refl);
 }
 
 so_far_next : (k : Rules) (old mid new : Standing) (cs : List (ℕ × Command)) (c : ℕ × Command) (held answers more : List Answer) (a : Answer)
@@ -377,7 +390,7 @@ so_far_next k old mid new cs c held answers more a far pushed clean call = recor
   spares = spares_next k old mid new cs c far.given a far.spares far.runs far.due clean call.spares;
   outlasts = outlasts_next k old mid new cs c far.given a far.outlasts far.runs far.due clean call.serves call.spares call.commits;
   clean = λ now. far.clean (clean now);
-  blames = blames_next k old mid new cs c far.given a far.blames far.runs far.spares clean call.spares call.blame;
+  blames = blames_next k old mid new cs c far.given a far.blames far.runs far.spares clean call.spares call.serves call.blame call.made;
 }
 
 -- one call more, by a scheme that is the same

@@ -21,14 +21,14 @@ use Rattle.up_machine.specs.Machine.{outcome_of}
 use Rattle.up_rows.specs.StateRows.{StateRows, rows_of_state}
 use Rattle.up_tables.specs.declared.values.StoreFault.{StoreFault}
 use Rattle.up_tables.specs.declared.values.StoreFault.TheVariants as fault
-use Rattle.up_tables.specs.Stands.{IfClean, IsAsCommitted, LeavesOnly}
+use Rattle.up_tables.specs.Stands.{HasTables, IfClean, IsAsCommitted, LeavesOnly}
 use Rattle.up_tables.specs.Tables.{up_schema}
-use Rattle.up_tables.specs.Tried.{RefusesOne}
+use Rattle.up_tables.specs.Tried.{Makes, RefusesOne}
 use Rattle.up_tables.proofs.TransactionLemmas.{stands_kept}
-use Rattle.up_store.specs.Connections.{BlamesWrite, KeepsState, KeepsRows, HoldsRows, MayWrite, TakesRows, CommitsRows, SparesRows}
+use Rattle.up_store.specs.Connections.{BlamesWrite, KeepsState, KeepsRows, HoldsRows, MayWrite, NeedsOpen, RanWrite, TakesRows, CommitsRows, SparesRows}
 use Rattle.up_store.specs.Listing.{ListsRows}
-use Rattle.up_store.specs.Writes.{RefusesToWrite}
-use Rattle.up_desk.specs.Serving.{is_store, is_fault, is_failed, told, HoldsState, Leaves, IsBlamed, IsCommit, RefusesOutcome, Serves, Reads, DiskFailed, IsDueOrFails, GivesOrFails, refusal_told, answer_written}
+use Rattle.up_store.specs.Writes.{AreWrites}
+use Rattle.up_desk.specs.Serving.{is_store, is_fault, is_failed, told, Becomes, HoldsState, Leaves, IsBlamed, IsCommit, RefusesOutcome, Serves, Reads, DiskFailed, IsDueOrFails, GivesOrFails, refusal_told, answer_written}
 use Rattle.up_desk.proofs.NeverStore.{NeverStore}
 
 -- ---- reads
@@ -142,6 +142,7 @@ refused {k} {s} {old} {new} {r} {computed} was reads is_due = record {
   crash = spared (HoldsState k (outcome_of s computed).next) old new reads;
   durable = λ commit. absurd commit;
   blame = λ clean sound store is_open unlimited. inl (blamed old new r computed (is_due clean) store is_open unlimited);
+  made = λ clean is_open. let same = reads.same (rows_of_state k s) was clean is_open in (same.0, inr (λ commit. commit, same.1));
 }
 
 -- its answer leaves the state as it is
@@ -153,31 +154,39 @@ unchanged {k} {s} {old} {new} {answer} {computed} given never was reads is = rec
   crash = spared (HoldsState k (outcome_of s computed).next) old new reads;
   durable = λ commit clean. absurd (never (outcome_of s computed).next commit (ap (λ o. (outcome_of s o).next) (is clean)));
   blame = λ clean sound. tt;
+  made = λ clean is_open.
+      let same = reads.same (rows_of_state k s) was clean is_open in
+      (same.0, inr (λ commit. never (outcome_of s computed).next commit (ap (λ o. (outcome_of s o).next) (is clean)), same.1));
 }
 
 -- a database that refuses behind a read refused before it
-refuses_before : {k : Rules} {s : State} {old mid : Connected} {o : Outcome} → IfClean (KeepsState k s) old → Reads old mid → HasCleanDisk mid → IsTrue mid.is_open → RefusesOutcome k s mid o → RefusesOutcome k s old o
+refuses_before : {k : Rules} {s : State} {old mid : Connected} {o : Outcome} → IfClean (KeepsState k s) old → Reads old mid → HasCleanDisk mid → IsTrue mid.is_open
+    → RefusesOutcome k s mid.step_limit mid.now o → RefusesOutcome k s old.step_limit old.now o
 refuses_before {k} {s} {old} {mid} {o} was reads clean is_open h =
-    let rows = rows_of_state k s in
-    let next = rows_of_state k o.next in
-    let same : IsTrue old.is_open × (mid.now ≡ old.now) = reads.same rows was clean is_open in
-    record {
-      commit = h.commit;
-      refused = subst (λ (db : Database). RefusesToWrite rows next old.step_limit db) same.1
-          (subst (λ (l : Option ℕ). RefusesToWrite rows next l mid.now) reads.survives.limit h.refused);
-    }
+    subst (λ (db : Database). RefusesOutcome k s old.step_limit db o) (reads.same (rows_of_state k s) was clean is_open).1
+    (subst (λ (l : Option ℕ). RefusesOutcome k s l mid.now o) reads.survives.limit h)
 
 -- who is to blame behind a read
 blamed_before : (k : Rules) (s : State) {old mid : Connected} (new : Connected) (o : Outcome) → IfClean (KeepsState k s) old → Reads old mid → mid.faults ≤ new.faults → HasCleanDisk mid → IsBlamed k s mid new o → IsBlamed k s old new o
 blamed_before k s {old} {mid} new o was reads counts clean h is_open unlimited = by_closing (reads.survives.closes clean is_open)
   where
-    by_blame : IsTrue mid.is_open → MoreFaults mid.faults new.faults ⊎ RefusesOutcome k s mid o → MoreFaults old.faults new.faults ⊎ RefusesOutcome k s old o
+    by_blame : IsTrue mid.is_open → MoreFaults mid.faults new.faults ⊎ RefusesOutcome k s mid.step_limit mid.now o → MoreFaults old.faults new.faults ⊎ RefusesOutcome k s old.step_limit old.now o
     by_blame still (inl more) = inl (omega (arith, reads.survives.counts, more))
     by_blame still (inr refuses) = inr (refuses_before {k = k} {s = s} was reads clean still refuses)
 
-    by_closing : IsTrue mid.is_open ⊎ MoreFaults old.faults mid.faults → MoreFaults old.faults new.faults ⊎ RefusesOutcome k s old o
+    by_closing : IsTrue mid.is_open ⊎ MoreFaults old.faults mid.faults → MoreFaults old.faults new.faults ⊎ RefusesOutcome k s old.step_limit old.now o
     by_closing (inl still) = by_blame still (h still (reads.survives.limit ∙ unlimited))
     by_closing (inr more) = inl (omega (arith, counts, more))
+
+-- what is made of a database behind a read is made of that before it
+made_before : (k : Rules) (s : State) {old mid : Connected} (a : Answer) (next : State) (after : Database) → IfClean (KeepsState k s) old → Reads old mid → HasCleanDisk mid
+    → IsTrue mid.is_open × Becomes k s a next mid.step_limit mid.now after → IsTrue old.is_open × Becomes k s a next old.step_limit old.now after
+made_before k s {old} {mid} a next after was reads clean made =
+    let same = reads.same (rows_of_state k s) was clean made.0 in (
+      same.0,
+      subst (λ (db : Database). Becomes k s a next old.step_limit db after) same.1
+          (subst (λ (l : Option ℕ). Becomes k s a next l mid.now after) reads.survives.limit made.1),
+    )
 
 -- what is served after a read is served after what was before it
 pub after_reads : {k : Rules} {s : State} {old mid new : Connected} {r : Result Answer Refusal} {computed : Result Outcome Refusal} → IfClean (KeepsState k s) old → Reads old mid → Serves k s mid new r computed → Serves k s old new r computed
@@ -185,9 +194,13 @@ after_reads {k} {s} {old} {mid} {new} {r} {computed} was reads serves = record {
   leaves = serves.leaves;
   crash = survives_then old mid new (λ _. ⊥) (HoldsState k (outcome_of s computed).next) (HoldsState k (outcome_of s computed).next) (λ _ db none. absurd none) (λ _ db holds. holds) reads.survives serves.crash;
   durable = serves.durable;
-  blame = λ clean sound. by_result r (serves.blame clean sound) (let before : HasCleanDisk mid = omega (arith, serves.crash.clean) in before);
+  blame = λ clean sound. by_result r (serves.blame clean sound) (before clean);
+  made = λ clean is_open. made_before k s (told r) (outcome_of s computed).next new.now was reads (before clean) (serves.made clean is_open);
 }
   where
+    before : HasCleanDisk new → HasCleanDisk mid
+    before clean = let it : HasCleanDisk mid = omega (arith, serves.crash.clean) in it
+
     by_result : (q : Result Answer Refusal) → IfErr q (λ e. e ≡ Store → IsBlamed k s mid new (outcome_of s computed)) → HasCleanDisk mid → IfErr q (λ e. e ≡ Store → IsBlamed k s old new (outcome_of s computed))
     by_result (Ok a) h clean = tt
     by_result (Err e) h clean = λ store. blamed_before k s new (outcome_of s computed) was reads serves.crash.counts clean (h store)
@@ -203,7 +216,7 @@ pub record WillWrite (k : Rules) (s : State) (these : List (List ℕ × Row)) (h
   pub rows : change (rows_of_state k s) ≡ rows_of_state k next
   pub commit : IsCommit s answer next
   pub holds : IsSound k next → held (rows_of_state k s)
-  pub refused : (limit : Option ℕ) (db : Database) → RefusesOne limit these db → RefusesToWrite (rows_of_state k s) (rows_of_state k next) limit db
+  pub write : AreWrites (rows_of_state k s) (rows_of_state k next) these
 
 -- a fault of the store is told as a refusal
 fault_failed : (f : StoreFault) (X : Type 0) → MatchBool (is_fault (refusal_told f)) ⊤ X
@@ -217,13 +230,14 @@ store_told fault.Store is = refl
 pub written : (k : Rules) (s : State) (old mid new : Connected) (answer : Answer) (w : Result ⊤ StoreFault) (these : List (List ℕ × Row)) (held fits : StateRows → Type 0) (change : StateRows → StateRows)
     (computed : Result Outcome Refusal) → is_failed answer ≡ false → IfClean (KeepsState k s) old → Reads old mid → (HasCleanDisk mid → WillWrite k s these held fits change answer computed)
     → TakesRows fits change mid new w → CommitsRows fits change mid new w → OnErr w (IfClean (IsAsCommitted mid) new) → SparesRows fits change mid new → (HasCleanDisk new → HasCleanDisk mid)
-    → BlamesWrite these held mid new w → Serves k s old new (answer_written answer w) computed
-written k s old mid new answer w these held fits change computed given was reads will takes commits kept spares clean blame = record {
+    → NeedsOpen mid new w → RanWrite these mid new w → BlamesWrite these held mid new w → Serves k s old new (answer_written answer w) computed
+written k s old mid new answer w these held fits change computed given was reads will takes commits kept spares clean opens ran blame = record {
   leaves = leaves w takes kept;
   crash = survives_then old mid new (λ _. ⊥) (HoldsRows (change rows)) (HoldsState k (outcome_of s computed).next) (λ _ db none. absurd none)
       (λ now db holds. subst (λ r. HoldsRows r db) (next_is now) holds) reads.survives (spares rows may);
   durable = durable w commits;
   blame = λ now sound. by_write w (blame now) now sound;
+  made = λ now is_open. made_before k s (told (answer_written answer w)) (outcome_of s computed).next new.now was reads (clean now) (by_kind w kept (opens now) (ran now) now is_open);
 }
   where
     rows : StateRows
@@ -247,17 +261,17 @@ written k s old mid new answer w these held fits change computed given was reads
     durable (Ok done) commits commit now = λ trees may_leave. subst (λ r. HoldsRows r trees) (next_is now) (commits rows may now trees may_leave)
     durable (Err f) commits commit now = absurd commit
 
-    outcome_is : HasCleanDisk mid → (o : Outcome) → o ≡ outcome_of s computed → IsSound k o.next → RefusesOne mid.step_limit these mid.now → RefusesOutcome k s mid o
+    outcome_is : HasCleanDisk mid → (o : Outcome) → o ≡ outcome_of s computed → IsSound k o.next → RefusesOne mid.step_limit these mid.now → RefusesOutcome k s mid.step_limit mid.now o
     outcome_is now o is sound one =
         let it = will now in
         let same : o ≡ record { answer = answer; next = it.next } = is ∙ ap (outcome_of s) it.computed_is in
-        subst (RefusesOutcome k s mid) (sym same) (record { commit = it.commit; refused = it.refused mid.step_limit mid.now one })
+        subst (RefusesOutcome k s mid.step_limit mid.now) (sym same) (record { commit = it.commit; refused = record { these = these; write = it.write; refused = one } })
 
     sound_next : (now : HasCleanDisk mid) → IsSound k (outcome_of s computed).next → IsSound k (will now).next
     sound_next now sound = let it = will now in subst (λ (o : Result Outcome Refusal). IsSound k (outcome_of s o).next) it.computed_is sound
 
     by_cause : HasCleanDisk mid → IsSound k (outcome_of s computed).next → MoreFaults mid.faults new.faults ⊎ RefusesOne mid.step_limit these mid.now
-        → MoreFaults mid.faults new.faults ⊎ RefusesOutcome k s mid (outcome_of s computed)
+        → MoreFaults mid.faults new.faults ⊎ RefusesOutcome k s mid.step_limit mid.now (outcome_of s computed)
     by_cause now sound (inl more) = inl more
     by_cause now sound (inr one) = inr (outcome_is now (outcome_of s computed) refl sound one)
 
@@ -269,14 +283,31 @@ written k s old mid new answer w these held fits change computed given was reads
         blamed_before k s new (outcome_of s computed) was reads (spares rows may).counts before
         (λ is_open unlimited. by_cause before sound (blame (store_told f store) is_open rows stands ((will before).holds (sound_next before sound))))
 
+    tables : HasCleanDisk mid → HasTables mid
+    tables now = λ is_open. let here = (stands now).here is_open in record { schema_is = here.schema_is; sound = here.sound; rows = tt }
+
+    becomes : HasCleanDisk mid → Makes mid.step_limit these mid.now new.now → Becomes k s answer (outcome_of s computed).next mid.step_limit mid.now new.now
+    becomes now made =
+        let it = will now in
+        subst (λ (n : State). Becomes k s answer n mid.step_limit mid.now new.now) (sym (ap (λ o. (outcome_of s o).next) it.computed_is))
+        (inl (it.commit, record { these = these; write = it.write; made = made }))
+
+    by_kind : (w : Result ⊤ StoreFault) → OnErr w (IfClean (IsAsCommitted mid) new) → OnOk w (IsTrue mid.is_open) → OnOk w (HasTables mid → Makes mid.step_limit these mid.now new.now)
+        → HasCleanDisk new → IsTrue new.is_open → IsTrue mid.is_open × Becomes k s (told (answer_written answer w)) (outcome_of s computed).next mid.step_limit mid.now new.now
+    by_kind (Ok done) kept opens ran now is_open = (opens, becomes (clean now) (ran (tables (clean now))))
+    by_kind (Err f) kept opens ran now is_open =
+        let same = kept now in
+        let was_open = same.was_open is_open in
+        (was_open, inr (λ commit. commit, (same.undone is_open).0 ∙ sym ((stands (clean now)).committed was_open)))
+
 -- the same, told as done
 pub done_written : {k : Rules} {s : State} {old mid new : Connected} {r : Result Answer Refusal} {computed : Result Outcome Refusal} (w : Result ⊤ StoreFault) (these : List (List ℕ × Row))
     (held fits : StateRows → Type 0) (change : StateRows → StateRows)
     → r ≡ answer_written Done w → IfClean (KeepsState k s) old → Reads old mid → (HasCleanDisk mid → WillWrite k s these held fits change Done computed)
     → TakesRows fits change mid new w → CommitsRows fits change mid new w → OnErr w (IfClean (IsAsCommitted mid) new) → SparesRows fits change mid new → (HasCleanDisk new → HasCleanDisk mid)
-    → BlamesWrite these held mid new w → Serves k s old new r computed
-done_written {k} {s} {old} {mid} {new} {r} {computed} w these held fits change is was reads will takes commits kept spares clean blame =
-    subst (λ a. Serves k s old new a computed) (sym is) (written k s old mid new Done w these held fits change computed refl was reads will takes commits kept spares clean blame)
+    → NeedsOpen mid new w → RanWrite these mid new w → BlamesWrite these held mid new w → Serves k s old new r computed
+done_written {k} {s} {old} {mid} {new} {r} {computed} w these held fits change is was reads will takes commits kept spares clean opens ran blame =
+    subst (λ a. Serves k s old new a computed) (sym is) (written k s old mid new Done w these held fits change computed refl was reads will takes commits kept spares clean opens ran blame)
 
 -- ---- decisions
 

@@ -1,5 +1,5 @@
--- What a call of a desk comes to: the answer, the state that the tables show then, and what a crash leaves.
-use Rattle.std.specs.Prelude.{◌≡◌, ℕ}
+-- What a call of a desk comes to: the answer, the state that the tables show then, what was made of the database, and what a crash leaves.
+use Rattle.std.specs.Prelude.{◌≡◌, ℕ, IsTrue}
 use Rattle.up_sign.specs.Schemes.{Rules}
 use Rattle.up_machine.specs.declared.command.Command.{Command}
 use Rattle.up_machine.specs.declared.answer.Answer.{Answer}
@@ -9,7 +9,7 @@ use Rattle.up_machine.specs.State.{State}
 use Rattle.up_machine.specs.Repeats.{serve}
 use Rattle.up_machine.specs.Sound.{IsSound}
 use Rattle.up_desk.specs.Standing.{Standing, HasCleanDisk, IfClean, KeepsState, Survives, LeavesOnly}
-use Rattle.up_desk.specs.Serving.{HoldsState, IsAnswered, IsBlamed, IsCommit, RepliesStay}
+use Rattle.up_desk.specs.Serving.{Becomes, HoldsState, IsAnswered, IsBlamed, IsCommit, RepliesStay}
 
 -- The answer and the next state are those of what is served, and where the command failed the state is as it was. Kept replies are
 -- kept on, the state stays sound, and the tables show it.
@@ -33,3 +33,8 @@ CommitsCall k at c a old new = (s : State) → IsSound k s → IfClean (KeepsSta
 abbrev pub BlamesCall : Rules → ℕ → Command → Answer → Standing → Standing → Type 0
 BlamesCall k at c a old new = HasCleanDisk new → a ≡ Refused Store → (s : State) → IsSound k s → IfClean (KeepsState k s) old
     → IsBlamed k s old.connection new.connection (serve k s at c)
+
+-- what the connection sees is what the command makes of what it saw
+abbrev pub MakesCall : Rules → ℕ → Command → Answer → Standing → Standing → Type 0
+MakesCall k at c a old new = HasCleanDisk new → (s : State) → IsSound k s → IfClean (KeepsState k s) old → IsTrue new.connection.is_open
+    → Becomes k s a (serve k s at c).next old.connection.step_limit old.connection.now new.connection.now

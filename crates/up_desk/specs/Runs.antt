@@ -16,13 +16,8 @@ use Rattle.up_machine.specs.Deciding.{Outcome}
 use Rattle.up_machine.specs.Repeats.{Sent, serve, after, thinned, expected, not_lost, vehicle_of, without_others, own_answers}
 use Rattle.up_machine.specs.ApartLaws.{AreExchanged}
 use Rattle.up_machine.specs.Sound.{IsSound}
-use Rattle.up_rows.specs.StateRows.{rows_of_state}
-use Rattle.up_tables.specs.Stands.{IsWith}
-use Rattle.up_tables.specs.Tables.{up_schema}
-use Rattle.up_store.specs.Listing.{ListsRows}
-use Rattle.up_store.specs.Writes.{RefusesToWrite}
 use Rattle.up_desk.specs.Standing.{Standing, HasCleanDisk, IfClean, KeepsState, Survives, LeavesOnly}
-use Rattle.up_desk.specs.Serving.{HoldsState, IsCommit, is_failed, outright, RepliesStay}
+use Rattle.up_desk.specs.Serving.{Becomes, HoldsState, IsCommit, RefusesOutcome, ShowsState, is_failed, outright, RepliesStay}
 
 -- a command with its moment
 abbrev pub timed : ℕ × Command → Timed
@@ -117,22 +112,17 @@ CommitsCalls k cs answers old new = (s : State) → IsSound k s → IfClean (Kee
 
 -- ---- faults over a list
 
--- over tables that show the state, the outcome is a commit, and the database refuses to write the rows of its next state
-pub record RefusesThere (k : Rules) (s : State) (o : Outcome) : Type 0 where
-  pub db : Database
-  pub shown : IsWith up_schema (ListsRows (rows_of_state k s)) db
-  pub commit : IsCommit s o.answer o.next
-  pub refused : RefusesToWrite (rows_of_state k s) (rows_of_state k o.next) None db
+-- Each database shows the state that it is met in: from this one each command makes the next, and the last of them is this. Each answer `Store`
+-- is to a command whose outcome the database refuses that there is then.
+abbrev pub AreRefused : Rules → State → Database → List (ℕ × Command) → List Answer → Database → Type 0
+AreRefused k s db [] answers last = ShowsState k s db × (last ≡ db)
+AreRefused k s db (c ∷ cs) [] last = ShowsState k s db × (last ≡ db)
+AreRefused k s db (c ∷ cs) (a ∷ answers) last = let o = serve k s c.0 c.1 in
+    ShowsState k s db × (a ≡ Refused Store → RefusesOutcome k s None db o)
+    × ((after : Database) × Becomes k s a o.next None db after × AreRefused k (if is_failed a then s else o.next) after cs answers last)
 
--- each answer `Store` is to a command whose outcome the database refuses then
-abbrev pub AreRefused : Rules → State → List (ℕ × Command) → List Answer → Type 0
-AreRefused k s [] answers = ⊤
-AreRefused k s (c ∷ cs) [] = ⊤
-AreRefused k s (c ∷ cs) (a ∷ answers) = (a ≡ Refused Store → RefusesThere k s (serve k s c.0 c.1))
-    × AreRefused k (if is_failed a then s else (serve k s c.0 c.1).next) cs answers
-
--- so where the disk counted no fault, on a connection that was open, with no limit on the steps of a query
+-- so where the disk counted no fault, on a connection that was open, with no limit on the steps of a query, of what it saw before and behind
 abbrev pub BlamesCalls : Rules → List (ℕ × Command) → List Answer → Standing → Standing → Type 0
 BlamesCalls k cs answers old new = HasCleanDisk new → (s : State) → IsSound k s → IfClean (KeepsState k s) old
     → IsTrue old.connection.is_open → old.connection.step_limit ≡ None → (MoreFaults old.connection.faults new.connection.faults → ⊥)
-    → AreRefused k s cs answers
+    → AreRefused k s old.connection.now cs answers new.connection.now

@@ -3,6 +3,7 @@
 use Rattle.std.specs.Prelude.{◌≡◌, ◌⊎◌, ◌||◌, ℕ, Bool, true, false, nat_lt, if◌then◌else◌, codes, length, Option, Some, None, MatchBool, ⊤, Result, Ok, Err, IfOk, IfErr, IsTrue}
 use Rattle.std.specs.List.{list_all}
 use Rattle.sqlite_disk.specs.Disk.{MoreFaults}
+use Rattle.sqlite.specs.Effect.{Database}
 use Rattle.sqlite.specs.State.{State as Connected, HasCleanDisk, Survives}
 use Rattle.sqlite.specs.Tree.{Trees}
 use Rattle.up_canon.specs.Moments.{last_command_moment}
@@ -28,9 +29,11 @@ use Rattle.up_machine.specs.Sound.{IsSound}
 use Rattle.up_rows.specs.StateRows.{StateRows, rows_of_state}
 use Rattle.up_tables.specs.declared.values.StoreFault.{StoreFault}
 use Rattle.up_tables.specs.declared.values.StoreFault.TheVariants as fault
-use Rattle.up_tables.specs.Stands.{IfClean, LeavesOnly}
+use Rattle.up_tables.specs.Stands.{IfClean, IsWith, LeavesOnly}
+use Rattle.up_tables.specs.Tables.{up_schema}
 use Rattle.up_store.specs.Connections.{KeepsRows, KeepsState, HoldsRows}
-use Rattle.up_store.specs.Writes.{RefusesToWrite}
+use Rattle.up_store.specs.Listing as listing
+use Rattle.up_store.specs.Writes.{MakesNext, RefusesToWrite}
 
 -- ---- answers
 
@@ -112,23 +115,36 @@ IsCommit s (Replied reply) next = next ≡ s → ⊥
 IsCommit s (File text) next = ⊥
 IsCommit s (Refused r) next = ⊥
 
+-- the database shows the state
+abbrev pub ShowsState : Rules → State → Database → Type 0
+ShowsState k s = IsWith up_schema (listing.ShowsState k s)
+
+-- What is made of a database that shows the state: behind a commit, what statements make that write the rows of the next state. Behind all else
+-- it stays.
+abbrev pub Becomes : Rules → State → Answer → State → Option ℕ → Database → Database → Type 0
+Becomes k s a next limit db after =
+    (IsCommit s a next × MakesNext (rows_of_state k s) (rows_of_state k next) limit db after) ⊎ ((IsCommit s a next → ⊥) × (after ≡ db))
+
 -- the outcome is a commit, and the database refuses to write the rows of its next state
-pub record RefusesOutcome (k : Rules) (s : State) (c : Connected) (o : Outcome) : Type 0 where
+pub record RefusesOutcome (k : Rules) (s : State) (limit : Option ℕ) (db : Database) (o : Outcome) : Type 0 where
   pub commit : IsCommit s o.answer o.next
-  pub refused : RefusesToWrite (rows_of_state k s) (rows_of_state k o.next) c.step_limit c.now
+  pub refused : RefusesToWrite (rows_of_state k s) (rows_of_state k o.next) limit db
 
 -- on a connection that was open, with no limit on the steps of a query, the disk counted a fault, or the database refuses the outcome
 abbrev pub IsBlamed : Rules → State → Connected → Connected → Outcome → Type 0
-IsBlamed k s old new o = IsTrue old.is_open → old.step_limit ≡ None → MoreFaults old.faults new.faults ⊎ RefusesOutcome k s old o
+IsBlamed k s old new o = IsTrue old.is_open → old.step_limit ≡ None → MoreFaults old.faults new.faults ⊎ RefusesOutcome k s old.step_limit old.now o
 
 -- It leaves what was computed. Whatever it answers, a crash leaves what it could leave before, or the next state; after a commit that
--- state alone. Where the next state is sound, `Store` is told only where the disk or the database is to blame.
+-- state alone. Where the next state is sound, `Store` is told only where the disk or the database is to blame. A connection that is open was open,
+-- and sees what is made of what it saw.
 pub record Serves (k : Rules) (s : State) (old new : Connected) (result : Result Answer Refusal) (computed : Result Outcome Refusal) : Type 0 where
   pub leaves : HasCleanDisk new → Leaves k s new result computed
   pub crash : Survives old new (HoldsState k (outcome_of s computed).next)
   pub durable : IsCommit s (told result) (outcome_of s computed).next → IfClean (LeavesOnly (HoldsState k (outcome_of s computed).next)) new
   pub blame : HasCleanDisk new → IsSound k (outcome_of s computed).next
       → IfErr result (λ r. r ≡ Store → IsBlamed k s old new (outcome_of s computed))
+  pub made : HasCleanDisk new → IsTrue new.is_open
+      → IsTrue old.is_open × Becomes k s (told result) (outcome_of s computed).next old.step_limit old.now new.now
 
 -- ---- its steps
 

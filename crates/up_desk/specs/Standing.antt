@@ -1,6 +1,6 @@
 -- What a desk stands on: the connection to its tables, and what it keeps of them in memory. The tables show a state to a desk where they
 -- show it, and what the desk keeps is of that state. A new desk keeps nothing, so to it they show what they show.
-use Rattle.std.specs.Prelude.{◌≡◌, ◌≤◌, ◌⊎◌, ℕ, ⊤, Bool, true, false, MatchBool, if◌then◌else◌, Option, Some, None, Result, IsTrue}
+use Rattle.std.specs.Prelude.{◌≡◌, ◌≤◌, ◌⊎◌, ℕ, ⊤, Bool, true, false, MatchBool, if◌then◌else◌, List, [], ◌∷◌, Option, Some, None, Result, IsTrue}
 use Rattle.std.specs.FinMap as table
 use Rattle.sqlite.specs.Held.{Held}
 use Rattle.sqlite.specs.Held as holding
@@ -95,6 +95,11 @@ keeps_catalog _ = false
 
 abbrev pub kept_for : Command → Option Catalog → Option Catalog
 kept_for c catalog = if keeps_catalog c then catalog else None
+
+-- over a list, each command in its turn
+abbrev pub kept_over : List (ℕ × Command) → Option Catalog → Option Catalog
+kept_over [] catalog = catalog
+kept_over (c ∷ cs) catalog = kept_over cs (kept_for c.1 catalog)
 
 -- what is left in memory after a command: of the same state, or nothing
 abbrev pub StillFits : State → Command → Option Catalog → Type 0

@@ -77,7 +77,8 @@ fn decide_founded<D: Alter>(
     founded: bool,
 ) -> Result<Decision<Campaign>, Refusal>
     requires { at ≤ last_command_moment }
-    ensures decided { HasCleanDisk (state D.Store store.new) → (k : Rules) (s : State) → founded ≡ is_some (founding_row s) → IfClean (KeepsState k s) (state D.Store store.old)
+    ensures decided { HasCleanDisk (state D.Store store.new) → (k : Rules) (s : State) → founded ≡ is_some (founding_row s)
+        → IfClean (KeepsState k s) (state D.Store store.old)
         → GivesOrFails (GivesDecision (λ row. row ≡ campaign.now) s (with_campaign s campaign.now))
         (state D.Store store.old) (state D.Store store.new) result (decide_open_in s at campaign.now) }
     ensures reads { Reads (state D.Store store.old) (state D.Store store.new) }
@@ -98,7 +99,8 @@ fn decide_named<D: Alter>(
     old: Option<&Campaign>,
 ) -> Result<Decision<Campaign>, Refusal>
     requires { at ≤ last_command_moment }
-    ensures decided { HasCleanDisk (state D.Store store.new) → (k : Rules) (s : State) → founded ≡ is_some (founding_row s) → option_copied old.entry ≡ table.get s.campaigns campaign.now.name → IfClean (KeepsState k s) (state D.Store store.old)
+    ensures decided { HasCleanDisk (state D.Store store.new) → (k : Rules) (s : State) → founded ≡ is_some (founding_row s)
+        → option_copied old.entry ≡ table.get s.campaigns campaign.now.name → IfClean (KeepsState k s) (state D.Store store.old)
         → GivesOrFails (GivesDecision (λ row. row ≡ campaign.now) s (with_campaign s campaign.now))
         (state D.Store store.old) (state D.Store store.new) result (decide_open_in s at campaign.now) }
     ensures reads { Reads (state D.Store store.old) (state D.Store store.new) }
@@ -120,7 +122,9 @@ fn decide_known<D: Alter>(
     known: &[bool],
 ) -> Result<Decision<Campaign>, Refusal>
     requires { at ≤ last_command_moment }
-    ensures decided { HasCleanDisk (state D.Store store.new) → (k : Rules) (s : State) → founded ≡ is_some (founding_row s) → option_copied old.entry ≡ table.get s.campaigns campaign.now.name → known.now ≡ map (table.contains_key s.vehicles) (named_in campaign.now.reach) → IfClean (KeepsState k s) (state D.Store store.old)
+    ensures decided { HasCleanDisk (state D.Store store.new) → (k : Rules) (s : State) → founded ≡ is_some (founding_row s)
+        → option_copied old.entry ≡ table.get s.campaigns campaign.now.name
+        → known.now ≡ map (table.contains_key s.vehicles) (named_in campaign.now.reach) → IfClean (KeepsState k s) (state D.Store store.old)
         → GivesOrFails (GivesDecision (λ row. row ≡ campaign.now) s (with_campaign s campaign.now))
         (state D.Store store.old) (state D.Store store.new) result (decide_open_in s at campaign.now) }
     ensures reads { Reads (state D.Store store.old) (state D.Store store.new) }
@@ -137,7 +141,8 @@ fn known_vehicles<D: Alter>(
     alloc: Global,
     reach: &Reach,
 ) -> Result<Vec<bool>, StoreFault>
-    ensures told { HasCleanDisk (state D.Store store.new) → IfOk result (λ known. (k : Rules) (s : State) → IfClean (KeepsState k s) (state D.Store store.old)
+    ensures told { HasCleanDisk (state D.Store store.new)
+        → IfOk result (λ known. (k : Rules) (s : State) → IfClean (KeepsState k s) (state D.Store store.old)
         → known.items ≡ map (table.contains_key s.vehicles) (named_in reach.now)) }
     ensures blame { Blames (state D.Store store.old) (state D.Store store.new) result }
     ensures reads { Reads (state D.Store store.old) (state D.Store store.new) }

@@ -9,10 +9,10 @@ ghost use Rattle.up_machine.specs.Reads.{ecus_of as ecus_in, version_of as versi
 ghost use Rattle.up_machine.specs.Rows.{vehicle_rows};
 ghost use Rattle.up_machine.specs.State.{State};
 ghost use Rattle.up_desk.specs.Runs.{AreOutright, BlamesCalls, CommitsCalls, OutlastsCalls, RunsCalls, SparesCalls};
-ghost use Rattle.up_desk.specs.Calls.{BlamesCall, CommitsCall, ServesCall, SparesCall};
+ghost use Rattle.up_desk.specs.Calls.{BlamesCall, CommitsCall, MakesCall, ServesCall, SparesCall};
 ghost use Rattle.up_desk.specs.Delivering.{AnswersRead, IsDeliveredBy, Loads, forged_by};
 ghost use Rattle.up_desk.specs.Serving.{outright as outright_of, refused_alone};
-ghost use Rattle.up_desk.specs.Standing.{Blames, Come, HasCleanDisk, IfClean, KeepsState, Reads, StaysLoaded, Tells, bare, kept_for, primaries_in, state};
+ghost use Rattle.up_desk.specs.Standing.{Blames, Come, HasCleanDisk, IfClean, KeepsState, Reads, StaysLoaded, Tells, bare, kept_for, kept_over, primaries_in, state};
 
 use crate::catalog::Catalog;
 use crate::dispatch::{answer_of, dispatch, keeps_limits};
@@ -91,14 +91,15 @@ impl<K: Scheme, D: Alter> Desk<K, D> {
 
     /// Answers a command at a moment: as the plain machine does, but a repeat of an accepted manifest is answered the reply that
     /// was kept for it, and each kept reply stays. Where memory or the database refuses (`Refused(Memory)`, `Refused(Store)`)
-    /// nothing changes, and over a connection without a limit on the steps of a query `Store` is told only where the disk counted a
-    /// fault, or the database refuses to write what the command comes to; a moment past 2100-01-01T00:00:00Z, a body of more than
-    /// 262,144 bytes and a key of a new vehicle or ECU that doesn't fit are refused as that whatever they do. Whatever is answered,
-    /// a crash leaves what it could leave before, or the next state; after `Done` and a reply to a newly accepted manifest that
-    /// state alone. What is kept in memory stays over deliveries and fetches, and is there behind each delivery in time of a body
-    /// that can be read, but for `NotFounded` and these two faults. A Primary comes to be kept by a manifest that it sent. A
-    /// manifest that the kept Primary of its vehicle didn't send, and a body that can't be read, is refused as that, or for want of
-    /// memory, and nothing is read of the tables; nor is it for such a moment or key.
+    /// nothing changes, and over a connection without a limit on the steps of a query `Store` is told only where the disk counted
+    /// a fault, or the database refuses to write what the command comes to. Behind a commit the connection sees what the
+    /// statements made that write the rows of the next state, and behind all else what it saw. A moment past 2100-01-01T00:00:00Z,
+    /// a body of more than 262,144 bytes and a key of a new vehicle or ECU that doesn't fit are refused as that whatever they do.
+    /// Whatever is answered, a crash leaves what it could leave before, or the next state; after `Done` and a reply to a newly
+    /// accepted manifest that state alone. What is kept in memory stays over deliveries and fetches, and is there behind each
+    /// delivery in time of a body that can be read, but for `NotFounded` and these two faults. A Primary comes to be kept by a
+    /// manifest that it sent. A manifest that the kept Primary of its vehicle didn't send, and a body that can't be read, is
+    /// refused as that, or for want of memory, and nothing is read of the tables; nor is it for such a moment or key.
     pub fn call(&mut self, alloc: Global, at: u64, command: &Command) -> Answer
         requires { IsTrue (opens_running command.now) }
         ensures served { ServesCall (K.rules self.old.scheme) at command.now result (state D.Store self.old.store) (state D.Store self.new.store) }
@@ -108,6 +109,7 @@ impl<K: Scheme, D: Alter> Desk<K, D> {
         ensures durable { CommitsCall (K.rules self.old.scheme) at command.now result (state D.Store self.old.store) (state D.Store self.new.store) }
         ensures clean { HasCleanDisk (state D.Store self.new.store) → HasCleanDisk (state D.Store self.old.store) }
         ensures blame { BlamesCall (K.rules self.old.scheme) at command.now result (state D.Store self.old.store) (state D.Store self.new.store) }
+        ensures made { MakesCall (K.rules self.old.scheme) at command.now result (state D.Store self.old.store) (state D.Store self.new.store) }
         ensures kept { StaysLoaded (kept_for command.now self.old.store.catalog) self.new.store.catalog }
         ensures came { HasCleanDisk (state D.Store self.new.store) → (s : State) → IfClean (KeepsState (K.rules self.old.scheme) s) (state D.Store self.old.store)
             → Come (IsDeliveredBy (K.rules self.old.scheme) command.now) (primaries_in self.old.store.catalog) (primaries_in self.new.store.catalog) }
@@ -137,8 +139,10 @@ impl<K: Scheme, D: Alter> Desk<K, D> {
     /// disk shuts the connection. A crash leaves what it could leave before, or the state after some of the first commands. What
     /// was answered stays: behind each commit that was answered (`Done`, or a reply to a newly accepted manifest) a crash leaves
     /// the state behind it, or the one after some of the commands that follow; where none of these changes the state, the
-    /// state after all of them. Where the disk counted no fault over the whole list, each `Refused(Store)` is to a command whose
-    /// outcome the database refuses, over tables that show the state then. An error means that nothing was done.
+    /// state after all of them. Where the disk counted no fault over the whole list, each command makes of the database that the
+    /// connection saw the next one, which shows the state then, and each `Refused(Store)` is to a command whose outcome the
+    /// database refuses that there is then. What is kept in memory stays over deliveries and fetches. An error means that nothing
+    /// was done.
     pub fn run(
         &mut self,
         alloc: Global,
@@ -153,6 +157,7 @@ impl<K: Scheme, D: Alter> Desk<K, D> {
             × CommitsCalls (K.rules self.old.scheme) commands.now told (state D.Store self.old.store) (state D.Store self.new.store)
             × BlamesCalls (K.rules self.old.scheme) commands.now told (state D.Store self.old.store) (state D.Store self.new.store)) }
         ensures err { OnErr result ((answers.new.items ≡ answers.old.items) × (self.new ≡ self.old)) }
+        ensures kept { OnOk result (StaysLoaded (kept_over commands.now self.old.store.catalog) self.new.store.catalog) }
         ensures clean { HasCleanDisk (state D.Store self.new.store) → HasCleanDisk (state D.Store self.old.store) }
         ensures scheme { self.new.scheme ≡ self.old.scheme }
     {

@@ -44,17 +44,21 @@ pub fn dispatch<K: Scheme, D: Alter>(
     command: &Command,
 ) -> Result<Answer, Refusal>
     requires { IfSome catalog.old (CanDecide (K.rules scheme.now)) }
-    ensures serves { (s : State) → IsSound (K.rules scheme.now) s → IfClean (KeepsState (K.rules scheme.now) s) (state D.Store store.old) → (HasCleanDisk (state D.Store store.old) → Fits s catalog.old)
-        → Serves (K.rules scheme.now) s (state D.Store store.old) (state D.Store store.new) result (outcome_due (K.rules scheme.now) s at command.now) }
+    ensures serves { (s : State) → IsSound (K.rules scheme.now) s → IfClean (KeepsState (K.rules scheme.now) s) (state D.Store store.old)
+        → (HasCleanDisk (state D.Store store.old) → Fits s catalog.old)
+        → Serves (K.rules scheme.now) s (state D.Store store.old) (state D.Store store.new) result
+        (outcome_due (K.rules scheme.now) s at command.now) }
     ensures outright { IfSome (outright_of (K.rules scheme.now) at command.now) (λ r. result ≡ Err r) }
     ensures unread { IfSome (refused_alone (K.rules scheme.now) at command.now) (RefusesRead store.old store.new result) }
-    ensures fits { HasCleanDisk (state D.Store store.new) → (k : Rules) (s : State) → IfClean (KeepsState k s) (state D.Store store.old) → Fits s catalog.old → StillFits s command.now catalog.new }
+    ensures fits { HasCleanDisk (state D.Store store.new) → (k : Rules) (s : State) → IfClean (KeepsState k s) (state D.Store store.old)
+        → Fits s catalog.old → StillFits s command.now catalog.new }
     ensures kept { StaysLoaded (kept_for command.now catalog.old) catalog.new }
-    ensures came { HasCleanDisk (state D.Store store.new) → (s : State) → IfClean (KeepsState (K.rules scheme.now) s) (state D.Store store.old) → Fits s catalog.old
-        → Come (IsDeliveredBy (K.rules scheme.now) command.now) (primaries_in catalog.old) (primaries_in catalog.new) }
+    ensures came { HasCleanDisk (state D.Store store.new) → (s : State) → IfClean (KeepsState (K.rules scheme.now) s) (state D.Store store.old)
+        → Fits s catalog.old → Come (IsDeliveredBy (K.rules scheme.now) command.now) (primaries_in catalog.old) (primaries_in catalog.new) }
     ensures loads { at ≤ last_command_moment → Loads command.now (told result) catalog.new }
     ensures can { IfSome catalog.new (CanDecide (K.rules scheme.now)) }
-    ensures forged { at ≤ last_command_moment → IfSome (forged_by (K.rules scheme.now) catalog.old command.now) (RefusesRead store.old store.new result) }
+    ensures forged { at ≤ last_command_moment
+        → IfSome (forged_by (K.rules scheme.now) catalog.old command.now) (RefusesRead store.old store.new result) }
 {
     drop_before(command, catalog);
     match command_moment(at) {
@@ -76,14 +80,17 @@ fn dispatch_at<K: Scheme, D: Alter>(
     requires moment { at ≤ last_command_moment }
     requires can { IfSome catalog.old (CanDecide (K.rules scheme.now)) }
     requires dropped { catalog.old ≡ kept_for command.now catalog.old }
-    ensures serves { (s : State) → IsSound (K.rules scheme.now) s → IfClean (KeepsState (K.rules scheme.now) s) (state D.Store store.old) → (HasCleanDisk (state D.Store store.old) → Fits s catalog.old)
-        → Serves (K.rules scheme.now) s (state D.Store store.old) (state D.Store store.new) result (outcome_due (K.rules scheme.now) s at command.now) }
+    ensures serves { (s : State) → IsSound (K.rules scheme.now) s → IfClean (KeepsState (K.rules scheme.now) s) (state D.Store store.old)
+        → (HasCleanDisk (state D.Store store.old) → Fits s catalog.old)
+        → Serves (K.rules scheme.now) s (state D.Store store.old) (state D.Store store.new) result
+        (outcome_due (K.rules scheme.now) s at command.now) }
     ensures outright { IfSome (outright_in_time (K.rules scheme.now) command.now) (λ r. result ≡ Err r) }
     ensures unread { IfSome (alone_in_time (K.rules scheme.now) command.now) (RefusesRead store.old store.new result) }
-    ensures fits { HasCleanDisk (state D.Store store.new) → (k : Rules) (s : State) → IfClean (KeepsState k s) (state D.Store store.old) → Fits s catalog.old → StillFits s command.now catalog.new }
+    ensures fits { HasCleanDisk (state D.Store store.new) → (k : Rules) (s : State) → IfClean (KeepsState k s) (state D.Store store.old)
+        → Fits s catalog.old → StillFits s command.now catalog.new }
     ensures kept { StaysLoaded (kept_for command.now catalog.old) catalog.new }
-    ensures came { HasCleanDisk (state D.Store store.new) → (s : State) → IfClean (KeepsState (K.rules scheme.now) s) (state D.Store store.old) → Fits s catalog.old
-        → Come (IsDeliveredBy (K.rules scheme.now) command.now) (primaries_in catalog.old) (primaries_in catalog.new) }
+    ensures came { HasCleanDisk (state D.Store store.new) → (s : State) → IfClean (KeepsState (K.rules scheme.now) s) (state D.Store store.old)
+        → Fits s catalog.old → Come (IsDeliveredBy (K.rules scheme.now) command.now) (primaries_in catalog.old) (primaries_in catalog.new) }
     ensures loads { Loads command.now (told result) catalog.new }
     ensures can { IfSome catalog.new (CanDecide (K.rules scheme.now)) }
     ensures forged { IfSome (forged_by (K.rules scheme.now) catalog.old command.now) (RefusesRead store.old store.new result) }

@@ -62,8 +62,10 @@ fn decide_adding<K: Scheme, D: Alter>(
     image: &Image,
 ) -> Result<Decision<RegisterRows>, Refusal>
     requires { at ≤ last_command_moment }
-    ensures decided { HasCleanDisk (state D.Store store.new) → (s : State) → IsSound (K.rules scheme.now) s → IfClean (KeepsState (K.rules scheme.now) s) (state D.Store store.old)
-        → GivesOrFails (GivesDecision (HasRegisterRows (K.rules scheme.now) (stamped (with_image s image.now) at (s.image_version + 1))) s (stamped (with_image s image.now) at (s.image_version + 1)))
+    ensures decided { HasCleanDisk (state D.Store store.new) → (s : State) → IsSound (K.rules scheme.now) s
+        → IfClean (KeepsState (K.rules scheme.now) s) (state D.Store store.old)
+        → GivesOrFails (GivesDecision (HasRegisterRows (K.rules scheme.now) (stamped (with_image s image.now) at (s.image_version + 1))) s
+        (stamped (with_image s image.now) at (s.image_version + 1)))
         (state D.Store store.old) (state D.Store store.new) result (decide_image_in s at image.now) }
     ensures reads { Reads (state D.Store store.old) (state D.Store store.new) }
 {
@@ -84,8 +86,10 @@ fn decide_adding_after<K: Scheme, D: Alter>(
 ) -> Result<Decision<RegisterRows>, Refusal>
     requires moment { at ≤ last_command_moment }
     requires keys { IfSome founding (λ f. IsTrue (founding_fits (K.rules scheme.now) f)) }
-    ensures decided { HasCleanDisk (state D.Store store.new) → (s : State) → IsSound (K.rules scheme.now) s → founding ≡ founding_row s → IfClean (KeepsState (K.rules scheme.now) s) (state D.Store store.old)
-        → GivesOrFails (GivesDecision (HasRegisterRows (K.rules scheme.now) (stamped (with_image s image.now) at (s.image_version + 1))) s (stamped (with_image s image.now) at (s.image_version + 1)))
+    ensures decided { HasCleanDisk (state D.Store store.new) → (s : State) → IsSound (K.rules scheme.now) s → founding ≡ founding_row s
+        → IfClean (KeepsState (K.rules scheme.now) s) (state D.Store store.old)
+        → GivesOrFails (GivesDecision (HasRegisterRows (K.rules scheme.now) (stamped (with_image s image.now) at (s.image_version + 1))) s
+        (stamped (with_image s image.now) at (s.image_version + 1)))
         (state D.Store store.old) (state D.Store store.new) result (decide_image_in s at image.now) }
     ensures reads { Reads (state D.Store store.old) (state D.Store store.new) }
 {
@@ -107,8 +111,10 @@ fn decide_named<K: Scheme, D: Alter>(
 ) -> Result<Decision<RegisterRows>, Refusal>
     requires moment { at ≤ last_command_moment }
     requires keys { IfSome founding (λ f. IsTrue (founding_fits (K.rules scheme.now) f)) }
-    ensures decided { HasCleanDisk (state D.Store store.new) → (s : State) → IsSound (K.rules scheme.now) s → founding ≡ founding_row s → option_copied old.entry ≡ table.get s.images image.now.file → IfClean (KeepsState (K.rules scheme.now) s) (state D.Store store.old)
-        → GivesOrFails (GivesDecision (HasRegisterRows (K.rules scheme.now) (stamped (with_image s image.now) at (s.image_version + 1))) s (stamped (with_image s image.now) at (s.image_version + 1)))
+    ensures decided { HasCleanDisk (state D.Store store.new) → (s : State) → IsSound (K.rules scheme.now) s → founding ≡ founding_row s
+        → option_copied old.entry ≡ table.get s.images image.now.file → IfClean (KeepsState (K.rules scheme.now) s) (state D.Store store.old)
+        → GivesOrFails (GivesDecision (HasRegisterRows (K.rules scheme.now) (stamped (with_image s image.now) at (s.image_version + 1))) s
+        (stamped (with_image s image.now) at (s.image_version + 1)))
         (state D.Store store.old) (state D.Store store.new) result (decide_image_in s at image.now) }
     ensures reads { Reads (state D.Store store.old) (state D.Store store.new) }
 {
@@ -132,8 +138,10 @@ fn decide_new<K: Scheme, D: Alter>(
 ) -> Result<RegisterRows, Refusal>
     requires moment { at ≤ last_command_moment }
     requires keys { IsTrue (founding_fits (K.rules scheme.now) founding) }
-    ensures decided { HasCleanDisk (state D.Store store.new) → (s : State) → IsSound (K.rules scheme.now) s → HasFounding s founding → table.get s.images image.now.file ≡ None → IfClean (KeepsState (K.rules scheme.now) s) (state D.Store store.old)
-        → GivesOrFails (GivesRows (HasRegisterRows (K.rules scheme.now) (stamped (with_image s image.now) at (s.image_version + 1))) (stamped (with_image s image.now) at (s.image_version + 1)))
+    ensures decided { HasCleanDisk (state D.Store store.new) → (s : State) → IsSound (K.rules scheme.now) s → HasFounding s founding
+        → table.get s.images image.now.file ≡ None → IfClean (KeepsState (K.rules scheme.now) s) (state D.Store store.old)
+        → GivesOrFails (GivesRows (HasRegisterRows (K.rules scheme.now) (stamped (with_image s image.now) at (s.image_version + 1)))
+        (stamped (with_image s image.now) at (s.image_version + 1)))
         (state D.Store store.old) (state D.Store store.new) result (decide_new_image_in s at image.now) }
     ensures reads { Reads (state D.Store store.old) (state D.Store store.new) }
 {
@@ -171,7 +179,8 @@ fn decide_refreshing<K: Scheme, D: Alter>(
     version: Count,
 ) -> Result<RegisterRows, Refusal>
     requires { at ≤ last_command_moment }
-    ensures decided { HasCleanDisk (state D.Store store.new) → (s : State) → IsSound (K.rules scheme.now) s → IfClean (KeepsState (K.rules scheme.now) s) (state D.Store store.old)
+    ensures decided { HasCleanDisk (state D.Store store.new) → (s : State) → IsSound (K.rules scheme.now) s
+        → IfClean (KeepsState (K.rules scheme.now) s) (state D.Store store.old)
         → GivesOrFails (GivesRows (HasRegisterRows (K.rules scheme.now) (stamped s at version)) (stamped s at version))
         (state D.Store store.old) (state D.Store store.new) result (decide_refresh_in s at version) }
     ensures reads { Reads (state D.Store store.old) (state D.Store store.new) }
@@ -193,7 +202,8 @@ fn decide_refreshing_after<K: Scheme, D: Alter>(
 ) -> Result<RegisterRows, Refusal>
     requires moment { at ≤ last_command_moment }
     requires keys { IfSome founding (λ f. IsTrue (founding_fits (K.rules scheme.now) f)) }
-    ensures decided { HasCleanDisk (state D.Store store.new) → (s : State) → founding ≡ founding_row s → IfClean (KeepsState (K.rules scheme.now) s) (state D.Store store.old)
+    ensures decided { HasCleanDisk (state D.Store store.new) → (s : State) → founding ≡ founding_row s
+        → IfClean (KeepsState (K.rules scheme.now) s) (state D.Store store.old)
         → GivesOrFails (GivesRows (HasRegisterRows (K.rules scheme.now) (stamped s at version)) (stamped s at version))
         (state D.Store store.old) (state D.Store store.new) result (decide_refresh_in s at version) }
     ensures reads { Reads (state D.Store store.old) (state D.Store store.new) }

@@ -41,7 +41,8 @@ pub fn found<K: Scheme, D: Alter>(
 ) -> Result<Answer, Refusal>
     requires { at ≤ last_command_moment }
     ensures { (s : State) → IsSound (K.rules scheme.now) s → IfClean (KeepsState (K.rules scheme.now) s) (state D.Store store.old)
-        → Serves (K.rules scheme.now) s (state D.Store store.old) (state D.Store store.new) result (decide_found_in (K.rules scheme.now) s at keys.now) }
+        → Serves (K.rules scheme.now) s (state D.Store store.old) (state D.Store store.new) result
+        (decide_found_in (K.rules scheme.now) s at keys.now) }
 {
     roots_are_added();
     match decide_founding(store, alloc, scheme, at, keys) {
@@ -59,8 +60,10 @@ fn decide_founding<K: Scheme, D: Alter>(
     keys: &KeySet,
 ) -> Result<RootRows, Refusal>
     requires { at ≤ last_command_moment }
-    ensures decided { HasCleanDisk (state D.Store store.new) → (s : State) → IsSound (K.rules scheme.now) s → IfClean (KeepsState (K.rules scheme.now) s) (state D.Store store.old)
-        → GivesOrFails (GivesRows (HasRootRows (K.rules scheme.now) (stamped (with_root s at keys.now) at 1)) (stamped (with_root s at keys.now) at 1))
+    ensures decided { HasCleanDisk (state D.Store store.new) → (s : State) → IsSound (K.rules scheme.now) s
+        → IfClean (KeepsState (K.rules scheme.now) s) (state D.Store store.old)
+        → GivesOrFails (GivesRows (HasRootRows (K.rules scheme.now) (stamped (with_root s at keys.now) at 1))
+        (stamped (with_root s at keys.now) at 1))
         (state D.Store store.old) (state D.Store store.new) result (decide_found_in (K.rules scheme.now) s at keys.now) }
     ensures reads { Reads (state D.Store store.old) (state D.Store store.new) }
 {
@@ -80,8 +83,10 @@ fn decide_founding_after<K: Scheme, D: Alter>(
     founded: bool,
 ) -> Result<RootRows, Refusal>
     requires { at ≤ last_command_moment }
-    ensures decided { HasCleanDisk (state D.Store store.new) → (s : State) → founded ≡ is_some (founding_row s) → IfClean (KeepsState (K.rules scheme.now) s) (state D.Store store.old)
-        → GivesOrFails (GivesRows (HasRootRows (K.rules scheme.now) (stamped (with_root s at keys.now) at 1)) (stamped (with_root s at keys.now) at 1))
+    ensures decided { HasCleanDisk (state D.Store store.new) → (s : State) → founded ≡ is_some (founding_row s)
+        → IfClean (KeepsState (K.rules scheme.now) s) (state D.Store store.old)
+        → GivesOrFails (GivesRows (HasRootRows (K.rules scheme.now) (stamped (with_root s at keys.now) at 1))
+        (stamped (with_root s at keys.now) at 1))
         (state D.Store store.old) (state D.Store store.new) result (decide_found_in (K.rules scheme.now) s at keys.now) }
     ensures reads { Reads (state D.Store store.old) (state D.Store store.new) }
 {
@@ -101,7 +106,8 @@ pub fn rotate<K: Scheme, D: Alter>(
 ) -> Result<Answer, Refusal>
     requires { at ≤ last_command_moment }
     ensures { (s : State) → IsSound (K.rules scheme.now) s → IfClean (KeepsState (K.rules scheme.now) s) (state D.Store store.old)
-        → Serves (K.rules scheme.now) s (state D.Store store.old) (state D.Store store.new) result (decide_rotate_in (K.rules scheme.now) s at keys.now) }
+        → Serves (K.rules scheme.now) s (state D.Store store.old) (state D.Store store.new) result
+        (decide_rotate_in (K.rules scheme.now) s at keys.now) }
 {
     roots_are_added();
     match decide_rotation(store, alloc, scheme, at, keys) {
@@ -119,8 +125,10 @@ fn decide_rotation<K: Scheme, D: Alter>(
     keys: &KeySet,
 ) -> Result<RootRows, Refusal>
     requires { at ≤ last_command_moment }
-    ensures decided { HasCleanDisk (state D.Store store.new) → (s : State) → IsSound (K.rules scheme.now) s → IfClean (KeepsState (K.rules scheme.now) s) (state D.Store store.old)
-        → GivesOrFails (GivesRows (HasRootRows (K.rules scheme.now) (stamped (with_root s at keys.now) at (s.image_version + 1))) (stamped (with_root s at keys.now) at (s.image_version + 1)))
+    ensures decided { HasCleanDisk (state D.Store store.new) → (s : State) → IsSound (K.rules scheme.now) s
+        → IfClean (KeepsState (K.rules scheme.now) s) (state D.Store store.old)
+        → GivesOrFails (GivesRows (HasRootRows (K.rules scheme.now) (stamped (with_root s at keys.now) at (s.image_version + 1)))
+        (stamped (with_root s at keys.now) at (s.image_version + 1)))
         (state D.Store store.old) (state D.Store store.new) result (decide_rotate_in (K.rules scheme.now) s at keys.now) }
     ensures reads { Reads (state D.Store store.old) (state D.Store store.new) }
 {
@@ -141,8 +149,10 @@ fn decide_rotation_after<K: Scheme, D: Alter>(
 ) -> Result<RootRows, Refusal>
     requires moment { at ≤ last_command_moment }
     requires keys { IfSome founding (λ f. IsTrue (founding_fits (K.rules scheme.now) f)) }
-    ensures decided { HasCleanDisk (state D.Store store.new) → (s : State) → founding ≡ founding_row s → IfClean (KeepsState (K.rules scheme.now) s) (state D.Store store.old)
-        → GivesOrFails (GivesRows (HasRootRows (K.rules scheme.now) (stamped (with_root s at keys.now) at (s.image_version + 1))) (stamped (with_root s at keys.now) at (s.image_version + 1)))
+    ensures decided { HasCleanDisk (state D.Store store.new) → (s : State) → founding ≡ founding_row s
+        → IfClean (KeepsState (K.rules scheme.now) s) (state D.Store store.old)
+        → GivesOrFails (GivesRows (HasRootRows (K.rules scheme.now) (stamped (with_root s at keys.now) at (s.image_version + 1)))
+        (stamped (with_root s at keys.now) at (s.image_version + 1)))
         (state D.Store store.old) (state D.Store store.new) result (decide_rotate_in (K.rules scheme.now) s at keys.now) }
     ensures reads { Reads (state D.Store store.old) (state D.Store store.new) }
 {

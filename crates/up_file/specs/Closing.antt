@@ -11,7 +11,9 @@ use Rattle.up_tables.specs.Faults.{store_fault}
 
 -- the close left a store of which a crash leaves nothing new; where its disk is clean, the fault stands for an error that the close met there
 abbrev pub FailsClosing : {D : Type 0} {g : Ghosts D} → Held (FileStore D g) → StoreFault → Type 0
-FailsClosing {D} {g} c fault = (last : FileStore D g) × (e : Error) × (fault ≡ store_fault e) × IsClosed c last × (HasCleanDisk (file_state (record c { store = last })) → FailsToClose c last e)
+FailsClosing {D} {g} c fault =
+    (last : FileStore D g) × (e : Error) × (fault ≡ store_fault e) × IsClosed c last
+    × (HasCleanDisk (file_state (record c { store = last })) → FailsToClose c last e)
 
 -- what is told of a close: the files that it gave back, or its error, whatever store it left
 abbrev pub closed_fault : {F S : Type 0} → Result F (Error × S) → Result F StoreFault

@@ -42,7 +42,8 @@ abbrev pub TellsMade : {C : Type 0} → Result (Unit {0}) ErrorKind → Type 0 �
 TellsMade made Unopened result = (fault : OpenFault) × (made_fault made ≡ Err fault) × Unopened × (result ≡ Err fault)
 
 -- a path that names no file is refused, and nothing is asked; for any other a file is made, and opened where that told no fault
-abbrev pub OpensNamed : {C L : Type 0} → List ℕ → (Result (Unit {0}) ErrorKind → Type 0) → Type 0 → (Result C (Error × L) → Type 0) → Type 0 → Result C OpenFault → Type 0
+abbrev pub OpensNamed : {C L : Type 0} → List ℕ → (Result (Unit {0}) ErrorKind → Type 0) → Type 0 → (Result C (Error × L) → Type 0) → Type 0
+    → Result C OpenFault → Type 0
 OpensNamed path Makes Unmade Opens Unopened result =
     (NamesNoFile path × Unmade × Unopened × (result ≡ Err Store))
     ⊎ ((NamesNoFile path → ⊥) × (made : Result (Unit {0}) ErrorKind) × Makes made

@@ -13,8 +13,8 @@ use up_store::store::{OpenFault, Store};
 
 /// Adopts a database of this product, which raises one of an older schema, and makes the tables in one without any: `OpenFault::Store` where it
 /// has those of another. `Memory` for want of memory; else `Store` only for a cause that the database gave: the connection was shut, the disk
-/// failed, a limit on steps was met, a statement that raises or makes tables was refused, or there are tables of another product. A fault hands
-/// the connection back as it was committed, with no transaction under way, and is never `OpenFault::NotOurs`.
+/// failed, a limit on steps was met, the database stopped at a statement that raises tables or refused one that makes them, or there are tables of
+/// another product. A fault hands the connection back as it was committed, with no transaction under way, and is never `OpenFault::NotOurs`.
 pub fn adopt_or_create<D: Alter>(
     conn: Connection<D>,
 ) -> Result<Store<D>, (Connection<D>, OpenFault)>

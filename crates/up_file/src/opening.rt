@@ -62,7 +62,8 @@ fn open_named<
 >(path: &str, start: S, maker: &mut M, opener: &mut O) -> Result<C, OpenFault>
     requires maker { M.IsAlwaysCallable maker.old }
     requires opener { O.IsAlwaysCallable opener.old }
-    ensures named { OpensNamed path.now (λ made. M.step maker.old made maker.new) (maker.new ≡ maker.old) (λ opened. O.step opener.old start opened opener.new) (opener.new ≡ opener.old) result }
+    ensures named { OpensNamed path.now (λ made. M.step maker.old made maker.new) (maker.new ≡ maker.old)
+        (λ opened. O.step opener.old start opened opener.new) (opener.new ≡ opener.old) result }
     ensures fault { IfErr result (λ e. e ≢ NotOurs) }
 {
     if names_no_file(path) {

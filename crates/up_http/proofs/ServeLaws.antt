@@ -16,7 +16,7 @@ use Rattle.up_http.specs.declared.fault.Fault.{Fault}
 use Rattle.up_http.specs.declared.fault.ServeFault.{ServeFault}
 use Rattle.up_http.specs.declared.fault.Fault.TheVariants.{Memory, Read, Write}
 use Rattle.up_http.specs.declared.progress.Progress.{Progress}
-use Rattle.up_http.proofs.StreamLaws.{waits_none, waits_short, first_below, firsts_push, firsts_more}
+use Rattle.up_http.proofs.StreamLaws.{waits_none, waits_short, first_below, firsts_push, firsts_more, some_left}
 
 pub written-push : (xs : List (List ℕ)) (text : List ℕ) → written plain (xs ++ text ∷ []) ≡ written plain xs ++ text
 written-push [] text = append-nil text
@@ -140,11 +140,12 @@ module _ {S : Type 0} (gives : Gives S) where
     wrote = Appends-trans _ _ _ _ _ so.wrote wrote;
   }
 
-  -- nothing more is told of a request that isn't answered whole
-  tells_unanswered : (cause : Fault) (next : Next) (before after : At S) (bytes : List ℕ) (ended : Bool) (done : List Next) → Unanswered gives cause next before after → Tells cause bytes ended done
-  tells_unanswered Memory next before after bytes ended done broke = tt
-  tells_unanswered Write next before after bytes ended done broke = tt
-  tells_unanswered Read next before after bytes ended done broke = absurd broke
+  -- a request that isn't answered whole has bytes behind those that were answered
+  tells_unanswered : (cause : Fault) (next : Next) (before after : At S) (bytes : List ℕ) (ended : Bool) (done : List Next) (rest : List ℕ) → Firsts 0 bytes done false rest → 0 < length rest
+      → Unanswered gives cause next before after → Tells cause bytes ended done
+  tells_unanswered Memory next before after bytes ended done rest firsts some broke = some_left bytes done rest firsts some
+  tells_unanswered Write next before after bytes ended done rest firsts some broke = tt
+  tells_unanswered Read next before after bytes ended done rest firsts some broke = absurd broke
 
   broke_off : (cause : Fault) (next : Next) (before after : At S) → Unanswered gives cause next before after → BreaksOff gives plain (cause_of cause) (Some next) before after
   broke_off Memory next before after broke = broke
@@ -168,25 +169,24 @@ module _ {S : Type 0} (gives : Gives S) where
         first = λ more _. subst (λ n. First n ((bytes' ++ others) ++ more) next (others ++ more)) so.given_is
             (subst (λ l. First old.feeder.given l next (others ++ more)) (sym (append_assoc bytes' others more)) (firsts (others ++ more)));
       } in
-      stopped came old (came ++ (bytes ++ others)) false (Some next) (fault_at cause new) first before after so (
-        bytes' ++ others,
-        subst (λ e. Firsts 0 (came ++ (bytes ++ others)) so.done e (bytes' ++ others)) goes_on
-            (subst (λ l. Firsts 0 (came ++ (bytes ++ others)) so.done old.feeder.ended l) behind (so.firsts (bytes ++ others))),
-        begun,
-      )
-      (tells_unanswered cause next before after (came ++ (bytes ++ others)) false so.done broke) called answered (broke_off cause next before after broke)
+      let before_it : Firsts 0 (came ++ (bytes ++ others)) so.done false (bytes' ++ others) =
+      subst (λ e. Firsts 0 (came ++ (bytes ++ others)) so.done e (bytes' ++ others)) goes_on
+      (subst (λ l. Firsts 0 (came ++ (bytes ++ others)) so.done old.feeder.ended l) behind (so.firsts (bytes ++ others))) in
+      stopped came old (came ++ (bytes ++ others)) false (Some next) (fault_at cause new) first before after so (bytes' ++ others, before_it, begun)
+      (tells_unanswered cause next before after (came ++ (bytes ++ others)) false so.done (bytes' ++ others) before_it begun.some broke) called answered (broke_off cause next before after broke)
 
   -- nothing is handed on
   breaks_none : (fault : Fault) (now : At S) → (cause_of fault ≡ why.Write → ⊥) → BreaksOff gives plain (cause_of fault) None now now
   breaks_none fault now other = ([], (other, refl, refl), Appends-nil now.held)
 
   -- memory was refused before a request was whole
-  pub stops_memory : (old new : Progress) (piece : List ℕ) (now : At S) → old.feeder.ended ≡ false
+  pub stops_memory : (old new : Progress) (piece : List ℕ) (now : At S) → old.feeder.ended ≡ false → 0 < length piece
       → new.called ≡ old.called → new.answered ≡ old.answered → Stops gives Memory false piece old now new now
-  stops_memory old new piece now goes_on called answered = λ first came so.
-      stopped came old (came ++ piece) false None (fault_at Memory new) first now now so
-      (old.feeder.rest ++ piece, subst (λ e. Firsts 0 (came ++ piece) so.done e (old.feeder.rest ++ piece)) goes_on (so.firsts piece))
-      tt (omega (arith, called)) answered (breaks_none Memory now (λ e. absurd (cc)))
+  stops_memory old new piece now goes_on some called answered = λ first came so.
+      let firsts : Firsts 0 (came ++ piece) so.done false (old.feeder.rest ++ piece) =
+      subst (λ e. Firsts 0 (came ++ piece) so.done e (old.feeder.rest ++ piece)) goes_on (so.firsts piece) in
+      stopped came old (came ++ piece) false None (fault_at Memory new) first now now so (old.feeder.rest ++ piece, firsts)
+      (some_left (came ++ piece) so.done (old.feeder.rest ++ piece) firsts (omega (arith, some, length-append old.feeder.rest piece))) (omega (arith, called)) answered (breaks_none Memory now (λ e. absurd (cc)))
 
   -- the requests before the input's end
   at_end : (first : At S) (came : List ℕ) (at : Progress) (now : At S) (so : Sofar gives first came at now) → at.feeder.ended ≡ false
@@ -240,9 +240,10 @@ module _ {S : Type 0} (gives : Gives S) where
         first = λ more end. subst (λ l. First (length so.done) (old.feeder.rest ++ l) next l) (sym (end refl))
             (subst (λ l. First (length so.done) l next []) (sym (append-nil old.feeder.rest)) (subst (λ n. First n old.feeder.rest next []) so.given_is asks));
       } in
-      stopped came old (came ++ []) true (Some next) (fault_at cause new) first before after so
-      (old.feeder.rest, subst (λ l. Firsts 0 l so.done false old.feeder.rest) (sym (append-nil came)) (at_end first came old before so goes_on), begun)
-      (tells_unanswered cause next before after (came ++ []) true so.done broke) called answered (broke_off cause next before after broke)
+      let before_it : Firsts 0 (came ++ []) so.done false old.feeder.rest =
+      subst (λ l. Firsts 0 l so.done false old.feeder.rest) (sym (append-nil came)) (at_end first came old before so goes_on) in
+      stopped came old (came ++ []) true (Some next) (fault_at cause new) first before after so (old.feeder.rest, before_it, begun)
+      (tells_unanswered cause next before after (came ++ []) true so.done old.feeder.rest before_it some broke) called answered (broke_off cause next before after broke)
 
   -- ---- a run over a reader
 

@@ -141,6 +141,23 @@ firsts_once before bytes (x ∷ xs) (y ∷ ys) d e rest left (_, mid, first, p) 
     by_last false true is h same step p q = absurd (cc)
     by_last false false is _ same step p q = λ i. same i ∷ step is p q i
 
+-- what is left behind requests is one, where the stream goes on
+rest_once : (before : ℕ) (bytes : List ℕ) (done : List Next) (rest left : List ℕ) → Firsts before bytes done false rest → Firsts before bytes done false left → rest ≡ left
+rest_once before bytes [] rest left p q = p.1 ∙ sym q.1
+rest_once before bytes (next ∷ done) rest left (_, mid, first, p) (_, mid', first', q) =
+    let (_, behind) = first_once before bytes next next mid mid' first first' in
+    by_last next.last refl (λ goes_on h k. rest_once (before + 1) mid done rest left h (subst (λ m. Firsts (before + 1) m done false left) (sym (behind goes_on)) k)) p q
+  where
+    by_last : (last : Bool) → next.last ≡ last → (next.last ≡ false → Firsts (before + 1) mid done false rest → Firsts (before + 1) mid' done false left → rest ≡ left)
+        → MatchBool last ((done ≡ []) × (false ≡ true)) (Firsts (before + 1) mid done false rest)
+        → MatchBool last ((done ≡ []) × (false ≡ true)) (Firsts (before + 1) mid' done false left) → rest ≡ left
+    by_last true is step (_, h) k = absurd (cc)
+    by_last false is step h k = step is h k
+
+-- so where bytes are left behind them, none is no rest
+pub some_left : (bytes : List ℕ) (done : List Next) (rest : List ℕ) → Firsts 0 bytes done false rest → 0 < length rest → Firsts 0 bytes done false [] → ⊥
+some_left bytes done rest firsts some none = let same : length rest ≡ 0 = ap length (rest_once 0 bytes done rest [] firsts none) in omega arith
+
 -- bytes have their requests once
 pub requests_once : (bytes : List ℕ) (xs ys : List Next) → Requests bytes xs → Requests bytes ys → xs ≡ ys
 requests_once bytes xs ys p q = firsts_once 0 bytes xs ys p.ended q.ended p.rest q.rest p.firsts q.firsts p.all q.all

@@ -64,10 +64,11 @@ abbrev pub WantsMore : ℕ → List ℕ → Type 0
 WantsMore answered before = (done : List Next) × GoesOn before done × (length done ≤ answered)
 
 -- what a cause says of the bytes that came, of whether the input ended behind them, and of the requests that were answered: a read fails
--- before the input's end, and behind all requests that were whole
+-- before the input's end, and behind all requests that were whole; and want of memory isn't told where no byte that came is left behind
+-- the requests that were answered
 abbrev pub Tells : Fault → List ℕ → Bool → List Next → Type 0
 Tells Read came ended done = (ended ≡ false) × GoesOn came done
-Tells Memory came ended done = ⊤
+Tells Memory came ended done = Firsts 0 came done false [] → ⊥
 Tells Write came ended done = ⊤
 
 -- what a run that ended early leaves of the bytes that came; it counts the commands that were handed on

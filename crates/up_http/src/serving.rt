@@ -1,5 +1,5 @@
 //! A stream that is read, and the answers to its requests.
-ghost use Rattle.std.specs.Prelude.{◌≡◌, ◌⊎◌, ◌≤◌, ◌<◌, ◌+◌, [], ◌∷◌, ℕ, List, if◌then◌else◌, is_ok, IfOk, IfErr, IfSome, IsTrue, OnOk, false, true, take};
+ghost use Rattle.std.specs.Prelude.{◌≡◌, ◌⊎◌, ◌≤◌, ◌<◌, ◌+◌, [], ◌∷◌, ℕ, List, if◌then◌else◌, is_ok, IfOk, IfErr, IfSome, IsTrue, OnOk, false, true, length, take};
 ghost use Rattle.std.specs.Io.KnownBytes.{Appends};
 ghost use Rattle.up_http.specs.Requests.{asks_running, most_requests};
 ghost use Rattle.up_lines.specs.Runs.{Blames, BlamesWriter};
@@ -101,6 +101,7 @@ fn serve_piece<S, A: Respond<S>, W: Sink>(
     piece: &[u8],
 ) -> Result<usize, Fault>
     requires goes_on { progress.old.over ≡ false }
+    requires some { 0 < length piece.now }
     requires can_write { W.can_write writer.old }
     ensures taken { IfOk result (λ n. Moves n piece.now progress.old progress.new) }
     ensures ok { IfOk result (λ n. Takes (A.gives responder.now) (take n piece.now) progress.old (record { state = state.old; held = W.contents writer.old })
@@ -221,7 +222,7 @@ fn serve_reads<S, A: Respond<S>, R: Source, W: Sink>(
 /// read, nor is the writer written after a write that failed or took none. A fault tells how many requests were handed on as
 /// commands, whose effects stand, and how many answers were written whole. `Read` comes after all requests that were whole
 /// before it, and only where the reader failed; `Write` only where the writer failed, or took no byte; and `Memory` only where
-/// neither did.
+/// neither did, and a byte was read behind the requests that were answered.
 pub fn serve<S, A: Respond<S>, R: Source, W: Sink>(
     alloc: Global,
     responder: &A,

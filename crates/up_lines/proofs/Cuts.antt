@@ -33,6 +33,10 @@ lines-last b (c ∷ cs) h =
     let both = both_hold (is_inside b) (list_all is_inside (c ∷ cs)) h in
     lines-inside true b (c ∷ cs) both.0 ∙ ap (begin_with true b) (lines-last c cs both.1)
 
+pub lines-last_one : (line : List ℕ) → list_all is_inside line ≡ true → 0 < length line → lines_of true line ≡ line ∷ []
+lines-last_one [] own some = absurd (omega arith)
+lines-last_one (b ∷ bs) own some = lines-last b bs own
+
 -- a line that isn't ended is none
 pub lines-begun : (line : List ℕ) → list_all is_inside line ≡ true → lines_of false line ≡ []
 lines-begun [] h = refl

@@ -1,30 +1,25 @@
 -- How a run ends.
-use Rattle.std.proofs.Common.{◌≡◌, Result, Ok, Err, OnOk, IfErr, IsErrAnd, ℕ, ◌-◌, ◌<◌, ◌≤◌, Bool, true, false, List, [], ◌∷◌, ◌++◌, length, take, drop, filter, refl, ap, sym, ◌∙◌, subst, arith, append-nil}
+use Rattle.std.proofs.Common.{◌≡◌, Result, Ok, Err, OnOk, IfErr, IsErrAnd, ℕ, ◌-◌, ◌<◌, ◌≤◌, Bool, true, false, List, [], ◌∷◌, ◌++◌, length, filter, refl, ap, sym, ◌∙◌, subst, arith, append-nil}
 use Rattle.std.specs.Prelude.{Option, None}
 use Rattle.std.specs.List.{list_all}
 use Rattle.std.specs.Io.KnownBytes.{Consumes, IsAtEnd}
 use Rattle.std.proofs.KnownBytes.{Appends-nil}
 use Rattle.std.proofs.lemmas.Result.{err_from_is_err_and}
-use Rattle.std.proofs.Math.Seq.{take-append_seam}
 use Rattle.up_lines.specs.declared.progress.Progress.{Progress}
 use Rattle.up_lines.specs.declared.fault.ScriptCause.{ScriptCause}
-use Rattle.up_lines.specs.declared.fault.ScriptCause.TheVariants.{Memory, Read}
+use Rattle.up_lines.specs.declared.fault.ScriptCause.TheVariants.{Read}
 use Rattle.up_lines.specs.Lines.{newline, most_lines, most_bytes, piece_bytes, lines_of, is_short, fits, has_bytes, asked}
 use Rattle.up_lines.specs.Runs.{At, LastRead}
 use Rattle.up_lines.specs.LineRuns.{Gives, FinishedLines, Stopped, WantsMore, RanLines}
 use Rattle.up_lines.specs.Progress.{Sofar, Closes, Fails, Stops, Completes, IsFresh, told, is_inside}
-use Rattle.up_lines.proofs.Cuts.{lines-line, lines-last, lines-begun}
+use Rattle.up_lines.proofs.Cuts.{lines-line, lines-last_one, lines-begun}
 use Rattle.up_lines.proofs.RunLaws.{not_full, fits_begun, asked-append, asked_among-none, as_many}
 use Rattle.up_lines.proofs.Steps.{takes_end}
-use Rattle.up_lines.proofs.Stopping.{stopped, breaks_none, untold_within, stops_memory, stops_at, ended_next}
+use Rattle.up_lines.proofs.Stopping.{stopped, breaks_none, stops_at, ended_next}
 
 pub none_of : (line : List ℕ) → length line ≡ 0 → line ≡ []
 none_of [] h = refl
 none_of (b ∷ bs) h = absurd (omega arith)
-
--- the first bytes of the buffer, as a slice of the vector
-pub same_prefix : (n len : ℕ) (all new old : List ℕ) → all ≡ take len (new ++ drop (length new) old) → length new ≡ len → n ≤ length new → take n all ≡ take n new
-same_prefix n len all new old e same below = ap (take n) (e ∙ ap (λ k. take k (new ++ drop (length new) old)) (sym same) ∙ take-append_seam new (drop (length new) old))
 
 -- past the last line no line is begun
 pub below_of : (at : Progress) → 0 < length at.line.items → at.counted < most_lines
@@ -35,10 +30,6 @@ asked-all : (lines : List (List ℕ)) → list_all is_short lines ≡ true → l
 asked-all lines each few =
     ap asked (sym (append-nil lines)) ∙ asked-append lines [] each few
     ∙ ap (λ l. filter has_bytes lines ++ l) (asked_among-none (most_lines - length lines)) ∙ append-nil (filter has_bytes lines)
-
-lines-last_one : (line : List ℕ) → list_all is_inside line ≡ true → 0 < length line → lines_of true line ≡ line ∷ []
-lines-last_one [] own some = absurd (omega arith)
-lines-last_one (b ∷ bs) own some = lines-last b bs own
 
 module _ {S : Type 0} (gives : Gives S) (first : At S) where
   -- the lines of what came
@@ -136,11 +127,6 @@ module _ {S : Type 0} (gives : Gives S) where
     answered_is = new.none_answered;
     wrote = Appends-nil first.held;
   }
-
-  -- no memory for any byte
-  pub stops_bare : (at : Progress) (now : At S) → Stops gives Memory false [] at now at now
-  stops_bare at now = stops_memory gives at at [] now refl (λ first came so.
-      untold_within (came ++ []) false _ (ap (λ l. fits (lines_of true l)) (append-nil came) ∙ within_limits gives first came at now so))
 
   pub finishes_none : (at : Progress) (now : At S) → at.line.items ≡ [] → Completes gives at now at now
   finishes_none at now none = λ first came so. completes_none gives first came at now none so

@@ -12,27 +12,28 @@ use Rattle.up_lines.specs.declared.fault.ScriptCause.TheVariants.{Memory, Read, 
 use Rattle.up_lines.specs.Runs.{At, BreaksOff}
 use Rattle.up_lines.specs.LineRuns.{Gives, print, AreFirst, Stopped, Tells}
 use Rattle.up_lines.specs.Progress.{Sofar, Fails, Refuses, Takes, Stops, Unanswered, is_inside}
-use Rattle.up_lines.proofs.Cuts.{lines-line, lines-begins, lines-prefix, lines-some}
-use Rattle.up_lines.proofs.RunLaws.{has_bytes-long, fits_begun, is_short-le, is_short-gt, filter-first, asked_among, asked-append, asked_none, fits-many, fits-long}
+use Rattle.up_lines.proofs.Cuts.{lines-line, lines-last_one, lines-begins, lines-prefix, lines-some}
+use Rattle.up_lines.proofs.Later.{whole_first}
+use Rattle.up_lines.proofs.RunLaws.{has_bytes-long, is_short-le, is_short-gt, filter-first, asked_among, asked-append, asked_none, fits-many, fits-long}
 
 -- these bytes pass a limit, behind these whole lines
 record Past (came bytes : List ℕ) (whole : List (List ℕ)) : Type 0 where
   past : (more : List ℕ) → fits (lines_of true (came ++ (bytes ++ more))) ≡ false
   settled : (ended : Bool) (more : List ℕ) → asked (lines_of ended (came ++ (bytes ++ more))) ≡ filter has_bytes whole
 
--- where one line more is to be answered, no limit is told
-pub untold_next : (came : List ℕ) (ended : Bool) (done rest : List (List ℕ)) (line : List ℕ) → asked (lines_of ended came) ≡ done ++ line ∷ rest → Tells Memory came ended done
-untold_next came ended done rest line split = λ limit.
-    let same : length done ≡ length (done ++ line ∷ rest) = ap length (limit.1 ∙ split) in
+-- where one line more is to be answered at the input's end
+untold_last : (came : List ℕ) (ended : Bool) (done rest : List (List ℕ)) (line : List ℕ) → asked (lines_of true came) ≡ done ++ line ∷ rest → Tells Memory came ended done
+untold_last came ended done rest line split = λ all.
+    let same : length done ≡ length (done ++ line ∷ rest) = ap length (all ∙ split) in
     omega (arith, same, length-append done (line ∷ rest))
 
-never : true ≡ false → ⊥
-never e = absurd (cc)
-
--- nor where all that came is within the limits
-pub untold_within : (came : List ℕ) (ended : Bool) (done : List (List ℕ)) → fits (lines_of true came) ≡ true → Tells Memory came ended done
-untold_within came ended done within = λ limit.
-    never (sym within ∙ ap (λ l. fits (lines_of true l)) (sym (append-nil came)) ∙ (limit.0 []).0)
+-- or before it
+pub untold_next : (came : List ℕ) (ended : Bool) (done rest : List (List ℕ)) (line : List ℕ) → asked (lines_of ended came) ≡ done ++ line ∷ rest → Tells Memory came ended done
+untold_next came true done rest line split = untold_last came true done rest line split
+untold_next came false done rest line split =
+    let (others, is) = whole_first came [] in
+    untold_last came false done (rest ++ others) line
+    (ap (λ l. asked (lines_of true l)) (sym (append-nil came)) ∙ is ∙ ap (λ l. l ++ others) split ∙ append_assoc done (line ∷ rest) others)
 
 module _ {S : Type 0} (gives : Gives S) where
   -- the whole lines are answered, and this became of the next one
@@ -155,14 +156,17 @@ module _ {S : Type 0} (gives : Gives S) where
       (has_bytes-long (line ++ part) (omega (arith, length-append line part)))
       )
 
-  -- or nothing does
+  -- or the line that is begun ends with what came
   untold_rest : (old : Progress) (part : List ℕ) (now : At S) → list_all is_inside part ≡ true → Refuses Memory part old
       → (first : At S) (came : List ℕ) (so : Sofar gives first came old now) → Tells Memory (came ++ (part ++ [])) false (filter has_bytes so.whole)
   untold_rest old part now own (some, room, short) first came so =
       let line = old.line.items in
-      untold_within (came ++ (part ++ [])) false (filter has_bytes so.whole) (
-      ap fits (so.cut true (part ++ []) ∙ ap (λ l. so.whole ++ lines_of true (line ++ l)) (append-nil part))
-      ∙ fits_begun so.whole (line ++ part) so.each_short (own_line first came old now so part own) short (omega (arith, so.counted_is)) (λ full. absurd (omega (arith, so.counted_is)))
+      let longer : 0 < length (line ++ part) = omega (arith, length-append line part) in
+      let own' = own_line first came old now so part own in
+      untold_last (came ++ (part ++ [])) false (filter has_bytes so.whole) (behind (so.whole ++ (line ++ part) ∷ []) []) (line ++ part) (
+      ap asked (so.cut true (part ++ []) ∙ ap (λ l. so.whole ++ lines_of true (line ++ l)) (append-nil part)
+      ∙ ap (λ l. so.whole ++ l) (lines-last_one (line ++ part) own' longer ∙ sym (lines-line false (line ++ part) [] own')))
+      ∙ split_end so.whole (line ++ part) [] so.each_short (omega (arith, so.counted_is)) short own' (has_bytes-long (line ++ part) longer)
       )
 
   -- the last part of a line isn't taken

@@ -1,5 +1,5 @@
 -- What a run over lines leaves.
-use Rattle.std.specs.Prelude.{◌≡◌, ℕ, ◌≤◌, Bool, true, false, ⊤, Option, Some, None, List, [], ◌∷◌, ◌++◌, length, Result}
+use Rattle.std.specs.Prelude.{◌≡◌, ◌≢◌, ℕ, ◌≤◌, Bool, true, false, ⊤, Option, Some, None, List, [], ◌∷◌, ◌++◌, length, Result}
 use Rattle.up_lines.specs.declared.fault.ScriptCause.{ScriptCause}
 use Rattle.up_lines.specs.declared.fault.ScriptCause.TheVariants.{Memory, Read, Write, TooLong}
 use Rattle.up_lines.specs.declared.fault.ScriptFault.{ScriptFault}
@@ -32,11 +32,12 @@ abbrev pub IsAtLimit : List ℕ → Bool → List (List ℕ) → Type 0
 IsAtLimit came ended done = IsPast came × (done ≡ asked (lines_of ended came))
 
 -- what a cause says of the bytes that came, of whether the input ended behind them, and of the lines that were answered: a failed read
--- and a passed limit come behind all that were whole, and want of memory isn't told for a limit
+-- and a passed limit come behind all that were whole, and want of memory isn't told where nothing that came is left to be answered, not
+-- even a line that is begun
 abbrev pub Tells : ScriptCause → List ℕ → Bool → List (List ℕ) → Type 0
 Tells TooLong came ended done = IsAtLimit came ended done
 Tells Read came ended done = (ended ≡ false) × (fits (lines_of true came) ≡ true) × (done ≡ asked (lines_of ended came))
-Tells Memory came ended done = IsAtLimit came ended done → ⊥
+Tells Memory came ended done = done ≢ asked (lines_of true came)
 Tells Write came ended done = ⊤
 
 -- what a run that ended early leaves of the bytes that came

@@ -88,7 +88,7 @@ fn read_lines<S, I: Interpret<S>, R: Source, W: Sink>(
         (W.has_failed writer.new) (W.can_write writer.new)) }
     ensures ended { OnOk result (R.has_ended reader.new) }
 {
-    let mut buffer = vec![in alloc; 0; PIECE_BYTES]?;
+    let mut buffer = [0; PIECE_BYTES];
     let mut most = MOST_BYTES;
     while most > 0 {
         match read_piece(reader, &mut buffer, most) {
@@ -112,7 +112,8 @@ fn read_lines<S, I: Interpret<S>, R: Source, W: Sink>(
 /// it early, but the piece of at most 8,192 bytes in which that lay. Nothing is tried twice: after
 /// a read that failed or gave no byte the reader isn't read, nor is the writer written after a write that failed or took none.
 /// A fault tells how many answers were written whole; lines that were answered before it stay answered. `Read` is told only
-/// where the reader failed, `Write` where the writer failed or took none, `Memory` where neither did, and never for a limit.
+/// where the reader failed, `Write` where the writer failed or took none, `Memory` where neither did, and only where a line that
+/// was read or begun is still to be answered: so neither for a limit nor behind the last answer.
 pub fn run<S, I: Interpret<S>, R: Source, W: Sink>(
     alloc: Global,
     interpreter: &I,

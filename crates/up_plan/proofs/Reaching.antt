@@ -1,6 +1,6 @@
 -- Items that are found by places offer what those of the running campaigns that reach a vehicle offer.
-use Rattle.std.proofs.Common.{◌≡◌, ℕ, ◌+◌, ◌<◌, ◌&&◌, ◌||◌, List, [], ◌∷◌, ◌++◌, Bool, true, false, cond, length, get_or, take, refl, ap, ap₂, sym, ◌∙◌, bytes_eq}
-use Rattle.std.specs.Prelude.{Option, Some, None, filter, flat_map, not, option_map, slice_get, unwrap_or}
+use Rattle.std.proofs.Common.{◌≡◌, ℕ, ◌+◌, ◌<◌, ◌&&◌, ◌||◌, List, [], ◌∷◌, ◌++◌, Bool, true, false, cond, length, get_or, take, refl, ap, ap₂, sym, ◌∙◌, bytes_eq, arith}
+use Rattle.std.specs.Prelude.{Option, Some, None, filter, flat_map, not, option_map, slice_get, unwrap_or, if◌then◌else◌}
 use Rattle.std.specs.List.{list_any}
 use Rattle.std.proofs.lemmas.List.Folds.{list_any-append, list_any_more}
 use Rattle.std.proofs.lemmas.Option.{slice_get_read, unwrap_or-slice_get}
@@ -12,6 +12,7 @@ use Rattle.up_plan.specs.declared.running.NameAt.{NameAt}
 use Rattle.up_plan.specs.Campaigns.{CampaignData}
 use Rattle.up_plan.specs.Offers.{OffersSame}
 use Rattle.up_plan.specs.Planning.{items_for, reaches}
+use Rattle.up_plan.specs.Named.{names_in, vehicles_named}
 use Rattle.up_plan.specs.Running.{AreFound, AreForAll, AreNamed, is_all, items_at, name_at, name_in, passes_at, passes_named, reaches_all, reaches_by_name}
 
 -- ---- whether something passes
@@ -135,20 +136,24 @@ joined false false c false = by_last c
     by_last true = refl
     by_last false = refl
 
-module _ (campaigns : List CampaignData) (c : CampaignData) (place : ℕ) (there : slice_get campaigns place ≡ Some c) (vehicles : List Name) (names_are : c.reach ≡ Named vehicles) (i : ℕ)
-    (within : i < length vehicles) where
-  pub name_is : name_at campaigns (record { campaign = place; name = i }) ≡ unwrap_or (slice_get vehicles i) []
-  name_is = ap (λ o. unwrap_or (option_map (λ d. name_in d.reach i) o) []) there ∙ ap (λ r. name_in r i) names_are
+module _ (campaigns : List CampaignData) (c : CampaignData) (place : ℕ) (there : slice_get campaigns place ≡ Some c) (i : ℕ) (within : i < length (vehicles_named c)) where
+  pub name_is : name_at campaigns (record { campaign = place; name = i }) ≡ unwrap_or (slice_get (vehicles_named c) i) []
+  name_is = ap (λ o. unwrap_or (option_map (λ d. name_in d.reach i) o) []) there ∙ by_reach c.running c.reach within
+    where
+      by_reach : (running : Bool) (reach : Reach) → i < length (if running then names_in reach else []) → name_in reach i ≡ unwrap_or (slice_get (if running then names_in reach else []) i) []
+      by_reach false reach none = absurd (omega (arith, none))
+      by_reach true All none = refl
+      by_reach true (Named vehicles) some = refl
 
   pub name_more : (names old : List NameAt) (vehicle : Name) (test : CampaignData → Bool)
-      → list_any (passes_named campaigns vehicle test) names ≡ (list_any (passes_named campaigns vehicle test) old || (list_any (bytes_eq vehicle) (take i vehicles) && test c))
+      → list_any (passes_named campaigns vehicle test) names ≡ (list_any (passes_named campaigns vehicle test) old || (list_any (bytes_eq vehicle) (take i (vehicles_named c)) && test c))
       → list_any (passes_named campaigns vehicle test) (names ++ record { campaign = place; name = i } ∷ [])
-      ≡ (list_any (passes_named campaigns vehicle test) old || (list_any (bytes_eq vehicle) (take (i + 1) vehicles) && test c))
+      ≡ (list_any (passes_named campaigns vehicle test) old || (list_any (bytes_eq vehicle) (take (i + 1) (vehicles_named c)) && test c))
   name_more names old vehicle test known =
       let at : NameAt = record { campaign = place; name = i } in
-      let here : passes_named campaigns vehicle test at ≡ (bytes_eq vehicle (get_or vehicles i []) && test c) =
-      ap₂ (λ n b. bytes_eq vehicle n && b) (name_is ∙ unwrap_or-slice_get vehicles i []) (ap (λ o. unwrap_or (option_map test o) false) there) in
+      let here : passes_named campaigns vehicle test at ≡ (bytes_eq vehicle (get_or (vehicles_named c) i []) && test c) =
+      ap₂ (λ n b. bytes_eq vehicle n && b) (name_is ∙ unwrap_or-slice_get (vehicles_named c) i []) (ap (λ o. unwrap_or (option_map test o) false) there) in
       list_any-append (passes_named campaigns vehicle test) names (at ∷ [])
       ∙ ap₂ (λ a b. a || (b || false)) known here
-      ∙ joined (list_any (passes_named campaigns vehicle test) old) (list_any (bytes_eq vehicle) (take i vehicles)) (bytes_eq vehicle (get_or vehicles i [])) (test c)
-      ∙ ap (λ b. list_any (passes_named campaigns vehicle test) old || (b && test c)) (sym (list_any_more (bytes_eq vehicle) vehicles i [] within))
+      ∙ joined (list_any (passes_named campaigns vehicle test) old) (list_any (bytes_eq vehicle) (take i (vehicles_named c))) (bytes_eq vehicle (get_or (vehicles_named c) i [])) (test c)
+      ∙ ap (λ b. list_any (passes_named campaigns vehicle test) old || (b && test c)) (sym (list_any_more (bytes_eq vehicle) (vehicles_named c) i [] within))

@@ -6,3 +6,4 @@ pub mod ByOffers
 pub mod ByFile
 pub mod Laws
 pub mod Running
+pub mod Named

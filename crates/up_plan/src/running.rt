@@ -1,12 +1,12 @@
 //! Running campaigns, looked up by vehicle.
-ghost use Rattle.std.specs.Prelude.{◌≡◌, ◌++◌, ◌&&◌, ◌||◌, Bool, List, bytes_eq, filter, flat_map, map, slice_get, Some, IfOk};
+ghost use Rattle.std.specs.Prelude.{◌≡◌, ◌+◌, ◌^◌, ◌<◌, ◌≤◌, ◌++◌, ◌&&◌, ◌||◌, Bool, List, bytes_eq, filter, flat_map, length, map, slice_get, vec_capacity, vec_len, Some, SomeIff, IfOk};
 ghost use Rattle.std.specs.FinMap as table;
-ghost use Rattle.std.specs.List.{list_any};
+ghost use Rattle.std.specs.List.{list_any, sum_by};
 ghost use Rattle.std.specs.Ordering.{is_lt, nat_cmp};
 ghost use Rattle.std.specs.Cmp.Lexicographic.{slice_cmp};
 ghost use Rattle.up_canon.specs.Names.{Name};
-ghost use Rattle.up_plan.specs.declared.campaign.Reach.TheVariants.{Named};
 ghost use Rattle.up_plan.specs.Campaigns.{CampaignData};
+ghost use Rattle.up_plan.specs.Named.{vehicles_named};
 ghost use Rattle.up_plan.specs.Offers.{OffersSame};
 ghost use Rattle.up_plan.specs.Planning.{items_for as items_of};
 ghost use Rattle.up_plan.specs.Running.{AreForAll, AreInOrder, AreNamed, items_at, name_at as name_at_place, name_in as name_in_reach, passes_named, reaches_all as reaches_all_of, reaches_by_name};
@@ -95,10 +95,14 @@ impl Running {
 fn places_for_all(alloc: Global, campaigns: &[Campaign]) -> Result<Vec<usize>, AllocError>
     ensures { IfOk result (λ places. AreForAll campaigns.now places.items) }
 {
-    let mut places = Vec::new(alloc);
+    let count = campaigns
+        .iter()
+        .filter(|campaign| reaches_all(campaign))
+        .count();
+    let mut places = Vec::with_capacity(alloc, count)?;
     for (place, campaign) in campaigns.iter().enumerate() {
         if reaches_all(campaign) {
-            places.push(place)?;
+            places.push(place).unwrap();
         }
     }
     Ok(places)
@@ -123,42 +127,56 @@ fn names_in_order(alloc: Global, campaigns: &[Campaign]) -> Result<Vec<NameAt>, 
             ensures { result ≡ slice_cmp nat_cmp (name_at_place campaigns.entry.now a.now) (name_at_place campaigns.entry.now b.now) }
         { name_at(campaigns, a).cmp(name_at(campaigns, b)) },
     );
-    names.shrink_to_fit();
     Ok(names)
 }
 
 fn names_of(alloc: Global, campaigns: &[Campaign]) -> Result<Vec<NameAt>, AllocError>
     ensures { IfOk result (λ names. AreNamed campaigns.now names.items) }
 {
-    let mut names = Vec::new(alloc);
+    let count = count_names(campaigns).ok_or(AllocError)?;
+    let mut names = Vec::with_capacity(alloc, count)?;
     for (place, campaign) in campaigns.iter().enumerate() {
-        push_names(&mut names, place, campaign)?;
+        push_names(&mut names, place, campaign);
     }
     Ok(names)
 }
 
-/// Adds the names of the campaign at the place, where it runs.
-fn push_names(names: &mut Vec<NameAt>, place: usize, campaign: &Campaign) -> Result<(), AllocError>
-    ensures { IfOk result (λ _. (campaigns : List CampaignData) (vehicle : Name) (test : CampaignData → Bool) → slice_get campaigns place ≡ Some campaign.now
-        → list_any (passes_named campaigns vehicle test) names.new.items ≡ (list_any (passes_named campaigns vehicle test) names.old.items || (reaches_by_name vehicle campaign.now && test campaign.now))) }
+/// How many names that are, where a `usize` holds the number.
+fn count_names(campaigns: &[Campaign]) -> Option<usize>
+    ensures { let count = sum_by (λ c. length (vehicles_named c)) campaigns.now in SomeIff result (count < 2 ^ 64) count }
 {
-    if !campaign.running {
-        return Ok(());
+    let mut count: usize = 0;
+    for campaign in campaigns {
+        count = count.checked_add(vehicles_of(campaign).len())?;
     }
-    match &campaign.reach {
-        Reach::Named(vehicles) => push_each(names, place, vehicles.as_slice()),
-        Reach::All => Ok(()),
+    Some(count)
+}
+
+/// Adds the names of the campaign at the place, for which there is room.
+fn push_names(names: &mut Vec<NameAt>, place: usize, campaign: &Campaign)
+    requires room { vec_len names.old + length (vehicles_named campaign.now) ≤ vec_capacity names.old }
+    ensures found { (campaigns : List CampaignData) (vehicle : Name) (test : CampaignData → Bool) → slice_get campaigns place ≡ Some campaign.now
+        → list_any (passes_named campaigns vehicle test) names.new.items ≡ (list_any (passes_named campaigns vehicle test) names.old.items || (reaches_by_name vehicle campaign.now && test campaign.now)) }
+    ensures len { vec_len names.new ≡ vec_len names.old + length (vehicles_named campaign.now) }
+    ensures capacity { vec_capacity names.old ≤ vec_capacity names.new }
+{
+    for name in 0..vehicles_of(campaign).len() {
+        let at = NameAt {
+            campaign: place,
+            name,
+        };
+        names.push(at).unwrap();
     }
 }
 
-fn push_each(names: &mut Vec<NameAt>, campaign: usize, vehicles: &[Ident]) -> Result<(), AllocError>
-    ensures { IfOk result (λ _. (campaigns : List CampaignData) (c : CampaignData) (vehicle : Name) (test : CampaignData → Bool) → slice_get campaigns campaign ≡ Some c → c.reach ≡ Named vehicles.now
-        → list_any (passes_named campaigns vehicle test) names.new.items ≡ (list_any (passes_named campaigns vehicle test) names.old.items || (list_any (bytes_eq vehicle) vehicles.now && test c))) }
+/// The vehicles that the campaign names, none where it doesn't run.
+fn vehicles_of(campaign: &Campaign) -> &[Ident]
+    ensures { result.now ≡ vehicles_named campaign.now }
 {
-    for name in 0..vehicles.len() {
-        names.push(NameAt { campaign, name })?;
+    match &campaign.reach {
+        Reach::Named(vehicles) if campaign.running => vehicles.as_slice(),
+        _ => &[],
     }
-    Ok(())
 }
 
 /// The name of a vehicle, empty where there is none.

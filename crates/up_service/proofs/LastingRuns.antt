@@ -31,7 +31,7 @@ use Rattle.up_lines.specs.Runs.{At, LastRead}
 use Rattle.up_lines.specs.declared.fault.ScriptFault.{ScriptFault}
 use Rattle.up_desk.specs.Serving.{is_fault}
 use Rattle.up_desk.specs.Standing.{DeskView, Standing, state}
-use Rattle.up_service.specs.Answers.{AnswersAs, HoldsNext}
+use Rattle.up_service.specs.Answers.{answered_as, AnswersAs, HoldsNext}
 use Rattle.up_service.specs.LineAnswers.{Lines, line_answer, answer_to, carried_out}
 use Rattle.up_service.specs.Responses.{Responses, IsResponseTo, answer_response}
 use Rattle.up_service.specs.Runs.{Service, Told, tells_fault}
@@ -40,8 +40,8 @@ use Rattle.up_service.specs.Scripts as script
 use Rattle.up_service.specs.Streams.{request_answer, request_service, RequestsLast, StreamLasts}
 use Rattle.up_service.specs.Streams as stream
 use Rattle.up_service.proofs.Answering.{survives_same}
-use Rattle.up_service.proofs.Failing.{AreApart, lines_apart, responses_apart}
-use Rattle.up_service.proofs.Lasting.{FaultsChangeNothing, Serves, runs_last, hands_on}
+use Rattle.up_service.proofs.Failing.{AreApart, not_committed, lines_apart, responses_apart}
+use Rattle.up_service.proofs.Lasting.{ChangesNothing, FaultsChangeNothing, Serves, runs_last, hands_on}
 
 -- ---- what tells a fault changes nothing
 
@@ -63,29 +63,31 @@ refused_serve law k s at c q is = by_repeat (repeat_of k s at c) is
     by_repeat (Some kept) h = refl
 
 told_serve : RefusalsChangeNothing → (tell : Refusal → List ℕ) (tell_answer : Answer → List ℕ) → AreApart tell tell_answer → (k : Rules) (s : State) (at : ℕ) (c : Command) (r : Refusal) → is_fault r ≡ true
-    → tell_answer (serve k s at c).answer ≡ tell r → (serve k s at c).next ≡ s
-told_serve law tell tell_answer apart k s at c r fault same = let refused = apart r (serve k s at c).answer fault (sym same) in refused_serve law k s at c refused.0 refused.1
+    → tell_answer (serve k s at c).answer ≡ tell r → ChangesNothing s (answered_as tell_answer k s at c)
+told_serve law tell tell_answer apart k s at c r fault same =
+    let refused = apart r (serve k s at c).answer fault (sym same) in
+    (refused_serve law k s at c refused.0 refused.1, λ commit. not_committed tell tell_answer apart r (serve k s at c).answer s (serve k s at c).next fault commit (sym same))
 
 lines_calm : RefusalsChangeNothing → (k : Rules) → FaultsChangeNothing (line_service k)
 unfolding line_answer
 lines_calm law k s line tells = let told = fault_told (line_service k) (record { item = line; text = (line_answer k s line).text }) tells in by_asked (asked_in k line) told.0 told.1 told.2
   where
-    by_what : (at : ℕ) (w : What) (r : Refusal) → is_fault r ≡ true → (carried_out k s at w).text ≡ refused_text r → (carried_out k s at w).next ≡ s
+    by_what : (at : ℕ) (w : What) (r : Refusal) → is_fault r ≡ true → (carried_out k s at w).text ≡ refused_text r → ChangesNothing s (carried_out k s at w)
     by_what at (Call c) r fault same = told_serve law refused_text answer_text lines_apart k s at c r fault same
-    by_what at (Show vehicle) r fault same = refl
+    by_what at (Show vehicle) r fault same = (refl, λ commit. commit)
 
-    by_asked : (a : Result Asked Refusal) (r : Refusal) → is_fault r ≡ true → (answer_to k s a).text ≡ refused_text r → (answer_to k s a).next ≡ s
+    by_asked : (a : Result Asked Refusal) (r : Refusal) → is_fault r ≡ true → (answer_to k s a).text ≡ refused_text r → ChangesNothing s (answer_to k s a)
     by_asked (Ok asked) r fault same = by_what asked.at asked.what r fault same
-    by_asked (Err q) r fault same = refl
+    by_asked (Err q) r fault same = (refl, λ commit. commit)
 
 requests_calm : RefusalsChangeNothing → (k : Rules) (at : ℕ) → FaultsChangeNothing (request_service k at)
 requests_calm law k at s next tells =
     let told = fault_told (request_service k at) (record { item = next; text = (request_answer k at s next.what next.last next.head).text }) tells in by_what next.what told.0 told.1 told.2
   where
-    by_what : (w : Requested) (r : Refusal) → is_fault r ≡ true → (request_answer k at s w next.last next.head).text ≡ refusal_response_of r next.last next.head → (request_answer k at s w next.last next.head).next ≡ s
+    by_what : (w : Requested) (r : Refusal) → is_fault r ≡ true → (request_answer k at s w next.last next.head).text ≡ refusal_response_of r next.last next.head → ChangesNothing s (request_answer k at s w next.last next.head)
     by_what (Request c) r fault same =
         told_serve law (λ q. refusal_response_of q next.last next.head) (λ a. answer_response a next.last next.head) (responses_apart next.last next.head) k s at c r fault same
-    by_what (Fixed check) r fault same = refl
+    by_what (Fixed check) r fault same = (refl, λ commit. commit)
 
 -- ---- each step
 
@@ -100,6 +102,7 @@ fixed_answers tell k fixed text now is = record {
   crash = λ s sound was. survives_same (HoldsNext k None s) now;
   durable = λ s sound was same commit. absurd commit;
   blame = λ clean s sound was other same. absurd (other is);
+  made = λ clean s sound was still. inl (is, refl);
 }
 
 requests_serve : {K D : Type 0} (rules : K → Rules) (g : Ghosts D) (at : ℕ) → Serves (λ q. request_service (rules q) at) g (Responses rules g at)

@@ -25,7 +25,7 @@ use Rattle.up_machine.specs.Vehicles.{has_ecu, ecu_names}
 use Rattle.up_rows.specs.StateRows.{rows_of_state}
 use Rattle.up_tables.specs.declared.values.StoreFault.{StoreFault}
 use Rattle.up_tables.specs.declared.values.StoreFault.TheVariants as fault
-use Rattle.up_desk.specs.Serving.{is_fault, refusal_told}
+use Rattle.up_desk.specs.Serving.{SeesSame, is_fault, refusal_told}
 use Rattle.up_desk.specs.Standing.{Standing, HasCleanDisk, IfClean, KeepsState, Survives, Fits, Reads, Tells}
 use Rattle.up_script.specs.PrintedLines.{ecu_text, vehicle_text}
 use Rattle.up_service.specs.LineAnswers.{ecus_text, row_text, rows_text, line_of, shown_in, shown_with}
@@ -37,11 +37,11 @@ abbrev pub GivesShown : Result (List ℕ) Refusal → Result (List ℕ) Refusal 
 GivesShown (Ok text) computed = computed ≡ Ok text
 GivesShown (Err r) computed = MatchBool (is_fault r) ⊤ (computed ≡ Err r)
 
--- a step of a view, over a disk that has returned what was written so far: this holds of each sound state that the tables show, and
--- they go on showing it; a crash leaves what it could leave before
+-- a step of a view, over a disk that has returned what was written so far: this holds of each sound state that the tables show, they go
+-- on showing it, and an open connection sees what it saw; a crash leaves what it could leave before
 pub record Sees (holds : State → Type 0) (old new : Standing) : Type 0 where
   pub clean : HasCleanDisk new → HasCleanDisk old
-  pub seen : HasCleanDisk new → (k : Rules) (s : State) → IsSound k s → IfClean (KeepsState k s) old → holds s × KeepsState k s new
+  pub seen : HasCleanDisk new → (k : Rules) (s : State) → IsSound k s → IfClean (KeepsState k s) old → holds s × KeepsState k s new × SeesSame old.connection new.connection
   pub crash : Survives old new (λ trees. ⊥)
 
 -- ---- steps
@@ -56,11 +56,15 @@ seen_on k s old new reads was now = record {
   memory = subst (Fits s) (sym reads.memory) (was (clean_at old new reads now)).memory;
 }
 
+-- an open connection sees what it saw
+seen_same : (k : Rules) (s : State) (old new : Standing) → Reads old new → IfClean (KeepsState k s) old → HasCleanDisk new → SeesSame old.connection new.connection
+seen_same k s old new reads was now = reads.tables.same (rows_of_state k s) (λ before. (was before).tables) now
+
 -- what the desk tells by reading
 pub seen_by : {A E : Type 0} (f : State → A) (result : Result A E) (old new : Standing) → Tells (λ k s. f s) old new result → Reads old new → Sees (λ s. IfOk result (λ found. found ≡ f s)) old new
 seen_by f result old new told reads = record {
   clean = clean_at old new reads;
-  seen = λ now k s sound was. (IfOk-weaker result _ _ (λ found is. is k s (λ before. (was before).tables)) (told now), seen_on k s old new reads was now);
+  seen = λ now k s sound was. (IfOk-weaker result _ _ (λ found is. is k s (λ before. (was before).tables)) (told now), seen_on k s old new reads was now, seen_same k s old new reads was now);
   crash = reads.tables.survives;
 }
 
@@ -68,7 +72,7 @@ seen_by f result old new told reads = record {
 pub seen_in_fault : (P : State → Type 0) (old new : Standing) → Reads old new → ((s : State) → P s) → Sees P old new
 seen_in_fault P old new reads holds = record {
   clean = clean_at old new reads;
-  seen = λ now k s sound was. (holds s, seen_on k s old new reads was now);
+  seen = λ now k s sound was. (holds s, seen_on k s old new reads was now, seen_same k s old new reads was now);
   crash = reads.tables.survives;
 }
 
@@ -76,14 +80,17 @@ seen_in_fault P old new reads holds = record {
 pub sees_then : (P Q R : State → Type 0) (old mid new : Standing) → Sees P old mid → Sees Q mid new → ((k : Rules) (s : State) → IsSound k s → P s → Q s → R s) → Sees R old new
 sees_then P Q R old mid new first next joined = record {
   clean = λ now. first.clean (next.clean now);
-  seen = λ now k s sound was. let a = first.seen (next.clean now) k s sound was in let b = next.seen now k s sound (λ _. a.1) in (joined k s sound a.0 b.0, b.1);
+  seen = λ now k s sound was.
+      let a = first.seen (next.clean now) k s sound was in
+      let b = next.seen now k s sound (λ _. a.1) in
+      (joined k s sound a.0 b.0, b.1, λ still. let here = b.2 still in let before = a.2 here.0 in (before.0, here.1 ∙ before.1));
   crash = survives_then old.connection mid.connection new.connection (λ _. ⊥) (λ _. ⊥) (λ _. ⊥) (λ _ db none. none) (λ _ db none. none) first.crash next.crash;
 }
 
 pub sees_weaker : (P Q : State → Type 0) (old new : Standing) → Sees P old new → ((s : State) → P s → Q s) → Sees Q old new
 sees_weaker P Q old new first weaker = record {
   clean = first.clean;
-  seen = λ now k s sound was. let a = first.seen now k s sound was in (weaker s a.0, a.1);
+  seen = λ now k s sound was. let a = first.seen now k s sound was in (weaker s a.0, a.1, a.2);
   crash = first.crash;
 }
 

@@ -1,11 +1,10 @@
 -- What a desk answered and showed, told as it was, is what is due.
-use Rattle.std.proofs.Common.{◌≡◌, inl, inr, ℕ, List, Bool, true, false, Option, Some, None, Result, Ok, Err, refl, sym, subst, ap, ◌∙◌}
+use Rattle.std.proofs.Common.{◌≡◌, inl, inr, ℕ, List, Bool, Option, Some, None, Result, Ok, Err, refl, sym, subst, ap, ◌∙◌}
 use Rattle.std.specs.Prelude.{⊤, IsTrue, MatchBool}
 use Rattle.sqlite_trees.specs.declared.store.Store.{Ghosts}
 use Rattle.up_canon.specs.Names.{Name}
-use Rattle.up_canon.specs.Refusals.{is_memory}
 use Rattle.up_canon.specs.declared.refusal.Refusal.{Refusal}
-use Rattle.up_canon.specs.declared.refusal.Refusal.TheVariants.{Memory, Store, UnknownVehicle}
+use Rattle.up_canon.specs.declared.refusal.Refusal.TheVariants.{Store, UnknownVehicle}
 use Rattle.up_sign.specs.Schemes.{Rules}
 use Rattle.up_plan.specs.declared.assigned.Plan.{Plan}
 use Rattle.up_machine.specs.ApartLaws.{InstalledIsOfTheVehicle}
@@ -18,7 +17,6 @@ use Rattle.up_tables.specs.declared.values.StoreFault.TheVariants as fault
 use Rattle.up_desk.specs.Serving.{is_fault, refusal_told, DiskFailed, Reads}
 use Rattle.up_desk.specs.Standing.{DeskView, Standing, Blames, HasCleanDisk, IfClean, KeepsState, state}
 use Rattle.up_desk.proofs.Steps.{failed_behind, reads_then}
-use Rattle.up_script.specs.AskedLines.{asked_in}
 use Rattle.up_script.specs.PrintedLines.{refused_text}
 use Rattle.up_script.specs.declared.asked.Asked.{Asked}
 use Rattle.up_script.specs.declared.asked.What.{What}
@@ -27,10 +25,10 @@ use Rattle.up_http.specs.declared.asked.Next.{Next}
 use Rattle.up_http.specs.declared.asked.What.{What as Requested}
 use Rattle.up_http.specs.declared.asked.What.TheVariants.{Call as Request, Fixed}
 use Rattle.up_service.specs.Desks.{Calls, Finds}
-use Rattle.up_service.specs.LineAnswers.{rows_text, shown_in, shown_text, viewed, carried_out, AnswersLine, IsViewText, IsTextOf, Prints, Lines}
+use Rattle.up_service.specs.LineAnswers.{IsReadAs, rows_text, shown_in, shown_text, viewed, carried_out, AnswersLine, IsViewText, IsTextOf, Prints, Lines}
 use Rattle.up_service.specs.Responses.{IsResponseTo, Responses}
-use Rattle.up_service.specs.Told.{Gives, Finds as Found, ShowsPlan, ShowsRows, ShowsFound, Shows, TellsWhat, TellsAsked, TellsLine, TellsRequest, TellsNext}
-use Rattle.up_service.proofs.Answering.{memory_by, printed, responded, refused_line, asked_line, no_view, told_view, told_refusal}
+use Rattle.up_service.specs.Told.{ShowsPlan, ShowsRows, ShowsFound, Shows, TellsWhat, TellsAsked, TellsLine, TellsRequest, TellsNext}
+use Rattle.up_service.proofs.Answering.{printed, responded, refused_line, asked_line, no_view, told_view, told_refusal}
 use Rattle.up_service.proofs.Showing.{GivesShown, Sees, seen_by, seen_in_fault, sees_then, sees_weaker, seen_on, told_fault, no_vehicle, rows_shown}
 
 -- ---- views
@@ -158,30 +156,13 @@ what_told rules g law old at (Show vehicle) text new it =
     subst (λ t. Prints rules g (λ k. IsTextOf k at (Show vehicle)) (λ k s. carried_out k s at (Show vehicle)) old t new) (sym it.2)
     (view.scheme, view.text, view_told (rules old.scheme) vehicle it.0 (state g old.store) (state g new.store) view.sees view.blame)
 
--- the fault of a line, or want of memory
-pub fault_told : {S : Type 0} (rules : S → Rules) (gives : Gives S) (vehicles : Found S (Option VehicleRows)) (plans : Found S (Option Plan)) (desk : S) (line : List ℕ) (r : Refusal) (text : List ℕ)
-    → MatchBool (is_memory r) ⊤ (asked_in (rules desk) line ≡ Err r) → text ≡ refused_text r → TellsLine rules gives vehicles plans desk line text desk
-fault_told {S} rules gives vehicles plans desk line r text due is = by_memory (is_memory r) refl due
-  where
-    by_memory : (b : Bool) → is_memory r ≡ b → MatchBool b ⊤ (asked_in (rules desk) line ≡ Err r) → TellsLine rules gives vehicles plans desk line text desk
-    by_memory true same due = inl (is ∙ ap refused_text (memory_by r same), refl)
-    by_memory false same due = inr (subst (λ a. TellsAsked gives vehicles plans desk a text desk) (sym due) (is, refl))
-
--- a refusal that is due
-due_refusal : (b : Bool) (due r : Result Asked Refusal) → due ≡ r → MatchBool b ⊤ (due ≡ r)
-due_refusal true due r is = tt
-due_refusal false due r is = is
-
 pub line_told : {K D : Type 0} (rules : K → Rules) (g : Ghosts D) → InstalledIsOfTheVehicle → (old new : DeskView K D) (line text : List ℕ)
-    → TellsLine (λ (d : DeskView K D). rules d.scheme) (Calls rules g) (Finds g vehicle_rows) (Finds g assigned_to) old line text new → Lines rules g old line text new
-line_told {K} {D} rules g law old new line text (inl lost) =
-    subst (λ (d : DeskView K D). Lines rules g old line text d) (sym lost.1) (refused_line rules g line Memory text old tt lost.0)
-line_told {K} {D} rules g law old new line text (inr it) = by_asked (asked_in (rules old.scheme) line) refl it
+    → TellsLine (λ (d : DeskView K D). IsReadAs (rules d.scheme)) (Calls rules g) (Finds g vehicle_rows) (Finds g assigned_to) old line text new → Lines rules g old line text new
+line_told {K} {D} rules g law old new line text it = by_read it.0 it.1 it.2
   where
-    by_asked : (a : Result Asked Refusal) → asked_in (rules old.scheme) line ≡ a → TellsAsked (Calls rules g) (Finds g vehicle_rows) (Finds g assigned_to) old a text new → Lines rules g old line text new
-    by_asked (Ok asked) is h = asked_line rules g line asked text old new is (what_told rules g law old asked.at asked.what text new h)
-    by_asked (Err r) is h =
-        subst (λ (d : DeskView K D). Lines rules g old line text d) (sym h.1) (refused_line rules g line r text old (due_refusal (is_memory r) (asked_in (rules old.scheme) line) (Err r) is) h.0)
+    by_read : (read : Result Asked Refusal) → IsReadAs (rules old.scheme) line read → TellsAsked (Calls rules g) (Finds g vehicle_rows) (Finds g assigned_to) old read text new → Lines rules g old line text new
+    by_read (Ok asked) is h = asked_line rules g line asked text old new is (what_told rules g law old asked.at asked.what text new h)
+    by_read (Err r) is h = subst (λ (d : DeskView K D). Lines rules g old line text d) (sym h.1) (refused_line rules g line r text old is h.0)
 
 -- ---- requests
 

@@ -8,7 +8,7 @@ use Rattle.up_machine.specs.declared.answer.Answer.TheVariants.{Refused}
 use Rattle.up_machine.specs.declared.command.Command.{Command}
 use Rattle.up_machine.specs.State.{State}
 use Rattle.up_tables.specs.declared.values.StoreFault.{StoreFault}
-use Rattle.up_desk.specs.Calls.{BlamesCall, ServesCall, SparesCall, CommitsCall}
+use Rattle.up_desk.specs.Calls.{BlamesCall, MakesCall, ServesCall, SparesCall, CommitsCall}
 use Rattle.up_desk.specs.Serving.{outright}
 use Rattle.up_desk.specs.Standing.{Blames, DeskView, Standing, HasCleanDisk, Reads, Tells, state}
 
@@ -19,6 +19,7 @@ pub record IsCalled (k : Rules) (at : ℕ) (c : Command) (a : Answer) (old new :
   pub crash : SparesCall k at c old new
   pub durable : CommitsCall k at c a old new
   pub blame : BlamesCall k at c a old new
+  pub made : MakesCall k at c a old new
 
 -- the desk's scheme stays, and a command that is refused outright is told so
 abbrev pub Calls : {K D : Type 0} → (K → Rules) → Ghosts D → DeskView K D → ℕ → Command → Answer → DeskView K D → Type 0

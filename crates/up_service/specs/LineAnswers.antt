@@ -1,10 +1,11 @@
 -- What each line of a script is answered, and the state that it leaves.
-use Rattle.std.specs.Prelude.{◌≡◌, ◌⊎◌, ℕ, List, ◌++◌, flat_map, Option, None, IfSome, Result, Ok, Err}
+use Rattle.std.specs.Prelude.{◌≡◌, ◌⊎◌, ℕ, List, ◌++◌, flat_map, Option, None, IfSome, Result, Ok, Err, IsUtf8}
 use Rattle.sqlite_trees.specs.declared.store.Store.{Ghosts}
 use Rattle.up_canon.specs.Names.{Name}
+use Rattle.up_canon.specs.Refusals.{Gives}
 use Rattle.up_canon.specs.Steps.{◌>>=◌, or_error}
 use Rattle.up_canon.specs.declared.refusal.Refusal.{Refusal}
-use Rattle.up_canon.specs.declared.refusal.Refusal.TheVariants.{Memory, UnknownVehicle}
+use Rattle.up_canon.specs.declared.refusal.Refusal.TheVariants.{NotJson, UnknownVehicle}
 use Rattle.up_sign.specs.Schemes.{Rules}
 use Rattle.up_plan.specs.declared.assigned.Plan.{Plan}
 use Rattle.up_machine.specs.declared.answer.Answer.{Answer}
@@ -97,14 +98,18 @@ abbrev pub IsTextOf : Rules → ℕ → What → List ℕ → Type 0
 IsTextOf k at (Call command) text = IsAnswerText k at command text
 IsTextOf k at (Show vehicle) text = IsViewText text
 
--- a line that is no command and no view is told its fault, and leaves the desk as it was
+-- a line that wasn't read as a command or a view is told why, and leaves the desk as it was
 abbrev pub IsLineTo : {K D : Type 0} → Rules → DeskView K D → Result Asked Refusal → List ℕ → DeskView K D → Type 0
 IsLineTo k old (Ok asked) text new = IsTextOf k asked.at asked.what text
 IsLineTo k old (Err r) text new = (text ≡ refused_text r) × (new ≡ old)
 
--- or it tells that memory was refused while the line was read, which leaves the desk as it was too
+-- what a line is read as: what it asks, its first fault, or that memory was refused; one that isn't UTF-8 is no JSON, whatever memory there is
+abbrev pub IsReadAs : Rules → List ℕ → Result Asked Refusal → Type 0
+IsReadAs k line read = Gives read (asked_in k line) × ((IsUtf8 line → ⊥) → read ≡ Err NotJson)
+
+-- the line is read, and that is what is told of it
 abbrev pub IsLine : {K D : Type 0} → Rules → DeskView K D → List ℕ → List ℕ → DeskView K D → Type 0
-IsLine k old line text new = ((text ≡ refused_text Memory) × (new ≡ old)) ⊎ IsLineTo k old (asked_in k line) text new
+IsLine k old line text new = (read : Result Asked Refusal) × IsReadAs k line read × IsLineTo k old read text new
 
 -- ---- both
 

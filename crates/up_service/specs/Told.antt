@@ -1,16 +1,14 @@
 -- What is told of what a desk answered, whatever it may answer. Each command is one call, each read is made once, and that is told.
-use Rattle.std.specs.Prelude.{◌≡◌, ◌⊎◌, ℕ, Bool, List, Option, Some, None, Result, Ok, Err, MatchResult}
+use Rattle.std.specs.Prelude.{◌≡◌, ℕ, Bool, List, Option, Some, None, Result, Ok, Err, MatchResult}
 use Rattle.up_canon.specs.Names.{Name}
 use Rattle.up_canon.specs.declared.refusal.Refusal.{Refusal}
 use Rattle.up_canon.specs.declared.refusal.Refusal.TheVariants.{Memory, UnknownVehicle}
-use Rattle.up_sign.specs.Schemes.{Rules}
 use Rattle.up_plan.specs.declared.assigned.Plan.{Plan}
 use Rattle.up_machine.specs.declared.answer.Answer.{Answer}
 use Rattle.up_machine.specs.declared.command.Command.{Command}
 use Rattle.up_machine.specs.declared.rows.VehicleRows.{VehicleRows}
 use Rattle.up_tables.specs.declared.values.StoreFault.{StoreFault}
 use Rattle.up_desk.specs.Serving.{refusal_told}
-use Rattle.up_script.specs.AskedLines.{asked_in}
 use Rattle.up_script.specs.PrintedLines.{answer_text, refused_text}
 use Rattle.up_script.specs.declared.asked.Asked.{Asked}
 use Rattle.up_script.specs.declared.asked.What.{What}
@@ -21,6 +19,10 @@ use Rattle.up_http.specs.declared.asked.What.{What as Requested}
 use Rattle.up_http.specs.declared.asked.What.TheVariants.{Call as Request, Fixed}
 use Rattle.up_service.specs.LineAnswers.{rows_text, shown_text}
 use Rattle.up_service.specs.Responses.{answer_response}
+
+-- what reads lines: in a state a line may be read as this, or have this for its first fault
+abbrev pub Asks : Type 0 → Type 1
+Asks S = S → List ℕ → Result Asked Refusal → Type 0
 
 -- what answers commands: at a moment a command may have this answer, which leaves that state
 abbrev pub Gives : Type 0 → Type 1
@@ -64,15 +66,14 @@ abbrev pub TellsWhat : {S : Type 0} → Gives S → Finds S (Option VehicleRows)
 TellsWhat gives vehicles plans old at (Call command) text new = TellsCall gives answer_text old at command text new
 TellsWhat gives vehicles plans old at (Show vehicle) text new = TellsView vehicles plans old vehicle text new
 
--- a line that asks nothing is told its fault
+-- a line that wasn't read is told why
 abbrev pub TellsAsked : {S : Type 0} → Gives S → Finds S (Option VehicleRows) → Finds S (Option Plan) → S → Result Asked Refusal → List ℕ → S → Type 0
 TellsAsked gives vehicles plans old (Ok asked) text new = TellsWhat gives vehicles plans old asked.at asked.what text new
 TellsAsked gives vehicles plans old (Err r) text new = (text ≡ refused_text r) × (new ≡ old)
 
--- or want of memory to read it
-abbrev pub TellsLine : {S : Type 0} → (S → Rules) → Gives S → Finds S (Option VehicleRows) → Finds S (Option Plan) → S → List ℕ → List ℕ → S → Type 0
-TellsLine rules gives vehicles plans old line text new =
-    ((text ≡ refused_text Memory) × (new ≡ old)) ⊎ TellsAsked gives vehicles plans old (asked_in (rules old) line) text new
+-- a line is read, and what that came to is told
+abbrev pub TellsLine : {S : Type 0} → Asks S → Gives S → Finds S (Option VehicleRows) → Finds S (Option Plan) → S → List ℕ → List ℕ → S → Type 0
+TellsLine asks gives vehicles plans old line text new = (read : Result Asked Refusal) × asks old line read × TellsAsked gives vehicles plans old read text new
 
 -- ---- requests
 

@@ -1,15 +1,15 @@
 //! What answers commands, reads lines and shows vehicles: a desk, of which nothing is known here but what it tells.
-ghost use Rattle.std.specs.Prelude.{ℕ, IfOk, IsTrue, Option, Result};
+ghost use Rattle.std.specs.Prelude.{ℕ, IfOk, IsTrue, List, Option, Result};
 ghost use Rattle.up_canon.specs.Names.{Name};
-ghost use Rattle.up_canon.specs.Refusals.{Gives};
-ghost use Rattle.up_sign.specs.Schemes.{Rules};
+ghost use Rattle.up_canon.specs.declared.refusal.Refusal.{Refusal};
 ghost use Rattle.up_plan.specs.declared.assigned.Plan.{Plan};
 ghost use Rattle.up_machine.specs.declared.answer.Answer.{Answer};
 ghost use Rattle.up_machine.specs.declared.command.Command.{Command};
 ghost use Rattle.up_machine.specs.declared.rows.VehicleRows.{VehicleRows};
 ghost use Rattle.up_machine.specs.Commands.{opens_running};
 ghost use Rattle.up_tables.specs.declared.values.StoreFault.{StoreFault};
-ghost use Rattle.up_script.specs.AskedLines.{asked_in, asks_running};
+ghost use Rattle.up_script.specs.AskedLines.{asks_running};
+ghost use Rattle.up_script.specs.declared.asked.Asked.{Asked};
 
 use sqlite::Alter;
 use std::alloc::Global;
@@ -35,14 +35,14 @@ pub(crate) trait Called {
         ensures { gives self.old at command.now result self.new };
 }
 
-/// What reads lines by a scheme.
+/// What reads lines.
 pub(crate) trait Asks {
-    /// The rules of the scheme.
-    ghost rules: { Self → Rules };
+    /// A line may be read as this, or have this for its first fault.
+    ghost asks: { Self → List ℕ → Result Asked Refusal → Type 0 };
 
     /// What a line asks, or its first fault.
     fn asked(&self, alloc: Global, line: &[u8]) -> Result<Asked, Refusal>
-        ensures value { Gives result (asked_in (rules self.now) line.now) }
+        ensures read { asks self.now line.now result }
         ensures running { IfOk result (λ asked. IsTrue (asks_running asked.what)) };
 }
 
@@ -74,7 +74,9 @@ impl<K: Scheme, D: Alter> Called for Desk<K, D> {
 }
 
 impl<K: Scheme, D: Alter> Asks for Desk<K, D> {
-    ghost rules = { λ d. K.rules d.scheme };
+    ghost use Rattle.up_service.specs.LineAnswers.{IsReadAs};
+
+    ghost asks = { λ d. IsReadAs (K.rules d.scheme) };
 
     fn asked(&self, alloc: Global, line: &[u8]) -> Result<Asked, Refusal> {
         asked_by(alloc, self.scheme(), line)

@@ -21,7 +21,7 @@ pub struct Scripter;
 impl<C: Called + Asks + Viewed> Interpret<C> for Scripter {
     ghost use Rattle.up_service.specs.Told.{TellsLine};
 
-    ghost gives = { TellsLine C.rules C.gives C.finds C.finds_plan };
+    ghost gives = { TellsLine C.asks C.gives C.finds C.finds_plan };
 
     fn interpret(&self, alloc: Global, desk: &mut C, line: &[u8]) -> Result<Vec<u8>, AllocError> {
         match line_text(alloc, desk, line) {
@@ -37,8 +37,8 @@ fn line_text<C: Called + Asks + Viewed>(
     desk: &mut C,
     line: &[u8],
 ) -> Result<String, AllocError>
-    ensures ok { IfOk result (λ t. TellsLine C.rules C.gives C.finds C.finds_plan desk.old line.now (string_bytes t) desk.new) }
-    ensures err { OnErr result ((text : List ℕ) × TellsLine C.rules C.gives C.finds C.finds_plan desk.old line.now text desk.new) }
+    ensures ok { IfOk result (λ t. TellsLine C.asks C.gives C.finds C.finds_plan desk.old line.now (string_bytes t) desk.new) }
+    ensures err { OnErr result ((text : List ℕ) × TellsLine C.asks C.gives C.finds C.finds_plan desk.old line.now text desk.new) }
 {
     match desk.asked(alloc, line) {
         Ok(asked) => carry_out(alloc, desk, &asked),

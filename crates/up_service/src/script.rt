@@ -26,7 +26,8 @@ use up_sign::scheme::Scheme;
 /// the reader failed, `Write` where the writer failed or took none, `Memory` where neither did, and never for a limit.
 ///
 /// However it ended, a crash behind it leaves what could be left before, or the state behind some line; and none before the last
-/// line that was answered `done`, or got the reply to a new manifest. So nothing that was answered is lost.
+/// line that was answered `done`, or got the reply to a new manifest. So nothing that was answered is lost. Where the disk counted no
+/// fault, a line tells a fault of the database only where the database, as the lines before it made it, refuses what it comes to.
 pub fn run_script<K: Scheme, D: Alter, R: Source, W: Sink>(
     alloc: Global,
     desk: &mut Desk<K, D>,
@@ -41,8 +42,8 @@ pub fn run_script<K: Scheme, D: Alter, R: Source, W: Sink>(
         (record { state = desk.old; held = W.contents writer.old })
         (record { state = desk.new; held = W.contents writer.new }) result }
 
-    // From each state that the tables showed: each answer is due, the tables show the state behind the lines, and a crash loses
-    // nothing that was answered.
+    // From each state that the tables showed: each answer is due, the tables show the state behind the lines, a crash loses nothing
+    // that was answered, and the database refuses what is told as a fault of it.
     ensures lasts { ScriptLasts (K.rules) D.Store (R.remaining reader.old) (R.remaining reader.new)
         (record { state = desk.old; held = W.contents writer.old })
         (record { state = desk.new; held = W.contents writer.new }) result }

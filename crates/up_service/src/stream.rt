@@ -26,7 +26,8 @@ use up_sign::scheme::Scheme;
 /// only where the reader failed; `Write` only where the writer failed, or took no byte; and `Memory` only where neither did.
 ///
 /// However it ended, a crash behind it leaves what could be left before, or the state behind some request; and none before the
-/// last that got the reply to a new manifest. So nothing that was answered is lost.
+/// last that got the reply to a new manifest. So nothing that was answered is lost. Where the disk counted no fault, a request is told
+/// a fault of the database only where the database, as the requests before it made it, refuses what it comes to.
 pub fn serve_stream<K: Scheme, D: Alter, R: Source, W: Sink>(
     alloc: Global,
     desk: &mut Desk<K, D>,
@@ -42,8 +43,8 @@ pub fn serve_stream<K: Scheme, D: Alter, R: Source, W: Sink>(
         (record { state = desk.old; held = W.contents writer.old })
         (record { state = desk.new; held = W.contents writer.new }) result }
 
-    // From each state that the tables showed: each answer is due, the tables show the state behind the requests, and a crash
-    // loses nothing that was answered.
+    // From each state that the tables showed: each answer is due, the tables show the state behind the requests, a crash loses
+    // nothing that was answered, and the database refuses what is told as a fault of it.
     ensures lasts { StreamLasts (K.rules) D.Store at (R.remaining reader.old) (R.remaining reader.new)
         (record { state = desk.old; held = W.contents writer.old })
         (record { state = desk.new; held = W.contents writer.new }) result }

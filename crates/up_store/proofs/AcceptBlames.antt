@@ -1,14 +1,12 @@
 -- Why what is put in for an accepted manifest tells `Store`.
-use Rattle.std.proofs.Common.{◌≡◌, ◌⊎◌, inl, inr, ◌≤◌, ◌<◌, ◌^◌, ℕ, List, [], ◌∷◌, ◌++◌, Result, Ok, Err, map, sym, ap, ap₂, subst, ◌∙◌, arith, string_bytes}
+use Rattle.std.proofs.Common.{◌≡◌, ◌⊎◌, inl, inr, ◌≤◌, ◌<◌, ◌^◌, ℕ, List, [], ◌∷◌, ◌++◌, Result, map, sym, ap, ap₂, subst, ◌∙◌, arith, string_bytes}
 use Rattle.std.specs.Prelude.{⊤}
-use Rattle.std.specs.List.{AllByRecursion}
 use Rattle.sqlite.specs.Order.{Row}
 use Rattle.sqlite.specs.State.{State as Connected}
 use Rattle.up_machine.specs.declared.decision.AcceptedRows.{AcceptedRows}
 use Rattle.up_machine.specs.declared.rows.Kept.{Kept}
 use Rattle.up_machine.specs.declared.rows.VehicleRow.{VehicleRow}
 use Rattle.up_machine.specs.declared.rows.VehicleRows.{VehicleRows}
-use Rattle.up_rows.specs.SecondHashes.{TellsItsHash}
 use Rattle.up_tables.specs.declared.ecu.EcuRow.{EcuRow as EcuShown}
 use Rattle.up_tables.specs.declared.kept.KeptRow.{KeptRow}
 use Rattle.up_tables.specs.declared.values.StoreFault.{StoreFault}
@@ -25,7 +23,7 @@ use Rattle.up_store.specs.ColumnRows.{IsKept}
 use Rattle.up_store.specs.Lines.{kept_line}
 use Rattle.up_store.specs.Listing.{table_rows}
 use Rattle.up_store.specs.Puts.{MayAccept, MayReport}
-use Rattle.up_store.specs.Shown.{vehicle_read, ecu_read}
+use Rattle.up_store.specs.Shown.{as_told, vehicle_read, ecu_read}
 use Rattle.up_store.specs.Writes.{accept_writes, each_with, reported_writes}
 use Rattle.up_store.proofs.AcceptPuts.{reported, reported_primary}
 use Rattle.up_store.proofs.ColumnPuts.{kept_is}
@@ -33,7 +31,7 @@ use Rattle.up_store.proofs.VehiclePuts.{vehicle_is}
 use Rattle.up_store.proofs.PutBlames.{ecu_rows_are, each_is}
 
 -- the statements that set what was reported
-pub reported_are : (new : VehicleRows) (vehicle : VehicleShown) (ecus : List EcuShown) → vehicle_read vehicle ≡ new.vehicle → map ecu_read ecus ≡ new.ecus
+pub reported_are : (new : VehicleRows) (vehicle : VehicleShown) (ecus : List EcuShown) → vehicle_read vehicle ≡ new.vehicle → map ecu_read ecus ≡ map as_told new.ecus
     → ((upsert_vehicle_text, vehicle_row vehicle) ∷ []) ++ map (λ (e : EcuLine). (upsert_ecu_text, ecu_row e)) (lines new.vehicle.vehicle 0 ecus) ≡ reported_writes new
 reported_are new vehicle ecus same each =
     ap₂ (λ (row : Row) (more : List (List ℕ × Row)). (upsert_vehicle_text, row) ∷ more) (vehicle_is vehicle new.vehicle same)
@@ -85,33 +83,30 @@ module _ (new : VehicleRows) (vehicle : VehicleShown) (ecus : List EcuShown) whe
   abbrev rest : List (List ℕ × Row)
   rest = map (λ (e : EcuLine). (upsert_ecu_text, ecu_row e)) (lines new.vehicle.vehicle 0 ecus)
 
-  pub reported_ran : {A E : Type 0} (s0 s1 s2 : Connected) (r : Result A E) → vehicle_read vehicle ≡ new.vehicle → map ecu_read ecus ≡ new.ecus → Steps s0 s1 → Steps s1 s2 → Went first s0 s1 → Ran rest s1 s2 r → Ran (reported_writes new) s0 s2 r
+  pub reported_ran : {A E : Type 0} (s0 s1 s2 : Connected) (r : Result A E) → vehicle_read vehicle ≡ new.vehicle → map ecu_read ecus ≡ map as_told new.ecus → Steps s0 s1 → Steps s1 s2 → Went first s0 s1 → Ran rest s1 s2 r → Ran (reported_writes new) s0 s2 r
   reported_ran {A} s0 s1 s2 r same each one two went ran =
       subst (λ (these : List (List ℕ × Row)). Ran these s0 s2 r) (reported_are new vehicle ecus same each) (ran_then {T = A} first rest s0 s1 s2 one.survives two.survives r went ran)
 
   -- of the vehicle
-  pub vehicle_fails : {A : Type 0} (s0 s1 : Connected) (r : Result A StoreFault) → vehicle_read vehicle ≡ new.vehicle → (AllByRecursion TellsItsHash new.ecus → map ecu_read ecus ≡ new.ecus) → BlamesOne first (HasVehicle vehicle) s0 s1 r
+  pub vehicle_fails : {A : Type 0} (s0 s1 : Connected) (r : Result A StoreFault) → vehicle_read vehicle ≡ new.vehicle → map ecu_read ecus ≡ map as_told new.ecus → BlamesOne first (HasVehicle vehicle) s0 s1 r
       → BlamesOne (reported_writes new) (MayReport new) s0 s1 r
-  vehicle_fails s0 s1 (Ok x) same each blame clean = tt
-  vehicle_fails {A} s0 s1 (Err f) same each blame clean = λ told is_open has may.
-      let all : BlamesOne {A = A} (first ++ rest) (MayReport new) s0 s1 (Err f) = blames_first {T = A} first rest (MayReport new) s0 s1 (Err f) (blames_so {T = A} first (HasVehicle vehicle) (MayReport new) s0 s1 (Err f) (λ _ _ may. has_vehicle new vehicle s0 same may) blame) in
-      subst (λ (these : List (List ℕ × Row)). BlamesOne {A = A} these (MayReport new) s0 s1 (Err f)) (reported_are new vehicle ecus same (each may.reported.tell)) all clean told is_open has may
+  vehicle_fails {A} s0 s1 r same each blame =
+      subst (λ (these : List (List ℕ × Row)). BlamesOne {A = A} these (MayReport new) s0 s1 r) (reported_are new vehicle ecus same each)
+      (blames_first {T = A} first rest (MayReport new) s0 s1 r (blames_so {T = A} first (HasVehicle vehicle) (MayReport new) s0 s1 r (λ _ _ may. has_vehicle new vehicle s0 same may) blame))
 
   -- of the ECUs
-  pub ecus_fail : {A : Type 0} (s0 s1 s2 : Connected) (r : Result A StoreFault) → vehicle_read vehicle ≡ new.vehicle → (AllByRecursion TellsItsHash new.ecus → map ecu_read ecus ≡ new.ecus) → Steps s0 s1 → Steps s1 s2 → Went first s0 s1 → IfClean IsOpen s1 → BlamesOne rest (λ _. ⊤) s1 s2 r
+  pub ecus_fail : {A : Type 0} (s0 s1 s2 : Connected) (r : Result A StoreFault) → vehicle_read vehicle ≡ new.vehicle → map ecu_read ecus ≡ map as_told new.ecus → Steps s0 s1 → Steps s1 s2 → Went first s0 s1 → IfClean IsOpen s1 → BlamesOne rest (λ _. ⊤) s1 s2 r
       → BlamesOne (reported_writes new) (MayReport new) s0 s2 r
-  ecus_fail s0 s1 s2 (Ok x) same each one two went opened blame clean = tt
-  ecus_fail {A} s0 s1 s2 (Err f) same each one two went opened blame clean = λ told is_open has may.
-      let all : BlamesOne {A = A} (first ++ rest) (MayReport new) s0 s2 (Err f) = blames_then {T = A} first rest s0 s1 s2 one.survives two.survives (MayReport new) (λ _. ⊤) (Err f) went opened (λ _ _ _ _. tt) blame in
-      subst (λ (these : List (List ℕ × Row)). BlamesOne {A = A} these (MayReport new) s0 s2 (Err f)) (reported_are new vehicle ecus same (each may.reported.tell)) all clean told is_open has may
+  ecus_fail {A} s0 s1 s2 r same each one two went opened blame =
+      subst (λ (these : List (List ℕ × Row)). BlamesOne {A = A} these (MayReport new) s0 s2 r) (reported_are new vehicle ecus same each)
+      (blames_then {T = A} first rest s0 s1 s2 one.survives two.survives (MayReport new) (λ _. ⊤) r went opened (λ _ _ _ _. tt) blame)
 
 -- of the row that is kept
-pub kept_fails : {A : Type 0} (new : AcceptedRows) (s0 s1 s2 : Connected) (r : Result A StoreFault) → Steps s0 s1 → Steps s1 s2 → (AllByRecursion TellsItsHash new.vehicle.ecus → Went (reported_writes new.vehicle) s0 s1) → IfClean IsOpen s1
+pub kept_fails : {A : Type 0} (new : AcceptedRows) (s0 s1 s2 : Connected) (r : Result A StoreFault) → Steps s0 s1 → Steps s1 s2 → Went (reported_writes new.vehicle) s0 s1 → IfClean IsOpen s1
     → BlamesOne (each_with insert_kept_text (kept_line new.kept ∷ [])) (λ _. (new.kept.version < 2 ^ 63) × (new.kept.root < 2 ^ 63)) s1 s2 r → BlamesOne (accept_writes new) (MayAccept new) s0 s2 r
-kept_fails new s0 s1 s2 (Ok x) one two went opened blame clean = tt
-kept_fails {A} new s0 s1 s2 (Err f) one two went opened blame clean = λ told is_open has may.
-    blames_then {T = A} (reported_writes new.vehicle) (each_with insert_kept_text (kept_line new.kept ∷ [])) s0 s1 s2 one.survives two.survives (MayAccept new) (λ _. (new.kept.version < 2 ^ 63) × (new.kept.root < 2 ^ 63)) (Err f) (went may.recorded.tell) opened
-    (λ _ _ _ m. (m.fits.version, m.fits.root)) blame clean told is_open has may
+kept_fails {A} new s0 s1 s2 r one two went opened blame =
+    blames_then {T = A} (reported_writes new.vehicle) (each_with insert_kept_text (kept_line new.kept ∷ [])) s0 s1 s2 one.survives two.survives (MayAccept new) (λ _. (new.kept.version < 2 ^ 63) × (new.kept.root < 2 ^ 63)) r went opened
+    (λ _ _ _ m. (m.fits.version, m.fits.root)) blame
 
 pub accepted_ran : {A : Type 0} (new : AcceptedRows) (s0 s1 s2 : Connected) (r : Result A StoreFault) → Steps s0 s1 → Steps s1 s2 → Went (reported_writes new.vehicle) s0 s1
     → Ran (each_with insert_kept_text (kept_line new.kept ∷ [])) s1 s2 r → Ran (accept_writes new) s0 s2 r

@@ -1,5 +1,5 @@
 -- What is read of the table of files.
-use Rattle.std.proofs.Common.{◌≡◌, ℕ, List, [], ◌∷◌, Option, Some, None, map, refl, ap, string_bytes}
+use Rattle.std.proofs.Common.{◌≡◌, ℕ, List, Option, Some, None, map, refl, ap, string_bytes}
 use Rattle.std.specs.Prelude.{option_map}
 use Rattle.std.specs.Option.{option_to_list}
 use Rattle.sqlite.specs.Order.{Row}

@@ -1,28 +1,22 @@
 -- A loop that makes rows one after another.
-use Rattle.std.proofs.Common.{◌≡◌, ◌+◌, ◌<◌, ℕ, zero, suc, List, [], ◌∷◌, ◌++◌, All, Some, length, map, drop, take, slice_get, get_or, refl, sym, ap, subst, ◌∙◌, arith, append_assoc}
+use Rattle.std.proofs.Common.{◌≡◌, ◌+◌, ◌<◌, ℕ, zero, suc, List, [], ◌∷◌, ◌++◌, All, Some, length, map, take, slice_get, get_or, refl, sym, ap, ap₂, subst, ◌∙◌, arith}
 use Rattle.std.specs.List.{AllByRecursion}
 use Rattle.std.proofs.lemmas.List.{map-append}
 use Rattle.std.proofs.lemmas.List.Elements.{All-append, All-cons}
 
-dropped : {X : Type 0} (xs : List X) (i : ℕ) (x : X) → slice_get xs i ≡ Some x → drop i xs ≡ x ∷ drop (i + 1) xs
-dropped [] i x h = absurd (let e = h in cc)
-dropped {X} (y ∷ ys) zero x h = let same : y ≡ x = cc in ap (λ (z : X). z ∷ ys) same
-dropped {X} (y ∷ ys) (suc i) x h =
+taken : {X : Type 0} (xs : List X) (i : ℕ) (x : X) → slice_get xs i ≡ Some x → take (i + 1) xs ≡ take i xs ++ x ∷ []
+taken [] i x h = absurd (let e = h in cc)
+taken {X} (y ∷ ys) zero x h = let same : y ≡ x = cc in ap (λ (z : X). z ∷ []) same
+taken {X} (y ∷ ys) (suc i) x h =
     let next : suc i + 1 ≡ suc (i + 1) = omega arith in
-    dropped ys i x h ∙ ap (λ (n : ℕ). x ∷ drop n (y ∷ ys)) (sym next)
+    ap (λ (n : ℕ). take n (y ∷ ys)) next ∙ ap (λ (l : List X). y ∷ l) (taken ys i x h)
 
 -- one more is made of the next row
-pub next_made : {X Y : Type 0} (f : Y → X) (rows : List X) (made more : List Y) (i : ℕ) (row : X) (y : Y) → rows ≡ map f made ++ drop i rows → slice_get rows i ≡ Some row → f y ≡ row → more ≡ made ++ y ∷ []
-    → rows ≡ map f more ++ drop (i + 1) rows
-next_made {X} f rows made more i row y so_far there same is =
-    so_far ∙ ap (λ (l : List X). map f made ++ l) (dropped rows i row there ∙ ap (λ (x : X). x ∷ drop (i + 1) rows) (sym same))
-    ∙ sym (append_assoc (map f made) (f y ∷ []) (drop (i + 1) rows)) ∙ ap (λ (l : List X). l ++ drop (i + 1) rows) (sym (map-append f made (y ∷ []))) ∙ ap (λ l. map f l ++ drop (i + 1) rows) (sym is)
-
--- what holds of all rows holds of the one at a place
-pub each_at : {X : Type 0} (P : X → Type 0) (rows : List X) (i : ℕ) (row : X) → AllByRecursion P rows → slice_get rows i ≡ Some row → P row
-each_at P [] i row all h = absurd (let e = h in cc)
-each_at P (x ∷ xs) zero row all h = let same : x ≡ row = cc in subst P same all.0
-each_at P (x ∷ xs) (suc i) row all h = each_at P xs i row all.1 h
+pub next_made : {X Y Z : Type 0} (f : Y → X) (g : Z → X) (rows : List Z) (made more : List Y) (i : ℕ) (row : Z) (y : Y) → map f made ≡ map g (take i rows) → slice_get rows i ≡ Some row → f y ≡ g row → more ≡ made ++ y ∷ []
+    → map f more ≡ map g (take (i + 1) rows)
+next_made {X} {Y} {Z} f g rows made more i row y so_far there same is =
+    ap (map f) is ∙ map-append f made (y ∷ []) ∙ ap₂ (λ (l : List X) (x : X). l ++ x ∷ []) so_far same
+    ∙ sym (map-append g (take i rows) (row ∷ [])) ∙ sym (ap (map g) (taken rows i row there))
 
 -- what holds of the rows before a place and of the one there holds of those before the next
 pub each_more : {X : Type 0} (P : X → Type 0) (rows : List X) (i : ℕ) (row : X) → AllByRecursion P (take i rows) → slice_get rows i ≡ Some row → P row → AllByRecursion P (take (i + 1) rows)

@@ -1,13 +1,11 @@
 -- What the parts of a write change of the rows of the tables.
 use Rattle.std.specs.Prelude.{◌≡◌, ℕ, ◌≤◌, ◌++◌, List, [], ◌∷◌, Some, length, map}
-use Rattle.std.specs.List.{AllByRecursion}
 use Rattle.sqlite.specs.State.{State as Connected}
 use Rattle.up_canon.specs.Names.{Name}
 use Rattle.up_plan.specs.Images.{ImageData}
 use Rattle.up_machine.specs.declared.decision.AcceptedRows.{AcceptedRows}
 use Rattle.up_machine.specs.declared.rows.Founding.{Founding}
 use Rattle.up_machine.specs.declared.rows.VehicleRows.{VehicleRows}
-use Rattle.up_rows.specs.SecondHashes.{TellsItsHash}
 use Rattle.up_rows.specs.StateRows.{StateRows}
 use Rattle.up_tables.specs.Lines.{EcuLine, ecu_row, vehicle_line, AreSameEcus, AreDistinct, set_ecus}
 use Rattle.up_tables.specs.Listed.{TableRows, ListsTables}
@@ -44,7 +42,7 @@ with_image_line image rows = record rows { images = changed_at image.file (λ we
 abbrev pub with_sha512_line : ImageData → TableRows → TableRows
 with_sha512_line image rows = record rows { sha512s = changed_at image.file (λ were. were ++ sha512_lines image.file image.sha512) rows.sha512s }
 
--- the vehicle is there, with the same ECUs, none twice, and the report of each tells the second hash of the installed image
+-- the vehicle is there, with the same ECUs, none twice
 pub record IsReported (new : VehicleRows) (rows : TableRows) : Type 0 where
   pub primary : Name
   pub version : ℕ
@@ -54,7 +52,6 @@ pub record IsReported (new : VehicleRows) (rows : TableRows) : Type 0 where
   pub there : rows.ecus new.vehicle.vehicle ≡ map ecu_row olds
   pub same : AreSameEcus olds (ecu_lines new.vehicle.vehicle 0 new.ecus)
   pub distinct : AreDistinct (ecu_lines new.vehicle.vehicle 0 new.ecus)
-  pub tell : AllByRecursion TellsItsHash new.ecus
 
 -- the rows of a vehicle that is there, and of its ECUs
 abbrev pub with_reported : VehicleRows → TableRows → TableRows

@@ -39,6 +39,14 @@ installed_read sha512 shown = record { file = string_bytes shown.file; length = 
 abbrev pub reported_sha512 : Option (List ℕ) → Option (List ℕ)
 reported_sha512 report = option_and_then report_sha512_of report
 
+-- an image that is installed, with this second hash
+abbrev pub with_sha512 : Option (List ℕ) → Installed → Installed
+with_sha512 sha512 installed = record installed { sha512 = sha512 }
+
+-- an ECU as its line tells it: what is installed has the second hash of the report's text
+abbrev pub as_told : EcuRow → EcuRow
+as_told row = record row { installed = option_map (with_sha512 (reported_sha512 row.report)) row.installed }
+
 abbrev pub ecu_read : EcuShown → EcuRow
 ecu_read shown = record {
   ecu = string_bytes shown.ecu;
@@ -99,7 +107,16 @@ pub record IsFoundingOf (row : MetaRow) (rows : List RoleKeyRow) (read : Option 
 
 abbrev pub image_made : Name → ℕ → List ℕ → Option (List ℕ) → List Name → ℕ → List Need → List Name → ImageData
 image_made file size sha256 sha512 hardware release needs conflicts =
-    record { file = file; length = size; sha256 = sha256; sha512 = sha512; hardware = hardware; release = release; needs = needs; conflicts = conflicts }
+    record {
+      file = file;
+      length = size;
+      sha256 = sha256;
+      sha512 = sha512;
+      hardware = hardware;
+      release = release;
+      needs = needs;
+      conflicts = conflicts;
+    }
 
 abbrev pub campaign_made : Name → Reach → List Item → Bool → CampaignData
 campaign_made name reach items running = record { name = name; reach = reach; items = items; running = running }

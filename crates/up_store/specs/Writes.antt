@@ -1,4 +1,4 @@
--- Which statements write what is given to the store, in their order, and that the database refuses one of them.
+-- Which statements write what is given to the store, in their order; what they make of the database, and that it refuses one of them.
 use Rattle.std.specs.Prelude.{◌≡◌, ◌<◌, ◌^◌, ◌++◌, ℕ, pos, List, [], ◌∷◌, Option, Some, map, length}
 use Rattle.sqlite.specs.declared.types.Value.TheVariants.{Int, Text, Blob}
 use Rattle.sqlite.specs.Effect.{Database}
@@ -19,7 +19,7 @@ use Rattle.up_tables.specs.Lines.{retired_line}
 use Rattle.up_tables.specs.Texts.{insert_image_text, insert_sha512_text, insert_campaign_text, close_campaign_text, insert_vehicle_text}
 use Rattle.up_tables.specs.Texts.{insert_retired_text, insert_kept_text, update_meta_text, replace_ecu_text, insert_ecu_text, upsert_ecu_text}
 use Rattle.up_tables.specs.Texts.{insert_role_key_text, upsert_file_text, upsert_vehicle_text}
-use Rattle.up_tables.specs.Tried.{RefusesOne}
+use Rattle.up_tables.specs.Tried.{Makes, RefusesOne}
 use Rattle.up_store.specs.Fitting.{IsNextRoot, IsSameRoot, IsNewImage, IsNewVehicle, IsReplacement, IsNewCampaign, IsClosing, IsRecorded}
 use Rattle.up_store.specs.Lines.{FileLine, file_row, root_file_lines, role_file_lines, repository_lines, image_lines, sha512_lines}
 use Rattle.up_store.specs.Lines.{campaign_lines, vehicle_lines, ecus_lines, kept_line}
@@ -97,23 +97,31 @@ pub record FitsAccepted (new : AcceptedRows) : Type 0 where
   pub version : new.kept.version < 2 ^ 63
   pub root : new.kept.root < 2 ^ 63
 
--- ---- a write that is refused
+-- ---- from rows to the next
 
--- what is written fits the rows and makes `next` of them, and the database refuses one of the statements by which it is written
-pub data RefusesToWrite (rows next : StateRows) (limit : Option ℕ) (db : Database) : Type 0 where
-  root : (new : RootRows) → IsNextRoot new rows → next ≡ with_root_rows rows new
-      → RefusesOne limit (root_writes new) db → RefusesToWrite rows next limit db
-  register : (new : RegisterRows) → IsSameRoot new rows → next ≡ with_register_rows rows new
-      → RefusesOne limit (register_writes new) db → RefusesToWrite rows next limit db
+-- these statements write what fits the rows and makes `next` of them
+pub data AreWrites (rows next : StateRows) (these : List (List ℕ × Row)) : Type 0 where
+  root : (new : RootRows) → IsNextRoot new rows → next ≡ with_root_rows rows new → these ≡ root_writes new → AreWrites rows next these
+  register : (new : RegisterRows) → IsSameRoot new rows → next ≡ with_register_rows rows new → these ≡ register_writes new → AreWrites rows next these
   image : (new : ImageData) (files : RegisterRows) → IsNewImage new files rows → next ≡ with_image_rows rows new files
-      → RefusesOne limit (image_writes new files) db → RefusesToWrite rows next limit db
+      → these ≡ image_writes new files → AreWrites rows next these
   campaign : (new : CampaignData) → IsNewCampaign new rows → next ≡ with_campaign_row rows new
-      → RefusesOne limit (campaign_writes new) db → RefusesToWrite rows next limit db
+      → these ≡ campaign_writes new → AreWrites rows next these
   close : (closed : CampaignData) → IsClosing closed rows → next ≡ with_campaign_row rows closed
-      → RefusesOne limit (close_writes closed) db → RefusesToWrite rows next limit db
-  vehicle : (new : VehicleRows) → IsNewVehicle new rows → next ≡ with_vehicle_rows rows new
-      → RefusesOne limit (vehicle_writes new) db → RefusesToWrite rows next limit db
+      → these ≡ close_writes closed → AreWrites rows next these
+  vehicle : (new : VehicleRows) → IsNewVehicle new rows → next ≡ with_vehicle_rows rows new → these ≡ vehicle_writes new → AreWrites rows next these
   replacement : (new : Replacement) → IsReplacement new rows → next ≡ with_replaced_rows rows new
-      → RefusesOne limit (replace_writes new) db → RefusesToWrite rows next limit db
-  manifest : (new : AcceptedRows) → IsRecorded new rows → next ≡ with_accepted_rows rows new
-      → RefusesOne limit (accept_writes new) db → RefusesToWrite rows next limit db
+      → these ≡ replace_writes new → AreWrites rows next these
+  manifest : (new : AcceptedRows) → IsRecorded new rows → next ≡ with_accepted_rows rows new → these ≡ accept_writes new → AreWrites rows next these
+
+-- the database refuses one of such statements
+pub record RefusesToWrite (rows next : StateRows) (limit : Option ℕ) (db : Database) : Type 0 where
+  pub these : List (List ℕ × Row)
+  pub write : AreWrites rows next these
+  pub refused : RefusesOne limit these db
+
+-- such statements make this of the database
+pub record MakesNext (rows next : StateRows) (limit : Option ℕ) (db after : Database) : Type 0 where
+  pub these : List (List ℕ × Row)
+  pub write : AreWrites rows next these
+  pub made : Makes limit these db after

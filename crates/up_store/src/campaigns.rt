@@ -15,7 +15,8 @@ ghost use Rattle.up_tables.specs.Stands.{IfClean, IsAsCommitted, IsInside};
 ghost use Rattle.up_tables.specs.Statements.{IsStep, IsOpenStep};
 ghost use Rattle.up_tables.specs.Tried.{BlamesOne, Ran};
 ghost use Rattle.up_store.specs.Writes.{campaign_writes, close_writes};
-ghost use Rattle.up_store.specs.Connections.{NeedsOpen, Answers, Blames, BlamesWithin, BlamesWrite, FindsRows, PutsRows, RanWrite, TakesRows, CommitsRows, SparesRows};
+ghost use Rattle.up_store.specs.Connections.{NeedsOpen, Answers, Blames, BlamesWithin, FindsRows, PutsRows, TakesRows, CommitsRows, SparesRows};
+ghost use Rattle.up_store.specs.Connections.{BlamesWrite, RanWrite};
 
 use crate::campaign_rows::{make_campaign, read_campaign, read_reaching, read_running};
 use crate::store::{Store, StoreFault, commit};

@@ -1,13 +1,12 @@
 //! The rows of a vehicle's ECUs, read and made.
-ghost use Rattle.std.specs.Prelude.{◌≡◌, ◌<◌, ◌^◌, ℕ, All, IfOk, List, Option, map, option_and_then, option_map, string_bytes};
+ghost use Rattle.std.specs.Prelude.{◌≡◌, ◌<◌, ◌^◌, ℕ, All, IfOk, List, Option, map, option_map, string_bytes};
 ghost use Rattle.std.specs.List.{AllByRecursion};
 ghost use Rattle.std.specs.Prelude.{◌≢◌, ◌≤◌, true, length, None, Ok, IfErr, IfSome, OnOk, IsUtf8, MatchOption};
 ghost use Rattle.up_canon.specs.Canon.{max_count};
 ghost use Rattle.up_canon.specs.Names.{is_file_name};
 ghost use Rattle.up_tables.specs.declared.values.StoreFault.TheVariants.{Memory, Store};
-ghost use Rattle.up_rows.specs.SecondHashes.{TellsItsHash};
 ghost use Rattle.up_tables.specs.Ecus.{FitEcu};
-ghost use Rattle.up_store.specs.Shown.{ecu_read, installed_read, reported_sha512};
+ghost use Rattle.up_store.specs.Shown.{as_told, ecu_read, installed_read, reported_sha512, with_sha512};
 ghost use Rattle.up_store.specs.Typed.{IsTypedEcu, IsTypedInstalled};
 
 use crate::column_values::{count_in, file_name_in, ident_in, sha256_in};
@@ -80,9 +79,9 @@ fn read_installed(
     }
 }
 
-/// The rows of ECUs as they stand in the table. They are read as the same where each tells its second hash.
+/// The rows of ECUs as they stand in the table. They are read as the same, each with the second hash that its report tells.
 pub fn make_ecus(alloc: Global, rows: &[EcuRow]) -> Result<Vec<EcuShown>, AllocError>
-    ensures same { IfOk result (λ made. AllByRecursion TellsItsHash rows.now → map ecu_read made.items ≡ rows.now) }
+    ensures same { IfOk result (λ made. map ecu_read made.items ≡ map as_told rows.now) }
     ensures fit { IfOk result (λ made. All FitEcu made.items) }
     ensures typed { OnOk result (AllByRecursion IsTypedEcu rows.now) }
 {
@@ -95,7 +94,7 @@ pub fn make_ecus(alloc: Global, rows: &[EcuRow]) -> Result<Vec<EcuShown>, AllocE
 
 /// The row of an ECU as it stands in the table.
 fn make_ecu(alloc: Global, row: &EcuRow) -> Result<EcuShown, AllocError>
-    ensures same { IfOk result (λ made. TellsItsHash row.now → ecu_read made ≡ row.now) }
+    ensures same { IfOk result (λ made. ecu_read made ≡ as_told row.now) }
     ensures fit { IfOk result FitEcu }
     ensures typed { OnOk result (IsTypedEcu row.now) }
 {
@@ -114,8 +113,8 @@ fn make_installed(
     alloc: Global,
     installed: &Option<Installed>,
 ) -> Result<Option<InstalledShown>, AllocError>
-    ensures same { IfOk result (λ made. (hash : Option (List ℕ)) → option_and_then (λ i. i.sha512) installed.now ≡ hash
-        → option_map (installed_read hash) made ≡ installed.now) }
+    ensures same { IfOk result (λ made. (hash : Option (List ℕ))
+        → option_map (installed_read hash) made ≡ option_map (with_sha512 hash) installed.now) }
     ensures none { installed.now ≡ None → result ≡ Ok None }
     ensures fit { IfOk result (λ made. IfSome made (λ image. image.length < 2 ^ 63)) }
     ensures typed { OnOk result (IfSome installed.now IsTypedInstalled) }

@@ -1,5 +1,5 @@
 //! The rows of images, read and made.
-ghost use Rattle.std.specs.Prelude.{◌≡◌, false, length, IfOk, IfErr, IfSome, OnOk, option_map};
+ghost use Rattle.std.specs.Prelude.{◌≡◌, false, length, IfOk, IfErr, IfSome, OnOk};
 ghost use Rattle.up_canon.specs.Names.{Name, Table as Named};
 ghost use Rattle.up_plan.specs.Images.{ImageData, image_fits};
 ghost use Rattle.up_tables.specs.Forms.{FitImage};

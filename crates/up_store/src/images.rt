@@ -17,8 +17,8 @@ ghost use Rattle.up_store.specs.Puts.{with_image_line};
 ghost use Rattle.up_store.specs.Writes.{FitsFounding, each_with, image_row_writes, image_writes};
 ghost use Rattle.up_store.specs.Typed.{IsTypedImage};
 ghost use Rattle.up_tables.specs.declared.values.StoreFault.TheVariants.{Memory};
-ghost use Rattle.up_store.specs.Connections.{NeedsOpen, Answers, Blames, BlamesWithin, FindsRows, FindsSuch, PutsRows, PutsTables, TakesRows, CommitsRows, SparesRows};
-ghost use Rattle.up_store.specs.Connections.{BlamesWrite, RanWrite};
+ghost use Rattle.up_store.specs.Connections.{NeedsOpen, Answers, Blames, BlamesWithin, FindsRows, FindsSuch, PutsRows, PutsTables, TakesRows};
+ghost use Rattle.up_store.specs.Connections.{BlamesWrite, CommitsRows, RanWrite, SparesRows};
 
 use crate::image_rows::{make_image, read_image, read_images};
 use crate::roots::put_register;

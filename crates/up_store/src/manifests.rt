@@ -21,8 +21,8 @@ ghost use Rattle.up_tables.specs.Texts.{insert_kept_text};
 ghost use Rattle.up_tables.specs.Tried.{BlamesOne, Ran};
 ghost use Rattle.up_store.specs.Lines.{kept_line};
 ghost use Rattle.up_store.specs.Writes.{FitsAccepted, accept_writes, each_with, reported_writes};
-ghost use Rattle.up_store.specs.Connections.{NeedsOpen, Answers, FindsRows, Blames, BlamesWithin, PutsRows, PutsTables, TakesRows, CommitsRows, SparesRows};
-ghost use Rattle.up_store.specs.Connections.{BlamesWrite, RanWrite};
+ghost use Rattle.up_store.specs.Connections.{NeedsOpen, Answers, FindsRows, Blames, BlamesWithin, PutsRows, PutsTables, TakesRows};
+ghost use Rattle.up_store.specs.Connections.{BlamesWrite, CommitsRows, RanWrite, SparesRows};
 
 use crate::column_values::{check_places, count_in};
 use crate::ecus::make_ecus;
@@ -79,8 +79,7 @@ impl<D: Alter> Store<D> {
         ensures crash { SparesRows (IsRecorded new.now) (λ rows. with_accepted_rows rows new.now) (state D.Store self.old) (state D.Store self.new) }
         ensures clean { HasCleanDisk (state D.Store self.new) → HasCleanDisk (state D.Store self.old) }
         ensures open { NeedsOpen (state D.Store self.old) (state D.Store self.new) result }
-        ensures ran { AllByRecursion TellsItsHash new.now.vehicle.ecus → RanWrite (accept_writes new.now)
-            (state D.Store self.old) (state D.Store self.new) result }
+        ensures ran { RanWrite (accept_writes new.now) (state D.Store self.old) (state D.Store self.new) result }
         ensures blame { BlamesWrite (accept_writes new.now) (λ rows. IsRecorded new.now rows × FitsAccepted new.now)
             (state D.Store self.old) (state D.Store self.new) result }
     {
@@ -101,8 +100,7 @@ fn put_accepted<D: Alter>(
     requires mode { IfClean IsInside (state D.Store tx.old.conn.now) }
     ensures put { PutsRows (IsRecorded new.now) (λ rows. with_accepted_rows rows new.now)
         (state D.Store tx.old.conn.now) (state D.Store tx.new.conn.now) result }
-    ensures ran { AllByRecursion TellsItsHash new.now.vehicle.ecus → Ran (accept_writes new.now)
-        (state D.Store tx.old.conn.now) (state D.Store tx.new.conn.now) result }
+    ensures ran { Ran (accept_writes new.now) (state D.Store tx.old.conn.now) (state D.Store tx.new.conn.now) result }
     ensures blame { BlamesOne (accept_writes new.now) (MayAccept new.now) (state D.Store tx.old.conn.now) (state D.Store tx.new.conn.now) result }
     ensures step { IsOpenStep D.Store tx.old.conn tx.new.conn result }
 {
@@ -119,8 +117,7 @@ fn put_reported<D: Alter>(
     requires mode { IfClean IsInside (state D.Store tx.old.conn.now) }
     ensures put { PutsTables (IsReported new.now) (with_reported new.now) (state D.Store tx.old.conn.now) (state D.Store tx.new.conn.now) result }
     ensures typed { OnOk result (AllByRecursion TellsItsHash new.now.ecus → IsTypedVehicle new.now.vehicle.vehicle new.now) }
-    ensures ran { AllByRecursion TellsItsHash new.now.ecus → Ran (reported_writes new.now)
-        (state D.Store tx.old.conn.now) (state D.Store tx.new.conn.now) result }
+    ensures ran { Ran (reported_writes new.now) (state D.Store tx.old.conn.now) (state D.Store tx.new.conn.now) result }
     ensures blame { BlamesOne (reported_writes new.now) (MayReport new.now) (state D.Store tx.old.conn.now) (state D.Store tx.new.conn.now) result }
     ensures step { IsOpenStep D.Store tx.old.conn tx.new.conn result }
 {

@@ -19,8 +19,8 @@ ghost use Rattle.up_tables.specs.Stands.{IfClean, IsAsCommitted, IsInside, IsOpe
 ghost use Rattle.up_tables.specs.Statements.{IsStep, IsOpenStep};
 ghost use Rattle.up_tables.specs.Tried.{BlamesOne, Ran};
 ghost use Rattle.up_store.specs.Writes.{FitsFounding, founding_writes, key_writes, file_writes, register_writes, root_writes};
-ghost use Rattle.up_store.specs.Connections.{NeedsOpen, Answers, FindsRows, Blames, BlamesWithin, PutsRows, PutsTables, TakesRows, CommitsRows, SparesRows};
-ghost use Rattle.up_store.specs.Connections.{BlamesWrite, RanWrite};
+ghost use Rattle.up_store.specs.Connections.{NeedsOpen, Answers, FindsRows, Blames, BlamesWithin, PutsRows, PutsTables, TakesRows};
+ghost use Rattle.up_store.specs.Connections.{BlamesWrite, CommitsRows, RanWrite, SparesRows};
 
 use crate::column_values::{check_version, moment_in};
 use crate::files::{make_role_files, make_root_files};
@@ -231,7 +231,8 @@ fn read_founding(
     keys: &[RoleKeyRow],
 ) -> Result<Option<Founding>, StoreFault>
     ensures found { IfOk result (λ read. IsFoundingOf row keys.now read) }
-    ensures fault { (told : Option FoundingData) (is : IsFoundingOf row keys.now told) → IsTypedFounding is.founding → IfErr result (λ fault. fault ≡ StoreFault.Memory) }
+    ensures fault { (told : Option FoundingData) (is : IsFoundingOf row keys.now told) → IsTypedFounding is.founding
+        → IfErr result (λ fault. fault ≡ StoreFault.Memory) }
 {
     Ok(Some(Founding {
         root: row.root,

@@ -79,8 +79,8 @@ impl<D: Alter> Store<D> {
     /// and no image of one of schema 1 or 2 has a second hash. `NotOurs` where the database refuses the query on `meta`, as one without such a
     /// table does, or `meta` names another product or a schema but 1, 2 and 3, and never of tables that list rows of this product. `Memory` for
     /// want of memory, and `Store` only where the connection was shut, the disk failed, a limit on steps was met, or `meta` names an older schema,
-    /// and then of tables of this product only where the database refuses one of the statements that raise them. What the tables show stays, and a
-    /// fault hands the connection back as it was committed, with no transaction under way.
+    /// and the database stops at one of the statements that raise its tables. What the tables show stays, and a fault hands the connection back as
+    /// it was committed, with no transaction under way.
     pub fn adopt(mut conn: Connection<D>) -> Result<Store<D>, (Connection<D>, OpenFault)>
         requires { (state D.Store conn).in_transaction ≡ false }
         ensures ours { IfOk result (λ s. HasCleanDisk (state D.Store s) → NamesUs (state D.Store conn)) }

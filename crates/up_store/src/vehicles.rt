@@ -5,7 +5,6 @@ ghost use Rattle.sqlite.specs.State.{HasCleanDisk, Survives};
 ghost use Rattle.up_rows.specs.Changes.{with_vehicle_rows};
 ghost use Rattle.up_store.specs.Fitting.{IsNewVehicle};
 ghost use Rattle.std.specs.Prelude.{◌↔◌, ◌<◌, ◌≤◌, ◌^◌, true, false, Err, IfErr};
-ghost use Rattle.std.specs.List.{AllByRecursion};
 ghost use Rattle.up_canon.specs.Canon.{max_count};
 ghost use Rattle.up_canon.specs.Names.{is_ident};
 ghost use Rattle.up_tables.specs.declared.values.StoreFault.TheVariants as StoreFault;
@@ -16,10 +15,10 @@ ghost use Rattle.up_store.specs.Found.{vehicle_found, ecus_found};
 ghost use Rattle.up_tables.specs.Stands.{IfClean, IsAsCommitted, IsInside};
 ghost use Rattle.up_tables.specs.Statements.{IsStep, IsOpenStep};
 ghost use Rattle.up_tables.specs.Tried.{BlamesOne, Ran};
-ghost use Rattle.up_rows.specs.SecondHashes.{TellsItsHash};
 ghost use Rattle.up_store.specs.Writes.{FitsVehicle, vehicle_writes};
 ghost use Rattle.up_tables.specs.Forms.{FitVehicle};
-ghost use Rattle.up_store.specs.Connections.{NeedsOpen, Answers, FindsRows, Blames, BlamesWithin, BlamesWrite, PutsRows, RanWrite, TakesRows, CommitsRows, SparesRows};
+ghost use Rattle.up_store.specs.Connections.{NeedsOpen, Answers, FindsRows, Blames, BlamesWithin, PutsRows, TakesRows, CommitsRows, SparesRows};
+ghost use Rattle.up_store.specs.Connections.{BlamesWrite, RanWrite};
 
 use crate::column_values::{check_places, count_in, ident_in};
 use crate::ecus::{make_ecus, read_ecus};
@@ -86,8 +85,7 @@ impl<D: Alter> Store<D> {
         ensures crash { SparesRows (IsNewVehicle new.now) (λ rows. with_vehicle_rows rows new.now) (state D.Store self.old) (state D.Store self.new) }
         ensures clean { HasCleanDisk (state D.Store self.new) → HasCleanDisk (state D.Store self.old) }
         ensures open { NeedsOpen (state D.Store self.old) (state D.Store self.new) result }
-        ensures ran { AllByRecursion TellsItsHash new.now.ecus → RanWrite (vehicle_writes new.now)
-            (state D.Store self.old) (state D.Store self.new) result }
+        ensures ran { RanWrite (vehicle_writes new.now) (state D.Store self.old) (state D.Store self.new) result }
         ensures blame { BlamesWrite (vehicle_writes new.now) (λ rows. IsNewVehicle new.now rows × FitsVehicle new.now)
             (state D.Store self.old) (state D.Store self.new) result }
     {
@@ -205,9 +203,8 @@ fn put_vehicle<D: Alter>(
     requires mode { IfClean IsInside (state D.Store tx.old.conn.now) }
     ensures put { PutsRows (IsNewVehicle new.now) (λ rows. with_vehicle_rows rows new.now)
         (state D.Store tx.old.conn.now) (state D.Store tx.new.conn.now) result }
-    ensures ran { AllByRecursion TellsItsHash new.now.ecus → Ran (vehicle_writes new.now)
-        (state D.Store tx.old.conn.now) (state D.Store tx.new.conn.now) result }
-    ensures blame { BlamesOne (vehicle_writes new.now) (λ _. FitsVehicle new.now × AllByRecursion TellsItsHash new.now.ecus)
+    ensures ran { Ran (vehicle_writes new.now) (state D.Store tx.old.conn.now) (state D.Store tx.new.conn.now) result }
+    ensures blame { BlamesOne (vehicle_writes new.now) (λ _. FitsVehicle new.now)
         (state D.Store tx.old.conn.now) (state D.Store tx.new.conn.now) result }
     ensures step { IsOpenStep D.Store tx.old.conn tx.new.conn result }
 {

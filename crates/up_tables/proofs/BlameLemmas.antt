@@ -48,7 +48,7 @@ abbrev pub count_of : Result Compiled CompileError → Option ℕ
 count_of (Ok c) = Some (length c.names)
 count_of (Err e) = None
 
-none_of : {A B C X Y Z : Type 0} → (A → ⊥) → (B → ⊥) → (C → ⊥) → (A × X) ⊎ ((B × Y) ⊎ (C × Z)) → ⊥
+pub none_of : {A B C X Y Z : Type 0} → (A → ⊥) → (B → ⊥) → (C → ⊥) → (A × X) ⊎ ((B × Y) ⊎ (C × Z)) → ⊥
 none_of f g h (inl k) = f k.0
 none_of f g h (inr (inl k)) = g k.0
 none_of f g h (inr (inr k)) = h k.0

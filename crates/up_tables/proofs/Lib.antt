@@ -55,6 +55,7 @@ pub mod OwnerLemmas
 pub mod OpenedLemmas
 pub mod HinderedLemmas
 pub mod MakingLemmas
+pub mod AnywhereLemmas
 pub mod UndoneLemmas
 pub mod UnmadeLemmas
 mod UnraisedLemmas

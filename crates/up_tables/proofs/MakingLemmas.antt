@@ -1,5 +1,5 @@
 -- Why a statement that makes a table, or puts in or sets the row of `meta`, is told as `Store`; and several of them, one after another.
-use Rattle.std.proofs.Common.{◌≡◌, ◌⊎◌, inl, inr, ℕ, List, [], ◌∷◌, ◌++◌, Bool, true, false, Option, Some, None, Ok, Err, Result, IsTrue, refl, sym, ap, subst, ◌∙◌, arith}
+use Rattle.std.proofs.Common.{◌≡◌, ◌⊎◌, inl, inr, ℕ, List, [], ◌++◌, Bool, true, false, Option, Some, None, Ok, Err, Result, IsTrue, refl, sym, ap, subst, ◌∙◌, arith}
 use Rattle.std.proofs.lemmas.Bool.{cases_Bool}
 use Rattle.std.specs.Result.{IsErrAnd}
 use Rattle.sqlite.specs.declared.error.Error.{Error}
@@ -11,7 +11,7 @@ use Rattle.sqlite.specs.Listing.{understood}
 use Rattle.sqlite.specs.Schema.{Schema}
 use Rattle.sqlite.specs.Table.{Table}
 use Rattle.sqlite.specs.Tree.{Trees}
-use Rattle.sqlite.specs.State.{State, HasCleanDisk, HasCause, Survives, ExecutesIn, ExecutesInside, EndsScope, Escapes, IsMisplaced, IsNotRun, IsStatement, Runs, RunsCommand, is_pragma, shows_rows, store_error}
+use Rattle.sqlite.specs.State.{State, HasCleanDisk, HasCause, Survives, ExecutesIn, ExecutesInside, EndsScope, Escapes, IsMisplaced, IsNoStatement, IsNotRun, IsStatement, Runs, RunsCommand, is_pragma, shows_rows, store_error}
 use Rattle.sqlite.specs.Clock.{timed}
 use Rattle.sqlite.proofs.Callers.{IsPlain, command_of}
 use Rattle.sqlite.proofs.StateLemmas.{survives_then}
@@ -23,12 +23,13 @@ use Rattle.sqlite_trees.specs.declared.error.StoreError.{StoreError}
 use Rattle.sqlite_trees.specs.declared.error.StoreError.TheVariants.{OutOfMemory, Io, Corrupt, Full, Broken, Unstorable}
 use Rattle.up_tables.specs.declared.open.OpenFault.TheVariants as opening
 use Rattle.up_tables.specs.Faults.{open_fault}
-use Rattle.up_tables.specs.Making.{Tries, alone}
+use Rattle.up_tables.specs.Making.{Tries, TriesTill, alone}
 use Rattle.up_tables.specs.Ours.{HasFailed}
 use Rattle.up_tables.specs.Makes.{MakesIn}
 use Rattle.up_tables.specs.Stands.{AnyRows, AreEmpty, IfClean, IsInside, IsWithin}
 use Rattle.up_tables.specs.Tried.{IsGiven, IsRefused, Makes, MakesOf, RefusesOne, our_mode}
 use Rattle.up_tables.proofs.BlameLemmas.{is_whole, count_of, is_statement, plain_untimed}
+use Rattle.up_tables.proofs.TriedLemmas.{makes_then, refuses_first, refuses_then}
 
 -- the command makes a table, puts in a row, or sets some
 abbrev pub is_making : Command → Bool
@@ -82,22 +83,9 @@ by_cause old new e told too_big Unstorable is has = inr has
 
 -- ---- one statement
 
--- over a database of this schema the text is a statement without values, which makes a table, puts in a row, or sets some
-pub record IsMaking (schema : Schema) (text : List ℕ) : Type 0 where
-  pub plain : IsPlain (understood schema text)
-  pub makes : is_making (command_of (understood schema text)) ≡ true
-  pub whole : is_whole text (understood schema text) ≡ true
-  pub count : count_of (understood schema text) ≡ Some 0
-
-module _ (schema : Schema) (text : List ℕ) (it : IsMaking schema text) (old new : State) (here : IsTrue old.is_open → old.now.schema ≡ schema) (is_open : IsTrue old.is_open) where
-  known : (c : Compiled) → IsStatement old text [] c → understood schema text ≡ Ok c
-  known c statement = sym (ap (λ s. understood s text) (here is_open)) ∙ statement.is
-
-  making : (c : Compiled) → IsStatement old text [] c → is_making c.command ≡ true
-  making c statement = ap is_making (ap command_of (sym (known c statement))) ∙ it.makes
-
+module _ (text : List ℕ) (old new : State) (makes : (c : Compiled) → IsStatement old text [] c → (is_making c.command ≡ true) × (c.returning ≡ None)) where
   quiet : (c : Compiled) → IsStatement old text [] c → shows_rows false c ≡ false
-  quiet c statement = rw (not_query c.command (making c statement), not_pragma c.command (making c statement), (subst IsPlain (known c statement) it.plain).0) refl
+  quiet c statement = rw (not_query c.command (makes c statement).0, not_pragma c.command (makes c statement).0, (makes c statement).1) refl
 
   given : (c : Compiled) → IsStatement old text [] c → IsGiven old.now text [] c
   given c it = record { is = it.is; whole = it.whole; given = it.given; now = it.now }
@@ -106,30 +94,49 @@ module _ (schema : Schema) (text : List ℕ) (it : IsMaking schema text) (old ne
   unfolding ExecutesIn given
   made count (h, _, _) =
       let ran : Runs old new h.0.returning h.0.command _ (timed [] h.0.formats h.1.now) count = rw (quiet h.0 h.1) at h.2 in
-      let does = does_of old new h.0.returning h.0.command _ _ count (making h.0 h.1) ran in
+      let does = does_of old new h.0.returning h.0.command _ _ count (makes h.0 h.1).0 ran in
       (does.0, (h.0, given h.0 h.1, does.1))
 
   module _ (e : Error) (told : open_fault e ≡ opening.Store) where
     of_run : (c : Compiled) (statement : IsStatement old text [] c) → RunsCommand old new text c (timed [] c.formats statement.now) (Err e) → HasFailed old new ⊎ IsRefused old.step_limit text [] old.now
     unfolding given
-    of_run c statement (inl (inl misplaced, _)) = absurd (placed old c.command e (making c statement) misplaced)
+    of_run c statement (inl (inl misplaced, _)) = absurd (placed old c.command e (makes c statement).0 misplaced)
     of_run c statement (inl (inr may, _)) = inr (Some e, (c, given c statement, may.1))
     of_run c statement (inr fails) = elim (by_cause old new e told _ fails.0 fails.1 fails.2) [ inl failed ↦ inl failed | inr big ↦ inr (None, (c, given c statement, big)) ]
 
-    refused : ExecutesInside 0 text [] old new (Err e) → HasFailed old new ⊎ IsRefused old.step_limit text [] old.now
+    -- it is none, the disk failed, or it is refused
+    refused : ExecutesInside 0 text [] old new (Err e) → IsNoStatement old text [] e ⊎ (HasFailed old new ⊎ IsRefused old.step_limit text [] old.now)
     unfolding ExecutesIn IsNotRun EndsScope
-    refused (inl (inl (inl h), _)) = absurd (is_statement schema text [] (plain_untimed (understood schema text) it.plain) it.whole it.count old e (here is_open) h.0)
-    refused (inl (inl (inr h), _)) = elim (by_cause old new e told ⊥ h.0 h.1 h.2) [ inl failed ↦ inl failed | inr never ↦ absurd never ]
-    refused (inl (inr h, _)) = of_run h.0 h.1 (rw (quiet h.0 h.1) at h.2)
-    refused (inr (ends, _, _)) = absurd (stays 0 old ends.0.command (making ends.0 ends.1) ends.2)
+    refused (inl (inl (inl h), _)) = inl h.0
+    refused (inl (inl (inr h), _)) = inr (elim (by_cause old new e told ⊥ h.0 h.1 h.2) [ inl failed ↦ inl failed | inr never ↦ absurd never ])
+    refused (inl (inr h, _)) = inr (of_run h.0 h.1 (rw (quiet h.0 h.1) at h.2))
+    refused (inr (ends, _, _)) = absurd (stays 0 old ends.0.command (makes ends.0 ends.1).0 ends.2)
+
+-- it is tried until the database stops at it, as where it is no statement
+pub tries_till : (Stops : Option ℕ → List (List ℕ × Row) → Database → Type 0) (text : List ℕ) (old new : State) → (IsTrue old.is_open → (c : Compiled) → IsStatement old text [] c → (is_making c.command ≡ true) × (c.returning ≡ None))
+    → (IsTrue old.is_open → (e : Error) → IsNoStatement old text [] e → Stops old.step_limit (alone text) old.now) → (IsRefused old.step_limit text [] old.now → Stops old.step_limit (alone text) old.now)
+    → (r : Result ℕ Error) → ExecutesInside 0 text [] old new r → TriesTill Stops (alone text) old new r
+tries_till Stops text old new makes none refuses (Ok count) ran = (new.now, made text old new (makes ran.1.was_open) count ran, refl)
+tries_till Stops text old new makes none refuses (Err e) ran = λ told. elim (cases_Bool old.is_open) [
+  | inl is_open ↦ elim (refused text old new (makes is_open) e told ran) [ inl apart ↦ inr (none is_open e apart) | inr it ↦ elim it [ inl failed ↦ inl failed | inr stops ↦ inr (refuses stops) ] ]
+  | inr shut ↦ inl (inl shut)
+]
+
+-- over a database of a schema, where the text is a statement without values, which makes a table, puts in a row, or sets some
+pub record IsMaking (schema : Schema) (text : List ℕ) : Type 0 where
+  pub plain : IsPlain (understood schema text)
+  pub makes : is_making (command_of (understood schema text)) ≡ true
+  pub whole : is_whole text (understood schema text) ≡ true
+  pub count : count_of (understood schema text) ≡ Some 0
 
 module _ (schema : Schema) (text : List ℕ) (it : IsMaking schema text) (old new : State) where
+  known : IsTrue old.is_open → (IsTrue old.is_open → old.now.schema ≡ schema) → (c : Compiled) → IsStatement old text [] c → understood schema text ≡ Ok c
+  known is_open here c statement = sym (ap (λ s. understood s text) (here is_open)) ∙ statement.is
+
   tries_one : (here : IsTrue old.is_open → old.now.schema ≡ schema) (r : Result ℕ Error) → ExecutesInside 0 text [] old new r → Tries (alone text) old new r
-  tries_one here (Ok count) ran = (new.now, made schema text it old new here ran.1.was_open count ran, refl)
-  tries_one here (Err e) ran = λ told. elim (cases_Bool old.is_open) [
-    | inl is_open ↦ elim (refused schema text it old new here is_open e told ran) [ inl failed ↦ inl failed | inr refuses ↦ inr (inl refuses) ]
-    | inr shut ↦ inl (inl shut)
-  ]
+  tries_one here r ran =
+      tries_till RefusesOne text old new (λ is_open c statement. let is = known is_open here c statement in (ap is_making (ap command_of (sym is)) ∙ it.makes, (subst IsPlain is it.plain).0))
+      (λ is_open e none. absurd (is_statement schema text [] (plain_untimed (understood schema text) it.plain) it.whole it.count old e (here is_open) none)) (λ refuses. inl refuses) r ran
 
   -- in a transaction
   pub tries_within : (P : Trees → Type 0) (r : Result ℕ Error) → IfClean (IsWithin schema P) old → Survives old new (λ _. ⊥) → (HasCleanDisk new → IsTrue old.in_transaction → ExecutesInside 0 text [] old new r)
@@ -144,19 +151,6 @@ module _ (schema : Schema) (text : List ℕ) (it : IsMaking schema text) (old ne
 
 -- ---- several, one after another
 
-makes_both : (limit : Option ℕ) (a b : List (List ℕ × Row)) (db mid after : Database) → Makes limit a db mid → Makes limit b mid after → Makes limit (a ++ b) db after
-makes_both limit [] b db mid after h k = subst (λ d. Makes limit b d after) h k
-makes_both limit (s ∷ a) b db mid after h k = (h.0, h.1, makes_both limit a b h.0 mid after h.2 k)
-
-refuses_first : (limit : Option ℕ) (a b : List (List ℕ × Row)) (db : Database) → RefusesOne limit a db → RefusesOne limit (a ++ b) db
-refuses_first limit [] b db h = absurd h
-refuses_first limit (s ∷ a) b db (inl refused) = inl refused
-refuses_first limit (s ∷ a) b db (inr later) = inr (later.0, later.1, refuses_first limit a b later.0 later.2)
-
-refuses_behind : (limit : Option ℕ) (a b : List (List ℕ × Row)) (db mid : Database) → Makes limit a db mid → RefusesOne limit b mid → RefusesOne limit (a ++ b) db
-refuses_behind limit [] b db mid h k = subst (RefusesOne limit b) h k
-refuses_behind limit (s ∷ a) b db mid h k = inr (h.0, h.1, refuses_behind limit a b h.0 mid h.2 k)
-
 -- a failure of a later step
 pub failed_later : (old mid new : State) (P Q : Trees → Type 0) → Survives old mid P → Survives mid new Q → HasCleanDisk mid → HasFailed mid new → HasFailed old new
 failed_later old mid new P Q first second clean (inr more) = inr (omega (arith, first.counts, more))
@@ -165,32 +159,37 @@ failed_later old mid new P Q first second clean (inl shut) = elim (cases_Bool ol
   | inr was ↦ inl was
 ]
 
+module _ (Stops : Option ℕ → List (List ℕ × Row) → Database → Type 0) where
+  -- further ones, behind some that went through
+  pub tries_on : ((limit : Option ℕ) (a b : List (List ℕ × Row)) (db mid : Database) → Makes limit a db mid → Stops limit b mid → Stops limit (a ++ b) db) → (a b : List (List ℕ × Row)) (old mid new : State) (r : Result ℕ Error)
+      → Survives old mid (λ _. ⊥) → Survives mid new (λ _. ⊥) → HasCleanDisk mid → Makes old.step_limit a old.now mid.now → TriesTill Stops b mid new r → TriesTill Stops (a ++ b) old new r
+  tries_on behind a b old mid new (Ok n) first second clean went h = makes_then old.step_limit a b old.now mid.now new.now went (subst (λ l. Makes l b mid.now new.now) first.limit h)
+  tries_on behind a b old mid new (Err e) first second clean went h = λ told. elim (h told) [
+    | inl failed ↦ inl (failed_later old mid new (λ _. ⊥) (λ _. ⊥) first second clean failed)
+    | inr stops ↦ inr (behind old.step_limit a b old.now mid.now went (subst (λ l. Stops l b mid.now) first.limit stops))
+  ]
+
+  -- the last of some failed, and what follows wasn't asked for
+  pub tries_to : ((limit : Option ℕ) (a b : List (List ℕ × Row)) (db : Database) → Stops limit a db → Stops limit (a ++ b) db) → (a b : List (List ℕ × Row)) (old new : State) (e : Error) (r : Result ℕ Error) → IsErrAnd r (λ f. f ≡ e)
+      → TriesTill Stops a old new (Err e) → TriesTill Stops (a ++ b) old new r
+  tries_to ahead a b old new e (Ok n) is h = absurd is
+  tries_to ahead a b old new e (Err f) is h = λ told. elim (h (ap open_fault (sym is) ∙ told)) [ inl failed ↦ inl failed | inr stops ↦ inr (ahead old.step_limit a b old.now stops) ]
+
 -- how far statements came
 pub record Came (these : List (List ℕ × Row)) (old new : State) (r : Result ℕ Error) : Type 0 where
   pub survives : Survives old new (λ _. ⊥)
   pub tried : HasCleanDisk new → Tries these old new r
 
--- further ones, behind some that went through
 pub came_on : (a b : List (List ℕ × Row)) (old mid new : State) (count : ℕ) (r : Result ℕ Error) → Came a old mid (Ok count) → Came b mid new r → Came (a ++ b) old new r
 came_on a b old mid new count r one two = record {
   survives = survives_then old mid new (λ _. ⊥) (λ _. ⊥) (λ _. ⊥) (λ _ db none. none) (λ _ db none. none) one.survives two.survives;
-  tried = λ clean. go r (omega (arith, clean, two.survives.clean)) (two.tried clean);
+  tried = λ clean.
+      let before : HasCleanDisk mid = omega (arith, clean, two.survives.clean) in
+      tries_on RefusesOne refuses_then a b old mid new r one.survives two.survives before (one.tried before) (two.tried clean);
 }
-  where
-    go : (r : Result ℕ Error) → HasCleanDisk mid → Tries b mid new r → Tries (a ++ b) old new r
-    go (Ok n) before h = makes_both old.step_limit a b old.now mid.now new.now (one.tried before) (subst (λ l. Makes l b mid.now new.now) one.survives.limit h)
-    go (Err e) before h = λ told. elim (h told) [
-      | inl failed ↦ inl (failed_later old mid new (λ _. ⊥) (λ _. ⊥) one.survives two.survives before failed)
-      | inr refuses ↦ inr (refuses_behind old.step_limit a b old.now mid.now (one.tried before) (subst (λ l. RefusesOne l b mid.now) one.survives.limit refuses))
-    ]
 
--- the last of some failed, and what follows wasn't asked for
 pub came_to : (a b : List (List ℕ × Row)) (old new : State) (e : Error) (r : Result ℕ Error) → IsErrAnd r (λ f. f ≡ e) → Came a old new (Err e) → HasCleanDisk new → Tries (a ++ b) old new r
-came_to a b old new e (Ok n) is came clean = absurd is
-came_to a b old new e (Err f) is came clean = λ told. elim (came.tried clean (ap open_fault (sym is) ∙ told)) [
-  | inl failed ↦ inl failed
-  | inr refuses ↦ inr (refuses_first old.step_limit a b old.now refuses)
-]
+came_to a b old new e r is came clean = tries_to RefusesOne refuses_first a b old new e r is (came.tried clean)
 
 -- of tables whatever their rows
 pub any_rows : (schema : Schema) (P : Trees → Type 0) (s : State) → IsWithin schema P s → IsWithin schema AnyRows s

@@ -1,5 +1,5 @@
 -- Want of memory undoes the transaction, and the database refuses nothing for want of memory.
-use Rattle.std.proofs.Common.{◌≡◌, ◌⊎◌, inl, inr, ℕ, ℤ, List, [], ◌∷◌, ◌++◌, Bool, true, false, Option, Some, None, Ok, Err, Result, IfErr, OnOk, IsTrue, refl, sym, ap, subst, ◌∙◌, arith}
+use Rattle.std.proofs.Common.{◌≡◌, ◌⊎◌, inl, inr, ℕ, ℤ, List, [], ◌∷◌, ◌++◌, Bool, true, false, Option, Some, None, Ok, Err, Result, IfOk, IfErr, OnOk, IsTrue, refl, sym, ap, subst, ◌∙◌, arith}
 use Rattle.std.specs.Prelude.{MatchBool, fold, is_some, slice_get, option_map}
 use Rattle.std.specs.Result.{IsOk, IsErrAnd}
 use Rattle.sqlite_value.specs.declared.value.Value.TheVariants.{Null}
@@ -13,7 +13,7 @@ use Rattle.sqlite_schema.specs.declared.command.Conflict.TheVariants.{Abort, Ign
 use Rattle.sqlite_schema.specs.declared.command.Upsert.{Upsert}
 use Rattle.sqlite_schema.specs.declared.command.Returning.{Returning}
 use Rattle.sqlite_schema.specs.declared.command.Command.{Command}
-use Rattle.sqlite_schema.specs.declared.command.Command.TheVariants.{Insert, InsertOr, Update, Delete, CreateTable, CreateIndex, DropTable, DropIndex, CreateView, DropView}
+use Rattle.sqlite_schema.specs.declared.command.Command.TheVariants.{Select, Rows, Insert, InsertOr, Update, Delete, CreateTable, CreateIndex, DropTable, DropIndex, CreateView, DropView}
 use Rattle.sqlite_rules.specs.declared.error.Refusal.{Refusal}
 use Rattle.sqlite_rules.specs.declared.error.Refusal.TheVariants.{Violates, Mismatch, NoRowid, BadReference, TooDeep}
 use Rattle.sqlite_rules.specs.Cast.{cast_row}
@@ -28,12 +28,12 @@ use Rattle.sqlite.specs.Clock.{timed}
 use Rattle.sqlite.specs.declared.error.Error.{Error}
 use Rattle.sqlite.specs.declared.error.Error.TheVariants.{InvalidQuery}
 use Rattle.sqlite.specs.declared.run.Mode.{Mode}
-use Rattle.sqlite.specs.Effect.{Database, RefusesQuery, RefusesSource, RefusesToAlter, IsNoText, edit_error, alter_error}
+use Rattle.sqlite.specs.Effect.{Database, RefusesQuery, RefusesToRead, RefusesSource, RefusesToAlter, IsNoText, edit_error, alter_error}
 use Rattle.sqlite.specs.Rows.{Outcome, Part, Refuses, Task, Written, CounterIn, Counter, CountsIn, Counts, Updates, Deletes, Inserts, Puts, Clears, Resolves, Meets, Upserts, Judged, Tries, TriesEach, InsertsOr, sequence, stamped, shown, higher, count_of, rowids_for, nothing, joined, mended}
 use Rattle.sqlite.specs.Does.{Does, Tally, AtPlace, Shows, Returns, Concludes, WritesRows, OnRows, Empties, UncountsIn, Drops, Redefines, Defines, MakesIndex, Leaves, IsKeptAside}
-use Rattle.sqlite.specs.State.{State, HasCleanDisk, Survives, ExecutesIn, ExecutesInside, IsNotRun, RunsCommand, mode_of, shows_rows, text_of}
+use Rattle.sqlite.specs.State.{State, HasCleanDisk, Survives, ExecutesIn, ExecutesInside, FailsToQuery, FailsToShow, IsNotRun, IsTooLate, RunsCommand, mode_of, shows_rows, text_of}
 use Rattle.up_tables.specs.Faults.{store_fault}
-use Rattle.up_tables.specs.Stands.{IfClean, IsInside, Steps}
+use Rattle.up_tables.specs.Stands.{IfClean, IsInside}
 use Rattle.up_tables.specs.Tried.{Undoes}
 use Rattle.up_tables.specs.declared.values.StoreFault.{StoreFault}
 use Rattle.up_tables.specs.declared.values.StoreFault.TheVariants.{Memory, Store}
@@ -90,6 +90,11 @@ module _ (e : Error) (told : store_fault e ≡ Memory) where
   queried limit db q params (inl h) = other h.0 refl
   queried limit db q params (inr (inl h)) = other h.0 refl
   queried limit db q params (inr (inr h)) = other h.0 refl
+
+  read : (limit : Option ℕ) (command : Command) (db : Database) (params : Row) → RefusesToRead limit command db params e → ⊥
+  read limit (Select q names) db params h = queried limit db q params h
+  read limit (Rows values width names) db params h = other h.0 refl
+  read limit _ db params h = other h refl
 
   sourced : (limit : Option ℕ) (db : Database) (params : Row) (from : Source) → RefusesSource limit db params from e → ⊥
   sourced limit db params (source.Values terms width) (inl h) = other h.0 refl
@@ -252,17 +257,35 @@ module _ (e : Error) (told : store_fault e ≡ Memory) where
     undone (inl (inr h, _)) = matched (shows_rows false h.0) h.2 (λ x. absurd (returned x.0 refl)) (of_run h.0 (timed params h.0.formats h.1.now))
     undone (inr h) = absurd (other h.1 refl)
 
+    of_show : (c : Compiled) (values : Row) (how : Option Returning) → FailsToShow old new text c values e how → new.in_transaction ≡ false
+    of_show c values None h = absurd (read old.step_limit c.command h.0 values h.2)
+    of_show c values (Some what) h = of_run c values h
+
+    -- the same of one that shows rows
+    unshown : FailsToQuery text params old new e ⊎ IsTooLate text params old new e → new.in_transaction ≡ false
+    unfolding FailsToQuery
+    unshown (inl (inl h)) = not_run h
+    unshown (inl (inr h)) = of_show h.0 (timed params h.0.formats h.1.now) h.0.returning h.2
+    unshown (inr late) = absurd (other late.4 refl)
+
 -- ---- calls
 
 -- a call that carried out one statement
 pub undoes_only : {T : Type 0} (text : List ℕ) (params : Row) (written : Result ℕ Error) (r : Result T StoreFault) (old new : State) → OnOk written (IsOk r) → IfErr written (λ e. r ≡ Err (store_fault e))
-    → Survives old new (λ _. ⊥) → IfClean IsInside old → (HasCleanDisk new → IsTrue old.in_transaction → ExecutesInside 0 text params old new written) → Undoes old new r
+    → Survives old new (λ _. ⊥) → IfClean IsInside old → (HasCleanDisk new → IsTrue old.in_transaction → ExecutesInside 0 text params old new written) → Undoes new r
 undoes_only text params written (Ok x) old new went fault survives inside ran clean = tt
 undoes_only text params (Ok n) (Err f) old new went fault survives inside ran clean = absurd (let no = went in cc)
 undoes_only text params (Err e) (Err f) old new went fault survives inside ran clean = λ is.
     undone e (sym (fault_alike fault) ∙ is) text params old new (ran clean (inside (omega (arith, survives.clean))))
 
+-- one that showed rows, and told `Store` where they weren't those that were asked for
+pub undoes_showing : {X T : Type 0} (text : List ℕ) (params : Row) (Q : X → Type 0) (answer : Result X Error) (r : Result T StoreFault) (old new : State) → IfErr answer (λ e. r ≡ Err (store_fault e))
+    → IfOk answer (λ v. IfErr r (λ fault. (fault ≡ Store) × Q v)) → (HasCleanDisk new → IfErr answer (λ e. FailsToQuery text params old new e ⊎ IsTooLate text params old new e)) → Undoes new r
+undoes_showing text params Q answer (Ok x) old new fault another err clean = tt
+undoes_showing text params Q (Ok v) (Err f) old new fault another err clean = λ is. absurd (let no : Store ≡ Memory = sym another.0 ∙ is in cc)
+undoes_showing text params Q (Err e) (Err f) old new fault another err clean = λ is. unshown e (sym (fault_alike fault) ∙ is) text params old new (err clean)
+
 -- one that handed on the fault of its last step
-pub undoes_next : {T : Type 0} (r : Result T StoreFault) (mid new : State) (f : StoreFault) → IsErrAnd r (λ e. e ≡ f) → Steps mid new → Undoes {A = Unit {0}} mid new (Err f) → Undoes mid new r
-undoes_next (Ok x) mid new f fails steps h clean = tt
-undoes_next (Err e) mid new f fails steps h clean = λ is. h clean (sym fails ∙ is)
+pub undoes_next : {T : Type 0} (r : Result T StoreFault) (new : State) (f : StoreFault) → IsErrAnd r (λ e. e ≡ f) → Undoes {A = Unit {0}} new (Err f) → Undoes new r
+undoes_next (Ok x) new f fails h clean = tt
+undoes_next (Err e) new f fails h clean = λ is. h clean (sym fails ∙ is)

@@ -1,5 +1,5 @@
 -- Why the tables were not made or raised, said of the connection before the transaction and behind it.
-use Rattle.std.proofs.Common.{◌≡◌, ◌↔◌, inl, inr, ◌⊎◌, ℕ, List, Bool, true, false, Ok, Err, Result, IfErr, OnOk, IsTrue, sym, ap, subst, ◌∙◌, arith}
+use Rattle.std.proofs.Common.{◌≡◌, ◌↔◌, inl, inr, ◌⊎◌, ℕ, List, Bool, true, false, Option, Ok, Err, Result, IfErr, OnOk, IsTrue, sym, ap, subst, ◌∙◌, arith}
 use Rattle.std.proofs.lemmas.Bool.{cases_Bool}
 use Rattle.std.specs.Result.{IsOk}
 use Rattle.sqlite.specs.declared.error.Error.{Error}
@@ -13,7 +13,7 @@ use Rattle.sqlite_trees.specs.declared.store.Store.{Ghosts}
 use Rattle.up_tables.specs.declared.open.OpenFault.{OpenFault}
 use Rattle.up_tables.specs.declared.open.OpenFault.TheVariants as opening
 use Rattle.up_tables.specs.Faults.{open_fault}
-use Rattle.up_tables.specs.Making.{FailsToMake, Tries, making}
+use Rattle.up_tables.specs.Making.{FailsToMake, TriesTill, making}
 use Rattle.up_tables.specs.Ours.{HasFailed}
 use Rattle.up_tables.specs.Stands.{HasNoTables, IfClean, IsInside}
 use Rattle.up_tables.specs.Tables.{no_schema}
@@ -43,18 +43,18 @@ module _ {S : Type 0} (g : Ghosts S) (old first mid last : Held S) (begun : firs
   from_first h = subst (λ s. HasFailed (state g s) (state g last)) begun h
 
   -- a statement wasn't carried out
-  pub refused : (these : List (List ℕ × Row)) (dropped : Held S) → last ≡ dropped → Survives (state g mid) (state g dropped) (λ _. ⊥) → (step : Result ℕ Error) (r : Result (Unit {0}) OpenFault)
-      → (HasCleanDisk (state g mid) → Tries these (state g first) (state g mid) step) → OnOk step (IsOk r) → IfErr step (λ e. r ≡ Err (open_fault e)) → HasCleanDisk (state g last)
-      → IfErr r (λ f. f ≡ opening.Store → HasFailed (state g old) (state g last) ⊎ RefusesOne (state g old).step_limit these (state g old).now)
-  refused these dropped is survives step (Ok x) tried went fault clean = tt
-  refused these dropped is survives (Ok n) (Err f) tried went fault clean = absurd (let no = went in cc)
-  refused these dropped is survives (Err e) (Err f) tried went fault clean = λ store.
+  pub refused : (Stops : Option ℕ → List (List ℕ × Row) → Database → Type 0) (these : List (List ℕ × Row)) (dropped : Held S) → last ≡ dropped → Survives (state g mid) (state g dropped) (λ _. ⊥)
+      → (step : Result ℕ Error) (r : Result (Unit {0}) OpenFault) → (HasCleanDisk (state g mid) → TriesTill Stops these (state g first) (state g mid) step) → OnOk step (IsOk r) → IfErr step (λ e. r ≡ Err (open_fault e))
+      → HasCleanDisk (state g last) → IfErr r (λ f. f ≡ opening.Store → HasFailed (state g old) (state g last) ⊎ Stops (state g old).step_limit these (state g old).now)
+  refused Stops these dropped is survives step (Ok x) tried went fault clean = tt
+  refused Stops these dropped is survives (Ok n) (Err f) tried went fault clean = absurd (let no = went in cc)
+  refused Stops these dropped is survives (Err e) (Err f) tried went fault clean = λ store.
       let ends : Survives (state g mid) (state g last) (λ _. ⊥) = subst (λ s. Survives (state g mid) (state g s) (λ _. ⊥)) (sym is) survives in
       let same : open_fault e ≡ f = (let it = fault in cc) in
       let before : HasCleanDisk (state g mid) = omega (arith, clean, ends.clean) in
       elim (tried before (same ∙ store)) [
         | inl failed ↦ inl (failed_within (λ _. ⊥) ends failed)
-        | inr refuses ↦ inr (subst (λ s. RefusesOne (state g s).step_limit these (state g s).now) begun refuses)
+        | inr stops ↦ inr (subst (λ s. Stops (state g s).step_limit these (state g s).now) begun stops)
       ]
 
   -- nor was the commit

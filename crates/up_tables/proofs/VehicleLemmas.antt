@@ -288,19 +288,19 @@ upsert_ran items answer r old new v told ok =
 
 -- where the vehicle stands with its Primary, the row that comes back is the one that was to be written
 pub upsert_blames : {X T : Type 0} (items : X → List Row) (answer : Result X Error) (r : Result T StoreFault) (old new : State) (v : VehicleRow) → Survives old new (λ _. ⊥) → IfClean IsInside old
-    → IfErr answer (λ e. r ≡ Err (store_fault e)) → IfOk answer (λ shown. IfErr r (λ fault. fault ≡ Store → map part (items shown) ≢ vehicle_row v ∷ []))
+    → IfErr answer (λ e. r ≡ Err (store_fault e)) → IfOk answer (λ shown. IfErr r (λ fault. (fault ≡ Store) × (map part (items shown) ≢ vehicle_row v ∷ [])))
     → (HasCleanDisk new → IfOk answer (λ shown. Shown upsert_vehicle_text (vehicle_row v) old new (items shown)))
     → (HasCleanDisk new → IfErr answer (λ e. FailsToQuery upsert_vehicle_text (vehicle_row v) old new e ⊎ IsTooLate upsert_vehicle_text (vehicle_row v) old new e))
     → BlamesOne ((upsert_vehicle_text, vehicle_row v) ∷ []) (HasVehicle v) old new r
-upsert_blames items (Ok shown) (Ok x) old new v survives inside fault damaged ok err clean = tt
-upsert_blames items (Ok shown) (Err f) old new v survives inside fault damaged ok err clean = λ is is_open has holds.
+upsert_blames items (Ok shown) (Ok x) old new v survives inside fault another ok err clean = tt
+upsert_blames items (Ok shown) (Err f) old new v survives inside fault another ok err clean = λ is is_open has holds.
     let here = has is_open in
     let name = string_bytes v.vehicle in
     let primary = string_bytes v.primary_ecu in
     let done = upserts_vehicle old new name primary primary v.version v.last_counter holds.2.0 holds.2.1 (items shown) here.schema_is holds.1.shaped (holds.1.parts name ∙ holds.2.2) (ok clean) in
-    absurd (damaged is (ap (map part) done.3))
-upsert_blames items (Err e) (Ok x) old new v survives inside fault damaged ok err clean = tt
-upsert_blames items (Err e) (Err f) old new v survives inside fault damaged ok err clean = λ is is_open has holds.
+    absurd (another.1 (ap (map part) done.3))
+upsert_blames items (Err e) (Ok x) old new v survives inside fault another ok err clean = tt
+upsert_blames items (Err e) (Err f) old new v survives inside fault another ok err clean = λ is is_open has holds.
     let before : HasCleanDisk old = omega (arith, survives.clean) in
     let it = upsert_writes (string_bytes v.vehicle) (string_bytes v.primary_ecu) v.version v.last_counter in
     elim (refusal_showing upsert_vehicle_text (vehicle_row v) upsert (shown_writing it) old is_open has new e (sym (fault_alike fault) ∙ is) what it.shows (inside before) (err clean)) [ inl more ↦ inl more | inr refused ↦ inr (inl refused) ]

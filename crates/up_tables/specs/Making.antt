@@ -1,17 +1,20 @@
 -- By which statements the tables are made, and those of an older version raised; and why they are not.
-use Rattle.std.specs.Prelude.{◌≡◌, ◌++◌, ◌⊎◌, ℕ, List, [], ◌∷◌, Result, Ok, Err, codes}
+use Rattle.std.specs.Prelude.{◌≡◌, ◌++◌, ◌⊎◌, ℕ, List, [], ◌∷◌, Option, Result, Ok, Err, codes}
 use Rattle.sqlite.specs.declared.error.Error.{Error}
+use Rattle.sqlite.specs.Effect.{Database}
+use Rattle.sqlite.specs.Listing.{understood}
 use Rattle.sqlite.specs.Order.{Row}
 use Rattle.sqlite.specs.State.{State}
+use Rattle.sqlite_resolve.specs.declared.error.CompileError.{CompileError}
 use Rattle.up_tables.specs.declared.open.OpenFault.TheVariants.{Store}
 use Rattle.up_tables.specs.declared.open.SchemaVersion.{SchemaVersion}
 use Rattle.up_tables.specs.declared.open.SchemaVersion.TheVariants.{One, Two, Three}
 use Rattle.up_tables.specs.Faults.{open_fault}
-use Rattle.up_tables.specs.Ours.{HasFailed, ListsUs, NamesOlder}
+use Rattle.up_tables.specs.Ours.{HasFailed, IsOlder, NamesVersion}
 use Rattle.up_tables.specs.Stands.{HasNoTables}
 use Rattle.up_tables.specs.Tables.{meta_text, role_key_text, repo_file_text, image_text, campaign_text, vehicle_text, ecu_text, kept_text}
 use Rattle.up_tables.specs.Tables.{retired_text, image_sha512_text}
-use Rattle.up_tables.specs.Tried.{Makes, RefusesOne}
+use Rattle.up_tables.specs.Tried.{IsRefused, Makes, MakesOf, RefusesOne}
 
 -- ---- the statements, in their order
 
@@ -47,19 +50,40 @@ raising One = (retired_text, []) ∷ (image_sha512_text, []) ∷ (set_schema_tex
 raising Two = (image_sha512_text, []) ∷ (set_schema_text, []) ∷ []
 raising Three = []
 
+-- ---- over any tables
+
+-- the text is no statement over the database, as where a table that it makes is there already
+abbrev pub IsNotTaken : List ℕ → Database → Type 0
+IsNotTaken text db = (why : CompileError) × (understood db.schema text ≡ Err why)
+
+-- one of them is no statement, or is refused, behind those before it, which went through
+abbrev pub StopsAtOne : Option ℕ → List (List ℕ × Row) → Database → Type 0
+StopsAtOne limit [] db = ⊥
+StopsAtOne limit (it ∷ more) db =
+    (IsNotTaken it.0 db ⊎ IsRefused limit it.0 it.1 db) ⊎ ((mid : Database) × MakesOf limit it.0 it.1 db mid × StopsAtOne limit more mid)
+
 -- ---- what is told of them
 
 -- They all went through. Or the error isn't told as `Store`, or is only where the connection was shut, the disk counted a fault, or the database
--- refuses one of them behind those before it.
+-- stops at one of them.
+abbrev pub TriesTill : (Option ℕ → List (List ℕ × Row) → Database → Type 0) → List (List ℕ × Row) → State → State → Result ℕ Error → Type 0
+TriesTill Stops statements old new (Ok count) = Makes old.step_limit statements old.now new.now
+TriesTill Stops statements old new (Err e) = open_fault e ≡ Store → HasFailed old new ⊎ Stops old.step_limit statements old.now
+
+-- over tables that are known, the database refuses one of them behind those before it
 abbrev pub Tries : List (List ℕ × Row) → State → State → Result ℕ Error → Type 0
-Tries statements old new (Ok count) = Makes old.step_limit statements old.now new.now
-Tries statements old new (Err e) = open_fault e ≡ Store → HasFailed old new ⊎ RefusesOne old.step_limit statements old.now
+Tries = TriesTill RefusesOne
+
+-- over any tables, one of them may be no statement, too
+abbrev pub TriesAnywhere : List (List ℕ × Row) → State → State → Result ℕ Error → Type 0
+TriesAnywhere = TriesTill StopsAtOne
 
 -- The connection was shut, or the disk counted a fault; what was committed has tables; or the database refuses one of the statements behind
 -- those before it.
 abbrev pub FailsToMake : State → State → Type 0
 FailsToMake old new = HasFailed old new ⊎ ((¬ HasNoTables old) ⊎ RefusesOne old.step_limit making old.committed)
 
--- `meta` names an older version; and of tables of this product, the database refuses one of the statements that raise them, behind those before it
+-- `meta` names an older version; and of the statements that raise its tables, whatever tables there are, one is none there, or is refused, behind
+-- those before it
 abbrev pub FailsToRaise : State → Type 0
-FailsToRaise s = NamesOlder s × ((version : SchemaVersion) → ListsUs version s → RefusesOne s.step_limit (raising version) s.committed)
+FailsToRaise s = (version : SchemaVersion) × IsOlder version × NamesVersion version s × StopsAtOne s.step_limit (raising version) s.committed

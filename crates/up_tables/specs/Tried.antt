@@ -77,5 +77,5 @@ BlamesOne these P old new result =
     → MoreFaults old.faults new.faults ⊎ RefusesOne old.step_limit these old.now)
 
 -- want of memory is told only where the transaction was undone
-abbrev pub Undoes : {A : Type 0} → State → State → Result A StoreFault → Type 0
-Undoes old new result = HasCleanDisk new → IfErr result (λ fault. fault ≡ Memory → new.in_transaction ≡ false)
+abbrev pub Undoes : {A : Type 0} → State → Result A StoreFault → Type 0
+Undoes new result = HasCleanDisk new → IfErr result (λ fault. fault ≡ Memory → new.in_transaction ≡ false)

@@ -64,7 +64,7 @@ pub fn insert_image<S: Alter>(
         (state S.Store tx.old.conn.now) (state S.Store tx.new.conn.now) result }
     ensures blame { BlamesRefusal insert_image_text (image_row image.now) (state S.Store tx.old.conn.now) (state S.Store tx.new.conn.now) result }
     ensures ran { Ran ((insert_image_text, image_row image.now) ∷ []) (state S.Store tx.old.conn.now) (state S.Store tx.new.conn.now) result }
-    ensures memory { Undoes (state S.Store tx.old.conn.now) (state S.Store tx.new.conn.now) result }
+    ensures memory { Undoes (state S.Store tx.new.conn.now) result }
     ensures step { IsOpenStep S.Store tx.old.conn tx.new.conn result }
 {
     done(tx.execute(

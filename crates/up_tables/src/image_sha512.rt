@@ -57,7 +57,7 @@ pub fn insert_image_sha512<S: Alter>(
         (state S.Store tx.old.conn.now) (state S.Store tx.new.conn.now) result }
     ensures ran { Ran ((insert_sha512_text, sha512_line file.now sha512.now) ∷ [])
         (state S.Store tx.old.conn.now) (state S.Store tx.new.conn.now) result }
-    ensures memory { Undoes (state S.Store tx.old.conn.now) (state S.Store tx.new.conn.now) result }
+    ensures memory { Undoes (state S.Store tx.new.conn.now) result }
     ensures step { IsOpenStep S.Store tx.old.conn tx.new.conn result }
 {
     done(tx.execute(

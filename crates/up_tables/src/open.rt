@@ -88,9 +88,8 @@ pub fn create_tables<S: Alter>(conn: &mut Connection<S>) -> Result<(), OpenFault
 /// Takes tables of this product, whatever version of its schema `meta` names, and raises those of an older one in one transaction. `false` where
 /// `meta` doesn't name it: where the database refuses the query on it, as one without such a table does, or answers anything but the one row.
 /// `Memory` for want of memory; `Store` only where the connection was shut, the disk failed, a limit on steps was met, or `meta` names an older
-/// version, and then of tables of this product only where the database refuses one of the statements that raise them. Of others it may be told too,
-/// as where a table that a raise makes is there already. Whatever it answers but `true`, the database is as it was committed. It looks at `meta`
-/// alone, not at which other tables there are.
+/// version, and the database refuses one of the statements that raise its tables, or can't take it, as where a table that a raise makes is there
+/// already. Whatever it answers but `true`, the database is as it was committed. It looks at `meta` alone, not at which other tables there are.
 pub fn take_tables<S: Alter>(conn: &mut Connection<S>) -> Result<bool, OpenFault>
     requires { (state S.Store conn.old).in_transaction ≡ false }
     ensures ours { IfOk result (λ b. IsTrue b → HasCleanDisk (state S.Store conn.new) → NamesUs (state S.Store conn.old)) }

@@ -4,12 +4,11 @@ ghost use Rattle.std.specs.Prelude.{◌≡◌, ◌≢◌, ◌⊎◌, false, OnOk
 ghost use Rattle.sqlite.specs.Held.{state};
 ghost use Rattle.sqlite.specs.State.{HasCleanDisk, Survives};
 ghost use Rattle.up_tables.specs.Listed.{TableRows, ListsTables};
-ghost use Rattle.up_tables.specs.Making.{alone, raising, set_schema_text, Tries};
+ghost use Rattle.up_tables.specs.Making.{alone, raising, set_schema_text, StopsAtOne, TriesAnywhere};
 ghost use Rattle.up_tables.specs.Ours.{HasFailed, IsOlder, RaisedFrom};
-ghost use Rattle.up_tables.specs.Stands.{AnyRows, IfClean, IsAsCommitted, IsInside, IsWith, IsWithin, Stands};
-ghost use Rattle.up_tables.specs.Tables.{first_schema, second_schema, up_schema};
-ghost use Rattle.up_tables.specs.Tried.{RefusesOne};
-ghost use Rattle.up_tables.specs.Versions.{schema_of, StandsAs};
+ghost use Rattle.up_tables.specs.Stands.{IfClean, IsAsCommitted, IsInside, Stands};
+ghost use Rattle.up_tables.specs.Tables.{up_schema};
+ghost use Rattle.up_tables.specs.Versions.{StandsAs};
 ghost use Rattle.up_tables.specs.declared.open.OpenFault.TheVariants as OpenFault;
 ghost use Rattle.up_tables.specs.declared.open.SchemaVersion.TheVariants.{One, Two};
 ghost use Rattle.up_tables.specs.Statements.{IsStep, NamesLatest, RaisesFrom};
@@ -23,8 +22,8 @@ fn set_schema<S: Alter>(tx: &mut Transaction<'_, S>) -> Result<usize, Error>
     requires mode { IfClean IsInside (state S.Store tx.old.conn.now) }
     ensures set { NamesLatest (state S.Store tx.old.conn.now) (state S.Store tx.new.conn.now) result }
     ensures inside { OnOk result (IfClean IsInside (state S.Store tx.new.conn.now)) }
-    ensures tried { HasCleanDisk (state S.Store tx.new.conn.now) → IsWithin up_schema AnyRows (state S.Store tx.old.conn.now)
-        → Tries (alone set_schema_text) (state S.Store tx.old.conn.now) (state S.Store tx.new.conn.now) result }
+    ensures tried { HasCleanDisk (state S.Store tx.new.conn.now)
+        → TriesAnywhere (alone set_schema_text) (state S.Store tx.old.conn.now) (state S.Store tx.new.conn.now) result }
     ensures step { IsStep S.Store tx.old.conn tx.new.conn }
 {
     tx.execute("UPDATE meta SET schema = 3 WHERE id = 1", &[])
@@ -35,8 +34,8 @@ fn raise_first<S: Alter>(tx: &mut Transaction<'_, S>) -> Result<usize, Error>
     requires mode { IfClean IsInside (state S.Store tx.old.conn.now) }
     ensures raised { RaisesFrom One (state S.Store tx.old.conn.now) (state S.Store tx.new.conn.now) result }
     ensures inside { OnOk result (IfClean IsInside (state S.Store tx.new.conn.now)) }
-    ensures tried { HasCleanDisk (state S.Store tx.new.conn.now) → IsWithin first_schema AnyRows (state S.Store tx.old.conn.now)
-        → Tries (raising One) (state S.Store tx.old.conn.now) (state S.Store tx.new.conn.now) result }
+    ensures tried { HasCleanDisk (state S.Store tx.new.conn.now)
+        → TriesAnywhere (raising One) (state S.Store tx.old.conn.now) (state S.Store tx.new.conn.now) result }
     ensures step { IsStep S.Store tx.old.conn tx.new.conn }
 {
     make_retired(tx)?;
@@ -49,8 +48,8 @@ fn raise_second<S: Alter>(tx: &mut Transaction<'_, S>) -> Result<usize, Error>
     requires mode { IfClean IsInside (state S.Store tx.old.conn.now) }
     ensures raised { RaisesFrom Two (state S.Store tx.old.conn.now) (state S.Store tx.new.conn.now) result }
     ensures inside { OnOk result (IfClean IsInside (state S.Store tx.new.conn.now)) }
-    ensures tried { HasCleanDisk (state S.Store tx.new.conn.now) → IsWithin second_schema AnyRows (state S.Store tx.old.conn.now)
-        → Tries (raising Two) (state S.Store tx.old.conn.now) (state S.Store tx.new.conn.now) result }
+    ensures tried { HasCleanDisk (state S.Store tx.new.conn.now)
+        → TriesAnywhere (raising Two) (state S.Store tx.old.conn.now) (state S.Store tx.new.conn.now) result }
     ensures step { IsStep S.Store tx.old.conn tx.new.conn }
 {
     make_image_sha512(tx)?;
@@ -66,8 +65,8 @@ fn raise_tables<S: Alter>(
     requires mode { IfClean IsInside (state S.Store tx.old.conn.now) }
     ensures raised { RaisesFrom version (state S.Store tx.old.conn.now) (state S.Store tx.new.conn.now) result }
     ensures inside { OnOk result (IfClean IsInside (state S.Store tx.new.conn.now)) }
-    ensures tried { HasCleanDisk (state S.Store tx.new.conn.now) → IsWithin (schema_of version) AnyRows (state S.Store tx.old.conn.now)
-        → Tries (raising version) (state S.Store tx.old.conn.now) (state S.Store tx.new.conn.now) result }
+    ensures tried { HasCleanDisk (state S.Store tx.new.conn.now)
+        → TriesAnywhere (raising version) (state S.Store tx.old.conn.now) (state S.Store tx.new.conn.now) result }
     ensures step { IsStep S.Store tx.old.conn tx.new.conn }
 {
     match version {
@@ -90,9 +89,8 @@ pub(crate) fn raise<S: Alter>(
     ensures kept { OnErr result (IfClean (IsAsCommitted (state S.Store conn.old)) (state S.Store conn.new)) }
     ensures fault { IfErr result (λ e. e ≢ OpenFault.NotOurs) }
     ensures cause { HasCleanDisk (state S.Store conn.new) → IfErr result (λ e. e ≡ OpenFault.Store
-        → (IsTrue (state S.Store conn.old).is_open → IsWith (schema_of version) AnyRows (state S.Store conn.old).now)
         → HasFailed (state S.Store conn.old) (state S.Store conn.new)
-        ⊎ RefusesOne (state S.Store conn.old).step_limit (raising version) (state S.Store conn.old).now) }
+        ⊎ StopsAtOne (state S.Store conn.old).step_limit (raising version) (state S.Store conn.old).now) }
     ensures autocommit { (state S.Store conn.new).in_transaction ≡ false }
     ensures crash { Survives (state S.Store conn.old) (state S.Store conn.new) (RaisedFrom version (state S.Store conn.old)) }
     ensures open { HasCleanDisk (state S.Store conn.new) → OnOk result (IsTrue (state S.Store conn.old).is_open) }

@@ -27,7 +27,7 @@ pub fn replace_ecu<S: Alter>(
         (state S.Store tx.old.conn.now) (state S.Store tx.new.conn.now) result }
     ensures ran { Ran ((replace_ecu_text, Text ecu.now ∷ Text hardware.now ∷ Blob public_key.now ∷ Text old.now ∷ []) ∷ [])
         (state S.Store tx.old.conn.now) (state S.Store tx.new.conn.now) result }
-    ensures memory { Undoes (state S.Store tx.old.conn.now) (state S.Store tx.new.conn.now) result }
+    ensures memory { Undoes (state S.Store tx.new.conn.now) result }
     ensures step { IsOpenStep S.Store tx.old.conn tx.new.conn result }
 {
     done(tx.execute(

@@ -48,7 +48,7 @@ fn upsert_file<S: Alter>(tx: &mut Transaction<'_, S>, file: &FileRow) -> Result<
     ensures set { SetsFile file.now (state S.Store tx.old.conn.now) (state S.Store tx.new.conn.now) result }
     ensures ran { Ran ((upsert_file_text, file_row file.now) ∷ []) (state S.Store tx.old.conn.now) (state S.Store tx.new.conn.now) result }
     ensures blame { BlamesRefusal upsert_file_text (file_row file.now) (state S.Store tx.old.conn.now) (state S.Store tx.new.conn.now) result }
-    ensures memory { Undoes (state S.Store tx.old.conn.now) (state S.Store tx.new.conn.now) result }
+    ensures memory { Undoes (state S.Store tx.new.conn.now) result }
     ensures step { IsOpenStep S.Store tx.old.conn tx.new.conn result }
 {
     done(tx.execute(
@@ -73,7 +73,7 @@ pub fn upsert_files<S: Alter>(
         (state S.Store tx.old.conn.now) (state S.Store tx.new.conn.now) result }
     ensures blame { BlamesOne (map (λ f. (upsert_file_text, file_row f)) files.now) (λ _. ⊤)
         (state S.Store tx.old.conn.now) (state S.Store tx.new.conn.now) result }
-    ensures memory { Undoes (state S.Store tx.old.conn.now) (state S.Store tx.new.conn.now) result }
+    ensures memory { Undoes (state S.Store tx.new.conn.now) result }
     ensures step { IsOpenStep S.Store tx.old.conn tx.new.conn result }
 {
     for file in files {

@@ -8,6 +8,7 @@ ghost use Rattle.sqlite.specs.Values.{bound_value, or_null};
 ghost use Rattle.sqlite.specs.Value.{owned};
 ghost use Rattle.sqlite.specs.declared.types.Value.TheVariants.{Null, Int, Text, Blob};
 ghost use Rattle.up_tables.specs.Faults.{store_fault};
+ghost use Rattle.up_tables.specs.Kinds.{IsBytes, IsWords};
 ghost use Rattle.up_tables.specs.Lines.{yes_or_no};
 ghost use Rattle.up_tables.specs.declared.values.StoreFault.TheVariants as StoreFault;
 
@@ -145,7 +146,7 @@ pub fn flag_at(row: &Row, at: usize) -> Result<bool, StoreFault>
 
 /// Whether a column is a text, in UTF-8.
 fn is_text(row: &Row, at: usize) -> bool
-    ensures { IsTrue result ↔ ((s : List ℕ) × (column row.now at ≡ Text s) × IsUtf8 s) }
+    ensures { IsTrue result ↔ IsWords (column row.now at) }
 {
     match row.get_ref(at) {
         Ok(ValueRef::Text(text)) => str::from_utf8(text).is_ok(),
@@ -155,11 +156,31 @@ fn is_text(row: &Row, at: usize) -> bool
 
 /// Whether a column is bytes.
 fn is_blob(row: &Row, at: usize) -> bool
-    ensures { IsTrue result ↔ ((b : List ℕ) × (column row.now at ≡ Blob b)) }
+    ensures { IsTrue result ↔ IsBytes (column row.now at) }
 {
     match row.get_ref(at) {
         Ok(ValueRef::Blob(_)) => true,
         _ => false,
+    }
+}
+
+/// Whether a column is this text.
+pub(crate) fn has_words(row: &Row, at: usize, text: &str) -> bool
+    ensures { IsTrue result ↔ (column row.now at ≡ Text text.now) }
+{
+    match row.get_ref(at) {
+        Ok(ValueRef::Text(there)) => there == text.as_bytes(),
+        _ => false,
+    }
+}
+
+/// Whether a column is this number.
+pub(crate) fn has_number(row: &Row, at: usize, n: u64) -> bool
+    ensures { IsTrue result ↔ (column row.now at ≡ Int (pos n)) }
+{
+    match number_at(row, at) {
+        Ok(there) => there == n,
+        Err(_) => false,
     }
 }
 

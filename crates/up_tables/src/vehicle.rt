@@ -1,6 +1,6 @@
 //! The rows of vehicles.
 
-ghost use Rattle.std.specs.Prelude.{◌≡◌, ◌≢◌, ◌∷◌, [], map, length, string_bytes, Err, IsTrue, OnOk, IfOk, IfErr};
+ghost use Rattle.std.specs.Prelude.{◌≡◌, ◌≢◌, ◌∷◌, [], map, string_bytes, Err, IsTrue, OnOk, IfOk, IfErr};
 ghost use Rattle.std.specs.Option.{option_to_list};
 ghost use Rattle.std.specs.Prelude.{◌↔◌};
 ghost use Rattle.std.specs.Result.{IsOkAnd};
@@ -17,7 +17,9 @@ ghost use Rattle.up_tables.specs.Tried.{BlamesRefusal, BlamesOne, Ran, Undoes};
 ghost use Rattle.up_tables.specs.declared.values.StoreFault.TheVariants as StoreFault;
 
 use crate::reading::{Decode, at_most_one};
-use crate::values::{StoreFault, done, number, number_at, text_at, words};
+use crate::values::{
+    StoreFault, done, fault_of, has_number, has_words, number, number_at, text_at, words,
+};
 use sqlite::{Alter, Error, Row, Transaction};
 
 /// A row of `vehicle`: its Primary ECU, the number of its accepted manifests, and the counter of the last one, 0 before it.
@@ -61,7 +63,7 @@ pub fn insert_vehicle<S: Alter>(
     ensures blame { BlamesRefusal insert_vehicle_text (vehicle_row vehicle.now)
         (state S.Store tx.old.conn.now) (state S.Store tx.new.conn.now) result }
     ensures ran { Ran ((insert_vehicle_text, vehicle_row vehicle.now) ∷ []) (state S.Store tx.old.conn.now) (state S.Store tx.new.conn.now) result }
-    ensures memory { Undoes (state S.Store tx.old.conn.now) (state S.Store tx.new.conn.now) result }
+    ensures memory { Undoes (state S.Store tx.new.conn.now) result }
     ensures step { IsOpenStep S.Store tx.old.conn tx.new.conn result }
 {
     done(tx.execute(
@@ -87,6 +89,7 @@ pub fn upsert_vehicle<S: Alter>(
     ensures blame { BlamesOne ((upsert_vehicle_text, vehicle_row vehicle.now) ∷ []) (HasVehicle vehicle.now)
         (state S.Store tx.old.conn.now) (state S.Store tx.new.conn.now) result }
     ensures ran { Ran ((upsert_vehicle_text, vehicle_row vehicle.now) ∷ []) (state S.Store tx.old.conn.now) (state S.Store tx.new.conn.now) result }
+    ensures memory { Undoes (state S.Store tx.new.conn.now) result }
     ensures step { IsOpenStep S.Store tx.old.conn tx.new.conn result }
 {
     shows(
@@ -103,35 +106,43 @@ pub fn upsert_vehicle<S: Alter>(
     )
 }
 
-/// Whether the answer is this row alone; `Store` where it is another.
+/// Whether the answer is this row alone; `Store` where it is another. The rows are compared where they stand, so that no memory is taken.
 fn shows(answer: Result<Vec<Row>, Error>, vehicle: &VehicleRow) -> Result<(), StoreFault>
     ensures ok { OnOk result (IsOkAnd answer (λ rows. map (columns_at vehicle_places) rows.items ≡ vehicle_row vehicle.now ∷ [])) }
     ensures fault { IfErr answer (λ e. result ≡ Err (store_fault e)) }
-    ensures damaged { IfOk answer (λ rows. IfErr result (λ fault. fault ≡ StoreFault.Store
-        → map (columns_at vehicle_places) rows.items ≢ vehicle_row vehicle.now ∷ [])) }
-    ensures alone { IfOk answer (λ rows. length rows.items ≢ 1 → result ≡ Err StoreFault.Store) }
+    ensures another { IfOk answer (λ rows. IfErr result (λ fault. (fault ≡ StoreFault.Store)
+        × (map (columns_at vehicle_places) rows.items ≢ vehicle_row vehicle.now ∷ []))) }
 {
-    match at_most_one::<VehicleRow>(answer) {
-        Ok(Some(shown)) => {
-            if is_same(&shown, vehicle) {
+    match answer {
+        Ok(rows) => {
+            if is_alone(&rows, vehicle) {
                 Ok(())
             } else {
                 Err(StoreFault::Store)
             }
         }
-        Ok(None) => Err(StoreFault::Store),
-        Err(fault) => Err(fault),
+        Err(error) => Err(fault_of(error)),
     }
 }
 
-/// Whether two rows are the same, column by column.
-fn is_same(one: &VehicleRow, other: &VehicleRow) -> bool
-    ensures { IsTrue result ↔ (vehicle_row one.now ≡ vehicle_row other.now) }
+/// Whether the rows are this one alone.
+fn is_alone(rows: &[Row], vehicle: &VehicleRow) -> bool
+    ensures { IsTrue result ↔ (map (columns_at vehicle_places) rows.now ≡ vehicle_row vehicle.now ∷ []) }
 {
-    one.vehicle == other.vehicle
-        && one.primary_ecu == other.primary_ecu
-        && one.version == other.version
-        && one.last_counter == other.last_counter
+    match rows {
+        [row] => is_same(row, vehicle),
+        _ => false,
+    }
+}
+
+/// Whether a row that was handed back is this one, column by column.
+fn is_same(row: &Row, vehicle: &VehicleRow) -> bool
+    ensures { IsTrue result ↔ (columns_at vehicle_places row.now ≡ vehicle_row vehicle.now) }
+{
+    has_words(row, 0, vehicle.vehicle.as_str())
+        && has_words(row, 1, vehicle.primary_ecu.as_str())
+        && has_number(row, 2, vehicle.version)
+        && has_number(row, 3, vehicle.last_counter)
 }
 
 /// The vehicle of this name, none where there is none.

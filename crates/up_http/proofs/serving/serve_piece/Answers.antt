@@ -1,8 +1,8 @@
-use Rattle.std.proofs.Common.{[], ◌≡◌, ◌++◌, ◌∙◌, false, sym, subst, take, drop, take-append-drop, Some}
+use Rattle.std.proofs.Common.{[], ◌≡◌, ◌++◌, ◌∙◌, false, refl, sym, subst, take, drop, take-append-drop, Some}
 use Rattle.up_http.specs.Serving.{Stopped}
 use Rattle.up_http.specs.Steps.{fault_at}
 use Rattle.up_http.specs.Feeding.{Gives}
-use Rattle.up_http.proofs.ServeLaws.{takes_next, stops_next}
+use Rattle.up_http.proofs.ServeLaws.{takes_next, stops_memory, stops_next}
 use Rattle.up_http.proofs.StreamLaws.{first_runs}
 use Rattle.up_http.proofs.serving.serve_piece.Goals as goal
 
@@ -26,3 +26,7 @@ answer_counted-requires-clause-asks g c =
     let goes_on : c.args.progress.now.feeder.ended ≡ false = sym c.args.progress.now.ends ∙ c.requires.goes_on in
     let gives : Gives c.args.progress.now.feeder c.args.piece.now c.in-Ok.step.taken (Some c.in-Some.next) c.feed.new.self = subst (λ o. Gives c.args.progress.now.feeder c.args.piece.now c.in-Ok.step.taken o c.feed.new.self) c.in-Some.is (c.in-Ok.ensures.ok.going_on goes_on) in
     first_runs c.args.progress.now.feeder.given _ c.in-Some.next [] (gives.5 [])
+
+pub returns-in-Err-clause-err : goal.returns-in-Err-clause-err
+returns-in-Err-clause-err g c =
+    stops_memory (g.A.Respond.gives c.args.responder.now) c.args.progress.now c.args.progress.now c.args.piece.now _ (sym c.args.progress.now.ends ∙ c.requires.goes_on) c.requires.some refl refl

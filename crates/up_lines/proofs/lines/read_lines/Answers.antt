@@ -5,42 +5,24 @@ use Rattle.std.specs.Prelude.{Option}
 use Rattle.std.specs.Io.KnownBytes.{Consumes}
 use Rattle.std.proofs.KnownBytes.{Consumes-nil, Consumes-trans, Consumes-kept}
 use Rattle.up_lines.specs.declared.fault.ScriptCause.TheVariants.{Read}
-use Rattle.up_lines.specs.Runs.{At}
-use Rattle.up_lines.specs.LineRuns.{Stopped}
-use Rattle.up_lines.specs.Progress.{Sofar}
-use Rattle.up_lines.proofs.Ends.{fresh, stops_bare, same_prefix, last_read, ran_stop, ran_err, ran_on, stops_read}
+use Rattle.up_lines.proofs.Ends.{fresh, last_read, ran_stop, ran_err, ran_on, stops_read}
 use Rattle.up_lines.proofs.Steps.{on_ok, passed_on}
 use Rattle.up_lines.proofs.Blaming.{blames_all, blames_both}
 use Rattle.up_lines.proofs.lines.read_lines.Goals as goal
 
 pub loop-most-init : goal.loop-most-init
-loop-most-init g c = ([], Consumes-nil _, fresh g.I.Interpret.gives _ c.args.progress.now c.requires.fresh, refl, c.in_ok-buffer.ensures.len, c.requires.can_read, c.requires.can_write)
-
-pub returns-in_err-buffer-clause-ran : goal.returns-in_err-buffer-clause-ran
-returns-in_err-buffer-clause-ran g c =
-    let first : At g.row.S.Denot = record { state = c.args.state.now; held = g.W.Sink.contents c.args.writer.now } in
-    let so : Sofar g.I.Interpret.gives first [] c.args.progress.now first = fresh g.I.Interpret.gives first c.args.progress.now c.requires.fresh in
-    ran_stop g.I.Interpret.gives c.from_residual.result _ _ _ _ _ [] c.args.progress.now.answered c.from_residual.ensures.1 (Consumes-nil _) (omega arith)
-    (stops_bare g.I.Interpret.gives c.args.progress.now _ _ [] so)
-    (last_read g.I.Interpret.gives first [] [] [] false c.args.progress.now first c.args.progress.now.answered so (omega arith) refl (omega arith) (λ h. absurd (cc)))
-
--- the buffer keeps its length
-kept : (new old : List ℕ) (len : ℕ) → length new ≡ length old → length old ≡ len → length new ≡ len
-kept new old len p q = p ∙ q
+loop-most-init g c = ([], Consumes-nil _, fresh g.I.Interpret.gives _ c.args.progress.now c.requires.fresh, refl, omega arith, c.requires.can_read, c.requires.can_write)
 
 pub loop-most-preserved : goal.loop-most-preserved
 loop-most-preserved g c = let (came, read, so, budget, room, can_read, can_write) = c.loop-most.invariant in
     let within : c.in-Ok.n ≤ length c.read_piece.new.buffer = c.in-Ok.ensures.count.0 in
     let most : c.in-Ok.n ≤ c.loop-most.most = c.in-Ok.ensures.count.1 in
-    let long : length (take c.in-Ok.n c.read_piece.new.buffer) ≡ c.in-Ok.n = length-take-le c.in-Ok.n c.read_piece.new.buffer within in
-    let same : take c.in-Ok.n c.deref.result.now ≡ take c.in-Ok.n c.read_piece.new.buffer = same_prefix c.in-Ok.n c.loop-most.buffer.len c.deref.result.now c.read_piece.new.buffer c.loop-most.buffer.items c.deref.ensures.value
-    (kept _ c.deref_mut.result.now _ c.read_piece.auto.buffer c.deref_mut.ensures.len) within in (
+    let long : length (take c.in-Ok.n c.read_piece.new.buffer) ≡ c.in-Ok.n = length-take-le c.in-Ok.n c.read_piece.new.buffer within in (
       came ++ take c.in-Ok.n c.read_piece.new.buffer,
       Consumes-trans _ _ _ _ _ read c.in-Ok.ensures.bytes,
-      subst (λ l. Sofar g.I.Interpret.gives (record { state = c.args.state.now; held = g.W.Sink.contents c.args.writer.now }) (came ++ l) c.take_piece.new.progress (record { state = c.take_piece.new.state; held = g.W.Sink.contents c.take_piece.new.writer })) same
-          (c.in_ok-take_piece-in-Ok.ensures.ok _ came so),
+      c.in_ok-take_piece-in-Ok.ensures.ok _ came so,
       omega (arith, long, most, budget, length-append came (take c.in-Ok.n c.read_piece.new.buffer)),
-      room,
+      c.read_piece.auto.buffer ∙ room,
       c.in-Ok.ensures.goes_on (grind (arith, common_steps)),
       c.in_ok-take_piece-in-Ok.ensures.goes_on,
     )
@@ -51,15 +33,12 @@ returns-in_err-take_piece-in-Ok-clause-ran g c = let (came, read, so, budget, ro
     let within : c.in-Ok.n ≤ length c.read_piece.new.buffer = c.in-Ok.ensures.count.0 in
     let most : c.in-Ok.n ≤ c.loop-most.most = c.in-Ok.ensures.count.1 in
     let long : length (take c.in-Ok.n c.read_piece.new.buffer) ≡ c.in-Ok.n = length-take-le c.in-Ok.n c.read_piece.new.buffer within in
-    let same : take c.in-Ok.n c.deref.result.now ≡ take c.in-Ok.n c.read_piece.new.buffer = same_prefix c.in-Ok.n c.loop-most.buffer.len c.deref.result.now c.read_piece.new.buffer c.loop-most.buffer.items c.deref.ensures.value
-    (kept _ c.deref_mut.result.now _ c.read_piece.auto.buffer c.deref_mut.ensures.len) within in
     let cause = c.in_err-take_piece-in-Ok.field-0.0 in
-    ran_stop g.I.Interpret.gives c.from_residual-in_err-take_piece-in-Ok.result cause _ _ _ _ (came ++ take c.in-Ok.n c.read_piece.new.buffer) c.take_piece.new.progress.answered
-    c.from_residual-in_err-take_piece-in-Ok.ensures.1 (Consumes-trans _ _ _ _ _ read c.in-Ok.ensures.bytes) (omega (arith, long, most, budget, length-append came (take c.in-Ok.n c.read_piece.new.buffer)))
-    (subst (λ l. Stopped g.I.Interpret.gives (came ++ l) false (record { cause = cause; lines = c.take_piece.new.progress.answered }) (record { state = c.args.state.now; held = g.W.Sink.contents c.args.writer.now }) (record { state = c.take_piece.new.state; held = g.W.Sink.contents c.take_piece.new.writer })) same
-    (c.in_err-take_piece-in-Ok.ensures.err _ came so))
+    ran_stop g.I.Interpret.gives c.from_residual.result cause _ _ _ _ (came ++ take c.in-Ok.n c.read_piece.new.buffer) c.take_piece.new.progress.answered
+    c.from_residual.ensures.1 (Consumes-trans _ _ _ _ _ read c.in-Ok.ensures.bytes) (omega (arith, long, most, budget, length-append came (take c.in-Ok.n c.read_piece.new.buffer)))
+    (c.in_err-take_piece-in-Ok.ensures.err _ came so)
     (last_read g.I.Interpret.gives _ came (take c.in-Ok.n c.read_piece.new.buffer) _ false c.loop-most.progress _ _ so c.take_piece.ensures.grows refl
-    (omega (arith, room, c.deref_mut.ensures.len, c.read_piece.auto.buffer, long, within)) (λ h. absurd (cc)))
+    (omega (arith, room, c.read_piece.auto.buffer, long, within)) (λ h. absurd (cc)))
 
 pub returns-in-Err-clause-ran : goal.returns-in-Err-clause-ran
 returns-in-Err-clause-ran g c = let (came, read, so, budget, room, can_read, can_write) = c.loop-most.invariant in
@@ -76,24 +55,24 @@ pub returns-in-Ok-eq0-clause-ran : goal.returns-in-Ok-eq0-clause-ran
 returns-in-Ok-eq0-clause-ran g c = let (came, read, so, budget, room, can_read, can_write) = c.loop-most.invariant in
     ran_on g.I.Interpret.gives c.finish.result _ _ (g.R.Source.remaining c.args.reader.now) (g.R.Source.remaining c.read_piece.new.reader) came c.loop-most.progress _ c.finish.new.progress
     (consumed_none _ (g.R.Source.remaining c.loop-most.reader) _ came c.in-Ok-eq0.field-0 c.read_piece.new.buffer c.in-Ok-eq0.field-0-test read c.in-Ok-eq0.ensures.bytes)
-    (omega (arith, budget)) (c.in-Ok-eq0.ensures.end c.in-Ok-eq0.field-0-test c.loop-most-test.true (omega (arith, room, c.deref_mut.ensures.len))) so c.finish.ensures.ok c.finish.ensures.err c.finish.ensures.grows
+    (omega (arith, budget)) (c.in-Ok-eq0.ensures.end c.in-Ok-eq0.field-0-test c.loop-most-test.true (omega (arith, room))) so c.finish.ensures.ok c.finish.ensures.err c.finish.ensures.grows
 
 pub returns-in-Ok-eq0-clause-blames : goal.returns-in-Ok-eq0-clause-blames
 returns-in-Ok-eq0-clause-blames g c = let (came, read, so, budget, room, can_read, can_write) = c.loop-most.invariant in
     blames_all c.finish.result (g.R.Source.has_failed c.read_piece.new.reader) (g.R.Source.can_read c.read_piece.new.reader ⊎ g.R.Source.has_ended c.read_piece.new.reader)
     (g.W.Sink.has_failed c.finish.new.writer) (g.W.Sink.can_write c.finish.new.writer)
-    (inr (c.in-Ok-eq0.ensures.ended c.in-Ok-eq0.field-0-test c.loop-most-test.true (omega (arith, room, c.deref_mut.ensures.len)))) c.finish.ensures.blames
+    (inr (c.in-Ok-eq0.ensures.ended c.in-Ok-eq0.field-0-test c.loop-most-test.true (omega (arith, room)))) c.finish.ensures.blames
 
 pub returns-in-Ok-eq0-clause-ended : goal.returns-in-Ok-eq0-clause-ended
 returns-in-Ok-eq0-clause-ended g c = let (came, read, so, budget, room, can_read, can_write) = c.loop-most.invariant in
-    let ended : g.R.Source.has_ended c.read_piece.new.reader = c.in-Ok-eq0.ensures.ended c.in-Ok-eq0.field-0-test c.loop-most-test.true (omega (arith, room, c.deref_mut.ensures.len)) in
+    let ended : g.R.Source.has_ended c.read_piece.new.reader = c.in-Ok-eq0.ensures.ended c.in-Ok-eq0.field-0-test c.loop-most-test.true (omega (arith, room)) in
     on_ok c.finish.result (λ _. ended) c.finish.ensures.goes_on
 
 pub returns-in_err-take_piece-in-Ok-clause-blames :
     goal.returns-in_err-take_piece-in-Ok-clause-blames
 returns-in_err-take_piece-in-Ok-clause-blames g c =
     let cause = c.in_err-take_piece-in-Ok.field-0.0 in
-    passed_on c.from_residual-in_err-take_piece-in-Ok.result cause _ c.from_residual-in_err-take_piece-in-Ok.ensures.1
+    passed_on c.from_residual.result cause _ c.from_residual.ensures.1
     (blames_both cause (g.R.Source.has_failed c.read_piece.new.reader) (g.R.Source.can_read c.read_piece.new.reader ⊎ g.R.Source.has_ended c.read_piece.new.reader)
     (g.W.Sink.has_failed c.take_piece.new.writer) (g.W.Sink.can_write c.take_piece.new.writer)
     (inl (c.in-Ok.ensures.goes_on (grind (arith, common_steps)))) c.in_err-take_piece-in-Ok.ensures.blames)

@@ -1,4 +1,4 @@
-use Rattle.std.proofs.Common.{rules, of_calls, sym, subst, ◌∙◌}
+use Rattle.std.proofs.Common.{rules, of_calls, sym, ◌∙◌}
 use Rattle.std.specs.Ordering.{is_lt, nat_cmp}
 use Rattle.std.specs.Cmp.Lexicographic.{slice_cmp}
 use Rattle.std.proofs.lemmas.Cmp.{nat_list_cmp_total}
@@ -15,4 +15,4 @@ returns c =
     let named : AreNamed cs new = λ vehicle test. sym (list_any-IsPermutation (passes_named cs vehicle test) old new c.sort_unstable_by.ensures.permutation) ∙ c.in_ok-names.ensures vehicle test in
     let order : AreInOrder cs new =
     c.sort_unstable_by.ensures.sorted (λ a b. is_lt (slice_cmp nat_cmp (name_at cs a) (name_at cs b))) (ranks_by nat_list_cmp_total (name_at cs)) (always_returns_same _ _ _ (λ a r f called. search (rules, of_calls))) in
-    subst (λ ns. AreNamed cs ns × AreInOrder cs ns) (sym c.shrink_to_fit.ensures.items) (named, order)
+    (named, order)

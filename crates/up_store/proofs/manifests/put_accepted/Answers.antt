@@ -34,7 +34,7 @@ returns-in_err-put_reported-clause-blame g c =
     (blames_so {T = ⊤} (reported_writes new.vehicle) (MayReport new.vehicle) (MayAccept new) s0 s1 (Err c.in_err-put_reported.field-0.0) (λ is_open has may. may_report new s0 may) c.in_err-put_reported.ensures.blame))
 
 pub returns-clause-ran : goal.returns-clause-ran
-returns-clause-ran g c tell =
+returns-clause-ran g c =
     let s0 = state g.D.Store c.args.tx.now.conn.now in
     let s1 = state g.D.Store c.put_reported.new.tx.conn.now in
-    accepted_ran c.args.new.now s0 s1 (state g.D.Store c.insert_kept_row.new.tx.conn.now) c.insert_kept_row.result c.put_reported.ensures.step.steps c.insert_kept_row.ensures.step.steps (c.in_ok-put_reported.ensures.ran tell) c.insert_kept_row.ensures.ran
+    accepted_ran c.args.new.now s0 s1 (state g.D.Store c.insert_kept_row.new.tx.conn.now) c.insert_kept_row.result c.put_reported.ensures.step.steps c.insert_kept_row.ensures.step.steps c.in_ok-put_reported.ensures.ran c.insert_kept_row.ensures.ran

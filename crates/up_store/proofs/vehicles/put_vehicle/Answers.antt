@@ -1,8 +1,8 @@
-use Rattle.std.proofs.Common.{◌≤◌, ◌^◌, Ok, Err, length, ap, subst, sym, ◌∙◌, arith}
+use Rattle.std.proofs.Common.{◌≤◌, ◌^◌, Ok, Err, length, map, ap, subst, ◌∙◌, arith}
 use Rattle.std.specs.Prelude.{⊤}
 use Rattle.std.specs.List.{AllByRecursion}
 use Rattle.sqlite.specs.Held.{state}
-use Rattle.up_rows.specs.SecondHashes.{TellsItsHash}
+use Rattle.up_store.specs.Shown.{as_told}
 use Rattle.up_store.specs.Typed.{IsTypedEcu}
 use Rattle.up_store.proofs.VehiclePuts.{puts_vehicle}
 use Rattle.up_store.proofs.Written.{clean_step}
@@ -22,7 +22,7 @@ use Rattle.up_store.proofs.vehicles.put_vehicle.Goals as goal
 pub returns-clause-put : goal.returns-clause-put
 returns-clause-put g c clean =
     let cleanly = clean_step c.insert_ecus.ensures.step.steps clean in
-    puts_vehicle c.insert_ecus.result c.args.new.now c.in_ok-vehicle.vehicle c.in_ok-ecus.ecus.items (state g.D.Store c.args.tx.now.conn.now) (state g.D.Store c.insert_vehicle.new.tx.conn.now) (state g.D.Store c.insert_ecus.new.tx.conn.now) c.in_ok-vehicle.ensures.same (λ tell. c.in_ok-ecus.ensures.same (subst (AllByRecursion TellsItsHash) (sym c.as_slice.ensures) tell) ∙ c.as_slice.ensures)
+    puts_vehicle c.insert_ecus.result c.args.new.now c.in_ok-vehicle.vehicle c.in_ok-ecus.ecus.items (state g.D.Store c.args.tx.now.conn.now) (state g.D.Store c.insert_vehicle.new.tx.conn.now) (state g.D.Store c.insert_ecus.new.tx.conn.now) c.in_ok-vehicle.ensures.same (c.in_ok-ecus.ensures.same ∙ ap (map as_told) c.as_slice.ensures)
     c.in_ok-vehicle.ensures.typed (subst (AllByRecursion IsTypedEcu) c.as_slice.ensures c.in_ok-ecus.ensures.typed)
     (c.in_ok-insert_vehicle.ensures.inserted cleanly) (rw (c.text.ensures.value, c.as_slice-2.ensures.value) at c.insert_ecus.ensures.inserted clean)
     ((c.insert_vehicle.ensures.step.steps.kept cleanly).was_open (c.in_ok-insert_vehicle.ensures.step.is_open cleanly))
@@ -30,36 +30,36 @@ returns-clause-put g c clean =
 pub returns-clause-blame : goal.returns-clause-blame
 returns-clause-blame g c =
     let new = c.args.new.now in
-    let P : Connected → Type 0 = λ _. FitsVehicle new × AllByRecursion TellsItsHash new.ecus in
+    let P : Connected → Type 0 = λ _. FitsVehicle new in
     let before = state g.D.Store c.args.tx.now.conn.now in
     let mid = state g.D.Store c.insert_vehicle.new.tx.conn.now in
     let after = state g.D.Store c.insert_ecus.new.tx.conn.now in
     blames_then (each_with insert_vehicle_text (vehicle_lines (Some new))) (each_with insert_ecu_text (ecus_lines new.vehicle.vehicle (Some new))) before mid after c.insert_vehicle.ensures.step.steps.survives c.insert_ecus.ensures.step.steps.survives P P c.insert_ecus.result
     (ran_row {A = ⊤} {E = ⊤} insert_vehicle_text (vehicle_row c.in_ok-vehicle.vehicle) (vehicle_lines (Some new)) before mid (Ok tt) (vehicle_row_is new c.in_ok-vehicle.vehicle c.in_ok-vehicle.ensures.same) c.in_ok-insert_vehicle.ensures.ran) c.in_ok-insert_vehicle.ensures.step.is_open (λ clean is_open has holds. holds)
     (blames_rows P insert_ecu_text ecu_row (lines new.vehicle.vehicle 0 c.in_ok-ecus.ecus.items) (ecus_lines new.vehicle.vehicle (Some new)) mid after c.insert_ecus.result
-    (λ holds. ecu_rows_are new c.in_ok-ecus.ecus.items (c.in_ok-ecus.ensures.same (subst (AllByRecursion TellsItsHash) (sym c.as_slice.ensures) holds.1) ∙ c.as_slice.ensures))
+    (λ holds. ecu_rows_are new c.in_ok-ecus.ecus.items (c.in_ok-ecus.ensures.same ∙ ap (map as_told) c.as_slice.ensures))
     (rw (c.text.ensures.value, c.as_slice-2.ensures.value) at c.insert_ecus.ensures.blame))
 
 pub returns-in_err-vehicle-clause-blame : goal.returns-in_err-vehicle-clause-blame
 returns-in_err-vehicle-clause-blame g c =
     let new = c.args.new.now in
     let before = state g.D.Store c.args.tx.now.conn.now in
-    never_store (vehicle_writes new) (λ _. FitsVehicle new × AllByRecursion TellsItsHash new.ecus) before before c.from_residual.result c.in_err-vehicle.field-0.0 c.from_residual.ensures.1
-    (λ told holds. version_fits new holds.0 (c.in_err-vehicle.ensures.large.0 (ap Err told)))
+    never_store (vehicle_writes new) (λ _. FitsVehicle new) before before c.from_residual.result c.in_err-vehicle.field-0.0 c.from_residual.ensures.1
+    (λ told holds. version_fits new holds (c.in_err-vehicle.ensures.large.0 (ap Err told)))
 
 pub returns-in_err-check_places-clause-blame : goal.returns-in_err-check_places-clause-blame
 returns-in_err-check_places-clause-blame g c =
     let new = c.args.new.now in
     let before = state g.D.Store c.args.tx.now.conn.now in
     let many : 2 ^ 63 ≤ length c.in_ok-ecus.ecus.items = omega (arith, c.len.ensures, c.in_err-check_places.ensures.fault.1) in
-    never_blames (vehicle_writes new) (λ _. FitsVehicle new × AllByRecursion TellsItsHash new.ecus) before before c.from_residual-in_err-check_places.result
-    (λ holds. places_fit new c.in_ok-ecus.ecus.items (c.in_ok-ecus.ensures.same (subst (AllByRecursion TellsItsHash) (sym c.as_slice.ensures) holds.1) ∙ c.as_slice.ensures) holds.0.ecus many)
+    never_blames (vehicle_writes new) (λ _. FitsVehicle new) before before c.from_residual-in_err-check_places.result
+    (λ holds. places_fit new c.in_ok-ecus.ecus.items (c.in_ok-ecus.ensures.same ∙ ap (map as_told) c.as_slice.ensures) holds.ecus many)
 
 pub returns-in_err-insert_vehicle-clause-blame : goal.returns-in_err-insert_vehicle-clause-blame
 returns-in_err-insert_vehicle-clause-blame g c =
     let new = c.args.new.now in
     let f = c.in_err-insert_vehicle.field-0.0 in
-    let P : Connected → Type 0 = λ _. FitsVehicle new × AllByRecursion TellsItsHash new.ecus in
+    let P : Connected → Type 0 = λ _. FitsVehicle new in
     let before = state g.D.Store c.args.tx.now.conn.now in
     let after = state g.D.Store c.insert_vehicle.new.tx.conn.now in
     told_on c.from_residual-in_err-insert_vehicle.result f (vehicle_writes new) P before after c.from_residual-in_err-insert_vehicle.ensures.1
@@ -67,7 +67,7 @@ returns-in_err-insert_vehicle-clause-blame g c =
     (blames_row {A = ⊤} P insert_vehicle_text (vehicle_row c.in_ok-vehicle.vehicle) (vehicle_lines (Some new)) before after (Err f) (vehicle_row_is new c.in_ok-vehicle.vehicle c.in_ok-vehicle.ensures.same) c.in_err-insert_vehicle.ensures.blame))
 
 pub returns-clause-ran : goal.returns-clause-ran
-returns-clause-ran g c tell =
+returns-clause-ran g c =
     let new = c.args.new.now in
     let before = state g.D.Store c.args.tx.now.conn.now in
     let mid = state g.D.Store c.insert_vehicle.new.tx.conn.now in
@@ -75,5 +75,5 @@ returns-clause-ran g c tell =
     ran_then (each_with insert_vehicle_text (vehicle_lines (Some new))) (each_with insert_ecu_text (ecus_lines new.vehicle.vehicle (Some new))) before mid after c.insert_vehicle.ensures.step.steps.survives c.insert_ecus.ensures.step.steps.survives c.insert_ecus.result
     (ran_row {A = ⊤} {E = ⊤} insert_vehicle_text (vehicle_row c.in_ok-vehicle.vehicle) (vehicle_lines (Some new)) before mid (Ok tt) (vehicle_row_is new c.in_ok-vehicle.vehicle c.in_ok-vehicle.ensures.same) c.in_ok-insert_vehicle.ensures.ran)
     (ran_rows insert_ecu_text ecu_row (lines new.vehicle.vehicle 0 c.in_ok-ecus.ecus.items) (ecus_lines new.vehicle.vehicle (Some new)) mid after c.insert_ecus.result
-    (ecu_rows_are new c.in_ok-ecus.ecus.items (c.in_ok-ecus.ensures.same (subst (AllByRecursion TellsItsHash) (sym c.as_slice.ensures) tell) ∙ c.as_slice.ensures))
+    (ecu_rows_are new c.in_ok-ecus.ecus.items (c.in_ok-ecus.ensures.same ∙ ap (map as_told) c.as_slice.ensures))
     (rw (c.text.ensures.value, c.as_slice-2.ensures.value) at c.insert_ecus.ensures.ran))

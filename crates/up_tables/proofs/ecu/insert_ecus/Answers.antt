@@ -1,5 +1,6 @@
 use Rattle.std.proofs.Common.{◌≡◌, ◌∙◌, List, ℕ, length, map, sym, arith}
 use Rattle.std.proofs.lemmas.List.{length-map}
+use Rattle.sqlite.specs.Held.{state}
 use Rattle.sqlite.specs.Order.{Row}
 use Rattle.up_tables.specs.Ecus.{line, lines}
 use Rattle.up_tables.specs.Lines.{EcuLine, ecu_row}
@@ -47,4 +48,4 @@ returns-in_err-insert_ecu-clause-blame g c =
     c.loop-place.invariant.on c.insert_ecu.ensures.step.steps (λ between. (c.loop-place.invariant.written between).1) c.in_err-insert_ecu.ensures.blame
 
 pub returns-in_err-insert_ecu-clause-memory : goal.returns-in_err-insert_ecu-clause-memory
-returns-in_err-insert_ecu-clause-memory g c = undoes_next c.from_residual.result _ _ _ c.from_residual.ensures.1 c.insert_ecu.ensures.step.steps c.in_err-insert_ecu.ensures.memory
+returns-in_err-insert_ecu-clause-memory g c = undoes_next c.from_residual.result (state g.S.Store c.insert_ecu.new.tx.conn.now) _ c.from_residual.ensures.1 c.in_err-insert_ecu.ensures.memory

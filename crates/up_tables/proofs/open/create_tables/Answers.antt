@@ -3,6 +3,7 @@ use Rattle.sqlite.specs.Held.{state}
 use Rattle.up_tables.specs.Lines.{AreNew}
 use Rattle.up_tables.specs.Making.{making}
 use Rattle.up_tables.specs.Tables.{up_schema}
+use Rattle.up_tables.specs.Tried.{RefusesOne}
 use Rattle.up_tables.proofs.OpenedLemmas.{on_opened, commit_leaves}
 use Rattle.up_tables.proofs.UnmadeLemmas.{failed, refused, unmade, uncommitted}
 use Rattle.up_tables.proofs.open.create_tables.Goals as goal
@@ -15,7 +16,7 @@ returns-clause-durable g c =
 pub returns-in-Err-clause-cause : goal.returns-in-Err-clause-cause
 returns-in-Err-clause-cause g c clean =
     unmade (state g.S.Store c.args.conn.now) (state g.S.Store c.conn-1.given.0) c.has_no_table.ensures.settled c.requires (Err c.in-Err.fault)
-    (refused g.S.Store c.args.conn.now c.transaction-tx.result.conn.now c.make_all.new.tx.conn.now c.conn-1.given.0 c.transaction-tx.ensures.begun making c.drop-tx.new.self.0 (search rules) c.drop-tx.ensures.survives
+    (refused g.S.Store c.args.conn.now c.transaction-tx.result.conn.now c.make_all.new.tx.conn.now c.conn-1.given.0 c.transaction-tx.ensures.begun RefusesOne making c.drop-tx.new.self.0 (search rules) c.drop-tx.ensures.survives
     c.make_all.result (Err c.in-Err.fault) c.make_all.ensures.tried c.in-Err.ensures.went c.in-Err.ensures.fault clean)
 
 pub returns-clause-cause : goal.returns-clause-cause

@@ -1,5 +1,6 @@
 use Rattle.std.proofs.Common.{◌≡◌, ◌∙◌, List, ℕ, length, map, sym, arith}
 use Rattle.std.proofs.lemmas.List.{length-map}
+use Rattle.sqlite.specs.Held.{state}
 use Rattle.sqlite.specs.Order.{Row}
 use Rattle.up_tables.specs.Forms.{file_row}
 use Rattle.up_tables.specs.Texts.{upsert_file_text}
@@ -37,4 +38,4 @@ returns-in_err-upsert_file-clause-blame g c =
     c.loop-file.invariant.on c.upsert_file.ensures.step.steps (λ between. (c.loop-file.invariant.written between).1) c.in_err-upsert_file.ensures.blame
 
 pub returns-in_err-upsert_file-clause-memory : goal.returns-in_err-upsert_file-clause-memory
-returns-in_err-upsert_file-clause-memory g c = undoes_next c.from_residual.result _ _ _ c.from_residual.ensures.1 c.upsert_file.ensures.step.steps c.in_err-upsert_file.ensures.memory
+returns-in_err-upsert_file-clause-memory g c = undoes_next c.from_residual.result (state g.S.Store c.upsert_file.new.tx.conn.now) _ c.from_residual.ensures.1 c.in_err-upsert_file.ensures.memory

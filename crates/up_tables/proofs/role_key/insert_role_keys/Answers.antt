@@ -1,5 +1,6 @@
 use Rattle.std.proofs.Common.{◌≡◌, ◌∙◌, List, ℕ, length, map, sym, arith}
 use Rattle.std.proofs.lemmas.List.{length-map}
+use Rattle.sqlite.specs.Held.{state}
 use Rattle.sqlite.specs.Order.{Row}
 use Rattle.up_tables.specs.Forms.{role_key_row}
 use Rattle.up_tables.specs.Texts.{insert_role_key_text}
@@ -37,4 +38,4 @@ returns-in_err-insert_role_key-clause-blame g c =
     (λ between. (c.loop-key.invariant.written between).1) c.in_err-insert_role_key.ensures.blame
 
 pub returns-in_err-insert_role_key-clause-memory : goal.returns-in_err-insert_role_key-clause-memory
-returns-in_err-insert_role_key-clause-memory g c = undoes_next c.from_residual.result _ _ _ c.from_residual.ensures.1 c.insert_role_key.ensures.step.steps c.in_err-insert_role_key.ensures.memory
+returns-in_err-insert_role_key-clause-memory g c = undoes_next c.from_residual.result (state g.S.Store c.insert_role_key.new.tx.conn.now) _ c.from_residual.ensures.1 c.in_err-insert_role_key.ensures.memory

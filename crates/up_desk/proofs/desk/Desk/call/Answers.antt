@@ -31,6 +31,7 @@ returns g c =
       durable = call.durable;
       clean = call.clean;
       blame = call.blame;
+      made = call.made;
       kept = subst (λ d. StaysLoaded (kept_for c.args.command.now d.store.catalog) c.dispatch.new.catalog) c.self.view_is c.dispatch.ensures.kept;
       came = subst (λ d. HasCleanDisk (state g.D.Store left) → (s : State) → IfClean (KeepsState (g.K.Scheme.rules d.scheme) s) (state g.D.Store d.store)
           → Come (IsDeliveredBy (g.K.Scheme.rules d.scheme) c.args.command.now) (primaries_in d.store.catalog) (primaries_in c.dispatch.new.catalog))

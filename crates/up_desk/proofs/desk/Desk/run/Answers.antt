@@ -1,11 +1,13 @@
 use Rattle.std.proofs.Common.{◌≡◌, ◌+◌, ◌∙◌, refl, ap, arith, vec_len}
 use Rattle.up_desk.specs.Standing.{state}
+use Rattle.up_desk.proofs.Cataloged.{stays, stays_more, stays_whole}
 use Rattle.up_desk.proofs.Runs.{ListLaws, none_so_far, one_more, chosen_ok, run_whole}
 use Rattle.up_desk.proofs.desk.Desk.run.Goals as goal
 
 pub loop-item-init : goal.loop-item-init
 loop-item-init g c = record {
   far = none_so_far (g.K.Scheme.rules c.args.self.now.scheme) (state g.D.Store c.args.self.now.store) c.args.commands.now c.args.answers.now.items c.reserve.new.self.items c.reserve.ensures.items;
+  kept = stays c.args.self.now.store.catalog;
   scheme = refl;
   room = omega (arith, c.in_ok-reserve.ensures.ok);
 }
@@ -23,7 +25,9 @@ loop-item-preserved g c =
         fits = c.keeps_limits.ensures;
         due = c.call-answer.ensures.outright;
         blame = c.call-answer.ensures.blame;
+        made = c.call-answer.ensures.made;
       });
+      kept = stays_more c.args.commands.now c.loop-item.item-index c.item-item.result c.args.self.now.store.catalog c.loop-item.self.store.catalog _ c.loop-item-test.true c.item-item.is kept.kept c.call-answer.ensures.kept;
       scheme = c.call-answer.ensures.scheme ∙ kept.scheme;
       room = omega arith;
     }
@@ -38,3 +42,6 @@ returns-clause-ran g c =
       exchanged = c.vehicles_stand_apart.ensures.exchanged;
     } in
     run_whole laws _ _ _ c.args.commands.now c.loop-item.item-index _ _ c.loop-item-test.false c.loop-item.invariant.far
+
+pub returns-clause-kept : goal.returns-clause-kept
+returns-clause-kept g c = stays_whole c.args.commands.now c.loop-item.item-index c.args.self.now.store.catalog _ c.loop-item-test.false c.loop-item.invariant.kept

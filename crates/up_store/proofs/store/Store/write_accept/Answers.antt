@@ -1,7 +1,5 @@
 use Rattle.std.proofs.Common.{Err, rules}
 use Rattle.std.specs.Prelude.{⊤}
-use Rattle.std.specs.List.{AllByRecursion}
-use Rattle.up_rows.specs.SecondHashes.{TellsItsHash}
 use Rattle.up_rows.specs.Changes.{with_accepted_rows}
 use Rattle.up_store.specs.Fitting.{IsRecorded}
 use Rattle.up_store.specs.Puts.{MayAccept}
@@ -15,7 +13,7 @@ returns g c =
     let did = wrote g.D.Store c.args.self.now c.transaction-tx.result.conn.now c.put_accepted.new.tx.conn.now c.commit.new.tx.0 (IsRecorded c.args.new.now) (λ rows. with_accepted_rows rows c.args.new.now) c.commit.result c.self.view_is c.transaction-tx.ensures.begun c.put_accepted.ensures.step.steps c.in_default.ensures.put c.commit.ensures.survives c.commit.ensures.committed (λ is_open trees left. g.met.D.Store.settled c.commit.new.tx.0.store trees is_open left) in
     let blame = commit_blames g.D.Store c.args.self.now c.transaction-tx.result.conn.now c.put_accepted.new.tx.conn.now c.commit.new.tx.0 (accept_writes c.args.new.now) (λ rows. IsRecorded c.args.new.now rows × FitsAccepted c.args.new.now) c.self.view_is c.transaction-tx.ensures.begun c.put_accepted.ensures.step.steps c.commit.result
     c.in_default.ensures.step.is_open c.commit.ensures.survives c.commit.ensures.cause in
-    let ran = λ (tell : AllByRecursion TellsItsHash c.args.new.now.vehicle.ecus). ran_write g.D.Store c.args.self.now c.transaction-tx.result.conn.now c.put_accepted.new.tx.conn.now c.commit.new.tx.0 (accept_writes c.args.new.now) (λ rows. IsRecorded c.args.new.now rows × FitsAccepted c.args.new.now) c.self.view_is c.transaction-tx.ensures.begun c.put_accepted.ensures.step.steps c.commit.result _ c.commit.ensures.survives (c.in_default.ensures.ran tell) c.commit.ensures.committed in
+    let ran = ran_write g.D.Store c.args.self.now c.transaction-tx.result.conn.now c.put_accepted.new.tx.conn.now c.commit.new.tx.0 (accept_writes c.args.new.now) (λ rows. IsRecorded c.args.new.now rows × FitsAccepted c.args.new.now) c.self.view_is c.transaction-tx.ensures.begun c.put_accepted.ensures.step.steps c.commit.result _ c.commit.ensures.survives c.in_default.ensures.ran c.commit.ensures.committed in
     record { written = did.written; durable = did.durable; kept = search rules; crash = did.crash; clean = search rules; «open» = search rules; ran = ran; blame = blame }
 
 pub returns-in-Err-clause-blame : goal.returns-in-Err-clause-blame
