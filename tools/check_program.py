@@ -20,7 +20,7 @@ LIMIT = 900
 # the longest first
 TRIED = [("file_cases.py",), ("fuzz.py", "1", "50"), ("fuzz.py", "51", "50"), ("http_fleet.py",), ("fuzz_http.py", "1", "50"),
          ("fuzz_http.py", "51", "50"), ("http_cases.py",), ("proxy_cases.py",), ("fuzz.py", "bodies", "1", "10"), ("each_line.py",),
-         ("tables.py",)]
+         ("damaged_rows.py",), ("tables.py",)]
 # what operators and integrators use
 TRIED += [("copy_cases.py", "2"), ("primary_cases.py",), ("operator_cases.py",), ("scale_cases.py",), ("large_cases.py",)]
 # every so manieth call of a kind

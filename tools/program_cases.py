@@ -88,16 +88,17 @@ def within(program, limit, given):
 
 
 def told_memory(program):
-    """Whether a line that the memory for a short script can't hold ends the run with that message."""
-    short, long = b"nope\n", b"nope\n" + LONGEST_LINE * b" "
-    enough = (0, NOT_JSON, b"")
+    """Whether a run ends with that message before its first line, under some limit that leaves no room for the longest line there may be: the
+    room is made at the first byte, and takes two mebibytes of those that a short script needs."""
+    short, enough = b"nope\n", (0, NOT_JSON, b"")
     low, high = 0, 4096
     if within(program, high * MEBIBYTE, short) != enough:
         return False
     while high - low > 1:
         middle = (low + high) // 2
         low, high = (low, middle) if within(program, middle * MEBIBYTE, short) == enough else (middle, high)
-    return within(program, high * MEBIBYTE, long) == (4, NOT_JSON, stopped(1, b"memory"))
+    lacking = range(MEBIBYTE // 4, 3 * MEBIBYTE, MEBIBYTE // 4)
+    return any(within(program, high * MEBIBYTE - size, short) == (4, b"", stopped(0, b"memory")) for size in lacking)
 
 
 def digests_of(given):

@@ -512,7 +512,7 @@ class Desk:
         meta = self.founded()
         if meta["root"] == 64:
             raise Refused(30)
-        if meta["image_version"] == MOST:
+        if meta["image_version"] >= MOST:
             raise Refused(21)
         self.put_root(keys, line["at"], meta["root"] + 1)
         self.put_image_files(line["at"], meta["image_version"] + 1)
@@ -528,7 +528,7 @@ class Desk:
             raise Refused(19)
         if len(images) == 1024:
             raise Refused(20)
-        if meta["image_version"] == MOST:
+        if meta["image_version"] >= MOST:
             raise Refused(21)
         lists = {k: canonical(image[k]) for k in ("hardware", "needs", "conflicts")}
         sql = "INSERT INTO image VALUES (:file, :length, :sha256, :hardware, :release, :needs, :conflicts)"
@@ -640,10 +640,10 @@ class Desk:
 
     def show(self, line):
         name = member(line, "vehicle", IDENT)
-        vehicle = self.one("SELECT version FROM vehicle WHERE vehicle = ?", name)
+        vehicle = self.one("SELECT version, last_counter FROM vehicle WHERE vehicle = ?", name)
         if not vehicle:
             raise Refused(10)
-        last = self.one("SELECT plan_text FROM kept WHERE vehicle = ? ORDER BY version DESC", name)
+        last = self.one("SELECT plan_text FROM kept WHERE vehicle = ? AND counter = ?", name, vehicle[1])
         assigned = {a["ecu"]: a["file"] for a in json.loads(last[0])["assigned"]} if last else {}
         told = ["vehicle %s version %d" % (name, vehicle[0])]
         for ecu, file in self.all("SELECT ecu, file FROM ecu WHERE vehicle = ? ORDER BY place", name):

@@ -12,8 +12,10 @@ pub mod Serving
 pub mod Outlasting
 pub mod Cataloged
 pub mod SentBy
+pub mod LeftKept
 pub mod Viewed
 pub mod Calls
 pub mod Runs
+pub mod EachCall
 pub mod Commits
 pub mod Again

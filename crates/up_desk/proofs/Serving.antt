@@ -45,7 +45,7 @@ use Rattle.up_desk.proofs.NeverStore.{NeverStore}
 late_test : (at : ℕ) → last_command_moment < at → nat_lt last_command_moment at ≡ true
 late_test at h = grind (arith, nat_tests)
 
-in_time_test : (at : ℕ) → at ≤ last_command_moment → nat_lt last_command_moment at ≡ false
+pub in_time_test : (at : ℕ) → at ≤ last_command_moment → nat_lt last_command_moment at ≡ false
 in_time_test at h = grind (arith, nat_tests)
 
 too_late : (at : ℕ) → last_command_moment < at → check_moment at ≡ Err MomentOutOfRange

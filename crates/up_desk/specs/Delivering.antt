@@ -1,11 +1,13 @@
 -- What a desk decides on a manifest, by what it knows so far.
-use Rattle.std.specs.Prelude.{◌≡◌, ◌⊎◌, ℕ, Bool, true, Option, None, Some, is_some, option_and_then, Result, Ok, Err, IfOk, IsOkAnd, MatchBool, ⊤}
+use Rattle.std.specs.Prelude.{◌≡◌, ◌⊎◌, ℕ, Bool, true, nat_lt, if◌then◌else◌, Option, None, Some, IfSome, is_some, option_and_then}
+use Rattle.std.specs.Prelude.{Result, Ok, Err, IfOk, IsOkAnd, MatchBool, ⊤}
 use Rattle.std.specs.FinMap as table
 use Rattle.sqlite.specs.State.{State as Connected, HasCleanDisk}
+use Rattle.up_canon.specs.Moments.{last_command_moment}
 use Rattle.up_canon.specs.Names.{Name, Table}
 use Rattle.up_canon.specs.Steps.{error_of}
 use Rattle.up_canon.specs.declared.refusal.Refusal.{Refusal}
-use Rattle.up_canon.specs.declared.refusal.Refusal.TheVariants.{Memory, NotFounded, UnknownVehicle}
+use Rattle.up_canon.specs.declared.refusal.Refusal.TheVariants.{Memory, MomentOutOfRange, NotFounded, UnknownVehicle}
 use Rattle.up_sign.specs.Schemes.{Rules}
 use Rattle.up_manifest.specs.declared.manifest.Incoming.{Incoming}
 use Rattle.up_manifest.specs.Manifests.{incoming_in}
@@ -28,7 +30,7 @@ use Rattle.up_tables.specs.Stands.{IfClean}
 use Rattle.up_store.specs.Connections.{KeepsState}
 use Rattle.up_desk.specs.declared.catalog.Catalog.{Catalog}
 use Rattle.up_desk.specs.Serving.{GivesOrFails, is_failed, is_fault}
-use Rattle.up_desk.specs.Standing.{IsOf}
+use Rattle.up_desk.specs.Standing.{IsOf, kept_for}
 
 -- ---- who sent it
 
@@ -49,6 +51,20 @@ refused_read k catalog (Err r) = None
 abbrev pub forged_by : Rules → Option Catalog → Command → Option Refusal
 forged_by k catalog (Deliver body) = refused_read k catalog (incoming_in body)
 forged_by k catalog c = None
+
+-- the refusal for which a delivery at a moment isn't taken in: of a moment past the last one, of a body that can't be read, or by what is kept
+-- of its vehicle's Primary
+abbrev pub refused_before : Rules → Option Catalog → Result Incoming Refusal → Option Refusal
+refused_before k catalog (Ok incoming) = refused_in k catalog incoming
+refused_before k catalog (Err r) = Some r
+
+abbrev pub untaken : Rules → ℕ → Option Catalog → Result Incoming Refusal → Option Refusal
+untaken k at catalog read = if nat_lt last_command_moment at then Some MomentOutOfRange else refused_before k catalog read
+
+-- a delivery that isn't taken in leaves what is kept in memory as it is, and every other command just what it keeps of it
+abbrev pub LeavesKept : Rules → ℕ → Command → Option Catalog → Option Catalog → Type 0
+LeavesKept k at (Deliver body) old new = IfSome (untaken k at old (incoming_in body)) (λ r. new ≡ old)
+LeavesKept k at c old new = new ≡ kept_for c old
 
 -- it is of this vehicle, and this Primary sent it
 abbrev pub IsSentBy : Rules → Incoming → Name → Primary → Type 0

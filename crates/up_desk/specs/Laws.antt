@@ -1,5 +1,6 @@
 -- Deliveries that come again, and replies that are commits.
-use Rattle.std.specs.Prelude.{◌≡◌, ◌≤◌, ◌||◌, ℕ, List, [], ◌∷◌, Bool, false, not, Option, Some, None, option_map, unwrap_or, IsTrue, Ok, filter, bytes_eq}
+use Rattle.std.specs.Prelude.{◌≡◌, ◌≤◌, ◌||◌, ℕ, List, [], ◌∷◌, Bool, false, not, Option}
+use Rattle.std.specs.Prelude.{Some, None, option_map, unwrap_or, IsTrue, Ok, filter, bytes_eq}
 use Rattle.std.specs.List.{AllByRecursion}
 use Rattle.std.specs.FinMap as table
 use Rattle.sqlite_disk.specs.declared.Disk.{Ghosts as DiskGhosts}
@@ -76,7 +77,8 @@ ActsOnceFrom k s body incoming = (between : List Sent) (at : ℕ) → LeaveAlone
 -- a delivery that the plain machine accepts acts once, whether or not its call came through
 abbrev pub DeliveriesActOnce : Type 0
 DeliveriesActOnce = (k : Rules) (s : State) (at : ℕ) (body : List ℕ) (incoming : Incoming) (accepted : Outcome) → IsSound k s
-    → incoming_in body ≡ Ok incoming → decide k s at (Deliver body) ≡ Ok accepted → ActsOnceFrom k s body incoming × ActsOnceFrom k accepted.next body incoming
+    → incoming_in body ≡ Ok incoming → decide k s at (Deliver body) ≡ Ok accepted
+    → ActsOnceFrom k s body incoming × ActsOnceFrom k accepted.next body incoming
 
 -- a state that is shown so, in which the delivery acts once when it comes again
 pub record FindsState (k : Rules) (body : List ℕ) (incoming : Incoming) (IsShown : State → Type 0) : Type 0 where
@@ -87,7 +89,8 @@ pub record FindsState (k : Rules) (body : List ℕ) (incoming : Incoming) (IsSho
 
 -- The call of a delivery that the plain machine accepts: as it began a crash could leave the shown state alone, and when it ended, whatever
 -- it answered, a crash leaves what it could leave before, or the next state.
-pub record IsCalled {S : Type 0} (g : Ghosts S) (k : Rules) (s : State) (at : ℕ) (body : List ℕ) (incoming : Incoming) (old new : Held S) : Type 0 where
+pub record IsCalled {S : Type 0} (g : Ghosts S) (k : Rules) (s : State) (at : ℕ) (body : List ℕ) (incoming : Incoming)
+    (old new : Held S) : Type 0 where
   pub sound : IsSound k s
   pub reads : incoming_in body ≡ Ok incoming
   pub accepted : Outcome
@@ -97,14 +100,18 @@ pub record IsCalled {S : Type 0} (g : Ghosts S) (k : Rules) (s : State) (at : �
 
 -- whatever a crash may leave behind the call shows a state in which the delivery acts once when it comes again
 abbrev pub CrashesActOnce : {S : Type 0} → Ghosts S → Type 0
-CrashesActOnce {S} g = (k : Rules) (s : State) (at : ℕ) (body : List ℕ) (incoming : Incoming) (old new : Held S) → IsCalled g k s at body incoming old new
+CrashesActOnce {S} g = (k : Rules) (s : State) (at : ℕ) (body : List ℕ) (incoming : Incoming) (old new : Held S)
+    → IsCalled g k s at body incoming old new
     → HasCleanDisk (state g new) → (left : Trees) → (state g new).may_leave left → FindsState k body incoming (λ t. HoldsState k t left)
 
 -- and so does what an open finds of the files that the crash left
 abbrev pub ReopenedActsOnce : {D : Type 0} → DiskGhosts D → Type 0
-ReopenedActsOnce {D} g = (k : Rules) (s : State) (at : ℕ) (body : List ℕ) (incoming : Incoming) (old new : Held (FileStore D g)) → IsCalled over_files k s at body incoming old new
-    → HasCleanDisk (file_state new) → (stopped : FileStore D g) → AreFoundAgain new stopped → IsTrue (view stopped).is_clean → (left : Image) → (files.state stopped).may_leave left
-    → (opened : Held (FileStore D g)) → IsOpened opened → FindsIn left (file_state opened) → ∥ FindsState k body incoming (λ t. KeepsState k t (file_state opened)) ∥₁
+ReopenedActsOnce {D} g = (k : Rules) (s : State) (at : ℕ) (body : List ℕ) (incoming : Incoming) (old new : Held (FileStore D g))
+    → IsCalled over_files k s at body incoming old new
+    → HasCleanDisk (file_state new) → (stopped : FileStore D g) → AreFoundAgain new stopped → IsTrue (view stopped).is_clean
+    → (left : Image) → (files.state stopped).may_leave left
+    → (opened : Held (FileStore D g)) → IsOpened opened → FindsIn left (file_state opened)
+    → ∥ FindsState k body incoming (λ t. KeepsState k t (file_state opened)) ∥₁
 
 -- ---- lists
 
@@ -115,6 +122,7 @@ ReopenedOutlast {D} g = (k : Rules) (cs : List (ℕ × Command)) (answers : List
     → OutlastsCalls k cs answers (standing.state over_files old) (standing.state over_files new)
     → (s : State) → IsSound k s → standing.IfClean (standing.KeepsState k s) (standing.state over_files old)
     → (before rest : List Sent) (m : Sent) → IsAnsweredCommit k s (sent cs answers) before rest m
-    → HasCleanDisk (file_state new.held) → (stopped : FileStore D g) → AreFoundAgain new.held stopped → IsTrue (view stopped).is_clean → (left : Image) → (files.state stopped).may_leave left
+    → HasCleanDisk (file_state new.held) → (stopped : FileStore D g) → AreFoundAgain new.held stopped → IsTrue (view stopped).is_clean
+    → (left : Image) → (files.state stopped).may_leave left
     → (opened : Held (FileStore D g)) → IsOpened opened → FindsIn left (file_state opened)
     → ∥ ((at : State) × StaysOrComesTo k (outcome_behind k s before m).next rest at × KeepsState k at (file_state opened)) ∥₁

@@ -1,9 +1,10 @@
 -- Lists of commands, answered one after another.
-use Rattle.std.specs.Prelude.{◌≡◌, ◌≢◌, ◌⊎◌, ℕ, false, List, [], ◌∷◌, ◌++◌, Option, Some, None, if◌then◌else◌, map, length, ⊤, IfSome, IsTrue}
+use Rattle.std.specs.Prelude.{◌≡◌, ◌≢◌, ◌≤◌, ◌⊎◌, ℕ, false, List, [], ◌∷◌, ◌++◌, Option, Some, None, if◌then◌else◌, map, length, ⊤, IfSome, IsTrue}
 use Rattle.std.specs.FinMap as table
 use Rattle.std.specs.List.{AllByRecursion}
 use Rattle.sqlite_disk.specs.Disk.{MoreFaults}
 use Rattle.sqlite.specs.Effect.{Database}
+use Rattle.up_canon.specs.Moments.{last_command_moment}
 use Rattle.up_canon.specs.Names.{Name}
 use Rattle.up_canon.specs.declared.refusal.Refusal.TheVariants.{Store}
 use Rattle.up_sign.specs.Schemes.{Rules}
@@ -16,8 +17,9 @@ use Rattle.up_machine.specs.Deciding.{Outcome}
 use Rattle.up_machine.specs.Repeats.{Sent, serve, after, thinned, expected, not_lost, vehicle_of, without_others, own_answers}
 use Rattle.up_machine.specs.ApartLaws.{AreExchanged}
 use Rattle.up_machine.specs.Sound.{IsSound}
-use Rattle.up_desk.specs.Standing.{Standing, HasCleanDisk, IfClean, KeepsState, Survives, LeavesOnly}
-use Rattle.up_desk.specs.Serving.{Becomes, HoldsState, IsCommit, RefusesOutcome, ShowsState, is_failed, outright, RepliesStay}
+use Rattle.up_desk.specs.Standing.{Standing, Stored, HasCleanDisk, IfClean, KeepsState, Survives, LeavesOnly}
+use Rattle.up_desk.specs.Serving.{Becomes, HoldsState, IsCommit, RefusesOutcome, ShowsState, is_failed, outright, refused_alone, RepliesStay}
+use Rattle.up_desk.specs.Delivering.{AnswersRead, LeavesKept, Loads, forged_by}
 
 -- a command with its moment
 abbrev pub timed : ℕ × Command → Timed
@@ -68,7 +70,25 @@ pub record IsRun (k : Rules) (old : State) (cs : List (ℕ × Command)) (answers
 -- so from each sound state that the tables showed, where the disk is clean then; and the tables show the state
 abbrev pub RunsCalls : Rules → List (ℕ × Command) → List Answer → Standing → Standing → Type 0
 RunsCalls k cs answers old new =
-    HasCleanDisk new → (s : State) → IsSound k s → IfClean (KeepsState k s) old → (next : State) × IsRun k s cs answers next × IsSound k next × KeepsState k next new
+    HasCleanDisk new → (s : State) → IsSound k s → IfClean (KeepsState k s) old
+    → (next : State) × IsRun k s cs answers next × IsSound k next × KeepsState k next new
+
+-- ---- each command of a list
+
+-- What holds of a command whatever the tables show: nothing is read of them where it is refused without, or by the kept Primary of its vehicle;
+-- a catalog is there behind a delivery, and of what is kept in memory is left what a command leaves.
+pub record IsOneCall {D : Type 0} (k : Rules) (c : ℕ × Command) (a : Answer) (old new : Stored D) : Type 0 where
+  pub unread : IfSome (refused_alone k c.0 c.1) (AnswersRead old.held new.held a)
+  pub forged : c.0 ≤ last_command_moment → IfSome (forged_by k old.catalog c.1) (AnswersRead old.held new.held a)
+  pub loads : c.0 ≤ last_command_moment → Loads c.1 a new.catalog
+  pub left : LeavesKept k c.0 c.1 old.catalog new.catalog
+
+-- so it is of each, behind those before it
+abbrev pub AreCalls : {D : Type 0} → Rules → List (ℕ × Command) → List Answer → Stored D → Stored D → Type 0
+AreCalls k [] [] old new = new ≡ old
+AreCalls k [] (a ∷ answers) old new = ⊥
+AreCalls k (c ∷ cs) [] old new = ⊥
+AreCalls {D} k (c ∷ cs) (a ∷ answers) old new = (mid : Stored D) × IsOneCall k c a old mid × AreCalls k cs answers mid new
 
 -- ---- what a crash leaves after a list
 
@@ -80,7 +100,8 @@ outcome_behind k s before m = serve k (after k s before) m.item.at m.item.comman
 abbrev pub ComesTo : Rules → State → List Sent → State → Type 0
 ComesTo k s ms at = (before rest : List Sent) × (m : Sent) × (ms ≡ before ++ m ∷ rest) × (at ≡ (outcome_behind k s before m).next)
 
--- only a fault of the disk shuts the connection, and a crash leaves what it could leave before the list, or the state after some of the first commands
+-- only a fault of the disk shuts the connection, and a crash leaves what it could leave before the list, or the state after some of the first
+-- commands
 abbrev pub SparesCalls : Rules → List (ℕ × Command) → List Answer → Standing → Standing → Type 0
 SparesCalls k cs answers old new = (s : State) → IsSound k s → IfClean (KeepsState k s) old
     → Survives old new (λ trees. (at : State) × ComesTo k s (sent cs answers) at × HoldsState k at trees)
@@ -97,17 +118,20 @@ StaysOrComesTo k s ms at = (at ≡ s) ⊎ ComesTo k s ms at
 
 -- what was answered stays: behind each commit that was answered a crash leaves the state behind it, or the one after some of the commands that follow
 abbrev pub OutlastsCalls : Rules → List (ℕ × Command) → List Answer → Standing → Standing → Type 0
-OutlastsCalls k cs answers old new = (s : State) → IsSound k s → IfClean (KeepsState k s) old → (before rest : List Sent) (m : Sent) → IsAnsweredCommit k s (sent cs answers) before rest m
+OutlastsCalls k cs answers old new = (s : State) → IsSound k s → IfClean (KeepsState k s) old → (before rest : List Sent) (m : Sent)
+    → IsAnsweredCommit k s (sent cs answers) before rest m
     → IfClean (LeavesOnly (λ trees. (at : State) × StaysOrComesTo k (outcome_behind k s before m).next rest at × HoldsState k at trees)) new
 
 -- a commit that was answered, and behind it no command that changes the state
 pub record IsLastCommit (k : Rules) (s : State) (ms before rest : List Sent) (m : Sent) : Type 0 where
   pub made : IsAnsweredCommit k s ms before rest m
-  pub unchanged : AllByRecursion (λ n. (serve k (outcome_behind k s before m).next n.item.at n.item.command).next ≡ (outcome_behind k s before m).next) rest
+  pub unchanged : AllByRecursion (λ n. (serve k (outcome_behind k s before m).next n.item.at n.item.command).next
+      ≡ (outcome_behind k s before m).next) rest
 
 -- where the last commit was answered, a crash leaves the state after the whole list alone
 abbrev pub CommitsCalls : Rules → List (ℕ × Command) → List Answer → Standing → Standing → Type 0
-CommitsCalls k cs answers old new = (s : State) → IsSound k s → IfClean (KeepsState k s) old → (before rest : List Sent) (m : Sent) → IsLastCommit k s (sent cs answers) before rest m
+CommitsCalls k cs answers old new = (s : State) → IsSound k s → IfClean (KeepsState k s) old → (before rest : List Sent) (m : Sent)
+    → IsLastCommit k s (sent cs answers) before rest m
     → IfClean (LeavesOnly (HoldsState k (after k s (sent cs answers)))) new
 
 -- ---- faults over a list

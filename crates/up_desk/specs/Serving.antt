@@ -1,6 +1,7 @@
 -- What a desk answers, the state that its tables show then, and what a crash leaves. All of it is said of a state that the tables show,
 -- over a disk that has returned what was written so far; what is answered outright is said of any.
-use Rattle.std.specs.Prelude.{◌≡◌, ◌⊎◌, ◌||◌, ℕ, Bool, true, false, nat_lt, if◌then◌else◌, codes, length, Option, Some, None, MatchBool, ⊤, Result, Ok, Err, IfOk, IfErr, IsTrue}
+use Rattle.std.specs.Prelude.{◌≡◌, ◌⊎◌, ◌||◌, ℕ, Bool, true, false, nat_lt, if◌then◌else◌, codes, length}
+use Rattle.std.specs.Prelude.{Option, Some, None, MatchBool, ⊤, Result, Ok, Err, IfOk, IfErr, IsTrue}
 use Rattle.std.specs.List.{list_all}
 use Rattle.sqlite_disk.specs.Disk.{MoreFaults}
 use Rattle.sqlite.specs.Effect.{Database}
@@ -56,7 +57,8 @@ IsAnswered a old new o = MatchBool (is_failed a) (new ≡ old) ((a ≡ o.answer)
 
 -- each reply that was kept is kept on, the same
 abbrev pub RepliesStay : Rules → State → State → Type 0
-RepliesStay k old new = (vehicle : Name) (number : ℕ) (reply : Reply) → kept_reply k old vehicle number ≡ Some reply → kept_reply k new vehicle number ≡ Some reply
+RepliesStay k old new = (vehicle : Name) (number : ℕ) (reply : Reply) → kept_reply k old vehicle number ≡ Some reply
+    → kept_reply k new vehicle number ≡ Some reply
 
 -- ---- refusals that are answered whether or not there is memory, whatever the database does
 
@@ -160,7 +162,8 @@ pub record Reads (old new : Connected) : Type 0 where
 
 -- what is read is told by the state that the tables show
 abbrev pub Tells : {A E : Type 0} → (Rules → State → A) → Connected → Connected → Result A E → Type 0
-Tells of_state old new result = HasCleanDisk new → IfOk result (λ found. (k : Rules) (s : State) → IfClean (KeepsState k s) old → found ≡ of_state k s)
+Tells of_state old new result = HasCleanDisk new → IfOk result (λ found. (k : Rules) (s : State)
+    → IfClean (KeepsState k s) old → found ≡ of_state k s)
 
 -- on a connection that was open, with no limit on the steps of a query, the disk counted a fault
 abbrev pub DiskFailed : Connected → Connected → Type 0

@@ -68,7 +68,8 @@ primaries_in (Some c) = c.primaries
 
 -- each Primary that comes to be kept is such a one
 abbrev pub Come : (Name → Primary → Type 0) → Table Primary → Table Primary → Type 0
-Come P old new = (vehicle : Name) (primary : Primary) → table.get new vehicle ≡ Some primary → (table.get old vehicle ≡ Some primary) ⊎ P vehicle primary
+Come P old new = (vehicle : Name) (primary : Primary) → table.get new vehicle ≡ Some primary
+    → (table.get old vehicle ≡ Some primary) ⊎ P vehicle primary
 
 -- what is kept stays, whatever is answered, and Primaries may come to it; it may be loaded where nothing is
 abbrev pub StaysLoaded : Option Catalog → Option Catalog → Type 0

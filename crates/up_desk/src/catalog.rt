@@ -68,8 +68,10 @@ pub(crate) fn load<K: Scheme, D: Alter>(
 ) -> Result<(), StoreFault>
     requires { IfSome catalog.old (CanDecide (K.rules scheme.now)) }
     ensures can { IfSome catalog.new (CanDecide (K.rules scheme.now)) }
-    ensures fits { HasCleanDisk (state D.Store store.new) → (k : Rules) (s : State) → IfClean (KeepsState k s) (state D.Store store.old) → Fits s catalog.old → Fits s catalog.new }
-    ensures loaded { HasCleanDisk (state D.Store store.new) → OnOk result ((k : Rules) (s : State) → IfClean (KeepsState k s) (state D.Store store.old) → Fits s catalog.old → IsLoaded s catalog.new) }
+    ensures fits { HasCleanDisk (state D.Store store.new) → (k : Rules) (s : State)
+        → IfClean (KeepsState k s) (state D.Store store.old) → Fits s catalog.old → Fits s catalog.new }
+    ensures loaded { HasCleanDisk (state D.Store store.new) → OnOk result ((k : Rules) (s : State)
+        → IfClean (KeepsState k s) (state D.Store store.old) → Fits s catalog.old → IsLoaded s catalog.new) }
     ensures kept { StaysLoaded catalog.old catalog.new }
     ensures came { Come (λ vehicle primary. ⊥) (primaries_in catalog.old) (primaries_in catalog.new) }
     ensures there { is_some catalog.old ≡ true → (result ≡ Ok tt) × (catalog.new ≡ catalog.old) × (store.new ≡ store.old) }
@@ -94,7 +96,8 @@ fn read_catalog<K: Scheme, D: Alter>(
     alloc: Global,
     scheme: &K,
 ) -> Result<Option<Catalog>, StoreFault>
-    ensures told { HasCleanDisk (state D.Store store.new) → IfOk result (λ read. (k : Rules) (s : State) → IfClean (KeepsState k s) (state D.Store store.old) → IsLoaded s read) }
+    ensures told { HasCleanDisk (state D.Store store.new) → IfOk result (λ read. (k : Rules) (s : State)
+        → IfClean (KeepsState k s) (state D.Store store.old) → IsLoaded s read) }
     ensures can { IfOk result (λ read. IfSome read (CanDecide (K.rules scheme.now))) }
     ensures none { IfOk result (λ read. primaries_in read ≡ table.empty) }
     ensures blame { BlamesSound faults.Store (K.rules scheme.now) (state D.Store store.old) (state D.Store store.new) result }
@@ -115,7 +118,8 @@ fn read_registers<K: Scheme, D: Alter>(
     founding: Founding,
 ) -> Result<Option<Catalog>, StoreFault>
     requires { IsTrue (founding_fits (K.rules scheme.now) founding) }
-    ensures told { HasCleanDisk (state D.Store store.new) → IfOk result (λ read. (k : Rules) (s : State) → IfClean (KeepsState k s) (state D.Store store.old) → founding_row s ≡ Some founding → IsLoaded s read) }
+    ensures told { HasCleanDisk (state D.Store store.new) → IfOk result (λ read. (k : Rules) (s : State)
+        → IfClean (KeepsState k s) (state D.Store store.old) → founding_row s ≡ Some founding → IsLoaded s read) }
     ensures can { IfOk result (λ read. IfSome read (CanDecide (K.rules scheme.now))) }
     ensures none { IfOk result (λ read. primaries_in read ≡ table.empty) }
     ensures blame { Blames (state D.Store store.old) (state D.Store store.new) result }
@@ -143,7 +147,8 @@ fn read_registers<K: Scheme, D: Alter>(
 
 /// Reads the running campaigns, and makes them ready for look-ups.
 fn read_running<D: Alter>(store: &mut Store<D>, alloc: Global) -> Result<Running, StoreFault>
-    ensures told { Tells (λ k s. values_where (λ (c : CampaignData). c.running) s.campaigns) (state D.Store store.old) (state D.Store store.new) result }
+    ensures told { Tells (λ k s. values_where (λ (c : CampaignData). c.running) s.campaigns)
+        (state D.Store store.old) (state D.Store store.new) result }
     ensures blame { Blames (state D.Store store.old) (state D.Store store.new) result }
     ensures reads { Reads (state D.Store store.old) (state D.Store store.new) }
 {

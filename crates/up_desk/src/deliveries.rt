@@ -19,7 +19,8 @@ ghost use Rattle.up_machine.specs.Sound.{IsSound};
 ghost use Rattle.up_machine.specs.State.{State};
 ghost use Rattle.up_store.specs.Connections.{KeepsState};
 ghost use Rattle.up_tables.specs.Stands.{IfClean};
-ghost use Rattle.up_desk.specs.Delivering.{Decides, IsLoadedBehind, IsReadBy, IsSent, IsSentBy, IsThere, RefusesRead, RefusesUnread, refused_by, refused_in};
+ghost use Rattle.up_desk.specs.Delivering.{Decides, IsLoadedBehind, IsReadBy, IsSent, IsSentBy};
+ghost use Rattle.up_desk.specs.Delivering.{IsThere, RefusesRead, RefusesUnread, refused_before, refused_by, refused_in};
 ghost use Rattle.up_desk.specs.Serving.{Reads, Serves, told};
 ghost use Rattle.up_desk.specs.Standing.{CanDecide, Come, Fits, IsLoaded, IsOf, KeepsMore, StaysLoaded, primaries_in};
 
@@ -60,16 +61,21 @@ pub fn deliver<K: Scheme, D: Alter>(
     requires can { IfSome catalog.old (CanDecide (K.rules scheme.now)) }
     ensures large { largest_body < length body.now → RefusesUnread store.old store.new result TooLarge }
     ensures unread { IfSome (error_of (incoming_in body.now)) (RefusesRead store.old store.new result) }
-    ensures serves { (s : State) → IsSound (K.rules scheme.now) s → IfClean (KeepsState (K.rules scheme.now) s) (state D.Store store.old) → (HasCleanDisk (state D.Store store.old) → Fits s catalog.old)
+    ensures serves { (s : State) → IsSound (K.rules scheme.now) s → IfClean (KeepsState (K.rules scheme.now) s) (state D.Store store.old)
+        → (HasCleanDisk (state D.Store store.old) → Fits s catalog.old)
         → Serves (K.rules scheme.now) s (state D.Store store.old) (state D.Store store.new) result
         (and_then (incoming_in body.now) (decide_incoming (K.rules scheme.now) s at)) }
-    ensures fits { HasCleanDisk (state D.Store store.new) → (k : Rules) (s : State) → IfClean (KeepsState k s) (state D.Store store.old) → Fits s catalog.old → Fits s catalog.new }
+    ensures fits { HasCleanDisk (state D.Store store.new) → (k : Rules) (s : State)
+        → IfClean (KeepsState k s) (state D.Store store.old) → Fits s catalog.old → Fits s catalog.new }
     ensures kept { StaysLoaded catalog.old catalog.new }
-    ensures came { HasCleanDisk (state D.Store store.new) → (s : State) → IfClean (KeepsState (K.rules scheme.now) s) (state D.Store store.old) → Fits s catalog.old
+    ensures came { HasCleanDisk (state D.Store store.new) → (s : State)
+        → IfClean (KeepsState (K.rules scheme.now) s) (state D.Store store.old) → Fits s catalog.old
         → Come (IsReadBy (K.rules scheme.now) (incoming_in body.now)) (primaries_in catalog.old) (primaries_in catalog.new) }
     ensures loads { IfOk (incoming_in body.now) (λ incoming. IsLoadedBehind (told result) catalog.new) }
     ensures can { IfSome catalog.new (CanDecide (K.rules scheme.now)) }
-    ensures forged { (incoming : Incoming) → incoming_in body.now ≡ Ok incoming → IfSome (refused_in (K.rules scheme.now) catalog.old incoming) (RefusesRead store.old store.new result) }
+    ensures forged { (incoming : Incoming) → incoming_in body.now ≡ Ok incoming
+        → IfSome (refused_in (K.rules scheme.now) catalog.old incoming) (RefusesRead store.old store.new result) }
+    ensures left { IfSome (refused_before (K.rules scheme.now) catalog.old (incoming_in body.now)) (λ r. catalog.new ≡ catalog.old) }
 {
     match read_manifest(alloc, body.as_slice()) {
         Ok(incoming) => receive(store, catalog, keys, alloc, scheme, at, &incoming),
@@ -90,15 +96,20 @@ fn receive<K: Scheme, D: Alter>(
     requires moment { at ≤ last_command_moment }
     requires read { IsRead incoming.now }
     requires can { IfSome catalog.old (CanDecide (K.rules scheme.now)) }
-    ensures serves { (s : State) → IsSound (K.rules scheme.now) s → IfClean (KeepsState (K.rules scheme.now) s) (state D.Store store.old) → (HasCleanDisk (state D.Store store.old) → Fits s catalog.old)
-        → Serves (K.rules scheme.now) s (state D.Store store.old) (state D.Store store.new) result (decide_incoming (K.rules scheme.now) s at incoming.now) }
-    ensures fits { HasCleanDisk (state D.Store store.new) → (k : Rules) (s : State) → IfClean (KeepsState k s) (state D.Store store.old) → Fits s catalog.old → Fits s catalog.new }
+    ensures serves { (s : State) → IsSound (K.rules scheme.now) s → IfClean (KeepsState (K.rules scheme.now) s) (state D.Store store.old)
+        → (HasCleanDisk (state D.Store store.old) → Fits s catalog.old)
+        → Serves (K.rules scheme.now) s (state D.Store store.old) (state D.Store store.new) result
+        (decide_incoming (K.rules scheme.now) s at incoming.now) }
+    ensures fits { HasCleanDisk (state D.Store store.new) → (k : Rules) (s : State)
+        → IfClean (KeepsState k s) (state D.Store store.old) → Fits s catalog.old → Fits s catalog.new }
     ensures kept { StaysLoaded catalog.old catalog.new }
-    ensures came { HasCleanDisk (state D.Store store.new) → (s : State) → IfClean (KeepsState (K.rules scheme.now) s) (state D.Store store.old) → Fits s catalog.old
+    ensures came { HasCleanDisk (state D.Store store.new) → (s : State)
+        → IfClean (KeepsState (K.rules scheme.now) s) (state D.Store store.old) → Fits s catalog.old
         → Come (IsSentBy (K.rules scheme.now) incoming.now) (primaries_in catalog.old) (primaries_in catalog.new) }
     ensures loads { IsLoadedBehind (told result) catalog.new }
     ensures can { IfSome catalog.new (CanDecide (K.rules scheme.now)) }
     ensures forged { IfSome (refused_in (K.rules scheme.now) catalog.old incoming.now) (RefusesUnread store.old store.new result) }
+    ensures left { IfSome (refused_in (K.rules scheme.now) catalog.old incoming.now) (λ r. catalog.new ≡ catalog.old) }
 {
     match load(store, catalog, alloc, scheme) {
         Ok(()) => receive_loaded(store, catalog, keys, alloc, scheme, at, incoming),
@@ -119,16 +130,21 @@ fn receive_loaded<K: Scheme, D: Alter>(
     requires moment { at ≤ last_command_moment }
     requires read { IsRead incoming.now }
     requires can { IfSome catalog.old (CanDecide (K.rules scheme.now)) }
-    ensures serves { (s : State) → IsSound (K.rules scheme.now) s → IfClean (KeepsState (K.rules scheme.now) s) (state D.Store store.old) → (HasCleanDisk (state D.Store store.old) → IsLoaded s catalog.old)
-        → Serves (K.rules scheme.now) s (state D.Store store.old) (state D.Store store.new) result (decide_incoming (K.rules scheme.now) s at incoming.now) }
+    ensures serves { (s : State) → IsSound (K.rules scheme.now) s → IfClean (KeepsState (K.rules scheme.now) s) (state D.Store store.old)
+        → (HasCleanDisk (state D.Store store.old) → IsLoaded s catalog.old)
+        → Serves (K.rules scheme.now) s (state D.Store store.old) (state D.Store store.new) result
+        (decide_incoming (K.rules scheme.now) s at incoming.now) }
     ensures clean { HasCleanDisk (state D.Store store.new) → HasCleanDisk (state D.Store store.old) }
-    ensures fits { HasCleanDisk (state D.Store store.new) → (k : Rules) (s : State) → IfClean (KeepsState k s) (state D.Store store.old) → Fits s catalog.old → Fits s catalog.new }
+    ensures fits { HasCleanDisk (state D.Store store.new) → (k : Rules) (s : State)
+        → IfClean (KeepsState k s) (state D.Store store.old) → Fits s catalog.old → Fits s catalog.new }
     ensures kept { StaysLoaded catalog.old catalog.new }
-    ensures came { HasCleanDisk (state D.Store store.new) → (s : State) → IfClean (KeepsState (K.rules scheme.now) s) (state D.Store store.old) → Fits s catalog.old
+    ensures came { HasCleanDisk (state D.Store store.new) → (s : State)
+        → IfClean (KeepsState (K.rules scheme.now) s) (state D.Store store.old) → Fits s catalog.old
         → Come (IsSentBy (K.rules scheme.now) incoming.now) (primaries_in catalog.old) (primaries_in catalog.new) }
     ensures loads { IsThere result catalog.new }
     ensures can { IfSome catalog.new (CanDecide (K.rules scheme.now)) }
     ensures forged { IfSome (refused_in (K.rules scheme.now) catalog.old incoming.now) (RefusesUnread store.old store.new result) }
+    ensures left { IfSome (refused_in (K.rules scheme.now) catalog.old incoming.now) (λ r. catalog.new ≡ catalog.old) }
 {
     match decide(store, catalog, keys, alloc, scheme, at, incoming) {
         Ok(Delivered::Repeat(reply)) => Ok(Answer::Reply(reply)),
@@ -144,7 +160,8 @@ fn accept<D: Alter>(
     alloc: Global,
     rows: AcceptedRows,
 ) -> Result<Answer, Refusal>
-    ensures serves { (k : Rules) (s : State) (name : Name) (computed : Result Outcome Refusal) → IsSound k s → IfClean (KeepsState k s) (state D.Store store.old)
+    ensures serves { (k : Rules) (s : State) (name : Name) (computed : Result Outcome Refusal) → IsSound k s
+        → IfClean (KeepsState k s) (state D.Store store.old)
         → (HasCleanDisk (state D.Store store.old) → GivesDelivered k s name (Ok (Accepted rows)) computed)
         → Serves k s (state D.Store store.old) (state D.Store store.new) result computed }
     ensures clean { HasCleanDisk (state D.Store store.new) → HasCleanDisk (state D.Store store.old) }
@@ -174,14 +191,18 @@ fn decide<K: Scheme, D: Alter>(
     requires moment { at ≤ last_command_moment }
     requires read { IsRead incoming.now }
     requires can { IfSome catalog.old (CanDecide (K.rules scheme.now)) }
-    ensures decided { Decides (K.rules scheme.now) at incoming.now (λ s. IsLoaded s catalog.old) (state D.Store store.old) (state D.Store store.new) result }
-    ensures fits { HasCleanDisk (state D.Store store.new) → (k : Rules) (s : State) → IfClean (KeepsState k s) (state D.Store store.old) → Fits s catalog.old → Fits s catalog.new }
+    ensures decided { Decides (K.rules scheme.now) at incoming.now (λ s. IsLoaded s catalog.old)
+        (state D.Store store.old) (state D.Store store.new) result }
+    ensures fits { HasCleanDisk (state D.Store store.new) → (k : Rules) (s : State)
+        → IfClean (KeepsState k s) (state D.Store store.old) → Fits s catalog.old → Fits s catalog.new }
     ensures kept { StaysLoaded catalog.old catalog.new }
-    ensures came { HasCleanDisk (state D.Store store.new) → (s : State) → IfClean (KeepsState (K.rules scheme.now) s) (state D.Store store.old) → Fits s catalog.old
+    ensures came { HasCleanDisk (state D.Store store.new) → (s : State)
+        → IfClean (KeepsState (K.rules scheme.now) s) (state D.Store store.old) → Fits s catalog.old
         → Come (IsSentBy (K.rules scheme.now) incoming.now) (primaries_in catalog.old) (primaries_in catalog.new) }
     ensures loads { IsThere result catalog.new }
     ensures can { IfSome catalog.new (CanDecide (K.rules scheme.now)) }
     ensures forged { IfSome (refused_in (K.rules scheme.now) catalog.old incoming.now) (RefusesUnread store.old store.new result) }
+    ensures left { IfSome (refused_in (K.rules scheme.now) catalog.old incoming.now) (λ r. catalog.new ≡ catalog.old) }
     ensures reads { Reads (state D.Store store.old) (state D.Store store.new) }
 {
     match catalog {
@@ -203,12 +224,16 @@ fn decide_founded<K: Scheme, D: Alter>(
     requires moment { at ≤ last_command_moment }
     requires read { IsRead incoming.now }
     requires can { CanDecide (K.rules scheme.now) catalog.old }
-    ensures decided { Decides (K.rules scheme.now) at incoming.now (λ s. IsOf s catalog.old) (state D.Store store.old) (state D.Store store.new) result }
-    ensures of { HasCleanDisk (state D.Store store.new) → (k : Rules) (s : State) → IfClean (KeepsState k s) (state D.Store store.old) → IsOf s catalog.old → IsOf s catalog.new }
+    ensures decided { Decides (K.rules scheme.now) at incoming.now (λ s. IsOf s catalog.old)
+        (state D.Store store.old) (state D.Store store.new) result }
+    ensures of { HasCleanDisk (state D.Store store.new) → (k : Rules) (s : State)
+        → IfClean (KeepsState k s) (state D.Store store.old) → IsOf s catalog.old → IsOf s catalog.new }
     ensures more { KeepsMore catalog.old catalog.new }
-    ensures came { HasCleanDisk (state D.Store store.new) → (s : State) → IfClean (KeepsState (K.rules scheme.now) s) (state D.Store store.old) → IsOf s catalog.old
+    ensures came { HasCleanDisk (state D.Store store.new) → (s : State)
+        → IfClean (KeepsState (K.rules scheme.now) s) (state D.Store store.old) → IsOf s catalog.old
         → Come (IsSentBy (K.rules scheme.now) incoming.now) catalog.old.primaries catalog.new.primaries }
     ensures forged { IfSome (refused_by (K.rules scheme.now) catalog.old.primaries incoming.now) (RefusesUnread store.old store.new result) }
+    ensures left { IfSome (refused_by (K.rules scheme.now) catalog.old.primaries incoming.now) (λ r. catalog.new ≡ catalog.old) }
     ensures reads { Reads (state D.Store store.old) (state D.Store store.new) }
 {
     match read_sender(store, catalog, keys, alloc, scheme, incoming) {
@@ -238,7 +263,8 @@ fn decide_sent<K: Scheme, D: Alter>(
     requires read { IsRead incoming.now }
     requires can { CanAnswer (K.rules scheme.now) sender.now }
     requires hashed { catalog.now.hashed ≡ hashed_roles (K.rules scheme.now) sender.now.founding.keys.director }
-    ensures decided { Decides (K.rules scheme.now) at incoming.now (λ s. IsSent (K.rules scheme.now) s incoming.now catalog.now sender.now) (state D.Store store.old) (state D.Store store.new) result }
+    ensures decided { Decides (K.rules scheme.now) at incoming.now (λ s. IsSent (K.rules scheme.now) s incoming.now catalog.now sender.now)
+        (state D.Store store.old) (state D.Store store.new) result }
     ensures reads { Reads (state D.Store store.old) (state D.Store store.new) }
 {
     if is_later(incoming, sender) {
@@ -259,7 +285,8 @@ fn decide_earlier<D: Alter>(
     requires moment { at ≤ last_command_moment }
     requires read { IsRead incoming.now }
     requires older { incoming.now.manifest.counter ≤ sender.now.vehicle.vehicle.last }
-    ensures decided { (k : Rules) → Decides k at incoming.now (λ s. IsSenderOf k s incoming.now sender.now) (state D.Store store.old) (state D.Store store.new) result }
+    ensures decided { (k : Rules) → Decides k at incoming.now (λ s. IsSenderOf k s incoming.now sender.now)
+        (state D.Store store.old) (state D.Store store.new) result }
     ensures reads { Reads (state D.Store store.old) (state D.Store store.new) }
 {
     rows_are_found();

@@ -1,5 +1,5 @@
 //! The two repositories under one scheme.
-ghost use Rattle.std.specs.Prelude.{◌≡◌, ◌≤◌, ◌++◌, List, IfSome, OnOk, OnErr, IsTrue};
+ghost use Rattle.std.specs.Prelude.{◌≡◌, ◌+◌, ◌<◌, ◌≤◌, ◌++◌, List, length, vec_capacity, vec_len, IfSome, OnOk, OnErr, IsTrue};
 ghost use Rattle.std.specs.List.{AllByRecursion};
 ghost use Rattle.up_canon.specs.Moments.{last_command_moment};
 ghost use Rattle.up_machine.specs.declared.answer.Answer.{Answer};
@@ -8,11 +8,12 @@ ghost use Rattle.up_machine.specs.Commands.{opens_running};
 ghost use Rattle.up_machine.specs.Reads.{ecus_of as ecus_in, version_of as version_in, installed as installed_in, assigned_to};
 ghost use Rattle.up_machine.specs.Rows.{vehicle_rows};
 ghost use Rattle.up_machine.specs.State.{State};
-ghost use Rattle.up_desk.specs.Runs.{AreOutright, BlamesCalls, CommitsCalls, OutlastsCalls, RunsCalls, SparesCalls};
+ghost use Rattle.up_desk.specs.Runs.{AreCalls, AreOutright, BlamesCalls, CommitsCalls, OutlastsCalls, RunsCalls, SparesCalls};
 ghost use Rattle.up_desk.specs.Calls.{BlamesCall, CommitsCall, MakesCall, ServesCall, SparesCall};
-ghost use Rattle.up_desk.specs.Delivering.{AnswersRead, IsDeliveredBy, Loads, forged_by};
+ghost use Rattle.up_desk.specs.Delivering.{AnswersRead, IsDeliveredBy, LeavesKept, Loads, forged_by};
 ghost use Rattle.up_desk.specs.Serving.{outright as outright_of, refused_alone};
-ghost use Rattle.up_desk.specs.Standing.{Blames, Come, HasCleanDisk, IfClean, KeepsState, Reads, StaysLoaded, Tells, bare, kept_for, kept_over, primaries_in, state};
+ghost use Rattle.up_desk.specs.Standing.{Blames, Come, HasCleanDisk, IfClean, KeepsState, Reads};
+ghost use Rattle.up_desk.specs.Standing.{StaysLoaded, Tells, bare, kept_for, kept_over, primaries_in, state};
 
 use crate::catalog::Catalog;
 use crate::dispatch::{answer_of, dispatch, keeps_limits};
@@ -104,17 +105,21 @@ impl<K: Scheme, D: Alter> Desk<K, D> {
         requires { IsTrue (opens_running command.now) }
         ensures served { ServesCall (K.rules self.old.scheme) at command.now result (state D.Store self.old.store) (state D.Store self.new.store) }
         ensures outright { IfSome (outright_of (K.rules self.old.scheme) at command.now) (λ r. result ≡ Refused r) }
-        ensures unread { IfSome (refused_alone (K.rules self.old.scheme) at command.now) (AnswersRead self.old.store.held self.new.store.held result) }
+        ensures unread { IfSome (refused_alone (K.rules self.old.scheme) at command.now)
+            (AnswersRead self.old.store.held self.new.store.held result) }
         ensures crash { SparesCall (K.rules self.old.scheme) at command.now (state D.Store self.old.store) (state D.Store self.new.store) }
         ensures durable { CommitsCall (K.rules self.old.scheme) at command.now result (state D.Store self.old.store) (state D.Store self.new.store) }
         ensures clean { HasCleanDisk (state D.Store self.new.store) → HasCleanDisk (state D.Store self.old.store) }
         ensures blame { BlamesCall (K.rules self.old.scheme) at command.now result (state D.Store self.old.store) (state D.Store self.new.store) }
         ensures made { MakesCall (K.rules self.old.scheme) at command.now result (state D.Store self.old.store) (state D.Store self.new.store) }
         ensures kept { StaysLoaded (kept_for command.now self.old.store.catalog) self.new.store.catalog }
-        ensures came { HasCleanDisk (state D.Store self.new.store) → (s : State) → IfClean (KeepsState (K.rules self.old.scheme) s) (state D.Store self.old.store)
+        ensures came { HasCleanDisk (state D.Store self.new.store) → (s : State)
+            → IfClean (KeepsState (K.rules self.old.scheme) s) (state D.Store self.old.store)
             → Come (IsDeliveredBy (K.rules self.old.scheme) command.now) (primaries_in self.old.store.catalog) (primaries_in self.new.store.catalog) }
         ensures loads { at ≤ last_command_moment → Loads command.now result self.new.store.catalog }
-        ensures forged { at ≤ last_command_moment → IfSome (forged_by (K.rules self.old.scheme) self.old.store.catalog command.now) (AnswersRead self.old.store.held self.new.store.held result) }
+        ensures forged { at ≤ last_command_moment → IfSome (forged_by (K.rules self.old.scheme) self.old.store.catalog command.now)
+            (AnswersRead self.old.store.held self.new.store.held result) }
+        ensures left { LeavesKept (K.rules self.old.scheme) at command.now self.old.store.catalog self.new.store.catalog }
         ensures scheme { self.new.scheme ≡ self.old.scheme }
     {
         keeps_limits(command);
@@ -141,8 +146,9 @@ impl<K: Scheme, D: Alter> Desk<K, D> {
     /// the state behind it, or the one after some of the commands that follow; where none of these changes the state, the
     /// state after all of them. Where the disk counted no fault over the whole list, each command makes of the database that the
     /// connection saw the next one, which shows the state then, and each `Refused(Store)` is to a command whose outcome the
-    /// database refuses that there is then. What is kept in memory stays over deliveries and fetches. An error means that nothing
-    /// was done.
+    /// database refuses that there is then. What is kept in memory stays over deliveries and fetches. Each command reads nothing
+    /// where a call of it alone reads nothing, and leaves of what is kept what that would leave. An error means that nothing
+    /// was done, and comes only where there was no room for the answers: of no commands never.
     pub fn run(
         &mut self,
         alloc: Global,
@@ -150,13 +156,17 @@ impl<K: Scheme, D: Alter> Desk<K, D> {
         answers: &mut Vec<Answer>,
     ) -> Result<(), AllocError>
         requires { AllByRecursion (λ c. IsTrue (opens_running c.1)) commands.now }
-        ensures ran { OnOk result ((told : List Answer) × (answers.new.items ≡ answers.old.items ++ told) × AreOutright (K.rules self.old.scheme) commands.now told
+        ensures ran { OnOk result ((told : List Answer) × (answers.new.items ≡ answers.old.items ++ told)
+            × AreOutright (K.rules self.old.scheme) commands.now told
             × RunsCalls (K.rules self.old.scheme) commands.now told (state D.Store self.old.store) (state D.Store self.new.store)
             × SparesCalls (K.rules self.old.scheme) commands.now told (state D.Store self.old.store) (state D.Store self.new.store)
             × OutlastsCalls (K.rules self.old.scheme) commands.now told (state D.Store self.old.store) (state D.Store self.new.store)
             × CommitsCalls (K.rules self.old.scheme) commands.now told (state D.Store self.old.store) (state D.Store self.new.store)
             × BlamesCalls (K.rules self.old.scheme) commands.now told (state D.Store self.old.store) (state D.Store self.new.store)) }
         ensures err { OnErr result ((answers.new.items ≡ answers.old.items) × (self.new ≡ self.old)) }
+        ensures room { OnErr result (vec_capacity answers.old < vec_len answers.old + length commands.now) }
+        ensures each { OnOk result ((told : List Answer) × (answers.new.items ≡ answers.old.items ++ told)
+            × AreCalls (K.rules self.old.scheme) commands.now told self.old.store self.new.store) }
         ensures kept { OnOk result (StaysLoaded (kept_over commands.now self.old.store.catalog) self.new.store.catalog) }
         ensures clean { HasCleanDisk (state D.Store self.new.store) → HasCleanDisk (state D.Store self.old.store) }
         ensures scheme { self.new.scheme ≡ self.old.scheme }

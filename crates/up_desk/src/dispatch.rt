@@ -9,7 +9,7 @@ ghost use Rattle.up_machine.specs.Sound.{IsSound};
 ghost use Rattle.up_machine.specs.State.{State};
 ghost use Rattle.up_store.specs.Connections.{KeepsState};
 ghost use Rattle.up_tables.specs.Stands.{IfClean};
-ghost use Rattle.up_desk.specs.Delivering.{IsDeliveredBy, Loads, RefusesRead, forged_by};
+ghost use Rattle.up_desk.specs.Delivering.{IsDeliveredBy, LeavesKept, Loads, RefusesRead, forged_by};
 ghost use Rattle.up_desk.specs.Standing.{CanDecide, Come, Fits, StaysLoaded, StillFits, kept_for, primaries_in};
 ghost use Rattle.up_desk.specs.Serving.{Serves, alone_in_time, outcome_due, outright as outright_of, outright_in_time, refused_alone, told};
 
@@ -59,6 +59,7 @@ pub fn dispatch<K: Scheme, D: Alter>(
     ensures can { IfSome catalog.new (CanDecide (K.rules scheme.now)) }
     ensures forged { at ≤ last_command_moment
         → IfSome (forged_by (K.rules scheme.now) catalog.old command.now) (RefusesRead store.old store.new result) }
+    ensures left { LeavesKept (K.rules scheme.now) at command.now catalog.old catalog.new }
 {
     drop_before(command, catalog);
     match command_moment(at) {
@@ -94,6 +95,7 @@ fn dispatch_at<K: Scheme, D: Alter>(
     ensures loads { Loads command.now (told result) catalog.new }
     ensures can { IfSome catalog.new (CanDecide (K.rules scheme.now)) }
     ensures forged { IfSome (forged_by (K.rules scheme.now) catalog.old command.now) (RefusesRead store.old store.new result) }
+    ensures left { LeavesKept (K.rules scheme.now) at command.now catalog.old catalog.new }
 {
     match command {
         Command::Found(keys) => found(store, alloc, scheme, at, keys),

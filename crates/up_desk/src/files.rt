@@ -71,7 +71,8 @@ fn read_file<D: Alter>(
 /// The same where there is no such file: whether the repositories are founded is read for the refusal alone.
 fn decide_missing<D: Alter>(store: &mut Store<D>, at: Moment) -> Result<Text, Refusal>
     requires { at ≤ last_command_moment }
-    ensures decided { HasCleanDisk (state D.Store store.new) → (k : Rules) (s : State) (repository : RepositoryName) (name : Name) → None ≡ file k s repository name → IfClean (KeepsState k s) (state D.Store store.old)
+    ensures decided { HasCleanDisk (state D.Store store.new) → (k : Rules) (s : State) (repository : RepositoryName) (name : Name)
+        → None ≡ file k s repository name → IfClean (KeepsState k s) (state D.Store store.old)
         → GivesOrFails (GivesFile s) (state D.Store store.old) (state D.Store store.new) result (decide_fetch_in k s at repository name) }
     ensures reads { Reads (state D.Store store.old) (state D.Store store.new) }
 {

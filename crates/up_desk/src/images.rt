@@ -26,7 +26,8 @@ pub fn images_of<D: Alter>(
     alloc: Global,
     items: &[Item],
 ) -> Result<Table<Image>, StoreFault>
-    ensures told { HasCleanDisk (state D.Store store.new) → IfOk result (λ images. (k : Rules) (s : State) → IfClean (KeepsState k s) (state D.Store store.old)
+    ensures told { HasCleanDisk (state D.Store store.new) → IfOk result (λ images. (k : Rules) (s : State)
+        → IfClean (KeepsState k s) (state D.Store store.old)
         → images ≡ gathered s.images (item_files items.now) table.empty) }
     ensures blame { Blames (state D.Store store.old) (state D.Store store.new) result }
     ensures reads { Reads (state D.Store store.old) (state D.Store store.new) }

@@ -43,9 +43,11 @@ pub fn add_vehicle<K: Scheme, D: Alter>(
     new: &NewVehicle,
 ) -> Result<Answer, Refusal>
     requires moment { at ≤ last_command_moment }
-    ensures key { list_all (λ e. public_fits (K.rules scheme.now) e.public) new.now.ecus ≡ false → RefusesUnread store.old store.new result (BadShape (codes "key")) }
+    ensures key { list_all (λ e. public_fits (K.rules scheme.now) e.public) new.now.ecus ≡ false
+        → RefusesUnread store.old store.new result (BadShape (codes "key")) }
     ensures serves { (s : State) → IsSound (K.rules scheme.now) s → IfClean (KeepsState (K.rules scheme.now) s) (state D.Store store.old)
-        → Serves (K.rules scheme.now) s (state D.Store store.old) (state D.Store store.new) result (decide_vehicle_in (K.rules scheme.now) s at new.now) }
+        → Serves (K.rules scheme.now) s (state D.Store store.old) (state D.Store store.new) result
+        (decide_vehicle_in (K.rules scheme.now) s at new.now) }
 {
     if publics_fit(scheme, new.ecus.as_slice()) {
         add_fitting(store, alloc, scheme, at, new)
@@ -64,7 +66,8 @@ fn add_fitting<K: Scheme, D: Alter>(
 ) -> Result<Answer, Refusal>
     requires moment { at ≤ last_command_moment }
     ensures { (s : State) → IsSound (K.rules scheme.now) s → IfClean (KeepsState (K.rules scheme.now) s) (state D.Store store.old)
-        → Serves (K.rules scheme.now) s (state D.Store store.old) (state D.Store store.new) result (decide_vehicle_in (K.rules scheme.now) s at new.now) }
+        → Serves (K.rules scheme.now) s (state D.Store store.old) (state D.Store store.new) result
+        (decide_vehicle_in (K.rules scheme.now) s at new.now) }
 {
     rows_are_found();
     vehicles_are_added();
@@ -85,7 +88,8 @@ fn decide<K: Scheme, D: Alter>(
     new: &NewVehicle,
 ) -> Result<Decision<VehicleRows>, Refusal>
     requires { at ≤ last_command_moment }
-    ensures decided { HasCleanDisk (state D.Store store.new) → (s : State) → IsSound (K.rules scheme.now) s → IfClean (KeepsState (K.rules scheme.now) s) (state D.Store store.old)
+    ensures decided { HasCleanDisk (state D.Store store.new) → (s : State) → IsSound (K.rules scheme.now) s
+        → IfClean (KeepsState (K.rules scheme.now) s) (state D.Store store.old)
         → GivesOrFails (GivesDecision (λ rows. rows ≡ rows_of new.now.vehicle (added new.now)) s (with_vehicle s new.now))
         (state D.Store store.old) (state D.Store store.new) result (decide_vehicle_in (K.rules scheme.now) s at new.now) }
     ensures reads { Reads (state D.Store store.old) (state D.Store store.new) }
@@ -106,7 +110,8 @@ fn decide_founded<K: Scheme, D: Alter>(
     founded: bool,
 ) -> Result<Decision<VehicleRows>, Refusal>
     requires { at ≤ last_command_moment }
-    ensures decided { HasCleanDisk (state D.Store store.new) → (s : State) → IsSound (K.rules scheme.now) s → founded ≡ is_some (founding_row s) → IfClean (KeepsState (K.rules scheme.now) s) (state D.Store store.old)
+    ensures decided { HasCleanDisk (state D.Store store.new) → (s : State) → IsSound (K.rules scheme.now) s → founded ≡ is_some (founding_row s)
+        → IfClean (KeepsState (K.rules scheme.now) s) (state D.Store store.old)
         → GivesOrFails (GivesDecision (λ rows. rows ≡ rows_of new.now.vehicle (added new.now)) s (with_vehicle s new.now))
         (state D.Store store.old) (state D.Store store.new) result (decide_vehicle_in (K.rules scheme.now) s at new.now) }
     ensures reads { Reads (state D.Store store.old) (state D.Store store.new) }
@@ -128,7 +133,8 @@ fn decide_named<K: Scheme, D: Alter>(
     old: Option<&VehicleRows>,
 ) -> Result<Decision<VehicleRows>, Refusal>
     requires { at ≤ last_command_moment }
-    ensures decided { HasCleanDisk (state D.Store store.new) → (s : State) → IsSound (K.rules scheme.now) s → founded ≡ is_some (founding_row s) → option_copied old.entry ≡ vehicle_rows s new.now.vehicle → IfClean (KeepsState (K.rules scheme.now) s) (state D.Store store.old)
+    ensures decided { HasCleanDisk (state D.Store store.new) → (s : State) → IsSound (K.rules scheme.now) s → founded ≡ is_some (founding_row s)
+        → option_copied old.entry ≡ vehicle_rows s new.now.vehicle → IfClean (KeepsState (K.rules scheme.now) s) (state D.Store store.old)
         → GivesOrFails (GivesDecision (λ rows. rows ≡ rows_of new.now.vehicle (added new.now)) s (with_vehicle s new.now))
         (state D.Store store.old) (state D.Store store.new) result (decide_vehicle_in (K.rules scheme.now) s at new.now) }
     ensures reads { Reads (state D.Store store.old) (state D.Store store.new) }
@@ -145,7 +151,8 @@ fn taken_marks<D: Alter>(
     alloc: Global,
     ecus: &[NewEcu],
 ) -> Result<Vec<bool>, StoreFault>
-    ensures told { HasCleanDisk (state D.Store store.new) → IfOk result (λ marks. (k : Rules) (s : State) → IfClean (KeepsState k s) (state D.Store store.old)
+    ensures told { HasCleanDisk (state D.Store store.new) → IfOk result (λ marks. (k : Rules) (s : State)
+        → IfClean (KeepsState k s) (state D.Store store.old)
         → marks.items ≡ map (λ e. is_taken_in s e.ecu) ecus.now) }
     ensures blame { Blames (state D.Store store.old) (state D.Store store.new) result }
     ensures reads { Reads (state D.Store store.old) (state D.Store store.new) }

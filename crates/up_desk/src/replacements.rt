@@ -42,7 +42,8 @@ pub fn replace_ecu<K: Scheme, D: Alter>(
     requires moment { at ≤ last_command_moment }
     ensures key { public_fits_in (K.rules scheme.now) new.now.ecu.public ≡ false → RefusesUnread store.old store.new result (BadShape (codes "key")) }
     ensures serves { (s : State) → IsSound (K.rules scheme.now) s → IfClean (KeepsState (K.rules scheme.now) s) (state D.Store store.old)
-        → Serves (K.rules scheme.now) s (state D.Store store.old) (state D.Store store.new) result (decide_replace_in (K.rules scheme.now) s at new.now) }
+        → Serves (K.rules scheme.now) s (state D.Store store.old) (state D.Store store.new) result
+        (decide_replace_in (K.rules scheme.now) s at new.now) }
 {
     if public_fits(scheme, new.ecu.public.as_slice()) {
         replace_fitting(store, alloc, scheme, at, new)
@@ -61,7 +62,8 @@ fn replace_fitting<K: Scheme, D: Alter>(
 ) -> Result<Answer, Refusal>
     requires moment { at ≤ last_command_moment }
     ensures { (s : State) → IsSound (K.rules scheme.now) s → IfClean (KeepsState (K.rules scheme.now) s) (state D.Store store.old)
-        → Serves (K.rules scheme.now) s (state D.Store store.old) (state D.Store store.new) result (decide_replace_in (K.rules scheme.now) s at new.now) }
+        → Serves (K.rules scheme.now) s (state D.Store store.old) (state D.Store store.new) result
+        (decide_replace_in (K.rules scheme.now) s at new.now) }
 {
     rows_are_found();
     ecus_are_replaced();
@@ -80,7 +82,8 @@ fn decide<K: Scheme, D: Alter>(
     new: &Replacement,
 ) -> Result<(), Refusal>
     requires { at ≤ last_command_moment }
-    ensures decided { HasCleanDisk (state D.Store store.new) → (s : State) → IsSound (K.rules scheme.now) s → IfClean (KeepsState (K.rules scheme.now) s) (state D.Store store.old)
+    ensures decided { HasCleanDisk (state D.Store store.new) → (s : State) → IsSound (K.rules scheme.now) s
+        → IfClean (KeepsState (K.rules scheme.now) s) (state D.Store store.old)
         → GivesOrFails (GivesReplacement s new.now)
         (state D.Store store.old) (state D.Store store.new) result (decide_replace_in (K.rules scheme.now) s at new.now) }
     ensures reads { Reads (state D.Store store.old) (state D.Store store.new) }
@@ -101,7 +104,8 @@ fn decide_founded<K: Scheme, D: Alter>(
     founded: bool,
 ) -> Result<(), Refusal>
     requires { at ≤ last_command_moment }
-    ensures decided { HasCleanDisk (state D.Store store.new) → (s : State) → IsSound (K.rules scheme.now) s → founded ≡ is_some (founding_row s) → IfClean (KeepsState (K.rules scheme.now) s) (state D.Store store.old)
+    ensures decided { HasCleanDisk (state D.Store store.new) → (s : State) → IsSound (K.rules scheme.now) s → founded ≡ is_some (founding_row s)
+        → IfClean (KeepsState (K.rules scheme.now) s) (state D.Store store.old)
         → GivesOrFails (GivesReplacement s new.now)
         (state D.Store store.old) (state D.Store store.new) result (decide_replace_in (K.rules scheme.now) s at new.now) }
     ensures reads { Reads (state D.Store store.old) (state D.Store store.new) }
@@ -123,7 +127,8 @@ fn decide_in<K: Scheme, D: Alter>(
     vehicle: Option<&VehicleRows>,
 ) -> Result<(), Refusal>
     requires { at ≤ last_command_moment }
-    ensures decided { HasCleanDisk (state D.Store store.new) → (s : State) → IsSound (K.rules scheme.now) s → founded ≡ is_some (founding_row s) → option_copied vehicle.entry ≡ vehicle_rows s new.now.vehicle → IfClean (KeepsState (K.rules scheme.now) s) (state D.Store store.old)
+    ensures decided { HasCleanDisk (state D.Store store.new) → (s : State) → IsSound (K.rules scheme.now) s → founded ≡ is_some (founding_row s)
+        → option_copied vehicle.entry ≡ vehicle_rows s new.now.vehicle → IfClean (KeepsState (K.rules scheme.now) s) (state D.Store store.old)
         → GivesOrFails (GivesReplacement s new.now)
         (state D.Store store.old) (state D.Store store.new) result (decide_replace_in (K.rules scheme.now) s at new.now) }
     ensures reads { Reads (state D.Store store.old) (state D.Store store.new) }

@@ -50,14 +50,18 @@ pub(crate) fn read_sender<K: Scheme, D: Alter>(
     incoming: &Incoming,
 ) -> Result<VehicleRows, Refusal>
     requires { IsTrue (founding_fits (K.rules scheme.now) catalog.old.founding) }
-    ensures from { HasCleanDisk (state D.Store store.new) → (s : State) → IfClean (KeepsState (K.rules scheme.now) s) (state D.Store store.old) → IsOf s catalog.old
+    ensures from { HasCleanDisk (state D.Store store.new) → (s : State)
+        → IfClean (KeepsState (K.rules scheme.now) s) (state D.Store store.old) → IsOf s catalog.old
         → GivesSenderRows (K.rules scheme.now) s incoming.now catalog.new.founding result }
     ensures fits { IfOk result (λ rows. IsTrue (rows_fit rows)) }
-    ensures of { HasCleanDisk (state D.Store store.new) → (k : Rules) (s : State) → IfClean (KeepsState k s) (state D.Store store.old) → IsOf s catalog.old → IsOf s catalog.new }
+    ensures of { HasCleanDisk (state D.Store store.new) → (k : Rules) (s : State)
+        → IfClean (KeepsState k s) (state D.Store store.old) → IsOf s catalog.old → IsOf s catalog.new }
     ensures more { KeepsMore catalog.old catalog.new }
-    ensures came { HasCleanDisk (state D.Store store.new) → (s : State) → IfClean (KeepsState (K.rules scheme.now) s) (state D.Store store.old) → IsOf s catalog.old
+    ensures came { HasCleanDisk (state D.Store store.new) → (s : State)
+        → IfClean (KeepsState (K.rules scheme.now) s) (state D.Store store.old) → IsOf s catalog.old
         → Come (IsSentBy (K.rules scheme.now) incoming.now) catalog.old.primaries catalog.new.primaries }
     ensures forged { IfSome (refused_by (K.rules scheme.now) catalog.old.primaries incoming.now) (RefusesUnread store.old store.new result) }
+    ensures left { IfSome (refused_by (K.rules scheme.now) catalog.old.primaries incoming.now) (λ r. catalog.new ≡ catalog.old) }
     ensures blame { (s : State) → IsSound (K.rules scheme.now) s → IfClean (KeepsState (K.rules scheme.now) s) (state D.Store store.old)
         → IsOf s catalog.old → BlamesDisk refusal.Store (state D.Store store.old) (state D.Store store.new) result }
     ensures reads { Reads (state D.Store store.old) (state D.Store store.new) }
@@ -98,7 +102,8 @@ fn read_rows<D: Alter>(
     alloc: Global,
     vehicle: &Ident,
 ) -> Result<VehicleRows, Refusal>
-    ensures told { HasCleanDisk (state D.Store store.new) → (k : Rules) (s : State) → IfClean (KeepsState k s) (state D.Store store.old) → GivesVehicle s vehicle.now result }
+    ensures told { HasCleanDisk (state D.Store store.new) → (k : Rules) (s : State)
+        → IfClean (KeepsState k s) (state D.Store store.old) → GivesVehicle s vehicle.now result }
     ensures fits { IfOk result (λ rows. IsTrue (rows_fit rows)) }
     ensures blame { (k : Rules) → BlamesSound refusal.Store k (state D.Store store.old) (state D.Store store.new) result }
     ensures reads { Reads (state D.Store store.old) (state D.Store store.new) }
@@ -121,12 +126,15 @@ fn read_first<K: Scheme, D: Alter>(
 ) -> Result<VehicleRows, Refusal>
     requires keys { IsTrue (founding_fits (K.rules scheme.now) catalog.old.founding) }
     requires first { table.get catalog.old.primaries incoming.now.manifest.vehicle ≡ None }
-    ensures from { HasCleanDisk (state D.Store store.new) → (s : State) → IfClean (KeepsState (K.rules scheme.now) s) (state D.Store store.old) → IsOf s catalog.old
+    ensures from { HasCleanDisk (state D.Store store.new) → (s : State)
+        → IfClean (KeepsState (K.rules scheme.now) s) (state D.Store store.old) → IsOf s catalog.old
         → GivesSenderRows (K.rules scheme.now) s incoming.now catalog.new.founding result }
     ensures fits { IfOk result (λ rows. IsTrue (rows_fit rows)) }
-    ensures of { HasCleanDisk (state D.Store store.new) → (k : Rules) (s : State) → IfClean (KeepsState k s) (state D.Store store.old) → IsOf s catalog.old → IsOf s catalog.new }
+    ensures of { HasCleanDisk (state D.Store store.new) → (k : Rules) (s : State)
+        → IfClean (KeepsState k s) (state D.Store store.old) → IsOf s catalog.old → IsOf s catalog.new }
     ensures more { KeepsMore catalog.old catalog.new }
-    ensures came { HasCleanDisk (state D.Store store.new) → (s : State) → IfClean (KeepsState (K.rules scheme.now) s) (state D.Store store.old) → IsOf s catalog.old
+    ensures came { HasCleanDisk (state D.Store store.new) → (s : State)
+        → IfClean (KeepsState (K.rules scheme.now) s) (state D.Store store.old) → IsOf s catalog.old
         → Come (IsSentBy (K.rules scheme.now) incoming.now) catalog.old.primaries catalog.new.primaries }
     ensures blame { (s : State) → IsSound (K.rules scheme.now) s → IfClean (KeepsState (K.rules scheme.now) s) (state D.Store store.old)
         → IsOf s catalog.old → BlamesDisk refusal.Store (state D.Store store.old) (state D.Store store.new) result }
@@ -153,10 +161,13 @@ fn test_by_rows<K: Scheme>(
     requires keys { IsTrue (founding_fits (K.rules scheme.now) catalog.old.founding) }
     requires rows { IsTrue (rows_fit rows.now) }
     requires first { table.get catalog.old.primaries incoming.now.manifest.vehicle ≡ None }
-    ensures sent { (s : State) → founding_row s ≡ Some catalog.old.founding → vehicle_rows s incoming.now.manifest.vehicle ≡ Some rows.now → GivesSent (K.rules scheme.now) s incoming.now result }
-    ensures of { (s : State) → vehicle_rows s incoming.now.manifest.vehicle ≡ Some rows.now → ArePrimaries s catalog.old.primaries → ArePrimaries s catalog.new.primaries }
+    ensures sent { (s : State) → founding_row s ≡ Some catalog.old.founding → vehicle_rows s incoming.now.manifest.vehicle ≡ Some rows.now
+        → GivesSent (K.rules scheme.now) s incoming.now result }
+    ensures of { (s : State) → vehicle_rows s incoming.now.manifest.vehicle ≡ Some rows.now
+        → ArePrimaries s catalog.old.primaries → ArePrimaries s catalog.new.primaries }
     ensures more { KeepsMore catalog.old catalog.new }
-    ensures came { (s : State) → founding_row s ≡ Some catalog.old.founding → vehicle_rows s incoming.now.manifest.vehicle ≡ Some rows.now → ArePrimaries s catalog.old.primaries
+    ensures came { (s : State) → founding_row s ≡ Some catalog.old.founding
+        → vehicle_rows s incoming.now.manifest.vehicle ≡ Some rows.now → ArePrimaries s catalog.old.primaries
         → Come (IsSentBy (K.rules scheme.now) incoming.now) catalog.old.primaries catalog.new.primaries }
 {
     keep_primary(keys, alloc, rows);

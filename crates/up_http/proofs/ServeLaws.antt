@@ -125,7 +125,7 @@ module _ {S : Type 0} (gives : Gives S) where
 
   -- a run stops behind the requests that were answered, at one that was handed on, or at none
   stopped : (came : List ℕ) (old : Progress) (bytes : List ℕ) (ended : Bool) (next : Option Next) (now : ServeFault) (first before after : At S) (so : Sofar gives first came old before)
-      → AreFirst bytes ended so.done next → Tells now.cause bytes ended so.done → now.called ≡ old.called + calls (listed next) → now.answered ≡ old.answered
+      → AreFirst bytes ended so.done next → Tells now.cause bytes ended so.done next → now.called ≡ old.called + calls (listed next) → now.answered ≡ old.answered
       → BreaksOff gives plain (cause_of now.cause) next before after → Stopped gives bytes ended now first after
   stopped came old bytes ended next now first before after so are tells called answered (prefix, breaks, wrote) = record {
     done = so.done;
@@ -142,8 +142,8 @@ module _ {S : Type 0} (gives : Gives S) where
 
   -- a request that isn't answered whole has bytes behind those that were answered
   tells_unanswered : (cause : Fault) (next : Next) (before after : At S) (bytes : List ℕ) (ended : Bool) (done : List Next) (rest : List ℕ) → Firsts 0 bytes done false rest → 0 < length rest
-      → Unanswered gives cause next before after → Tells cause bytes ended done
-  tells_unanswered Memory next before after bytes ended done rest firsts some broke = some_left bytes done rest firsts some
+      → Unanswered gives cause next before after → Tells cause bytes ended done (Some next)
+  tells_unanswered Memory next before after bytes ended done rest firsts some broke = (some_left bytes done rest firsts some, tt)
   tells_unanswered Write next before after bytes ended done rest firsts some broke = tt
   tells_unanswered Read next before after bytes ended done rest firsts some broke = absurd broke
 
@@ -186,7 +186,7 @@ module _ {S : Type 0} (gives : Gives S) where
       let firsts : Firsts 0 (came ++ piece) so.done false (old.feeder.rest ++ piece) =
       subst (λ e. Firsts 0 (came ++ piece) so.done e (old.feeder.rest ++ piece)) goes_on (so.firsts piece) in
       stopped came old (came ++ piece) false None (fault_at Memory new) first now now so (old.feeder.rest ++ piece, firsts)
-      (some_left (came ++ piece) so.done (old.feeder.rest ++ piece) firsts (omega (arith, some, length-append old.feeder.rest piece))) (omega (arith, called)) answered (breaks_none Memory now (λ e. absurd (cc)))
+      (some_left (came ++ piece) so.done (old.feeder.rest ++ piece) firsts (omega (arith, some, length-append old.feeder.rest piece)), refl) (omega (arith, called)) answered (breaks_none Memory now (λ e. absurd (cc)))
 
   -- the requests before the input's end
   at_end : (first : At S) (came : List ℕ) (at : Progress) (now : At S) (so : Sofar gives first came at now) → at.feeder.ended ≡ false

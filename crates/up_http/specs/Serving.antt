@@ -1,5 +1,5 @@
 -- What a run over a stream leaves: answers, states, and what was written.
-use Rattle.std.specs.Prelude.{◌≡◌, ℕ, ◌*◌, ◌<◌, ◌≤◌, Bool, true, false, ⊤, Option, Some, None, List, [], ◌++◌, length, filter, Result}
+use Rattle.std.specs.Prelude.{◌≡◌, ℕ, ◌*◌, ◌<◌, ◌≤◌, Bool, true, false, ⊤, Option, Some, None, IfNone, List, [], ◌++◌, length, filter, Result}
 use Rattle.up_lines.specs.Runs.{At, AnswersUpTo, Finished, LastRead, Ran, listed}
 use Rattle.up_lines.specs.declared.fault.ScriptCause.{ScriptCause}
 use Rattle.up_lines.specs.declared.fault.ScriptCause.TheVariants as why
@@ -63,18 +63,19 @@ GoesOn bytes done = (rest : List ℕ) × Firsts 0 bytes done false rest × Waits
 abbrev pub WantsMore : ℕ → List ℕ → Type 0
 WantsMore answered before = (done : List Next) × GoesOn before done × (length done ≤ answered)
 
--- what a cause says of the bytes that came, of whether the input ended behind them, and of the requests that were answered: a read fails
--- before the input's end, and behind all requests that were whole; and want of memory isn't told where no byte that came is left behind
--- the requests that were answered
-abbrev pub Tells : Fault → List ℕ → Bool → List Next → Type 0
-Tells Read came ended done = (ended ≡ false) × GoesOn came done
-Tells Memory came ended done = Firsts 0 came done false [] → ⊥
-Tells Write came ended done = ⊤
+-- what a cause says of the bytes that came, of whether the input ended behind them, of the requests that were answered, and of the next
+-- one, if it was handed on: a read fails before the input's end, and behind all requests that were whole; and want of memory isn't told
+-- where no byte that came is left behind the requests that were answered, nor at the input's end but of a request that was handed on
+abbrev pub Tells : Fault → List ℕ → Bool → List Next → Option Next → Type 0
+Tells Read came ended done next = (ended ≡ false) × GoesOn came done
+Tells Memory came ended done next = (Firsts 0 came done false [] → ⊥) × IfNone next (ended ≡ false)
+Tells Write came ended done next = ⊤
 
 -- what a run that ended early leaves of the bytes that came; it counts the commands that were handed on
 abbrev pub Stopped : {S : Type 0} → Gives S → List ℕ → Bool → ServeFault → At S → At S → Type 0
 Stopped gives came ended fault first now =
-    AnswersUpTo gives plain (λ done next. AreFirst came ended done next × Tells fault.cause came ended done × (fault.called ≡ calls (done ++ listed next)))
+    AnswersUpTo gives plain
+    (λ done next. AreFirst came ended done next × Tells fault.cause came ended done next × (fault.called ≡ calls (done ++ listed next)))
     (cause_of fault.cause) first fault.answered now
 
 -- what a run that ended leaves: each request of the input has its answer, in order

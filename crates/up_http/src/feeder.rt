@@ -1,5 +1,5 @@
 //! A stream in pieces, and its requests.
-ghost use Rattle.std.specs.Prelude.{◌≡◌, ◌≤◌, ◌<◌, ◌+◌, ◌++◌, [], IfOk, OnErr, Some, None, false, true, length, ℕ, Option};
+ghost use Rattle.std.specs.Prelude.{◌≡◌, ◌≤◌, ◌<◌, ◌+◌, ◌++◌, [], IsOk, IfOk, OnErr, Some, None, false, true, length, ℕ, Option};
 ghost use Rattle.up_http.specs.Feeding.{Fed, Feeds, Gives, Ends};
 ghost use Rattle.up_http.specs.Parts.{Begins, IsIntentOf, IsWaiting, IsWhole, Keeps, Settles, fed_of};
 ghost use Rattle.up_http.specs.Requests.{asked, ends_with, most_requests, with_body};
@@ -92,6 +92,7 @@ impl Feeder {
     pub fn feed(&mut self, piece: &[u8]) -> Result<Step, AllocError>
         ensures ok { IfOk result (λ step. Feeds self.old piece.now step.taken step.next self.new) }
         ensures err { OnErr result (self.new ≡ self.old) }
+        ensures over { self.old.ended ≡ true → IsOk result }
     {
         feed_parts(&mut self.parts, piece)
     }
@@ -130,6 +131,7 @@ fn feed_parts(parts: &mut Parts, piece: &[u8]) -> Result<Step, AllocError>
     ensures kept { Keeps parts.new }
     ensures ok { IfOk result (λ step. Feeds (fed_of parts.old) piece.now step.taken step.next (fed_of parts.new)) }
     ensures err { OnErr result (fed_of parts.new ≡ fed_of parts.old) }
+    ensures over { parts.old.ended ≡ true → IsOk result }
 {
     if parts.ended {
         return Ok(Step {

@@ -138,7 +138,7 @@ module _ {S : Type 0} (gives : Gives S) where
   -- the line that the input's end ends isn't answered whole
   pub finish_stops : (cause : ScriptCause) (old new : Progress) (before after : At S) → old.counted < most_lines → 0 < length old.line.items → Fails gives cause old before new after
       → Stops gives cause true [] old before new after
-  finish_stops cause old new before after room some fails = λ first came so.
+  finish_stops cause old new before after room some fails = λ first came so small.
       let same : lines_of false (came ++ newline ∷ []) ≡ lines_of true (came ++ []) = same_lines gives first came old before so false some ∙ ap (lines_of true) (sym (append-nil came)) in
       stops_at gives cause came true (came ++ []) first old new before after so _ (ap asked (sym same) ∙ ended_next gives came first old before so [] room fails.some) fails.answered_is fails.unanswered
 
@@ -171,7 +171,7 @@ module _ {S : Type 0} (gives : Gives S) where
     bounded = bounded;
     at_end = λ _. end;
     leaves = (
-      subst (λ l. Stopped gives l true (record { cause = cause; lines = new.answered }) first now) (append-nil came) (err first came so),
+      subst (λ l. Stopped gives l true (record { cause = cause; lines = new.answered }) first now) (append-nil came) (err first came so (omega arith)),
       last_read gives first came [] came true old before new.answered so grows (sym (append-nil came)) (omega arith) (λ _. refl),
     );
   }

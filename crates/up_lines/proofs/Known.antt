@@ -29,7 +29,8 @@ module _ {S : Type 0} (gives : Gives S) (first now : At S) where
   known_too_long None has fault ran is = tt
   known_too_long (Some input) None fault ran is = absurd ran.read
   known_too_long (Some input) (Some left) fault ran is =
-      let past : Tells TooLong ran.came ran.ended ran.leaves.0.done = subst (λ c. Tells c ran.came ran.ended ran.leaves.0.done) is ran.leaves.0.first_ones.1 in
+      let st = ran.leaves.0 in
+      let past : Tells TooLong ran.came ran.ended st.done st.next = subst (λ c. Tells c ran.came ran.ended st.done st.next) is st.first_ones.1 in
       ap (λ l. fits (lines_of true l)) ran.read ∙ (past.0 left).0
 
   pub known_prefix : (had has : Option (List ℕ)) (fault : ScriptFault) → RanLines gives had has first now (Err fault)

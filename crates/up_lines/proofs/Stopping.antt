@@ -1,20 +1,20 @@
 -- Where a run stops among the bytes.
 use Rattle.std.proofs.Common.{◌≡◌, ◌&&◌, inl, inr, ℕ, ◌-◌, ◌<◌, ◌≤◌, Bool, true, false, List, [], ◌∷◌, ◌++◌, length, filter, refl, ap, sym, ◌∙◌, subst, arith, append_assoc, append-nil, length-append}
-use Rattle.std.specs.Prelude.{Option, Some, None}
+use Rattle.std.specs.Prelude.{◌≢◌, Option, Some, None}
 use Rattle.std.specs.List.{list_all}
 use Rattle.std.proofs.KnownBytes.{Appends-nil, Appends-trans}
 use Rattle.std.proofs.lemmas.List.Elements.{filter-append}
 use Rattle.std.proofs.lemmas.List.Folds.{list_all-append}
 use Rattle.up_lines.specs.declared.progress.Progress.{Progress}
-use Rattle.up_lines.specs.Lines.{newline, most_lines, most_line_bytes, lines_of, is_short, fits, has_bytes, asked}
+use Rattle.up_lines.specs.Lines.{newline, most_lines, most_line_bytes, piece_bytes, lines_of, is_short, fits, has_bytes, asked}
 use Rattle.up_lines.specs.declared.fault.ScriptCause.{ScriptCause}
 use Rattle.up_lines.specs.declared.fault.ScriptCause.TheVariants.{Memory, Read, Write, TooLong}
 use Rattle.up_lines.specs.Runs.{At, BreaksOff}
-use Rattle.up_lines.specs.LineRuns.{Gives, print, AreFirst, Stopped, Tells}
+use Rattle.up_lines.specs.LineRuns.{Gives, print, AreFirst, IsBeforeLines, Stopped, Tells}
 use Rattle.up_lines.specs.Progress.{Sofar, Fails, Refuses, Takes, Stops, Unanswered, is_inside}
 use Rattle.up_lines.proofs.Cuts.{lines-line, lines-last_one, lines-begins, lines-prefix, lines-some}
 use Rattle.up_lines.proofs.Later.{whole_first}
-use Rattle.up_lines.proofs.RunLaws.{has_bytes-long, is_short-le, is_short-gt, filter-first, asked_among, asked-append, asked_none, fits-many, fits-long}
+use Rattle.up_lines.proofs.RunLaws.{has_bytes-long, is_short-le, is_short-gt, filter-first, asked_among, asked-append, asked_none, as_many, fits-many, fits-long}
 
 -- these bytes pass a limit, behind these whole lines
 record Past (came bytes : List ℕ) (whole : List (List ℕ)) : Type 0 where
@@ -22,23 +22,28 @@ record Past (came bytes : List ℕ) (whole : List (List ℕ)) : Type 0 where
   settled : (ended : Bool) (more : List ℕ) → asked (lines_of ended (came ++ (bytes ++ more))) ≡ filter has_bytes whole
 
 -- where one line more is to be answered at the input's end
-untold_last : (came : List ℕ) (ended : Bool) (done rest : List (List ℕ)) (line : List ℕ) → asked (lines_of true came) ≡ done ++ line ∷ rest → Tells Memory came ended done
-untold_last came ended done rest line split = λ all.
+untold_last : (came : List ℕ) (done rest : List (List ℕ)) (line : List ℕ) → asked (lines_of true came) ≡ done ++ line ∷ rest → done ≢ asked (lines_of true came)
+untold_last came done rest line split = λ all.
     let same : length done ≡ length (done ++ line ∷ rest) = ap length (all ∙ split) in
     omega (arith, same, length-append done (line ∷ rest))
 
 -- or before it
-pub untold_next : (came : List ℕ) (ended : Bool) (done rest : List (List ℕ)) (line : List ℕ) → asked (lines_of ended came) ≡ done ++ line ∷ rest → Tells Memory came ended done
-untold_next came true done rest line split = untold_last came true done rest line split
+pub untold_next : (came : List ℕ) (ended : Bool) (done rest : List (List ℕ)) (line : List ℕ) → asked (lines_of ended came) ≡ done ++ line ∷ rest → done ≢ asked (lines_of true came)
+untold_next came true done rest line split = untold_last came done rest line split
 untold_next came false done rest line split =
     let (others, is) = whole_first came [] in
-    untold_last came false done (rest ++ others) line
+    untold_last came done (rest ++ others) line
     (ap (λ l. asked (lines_of true l)) (sym (append-nil came)) ∙ is ∙ ap (λ l. l ++ others) split ∙ append_assoc done (line ∷ rest) others)
+
+none_of : (lines : List (List ℕ)) → length lines ≡ 0 → lines ≡ []
+none_of [] h = refl
+none_of (line ∷ lines) h = absurd (omega arith)
 
 module _ {S : Type 0} (gives : Gives S) where
   -- the whole lines are answered, and this became of the next one
   pub stopped : (cause : ScriptCause) (came : List ℕ) (ended : Bool) (bytes : List ℕ) (first : At S) (at : Progress) (before : At S) (so : Sofar gives first came at before)
-      → (next : Option (List ℕ)) (answered : ℕ) (after : At S) → AreFirst (asked (lines_of ended bytes)) (filter has_bytes so.whole) next → Tells cause bytes ended (filter has_bytes so.whole)
+      → (next : Option (List ℕ)) (answered : ℕ) (after : At S) → AreFirst (asked (lines_of ended bytes)) (filter has_bytes so.whole) next
+      → Tells cause bytes ended (filter has_bytes so.whole) next
       → BreaksOff gives print cause next before after → answered ≡ at.answered
       → Stopped gives bytes ended (record { cause = cause; lines = answered }) first after
   stopped cause came ended bytes first at before so next answered after split tells (prefix, breaks, wrote) same = record {
@@ -73,7 +78,7 @@ module _ {S : Type 0} (gives : Gives S) where
   -- nothing is taken past the last line
   pub stops_many : (old new : Progress) (bytes more : List ℕ) (now : At S) → 0 < length bytes → old.counted ≡ most_lines → new.answered ≡ old.answered
       → Stops gives TooLong false (bytes ++ more) old now new now
-  stops_many old new bytes more now some full answered = λ first came so.
+  stops_many old new bytes more now some full answered = λ first came so small.
       let all : length so.whole ≡ most_lines = omega (arith, so.counted_is) in
       let none : most_lines - length so.whole ≡ 0 = omega (arith, all) in
       let within : length so.whole ≤ most_lines = omega (arith, all) in
@@ -89,7 +94,7 @@ module _ {S : Type 0} (gives : Gives S) where
   -- nothing is taken of a part with which the line is too long
   stops_long : (old new : Progress) (part more : List ℕ) (now : At S) → most_line_bytes < length (old.line.items ++ part) → list_all is_inside part ≡ true → new.answered ≡ old.answered
       → Stops gives TooLong false (part ++ more) old now new now
-  stops_long old new part more now past own answered = λ first came so.
+  stops_long old new part more now past own answered = λ first came so small.
       let line = old.line.items in
       let own' : list_all is_inside (line ++ part) ≡ true = list_all-append is_inside line part ∙ ap (λ t. t && list_all is_inside part) so.own_bytes ∙ own in
       let some : 0 < length (line ++ part) = omega arith in
@@ -109,20 +114,40 @@ module _ {S : Type 0} (gives : Gives S) where
   abbrev behind : List (List ℕ) → List ℕ → List (List ℕ)
   behind whole more = asked_among (most_lines - length whole) (lines_of false more)
 
-  -- no memory for bytes
-  pub stops_memory : (old new : Progress) (bytes : List ℕ) (now : At S) → new.answered ≡ old.answered
-      → ((first : At S) (came : List ℕ) (so : Sofar gives first came old now) → Tells Memory (came ++ bytes) false (filter has_bytes so.whole))
+  -- before the first byte of the first line no line was handed on
+  before_lines : (first : At S) (came : List ℕ) (at : Progress) (now : At S) (so : Sofar gives first came at now) (bytes : List ℕ) → at.line.items ≡ [] → at.answered ≡ 0
+      → length bytes ≤ piece_bytes → IsBeforeLines (came ++ bytes) false (filter has_bytes so.whole)
+  before_lines first came at now so bytes empty none small =
+      let no_line : filter has_bytes so.whole ≡ [] =
+      none_of (filter has_bytes so.whole) (omega (arith, none, so.answered_is, as_many gives first.state now.state (filter has_bytes so.whole) so.answers so.run)) in (
+        no_line,
+        record {
+          before = came;
+          piece = bytes;
+          came_is = refl;
+          small = small;
+          none_at_end = λ h. absurd (cc);
+          wanted =
+              ap (λ l. filter has_bytes (lines_of true l)) (sym (append-nil came)) ∙ ap (filter has_bytes) (so.cut true [])
+              ∙ ap (λ l. filter has_bytes (so.whole ++ lines_of true (l ++ []))) empty ∙ ap (filter has_bytes) (append-nil so.whole) ∙ no_line;
+        },
+      )
+
+  -- no memory for the first bytes
+  pub stops_memory : (old new : Progress) (bytes : List ℕ) (now : At S) → new.answered ≡ old.answered → old.line.items ≡ [] → old.answered ≡ 0
+      → ((first : At S) (came : List ℕ) (so : Sofar gives first came old now) → filter has_bytes so.whole ≢ asked (lines_of true (came ++ bytes)))
       → Stops gives Memory false bytes old now new now
-  stops_memory old new bytes now same untold = λ first came so.
+  stops_memory old new bytes now same empty none untold = λ first came so small.
       stopped Memory came false (came ++ bytes) first old now so None new.answered now
       (behind so.whole (old.line.items ++ bytes), ap asked (so.cut false bytes) ∙ asked-append so.whole (lines_of false (old.line.items ++ bytes)) so.each_short (omega (arith, so.counted_is, so.few)))
-      (untold first came so) (breaks_none Memory now (λ e. absurd (cc))) same
+      (untold first came so, before_lines first came old now so bytes empty none small) (breaks_none Memory now (λ e. absurd (cc))) same
 
   -- a part that isn't taken
   stops_part : (cause : ScriptCause) (old new : Progress) (part more : List ℕ) (now : At S) → list_all is_inside part ≡ true → new.answered ≡ old.answered → Refuses cause part old
-      → (Refuses Memory part old → (first : At S) (came : List ℕ) (so : Sofar gives first came old now) → Tells Memory (came ++ (part ++ more)) false (filter has_bytes so.whole))
+      → (Refuses Memory part old → (first : At S) (came : List ℕ) (so : Sofar gives first came old now) → filter has_bytes so.whole ≢ asked (lines_of true (came ++ (part ++ more))))
       → Stops gives cause false (part ++ more) old now new now
-  stops_part Memory old new part more now own answered h untold = stops_memory old new (part ++ more) now answered (untold h)
+  stops_part Memory old new part more now own answered (some, short, room, empty, none) untold =
+      stops_memory old new (part ++ more) now answered empty none (untold (some, short, room, empty, none))
   stops_part TooLong old new part more now own answered (inl (some, full)) untold = stops_many old new part more now some full answered
   stops_part TooLong old new part more now own answered (inr past) untold = stops_long old new part more now past own answered
   stops_part Read old new part more now own answered h untold = absurd h
@@ -147,26 +172,28 @@ module _ {S : Type 0} (gives : Gives S) where
 
   -- a part of a line is refused that is within the limits, and its newline stands behind it
   untold_line : (old : Progress) (part more : List ℕ) (now : At S) → list_all is_inside part ≡ true → Refuses Memory part old
-      → (first : At S) (came : List ℕ) (so : Sofar gives first came old now) → Tells Memory (came ++ (part ++ newline ∷ more)) false (filter has_bytes so.whole)
-  untold_line old part more now own (some, room, short) first came so =
+      → (first : At S) (came : List ℕ) (so : Sofar gives first came old now) → filter has_bytes so.whole ≢ asked (lines_of true (came ++ (part ++ newline ∷ more)))
+  untold_line old part more now own (some, short, room, empty, none) first came so =
       let line = old.line.items in
+      let longer : length (line ++ part) ≡ length part = omega (arith, ap length empty, length-append line part) in
       untold_next (came ++ (part ++ newline ∷ more)) false (filter has_bytes so.whole) (behind (so.whole ++ (line ++ part) ∷ []) more) (line ++ part) (
       ap asked (so.cut false (part ++ newline ∷ more) ∙ ap (λ l. so.whole ++ lines_of false l) (sym (append_assoc line part (newline ∷ more))))
-      ∙ split_end so.whole (line ++ part) more so.each_short (omega (arith, so.counted_is)) short (own_line first came old now so part own)
-      (has_bytes-long (line ++ part) (omega (arith, length-append line part)))
+      ∙ split_end so.whole (line ++ part) more so.each_short (omega (arith, so.counted_is)) (omega (arith, longer, short)) (own_line first came old now so part own)
+      (has_bytes-long (line ++ part) (omega (arith, longer)))
       )
 
   -- or the line that is begun ends with what came
   untold_rest : (old : Progress) (part : List ℕ) (now : At S) → list_all is_inside part ≡ true → Refuses Memory part old
-      → (first : At S) (came : List ℕ) (so : Sofar gives first came old now) → Tells Memory (came ++ (part ++ [])) false (filter has_bytes so.whole)
-  untold_rest old part now own (some, room, short) first came so =
+      → (first : At S) (came : List ℕ) (so : Sofar gives first came old now) → filter has_bytes so.whole ≢ asked (lines_of true (came ++ (part ++ [])))
+  untold_rest old part now own (some, short, room, empty, none) first came so =
       let line = old.line.items in
-      let longer : 0 < length (line ++ part) = omega (arith, length-append line part) in
+      let same : length (line ++ part) ≡ length part = omega (arith, ap length empty, length-append line part) in
+      let longer : 0 < length (line ++ part) = omega (arith, same) in
       let own' = own_line first came old now so part own in
-      untold_last (came ++ (part ++ [])) false (filter has_bytes so.whole) (behind (so.whole ++ (line ++ part) ∷ []) []) (line ++ part) (
+      untold_last (came ++ (part ++ [])) (filter has_bytes so.whole) (behind (so.whole ++ (line ++ part) ∷ []) []) (line ++ part) (
       ap asked (so.cut true (part ++ []) ∙ ap (λ l. so.whole ++ lines_of true (line ++ l)) (append-nil part)
       ∙ ap (λ l. so.whole ++ l) (lines-last_one (line ++ part) own' longer ∙ sym (lines-line false (line ++ part) [] own')))
-      ∙ split_end so.whole (line ++ part) [] so.each_short (omega (arith, so.counted_is)) short own' (has_bytes-long (line ++ part) longer)
+      ∙ split_end so.whole (line ++ part) [] so.each_short (omega (arith, so.counted_is)) (omega (arith, same, short)) own' (has_bytes-long (line ++ part) longer)
       )
 
   -- the last part of a line isn't taken
@@ -178,10 +205,8 @@ module _ {S : Type 0} (gives : Gives S) where
   pub stops_at : (cause : ScriptCause) (came : List ℕ) (ended : Bool) (bytes : List ℕ) (first : At S) (old new : Progress) (before after : At S) (so : Sofar gives first came old before)
       → (rest : List (List ℕ)) → asked (lines_of ended bytes) ≡ filter has_bytes so.whole ++ old.line.items ∷ rest → new.answered ≡ old.answered
       → Unanswered gives cause old.line.items before after → Stopped gives bytes ended (record { cause = cause; lines = new.answered }) first after
-  stops_at Memory came ended bytes first old new before after so rest split same (inl broke) =
-      stopped Memory came ended bytes first old before so None new.answered after (old.line.items ∷ rest, split) (untold_next bytes ended _ rest old.line.items split) broke same
-  stops_at Memory came ended bytes first old new before after so rest split same (inr broke) =
-      stopped Memory came ended bytes first old before so (Some old.line.items) new.answered after (rest, split) (untold_next bytes ended _ rest old.line.items split) broke same
+  stops_at Memory came ended bytes first old new before after so rest split same broke =
+      stopped Memory came ended bytes first old before so (Some old.line.items) new.answered after (rest, split) (untold_next bytes ended _ rest old.line.items split, tt) broke same
   stops_at Write came ended bytes first old new before after so rest split same broke =
       stopped Write came ended bytes first old before so (Some old.line.items) new.answered after (rest, split) tt broke same
   stops_at Read came ended bytes first old new before after so rest split same broke = absurd broke
@@ -196,14 +221,15 @@ module _ {S : Type 0} (gives : Gives S) where
   -- a line that isn't answered whole
   pub stops_end : (cause : ScriptCause) (old new : Progress) (before after : At S) (more : List ℕ) → old.counted < most_lines
       → Fails gives cause old before new after → Stops gives cause false (newline ∷ more) old before new after
-  stops_end cause old new before after more room fails = λ first came so.
+  stops_end cause old new before after more room fails = λ first came so small.
       stops_at cause came false (came ++ newline ∷ more) first old new before after so _ (ended_next came first old before so more room fails.some) fails.answered_is fails.unanswered
 
   -- bytes taken, and then not all of the others
   pub stops_after : (xs ys : List ℕ) (cause : ScriptCause) (ended : Bool) (old mid new : Progress) (before between after : At S) → Takes gives xs old before mid between → Stops gives cause ended ys mid between new after
       → Stops gives cause ended (xs ++ ys) old before new after
-  stops_after xs ys cause ended old mid new before between after p q = λ first came so.
-      subst (λ l. Stopped gives l ended (record { cause = cause; lines = new.answered }) first after) (append_assoc came xs ys) (q first (came ++ xs) (p first came so))
+  stops_after xs ys cause ended old mid new before between after p q = λ first came so small.
+      subst (λ l. Stopped gives l ended (record { cause = cause; lines = new.answered }) first after) (append_assoc came xs ys)
+      (q first (came ++ xs) (p first came so) (omega (arith, small, length-append xs ys)))
 
   -- the front of a piece is taken, and not all of the rest
   stops_in : (front rest piece : List ℕ) (cause : ScriptCause) (old mid new : Progress) (before between after : At S) → piece ≡ front ++ rest → Takes gives front old before mid between

@@ -1,9 +1,9 @@
 -- What a run over lines leaves.
-use Rattle.std.specs.Prelude.{◌≡◌, ◌≢◌, ℕ, ◌≤◌, Bool, true, false, ⊤, Option, Some, None, List, [], ◌∷◌, ◌++◌, length, Result}
+use Rattle.std.specs.Prelude.{◌≡◌, ◌≢◌, ℕ, ◌≤◌, Bool, true, false, ⊤, Option, Some, None, IfNone, List, [], ◌∷◌, ◌++◌, length, filter, Result}
 use Rattle.up_lines.specs.declared.fault.ScriptCause.{ScriptCause}
 use Rattle.up_lines.specs.declared.fault.ScriptCause.TheVariants.{Memory, Read, Write, TooLong}
 use Rattle.up_lines.specs.declared.fault.ScriptFault.{ScriptFault}
-use Rattle.up_lines.specs.Lines.{newline, most_bytes, piece_bytes, lines_of, fits, asked}
+use Rattle.up_lines.specs.Lines.{newline, most_bytes, piece_bytes, lines_of, fits, has_bytes, asked}
 use Rattle.up_lines.specs.Runs.{At, AnswersUpTo, Finished, LastRead, Ran}
 
 -- what answers lines: in a state a line may have this answer, which leaves that state
@@ -31,19 +31,28 @@ IsPast came = (more : List ℕ) → (fits (lines_of true (came ++ more)) ≡ fal
 abbrev pub IsAtLimit : List ℕ → Bool → List (List ℕ) → Type 0
 IsAtLimit came ended done = IsPast came × (done ≡ asked (lines_of ended came))
 
--- what a cause says of the bytes that came, of whether the input ended behind them, and of the lines that were answered: a failed read
--- and a passed limit come behind all that were whole, and want of memory isn't told where nothing that came is left to be answered, not
--- even a line that is begun
-abbrev pub Tells : ScriptCause → List ℕ → Bool → List (List ℕ) → Type 0
-Tells TooLong came ended done = IsAtLimit came ended done
-Tells Read came ended done = (ended ≡ false) × (fits (lines_of true came) ≡ true) × (done ≡ asked (lines_of ended came))
-Tells Memory came ended done = done ≢ asked (lines_of true came)
-Tells Write came ended done = ⊤
+-- no line of these bytes has any byte, not even one that is begun
+abbrev pub HasNoLine : List ℕ → Type 0
+HasNoLine bytes = filter has_bytes (lines_of true bytes) ≡ []
+
+-- no line was handed on, and before the piece that came last no line had any byte
+abbrev pub IsBeforeLines : List ℕ → Bool → List (List ℕ) → Type 0
+IsBeforeLines came ended done = (done ≡ []) × LastRead piece_bytes HasNoLine came ended
+
+-- what a cause says of the bytes that came, of whether the input ended behind them, of the lines that were answered, and of the next one,
+-- if it was handed on: a failed read and a passed limit come behind all that were whole; want of memory isn't told where nothing that
+-- came is left to be answered, not even a line that is begun, and it is told of a line that was handed on, or before all lines
+abbrev pub Tells : ScriptCause → List ℕ → Bool → List (List ℕ) → Option (List ℕ) → Type 0
+Tells TooLong came ended done next = IsAtLimit came ended done
+Tells Read came ended done next = (ended ≡ false) × (fits (lines_of true came) ≡ true) × (done ≡ asked (lines_of ended came))
+Tells Memory came ended done next = (done ≢ asked (lines_of true came)) × IfNone next (IsBeforeLines came ended done)
+Tells Write came ended done next = ⊤
 
 -- what a run that ended early leaves of the bytes that came
 abbrev pub Stopped : {S : Type 0} → Gives S → List ℕ → Bool → ScriptFault → At S → At S → Type 0
 Stopped gives came ended fault first now =
-    AnswersUpTo gives print (λ done next. AreFirst (asked (lines_of ended came)) done next × Tells fault.cause came ended done) fault.cause first fault.lines now
+    AnswersUpTo gives print (λ done next. AreFirst (asked (lines_of ended came)) done next × Tells fault.cause came ended done next)
+    fault.cause first fault.lines now
 
 -- what a run that read to the end leaves: each line has its answer, in order
 abbrev pub FinishedLines : {S : Type 0} → Gives S → List ℕ → ℕ → At S → At S → Type 0

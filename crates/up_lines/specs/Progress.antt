@@ -1,12 +1,12 @@
 -- What stands while lines are read: the steps of a run.
-use Rattle.std.specs.Prelude.{◌≡◌, ◌⊎◌, ℕ, ◌+◌, ◌*◌, ◌<◌, ◌≤◌, ◌==◌, Bool, true, not, Result, Ok, Err, Some, None, List, [], ◌∷◌, ◌++◌, length, filter}
+use Rattle.std.specs.Prelude.{◌≡◌, ◌⊎◌, ℕ, ◌+◌, ◌*◌, ◌<◌, ◌≤◌, ◌==◌, Bool, true, not, Result, Ok, Err, Some, List, [], ◌∷◌, ◌++◌, length, filter}
 use Rattle.std.specs.List.{list_all}
 use Rattle.std.specs.Io.KnownBytes.{Appends}
 use Rattle.up_lines.specs.declared.fault.ScriptCause.{ScriptCause}
 use Rattle.up_lines.specs.declared.fault.ScriptCause.TheVariants.{Memory, Read, Write, TooLong}
 use Rattle.up_lines.specs.declared.fault.ScriptFault.{ScriptFault}
 use Rattle.up_lines.specs.declared.progress.Progress.{Progress}
-use Rattle.up_lines.specs.Lines.{newline, most_lines, most_line_bytes, lines_of, is_short, has_bytes}
+use Rattle.up_lines.specs.Lines.{newline, most_lines, most_line_bytes, piece_bytes, lines_of, is_short, has_bytes}
 use Rattle.up_lines.specs.Runs.{At, Run, written, BreaksOff}
 use Rattle.up_lines.specs.LineRuns.{Gives, print, Stopped, FinishedLines}
 
@@ -34,10 +34,10 @@ pub record Sofar {S : Type 0} (gives : Gives S) (first : At S) (came : List ℕ)
 abbrev pub Takes : {S : Type 0} → Gives S → List ℕ → Progress → At S → Progress → At S → Type 0
 Takes {S} gives bytes old before new after = (first : At S) (came : List ℕ) → Sofar gives first came old before → Sofar gives first (came ++ bytes) new after
 
--- bytes are not all taken: the run stops among them
+-- bytes of a piece are not all taken: the run stops among them
 abbrev pub Stops : {S : Type 0} → Gives S → ScriptCause → Bool → List ℕ → Progress → At S → Progress → At S → Type 0
 Stops {S} gives cause ended bytes old before new after = (first : At S) (came : List ℕ) → Sofar gives first came old before
-    → Stopped gives (came ++ bytes) ended (record { cause = cause; lines = new.answered }) first after
+    → length bytes ≤ piece_bytes → Stopped gives (came ++ bytes) ended (record { cause = cause; lines = new.answered }) first after
 
 -- bytes are added to the line that is begun, within the limits
 pub record Grows (part : List ℕ) (old new : Progress) : Type 0 where
@@ -47,10 +47,10 @@ pub record Grows (part : List ℕ) (old new : Progress) : Type 0 where
   pub few : 0 < length part → old.counted < most_lines
   pub short : length new.line.items ≤ most_line_bytes
 
--- why bytes aren't added: memory was refused for some that are within the limits, they stand behind the last line, or the line has too
--- many with them
+-- why bytes aren't added: the room for lines was refused at the first byte of the first one, they stand behind the last line, or the line
+-- has too many with them
 abbrev pub Refuses : ScriptCause → List ℕ → Progress → Type 0
-Refuses Memory part at = (0 < length part) × (at.counted < most_lines) × (length (at.line.items ++ part) ≤ most_line_bytes)
+Refuses Memory part at = (0 < length part) × (length part ≤ most_line_bytes) × (at.counted < most_lines) × (at.line.items ≡ []) × (at.answered ≡ 0)
 Refuses TooLong part at = ((0 < length part) × (at.counted ≡ most_lines)) ⊎ (most_line_bytes < length (at.line.items ++ part))
 Refuses Read part at = ⊥
 Refuses Write part at = ⊥
@@ -64,9 +64,9 @@ pub record Closes {S : Type 0} (gives : Gives S) (old : Progress) (before : At S
   pub run : Run gives before.state (filter has_bytes (old.line.items ∷ [])) answers after.state
   pub wrote : Appends before.held after.held (written print answers)
 
--- a line that isn't answered whole: without memory it has no answer, or one of which nothing is written; where the writer failed a part is
+-- a line isn't answered whole: without memory nothing of its answer is written, and where the writer failed a part is
 abbrev pub Unanswered : {S : Type 0} → Gives S → ScriptCause → List ℕ → At S → At S → Type 0
-Unanswered gives Memory line old new = BreaksOff gives print Memory None old new ⊎ BreaksOff gives print Memory (Some line) old new
+Unanswered gives Memory line old new = BreaksOff gives print Memory (Some line) old new
 Unanswered gives Write line old new = BreaksOff gives print Write (Some line) old new
 Unanswered gives Read line old new = ⊥
 Unanswered gives TooLong line old new = ⊥

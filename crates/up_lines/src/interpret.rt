@@ -1,5 +1,5 @@
 //! What interprets a line.
-ghost use Rattle.std.specs.Prelude.{◌≡◌, ◌⊎◌, ℕ, List, IfOk, OnErr};
+ghost use Rattle.std.specs.Prelude.{ℕ, List, IfOk, OnErr};
 
 use std::alloc::{AllocError, Global};
 
@@ -8,8 +8,9 @@ pub trait Interpret<S> {
     /// In a state a line may have this answer, which leaves that state.
     ghost gives: { S → List ℕ → List ℕ → S → Type 0 };
 
-    /// The answer to a line, neither with its newline. An `Err` leaves the state as it was, or as an answer leaves it.
+    /// The answer to a line, neither with its newline. An `Err` leaves the state as some answer leaves it, which couldn't be
+    /// told for want of memory.
     fn interpret(&self, alloc: Global, state: &mut S, line: &[u8]) -> Result<Vec<u8>, AllocError>
         ensures ok { IfOk result (λ text. gives state.old line.now text.items state.new) }
-        ensures err { OnErr result ((state.new ≡ state.old) ⊎ ((text : List ℕ) × gives state.old line.now text state.new)) };
+        ensures err { OnErr result ((text : List ℕ) × gives state.old line.now text state.new) };
 }

@@ -113,7 +113,9 @@ fn read_lines<S, I: Interpret<S>, R: Source, W: Sink>(
 /// a read that failed or gave no byte the reader isn't read, nor is the writer written after a write that failed or took none.
 /// A fault tells how many answers were written whole; lines that were answered before it stay answered. `Read` is told only
 /// where the reader failed, `Write` where the writer failed or took none, `Memory` where neither did, and only where a line that
-/// was read or begun is still to be answered: so neither for a limit nor behind the last answer.
+/// was read or begun is still to be answered: so neither for a limit nor behind the last answer. The first byte of the first line
+/// that isn't empty takes memory for the longest line there may be, once: where it is refused, no line is handed on. Behind it
+/// `Memory` is told only of a line that was handed on, and nothing of its answer is written.
 pub fn run<S, I: Interpret<S>, R: Source, W: Sink>(
     alloc: Global,
     interpreter: &I,

@@ -28,10 +28,13 @@ pub(crate) fn take_part(progress: &mut Progress, part: &[u8]) -> Result<(), Scri
     if part.is_empty() {
         return Ok(());
     }
-    match progress.line.extend_from_slice(part) {
-        Ok(()) => Ok(()),
-        Err(_) => Err(ScriptCause::Memory),
+    // The first byte of all makes room for any line, so memory isn't refused for a line behind others.
+    let more = MOST_LINE_BYTES - progress.line.len();
+    if progress.line.reserve_exact(more).is_err() {
+        return Err(ScriptCause::Memory);
     }
+    progress.line.extend_from_slice(part).unwrap();
+    Ok(())
 }
 
 /// Takes the last part of a line and its newline.

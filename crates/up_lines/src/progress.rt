@@ -1,11 +1,11 @@
 //! How far a run has come.
-ghost use Rattle.std.specs.Prelude.{◌≡◌, ◌≤◌, []};
-ghost use Rattle.up_lines.specs.Lines.{most_lines};
+ghost use Rattle.std.specs.Prelude.{◌≡◌, ◌≤◌, ◌<◌, [], vec_capacity};
+ghost use Rattle.up_lines.specs.Lines.{most_lines, most_line_bytes};
 
 /// The line that is begun, and what is behind it.
 #[derive(Debug, Drop)]
 pub(crate) struct Progress {
-    /// The bytes of the line so far.
+    /// The bytes of the line so far. From the first byte on it has room for any line.
     pub line: Vec<u8>,
     /// How many lines were whole.
     pub counted: u32,
@@ -14,4 +14,5 @@ pub(crate) struct Progress {
     ghost in_order: { answered ≤ counted },
     ghost few: { counted ≤ most_lines },
     ghost none_past: { counted ≡ most_lines → line.items ≡ [] },
+    ghost room: { vec_capacity line < most_line_bytes → (line.items ≡ []) × (answered ≡ 0) },
 }

@@ -8,6 +8,8 @@ pub mod Firsts
 pub mod Greatest
 pub mod Offering
 pub mod Members
+pub mod Nothing
+pub mod NothingFound
 pub mod Orders
 pub mod OtherImages
 pub mod Parts

@@ -1,4 +1,6 @@
 //! Plans: which images a vehicle gets, or why it gets none.
+ghost use Rattle.std.specs.Prelude.{◌≡◌, [], None, IfOk, IsOk};
+
 use std::alloc::{AllocError, Global};
 use up_canon::file_name::FileName;
 use up_canon::ident::Ident;
@@ -71,8 +73,28 @@ pub struct Plan {
 impl Duplicate for Plan {
     fn copy(&self, alloc: Global) -> Result<Plan, AllocError> {
         Ok(Plan {
-            assigned: self.assigned.copy(alloc)?,
-            withheld: self.withheld.copy(alloc)?,
+            assigned: copy_assigned(alloc, &self.assigned)?,
+            withheld: copy_cause(alloc, &self.withheld)?,
         })
+    }
+}
+
+fn copy_assigned(alloc: Global, assigned: &Listed<Assigned>) -> Result<Listed<Assigned>, AllocError>
+    ensures copied { IfOk result (λ copied. copied ≡ assigned.now) }
+    ensures none { assigned.now ≡ [] → IsOk result }
+{
+    if assigned.as_slice().is_empty() {
+        return Ok(Listed::new(Vec::new(alloc)));
+    }
+    assigned.copy(alloc)
+}
+
+fn copy_cause(alloc: Global, withheld: &Option<Cause>) -> Result<Option<Cause>, AllocError>
+    ensures copied { IfOk result (λ copied. copied ≡ withheld.now) }
+    ensures none { withheld.now ≡ None → IsOk result }
+{
+    match withheld {
+        Some(cause) => Ok(Some(cause.copy(alloc)?)),
+        None => Ok(None),
     }
 }

@@ -1,6 +1,7 @@
 //! Campaigns.
-ghost use Rattle.std.specs.Prelude.{◌≡◌};
+ghost use Rattle.std.specs.Prelude.{◌≡◌, IfOk, IsOk};
 ghost use Rattle.up_plan.specs.Campaigns.{reach_fits as reach_fits_limits};
+ghost use Rattle.up_plan.specs.declared.campaign.Reach.TheVariants.{All};
 
 use std::alloc::{AllocError, Global};
 use std::marker::Model;
@@ -33,10 +34,17 @@ impl Reach {
 
 impl Duplicate for Reach {
     fn copy(&self, alloc: Global) -> Result<Reach, AllocError> {
-        match self {
-            Reach::All => Ok(Reach::All),
-            Reach::Named(vehicles) => Ok(Reach::Named(vehicles.copy(alloc)?)),
-        }
+        copy_reach(alloc, self)
+    }
+}
+
+fn copy_reach(alloc: Global, reach: &Reach) -> Result<Reach, AllocError>
+    ensures copied { IfOk result (λ copied. copied ≡ reach.now) }
+    ensures none { reach.now ≡ All → IsOk result }
+{
+    match reach {
+        Reach::All => Ok(Reach::All),
+        Reach::Named(vehicles) => Ok(Reach::Named(vehicles.copy(alloc)?)),
     }
 }
 

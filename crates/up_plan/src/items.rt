@@ -1,5 +1,5 @@
 //! Items of campaigns for a vehicle.
-ghost use Rattle.std.specs.Prelude.{◌≡◌, ◌++◌, map, IfOk};
+ghost use Rattle.std.specs.Prelude.{◌≡◌, ◌++◌, [], map, IfOk, IsOk};
 ghost use Rattle.up_plan.specs.Planning.{items_for as items_of};
 
 use crate::campaign::{Campaign, Item};
@@ -12,7 +12,8 @@ pub fn items_for<'a>(
     campaigns: &'a [Campaign],
     vehicle: &Ident,
 ) -> Result<Vec<&'a Item>, AllocError>
-    ensures { IfOk result (λ items. map (λ i. i.now) items.items ≡ items_of campaigns.now vehicle.now) }
+    ensures value { IfOk result (λ items. map (λ i. i.now) items.items ≡ items_of campaigns.now vehicle.now) }
+    ensures none { items_of campaigns.now vehicle.now ≡ [] → IsOk result }
 {
     let mut items = Vec::new(alloc);
     for campaign in campaigns {
@@ -24,7 +25,8 @@ pub fn items_for<'a>(
 }
 
 pub(crate) fn push_items<'a>(items: &mut Vec<&'a Item>, more: &'a [Item]) -> Result<(), AllocError>
-    ensures { IfOk result (λ _. map (λ i. i.now) items.new.items ≡ map (λ i. i.now) items.old.items ++ more.now) }
+    ensures value { IfOk result (λ _. map (λ i. i.now) items.new.items ≡ map (λ i. i.now) items.old.items ++ more.now) }
+    ensures none { more.now ≡ [] → IsOk result }
 {
     for item in more {
         items.push(item)?;

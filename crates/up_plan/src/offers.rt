@@ -1,5 +1,5 @@
 //! What items offer: the images of their files, looked up once for all ECUs.
-ghost use Rattle.std.specs.Prelude.{◌≡◌, ℕ, List, map, option_copied, IfOk};
+ghost use Rattle.std.specs.Prelude.{◌≡◌, ℕ, List, [], map, option_copied, IfOk, IsOk};
 ghost use Rattle.std.specs.BTreeMap.{get_by};
 ghost use Rattle.std.specs.Cmp.Lexicographic.{slice_cmp};
 ghost use Rattle.std.specs.Ordering.{nat_cmp};
@@ -57,7 +57,8 @@ pub(crate) fn offers_over<'a>(
     images: &'a Table<Image>,
     items: &[&'a Item],
 ) -> Result<Vec<Offer<'a>>, AllocError>
-    ensures { IfOk result (λ offers. offers.items ≡ offers_at images.now (map (λ i. i.now) items.now)) }
+    ensures value { IfOk result (λ offers. offers.items ≡ offers_at images.now (map (λ i. i.now) items.now)) }
+    ensures none { offers_at images.now (map (λ i. i.now) items.now) ≡ [] → IsOk result }
 {
     let mut offers = Vec::new(alloc);
     for item in items {

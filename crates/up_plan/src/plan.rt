@@ -1,5 +1,5 @@
 //! Which images a vehicle gets.
-ghost use Rattle.std.specs.Prelude.{◌≡◌, map, IfOk};
+ghost use Rattle.std.specs.Prelude.{◌≡◌, [], map, IfOk, IsOk};
 ghost use Rattle.std.specs.FinMap as table;
 ghost use Rattle.up_plan.specs.ByFile.{AreByFile, resulting_at};
 ghost use Rattle.up_plan.specs.Planning.{plan_from, plan_of, resulting, updates as updates_of};
@@ -50,7 +50,8 @@ pub fn plan_over(
 }
 
 fn plan_for(alloc: Global, set: &[Resulting]) -> Result<Plan, AllocError>
-    ensures { IfOk result (λ p. p ≡ plan_from set.now) }
+    ensures value { IfOk result (λ p. p ≡ plan_from set.now) }
+    ensures none { updates_of set.now ≡ [] → IsOk result }
 {
     let assigned = updates(alloc, set)?;
     if assigned.is_empty() {
@@ -72,7 +73,8 @@ fn plan_for(alloc: Global, set: &[Resulting]) -> Result<Plan, AllocError>
 }
 
 fn updates(alloc: Global, set: &[Resulting]) -> Result<Vec<Assigned>, AllocError>
-    ensures { IfOk result (λ assigned. assigned.items ≡ updates_of set.now) }
+    ensures value { IfOk result (λ assigned. assigned.items ≡ updates_of set.now) }
+    ensures none { updates_of set.now ≡ [] → IsOk result }
 {
     let mut assigned = Vec::new(alloc);
     for r in set {

@@ -1,5 +1,5 @@
 //! Running campaigns, looked up by vehicle.
-ghost use Rattle.std.specs.Prelude.{◌≡◌, ◌+◌, ◌^◌, ◌<◌, ◌≤◌, ◌++◌, ◌&&◌, ◌||◌, Bool, List, bytes_eq, filter, flat_map, length, map, slice_get, vec_capacity, vec_len, Some, SomeIff, IfOk};
+ghost use Rattle.std.specs.Prelude.{◌≡◌, ◌+◌, ◌^◌, ◌<◌, ◌≤◌, ◌++◌, ◌&&◌, ◌||◌, Bool, List, bytes_eq, count_by, filter, flat_map, length, map, slice_get, vec_capacity, vec_len, Some, SomeIff, IfOk, IsOk, []};
 ghost use Rattle.std.specs.FinMap as table;
 ghost use Rattle.std.specs.List.{list_any, sum_by};
 ghost use Rattle.std.specs.Ordering.{is_lt, nat_cmp};
@@ -60,7 +60,9 @@ impl Running {
     /// The campaigns, made ready for look-ups: this costs by the number of campaigns and names, times the logarithm of the
     /// latter.
     pub fn new(alloc: Global, campaigns: Table<Campaign>) -> Result<Running, AllocError>
-        ensures { IfOk result (λ running. running ≡ campaigns) }
+        ensures value { IfOk result (λ running. running ≡ campaigns) }
+        ensures none { count_by reaches_all_of (table.values campaigns) ≡ 0 → sum_by (λ c. length (vehicles_named c)) (table.values campaigns) ≡ 0
+            → IsOk result }
     {
         let for_all = places_for_all(alloc, campaigns.values())?;
         let names = names_in_order(alloc, campaigns.values())?;
@@ -78,7 +80,8 @@ impl Running {
         alloc: Global,
         vehicle: &Ident,
     ) -> Result<Vec<&'a Item>, AllocError>
-        ensures { IfOk result (λ items. OffersSame (map (λ i. i.now) items.items) (items_of (table.values self.now) vehicle.now)) }
+        ensures value { IfOk result (λ items. OffersSame (map (λ i. i.now) items.items) (items_of (table.values self.now) vehicle.now)) }
+        ensures none { items_of (table.values self.now) vehicle.now ≡ [] → IsOk result }
     {
         let campaigns = self.campaigns.values();
         let mut items = Vec::new(alloc);
@@ -93,7 +96,8 @@ impl Running {
 
 /// The places of the running campaigns for all vehicles.
 fn places_for_all(alloc: Global, campaigns: &[Campaign]) -> Result<Vec<usize>, AllocError>
-    ensures { IfOk result (λ places. AreForAll campaigns.now places.items) }
+    ensures value { IfOk result (λ places. AreForAll campaigns.now places.items) }
+    ensures none { count_by reaches_all_of campaigns.now ≡ 0 → IsOk result }
 {
     let count = campaigns
         .iter()
@@ -119,7 +123,8 @@ fn reaches_all(campaign: &Campaign) -> bool
 
 /// The names in the other running campaigns, in byte order.
 fn names_in_order(alloc: Global, campaigns: &[Campaign]) -> Result<Vec<NameAt>, AllocError>
-    ensures { IfOk result (λ names. AreNamed campaigns.now names.items × AreInOrder campaigns.now names.items) }
+    ensures value { IfOk result (λ names. AreNamed campaigns.now names.items × AreInOrder campaigns.now names.items) }
+    ensures none { sum_by (λ c. length (vehicles_named c)) campaigns.now ≡ 0 → IsOk result }
 {
     let mut names = names_of(alloc, campaigns)?;
     names.sort_unstable_by(
@@ -131,7 +136,8 @@ fn names_in_order(alloc: Global, campaigns: &[Campaign]) -> Result<Vec<NameAt>, 
 }
 
 fn names_of(alloc: Global, campaigns: &[Campaign]) -> Result<Vec<NameAt>, AllocError>
-    ensures { IfOk result (λ names. AreNamed campaigns.now names.items) }
+    ensures value { IfOk result (λ names. AreNamed campaigns.now names.items) }
+    ensures none { sum_by (λ c. length (vehicles_named c)) campaigns.now ≡ 0 → IsOk result }
 {
     let count = count_names(campaigns).ok_or(AllocError)?;
     let mut names = Vec::with_capacity(alloc, count)?;
@@ -228,7 +234,8 @@ fn push_for_all<'a>(
     campaigns: &'a [Campaign],
     places: &[usize],
 ) -> Result<(), AllocError>
-    ensures { IfOk result (λ _. map (λ i. i.now) items.new.items ≡ map (λ i. i.now) items.old.items ++ flat_map (items_at campaigns.now) places.now) }
+    ensures value { IfOk result (λ _. map (λ i. i.now) items.new.items ≡ map (λ i. i.now) items.old.items ++ flat_map (items_at campaigns.now) places.now) }
+    ensures none { flat_map (items_at campaigns.now) places.now ≡ [] → IsOk result }
 {
     for place in places {
         push_at(items, campaigns, *place)?;
@@ -241,7 +248,8 @@ fn push_named<'a>(
     campaigns: &'a [Campaign],
     names: &[NameAt],
 ) -> Result<(), AllocError>
-    ensures { IfOk result (λ _. map (λ i. i.now) items.new.items ≡ map (λ i. i.now) items.old.items ++ flat_map (λ at. items_at campaigns.now at.campaign) names.now) }
+    ensures value { IfOk result (λ _. map (λ i. i.now) items.new.items ≡ map (λ i. i.now) items.old.items ++ flat_map (λ at. items_at campaigns.now at.campaign) names.now) }
+    ensures none { flat_map (λ at. items_at campaigns.now at.campaign) names.now ≡ [] → IsOk result }
 {
     for at in names {
         push_at(items, campaigns, at.campaign)?;
@@ -254,7 +262,8 @@ fn push_at<'a>(
     campaigns: &'a [Campaign],
     place: usize,
 ) -> Result<(), AllocError>
-    ensures { IfOk result (λ _. map (λ i. i.now) items.new.items ≡ map (λ i. i.now) items.old.items ++ items_at campaigns.now place) }
+    ensures value { IfOk result (λ _. map (λ i. i.now) items.new.items ≡ map (λ i. i.now) items.old.items ++ items_at campaigns.now place) }
+    ensures none { items_at campaigns.now place ≡ [] → IsOk result }
 {
     match campaigns.get(place) {
         Some(campaign) => push_items(items, campaign.items.as_slice()),

@@ -1,5 +1,5 @@
 //! Needs and conflicts over the resulting set.
-ghost use Rattle.std.specs.Prelude.{◌≡◌, Some, find, not, option_copied, IfOk};
+ghost use Rattle.std.specs.Prelude.{◌≡◌, [], Some, find, not, option_copied, IfOk, IsOk};
 ghost use Rattle.up_canon.specs.Steps.{first_or_none};
 ghost use Rattle.up_plan.specs.Planning.{is_apart as is_apart_in, is_met as is_met_in, unmet, unmet_by as unmet_of};
 
@@ -13,7 +13,8 @@ use up_canon::listed::Duplicate;
 
 /// The first need or conflict that isn't met, in inventory order.
 pub(crate) fn first_unmet(alloc: Global, set: &[Resulting]) -> Result<Option<Cause>, AllocError>
-    ensures { IfOk result (λ cause. cause ≡ first_or_none (unmet set.now)) }
+    ensures value { IfOk result (λ cause. cause ≡ first_or_none (unmet set.now)) }
+    ensures none { unmet set.now ≡ [] → IsOk result }
 {
     for r in set {
         let Some(image) = r.image else {
@@ -32,7 +33,8 @@ fn unmet_by(
     ecu: &Ident,
     image: &Image,
 ) -> Result<Option<Cause>, AllocError>
-    ensures { IfOk result (λ cause. cause ≡ first_or_none (unmet_of set.now ecu.now (Some image.now))) }
+    ensures value { IfOk result (λ cause. cause ≡ first_or_none (unmet_of set.now ecu.now (Some image.now))) }
+    ensures none { unmet_of set.now ecu.now (Some image.now) ≡ [] → IsOk result }
 {
     if let Some(need) = first_need(set, image.needs.as_slice()) {
         return Ok(Some(Cause::Need {

@@ -16,7 +16,8 @@ job_shown (Serve file port count) = serving (string_bytes file) port count
 job_shown (Digest file) = digesting (string_bytes file)
 
 abbrev pub job_named : List ℕ → List ℕ → Option JobView
-job_named word file = if bytes_eq word (codes "run") then Some (running file) else if bytes_eq word (codes "digest") then Some (digesting file) else None
+job_named word file = if bytes_eq word (codes "run") then Some (running file)
+    else if bytes_eq word (codes "digest") then Some (digesting file) else None
 
 -- the number of 1 to so many that is written so in decimal
 abbrev pub number_to : ℕ → List ℕ → Option ℕ

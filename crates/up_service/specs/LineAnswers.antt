@@ -92,7 +92,8 @@ IsAnswerText k at command text = (answer : Answer) × (text ≡ answer_text answ
 
 -- the line of some rows of a vehicle; or it tells that there is none, or that memory or the database refused
 abbrev pub IsViewText : List ℕ → Type 0
-IsViewText text = ((plan : Option Plan) × (rows : VehicleRows) × (text ≡ rows_text plan rows)) ⊎ ((text ≡ refused_text UnknownVehicle) ⊎ IsFailed refused_text text)
+IsViewText text = ((plan : Option Plan) × (rows : VehicleRows) × (text ≡ rows_text plan rows))
+    ⊎ ((text ≡ refused_text UnknownVehicle) ⊎ IsFailed refused_text text)
 
 abbrev pub IsTextOf : Rules → ℕ → What → List ℕ → Type 0
 IsTextOf k at (Call command) text = IsAnswerText k at command text
@@ -114,9 +115,11 @@ IsLine k old line text new = (read : Result Asked Refusal) × IsReadAs k line re
 -- ---- both
 
 -- the desk's scheme stays; the text is such a one, and such an answer over the states that the tables show
-abbrev pub Prints : {K D : Type 0} → (K → Rules) → Ghosts D → (Rules → List ℕ → Type 0) → (Rules → State → Answered) → DeskView K D → List ℕ → DeskView K D → Type 0
+abbrev pub Prints : {K D : Type 0} → (K → Rules) → Ghosts D → (Rules → List ℕ → Type 0) → (Rules → State → Answered)
+    → DeskView K D → List ℕ → DeskView K D → Type 0
 Prints rules g IsText answer old text new =
-    (new.scheme ≡ old.scheme) × IsText (rules old.scheme) text × AnswersLine (answer (rules old.scheme)) (rules old.scheme) text (state g old.store) (state g new.store)
+    (new.scheme ≡ old.scheme) × IsText (rules old.scheme) text
+    × AnswersLine (answer (rules old.scheme)) (rules old.scheme) text (state g old.store) (state g new.store)
 
 -- what a desk may answer a line, and how it leaves it
 abbrev pub Lines : {K D : Type 0} → (K → Rules) → Ghosts D → DeskView K D → List ℕ → List ℕ → DeskView K D → Type 0

@@ -33,7 +33,8 @@ AnswersCall k at command last head text old new =
 -- whatever the database does and its tables show, the bytes are the whole response to some answer of the desk, which is a refusal where
 -- the command is refused outright
 abbrev pub IsResponse : Rules → ℕ → Command → Bool → Bool → List ℕ → Type 0
-IsResponse k at command last head text = (answer : Answer) × (text ≡ answer_response answer last head) × IfSome (outright k at command) (λ r. answer ≡ Refused r)
+IsResponse k at command last head text = (answer : Answer) × (text ≡ answer_response answer last head)
+    × IfSome (outright k at command) (λ r. answer ≡ Refused r)
 
 -- whatever the database does, a fixed answer is that one and leaves the desk as it was
 abbrev pub IsResponseTo : {K D : Type 0} → (K → Rules) → Ghosts D → ℕ → DeskView K D → What → Bool → Bool → List ℕ → DeskView K D → Type 0

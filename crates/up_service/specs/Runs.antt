@@ -115,7 +115,8 @@ pub record Lasts {I : Type 0} (v : Service I) (s : State) (ms : List (Told I)) (
   pub shown : HasCleanDisk new → (at : State) × IsBehind v (after v s ms) next at × IsSound v.rules at × KeepsState v.rules at new
   pub crash : Survives old new (HoldsSome v s ms next)
   pub durable : (before rest : List (Told I)) (m : Told I) → IsAnsweredCommit v s ms before rest m
-      → IfClean (LeavesOnly (λ trees. HoldsState v.rules (behind v (after v s before) m) trees ⊎ HoldsSome v (behind v (after v s before) m) rest next trees)) new
+      → IfClean (LeavesOnly (λ trees. HoldsState v.rules (behind v (after v s before) m) trees
+      ⊎ HoldsSome v (behind v (after v s before) m) rest next trees)) new
   pub blame : HasCleanDisk new → IsTrue old.connection.is_open → old.connection.step_limit ≡ None
       → (MoreFaults old.connection.faults new.connection.faults → ⊥) → AreBlamed v s old.connection.now ms next new.connection.now
 
@@ -151,8 +152,10 @@ IsMadeBySome v s (m ∷ ms) next at = IsMade v s m.item at ⊎ IsMadeBySome v (b
 -- the state behind it, or what one of the items that follow makes from there on.
 abbrev pub ReopenedLast : {D : Type 0} → Type 0 → DiskGhosts D → Type 0
 ReopenedLast {D} I g = (v : Service I) (s : State) (ms : List (Told I)) (next : Option I) (old new : Stored (FileStore D g))
-    → Lasts v s ms next (state over_files old) (state over_files new) → (before rest : List (Told I)) (m : Told I) → IsAnsweredCommit v s ms before rest m
-    → HasCleanDisk (state over_files new) → (stopped : FileStore D g) → AreFoundAgain new.held stopped → IsTrue (view stopped).is_clean → (left : Image) → (files.state stopped).may_leave left
+    → Lasts v s ms next (state over_files old) (state over_files new)
+    → (before rest : List (Told I)) (m : Told I) → IsAnsweredCommit v s ms before rest m
+    → HasCleanDisk (state over_files new) → (stopped : FileStore D g) → AreFoundAgain new.held stopped → IsTrue (view stopped).is_clean
+    → (left : Image) → (files.state stopped).may_leave left
     → (opened : Held (FileStore D g)) → IsOpened opened → FindsIn left (file_state opened)
     → ∥ ((at : State) × ((at ≡ behind v (after v s before) m) ⊎ IsMadeBySome v (behind v (after v s before) m) rest next at)
     × connections.KeepsState v.rules at (file_state opened)) ∥₁

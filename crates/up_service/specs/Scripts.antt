@@ -22,14 +22,18 @@ LinesLast rules g = RunsLast (λ q. line_service (rules q)) g (Lines rules g)
 -- a script that was read to its end: a run over all its lines, and what lasts of it
 abbrev pub FinishedLast : {K D : Type 0} → (K → Rules) → Ghosts D → List ℕ → ℕ → At (DeskView K D) → At (DeskView K D) → Type 0
 FinishedLast rules g came answered first now =
-    (run : FinishedLines (Lines rules g) came answered first now) × LastsFrom (λ q. line_service (rules q)) g first.state run.items run.answers None now.state
+    (run : FinishedLines (Lines rules g) came answered first now)
+    × LastsFrom (λ q. line_service (rules q)) g first.state run.items run.answers None now.state
 
 -- a script that ended early: a run over its first lines, and what lasts of it
 abbrev pub StoppedLast : {K D : Type 0} → (K → Rules) → Ghosts D → List ℕ → Bool → ScriptFault → At (DeskView K D) → At (DeskView K D) → Type 0
 StoppedLast rules g came ended fault first now =
-    (run : Stopped (Lines rules g) came ended fault first now) × LastsFrom (λ q. line_service (rules q)) g first.state run.done run.answers run.next now.state
+    (run : Stopped (Lines rules g) came ended fault first now)
+    × LastsFrom (λ q. line_service (rules q)) g first.state run.done run.answers run.next now.state
 
 -- what lasts of a run over a reader and a writer
-abbrev pub ScriptLasts : {K D : Type 0} → (K → Rules) → Ghosts D → Option (List ℕ) → Option (List ℕ) → At (DeskView K D) → At (DeskView K D) → Result ℕ ScriptFault → Type 0
+abbrev pub ScriptLasts : {K D : Type 0} → (K → Rules) → Ghosts D → Option (List ℕ) → Option (List ℕ)
+    → At (DeskView K D) → At (DeskView K D) → Result ℕ ScriptFault → Type 0
 ScriptLasts rules g had has first now result =
-    Ran most_bytes (λ came ended answered. (ended ≡ true) × FinishedLast rules g came answered first now) (λ came ended fault. StoppedLast rules g came ended fault first now) had has result
+    Ran most_bytes (λ came ended answered. (ended ≡ true) × FinishedLast rules g came answered first now)
+    (λ came ended fault. StoppedLast rules g came ended fault first now) had has result

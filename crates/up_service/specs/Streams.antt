@@ -46,7 +46,9 @@ StoppedLast rules g at came ended fault first now =
     × LastsFrom (λ q. request_service (rules q) at) g first.state run.done run.answers run.next now.state
 
 -- what lasts of a run over a reader and a writer
-abbrev pub StreamLasts : {K D : Type 0} → (K → Rules) → Ghosts D → ℕ → Option (List ℕ) → Option (List ℕ) → At (DeskView K D) → At (DeskView K D) → Result Served ServeFault → Type 0
+abbrev pub StreamLasts : {K D : Type 0} → (K → Rules) → Ghosts D → ℕ → Option (List ℕ) → Option (List ℕ)
+    → At (DeskView K D) → At (DeskView K D) → Result Served ServeFault → Type 0
 StreamLasts rules g at had has first now result =
-    Ran most_bytes (λ came ended served. (more : List ℕ) → (ended ≡ true → more ≡ []) → FinishedLast rules g at (came ++ more) served.requests first now)
+    Ran most_bytes (λ came ended served. (more : List ℕ) → (ended ≡ true → more ≡ [])
+    → FinishedLast rules g at (came ++ more) served.requests first now)
     (λ came ended fault. StoppedLast rules g at came ended fault first now) had has result

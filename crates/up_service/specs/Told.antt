@@ -53,11 +53,13 @@ ShowsFound plans (Err fault) old shown new = (shown ≡ Err (refusal_told fault)
 
 -- a vehicle's rows are read, and then what is assigned
 abbrev pub Shows : {S : Type 0} → Finds S (Option VehicleRows) → Finds S (Option Plan) → S → Name → Result (List ℕ) Refusal → S → Type 0
-Shows {S} vehicles plans old vehicle shown new = (mid : S) × (found : Result (Option VehicleRows) StoreFault) × vehicles old vehicle found mid × ShowsFound plans found mid shown new
+Shows {S} vehicles plans old vehicle shown new = (mid : S) × (found : Result (Option VehicleRows) StoreFault)
+    × vehicles old vehicle found mid × ShowsFound plans found mid shown new
 
 -- and that is told
 abbrev pub TellsView : {S : Type 0} → Finds S (Option VehicleRows) → Finds S (Option Plan) → S → Name → List ℕ → S → Type 0
-TellsView vehicles plans old vehicle text new = (shown : Result (List ℕ) Refusal) × Shows vehicles plans old vehicle shown new × (text ≡ shown_text shown)
+TellsView vehicles plans old vehicle text new = (shown : Result (List ℕ) Refusal)
+    × Shows vehicles plans old vehicle shown new × (text ≡ shown_text shown)
 
 -- ---- lines
 
@@ -73,7 +75,8 @@ TellsAsked gives vehicles plans old (Err r) text new = (text ≡ refused_text r)
 
 -- a line is read, and what that came to is told
 abbrev pub TellsLine : {S : Type 0} → Asks S → Gives S → Finds S (Option VehicleRows) → Finds S (Option Plan) → S → List ℕ → List ℕ → S → Type 0
-TellsLine asks gives vehicles plans old line text new = (read : Result Asked Refusal) × asks old line read × TellsAsked gives vehicles plans old read text new
+TellsLine asks gives vehicles plans old line text new = (read : Result Asked Refusal) × asks old line read
+    × TellsAsked gives vehicles plans old read text new
 
 -- ---- requests
 

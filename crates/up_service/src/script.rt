@@ -23,7 +23,8 @@ use up_sign::scheme::Scheme;
 /// The number is that of the lines answered. A line has at most 2,097,152 bytes, its newline not counted, and there are at most
 /// 100,000; past that comes `TooLong`. Of a reader whose bytes are known at most 209,715,300,001 are read; nothing is tried
 /// twice. A fault tells how many answers were written whole; what was answered before it stays done. `Read` is told only where
-/// the reader failed, `Write` where the writer failed or took none, `Memory` where neither did, and never for a limit.
+/// the reader failed, `Write` where the writer failed or took none, `Memory` where neither did, and never for a limit: it is told
+/// of a line that was carried out, or before the first, where no room for lines could be made.
 ///
 /// However it ended, a crash behind it leaves what could be left before, or the state behind some line; and none before the last
 /// line that was answered `done`, or got the reply to a new manifest. So nothing that was answered is lost. Where the disk counted no

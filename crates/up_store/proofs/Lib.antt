@@ -14,6 +14,7 @@ pub mod VehiclePuts
 pub mod FoundingReads
 pub mod RootPuts
 pub mod MadeRows
+pub mod ReadRows
 pub mod RootFiles
 pub mod AcceptPuts
 pub mod ReplacePuts

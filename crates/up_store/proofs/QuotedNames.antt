@@ -46,6 +46,10 @@ lacks part text none s =
     none (length s.before) (omega (arith, ap length s.at, length-append s.before (part ++ s.behind))) s.behind
     (ap (drop (length s.before)) s.at ∙ drop_at s.before (part ++ s.behind) (length s.before) refl)
 
+-- it stands at no place, so it is no part
+pub stands_nowhere : (part text : List ℕ) → ((i : ℕ) → i ≤ length text → LacksTextAt part text i) → (before behind : List ℕ) → text ≡ before ++ (part ++ behind) → ⊥
+stands_nowhere part text none before behind at = lacks part text none (record { before = before; behind = behind; at = at })
+
 -- a list in which the quoted name doesn't stand reaches others
 pub others_reached : (vehicle : Name) (reach : Reach) (column : List ℕ) → column ≡ reach_column reach → get_or column 0 0 ≡ 91 → ((i : ℕ) → i ≤ length column → LacksTextAt (quoted vehicle) column i) → reaches vehicle reach ≡ false
 unfolding reach_column

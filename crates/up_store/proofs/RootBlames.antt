@@ -55,9 +55,9 @@ module _ (new : RootRows) where
   pub founding_fails : {A : Type 0} (s0 s1 : Connected) (r : Result A StoreFault) → BlamesOne numbers Fits s0 s1 r → BlamesOne (root_writes new) Fits s0 s1 r
   founding_fails s0 s1 r blame = blames_first (numbers ++ keys ++ roots) others Fits s0 s1 r (blames_first (numbers ++ keys) roots Fits s0 s1 r (blames_first numbers keys Fits s0 s1 r blame))
 
-  pub keys_fail : {A : Type 0} (s0 s1 s2 : Connected) (r : Result A StoreFault) → WentOn numbers s0 s1 → Steps s1 s2 → BlamesOne keys Fits s1 s2 r → BlamesOne (root_writes new) Fits s0 s2 r
+  pub keys_fail : {A : Type 0} (s0 s1 s2 : Connected) (r : Result A StoreFault) → WentOn numbers s0 s1 → Steps s1 s2 → BlamesOne keys (λ _. ⊤) s1 s2 r → BlamesOne (root_writes new) Fits s0 s2 r
   keys_fail s0 s1 s2 r on steps blame =
-      blames_first (numbers ++ keys ++ roots) others Fits s0 s2 r (blames_first (numbers ++ keys) roots Fits s0 s2 r (blames_on numbers keys Fits Fits s0 s1 s2 r on steps (λ clean is_open has fits. fits) blame))
+      blames_first (numbers ++ keys ++ roots) others Fits s0 s2 r (blames_first (numbers ++ keys) roots Fits s0 s2 r (blames_on numbers keys Fits (λ _. ⊤) s0 s1 s2 r on steps (λ clean is_open has fits. tt) blame))
 
   pub root_files_fail : {A : Type 0} (s0 s1 s2 s3 : Connected) (r : Result A StoreFault) → WentOn numbers s0 s1 → WentOn keys s1 s2 → Steps s2 s3 → BlamesOne roots (λ _. ⊤) s2 s3 r → BlamesOne (root_writes new) Fits s0 s3 r
   root_files_fail s0 s1 s2 s3 r on next steps blame =

@@ -8,5 +8,6 @@ pub mod Writes
 pub mod Found
 pub mod ColumnRows
 pub mod Shown
+pub mod ReadAs
 pub mod Stopped
 pub mod Laws

@@ -1,30 +1,84 @@
 -- What the parts of a write change of the rows of the tables.
-use Rattle.std.specs.Prelude.{◌≡◌, ℕ, ◌≤◌, ◌++◌, List, [], ◌∷◌, Some, length, map}
+use Rattle.std.specs.Prelude.{◌≡◌, ℕ, ◌≤◌, ◌<◌, ◌^◌, ◌++◌, List, [], ◌∷◌, All, Some, IfSome, IsUtf8, length, map}
+use Rattle.std.specs.List.{AllByRecursion}
 use Rattle.sqlite.specs.State.{State as Connected}
+use Rattle.sqlite.specs.Order.{Row}
 use Rattle.up_canon.specs.Names.{Name}
 use Rattle.up_plan.specs.Images.{ImageData}
 use Rattle.up_machine.specs.declared.decision.AcceptedRows.{AcceptedRows}
+use Rattle.up_machine.specs.declared.decision.RootRows.{RootRows}
 use Rattle.up_machine.specs.declared.rows.Founding.{Founding}
+use Rattle.up_machine.specs.declared.rows.Kept.{Kept}
 use Rattle.up_machine.specs.declared.rows.VehicleRows.{VehicleRows}
+use Rattle.up_metadata.specs.declared.role_files.RoleTexts.{RoleTexts}
 use Rattle.up_rows.specs.StateRows.{StateRows}
+use Rattle.up_tables.specs.declared.ecu.EcuRow.{EcuRow as EcuShown}
+use Rattle.up_tables.specs.declared.image.ImageRow.{ImageRow}
+use Rattle.up_tables.specs.declared.kept.KeptRow.{KeptRow}
+use Rattle.up_tables.specs.declared.repo_file.FileRow.{FileRow as FileShown}
+use Rattle.up_tables.specs.declared.role_key.RoleKeyRow.{RoleKeyRow}
+use Rattle.up_tables.specs.declared.vehicle.VehicleRow.{VehicleRow as VehicleShown}
+use Rattle.up_tables.specs.Ecus.{FitEcu}
+use Rattle.up_tables.specs.Forms.{FitImage, FitKept, FitRoleKey, FitVehicle, role_key_row}
 use Rattle.up_tables.specs.Lines.{EcuLine, ecu_row, vehicle_line, AreSameEcus, AreDistinct, set_ecus}
 use Rattle.up_tables.specs.Listed.{TableRows, ListsTables}
 use Rattle.up_tables.specs.Rows.{changed_at, with_only}
 use Rattle.up_roles.specs.declared.repository.Repository.TheVariants.{Director, Image}
+use Rattle.up_store.specs.ColumnRows.{IsImage, IsKept}
 use Rattle.up_store.specs.Fitting.{IsRecorded}
-use Rattle.up_store.specs.Lines.{FileLine, repository_lines, set_lines, image_lines, sha512_lines, ecu_lines}
+use Rattle.up_store.specs.Lines.{FileLine, repository_lines, role_file_lines, root_file_lines, set_lines, image_lines, sha512_lines, ecu_lines}
 use Rattle.up_store.specs.Listing.{ListsRows}
+use Rattle.up_store.specs.Shown.{as_told, ecu_read, file_read, vehicle_read}
+use Rattle.up_store.specs.Typed.{AreTypedTexts, IsTypedEcu, IsTypedImage, IsTypedKept, IsTypedVehicleRow}
 use Rattle.up_store.specs.Writes.{FitsAccepted, FitsVehicle}
+
+-- rows as they stand in the tables, made of a vehicle and its ECUs
+pub record AreMadeOf (new : VehicleRows) (vehicle : VehicleShown) (ecus : List EcuShown) : Type 0 where
+  pub vehicle_is : vehicle_read vehicle ≡ new.vehicle
+  pub ecus_are : map ecu_read ecus ≡ map as_told new.ecus
+  pub fit : FitVehicle vehicle
+  pub fit_each : All FitEcu ecus
+  pub few : length ecus < 2 ^ 63
+  pub typed : IsTypedVehicleRow new.vehicle
+  pub typed_each : AllByRecursion IsTypedEcu new.ecus
+
+-- a row as it stands in the table, made of a kept manifest
+pub record IsMadeOfKept (new : Kept) (row : KeptRow) : Type 0 where
+  pub is : IsKept row new
+  pub fit : FitKept row
+  pub typed : IsTypedKept new.vehicle new
+
+-- rows of files, made of the image repository's files
+pub record AreMadeOfTexts (new : RoleTexts) (files : List FileShown) : Type 0 where
+  pub are : map file_read files ≡ role_file_lines new
+  pub typed : AreTypedTexts new
+
+-- rows of keys and of files, made of a root version
+pub record AreMadeOfRoot (new : RootRows) (keys : List RoleKeyRow) (root_files role_files : List FileShown) : Type 0 where
+  pub keys_are : map role_key_row keys ≡ repository_lines new.founding.root Director new.founding.keys.director
+      ++ repository_lines new.founding.root Image new.founding.keys.image
+  pub fit : All FitRoleKey keys
+  pub root_files_are : map file_read root_files ≡ root_file_lines new
+  pub typed : IsUtf8 new.director × IsUtf8 new.image
+  pub role_files_are : AreMadeOfTexts new.files role_files
+
+-- a row as it stands in the table, made of an image
+pub record IsMadeOfImage (new : ImageData) (row : ImageRow) : Type 0 where
+  pub is : IsImage row new
+  pub fit : FitImage row
+  pub typed : IfSome new.sha512 (λ hash. length hash ≡ 64) → IsTypedImage new.file new
 
 -- the founding's numbers
 abbrev pub with_founding : Founding → TableRows → TableRows
 with_founding f rows = record rows { root = f.root; image_version = f.image_version; stamp = f.stamp }
 
--- behind the other keys, those of the founding's root version
+-- behind the other keys, these
+abbrev pub with_key_lines : List Row → TableRows → TableRows
+with_key_lines keys rows = record rows { role_keys = rows.role_keys ++ keys }
+
+-- those of the founding's root version
 abbrev pub with_keys : Founding → TableRows → TableRows
-with_keys f rows = record rows {
-  role_keys = rows.role_keys ++ (repository_lines f.root Director f.keys.director ++ repository_lines f.root Image f.keys.image);
-}
+with_keys f = with_key_lines (repository_lines f.root Director f.keys.director ++ repository_lines f.root Image f.keys.image)
 
 -- no file stands twice
 abbrev pub HasFilesOnce : TableRows → Type 0

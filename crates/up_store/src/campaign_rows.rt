@@ -1,14 +1,15 @@
 //! The rows of campaigns, read and made.
-ghost use Rattle.std.specs.Prelude.{◌≡◌, ◌&&◌, if◌then◌else◌, false, string_bytes, IfOk, IfErr, OnOk};
+ghost use Rattle.std.specs.Prelude.{◌≡◌, ◌&&◌, if◌then◌else◌, false, string_bytes, Ok, IfOk, IfErr, OnOk};
 ghost use Rattle.std.specs.FinMap as table;
 ghost use Rattle.up_canon.specs.Canon.{quoted as quoted_text};
 ghost use Rattle.up_canon.specs.Names.{Name, Table as Named};
-ghost use Rattle.up_columns.specs.CampaignColumns.{reach_column};
+ghost use Rattle.up_columns.specs.CampaignColumns.{reach_column, reach_in};
 ghost use Rattle.up_plan.specs.Campaigns.{CampaignData, campaign_fits};
 ghost use Rattle.up_plan.specs.Planning.{reaches as is_reached};
 ghost use Rattle.up_plan.specs.declared.campaign.Reach.{Reach as ReachData};
 ghost use Rattle.up_store.specs.ColumnRows.{IsCampaign, AreRunning};
 ghost use Rattle.up_store.specs.Found.{values_where};
+ghost use Rattle.up_store.specs.ReadAs.{InTurn, IsReadCampaign, LacksName, PutsCampaign, PutsReaching};
 ghost use Rattle.up_store.specs.Typed.{IsTypedCampaign};
 ghost use Rattle.up_tables.specs.declared.values.StoreFault.TheVariants.{Memory, Store};
 ghost use Rattle.up_store.specs.Shown.{campaign_made};
@@ -29,6 +30,7 @@ use up_tables::campaign::CampaignRow;
 pub fn read_campaign(alloc: Global, shown: &CampaignRow) -> Result<Campaign, StoreFault>
     ensures same { IfOk result (λ read. (name : Name) (campaign : CampaignData)
         → IsTypedCampaign name campaign → IsCampaign shown.now campaign → read ≡ campaign) }
+    ensures told { IfOk result (IsReadCampaign shown.now) }
     ensures fault { (name : Name) (campaign : CampaignData) → IsTypedCampaign name campaign → IsCampaign shown.now campaign
         → IfErr result (λ fault. fault ≡ Memory) }
 {
@@ -40,6 +42,7 @@ pub fn read_campaign(alloc: Global, shown: &CampaignRow) -> Result<Campaign, Sto
 fn read_reached(alloc: Global, shown: &CampaignRow, reach: Reach) -> Result<Campaign, StoreFault>
     ensures same { IfOk result (λ read. (name : Name) (campaign : CampaignData)
         → IsTypedCampaign name campaign → IsCampaign shown.now campaign → reach ≡ campaign.reach → read ≡ campaign) }
+    ensures told { reach_in (string_bytes shown.now.reach) ≡ Ok reach → IfOk result (IsReadCampaign shown.now) }
     ensures fault { (name : Name) (campaign : CampaignData) → IsTypedCampaign name campaign → IsCampaign shown.now campaign
         → reach ≡ campaign.reach → IfErr result (λ fault. fault ≡ Memory) }
 {
@@ -77,6 +80,7 @@ pub fn read_reaching(
 ) -> Result<Table<Campaign>, StoreFault>
     ensures same { IfOk result (λ read. (campaigns : Named CampaignData) → AreRunning shown.now campaigns
         → read ≡ values_where (λ c. c.running && is_reached vehicle.now c.reach) campaigns) }
+    ensures told { IfOk result (InTurn (PutsReaching vehicle.now) shown.now table.empty) }
     ensures fault { (campaigns : Named CampaignData) → AreRunning shown.now campaigns → IfErr result (λ fault. fault ≡ Memory) }
 {
     let mut reaching = Table::new(alloc);
@@ -108,6 +112,7 @@ fn add_reaching(
     requires { quoted.now ≡ quoted_text vehicle.now }
     ensures same { OnOk result ((name : Name) (campaign : CampaignData) → IsTypedCampaign name campaign → IsCampaign shown.now campaign
         → reaching.new ≡ (if is_reached vehicle.now campaign.reach then table.insert reaching.old campaign.name campaign else reaching.old)) }
+    ensures told { OnOk result (PutsReaching vehicle.now shown.now reaching.old reaching.new) }
     ensures fault { (name : Name) (campaign : CampaignData) → IsTypedCampaign name campaign → IsCampaign shown.now campaign
         → IfErr result (λ fault. fault ≡ Memory) }
 {
@@ -124,8 +129,9 @@ fn add_reaching(
 /// Whether the reach in this column may have the vehicle of this quoted name, told without reading it: in a list without escapes
 /// each name stands as it is.
 fn may_reach(column: &str, quoted: &str) -> bool
-    ensures { (vehicle : Name) (reach : ReachData) → quoted.now ≡ quoted_text vehicle → column.now ≡ reach_column reach
+    ensures others { (vehicle : Name) (reach : ReachData) → quoted.now ≡ quoted_text vehicle → column.now ≡ reach_column reach
         → result ≡ false → is_reached vehicle reach ≡ false }
+    ensures lacks { result ≡ false → LacksName quoted.now column.now }
 {
     !column.starts_with('[') || column.contains('\\') || column.contains(quoted)
 }
@@ -140,6 +146,7 @@ fn put_reached(
     ensures same { OnOk result ((name : Name) (campaign : CampaignData)
         → IsTypedCampaign name campaign → IsCampaign shown.now campaign → reach ≡ campaign.reach
         → reaching.new ≡ table.insert reaching.old campaign.name campaign) }
+    ensures told { reach_in (string_bytes shown.now.reach) ≡ Ok reach → OnOk result (PutsCampaign shown.now reaching.old reaching.new) }
     ensures fault { (name : Name) (campaign : CampaignData) → IsTypedCampaign name campaign → IsCampaign shown.now campaign
         → reach ≡ campaign.reach → IfErr result (λ fault. fault ≡ Memory) }
 {
@@ -153,6 +160,7 @@ fn put_reached(
 fn read_its_reach(alloc: Global, shown: &CampaignRow) -> Result<Reach, StoreFault>
     ensures same { IfOk result (λ read. (name : Name) (campaign : CampaignData)
         → IsTypedCampaign name campaign → IsCampaign shown.now campaign → read ≡ campaign.reach) }
+    ensures told { IfOk result (λ read. reach_in (string_bytes shown.now.reach) ≡ Ok read) }
     ensures fault { (name : Name) (campaign : CampaignData) → IsTypedCampaign name campaign → IsCampaign shown.now campaign
         → IfErr result (λ fault. fault ≡ Memory) }
 {
@@ -163,6 +171,7 @@ fn read_its_reach(alloc: Global, shown: &CampaignRow) -> Result<Reach, StoreFaul
 pub fn read_running(alloc: Global, shown: &[CampaignRow]) -> Result<Table<Campaign>, StoreFault>
     ensures same { IfOk result (λ read. (campaigns : Named CampaignData) → AreRunning shown.now campaigns
         → read ≡ values_where (λ c. c.running) campaigns) }
+    ensures told { IfOk result (InTurn PutsCampaign shown.now table.empty) }
     ensures fault { (campaigns : Named CampaignData) → AreRunning shown.now campaigns → IfErr result (λ fault. fault ≡ Memory) }
 {
     let mut running = Table::new(alloc);
@@ -180,6 +189,7 @@ fn add_running(
 ) -> Result<(), StoreFault>
     ensures same { OnOk result ((name : Name) (campaign : CampaignData) → IsTypedCampaign name campaign → IsCampaign shown.now campaign
         → running.new ≡ table.insert running.old campaign.name campaign) }
+    ensures told { OnOk result (PutsCampaign shown.now running.old running.new) }
     ensures fault { (name : Name) (campaign : CampaignData) → IsTypedCampaign name campaign → IsCampaign shown.now campaign
         → IfErr result (λ fault. fault ≡ Memory) }
 {

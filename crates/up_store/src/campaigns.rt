@@ -1,5 +1,5 @@
 //! Campaigns.
-ghost use Rattle.std.specs.Prelude.{◌≡◌, ⊤, Some, IfOk, IfErr, OnErr};
+ghost use Rattle.std.specs.Prelude.{◌≡◌, ⊤, Some, IfOk, IfErr, IsSomeAnd, OnErr};
 ghost use Rattle.sqlite.specs.Held.{state};
 ghost use Rattle.sqlite.specs.State.{HasCleanDisk, Survives};
 ghost use Rattle.std.specs.FinMap as table;
@@ -7,16 +7,18 @@ ghost use Rattle.up_canon.specs.Names.{Name};
 ghost use Rattle.up_plan.specs.Campaigns.{CampaignData};
 ghost use Rattle.up_rows.specs.Changes.{with_campaign_row};
 ghost use Rattle.up_store.specs.ColumnRows.{IsCampaign};
+ghost use Rattle.up_store.specs.ReadAs.{IsReadCampaign, ReadsCampaign, ReadsReaching, ReadsRunning};
 ghost use Rattle.up_store.specs.Typed.{IsTypedCampaign};
 ghost use Rattle.up_tables.specs.declared.values.StoreFault.TheVariants.{Memory};
 ghost use Rattle.up_store.specs.Fitting.{IsNewCampaign, IsClosing};
 ghost use Rattle.up_store.specs.Found.{campaigns_found, running_found};
 ghost use Rattle.up_tables.specs.Stands.{IfClean, IsAsCommitted, IsInside};
-ghost use Rattle.up_tables.specs.Statements.{IsStep, IsOpenStep};
-ghost use Rattle.up_tables.specs.Tried.{BlamesOne, Ran};
+ghost use Rattle.up_tables.specs.Statements.{IsStep, IsOpenStep, Finds};
+ghost use Rattle.up_tables.specs.Tables.{campaign_table};
+ghost use Rattle.up_tables.specs.Tried.{BlamesOne, Ran, Undoes};
 ghost use Rattle.up_store.specs.Writes.{campaign_writes, close_writes};
 ghost use Rattle.up_store.specs.Connections.{NeedsOpen, Answers, Blames, BlamesWithin, FindsRows, PutsRows, TakesRows, CommitsRows, SparesRows};
-ghost use Rattle.up_store.specs.Connections.{BlamesWrite, RanWrite};
+ghost use Rattle.up_store.specs.Connections.{BlamesWrite, RanWrite, UndoesOrStays};
 
 use crate::campaign_rows::{make_campaign, read_campaign, read_reaching, read_running};
 use crate::store::{Store, StoreFault, commit};
@@ -122,6 +124,7 @@ fn put_closed<D: Alter>(tx: &mut Transaction<'_, D>, closed: &Campaign) -> Resul
         (state D.Store tx.old.conn.now) (state D.Store tx.new.conn.now) result }
     ensures ran { Ran (close_writes closed.now) (state D.Store tx.old.conn.now) (state D.Store tx.new.conn.now) result }
     ensures blame { BlamesOne (close_writes closed.now) (λ _. ⊤) (state D.Store tx.old.conn.now) (state D.Store tx.new.conn.now) result }
+    ensures memory { Undoes (state D.Store tx.new.conn.now) result }
     ensures step { IsOpenStep D.Store tx.old.conn tx.new.conn result }
 {
     close_campaign(tx, closed.name.text())
@@ -135,6 +138,7 @@ fn find_campaign<D: Alter>(
 ) -> Result<Option<Campaign>, StoreFault>
     requires mode { IfClean IsInside (state D.Store tx.old.conn.now) }
     ensures found { FindsRows (λ rows. table.get rows.campaigns name.now) (state D.Store tx.old.conn.now) (state D.Store tx.new.conn.now) result }
+    ensures shown { Finds campaign_table 1 (ReadsCampaign name.now) (state D.Store tx.old.conn.now) (state D.Store tx.new.conn.now) result }
     ensures open { NeedsOpen (state D.Store tx.old.conn.now) (state D.Store tx.new.conn.now) result }
     ensures blame { BlamesWithin (λ _. ⊤) (state D.Store tx.old.conn.now) (state D.Store tx.new.conn.now) result }
     ensures step { IsStep D.Store tx.old.conn tx.new.conn }
@@ -150,6 +154,7 @@ fn find_campaign<D: Alter>(
 fn some_campaign(alloc: Global, shown: &CampaignRow) -> Result<Option<Campaign>, StoreFault>
     ensures same { IfOk result (λ read. (name : Name) (campaign : CampaignData)
         → IsTypedCampaign name campaign → IsCampaign shown.now campaign → read ≡ Some campaign) }
+    ensures told { IfOk result (λ read. IsSomeAnd read (IsReadCampaign shown.now)) }
     ensures fault { (name : Name) (campaign : CampaignData) → IsTypedCampaign name campaign → IsCampaign shown.now campaign
         → IfErr result (λ fault. fault ≡ Memory) }
 {
@@ -167,6 +172,7 @@ fn find_campaigns<D: Alter>(
 ) -> Result<Table<Campaign>, StoreFault>
     requires mode { IfClean IsInside (state D.Store tx.old.conn.now) }
     ensures found { FindsRows (campaigns_found vehicle.now) (state D.Store tx.old.conn.now) (state D.Store tx.new.conn.now) result }
+    ensures shown { Finds campaign_table 1 (ReadsReaching vehicle.now) (state D.Store tx.old.conn.now) (state D.Store tx.new.conn.now) result }
     ensures open { NeedsOpen (state D.Store tx.old.conn.now) (state D.Store tx.new.conn.now) result }
     ensures blame { BlamesWithin (λ _. ⊤) (state D.Store tx.old.conn.now) (state D.Store tx.new.conn.now) result }
     ensures step { IsStep D.Store tx.old.conn tx.new.conn }
@@ -184,6 +190,7 @@ fn find_running<D: Alter>(
 ) -> Result<Table<Campaign>, StoreFault>
     requires mode { IfClean IsInside (state D.Store tx.old.conn.now) }
     ensures found { FindsRows running_found (state D.Store tx.old.conn.now) (state D.Store tx.new.conn.now) result }
+    ensures shown { Finds campaign_table 1 ReadsRunning (state D.Store tx.old.conn.now) (state D.Store tx.new.conn.now) result }
     ensures open { NeedsOpen (state D.Store tx.old.conn.now) (state D.Store tx.new.conn.now) result }
     ensures blame { BlamesWithin (λ _. ⊤) (state D.Store tx.old.conn.now) (state D.Store tx.new.conn.now) result }
     ensures step { IsStep D.Store tx.old.conn tx.new.conn }
@@ -205,6 +212,7 @@ fn put_campaign<D: Alter>(
         (state D.Store tx.old.conn.now) (state D.Store tx.new.conn.now) result }
     ensures ran { Ran (campaign_writes new.now) (state D.Store tx.old.conn.now) (state D.Store tx.new.conn.now) result }
     ensures blame { BlamesOne (campaign_writes new.now) (λ _. ⊤) (state D.Store tx.old.conn.now) (state D.Store tx.new.conn.now) result }
+    ensures memory { UndoesOrStays D.Store tx.old.conn tx.new.conn result }
     ensures step { IsOpenStep D.Store tx.old.conn tx.new.conn result }
 {
     let row = make_campaign(alloc, new)?;

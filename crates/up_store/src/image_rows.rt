@@ -1,12 +1,14 @@
 //! The rows of images, read and made.
-ghost use Rattle.std.specs.Prelude.{◌≡◌, false, length, IfOk, IfErr, IfSome, OnOk};
+ghost use Rattle.std.specs.Prelude.{◌≡◌, false, length, string_bytes, Ok, IfOk, IfErr, IfSome, OnOk};
 ghost use Rattle.up_canon.specs.Names.{Name, Table as Named};
+ghost use Rattle.up_columns.specs.Columns.{names_in, needs_in, file_names_in};
 ghost use Rattle.up_plan.specs.Images.{ImageData, image_fits};
 ghost use Rattle.up_tables.specs.Forms.{FitImage};
 ghost use Rattle.up_store.specs.ColumnRows.{IsImage, AreImages, AreHashesOf};
 ghost use Rattle.up_store.specs.Typed.{IsTypedImage};
 ghost use Rattle.up_tables.specs.declared.values.StoreFault.TheVariants.{Memory, Store};
 ghost use Rattle.up_store.specs.Shown.{image_made};
+ghost use Rattle.up_store.specs.ReadAs.{InTurn, IsReadImage, PutsImage};
 ghost use Rattle.std.specs.FinMap as table;
 
 use crate::column_values::{count_in, file_name_in, read_column, sha256_in};
@@ -32,10 +34,12 @@ struct ImageLists {
     conflicts: Listed<FileName>,
 }
 
-/// The lists of a row as it stands in the table, read; of a row that stands for an image, `Memory` is the one fault.
+/// The lists of a row as it stands in the table, read as its columns say; of a row that stands for an image, `Memory` is the one fault.
 fn read_lists(alloc: Global, shown: &ImageRow) -> Result<ImageLists, StoreFault>
     ensures same { IfOk result (λ lists. (file : Name) (image : ImageData) → IsTypedImage file image → IsImage shown.now image
         → (lists.hardware ≡ image.hardware) × (lists.needs ≡ image.needs) × (lists.conflicts ≡ image.conflicts)) }
+    ensures told { IfOk result (λ lists. (names_in (string_bytes shown.now.hardware) ≡ Ok lists.hardware)
+        × (needs_in (string_bytes shown.now.needs) ≡ Ok lists.needs) × (file_names_in (string_bytes shown.now.conflicts) ≡ Ok lists.conflicts)) }
     ensures fault { (file : Name) (image : ImageData) → IsTypedImage file image → IsImage shown.now image → IfErr result (λ fault. fault ≡ Memory) }
 {
     let hardware = read_column(read_names(alloc, shown.hardware.as_str()))?;
@@ -56,6 +60,7 @@ pub fn read_image(
 ) -> Result<Image, StoreFault>
     ensures same { IfOk result (λ read. (file : Name) (image : ImageData)
         → IsTypedImage file image → IsImage shown image → sha512 ≡ image.sha512 → read ≡ image) }
+    ensures told { IfOk result (IsReadImage shown sha512) }
     ensures fault { (file : Name) (image : ImageData) → IsTypedImage file image → IsImage shown image → IfErr result (λ fault. fault ≡ Memory) }
 {
     let sha256 = sha256_in(shown.sha256.as_slice())?;
@@ -98,6 +103,7 @@ pub fn read_images(
     hashes: &Table<[u8; 64]>,
 ) -> Result<Table<Image>, StoreFault>
     ensures same { IfOk result (λ read. (images : Named ImageData) → AreImages shown.items images → AreHashesOf hashes.now images → read ≡ images) }
+    ensures told { IfOk result (InTurn (PutsImage hashes.now) shown.items table.empty) }
     ensures fault { (images : Named ImageData) → AreImages shown.items images → IfErr result (λ fault. fault ≡ Memory) }
 {
     let mut images = Table::new(alloc);
@@ -116,6 +122,7 @@ fn add_image(
 ) -> Result<(), StoreFault>
     ensures same { OnOk result ((file : Name) (image : ImageData) → IsTypedImage file image → IsImage shown image
         → table.get hashes.now image.file ≡ image.sha512 → images.new ≡ table.insert images.old image.file image) }
+    ensures told { OnOk result (PutsImage hashes.now shown images.old images.new) }
     ensures fault { (file : Name) (image : ImageData) → IsTypedImage file image → IsImage shown image → IfErr result (λ fault. fault ≡ Memory) }
 {
     let sha512 = hash_named(hashes, shown.file.as_str());

@@ -1,5 +1,5 @@
 //! Registered images.
-ghost use Rattle.std.specs.Prelude.{◌≡◌, None, Some, ⊤, length, IfOk, IfErr, IfSome, OnErr, OnOk};
+ghost use Rattle.std.specs.Prelude.{◌≡◌, None, Some, ⊤, IfOk, IfErr, IsSomeAnd, OnErr};
 ghost use Rattle.sqlite.specs.Held.{state};
 ghost use Rattle.sqlite.specs.State.{HasCleanDisk, Survives};
 ghost use Rattle.std.specs.FinMap as table;
@@ -9,19 +9,19 @@ ghost use Rattle.up_rows.specs.Changes.{with_image_rows};
 ghost use Rattle.up_store.specs.Fitting.{IsNewImage};
 ghost use Rattle.up_tables.specs.Stands.{IfClean, IsAsCommitted, IsInside};
 ghost use Rattle.up_tables.specs.Statements.{IsStep, IsOpenStep};
-ghost use Rattle.up_tables.specs.Texts.{insert_image_text};
-ghost use Rattle.up_tables.specs.Tried.{BlamesOne, Ran};
+ghost use Rattle.up_tables.specs.Tried.{BlamesOne, Ran, Undoes};
 ghost use Rattle.up_store.specs.ColumnRows.{IsImage, AreImages, with_image};
-ghost use Rattle.up_store.specs.Lines.{image_lines};
-ghost use Rattle.up_store.specs.Puts.{with_image_line};
-ghost use Rattle.up_store.specs.Writes.{FitsFounding, each_with, image_row_writes, image_writes};
+ghost use Rattle.up_store.specs.Puts.{AreMadeOfTexts, IsMadeOfImage};
+ghost use Rattle.up_store.specs.ReadAs.{IsReadImage};
+ghost use Rattle.up_store.specs.Writes.{FitsFounding, image_row_writes, image_writes};
 ghost use Rattle.up_store.specs.Typed.{IsTypedImage};
 ghost use Rattle.up_tables.specs.declared.values.StoreFault.TheVariants.{Memory};
-ghost use Rattle.up_store.specs.Connections.{NeedsOpen, Answers, Blames, BlamesWithin, FindsRows, FindsSuch, PutsRows, PutsTables, TakesRows};
-ghost use Rattle.up_store.specs.Connections.{BlamesWrite, CommitsRows, RanWrite, SparesRows};
+ghost use Rattle.up_store.specs.Connections.{NeedsOpen, Answers, Blames, BlamesWithin, FindsRows, FindsSuch, PutsRows, TakesRows};
+ghost use Rattle.up_store.specs.Connections.{BlamesWrite, CommitsRows, RanWrite, SparesRows, UndoesOrStays};
 
+use crate::files::make_role_files;
 use crate::image_rows::{make_image, read_image, read_images};
-use crate::roots::put_register;
+use crate::roots::put_register_made;
 use crate::second_hashes::{find_sha512, find_sha512s, put_sha512};
 use crate::store::{Store, StoreFault, commit};
 use sqlite::{Alter, Transaction};
@@ -31,6 +31,7 @@ use up_canon::table::Table;
 use up_machine::decision::RegisterRows;
 use up_plan::image::Image;
 use up_tables::image::{ImageRow, image as image_shown, images as images_shown, insert_image};
+use up_tables::repo_file::FileRow;
 
 impl<D: Alter> Store<D> {
     /// The image of this filename, none where there is none.
@@ -134,6 +135,7 @@ fn some_image(
 ) -> Result<Option<Image>, StoreFault>
     ensures same { IfOk result (λ read. (file : Name) (image : ImageData)
         → IsTypedImage file image → IsImage shown image → sha512 ≡ image.sha512 → read ≡ Some image) }
+    ensures told { IfOk result (λ read. IsSomeAnd read (IsReadImage shown sha512)) }
     ensures fault { (file : Name) (image : ImageData) → IsTypedImage file image → IsImage shown image → IfErr result (λ fault. fault ≡ Memory) }
 {
     match read_image(alloc, shown, sha512) {
@@ -178,7 +180,7 @@ fn find_with_sha512s<D: Alter>(
     }
 }
 
-/// Puts in an image, and sets the files of the image repository.
+/// Puts in an image, and sets the files of the image repository. All rows are made before the first is written.
 fn put_image<D: Alter>(
     tx: &mut Transaction<'_, D>,
     alloc: Global,
@@ -191,48 +193,56 @@ fn put_image<D: Alter>(
     ensures ran { Ran (image_writes image.now new.now) (state D.Store tx.old.conn.now) (state D.Store tx.new.conn.now) result }
     ensures blame { BlamesOne (image_writes image.now new.now) (λ _. FitsFounding new.now.founding)
         (state D.Store tx.old.conn.now) (state D.Store tx.new.conn.now) result }
+    ensures memory { UndoesOrStays D.Store tx.old.conn tx.new.conn result }
     ensures step { IsOpenStep D.Store tx.old.conn tx.new.conn result }
 {
-    if let Err(fault) = put_image_rows(tx, alloc, image) {
-        return Err(fault);
-    }
-    put_register(tx, alloc, new)
+    let row = make_image(alloc, image)?;
+    let files = make_role_files(alloc, &new.files)?;
+    put_image_made(tx, image, new, &row, files.as_slice())
 }
 
-/// Puts in the row of an image, and that of its second hash where it has one.
+/// Puts in the rows that were made of an image and of the image repository's files, which takes no memory but the database's own.
+fn put_image_made<D: Alter>(
+    tx: &mut Transaction<'_, D>,
+    image: &Image,
+    new: &RegisterRows,
+    row: &ImageRow,
+    files: &[FileRow],
+) -> Result<(), StoreFault>
+    requires made { IsMadeOfImage image.now row.now }
+    requires files { AreMadeOfTexts new.now.files files.now }
+    requires mode { IfClean IsInside (state D.Store tx.old.conn.now) }
+    ensures put { PutsRows (IsNewImage image.now new.now) (λ rows. with_image_rows rows image.now new.now)
+        (state D.Store tx.old.conn.now) (state D.Store tx.new.conn.now) result }
+    ensures ran { Ran (image_writes image.now new.now) (state D.Store tx.old.conn.now) (state D.Store tx.new.conn.now) result }
+    ensures blame { BlamesOne (image_writes image.now new.now) (λ _. FitsFounding new.now.founding)
+        (state D.Store tx.old.conn.now) (state D.Store tx.new.conn.now) result }
+    ensures memory { Undoes (state D.Store tx.new.conn.now) result }
+    ensures step { IsOpenStep D.Store tx.old.conn tx.new.conn result }
+{
+    if let Err(fault) = put_image_rows(tx, image, row) {
+        return Err(fault);
+    }
+    put_register_made(tx, new, files)
+}
+
+/// Puts in the row that was made of an image, and that of its second hash where it has one.
 fn put_image_rows<D: Alter>(
     tx: &mut Transaction<'_, D>,
-    alloc: Global,
     image: &Image,
+    row: &ImageRow,
 ) -> Result<(), StoreFault>
+    requires made { IsMadeOfImage image.now row.now }
     requires mode { IfClean IsInside (state D.Store tx.old.conn.now) }
     ensures put { PutsRows (λ rows. table.get rows.images image.now.file ≡ None) (λ rows. with_image rows image.now)
         (state D.Store tx.old.conn.now) (state D.Store tx.new.conn.now) result }
     ensures ran { Ran (image_row_writes image.now) (state D.Store tx.old.conn.now) (state D.Store tx.new.conn.now) result }
     ensures blame { BlamesOne (image_row_writes image.now) (λ _. ⊤) (state D.Store tx.old.conn.now) (state D.Store tx.new.conn.now) result }
+    ensures memory { Undoes (state D.Store tx.new.conn.now) result }
     ensures step { IsOpenStep D.Store tx.old.conn tx.new.conn result }
 {
-    if let Err(fault) = put_image_row(tx, alloc, image) {
+    if let Err(fault) = insert_image(tx, row) {
         return Err(fault);
     }
     put_sha512(tx, image)
-}
-
-/// Puts in the row of an image.
-fn put_image_row<D: Alter>(
-    tx: &mut Transaction<'_, D>,
-    alloc: Global,
-    image: &Image,
-) -> Result<(), StoreFault>
-    requires mode { IfClean IsInside (state D.Store tx.old.conn.now) }
-    ensures put { PutsTables (λ _. ⊤) (with_image_line image.now) (state D.Store tx.old.conn.now) (state D.Store tx.new.conn.now) result }
-    ensures typed { OnOk result (IfSome image.now.sha512 (λ hash. length hash ≡ 64) → IsTypedImage image.now.file image.now) }
-    ensures ran { Ran (each_with insert_image_text (image_lines (Some image.now)))
-        (state D.Store tx.old.conn.now) (state D.Store tx.new.conn.now) result }
-    ensures blame { BlamesOne (each_with insert_image_text (image_lines (Some image.now))) (λ _. ⊤)
-        (state D.Store tx.old.conn.now) (state D.Store tx.new.conn.now) result }
-    ensures step { IsOpenStep D.Store tx.old.conn tx.new.conn result }
-{
-    let row = make_image(alloc, image)?;
-    insert_image(tx, &row)
 }

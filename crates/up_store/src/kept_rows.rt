@@ -5,6 +5,7 @@ ghost use Rattle.up_machine.specs.declared.rows.Kept.{Kept as KeptData};
 ghost use Rattle.up_tables.specs.Forms.{FitKept};
 ghost use Rattle.up_tables.specs.declared.values.StoreFault.TheVariants.{Memory, Store};
 ghost use Rattle.up_store.specs.ColumnRows.{IsKept};
+ghost use Rattle.up_store.specs.ReadAs.{IsReadKept};
 ghost use Rattle.up_store.specs.Typed.{IsTypedKept};
 
 use crate::column_values::{count_in, ident_in, moment_in, read_column};
@@ -18,6 +19,7 @@ use up_tables::kept::KeptRow;
 /// A row as it stands in the table, read; of a row that stands for a kept manifest, `Memory` is the one fault.
 pub fn read_kept(alloc: Global, shown: KeptRow) -> Result<Kept, StoreFault>
     ensures same { IfOk result (λ read. (vehicle : Name) (row : KeptData) → IsTypedKept vehicle row → IsKept shown row → read ≡ row) }
+    ensures told { IfOk result (IsReadKept shown) }
     ensures fault { (vehicle : Name) (row : KeptData) → IsTypedKept vehicle row → IsKept shown row
         → IfErr result (λ fault. fault ≡ Memory) }
 {

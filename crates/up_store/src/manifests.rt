@@ -1,5 +1,5 @@
 //! Accepted manifests.
-ghost use Rattle.std.specs.Prelude.{◌≡◌, ⊤, Some, IfOk, OnErr, OnOk};
+ghost use Rattle.std.specs.Prelude.{◌≡◌, ⊤, Some, IfOk, IsSomeAnd, OnErr, OnOk};
 ghost use Rattle.sqlite.specs.Held.{state};
 ghost use Rattle.sqlite.specs.State.{HasCleanDisk, Survives};
 ghost use Rattle.std.specs.Prelude.{◌<◌, ◌^◌, ◌∷◌, [], IfErr};
@@ -12,17 +12,19 @@ ghost use Rattle.up_rows.specs.Lookups.{kept_with, latest_kept};
 ghost use Rattle.up_rows.specs.SecondHashes.{TellsItsHash};
 ghost use Rattle.up_tables.specs.declared.values.StoreFault.TheVariants as StoreFault;
 ghost use Rattle.up_store.specs.ColumnRows.{IsKept, last_found, with_kept};
+ghost use Rattle.up_store.specs.ReadAs.{IsReadKept, ReadsKept};
 ghost use Rattle.up_store.specs.Typed.{IsTypedKept, IsTypedVehicle};
 ghost use Rattle.up_store.specs.Fitting.{IsRecorded};
-ghost use Rattle.up_store.specs.Puts.{IsReported, MayAccept, MayReport, with_reported};
+ghost use Rattle.up_store.specs.Puts.{AreMadeOf, IsMadeOfKept, IsReported, MayAccept, MayReport, with_reported};
 ghost use Rattle.up_tables.specs.Stands.{IfClean, IsAsCommitted, IsInside};
-ghost use Rattle.up_tables.specs.Statements.{IsStep, IsOpenStep, OnlyReads};
+ghost use Rattle.up_tables.specs.Statements.{IsStep, IsOpenStep, Finds, OnlyReads};
+ghost use Rattle.up_tables.specs.Tables.{kept_table};
 ghost use Rattle.up_tables.specs.Texts.{insert_kept_text};
-ghost use Rattle.up_tables.specs.Tried.{BlamesOne, Ran};
+ghost use Rattle.up_tables.specs.Tried.{BlamesOne, Ran, Undoes};
 ghost use Rattle.up_store.specs.Lines.{kept_line};
 ghost use Rattle.up_store.specs.Writes.{FitsAccepted, accept_writes, each_with, reported_writes};
 ghost use Rattle.up_store.specs.Connections.{NeedsOpen, Answers, FindsRows, Blames, BlamesWithin, PutsRows, PutsTables, TakesRows};
-ghost use Rattle.up_store.specs.Connections.{BlamesWrite, CommitsRows, RanWrite, SparesRows};
+ghost use Rattle.up_store.specs.Connections.{BlamesWrite, CommitsRows, RanWrite, SparesRows, UndoesOrStays};
 
 use crate::column_values::{check_places, count_in};
 use crate::ecus::make_ecus;
@@ -35,9 +37,9 @@ use up_canon::count::Count;
 use up_canon::ident::Ident;
 use up_machine::decision::AcceptedRows;
 use up_machine::rows::{Kept, VehicleRows};
-use up_tables::ecu::upsert_ecus;
+use up_tables::ecu::{EcuRow as EcuShown, upsert_ecus};
 use up_tables::kept::{KeptRow, insert_kept, kept as kept_shown};
-use up_tables::vehicle::{upsert_vehicle, vehicle as vehicle_shown};
+use up_tables::vehicle::{VehicleRow as VehicleShown, upsert_vehicle, vehicle as vehicle_shown};
 
 impl<D: Alter> Store<D> {
     /// The vehicle's row with this counter, none where there is none.
@@ -91,7 +93,7 @@ impl<D: Alter> Store<D> {
     }
 }
 
-/// Sets the rows of a vehicle, and keeps a manifest.
+/// Sets the rows of a vehicle, and keeps a manifest. All rows are made before the first is written.
 fn put_accepted<D: Alter>(
     tx: &mut Transaction<'_, D>,
     alloc: Global,
@@ -102,48 +104,56 @@ fn put_accepted<D: Alter>(
         (state D.Store tx.old.conn.now) (state D.Store tx.new.conn.now) result }
     ensures ran { Ran (accept_writes new.now) (state D.Store tx.old.conn.now) (state D.Store tx.new.conn.now) result }
     ensures blame { BlamesOne (accept_writes new.now) (MayAccept new.now) (state D.Store tx.old.conn.now) (state D.Store tx.new.conn.now) result }
+    ensures memory { UndoesOrStays D.Store tx.old.conn tx.new.conn result }
     ensures step { IsOpenStep D.Store tx.old.conn tx.new.conn result }
 {
-    put_reported(tx, alloc, &new.vehicle)?;
-    insert_kept_row(tx, alloc, &new.kept)
+    let vehicle = make_vehicle(alloc, &new.vehicle.vehicle)?;
+    let ecus = make_ecus(alloc, new.vehicle.ecus.as_slice())?;
+    check_places(ecus.len())?;
+    let kept = make_kept(alloc, &new.kept)?;
+    put_made(tx, new, &vehicle, ecus.as_slice(), &kept)
+}
+
+/// Sets and puts in the rows that were made of an accepted manifest, which takes no memory but the database's own.
+fn put_made<D: Alter>(
+    tx: &mut Transaction<'_, D>,
+    new: &AcceptedRows,
+    vehicle: &VehicleShown,
+    ecus: &[EcuShown],
+    kept: &KeptRow,
+) -> Result<(), StoreFault>
+    requires made { AreMadeOf new.now.vehicle vehicle.now ecus.now }
+    requires kept { IsMadeOfKept new.now.kept kept.now }
+    requires mode { IfClean IsInside (state D.Store tx.old.conn.now) }
+    ensures put { PutsRows (IsRecorded new.now) (λ rows. with_accepted_rows rows new.now)
+        (state D.Store tx.old.conn.now) (state D.Store tx.new.conn.now) result }
+    ensures ran { Ran (accept_writes new.now) (state D.Store tx.old.conn.now) (state D.Store tx.new.conn.now) result }
+    ensures blame { BlamesOne (accept_writes new.now) (MayAccept new.now) (state D.Store tx.old.conn.now) (state D.Store tx.new.conn.now) result }
+    ensures memory { Undoes (state D.Store tx.new.conn.now) result }
+    ensures step { IsOpenStep D.Store tx.old.conn tx.new.conn result }
+{
+    put_reported(tx, &new.vehicle, vehicle, ecus)?;
+    insert_kept(tx, kept)
 }
 
 /// Sets the row of a vehicle that is there, and what its ECUs reported.
 fn put_reported<D: Alter>(
     tx: &mut Transaction<'_, D>,
-    alloc: Global,
     new: &VehicleRows,
+    vehicle: &VehicleShown,
+    ecus: &[EcuShown],
 ) -> Result<(), StoreFault>
+    requires made { AreMadeOf new.now vehicle.now ecus.now }
     requires mode { IfClean IsInside (state D.Store tx.old.conn.now) }
     ensures put { PutsTables (IsReported new.now) (with_reported new.now) (state D.Store tx.old.conn.now) (state D.Store tx.new.conn.now) result }
     ensures typed { OnOk result (AllByRecursion TellsItsHash new.now.ecus → IsTypedVehicle new.now.vehicle.vehicle new.now) }
     ensures ran { Ran (reported_writes new.now) (state D.Store tx.old.conn.now) (state D.Store tx.new.conn.now) result }
     ensures blame { BlamesOne (reported_writes new.now) (MayReport new.now) (state D.Store tx.old.conn.now) (state D.Store tx.new.conn.now) result }
+    ensures memory { Undoes (state D.Store tx.new.conn.now) result }
     ensures step { IsOpenStep D.Store tx.old.conn tx.new.conn result }
 {
-    let vehicle = make_vehicle(alloc, &new.vehicle)?;
-    let ecus = make_ecus(alloc, new.ecus.as_slice())?;
-    check_places(ecus.len())?;
-    upsert_vehicle(tx, &vehicle)?;
-    upsert_ecus(tx, new.vehicle.vehicle.text(), ecus.as_slice())
-}
-
-/// Puts in the row that is kept for a manifest.
-fn insert_kept_row<D: Alter>(
-    tx: &mut Transaction<'_, D>,
-    alloc: Global,
-    kept: &Kept,
-) -> Result<(), StoreFault>
-    requires mode { IfClean IsInside (state D.Store tx.old.conn.now) }
-    ensures put { PutsTables (λ _. ⊤) (with_kept kept.now) (state D.Store tx.old.conn.now) (state D.Store tx.new.conn.now) result }
-    ensures typed { OnOk result (IsTypedKept kept.now.vehicle kept.now) }
-    ensures ran { Ran (each_with insert_kept_text (kept_line kept.now ∷ [])) (state D.Store tx.old.conn.now) (state D.Store tx.new.conn.now) result }
-    ensures blame { BlamesOne (each_with insert_kept_text (kept_line kept.now ∷ [])) (λ _. (kept.now.version < 2 ^ 63) × (kept.now.root < 2 ^ 63))
-        (state D.Store tx.old.conn.now) (state D.Store tx.new.conn.now) result }
-    ensures step { IsOpenStep D.Store tx.old.conn tx.new.conn result }
-{
-    let row = make_kept(alloc, kept)?;
-    insert_kept(tx, &row)
+    upsert_vehicle(tx, vehicle)?;
+    upsert_ecus(tx, new.vehicle.vehicle.text(), ecus)
 }
 
 /// The vehicle's row with this counter.
@@ -155,6 +165,7 @@ fn find_kept<D: Alter>(
 ) -> Result<Option<Kept>, StoreFault>
     requires mode { IfClean IsInside (state D.Store tx.old.conn.now) }
     ensures found { FindsRows (kept_with vehicle.now counter) (state D.Store tx.old.conn.now) (state D.Store tx.new.conn.now) result }
+    ensures shown { Finds kept_table 1 (ReadsKept vehicle.now counter) (state D.Store tx.old.conn.now) (state D.Store tx.new.conn.now) result }
     ensures blame { BlamesWithin (λ _. ⊤) (state D.Store tx.old.conn.now) (state D.Store tx.new.conn.now) result }
     ensures open { NeedsOpen (state D.Store tx.old.conn.now) (state D.Store tx.new.conn.now) result }
     ensures step { IsStep D.Store tx.old.conn tx.new.conn }
@@ -169,6 +180,7 @@ fn find_kept<D: Alter>(
 /// A row as it stands in the table, read; of a row that stands for a kept manifest, `Memory` is the one fault.
 fn some_kept(alloc: Global, shown: KeptRow) -> Result<Option<Kept>, StoreFault>
     ensures same { IfOk result (λ read. (vehicle : Name) (row : KeptData) → IsTypedKept vehicle row → IsKept shown row → read ≡ Some row) }
+    ensures told { IfOk result (λ read. IsSomeAnd read (IsReadKept shown)) }
     ensures fault { (vehicle : Name) (row : KeptData) → IsTypedKept vehicle row → IsKept shown row
         → IfErr result (λ fault. fault ≡ StoreFault.Memory) }
 {

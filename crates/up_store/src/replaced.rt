@@ -6,7 +6,7 @@ ghost use Rattle.up_rows.specs.Changes.{with_replaced_rows};
 ghost use Rattle.up_store.specs.Fitting.{IsReplacement};
 ghost use Rattle.up_tables.specs.Stands.{IfClean, IsAsCommitted, IsInside};
 ghost use Rattle.up_tables.specs.Statements.{IsOpenStep};
-ghost use Rattle.up_tables.specs.Tried.{BlamesOne, Ran};
+ghost use Rattle.up_tables.specs.Tried.{BlamesOne, Ran, Undoes};
 ghost use Rattle.up_store.specs.Writes.{replace_writes};
 ghost use Rattle.up_store.specs.Connections.{NeedsOpen, BlamesWrite, PutsRows, RanWrite, TakesRows, CommitsRows, SparesRows};
 
@@ -48,6 +48,7 @@ fn put_replaced<D: Alter>(tx: &mut Transaction<'_, D>, new: &Replacement) -> Res
         (state D.Store tx.old.conn.now) (state D.Store tx.new.conn.now) result }
     ensures ran { Ran (replace_writes new.now) (state D.Store tx.old.conn.now) (state D.Store tx.new.conn.now) result }
     ensures blame { BlamesOne (replace_writes new.now) (λ _. ⊤) (state D.Store tx.old.conn.now) (state D.Store tx.new.conn.now) result }
+    ensures memory { Undoes (state D.Store tx.new.conn.now) result }
     ensures step { IsOpenStep D.Store tx.old.conn tx.new.conn result }
 {
     replace_ecu(

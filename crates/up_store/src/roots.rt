@@ -1,5 +1,5 @@
 //! Root versions and the files that are served.
-ghost use Rattle.std.specs.Prelude.{◌≡◌, ◌↔◌, ◌⊎◌, ◌≤◌, ◌^◌, ⊤, Option, Some, None, Ok, Err, OnErr, OnOk, IfOk, IfErr, IsUtf8, is_some};
+ghost use Rattle.std.specs.Prelude.{◌≡◌, ◌↔◌, ◌⊎◌, ◌≤◌, ◌^◌, ⊤, All, Option, Some, None, Ok, Err, OnErr, OnOk, IfOk, IfErr, is_some, map, MatchOption};
 ghost use Rattle.sqlite.specs.Held.{state};
 ghost use Rattle.sqlite.specs.State.{HasCleanDisk, Survives};
 ghost use Rattle.up_rows.specs.Changes.{with_root_rows, with_register_rows};
@@ -8,19 +8,19 @@ ghost use Rattle.up_rows.specs.StateRows.{StateRows};
 ghost use Rattle.up_tables.specs.Tables.{up_schema};
 ghost use Rattle.up_store.specs.Listing.{ListsRows};
 ghost use Rattle.up_machine.specs.declared.rows.Founding.{Founding as FoundingData};
-ghost use Rattle.up_tables.specs.Forms.{FitMeta};
+ghost use Rattle.up_tables.specs.Forms.{FitMeta, FitRoleKey, role_key_row};
+ghost use Rattle.up_tables.specs.Texts.{insert_role_key_text};
 ghost use Rattle.up_tables.specs.declared.values.StoreFault.TheVariants as StoreFault;
-ghost use Rattle.up_store.specs.Shown.{meta_told, IsFoundingOf};
-ghost use Rattle.up_store.specs.Typed.{IsTypedFounding, AreTypedTexts};
-ghost use Rattle.up_store.specs.Lines.{root_file_lines, role_file_lines};
-ghost use Rattle.up_store.specs.Puts.{HasFilesOnce, with_founding, with_keys, with_files};
+ghost use Rattle.up_store.specs.Shown.{file_read, meta_told, IsFoundingOf};
+ghost use Rattle.up_store.specs.Typed.{IsTypedFounding};
+ghost use Rattle.up_store.specs.Puts.{AreMadeOfRoot, AreMadeOfTexts, HasFilesOnce, with_founding, with_key_lines, with_files};
 ghost use Rattle.up_store.specs.Fitting.{IsNextRoot, IsSameRoot};
 ghost use Rattle.up_tables.specs.Stands.{IfClean, IsAsCommitted, IsInside, IsOpen, IsWithin};
 ghost use Rattle.up_tables.specs.Statements.{IsStep, IsOpenStep};
-ghost use Rattle.up_tables.specs.Tried.{BlamesOne, Ran};
-ghost use Rattle.up_store.specs.Writes.{FitsFounding, founding_writes, key_writes, file_writes, register_writes, root_writes};
+ghost use Rattle.up_tables.specs.Tried.{BlamesOne, Ran, Undoes};
+ghost use Rattle.up_store.specs.Writes.{FitsFounding, each_with, founding_writes, file_writes, register_writes, root_writes};
 ghost use Rattle.up_store.specs.Connections.{NeedsOpen, Answers, FindsRows, Blames, BlamesWithin, PutsRows, PutsTables, TakesRows};
-ghost use Rattle.up_store.specs.Connections.{BlamesWrite, CommitsRows, RanWrite, SparesRows};
+ghost use Rattle.up_store.specs.Connections.{BlamesWrite, CommitsRows, RanWrite, SparesRows, UndoesOrStays};
 
 use crate::column_values::{check_version, moment_in};
 use crate::files::{make_role_files, make_root_files};
@@ -32,10 +32,9 @@ use up_canon::file_name::FileName;
 use up_canon::text::Text;
 use up_machine::decision::{RegisterRows, RootRows};
 use up_machine::rows::Founding;
-use up_metadata::role_files::RoleTexts;
 use up_roles::repository::Repository;
 use up_tables::meta::{MetaRow, meta, update_meta};
-use up_tables::repo_file::{file as file_shown, upsert_files};
+use up_tables::repo_file::{FileRow, file as file_shown, upsert_files};
 use up_tables::role_key::{RoleKeyRow, insert_role_keys, role_keys_of};
 
 impl<D: Alter> Store<D> {
@@ -211,6 +210,7 @@ fn find_founded<D: Alter>(
     requires open { IfClean IsOpen (state D.Store tx.old.conn.now) }
     ensures found { HasCleanDisk (state D.Store tx.new.conn.now) → IfOk result (λ found. (rows : StateRows)
         → IsWithin up_schema (ListsRows rows) (state D.Store tx.old.conn.now) → row ≡ meta_told rows.founding → found ≡ rows.founding) }
+    ensures told { IfOk result (λ read. MatchOption read (row.root ≡ 0) (λ founding. meta_told (Some founding) ≡ row)) }
     ensures blame { BlamesWithin (λ rows. row ≡ meta_told rows.founding) (state D.Store tx.old.conn.now) (state D.Store tx.new.conn.now) result }
     ensures step { IsStep D.Store tx.old.conn tx.new.conn }
 {
@@ -261,7 +261,7 @@ fn find_file<D: Alter>(
     }
 }
 
-/// Puts in a root version: the founding, its keys, and all files.
+/// Puts in a root version: the founding, its keys, and all files. All rows are made before the first is written.
 fn put_root<D: Alter>(
     tx: &mut Transaction<'_, D>,
     alloc: Global,
@@ -273,17 +273,49 @@ fn put_root<D: Alter>(
     ensures ran { Ran (root_writes new.now) (state D.Store tx.old.conn.now) (state D.Store tx.new.conn.now) result }
     ensures blame { BlamesOne (root_writes new.now) (λ _. FitsFounding new.now.founding)
         (state D.Store tx.old.conn.now) (state D.Store tx.new.conn.now) result }
+    ensures memory { UndoesOrStays D.Store tx.old.conn tx.new.conn result }
     ensures step { IsOpenStep D.Store tx.old.conn tx.new.conn result }
 {
     check_version(new.founding.root)?;
-    put_founding(tx, &new.founding)?;
-    put_keys(tx, alloc, &new.founding)?;
-    put_root_files(tx, alloc, new)?;
-    put_role_files(tx, alloc, &new.files)
+    let keys = make_keys(alloc, new.founding.root, &new.founding.keys)?;
+    let root_files = make_root_files(alloc, new)?;
+    let role_files = make_role_files(alloc, &new.files)?;
+    put_root_made(
+        tx,
+        new,
+        keys.as_slice(),
+        root_files.as_slice(),
+        role_files.as_slice(),
+    )
 }
 
-/// Puts in what changes with the register of images: the founding's numbers, and the image repository's files.
-pub(crate) fn put_register<D: Alter>(
+/// Puts in the founding and the rows that were made of a root version, which takes no memory but the database's own.
+fn put_root_made<D: Alter>(
+    tx: &mut Transaction<'_, D>,
+    new: &RootRows,
+    keys: &[RoleKeyRow],
+    root_files: &[FileRow],
+    role_files: &[FileRow],
+) -> Result<(), StoreFault>
+    requires made { AreMadeOfRoot new.now keys.now root_files.now role_files.now }
+    requires mode { IfClean IsInside (state D.Store tx.old.conn.now) }
+    ensures put { PutsRows (IsNextRoot new.now) (λ rows. with_root_rows rows new.now)
+        (state D.Store tx.old.conn.now) (state D.Store tx.new.conn.now) result }
+    ensures ran { Ran (root_writes new.now) (state D.Store tx.old.conn.now) (state D.Store tx.new.conn.now) result }
+    ensures blame { BlamesOne (root_writes new.now) (λ _. FitsFounding new.now.founding)
+        (state D.Store tx.old.conn.now) (state D.Store tx.new.conn.now) result }
+    ensures memory { Undoes (state D.Store tx.new.conn.now) result }
+    ensures step { IsOpenStep D.Store tx.old.conn tx.new.conn result }
+{
+    put_founding(tx, &new.founding)?;
+    put_keys(tx, keys)?;
+    put_files(tx, root_files)?;
+    put_files(tx, role_files)
+}
+
+/// Puts in what changes with the register of images: the founding's numbers, and the image repository's files. All rows are made before the first is
+/// written.
+fn put_register<D: Alter>(
     tx: &mut Transaction<'_, D>,
     alloc: Global,
     new: &RegisterRows,
@@ -294,10 +326,31 @@ pub(crate) fn put_register<D: Alter>(
     ensures ran { Ran (register_writes new.now) (state D.Store tx.old.conn.now) (state D.Store tx.new.conn.now) result }
     ensures blame { BlamesOne (register_writes new.now) (λ _. FitsFounding new.now.founding)
         (state D.Store tx.old.conn.now) (state D.Store tx.new.conn.now) result }
+    ensures memory { UndoesOrStays D.Store tx.old.conn tx.new.conn result }
+    ensures step { IsOpenStep D.Store tx.old.conn tx.new.conn result }
+{
+    let files = make_role_files(alloc, &new.files)?;
+    put_register_made(tx, new, files.as_slice())
+}
+
+/// Puts in the founding's numbers and the rows that were made of the image repository's files, which takes no memory but the database's own.
+pub(crate) fn put_register_made<D: Alter>(
+    tx: &mut Transaction<'_, D>,
+    new: &RegisterRows,
+    files: &[FileRow],
+) -> Result<(), StoreFault>
+    requires made { AreMadeOfTexts new.now.files files.now }
+    requires mode { IfClean IsInside (state D.Store tx.old.conn.now) }
+    ensures put { PutsRows (IsSameRoot new.now) (λ rows. with_register_rows rows new.now)
+        (state D.Store tx.old.conn.now) (state D.Store tx.new.conn.now) result }
+    ensures ran { Ran (register_writes new.now) (state D.Store tx.old.conn.now) (state D.Store tx.new.conn.now) result }
+    ensures blame { BlamesOne (register_writes new.now) (λ _. FitsFounding new.now.founding)
+        (state D.Store tx.old.conn.now) (state D.Store tx.new.conn.now) result }
+    ensures memory { Undoes (state D.Store tx.new.conn.now) result }
     ensures step { IsOpenStep D.Store tx.old.conn tx.new.conn result }
 {
     put_founding(tx, &new.founding)?;
-    put_role_files(tx, alloc, &new.files)
+    put_files(tx, files)
 }
 
 /// Sets the numbers of the founding; `Store` where one is 2^63 or more.
@@ -311,6 +364,7 @@ fn put_founding<D: Alter>(
     ensures ran { Ran (founding_writes founding.now) (state D.Store tx.old.conn.now) (state D.Store tx.new.conn.now) result }
     ensures blame { BlamesOne (founding_writes founding.now) (λ _. FitsFounding founding.now)
         (state D.Store tx.old.conn.now) (state D.Store tx.new.conn.now) result }
+    ensures memory { Undoes (state D.Store tx.new.conn.now) result }
     ensures step { IsOpenStep D.Store tx.old.conn tx.new.conn result }
 {
     let row = make_meta(founding)?;
@@ -337,61 +391,34 @@ fn make_meta(founding: &Founding) -> Result<MetaRow, StoreFault>
     })
 }
 
-/// Puts in the keys of the founding's root version.
-fn put_keys<D: Alter>(
-    tx: &mut Transaction<'_, D>,
-    alloc: Global,
-    founding: &Founding,
-) -> Result<(), StoreFault>
+/// Puts in the rows of keys.
+fn put_keys<D: Alter>(tx: &mut Transaction<'_, D>, keys: &[RoleKeyRow]) -> Result<(), StoreFault>
+    requires fit { All FitRoleKey keys.now }
     requires mode { IfClean IsInside (state D.Store tx.old.conn.now) }
     requires open { IfClean IsOpen (state D.Store tx.old.conn.now) }
-    ensures put { PutsTables (λ _. ⊤) (with_keys founding.now) (state D.Store tx.old.conn.now) (state D.Store tx.new.conn.now) result }
-    ensures ran { Ran (key_writes founding.now) (state D.Store tx.old.conn.now) (state D.Store tx.new.conn.now) result }
-    ensures blame { BlamesOne (key_writes founding.now) (λ _. FitsFounding founding.now)
+    ensures put { PutsTables (λ _. ⊤) (with_key_lines (map role_key_row keys.now))
         (state D.Store tx.old.conn.now) (state D.Store tx.new.conn.now) result }
+    ensures ran { Ran (each_with insert_role_key_text (map role_key_row keys.now))
+        (state D.Store tx.old.conn.now) (state D.Store tx.new.conn.now) result }
+    ensures blame { BlamesOne (each_with insert_role_key_text (map role_key_row keys.now)) (λ _. ⊤)
+        (state D.Store tx.old.conn.now) (state D.Store tx.new.conn.now) result }
+    ensures memory { Undoes (state D.Store tx.new.conn.now) result }
     ensures step { IsOpenStep D.Store tx.old.conn tx.new.conn result }
 {
-    check_version(founding.root)?;
-    let keys = make_keys(alloc, founding.root, &founding.keys)?;
-    insert_role_keys(tx, keys.as_slice())
+    insert_role_keys(tx, keys)
 }
 
-/// Puts in the Root files of a new version.
-fn put_root_files<D: Alter>(
-    tx: &mut Transaction<'_, D>,
-    alloc: Global,
-    new: &RootRows,
-) -> Result<(), StoreFault>
+/// Sets the texts of files.
+fn put_files<D: Alter>(tx: &mut Transaction<'_, D>, files: &[FileRow]) -> Result<(), StoreFault>
     requires mode { IfClean IsInside (state D.Store tx.old.conn.now) }
     requires open { IfClean IsOpen (state D.Store tx.old.conn.now) }
-    ensures put { PutsTables HasFilesOnce (with_files (root_file_lines new.now))
+    ensures put { PutsTables HasFilesOnce (with_files (map file_read files.now))
         (state D.Store tx.old.conn.now) (state D.Store tx.new.conn.now) result }
-    ensures typed { OnOk result (IsUtf8 new.now.director × IsUtf8 new.now.image) }
-    ensures ran { Ran (file_writes (root_file_lines new.now)) (state D.Store tx.old.conn.now) (state D.Store tx.new.conn.now) result }
-    ensures blame { BlamesOne (file_writes (root_file_lines new.now)) (λ _. ⊤)
+    ensures ran { Ran (file_writes (map file_read files.now)) (state D.Store tx.old.conn.now) (state D.Store tx.new.conn.now) result }
+    ensures blame { BlamesOne (file_writes (map file_read files.now)) (λ _. ⊤)
         (state D.Store tx.old.conn.now) (state D.Store tx.new.conn.now) result }
+    ensures memory { Undoes (state D.Store tx.new.conn.now) result }
     ensures step { IsOpenStep D.Store tx.old.conn tx.new.conn result }
 {
-    let files = make_root_files(alloc, new)?;
-    upsert_files(tx, files.as_slice())
-}
-
-/// Puts in the image repository's files that are made together.
-fn put_role_files<D: Alter>(
-    tx: &mut Transaction<'_, D>,
-    alloc: Global,
-    texts: &RoleTexts,
-) -> Result<(), StoreFault>
-    requires mode { IfClean IsInside (state D.Store tx.old.conn.now) }
-    requires open { IfClean IsOpen (state D.Store tx.old.conn.now) }
-    ensures put { PutsTables HasFilesOnce (with_files (role_file_lines texts.now))
-        (state D.Store tx.old.conn.now) (state D.Store tx.new.conn.now) result }
-    ensures typed { OnOk result (AreTypedTexts texts.now) }
-    ensures ran { Ran (file_writes (role_file_lines texts.now)) (state D.Store tx.old.conn.now) (state D.Store tx.new.conn.now) result }
-    ensures blame { BlamesOne (file_writes (role_file_lines texts.now)) (λ _. ⊤)
-        (state D.Store tx.old.conn.now) (state D.Store tx.new.conn.now) result }
-    ensures step { IsOpenStep D.Store tx.old.conn tx.new.conn result }
-{
-    let files = make_role_files(alloc, texts)?;
-    upsert_files(tx, files.as_slice())
+    upsert_files(tx, files)
 }

@@ -10,9 +10,10 @@ ghost use Rattle.up_plan.specs.Images.{ImageData};
 ghost use Rattle.up_tables.specs.Stands.{IfClean, IsInside, IsOpen};
 ghost use Rattle.up_tables.specs.Statements.{IsStep, IsOpenStep};
 ghost use Rattle.up_tables.specs.Texts.{insert_sha512_text};
-ghost use Rattle.up_tables.specs.Tried.{BlamesOne, Ran};
+ghost use Rattle.up_tables.specs.Tried.{BlamesOne, Ran, Undoes};
 ghost use Rattle.up_store.specs.ColumnRows.{AreHashesOf, AreSha512s};
 ghost use Rattle.up_store.specs.Lines.{second_hash, sha512_lines};
+ghost use Rattle.up_store.specs.ReadAs.{InTurn, PutsSha512};
 ghost use Rattle.up_store.specs.Writes.{each_with};
 ghost use Rattle.up_store.specs.Puts.{with_sha512_line};
 ghost use Rattle.up_store.specs.Connections.{NeedsOpen, BlamesWithin, FindsRows, FindsSuch, PutsTables};
@@ -76,6 +77,7 @@ pub(crate) fn find_sha512s<D: Alter>(
 /// Rows as they stand in the table, read; where each has 64 bytes, `Memory` is the one fault.
 fn read_sha512s(alloc: Global, shown: Vec<Sha512Row>) -> Result<Table<[u8; 64]>, StoreFault>
     ensures same { IfOk result (λ read. (images : Named ImageData) → AreSha512s shown.items images → AreHashesOf read images) }
+    ensures told { IfOk result (InTurn PutsSha512 shown.items table.empty) }
     ensures fault { AllByRecursion (λ row. length row.sha512.items ≡ 64) shown.items → IfErr result (λ fault. fault ≡ StoreFault.Memory) }
 {
     let mut hashes = Table::new(alloc);
@@ -91,6 +93,7 @@ fn add_sha512(hashes: &mut Table<[u8; 64]>, row: Sha512Row) -> Result<(), StoreF
     ensures same { OnOk result (hashes.new ≡ table.insert hashes.old (string_bytes row.file) row.sha512.items) }
     ensures fault { length row.sha512.items ≡ 64 → IfErr result (λ fault. fault ≡ StoreFault.Memory) }
     ensures damaged { length row.sha512.items ≢ 64 → result ≡ Err StoreFault.Store }
+    ensures whole { OnOk result (length row.sha512.items ≡ 64) }
 {
     let hash = sha512_in(row.sha512.as_slice())?;
     hashes.insert(Text::new(row.file), hash)?;
@@ -110,6 +113,7 @@ pub(crate) fn put_sha512<D: Alter>(
         (state D.Store tx.old.conn.now) (state D.Store tx.new.conn.now) result }
     ensures blame { BlamesOne (each_with insert_sha512_text (sha512_lines image.now.file image.now.sha512)) (λ _. ⊤)
         (state D.Store tx.old.conn.now) (state D.Store tx.new.conn.now) result }
+    ensures memory { Undoes (state D.Store tx.new.conn.now) result }
     ensures step { IsOpenStep D.Store tx.old.conn tx.new.conn result }
 {
     match &image.sha512 {

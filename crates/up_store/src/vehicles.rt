@@ -14,11 +14,12 @@ ghost use Rattle.up_rows.specs.Lookups.{last_owner, owner_found};
 ghost use Rattle.up_store.specs.Found.{vehicle_found, ecus_found};
 ghost use Rattle.up_tables.specs.Stands.{IfClean, IsAsCommitted, IsInside};
 ghost use Rattle.up_tables.specs.Statements.{IsStep, IsOpenStep};
-ghost use Rattle.up_tables.specs.Tried.{BlamesOne, Ran};
+ghost use Rattle.up_tables.specs.Tried.{BlamesOne, Ran, Undoes};
 ghost use Rattle.up_store.specs.Writes.{FitsVehicle, vehicle_writes};
 ghost use Rattle.up_tables.specs.Forms.{FitVehicle};
 ghost use Rattle.up_store.specs.Connections.{NeedsOpen, Answers, FindsRows, Blames, BlamesWithin, PutsRows, TakesRows, CommitsRows, SparesRows};
-ghost use Rattle.up_store.specs.Connections.{BlamesWrite, RanWrite};
+ghost use Rattle.up_store.specs.Connections.{BlamesWrite, RanWrite, UndoesOrStays};
+ghost use Rattle.up_store.specs.Puts.{AreMadeOf};
 
 use crate::column_values::{check_places, count_in, ident_in};
 use crate::ecus::{make_ecus, read_ecus};
@@ -28,7 +29,9 @@ use std::alloc::Global;
 use up_canon::ident::Ident;
 use up_canon::listed::Listed;
 use up_machine::rows::{EcuRow, VehicleRow, VehicleRows};
-use up_tables::ecu::{ecu_owner as owner_shown, ecus as ecus_shown, insert_ecus};
+use up_tables::ecu::{
+    EcuRow as EcuShown, ecu_owner as owner_shown, ecus as ecus_shown, insert_ecus,
+};
 use up_tables::retired::retired_owner;
 use up_tables::vehicle::{VehicleRow as VehicleShown, insert_vehicle, vehicle as vehicle_shown};
 
@@ -206,13 +209,34 @@ fn put_vehicle<D: Alter>(
     ensures ran { Ran (vehicle_writes new.now) (state D.Store tx.old.conn.now) (state D.Store tx.new.conn.now) result }
     ensures blame { BlamesOne (vehicle_writes new.now) (λ _. FitsVehicle new.now)
         (state D.Store tx.old.conn.now) (state D.Store tx.new.conn.now) result }
+    ensures memory { UndoesOrStays D.Store tx.old.conn tx.new.conn result }
     ensures step { IsOpenStep D.Store tx.old.conn tx.new.conn result }
 {
     let vehicle = make_vehicle(alloc, &new.vehicle)?;
     let ecus = make_ecus(alloc, new.ecus.as_slice())?;
     check_places(ecus.len())?;
-    insert_vehicle(tx, &vehicle)?;
-    insert_ecus(tx, new.vehicle.vehicle.text(), ecus.as_slice())
+    insert_made(tx, new, &vehicle, ecus.as_slice())
+}
+
+/// Puts in the rows that were made of a vehicle and its ECUs, which takes no memory but the database's own.
+fn insert_made<D: Alter>(
+    tx: &mut Transaction<'_, D>,
+    new: &VehicleRows,
+    vehicle: &VehicleShown,
+    ecus: &[EcuShown],
+) -> Result<(), StoreFault>
+    requires made { AreMadeOf new.now vehicle.now ecus.now }
+    requires mode { IfClean IsInside (state D.Store tx.old.conn.now) }
+    ensures put { PutsRows (IsNewVehicle new.now) (λ rows. with_vehicle_rows rows new.now)
+        (state D.Store tx.old.conn.now) (state D.Store tx.new.conn.now) result }
+    ensures ran { Ran (vehicle_writes new.now) (state D.Store tx.old.conn.now) (state D.Store tx.new.conn.now) result }
+    ensures blame { BlamesOne (vehicle_writes new.now) (λ _. FitsVehicle new.now)
+        (state D.Store tx.old.conn.now) (state D.Store tx.new.conn.now) result }
+    ensures memory { Undoes (state D.Store tx.new.conn.now) result }
+    ensures step { IsOpenStep D.Store tx.old.conn tx.new.conn result }
+{
+    insert_vehicle(tx, vehicle)?;
+    insert_ecus(tx, new.vehicle.vehicle.text(), ecus)
 }
 
 /// The row of a vehicle as it stands in the table; `Store` where its version is 2^63 or more.

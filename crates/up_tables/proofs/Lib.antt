@@ -43,6 +43,7 @@ pub mod EcuReads
 pub mod FileSteps
 pub mod FileLemmas
 pub mod MetaReads
+pub mod NamedLemmas
 pub mod RoleKeyLemmas
 pub mod ListedLemmas
 pub mod RaiseLemmas

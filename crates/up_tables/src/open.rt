@@ -13,6 +13,7 @@ ghost use Rattle.up_tables.specs.Stands.{IfClean, IsInside, IsOpen, LeavesOnly, 
 ghost use Rattle.up_tables.specs.Listed.{TableRows, ListsTables};
 ghost use Rattle.up_tables.specs.Versions.{number_of, StandsAs};
 ghost use Rattle.up_tables.specs.Ours.{NamesUs, NamesVersion, NamesOthers, ListsUs, IsOurs, IsHindered, Raised, is_refused};
+ghost use Rattle.up_tables.specs.Ours.{TellsMeta, older_of, ours_told};
 ghost use Rattle.up_tables.specs.Faults.{open_fault};
 ghost use Rattle.up_tables.specs.Making.{FailsToMake, FailsToRaise};
 ghost use Rattle.up_tables.specs.declared.open.OpenFault.TheVariants as OpenFault;
@@ -109,13 +110,36 @@ pub fn take_tables<S: Alter>(conn: &mut Connection<S>) -> Result<bool, OpenFault
     ensures open { HasCleanDisk (state S.Store conn.new) → OnOk result (IsTrue (state S.Store conn.old).is_open) }
 {
     let _idle = conn.is_autocommit();
-    match version_there(conn) {
-        Ok(None) => Ok(false),
-        Ok(Some(SchemaVersion::Three)) => Ok(true),
-        Ok(Some(version)) => match raise(conn, version) {
+    let found = version_there(conn);
+    match older(found) {
+        Some(version) => match raise(conn, version) {
             Ok(()) => Ok(true),
             Err(fault) => Err(fault),
         },
+        None => is_ours(found),
+    }
+}
+
+/// The version that was found, where its tables are to be raised.
+fn older(found: Result<Option<SchemaVersion>, OpenFault>) -> Option<SchemaVersion>
+    ensures told { result ≡ older_of found }
+{
+    match found {
+        Ok(Some(version)) => match version {
+            SchemaVersion::One | SchemaVersion::Two => Some(version),
+            SchemaVersion::Three => None,
+        },
+        _ => None,
+    }
+}
+
+/// Whether the tables are of this product, where none are to be raised: what was found tells it.
+fn is_ours(found: Result<Option<SchemaVersion>, OpenFault>) -> Result<bool, OpenFault>
+    ensures told { result ≡ ours_told found }
+{
+    match found {
+        Ok(None) => Ok(false),
+        Ok(Some(_)) => Ok(true),
         Err(fault) => Err(fault),
     }
 }
@@ -137,10 +161,7 @@ fn version_there<S: Alter>(conn: &mut Connection<S>) -> Result<Option<SchemaVers
     ensures open { HasCleanDisk (state S.Store conn.new) → OnOk result (IsTrue (state S.Store conn.old).is_open) }
 {
     let mut tx = conn.transaction();
-    match find_meta(&mut tx) {
-        Ok(rows) => Ok(version_named(&rows)),
-        Err(error) => not_ours(error),
-    }
+    meta_told(find_meta(&mut tx))
 }
 
 /// The rows of `meta` with the product and the schema.
@@ -160,6 +181,18 @@ fn find_meta<S: Alter>(tx: &mut Transaction<'_, S>) -> Result<Vec<Row>, Error>
     ensures step { IsStep S.Store tx.old.conn tx.new.conn }
 {
     tx.query_all("SELECT app, schema FROM meta WHERE id = 1", &[])
+}
+
+/// What is told of the query on `meta`, all of it behind the query: the version that its rows name, none where they name none or the database
+/// refuses it, else its fault.
+fn meta_told(found: Result<Vec<Row>, Error>) -> Result<Option<SchemaVersion>, OpenFault>
+    ensures told { TellsMeta found (λ rows. rows.items) result }
+    ensures fault { IfErr result (λ e. e ≢ OpenFault.NotOurs) }
+{
+    match found {
+        Ok(rows) => Ok(version_named(&rows)),
+        Err(error) => not_ours(error),
+    }
 }
 
 /// The version of this product's schema that the rows name: one row, with the name and a number.

@@ -1,13 +1,14 @@
-use Rattle.std.proofs.Common.{Some, inl, inr, refl, sym, subst}
+use Rattle.std.proofs.Common.{◌≡◌, Some, inl, inr, refl, sym, subst}
 use Rattle.std.specs.Prelude.{IfSome}
 use Rattle.sqlite.specs.Held.{state}
 use Rattle.up_canon.specs.declared.refusal.Refusal.TheVariants.{NotFounded}
 use Rattle.up_machine.proofs.Senders.{no_founding, refused_first}
-use Rattle.up_desk.specs.Delivering.{IsSentBy, RefusesUnread, refused_in}
+use Rattle.up_desk.specs.Delivering.{IsSentBy, RefusesUnread, refused_by, refused_in}
 use Rattle.up_desk.specs.Standing.{CanDecide, Come, Fits, IsLoaded, StaysLoaded, primaries_in}
 use Rattle.up_desk.proofs.Cataloged.{can_more, come_none, stays}
 use Rattle.up_desk.proofs.SentBy.{unloaded}
 use Rattle.up_desk.proofs.Steps.{reads_none}
+use Rattle.up_desk.proofs.LeftKept.{some_left}
 use Rattle.up_desk.proofs.deliveries.decide.Goals as goal
 
 pub returns-in-Some-clause-decided : goal.returns-in-Some-clause-decided
@@ -59,3 +60,12 @@ returns-in-Some-clause-came g c = λ clean s was fits.
 
 pub returns-in-None-clause-came : goal.returns-in-None-clause-came
 returns-in-None-clause-came g c = λ clean s was fits. come_none _ (primaries_in c.args.catalog.now)
+
+pub returns-in-Some-clause-left : goal.returns-in-Some-clause-left
+returns-in-Some-clause-left g c =
+    let k = g.K.Scheme.rules c.args.scheme.now in
+    subst (λ o. IfSome (refused_in k o c.args.incoming.now) (λ r. Some c.decide_founded.new.catalog ≡ o)) (sym c.in-Some.is)
+    (some_left (refused_by k c.in-Some.catalog.primaries c.args.incoming.now) c.in-Some.catalog c.decide_founded.new.catalog c.decide_founded.ensures.left)
+
+pub returns-in-None-clause-left : goal.returns-in-None-clause-left
+returns-in-None-clause-left g c = unloaded (g.K.Scheme.rules c.args.scheme.now) c.args.incoming.now c.args.catalog.now _ c.in-None.is

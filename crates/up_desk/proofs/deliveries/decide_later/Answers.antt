@@ -12,4 +12,4 @@ returns g c = λ s sound sent.
     let manifest = c.args.incoming.now.manifest in
     c.decide_new.ensures s sound sent.from
     (are_planned (g.K.Scheme.rules c.args.scheme.now) s manifest catalog _ sound sent.kept
-    (subst (λ (items : List Item). OffersSame items (items_for (table.values catalog.campaigns) manifest.vehicle)) (sym (ap (map (λ i. i.now)) c.as_slice.ensures.value)) c.in_ok-items.ensures))
+    (subst (λ (items : List Item). OffersSame items (items_for (table.values catalog.campaigns) manifest.vehicle)) (sym (ap (map (λ i. i.now)) c.as_slice.ensures.value)) c.in_ok-items.ensures.value))

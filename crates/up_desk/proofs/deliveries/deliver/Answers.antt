@@ -9,7 +9,7 @@ use Rattle.up_manifest.specs.declared.manifest.Incoming.{Incoming}
 use Rattle.up_manifest.specs.Manifests.{largest_body, incoming_in}
 use Rattle.up_machine.specs.declared.answer.Answer.{Answer}
 use Rattle.up_machine.specs.Decisions.{decide_incoming}
-use Rattle.up_desk.specs.Delivering.{RefusesRead, refused_in}
+use Rattle.up_desk.specs.Delivering.{RefusesRead, refused_before, refused_in}
 use Rattle.up_desk.specs.Serving.{Serves}
 use Rattle.up_desk.specs.Standing.{primaries_in}
 use Rattle.up_desk.proofs.Cataloged.{come_none, stays}
@@ -17,6 +17,7 @@ use Rattle.up_desk.proofs.NeverStore.{never_incoming}
 use Rattle.up_desk.proofs.SentBy.{body_refused, come_read, loaded_read, none_unread, read_refused, unread_body, unread_loads}
 use Rattle.up_desk.proofs.Serving.{stopped_or_failed}
 use Rattle.up_desk.proofs.Steps.{refused, reads_none}
+use Rattle.up_desk.proofs.LeftKept.{always, read_left}
 use Rattle.up_desk.proofs.deliveries.deliver.Goals as goal
 
 pub returns-in-Ok-clause-serves : goal.returns-in-Ok-clause-serves
@@ -79,3 +80,11 @@ returns-in-Ok-clause-came g c = λ clean s was fits.
 
 pub returns-in-Err-clause-came : goal.returns-in-Err-clause-came
 returns-in-Err-clause-came g c = λ clean s was fits. come_none _ (primaries_in c.args.catalog.now)
+
+pub returns-in-Ok-clause-left : goal.returns-in-Ok-clause-left
+returns-in-Ok-clause-left g c =
+    read_left (g.K.Scheme.rules c.args.scheme.now) c.args.catalog.now (incoming_in c.args.body.now) c.in-Ok.incoming (λ r. c.receive.new.catalog ≡ c.args.catalog.now)
+    (sym (ap incoming_in c.as_slice.ensures) ∙ c.in-Ok.ensures.value) c.receive.ensures.left
+
+pub returns-in-Err-clause-left : goal.returns-in-Err-clause-left
+returns-in-Err-clause-left g c = always (refused_before (g.K.Scheme.rules c.args.scheme.now) c.args.catalog.now (incoming_in c.args.body.now)) _ refl

@@ -3,6 +3,7 @@ use Rattle.up_desk.specs.Standing.{primaries_in}
 use Rattle.up_desk.proofs.Cataloged.{come_as, come_loaded, stays_then}
 use Rattle.up_desk.proofs.SentBy.{loaded_told, none_loaded, still_refused}
 use Rattle.up_desk.proofs.Steps.{after_reads, clean_before, keeps_after, failed_told, fault_told, refused}
+use Rattle.up_desk.proofs.LeftKept.{still_left}
 use Rattle.up_desk.proofs.deliveries.receive.Goals as goal
 
 pub returns-in-Ok-clause-serves : goal.returns-in-Ok-clause-serves
@@ -48,3 +49,11 @@ returns-in-Ok-clause-came g c = λ clean s was fits.
 pub returns-in-Err-clause-came : goal.returns-in-Err-clause-came
 returns-in-Err-clause-came g c = λ clean s was fits.
     come_as (λ vehicle primary. ⊥) (IsSentBy (g.K.Scheme.rules c.args.scheme.now) c.args.incoming.now) (primaries_in c.args.catalog.now) (primaries_in c.load.new.catalog) (λ vehicle primary none. absurd none) c.load.ensures.came
+
+pub returns-in-Ok-clause-left : goal.returns-in-Ok-clause-left
+returns-in-Ok-clause-left g c =
+    still_left (g.K.Scheme.rules c.args.scheme.now) c.args.incoming.now c.args.catalog.now c.load.new.catalog c.receive_loaded.new.catalog _ _ c.load.ensures.there c.receive_loaded.ensures.left
+
+pub returns-in-Err-clause-left : goal.returns-in-Err-clause-left
+returns-in-Err-clause-left g c =
+    none_loaded (g.K.Scheme.rules c.args.scheme.now) c.args.incoming.now c.args.catalog.now c.in-Err.fault _ _ (λ there. (let it = c.in-Err.ensures.there there in (it.0, it.1)))

@@ -2,13 +2,14 @@ use Rattle.std.proofs.Common.{Err, inl, refl, subst, arith}
 use Rattle.sqlite.specs.Held.{state}
 use Rattle.up_canon.specs.declared.refusal.Refusal.TheVariants.{MomentOutOfRange}
 use Rattle.up_machine.specs.declared.answer.Answer.{Answer}
-use Rattle.up_desk.specs.Delivering.{IsDeliveredBy, RefusesRead}
+use Rattle.up_desk.specs.Delivering.{IsDeliveredBy, LeavesKept, RefusesRead}
 use Rattle.up_desk.specs.Serving.{Serves, outcome_due}
 use Rattle.up_desk.specs.Standing.{CanDecide, primaries_in}
 use Rattle.up_desk.proofs.Cataloged.{can_still, come_kept, come_then, kept_again, kept_fits, kept_still, stays_kept, still_kept}
 use Rattle.up_desk.proofs.SentBy.{kept_forged}
 use Rattle.up_desk.proofs.Serving.{late_due, in_time_alone, in_time_outright, late_alone, late_outright}
 use Rattle.up_desk.proofs.Steps.{refused, reads_none}
+use Rattle.up_desk.proofs.LeftKept.{dropped_left, kept_left}
 use Rattle.up_desk.proofs.dispatch.dispatch.Goals as goal
 
 pub returns-in-None : goal.returns-in-None
@@ -24,6 +25,7 @@ returns-in-None g c = record {
   came = λ clean s was fits. come_kept (IsDeliveredBy (g.K.Scheme.rules c.args.scheme.now) c.args.command.now) c.args.command.now c.args.catalog.now c.drop_before.new.catalog c.drop_before.ensures;
   loads = λ within. absurd (omega (arith, within, c.in-None.ensures));
   forged = λ within. absurd (omega (arith, within, c.in-None.ensures));
+  left = kept_left (g.K.Scheme.rules c.args.scheme.now) c.args.at c.args.command.now c.args.catalog.now c.drop_before.new.catalog c.drop_before.ensures;
 }
 
 pub returns-in-Some-clause-serves : goal.returns-in-Some-clause-serves
@@ -67,3 +69,9 @@ returns-in-Some-clause-came g c = λ clean s was fits.
     come_then P (primaries_in c.args.catalog.now) (primaries_in c.drop_before.new.catalog) (primaries_in c.dispatch_at.new.catalog)
     (come_kept P c.args.command.now c.args.catalog.now c.drop_before.new.catalog c.drop_before.ensures)
     (c.dispatch_at.ensures.came clean s was (kept_fits s c.args.command.now c.args.catalog.now c.drop_before.new.catalog c.drop_before.ensures fits))
+
+pub returns-in-Some-clause-left : goal.returns-in-Some-clause-left
+returns-in-Some-clause-left g c =
+    let k = g.K.Scheme.rules c.args.scheme.now in
+    dropped_left k c.args.at c.args.command.now c.args.catalog.now c.drop_before.new.catalog c.dispatch_at.new.catalog c.drop_before.ensures
+    (subst (λ at. LeavesKept k at c.args.command.now c.drop_before.new.catalog c.dispatch_at.new.catalog) c.in-Some.ensures.1 c.dispatch_at.ensures.left)

@@ -6,6 +6,7 @@ use Rattle.up_desk.specs.Serving.{told}
 use Rattle.up_desk.proofs.SentBy.{come_delivered, delivered_forged, loads_as, unforged}
 use Rattle.up_desk.specs.Delivering.{RefusesRead}
 use Rattle.up_desk.proofs.Serving.{body_alone, ecu_alone, key_alone, of_command, of_delivery, key_outright, ecu_outright, large_outright}
+use Rattle.up_desk.proofs.LeftKept.{in_time_left, kept_left}
 use Rattle.up_desk.proofs.dispatch.dispatch_at.Goals as goal
 
 pub returns-in-Found-clause-serves : goal.returns-in-Found-clause-serves
@@ -208,3 +209,33 @@ returns-in-Fetch-clause-came g c = λ clean s was fits. come_none _ (primaries_i
 pub returns-in-Deliver-clause-came : goal.returns-in-Deliver-clause-came
 returns-in-Deliver-clause-came g c = λ clean s was fits.
     come_delivered (g.K.Scheme.rules c.args.scheme.now) c.args.command.now c.in-Deliver.body (primaries_in c.args.catalog.now) (primaries_in c.deliver.new.catalog) c.in-Deliver.is (c.deliver.ensures.came clean s was fits)
+
+pub returns-in-Found-clause-left : goal.returns-in-Found-clause-left
+returns-in-Found-clause-left g c = kept_left (g.K.Scheme.rules c.args.scheme.now) c.args.at c.args.command.now c.args.catalog.now c.args.catalog.now c.requires.dropped
+
+pub returns-in-Rotate-clause-left : goal.returns-in-Rotate-clause-left
+returns-in-Rotate-clause-left g c = kept_left (g.K.Scheme.rules c.args.scheme.now) c.args.at c.args.command.now c.args.catalog.now c.args.catalog.now c.requires.dropped
+
+pub returns-in-AddImage-clause-left : goal.returns-in-AddImage-clause-left
+returns-in-AddImage-clause-left g c = kept_left (g.K.Scheme.rules c.args.scheme.now) c.args.at c.args.command.now c.args.catalog.now c.args.catalog.now c.requires.dropped
+
+pub returns-in-Refresh-clause-left : goal.returns-in-Refresh-clause-left
+returns-in-Refresh-clause-left g c = kept_left (g.K.Scheme.rules c.args.scheme.now) c.args.at c.args.command.now c.args.catalog.now c.args.catalog.now c.requires.dropped
+
+pub returns-in-AddVehicle-clause-left : goal.returns-in-AddVehicle-clause-left
+returns-in-AddVehicle-clause-left g c = kept_left (g.K.Scheme.rules c.args.scheme.now) c.args.at c.args.command.now c.args.catalog.now c.args.catalog.now c.requires.dropped
+
+pub returns-in-ReplaceEcu-clause-left : goal.returns-in-ReplaceEcu-clause-left
+returns-in-ReplaceEcu-clause-left g c = kept_left (g.K.Scheme.rules c.args.scheme.now) c.args.at c.args.command.now c.args.catalog.now c.args.catalog.now c.requires.dropped
+
+pub returns-in-OpenCampaign-clause-left : goal.returns-in-OpenCampaign-clause-left
+returns-in-OpenCampaign-clause-left g c = kept_left (g.K.Scheme.rules c.args.scheme.now) c.args.at c.args.command.now c.args.catalog.now c.args.catalog.now c.requires.dropped
+
+pub returns-in-CloseCampaign-clause-left : goal.returns-in-CloseCampaign-clause-left
+returns-in-CloseCampaign-clause-left g c = kept_left (g.K.Scheme.rules c.args.scheme.now) c.args.at c.args.command.now c.args.catalog.now c.args.catalog.now c.requires.dropped
+
+pub returns-in-Fetch-clause-left : goal.returns-in-Fetch-clause-left
+returns-in-Fetch-clause-left g c = kept_left (g.K.Scheme.rules c.args.scheme.now) c.args.at c.args.command.now c.args.catalog.now c.args.catalog.now c.requires.dropped
+
+pub returns-in-Deliver-clause-left : goal.returns-in-Deliver-clause-left
+returns-in-Deliver-clause-left g c = in_time_left (g.K.Scheme.rules c.args.scheme.now) c.args.at c.args.command.now c.in-Deliver.body c.args.catalog.now c.deliver.new.catalog c.in-Deliver.is c.requires.moment c.deliver.ensures.left

@@ -1,4 +1,4 @@
-use Rattle.std.proofs.Common.{Bool, Err, ap, ◌∙◌, subst}
+use Rattle.std.proofs.Common.{Bool, Err, ap, refl, ◌∙◌, subst}
 use Rattle.std.specs.Prelude.{⊤, MatchBool, Ok}
 use Rattle.sqlite.specs.Held.{state}
 use Rattle.up_canon.specs.declared.refusal.Refusal.{Refusal}
@@ -10,6 +10,7 @@ use Rattle.up_desk.proofs.Cataloged.{come_none, none_more}
 use Rattle.up_desk.proofs.Steps.{reads_none}
 use Rattle.up_desk.proofs.SentBy.{due, refused_unread, sent_rows}
 use Rattle.up_desk.proofs.NeverStore.{never_received}
+use Rattle.up_desk.proofs.LeftKept.{always}
 use Rattle.up_desk.proofs.senders.read_sender.Goals as goal
 
 pub returns-in-Ok-true-clause-from : goal.returns-in-Ok-true-clause-from
@@ -43,3 +44,9 @@ returns-in-Ok-true-clause-blame g c = λ s sound was of. c.read_rows.ensures.bla
 pub returns-in-Err-clause-blame : goal.returns-in-Err-clause-blame
 returns-in-Err-clause-blame g c = λ s sound was of clean is is_open unlimited.
     absurd (never_received (g.K.Scheme.rules c.args.scheme.now) s c.args.incoming.now (c.in-Err.ensures.sent s of ∙ ap (λ (r : Refusal). Err r) is))
+
+pub returns-in-Ok-true-clause-left : goal.returns-in-Ok-true-clause-left
+returns-in-Ok-true-clause-left g c = always (refused_by (g.K.Scheme.rules c.args.scheme.now) c.args.catalog.now.primaries c.args.incoming.now) _ refl
+
+pub returns-in-Err-clause-left : goal.returns-in-Err-clause-left
+returns-in-Err-clause-left g c = always (refused_by (g.K.Scheme.rules c.args.scheme.now) c.args.catalog.now.primaries c.args.incoming.now) _ refl

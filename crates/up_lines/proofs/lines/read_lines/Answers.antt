@@ -36,7 +36,7 @@ returns-in_err-take_piece-in-Ok-clause-ran g c = let (came, read, so, budget, ro
     let cause = c.in_err-take_piece-in-Ok.field-0.0 in
     ran_stop g.I.Interpret.gives c.from_residual.result cause _ _ _ _ (came ++ take c.in-Ok.n c.read_piece.new.buffer) c.take_piece.new.progress.answered
     c.from_residual.ensures.1 (Consumes-trans _ _ _ _ _ read c.in-Ok.ensures.bytes) (omega (arith, long, most, budget, length-append came (take c.in-Ok.n c.read_piece.new.buffer)))
-    (c.in_err-take_piece-in-Ok.ensures.err _ came so)
+    (c.in_err-take_piece-in-Ok.ensures.err _ came so (omega (arith, room, c.read_piece.auto.buffer, long, within)))
     (last_read g.I.Interpret.gives _ came (take c.in-Ok.n c.read_piece.new.buffer) _ false c.loop-most.progress _ _ so c.take_piece.ensures.grows refl
     (omega (arith, room, c.read_piece.auto.buffer, long, within)) (λ h. absurd (cc)))
 

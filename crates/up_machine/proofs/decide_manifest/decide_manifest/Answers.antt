@@ -32,7 +32,7 @@ returns-clause-decided g c = λ s sound rows.
     let manifest = c.args.incoming.now.manifest in
     let images = ap (λ (d : DeliveryData). d.images) (sym c.rows.view_is) in
     let campaigns = ap (λ (d : DeliveryData). d.campaigns) c.rows.view_is in
-    let items = ap (map (λ i. i.now)) c.as_slice.ensures.value ∙ c.in_ok-items.ensures ∙ ap (λ cs. items_for cs manifest.vehicle) campaigns ∙ rows.campaigns in
+    let items = ap (map (λ i. i.now)) c.as_slice.ensures.value ∙ c.in_ok-items.ensures.value ∙ ap (λ cs. items_for cs manifest.vehicle) campaigns ∙ rows.campaigns in
     c.decide_new.ensures s sound (c.in_ok-sender.ensures.from s founding vehicle)
     (subst (λ is. ArePlanned s manifest is (map (λ i. i.now) c.as_slice.result.now)) images (record {
       images_are = subst (λ is. AreImagesOf (map (λ (i : Item). i.file) is ++ map (λ (r : SignedReport). r.report.image.file) manifest.reports) c.args.rows.now.images s.images) rows.campaigns rows.images;

@@ -1,9 +1,13 @@
 use Rattle.std.proofs.Common.{take}
+use Rattle.std.specs.FinMap as table
 use Rattle.up_canon.specs.Names.{Table}
 use Rattle.up_plan.specs.Campaigns.{CampaignData}
 use Rattle.up_store.specs.ColumnRows.{AreRunning}
+use Rattle.up_store.specs.ReadAs.{InTurn, PutsReaching}
 use Rattle.up_store.proofs.ColumnTables.{AreReaching}
 use Rattle.up_store.proofs.campaign_rows.read_reaching.Given as goal
 
 abbrev pub invariant-loop-row : goal.invariant-loop-row
-invariant-loop-row l = (campaigns : Table CampaignData) → AreRunning l.shown campaigns → AreReaching l.vehicle (take l.row-index l.shown) campaigns l.reaching
+invariant-loop-row l =
+    ((campaigns : Table CampaignData) → AreRunning l.shown campaigns → AreReaching l.vehicle (take l.row-index l.shown) campaigns l.reaching)
+    × InTurn (PutsReaching l.vehicle) (take l.row-index l.shown) table.empty l.reaching

@@ -24,3 +24,7 @@ returns-in-Ok-clause-blame g c =
 pub returns-in-Err-clause-blame : goal.returns-in-Err-clause-blame
 returns-in-Err-clause-blame g c =
     by_statement (λ _. ⊤) _ (state g.D.Store c.args.tx.now.conn.now) (state g.D.Store c.running_campaigns.new.tx.conn.now) (Err c.in-Err.fault) (λ rows lists fits. holds_running (state g.D.Store c.args.tx.now.conn.now) rows lists) c.in-Err.ensures.blame
+
+pub returns-in-Ok-clause-shown : goal.returns-in-Ok-clause-shown
+returns-in-Ok-clause-shown g c clean =
+    ok_then _ _ c.read_running.result (λ read is rows_of has lists. (c.in-Ok.shown.items, c.in-Ok.ensures.found clean rows_of has lists, is)) (rw c.as_slice.ensures.value at c.read_running.ensures.told)

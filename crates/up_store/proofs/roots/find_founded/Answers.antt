@@ -1,4 +1,6 @@
-use Rattle.std.proofs.Common.{◌≡◌, subst, arith, Err, sym, ap}
+use Rattle.std.proofs.Common.{◌≡◌, subst, arith, Err, Some, sym, ap}
+use Rattle.std.specs.Prelude.{MatchOption}
+use Rattle.up_machine.specs.declared.rows.Founding.{Founding}
 use Rattle.std.proofs.lemmas.Bool.{ne_eqb}
 use Rattle.sqlite.specs.Held.{state}
 use Rattle.up_rows.specs.StateRows.{StateRows}
@@ -44,3 +46,8 @@ returns-in_err-check_version-clause-blame g c =
     let before = state g.D.Store c.args.tx.now.conn.now in
     memory_blames (λ rows. c.args.row ≡ meta_told rows.founding) before before c.from_residual.result
     (λ clean rows within fits. absurd (version_fits rows.founding c.args.row.root (ap (λ (m : MetaRow). m.root) fits) (within.here (c.requires.open clean)).rows.typed.founding c.in_err-check_version.ensures.fault.1))
+
+pub returns-in-Ok-clause-told : goal.returns-in-Ok-clause-told
+returns-in-Ok-clause-told g c =
+    ok_then (IsFoundingOf c.args.row c.as_slice.result.now) (λ read. MatchOption read (c.args.row.root ≡ 0) (λ (f : Founding). meta_told (Some f) ≡ c.args.row)) c.read_founding.result
+    (λ read is. subst (λ r. MatchOption r (c.args.row.root ≡ 0) (λ (f : Founding). meta_told (Some f) ≡ c.args.row)) (sym is.is) is.numbers) c.read_founding.ensures.found

@@ -2,7 +2,7 @@ use Rattle.std.proofs.Common.{◌≤◌, ap, subst, sym}
 use Rattle.std.specs.Prelude.{IfSome}
 use Rattle.up_canon.specs.Moments.{last_command_moment}
 use Rattle.up_machine.specs.State.{State}
-use Rattle.up_desk.specs.Delivering.{AnswersRead, IsDeliveredBy, Loads, forged_by}
+use Rattle.up_desk.specs.Delivering.{AnswersRead, IsDeliveredBy, LeavesKept, Loads, forged_by}
 use Rattle.up_desk.specs.Serving.{refused_alone}
 use Rattle.up_desk.specs.Standing.{Come, HasCleanDisk, IfClean, KeepsState, StaysLoaded, Stored, kept_for, primaries_in, state}
 use Rattle.up_desk.proofs.Calls.{CallLaws, IsCall, called}
@@ -39,5 +39,6 @@ returns g c =
       loads = λ within. subst (λ a. Loads c.args.command.now a c.dispatch.new.catalog) (sym c.answer_of.ensures) (c.dispatch.ensures.loads within);
       forged = subst (λ d. c.args.at ≤ last_command_moment → IfSome (forged_by (g.K.Scheme.rules d.scheme) d.store.catalog c.args.command.now) (AnswersRead d.store.held c.dispatch.new.store c.answer_of.result))
           c.self.view_is (λ within. forged_told _ _ _ c.dispatch.result c.answer_of.result c.answer_of.ensures (c.dispatch.ensures.forged within));
+      left = subst (λ d. LeavesKept (g.K.Scheme.rules d.scheme) c.args.at c.args.command.now d.store.catalog c.dispatch.new.catalog) c.self.view_is c.dispatch.ensures.left;
       scheme = ap (λ d. d.scheme) c.self.view_is;
     }

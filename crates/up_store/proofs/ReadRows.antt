@@ -1,0 +1,28 @@
+-- Rows that are read one after another.
+use Rattle.std.proofs.Common.{◌≡◌, ◌+◌, ◌<◌, ℕ, zero, suc, List, [], ◌∷◌, true, length, take, get_or, string_bytes, Result, Ok, Err, OnOk, inl, refl, sym, ap, subst, ◌∙◌, arith}
+use Rattle.up_canon.specs.Names.{Name, Table}
+use Rattle.up_columns.specs.CampaignColumns.{reach_in}
+use Rattle.up_plan.specs.Campaigns.{CampaignData}
+use Rattle.up_plan.specs.Planning.{reaches}
+use Rattle.up_plan.specs.declared.campaign.Reach.{Reach}
+use Rattle.up_tables.specs.declared.campaign.CampaignRow.{CampaignRow}
+use Rattle.up_tables.specs.declared.values.StoreFault.{StoreFault}
+use Rattle.up_store.specs.ReadAs.{InTurn, PutsCampaign, PutsReaching}
+
+-- the row behind those that were read
+pub in_turn_more : {A S : Type 0} (step : A → S → S → Type 0) (xs : List A) (i : ℕ) (x : A) (before mid after : S) → i < length xs → x ≡ get_or xs i x
+    → InTurn step (take i xs) before mid → step x mid after → InTurn step (take (i + 1) xs) before after
+in_turn_more step [] i x before mid after low is so new = absurd (omega (arith, low))
+in_turn_more step (y ∷ ys) zero x before mid after low is so new =
+    (after, subst (λ z. step z before after) is (subst (λ m. step x m after) so new), refl)
+in_turn_more step (y ∷ ys) (suc i) x before mid after low is so new =
+    let next : suc (i + 1) ≡ suc i + 1 = omega arith in
+    subst (λ n. InTurn step (take n (y ∷ ys)) before after) next (so.0, so.1, in_turn_more step ys i x so.0 mid after (omega (arith, low)) is so.2 new)
+
+-- a campaign that was put in reaches the vehicle, since its reach was read before
+pub reached_put : {A : Type 0} (result : Result A StoreFault) (vehicle : Name) (shown : CampaignRow) (before after : Table CampaignData) (reach : Reach)
+    → reach_in (string_bytes shown.reach) ≡ Ok reach → reaches vehicle reach ≡ true → OnOk result (PutsCampaign shown before after) → OnOk result (PutsReaching vehicle shown before after)
+reached_put (Ok x) vehicle shown before after reach read also puts =
+    let same : puts.campaign.reach ≡ reach = (let e = sym puts.read.reach ∙ read in cc) in
+    inl (record { puts = puts; reached = ap (reaches vehicle) same ∙ also })
+reached_put (Err e) vehicle shown before after reach read also puts = tt
