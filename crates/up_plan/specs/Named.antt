@@ -1,4 +1,4 @@
--- The vehicles that running campaigns name. No public contract speaks of it.
+-- The vehicles that running campaigns name.
 use Rattle.std.specs.Prelude.{List, [], if◌then◌else◌}
 use Rattle.up_canon.specs.Names.{Name}
 use Rattle.up_plan.specs.declared.campaign.Reach.{Reach}

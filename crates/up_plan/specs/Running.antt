@@ -1,5 +1,5 @@
--- Running campaigns by the vehicles that they reach: the places of those for all, and each name of a vehicle that another one has. No public
--- contract speaks of it.
+-- Running campaigns by the vehicles that they reach: the places of those for all, and each name of a vehicle that another one has. Of this a
+-- public contract has `reaches_all` alone.
 use Rattle.std.specs.Prelude.{◌≡◌, ℕ, ◌&&◌, List, [], Bool, true, false, not, bytes_eq, slice_get, option_map, unwrap_or}
 use Rattle.std.specs.List.{list_any}
 use Rattle.std.specs.List.Sorted.{IsSortedByKey}

@@ -30,7 +30,7 @@ pub(crate) const MOST_ROWS: usize = 9_223_372_036_854_775_807;
 /// The tables of the two repositories over a connection, on which no transaction is under way between its calls.
 ///
 /// A call answers `StoreFault::Memory` where memory was refused, and `StoreFault::Store` where the database refused it for
-/// another cause, where a row isn't one that a call of this type leaves, and where a version is 2^63 or more, which no column
+/// another cause, where a row can't be read as what its columns say, and where a version is 2^63 or more, which no column
 /// holds. A fault leaves the tables as they were. A fault of the disk shuts the connection, and each later call answers a
 /// fault.
 #[derive(Drop)]
