@@ -3,8 +3,8 @@
 
     check_file.py FILE
 
-The program knows its file by `meta` alone, so it takes a file whose other tables were changed by hand, and what is proved of it
-holds no more (`docs/TABLES.md`). For each thing that is too much, missing or different a line is printed:
+The program knows its file by `meta` alone, so it takes a file whose other tables were changed by hand, and what is proved of lines
+and requests isn't proved over it (`docs/TABLES.md`). For each thing that is too much, missing or different a line is printed:
 
     table retired: it is missing
     table ecu: the column note is too much

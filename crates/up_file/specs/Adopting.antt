@@ -6,8 +6,8 @@ use Rattle.up_rows.specs.StateRows.{StateRows, no_rows}
 use Rattle.up_tables.specs.declared.open.OpenFault.{OpenFault}
 use Rattle.up_tables.specs.declared.open.OpenFault.TheVariants.{NotOurs}
 use Rattle.up_tables.specs.declared.open.SchemaVersion.{SchemaVersion}
-use Rattle.up_tables.specs.Making.{FailsToMake, FailsToRaise}
-use Rattle.up_tables.specs.Ours.{NamesUs, NamesOthers, IsHindered}
+use Rattle.up_tables.specs.Making.{FailsToMake, FailsToRaise, IsTaken, RaisesTo}
+use Rattle.up_tables.specs.Ours.{NamesOthers, IsHindered}
 use Rattle.up_tables.specs.Stands.{IfClean, HasNoTables, LeavesOnly}
 use Rattle.up_store.specs.Connections.{HoldsRows, KeepsAs, KeepsRows, MadeIn, RaisedRows}
 
@@ -15,14 +15,15 @@ use Rattle.up_store.specs.Connections.{HoldsRows, KeepsAs, KeepsRows, MadeIn, Ra
 abbrev pub KeepsOn : State → State → Type 0
 KeepsOn old new = (version : SchemaVersion) (rows : StateRows) → IfClean (KeepsAs version rows) old → KeepsRows rows new
 
--- It named this product and shows the rows that it had; or it had no tables, of this product or another, and now has those of this product, which
--- show that nothing is founded, also after a crash.
+-- It named this product, was raised where its version was an older one, and shows the rows that it had; or it had no tables, of this product or
+-- another, and now has those of this product, which show that nothing is founded, also after a crash.
 abbrev pub IsAdopted : State → State → Type 0
-IsAdopted old new = (NamesUs old × KeepsOn old new) ⊎ (NamesOthers old × HasNoTables old × KeepsRows no_rows new × LeavesOnly (HoldsRows no_rows) new)
+IsAdopted old new = (IsTaken old new × KeepsOn old new)
+    ⊎ (NamesOthers old × HasNoTables old × KeepsRows no_rows new × LeavesOnly (HoldsRows no_rows) new)
 
 -- what a crash may leave of a database that is being taken: tables that were raised, or made where there were none
 abbrev pub AdoptedIn : State → Trees → Type 0
-AdoptedIn old trees = RaisedRows old trees ⊎ MadeIn old trees
+AdoptedIn old trees = (RaisedRows old trees × RaisesTo old trees) ⊎ MadeIn old trees
 
 -- why a database is not taken: what keeps it from being adopted, or, of one that doesn't name this product, from being made
 abbrev pub FailsToTake : State → State → Type 0

@@ -7,6 +7,7 @@ use Rattle.std.specs.Ordering.{is_eq}
 use Rattle.std.specs.FinMap as table
 use Rattle.std.proofs.lemmas.Bool.Decides.{nat_tests}
 use Rattle.sqlite.specs.declared.types.Value.TheVariants.{Int, Text}
+use Rattle.sqlite.specs.Effect.{Database}
 use Rattle.sqlite.specs.Order.{Row, value_cmp}
 use Rattle.sqlite.specs.State.{State as Connected}
 use Rattle.sqlite.specs.Table.{Table as SqlTable}
@@ -32,7 +33,7 @@ use Rattle.up_tables.specs.declared.vehicle.VehicleRow.{VehicleRow as VehicleSho
 use Rattle.up_tables.specs.Forms.{image_places, image_row, sha512_places, sha512_row, campaign_places, campaign_row, vehicle_places, vehicle_row, kept_places, kept_row}
 use Rattle.up_tables.specs.Lines.{yes_or_no}
 use Rattle.up_tables.specs.Rows.{columns_at, has_number}
-use Rattle.up_tables.specs.Stands.{IsWith, IsWithin, HasTables, Reads, Lists}
+use Rattle.up_tables.specs.Stands.{AnyRows, IsWith, IsWithin, HasTables, Reads, Lists}
 use Rattle.up_tables.specs.Tables.{up_schema, image_table, image_sha512_table, campaign_table, vehicle_table, kept_table}
 use Rattle.up_store.specs.ColumnRows.{IsImage, IsCampaign, IsKept, AreImages, AreSha512s, AreRunning, last_found}
 use Rattle.up_store.specs.Found.{vehicle_found}
@@ -54,6 +55,15 @@ within_read rows before after reads within =
       mode = subst IsTrue (sym r.mode) within.mode;
       here = λ is_open. subst (IsWith up_schema (ListsRows rows)) (sym r.now_is) (within.here r.was_open);
     }
+
+-- the same of tables that list no state's rows
+pub has_read : (before after : Connected) → (HasTables before → Reads before after) → HasTables before → HasTables after
+has_read before after reads has =
+    let r = reads has in λ is_open. subst (IsWith up_schema AnyRows) (sym r.now_is) (has r.was_open)
+
+pub lists_read : (t : SqlTable) (at : ℕ) (rows_of : List ℕ → List Row) (before after : Connected) → (HasTables before → Reads before after) → HasTables before
+    → Lists at rows_of (before.now.trees t.tree) → Lists at rows_of (after.now.trees t.tree)
+lists_read t at rows_of before after reads has lists = subst (λ (d : Database). Lists at rows_of (d.trees t.tree)) (sym (reads has).now_is) lists
 
 -- the rows are typed
 pub typed_in : (rows : StateRows) (before after : Connected) → (HasTables before → Reads before after) → IsWithin up_schema (ListsRows rows) before → AreTyped rows

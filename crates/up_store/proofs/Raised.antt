@@ -4,6 +4,7 @@ use Rattle.sqlite.specs.State.{State as Connected, Survives}
 use Rattle.up_rows.specs.StateRows.{StateRows}
 use Rattle.up_tables.specs.declared.open.SchemaVersion.{SchemaVersion}
 use Rattle.up_tables.specs.Listed.{ListsTables}
+use Rattle.up_tables.specs.Making.{RaisesTo}
 use Rattle.up_tables.specs.Ours.{Raised, ListsUs}
 use Rattle.up_tables.specs.Stands.{Stands}
 use Rattle.up_tables.specs.Tables.{up_schema}
@@ -29,7 +30,7 @@ rows_again version rows old new is_open was now =
       committed = now.committed;
     }
 
-pub raised_rows : (old new : Connected) → Survives old new (Raised old) → Survives old new (RaisedRows old)
+pub raised_rows : (old new : Connected) → Survives old new (λ trees. Raised old trees × RaisesTo old trees) → Survives old new (λ trees. RaisedRows old trees × RaisesTo old trees)
 raised_rows old new survives = record {
   clean = survives.clean;
   shield = survives.shield;
@@ -38,13 +39,16 @@ raised_rows old new survives = record {
   closes = survives.closes;
   crash = λ clean db may. elim (survives.crash clean db may) [
     | inl before ↦ inl before
-    | inr raised ↦ inr (
-      raised.1,
-      λ version rows was.
-          let told = raised.2 version (table_rows rows) (tables_of version rows old was) in
-          let were = (was.here raised.0).rows in
-          let held = told.1 in
-          (told.0, record { schema_is = held.schema_is; sound = held.sound; rows = record { last = were.last; numbered = were.numbered; typed = were.typed; tables = held.rows } }),
+    | inr made ↦ inr (
+      (
+        made.0.1,
+        λ version rows was.
+            let told = made.0.2 version (table_rows rows) (tables_of version rows old was) in
+            let were = (was.here made.0.0).rows in
+            let held = told.1 in
+            (told.0, record { schema_is = held.schema_is; sound = held.sound; rows = record { last = were.last; numbered = were.numbered; typed = were.typed; tables = held.rows } }),
+      ),
+      made.1,
     )
   ];
 }

@@ -1,13 +1,39 @@
 -- Rows that are read one after another.
-use Rattle.std.proofs.Common.{◌≡◌, ◌+◌, ◌<◌, ℕ, zero, suc, List, [], ◌∷◌, true, length, take, get_or, string_bytes, Result, Ok, Err, OnOk, inl, refl, sym, ap, subst, ◌∙◌, arith}
+use Rattle.std.proofs.Common.{◌≡◌, ◌+◌, ◌<◌, ℕ, zero, suc, List, [], ◌∷◌, true, length, take, get_or, string_bytes, Option, Some, None, Result, Ok, Err, OnOk, inl, refl, sym, ap, subst, ◌∙◌, arith}
+use Rattle.std.specs.Prelude.{IfOk, IsSomeAnd}
+use Rattle.sqlite.specs.Effect.{Database}
+use Rattle.sqlite.specs.State.{State as Connected}
 use Rattle.up_canon.specs.Names.{Name, Table}
 use Rattle.up_columns.specs.CampaignColumns.{reach_in}
 use Rattle.up_plan.specs.Campaigns.{CampaignData}
 use Rattle.up_plan.specs.Planning.{reaches}
 use Rattle.up_plan.specs.declared.campaign.Reach.{Reach}
 use Rattle.up_tables.specs.declared.campaign.CampaignRow.{CampaignRow}
+use Rattle.up_tables.specs.Stands.{IsWith, HasTables, AnyRows, Reads}
+use Rattle.up_tables.specs.Tables.{up_schema}
 use Rattle.up_tables.specs.declared.values.StoreFault.{StoreFault}
 use Rattle.up_store.specs.ReadAs.{InTurn, PutsCampaign, PutsReaching}
+
+-- of what was read of a row
+pub some_then : {A : Type 0} (P Q : A → Type 0) (read : Option A) → ((x : A) → P x → Q x) → IsSomeAnd read P → IsSomeAnd read Q
+some_then P Q None f h = h
+some_then P Q (Some x) f h = f x h
+
+pub some_both : {A : Type 0} (P Q : A → Type 0) (read : Option A) → IsSomeAnd read P → IsSomeAnd read Q → IsSomeAnd read (λ x. P x × Q x)
+some_both P Q None h k = h
+some_both P Q (Some x) h k = (h, k)
+
+pub both_then : {A E : Type 0} (P Q R : A → Type 0) (r : Result A E) → ((x : A) → P x → Q x → R x) → IfOk r P → IfOk r Q → IfOk r R
+both_then P Q R (Ok x) f h k = f x h k
+both_then P Q R (Err e) f h k = tt
+
+-- a read that went through leaves the tables, and what they list
+pub tables_stay : (before after : Connected) → (HasTables before → Reads before after) → HasTables before → HasTables after
+tables_stay before after reads has = λ is_open.
+    let r = reads has in subst (IsWith up_schema AnyRows) (sym r.now_is) (has r.was_open)
+
+pub now_stays : (P : Database → Type 0) (before after : Connected) → (HasTables before → Reads before after) → HasTables before → P before.now → P after.now
+now_stays P before after reads has = subst P (sym (reads has).now_is)
 
 -- the row behind those that were read
 pub in_turn_more : {A S : Type 0} (step : A → S → S → Type 0) (xs : List A) (i : ℕ) (x : A) (before mid after : S) → i < length xs → x ≡ get_or xs i x

@@ -1,24 +1,42 @@
 -- What rows are read as, whoever wrote them: each column as what it says, so that a row that says no image, campaign or kept manifest isn't read.
-use Rattle.std.specs.Prelude.{◌≡◌, ◌≢◌, ◌<◌, ◌++◌, ◌∷◌, ◌⊎◌, ℕ, pos, List, [], Option, None, true, false, length, get_or, map, filter, bytes_eq, Ok, IsSomeAnd, MatchOption, string_bytes}
+use Rattle.std.specs.Prelude.{◌≡◌, ◌≢◌, ◌<◌, ◌++◌, ◌∷◌, ◌⊎◌, ℕ, pos, List, [], Option, Some, None, Result, true, false, length, get_or, map, filter}
+use Rattle.std.specs.Prelude.{bytes_eq, Ok, IfOk, IsSomeAnd, MatchOption, option_map, string_bytes}
 use Rattle.std.specs.FinMap as table
+use Rattle.std.specs.List.{list_any}
 use Rattle.std.specs.Option.{option_to_list}
 use Rattle.sqlite.specs.Order.{Row}
+use Rattle.sqlite.specs.State.{State as Connected, HasCleanDisk}
+use Rattle.sqlite.specs.Table.{Table as SqlTable}
 use Rattle.up_canon.specs.Canon.{quoted}
 use Rattle.up_canon.specs.Names.{Name, Table}
 use Rattle.up_plan.specs.Campaigns.{CampaignData}
 use Rattle.up_plan.specs.Images.{ImageData}
 use Rattle.up_plan.specs.Planning.{reaches}
 use Rattle.up_plan.specs.declared.campaign.Reach.{Reach}
+use Rattle.up_machine.specs.declared.rows.EcuRow.{EcuRow}
+use Rattle.up_machine.specs.declared.rows.Founding.{Founding}
 use Rattle.up_machine.specs.declared.rows.Kept.{Kept}
+use Rattle.up_machine.specs.declared.rows.VehicleRow.{VehicleRow}
 use Rattle.up_columns.specs.Columns.{names_in, needs_in, file_names_in}
 use Rattle.up_columns.specs.CampaignColumns.{reach_in, campaign_items_in}
 use Rattle.up_columns.specs.PlanColumns.{plan_in}
 use Rattle.up_tables.specs.declared.campaign.CampaignRow.{CampaignRow}
+use Rattle.up_tables.specs.declared.ecu.EcuRow.{EcuRow as EcuShown}
 use Rattle.up_tables.specs.declared.image.ImageRow.{ImageRow}
 use Rattle.up_tables.specs.declared.image_sha512.Sha512Row.{Sha512Row}
 use Rattle.up_tables.specs.declared.kept.KeptRow.{KeptRow}
-use Rattle.up_tables.specs.Forms.{campaign_places, campaign_row, kept_places, kept_row}
-use Rattle.up_tables.specs.Rows.{columns_at, has_number}
+use Rattle.up_tables.specs.declared.meta.MetaRow.{MetaRow}
+use Rattle.up_tables.specs.declared.repo_file.FileRow.{FileRow}
+use Rattle.up_tables.specs.declared.role_key.RoleKeyRow.{RoleKeyRow}
+use Rattle.up_tables.specs.declared.vehicle.VehicleRow.{VehicleRow as VehicleShown}
+use Rattle.up_tables.specs.Ecus.{owns}
+use Rattle.up_tables.specs.Forms.{campaign_places, campaign_row, file_places, file_row, image_places, image_row, kept_places, kept_row}
+use Rattle.up_tables.specs.Forms.{meta_values, role_key_places, role_key_row, sha512_places, sha512_row, vehicle_places, vehicle_row}
+use Rattle.up_tables.specs.Found.{ReadsByPlace, meta_shown}
+use Rattle.up_tables.specs.Rows.{columns_at, has_number, has_text}
+use Rattle.up_tables.specs.Stands.{HasTables, Lists}
+use Rattle.up_tables.specs.Tables.{meta_table}
+use Rattle.up_store.specs.Shown.{IsFoundingOf, ecu_read, vehicle_read}
 
 -- ---- one row
 
@@ -127,5 +145,99 @@ ReadsReaching vehicle rows_of read = (shown : List CampaignRow) × RunOf rows_of
 -- the kept manifest of this vehicle and counter is what its row is read as
 abbrev pub ReadsKept : Name → ℕ → (List ℕ → List Row) → Option Kept → Type 0
 ReadsKept vehicle counter rows_of read =
-    (shown : Option KeptRow) × (map (columns_at kept_places) (filter (has_number 1 (pos counter)) (rows_of vehicle)) ≡ map kept_row (option_to_list shown))
+    (shown : Option KeptRow)
+    × (map (columns_at kept_places) (filter (has_number 1 (pos counter)) (rows_of vehicle)) ≡ map kept_row (option_to_list shown))
     × IsReadOf IsReadKept shown read
+
+-- ---- of vehicles and their ECUs
+
+-- what is found is told by the rows of two tables, of each by the text in the column at its place
+abbrev pub FindsBoth : {A E : Type 0} → SqlTable → ℕ → SqlTable → ℕ → ((List ℕ → List Row) → (List ℕ → List Row) → A → Type 0)
+    → Connected → Connected → Result A E → Type 0
+FindsBoth first at second place told old new result =
+    HasCleanDisk new → IfOk result (λ found. (rows_of more_of : List ℕ → List Row) → HasTables old → Lists at rows_of (old.now.trees first.tree)
+    → Lists place more_of (old.now.trees second.tree) → told rows_of more_of found)
+
+-- of this vehicle the row, or none
+abbrev pub VehicleOf : Name → (List ℕ → List Row) → Option VehicleShown → Type 0
+VehicleOf vehicle rows_of shown = map (columns_at vehicle_places) (rows_of vehicle) ≡ map vehicle_row (option_to_list shown)
+
+-- the vehicle of this name is what its row is read as
+abbrev pub ReadsVehicle : Name → (List ℕ → List Row) → Option VehicleRow → Type 0
+ReadsVehicle vehicle rows_of read = (shown : Option VehicleShown) × VehicleOf vehicle rows_of shown × (read ≡ option_map vehicle_read shown)
+
+-- its greatest counter is the one in its row
+abbrev pub ReadsLast : Name → (List ℕ → List Row) → Option ℕ → Type 0
+ReadsLast vehicle rows_of read = (shown : Option VehicleShown) × VehicleOf vehicle rows_of shown × (read ≡ option_map (λ v. v.last_counter) shown)
+
+-- its ECUs are what their rows are read as, in the order of their places
+abbrev pub ReadsEcus : Name → (List ℕ → List Row) → List EcuRow → Type 0
+ReadsEcus vehicle rows_of read = (shown : List EcuShown) × ReadsByPlace (rows_of vehicle) shown × (read ≡ map ecu_read shown)
+
+-- the ECU stands in the rows of this vehicle, and of no other; of none where there is none
+abbrev pub StandsIn : Name → (List ℕ → List Row) → Option Name → Type 0
+StandsIn ecu rows_of owner = (vehicle : List ℕ) → list_any (has_text 0 ecu) (rows_of vehicle) ≡ owns owner vehicle
+
+-- the vehicle in whose rows the ECU stands, else the one in whose rows of replaced ECUs it does
+abbrev pub ReadsOwner : Name → (List ℕ → List Row) → (List ℕ → List Row) → Option Name → Type 0
+ReadsOwner ecu rows_of retired_of read =
+    (owner : Option Name) × StandsIn ecu rows_of owner × MatchOption owner (StandsIn ecu retired_of read) (λ vehicle. read ≡ Some vehicle)
+
+-- ---- of images, second hashes and the founding
+
+-- the row's 64 bytes
+pub record IsReadSha512 (shown : Sha512Row) (read : List ℕ) : Type 0 where
+  pub whole : length shown.sha512.items ≡ 64
+  pub bytes : read ≡ shown.sha512.items
+
+-- the second hash of the image of this filename is what its row is read as
+abbrev pub ReadsSha512 : Name → (List ℕ → List Row) → Option (List ℕ) → Type 0
+ReadsSha512 file rows_of read =
+    (shown : Option Sha512Row) × (map (columns_at sha512_places) (rows_of file) ≡ map sha512_row (option_to_list shown))
+    × IsReadOf IsReadSha512 shown read
+
+-- all second hashes are what their rows are read as, one after another
+abbrev pub ReadsSha512s : (List ℕ → List Row) → Table (List ℕ) → Type 0
+ReadsSha512s rows_of read =
+    (shown : List Sha512Row)
+    × ((name : List ℕ) → map (columns_at sha512_places) (rows_of name) ≡ map sha512_row (filter (λ i. bytes_eq (string_bytes i.file) name) shown))
+    × InTurn PutsSha512 shown table.empty read
+
+-- it is read, with the second hash that it has
+abbrev pub IsRead : ImageRow → ImageData → Type 0
+IsRead shown read = IsReadImage shown read.sha512 read
+
+-- the image of this filename is what its row is read as, with the second hash of that filename
+abbrev pub ReadsImage : Name → (List ℕ → List Row) → (List ℕ → List Row) → Option ImageData → Type 0
+ReadsImage file rows_of hashes_of read =
+    (shown : Option ImageRow) × (map (columns_at image_places) (rows_of file) ≡ map image_row (option_to_list shown))
+    × IsReadOf (λ row image. IsRead row image × ReadsSha512 file hashes_of image.sha512) shown read
+
+-- the images of these rows are what they are read as, one after another, each with the second hash of its name
+abbrev pub ReadsBeside : List ImageRow → (List ℕ → List Row) → Table ImageData → Type 0
+ReadsBeside shown hashes_of read = (hashes : Table (List ℕ)) × ReadsSha512s hashes_of hashes × InTurn (PutsImage hashes) shown table.empty read
+
+-- all images are what their rows are read as
+abbrev pub ReadsImages : (List ℕ → List Row) → (List ℕ → List Row) → Table ImageData → Type 0
+ReadsImages rows_of hashes_of read =
+    (shown : List ImageRow)
+    × ((name : List ℕ) → map (columns_at image_places) (rows_of name) ≡ map image_row (filter (λ i. bytes_eq (string_bytes i.file) name) shown))
+    × ReadsBeside shown hashes_of read
+
+-- the row of `meta` is there, and this is told of its numbers
+abbrev pub FindsNumbers : {A E : Type 0} → (MetaRow → A → Type 0) → Connected → Connected → Result A E → Type 0
+FindsNumbers told old new result =
+    HasCleanDisk new → IfOk result (λ found. HasTables old
+    → (row : MetaRow) × (meta_shown (old.now.trees meta_table.tree) ≡ meta_values row ∷ []) × told row found)
+
+-- none where its root version is 0, else the founding of these numbers and of the keys of that version
+abbrev pub ReadsFounding : MetaRow → List Row → Option Founding → Type 0
+ReadsFounding row all read =
+    MatchOption read (row.root ≡ 0) (λ founding. (row.root ≢ 0) × (keys : List RoleKeyRow)
+    × (map (columns_at role_key_places) (filter (has_number 0 (pos row.root)) all) ≡ map role_key_row keys) × IsFoundingOf row keys (Some founding))
+
+-- the text of the file of this name is its row's
+abbrev pub ReadsFile : Name → Name → (List ℕ → List ℕ → List Row) → Option (List ℕ) → Type 0
+ReadsFile repository name rows_of read =
+    (shown : Option FileRow) × (map (columns_at file_places) (rows_of repository name) ≡ map file_row (option_to_list shown))
+    × (read ≡ option_map (λ row. string_bytes row.body) shown)

@@ -8,11 +8,12 @@ ghost use Rattle.up_plan.specs.Images.{ImageData};
 ghost use Rattle.up_rows.specs.Changes.{with_image_rows};
 ghost use Rattle.up_store.specs.Fitting.{IsNewImage};
 ghost use Rattle.up_tables.specs.Stands.{IfClean, IsAsCommitted, IsInside};
-ghost use Rattle.up_tables.specs.Statements.{IsStep, IsOpenStep};
+ghost use Rattle.up_tables.specs.Statements.{IsStep, IsOpenStep, Finds};
+ghost use Rattle.up_tables.specs.Tables.{image_table, image_sha512_table};
 ghost use Rattle.up_tables.specs.Tried.{BlamesOne, Ran, Undoes};
 ghost use Rattle.up_store.specs.ColumnRows.{IsImage, AreImages, with_image};
 ghost use Rattle.up_store.specs.Puts.{AreMadeOfTexts, IsMadeOfImage};
-ghost use Rattle.up_store.specs.ReadAs.{IsReadImage};
+ghost use Rattle.up_store.specs.ReadAs.{FindsBoth, IsRead, IsReadImage, ReadsBeside, ReadsImage, ReadsImages, ReadsSha512};
 ghost use Rattle.up_store.specs.Writes.{FitsFounding, image_row_writes, image_writes};
 ghost use Rattle.up_store.specs.Typed.{IsTypedImage};
 ghost use Rattle.up_tables.specs.declared.values.StoreFault.TheVariants.{Memory};
@@ -94,6 +95,8 @@ fn find_image<D: Alter>(
 ) -> Result<Option<Image>, StoreFault>
     requires mode { IfClean IsInside (state D.Store tx.old.conn.now) }
     ensures found { FindsRows (λ rows. table.get rows.images file.now) (state D.Store tx.old.conn.now) (state D.Store tx.new.conn.now) result }
+    ensures shown { FindsBoth image_table 1 image_sha512_table 1 (ReadsImage file.now)
+        (state D.Store tx.old.conn.now) (state D.Store tx.new.conn.now) result }
     ensures open { NeedsOpen (state D.Store tx.old.conn.now) (state D.Store tx.new.conn.now) result }
     ensures blame { BlamesWithin (λ _. ⊤) (state D.Store tx.old.conn.now) (state D.Store tx.new.conn.now) result }
     ensures step { IsStep D.Store tx.old.conn tx.new.conn }
@@ -115,6 +118,9 @@ fn find_with_sha512<D: Alter>(
     requires mode { IfClean IsInside (state D.Store tx.old.conn.now) }
     ensures found { FindsSuch (λ rows read. (image : ImageData)
         → table.get rows.images file.now ≡ Some image → IsImage shown image → read ≡ Some image)
+        (state D.Store tx.old.conn.now) (state D.Store tx.new.conn.now) result }
+    ensures told { IfOk result (λ read. IsSomeAnd read (IsRead shown)) }
+    ensures shown { Finds image_sha512_table 1 (λ rows_of read. IsSomeAnd read (λ image. ReadsSha512 file.now rows_of image.sha512))
         (state D.Store tx.old.conn.now) (state D.Store tx.new.conn.now) result }
     ensures open { NeedsOpen (state D.Store tx.old.conn.now) (state D.Store tx.new.conn.now) result }
     ensures blame { BlamesWithin (λ rows. (image : ImageData) × (table.get rows.images file.now ≡ Some image) × IsImage shown image)
@@ -151,6 +157,7 @@ fn find_images<D: Alter>(
 ) -> Result<Table<Image>, StoreFault>
     requires mode { IfClean IsInside (state D.Store tx.old.conn.now) }
     ensures found { FindsRows (λ rows. rows.images) (state D.Store tx.old.conn.now) (state D.Store tx.new.conn.now) result }
+    ensures shown { FindsBoth image_table 1 image_sha512_table 1 ReadsImages (state D.Store tx.old.conn.now) (state D.Store tx.new.conn.now) result }
     ensures open { NeedsOpen (state D.Store tx.old.conn.now) (state D.Store tx.new.conn.now) result }
     ensures blame { BlamesWithin (λ _. ⊤) (state D.Store tx.old.conn.now) (state D.Store tx.new.conn.now) result }
     ensures step { IsStep D.Store tx.old.conn tx.new.conn }
@@ -170,6 +177,7 @@ fn find_with_sha512s<D: Alter>(
     requires mode { IfClean IsInside (state D.Store tx.old.conn.now) }
     ensures found { FindsSuch (λ rows read. AreImages shown.items rows.images → read ≡ rows.images)
         (state D.Store tx.old.conn.now) (state D.Store tx.new.conn.now) result }
+    ensures shown { Finds image_sha512_table 1 (ReadsBeside shown.items) (state D.Store tx.old.conn.now) (state D.Store tx.new.conn.now) result }
     ensures open { NeedsOpen (state D.Store tx.old.conn.now) (state D.Store tx.new.conn.now) result }
     ensures blame { BlamesWithin (λ rows. AreImages shown.items rows.images) (state D.Store tx.old.conn.now) (state D.Store tx.new.conn.now) result }
     ensures step { IsStep D.Store tx.old.conn tx.new.conn }

@@ -12,13 +12,13 @@ ghost use Rattle.up_rows.specs.Lookups.{kept_with, latest_kept};
 ghost use Rattle.up_rows.specs.SecondHashes.{TellsItsHash};
 ghost use Rattle.up_tables.specs.declared.values.StoreFault.TheVariants as StoreFault;
 ghost use Rattle.up_store.specs.ColumnRows.{IsKept, last_found, with_kept};
-ghost use Rattle.up_store.specs.ReadAs.{IsReadKept, ReadsKept};
+ghost use Rattle.up_store.specs.ReadAs.{IsReadKept, ReadsKept, ReadsLast};
 ghost use Rattle.up_store.specs.Typed.{IsTypedKept, IsTypedVehicle};
 ghost use Rattle.up_store.specs.Fitting.{IsRecorded};
 ghost use Rattle.up_store.specs.Puts.{AreMadeOf, IsMadeOfKept, IsReported, MayAccept, MayReport, with_reported};
 ghost use Rattle.up_tables.specs.Stands.{IfClean, IsAsCommitted, IsInside};
 ghost use Rattle.up_tables.specs.Statements.{IsStep, IsOpenStep, Finds, OnlyReads};
-ghost use Rattle.up_tables.specs.Tables.{kept_table};
+ghost use Rattle.up_tables.specs.Tables.{kept_table, vehicle_table};
 ghost use Rattle.up_tables.specs.Texts.{insert_kept_text};
 ghost use Rattle.up_tables.specs.Tried.{BlamesOne, Ran, Undoes};
 ghost use Rattle.up_store.specs.Lines.{kept_line};
@@ -216,6 +216,7 @@ fn find_last<D: Alter>(
 ) -> Result<Option<Count>, StoreFault>
     requires mode { IfClean IsInside (state D.Store tx.old.conn.now) }
     ensures found { FindsRows (last_found vehicle.now) (state D.Store tx.old.conn.now) (state D.Store tx.new.conn.now) result }
+    ensures shown { Finds vehicle_table 1 (ReadsLast vehicle.now) (state D.Store tx.old.conn.now) (state D.Store tx.new.conn.now) result }
     ensures blame { BlamesWithin (λ _. ⊤) (state D.Store tx.old.conn.now) (state D.Store tx.new.conn.now) result }
     ensures reads { OnlyReads (state D.Store tx.old.conn.now) (state D.Store tx.new.conn.now) result }
     ensures inside { OnOk result (IfClean IsInside (state D.Store tx.new.conn.now)) }

@@ -1,11 +1,14 @@
 //! Root versions and the files that are served.
-ghost use Rattle.std.specs.Prelude.{◌≡◌, ◌↔◌, ◌⊎◌, ◌≤◌, ◌^◌, ⊤, All, Option, Some, None, Ok, Err, OnErr, OnOk, IfOk, IfErr, is_some, map, MatchOption};
+ghost use Rattle.std.specs.Prelude.{◌≡◌, ◌==◌, ◌↔◌, ◌⊎◌, ◌≤◌, ◌^◌, ⊤, not, All, List, Option, Some, None, Ok, Err, OnErr, OnOk, IfOk, IfErr, is_some, map, MatchOption};
 ghost use Rattle.sqlite.specs.Held.{state};
 ghost use Rattle.sqlite.specs.State.{HasCleanDisk, Survives};
 ghost use Rattle.up_rows.specs.Changes.{with_root_rows, with_register_rows};
 ghost use Rattle.up_rows.specs.Lookups.{text_held};
 ghost use Rattle.up_rows.specs.StateRows.{StateRows};
-ghost use Rattle.up_tables.specs.Tables.{up_schema};
+ghost use Rattle.up_tables.specs.Tables.{role_key_table, up_schema};
+ghost use Rattle.sqlite.specs.Order.{Row};
+ghost use Rattle.up_store.specs.ReadAs.{FindsNumbers, ReadsFile, ReadsFounding};
+ghost use Rattle.up_store.specs.Lines.{repository_word as word_of};
 ghost use Rattle.up_store.specs.Listing.{ListsRows};
 ghost use Rattle.up_machine.specs.declared.rows.Founding.{Founding as FoundingData};
 ghost use Rattle.up_tables.specs.Forms.{FitMeta, FitRoleKey, role_key_row};
@@ -15,8 +18,8 @@ ghost use Rattle.up_store.specs.Shown.{file_read, meta_told, IsFoundingOf};
 ghost use Rattle.up_store.specs.Typed.{IsTypedFounding};
 ghost use Rattle.up_store.specs.Puts.{AreMadeOfRoot, AreMadeOfTexts, HasFilesOnce, with_founding, with_key_lines, with_files};
 ghost use Rattle.up_store.specs.Fitting.{IsNextRoot, IsSameRoot};
-ghost use Rattle.up_tables.specs.Stands.{IfClean, IsAsCommitted, IsInside, IsOpen, IsWithin};
-ghost use Rattle.up_tables.specs.Statements.{IsStep, IsOpenStep};
+ghost use Rattle.up_tables.specs.Stands.{IfClean, IsAsCommitted, IsInside, IsOpen, IsWithin, ListsAll};
+ghost use Rattle.up_tables.specs.Statements.{IsStep, IsOpenStep, FindsAll, FindsFiles};
 ghost use Rattle.up_tables.specs.Tried.{BlamesOne, Ran, Undoes};
 ghost use Rattle.up_store.specs.Writes.{FitsFounding, each_with, founding_writes, file_writes, register_writes, root_writes};
 ghost use Rattle.up_store.specs.Connections.{NeedsOpen, Answers, FindsRows, Blames, BlamesWithin, PutsRows, PutsTables, TakesRows};
@@ -164,6 +167,8 @@ fn find_founding<D: Alter>(
 ) -> Result<Option<Founding>, StoreFault>
     requires mode { IfClean IsInside (state D.Store tx.old.conn.now) }
     ensures found { FindsRows (λ rows. rows.founding) (state D.Store tx.old.conn.now) (state D.Store tx.new.conn.now) result }
+    ensures shown { FindsNumbers (λ row read. (all : List Row) → ListsAll all ((state D.Store tx.old.conn.now).now.trees role_key_table.tree)
+        → ReadsFounding row all read) (state D.Store tx.old.conn.now) (state D.Store tx.new.conn.now) result }
     ensures blame { BlamesWithin (λ _. ⊤) (state D.Store tx.old.conn.now) (state D.Store tx.new.conn.now) result }
     ensures open { NeedsOpen (state D.Store tx.old.conn.now) (state D.Store tx.new.conn.now) result }
     ensures step { IsStep D.Store tx.old.conn tx.new.conn }
@@ -178,6 +183,8 @@ fn find_founding<D: Alter>(
 fn find_whether_founded<D: Alter>(tx: &mut Transaction<'_, D>) -> Result<bool, StoreFault>
     requires mode { IfClean IsInside (state D.Store tx.old.conn.now) }
     ensures found { FindsRows (λ rows. is_some rows.founding) (state D.Store tx.old.conn.now) (state D.Store tx.new.conn.now) result }
+    ensures shown { FindsNumbers (λ row founded. founded ≡ not (row.root == 0))
+        (state D.Store tx.old.conn.now) (state D.Store tx.new.conn.now) result }
     ensures blame { BlamesWithin (λ _. ⊤) (state D.Store tx.old.conn.now) (state D.Store tx.new.conn.now) result }
     ensures open { NeedsOpen (state D.Store tx.old.conn.now) (state D.Store tx.new.conn.now) result }
     ensures step { IsStep D.Store tx.old.conn tx.new.conn }
@@ -211,6 +218,7 @@ fn find_founded<D: Alter>(
     ensures found { HasCleanDisk (state D.Store tx.new.conn.now) → IfOk result (λ found. (rows : StateRows)
         → IsWithin up_schema (ListsRows rows) (state D.Store tx.old.conn.now) → row ≡ meta_told rows.founding → found ≡ rows.founding) }
     ensures told { IfOk result (λ read. MatchOption read (row.root ≡ 0) (λ founding. meta_told (Some founding) ≡ row)) }
+    ensures shown { FindsAll role_key_table (ReadsFounding row) (state D.Store tx.old.conn.now) (state D.Store tx.new.conn.now) result }
     ensures blame { BlamesWithin (λ rows. row ≡ meta_told rows.founding) (state D.Store tx.old.conn.now) (state D.Store tx.new.conn.now) result }
     ensures step { IsStep D.Store tx.old.conn tx.new.conn }
 {
@@ -250,6 +258,7 @@ fn find_file<D: Alter>(
 ) -> Result<Option<Text>, StoreFault>
     requires mode { IfClean IsInside (state D.Store tx.old.conn.now) }
     ensures found { FindsRows (λ rows. text_held rows repository name.now) (state D.Store tx.old.conn.now) (state D.Store tx.new.conn.now) result }
+    ensures shown { FindsFiles (ReadsFile (word_of repository) name.now) (state D.Store tx.old.conn.now) (state D.Store tx.new.conn.now) result }
     ensures blame { BlamesWithin (λ _. ⊤) (state D.Store tx.old.conn.now) (state D.Store tx.new.conn.now) result }
     ensures open { NeedsOpen (state D.Store tx.old.conn.now) (state D.Store tx.new.conn.now) result }
     ensures step { IsStep D.Store tx.old.conn tx.new.conn }

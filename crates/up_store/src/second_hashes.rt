@@ -8,12 +8,13 @@ ghost use Rattle.std.specs.Prelude.{◌≢◌, length, string_bytes, Err, IfErr,
 ghost use Rattle.up_tables.specs.declared.values.StoreFault.TheVariants as StoreFault;
 ghost use Rattle.up_plan.specs.Images.{ImageData};
 ghost use Rattle.up_tables.specs.Stands.{IfClean, IsInside, IsOpen};
-ghost use Rattle.up_tables.specs.Statements.{IsStep, IsOpenStep};
+ghost use Rattle.up_tables.specs.Statements.{IsStep, IsOpenStep, Finds};
+ghost use Rattle.up_tables.specs.Tables.{image_sha512_table};
 ghost use Rattle.up_tables.specs.Texts.{insert_sha512_text};
 ghost use Rattle.up_tables.specs.Tried.{BlamesOne, Ran, Undoes};
 ghost use Rattle.up_store.specs.ColumnRows.{AreHashesOf, AreSha512s};
 ghost use Rattle.up_store.specs.Lines.{second_hash, sha512_lines};
-ghost use Rattle.up_store.specs.ReadAs.{InTurn, PutsSha512};
+ghost use Rattle.up_store.specs.ReadAs.{InTurn, IsReadOf, IsReadSha512, PutsSha512, ReadsSha512, ReadsSha512s};
 ghost use Rattle.up_store.specs.Writes.{each_with};
 ghost use Rattle.up_store.specs.Puts.{with_sha512_line};
 ghost use Rattle.up_store.specs.Connections.{NeedsOpen, BlamesWithin, FindsRows, FindsSuch, PutsTables};
@@ -36,6 +37,7 @@ pub(crate) fn find_sha512<D: Alter>(
     requires mode { IfClean IsInside (state D.Store tx.old.conn.now) }
     ensures found { FindsRows (λ rows. second_hash (table.get rows.images file.now))
         (state D.Store tx.old.conn.now) (state D.Store tx.new.conn.now) result }
+    ensures shown { Finds image_sha512_table 1 (ReadsSha512 file.now) (state D.Store tx.old.conn.now) (state D.Store tx.new.conn.now) result }
     ensures open { NeedsOpen (state D.Store tx.old.conn.now) (state D.Store tx.new.conn.now) result }
     ensures blame { BlamesWithin (λ _. ⊤) (state D.Store tx.old.conn.now) (state D.Store tx.new.conn.now) result }
     ensures step { IsStep D.Store tx.old.conn tx.new.conn }
@@ -49,6 +51,7 @@ pub(crate) fn find_sha512<D: Alter>(
 /// A row as it stands in the table, read.
 fn read_sha512(shown: Option<Sha512Row>) -> Result<Option<[u8; 64]>, StoreFault>
     ensures ok { IfOk result (λ read. read ≡ option_map (λ row. row.sha512.items) shown) }
+    ensures told { IfOk result (IsReadOf IsReadSha512 shown) }
     ensures fault { IfErr result (λ fault. (fault ≡ StoreFault.Store) × MatchOption shown ⊥ (λ row. length row.sha512.items ≢ 64)) }
 {
     match shown {
@@ -64,6 +67,7 @@ pub(crate) fn find_sha512s<D: Alter>(
 ) -> Result<Table<[u8; 64]>, StoreFault>
     requires mode { IfClean IsInside (state D.Store tx.old.conn.now) }
     ensures found { FindsSuch (λ rows read. AreHashesOf read rows.images) (state D.Store tx.old.conn.now) (state D.Store tx.new.conn.now) result }
+    ensures shown { Finds image_sha512_table 1 ReadsSha512s (state D.Store tx.old.conn.now) (state D.Store tx.new.conn.now) result }
     ensures open { NeedsOpen (state D.Store tx.old.conn.now) (state D.Store tx.new.conn.now) result }
     ensures blame { BlamesWithin (λ _. ⊤) (state D.Store tx.old.conn.now) (state D.Store tx.new.conn.now) result }
     ensures step { IsStep D.Store tx.old.conn tx.new.conn }

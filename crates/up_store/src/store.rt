@@ -4,7 +4,7 @@ ghost use Rattle.std.specs.Result.{IsOk};
 ghost use Rattle.sqlite.specs.Held.{state};
 ghost use Rattle.sqlite.specs.State.{HasCleanDisk, Survives, IsRolledBack};
 ghost use Rattle.up_rows.specs.StateRows.{StateRows, no_rows};
-ghost use Rattle.up_tables.specs.Making.{FailsToMake, FailsToRaise};
+ghost use Rattle.up_tables.specs.Making.{FailsToMake, FailsToRaise, IsTaken, RaisesTo};
 ghost use Rattle.up_tables.specs.Ours.{NamesUs, NamesOthers, HasFailed, IsHindered};
 ghost use Rattle.up_tables.specs.Stands.{IfClean, IsInside, IsAsCommitted, LeavesOnly, HasNoTables};
 ghost use Rattle.up_tables.specs.declared.open.OpenFault.TheVariants.{NotOurs};
@@ -86,7 +86,9 @@ impl<D: Alter> Store<D> {
         ensures ours { IfOk result (λ s. HasCleanDisk (state D.Store s) → NamesUs (state D.Store conn)) }
         ensures taken { IfOk result (λ s. (version : SchemaVersion) (rows : StateRows)
             → IfClean (KeepsAs version rows) (state D.Store conn) → IfClean (KeepsRows rows) (state D.Store s)) }
-        ensures crash { IfOk result (λ s. Survives (state D.Store conn) (state D.Store s) (RaisedRows (state D.Store conn))) }
+        ensures ran { IfOk result (λ s. HasCleanDisk (state D.Store s) → IsTaken (state D.Store conn) (state D.Store s)) }
+        ensures crash { IfOk result (λ s. Survives (state D.Store conn) (state D.Store s)
+            (λ trees. RaisedRows (state D.Store conn) trees × RaisesTo (state D.Store conn) trees)) }
         ensures open { IfOk result (λ s. HasCleanDisk (state D.Store s) → IsTrue (state D.Store conn).is_open) }
         ensures kept_err { IfErr result (λ e. IfClean (IsAsCommitted (state D.Store conn)) (state D.Store e.0)) }
         ensures others { IfErr result (λ e. e.1 ≡ NotOurs → HasCleanDisk (state D.Store e.0) → NamesOthers (state D.Store conn)) }
@@ -94,7 +96,8 @@ impl<D: Alter> Store<D> {
             → (version : SchemaVersion) (rows : StateRows) → IfClean (KeepsAs version rows) (state D.Store conn) → e.1 ≢ NotOurs) }
         ensures cause { IfErr result (λ e. e.1 ≡ Fault.Store → HasCleanDisk (state D.Store e.0)
             → IsHindered (state D.Store conn) (state D.Store e.0) ⊎ FailsToRaise (state D.Store conn)) }
-        ensures crash_err { IfErr result (λ e. Survives (state D.Store conn) (state D.Store e.0) (RaisedRows (state D.Store conn))) }
+        ensures crash_err { IfErr result (λ e. Survives (state D.Store conn) (state D.Store e.0)
+            (λ trees. RaisedRows (state D.Store conn) trees × RaisesTo (state D.Store conn) trees)) }
         ensures mode { IfErr result (λ e. (state D.Store e.0).in_transaction ≡ false) }
     {
         match taken(take_tables(&mut conn)) {

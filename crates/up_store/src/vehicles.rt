@@ -8,12 +8,14 @@ ghost use Rattle.std.specs.Prelude.{◌↔◌, ◌<◌, ◌≤◌, ◌^◌, true
 ghost use Rattle.up_canon.specs.Canon.{max_count};
 ghost use Rattle.up_canon.specs.Names.{is_ident};
 ghost use Rattle.up_tables.specs.declared.values.StoreFault.TheVariants as StoreFault;
+ghost use Rattle.up_store.specs.ReadAs.{FindsBoth, ReadsEcus, ReadsOwner, ReadsVehicle, StandsIn};
 ghost use Rattle.up_store.specs.Shown.{vehicle_read};
 ghost use Rattle.up_store.specs.Typed.{IsTypedVehicleRow};
 ghost use Rattle.up_rows.specs.Lookups.{last_owner, owner_found};
 ghost use Rattle.up_store.specs.Found.{vehicle_found, ecus_found};
 ghost use Rattle.up_tables.specs.Stands.{IfClean, IsAsCommitted, IsInside};
-ghost use Rattle.up_tables.specs.Statements.{IsStep, IsOpenStep};
+ghost use Rattle.up_tables.specs.Statements.{IsStep, IsOpenStep, Finds};
+ghost use Rattle.up_tables.specs.Tables.{ecu_table, retired_table, vehicle_table};
 ghost use Rattle.up_tables.specs.Tried.{BlamesOne, Ran, Undoes};
 ghost use Rattle.up_store.specs.Writes.{FitsVehicle, vehicle_writes};
 ghost use Rattle.up_tables.specs.Forms.{FitVehicle};
@@ -107,6 +109,7 @@ fn find_vehicle<D: Alter>(
 ) -> Result<Option<VehicleRow>, StoreFault>
     requires mode { IfClean IsInside (state D.Store tx.old.conn.now) }
     ensures found { FindsRows (vehicle_found vehicle.now) (state D.Store tx.old.conn.now) (state D.Store tx.new.conn.now) result }
+    ensures shown { Finds vehicle_table 1 (ReadsVehicle vehicle.now) (state D.Store tx.old.conn.now) (state D.Store tx.new.conn.now) result }
     ensures blame { BlamesWithin (λ _. ⊤) (state D.Store tx.old.conn.now) (state D.Store tx.new.conn.now) result }
     ensures open { NeedsOpen (state D.Store tx.old.conn.now) (state D.Store tx.new.conn.now) result }
     ensures step { IsStep D.Store tx.old.conn tx.new.conn }
@@ -140,6 +143,7 @@ fn find_ecus<D: Alter>(
 ) -> Result<Listed<EcuRow>, StoreFault>
     requires mode { IfClean IsInside (state D.Store tx.old.conn.now) }
     ensures found { FindsRows (ecus_found vehicle.now) (state D.Store tx.old.conn.now) (state D.Store tx.new.conn.now) result }
+    ensures shown { Finds ecu_table 2 (ReadsEcus vehicle.now) (state D.Store tx.old.conn.now) (state D.Store tx.new.conn.now) result }
     ensures blame { BlamesWithin (λ _. ⊤) (state D.Store tx.old.conn.now) (state D.Store tx.new.conn.now) result }
     ensures open { NeedsOpen (state D.Store tx.old.conn.now) (state D.Store tx.new.conn.now) result }
     ensures step { IsStep D.Store tx.old.conn tx.new.conn }
@@ -157,6 +161,8 @@ fn find_owner<D: Alter>(
 ) -> Result<Option<Ident>, StoreFault>
     requires mode { IfClean IsInside (state D.Store tx.old.conn.now) }
     ensures found { FindsRows (owner_found ecu.now) (state D.Store tx.old.conn.now) (state D.Store tx.new.conn.now) result }
+    ensures shown { FindsBoth ecu_table 2 retired_table 2 (ReadsOwner ecu.now)
+        (state D.Store tx.old.conn.now) (state D.Store tx.new.conn.now) result }
     ensures blame { BlamesWithin (λ _. ⊤) (state D.Store tx.old.conn.now) (state D.Store tx.new.conn.now) result }
     ensures open { NeedsOpen (state D.Store tx.old.conn.now) (state D.Store tx.new.conn.now) result }
     ensures step { IsStep D.Store tx.old.conn tx.new.conn }
@@ -175,12 +181,13 @@ fn find_retired<D: Alter>(
 ) -> Result<Option<Ident>, StoreFault>
     requires mode { IfClean IsInside (state D.Store tx.old.conn.now) }
     ensures found { FindsRows (last_owner ecu.now) (state D.Store tx.old.conn.now) (state D.Store tx.new.conn.now) result }
+    ensures shown { Finds retired_table 2 (StandsIn ecu.now) (state D.Store tx.old.conn.now) (state D.Store tx.new.conn.now) result }
     ensures blame { BlamesWithin (λ _. ⊤) (state D.Store tx.old.conn.now) (state D.Store tx.new.conn.now) result }
     ensures open { NeedsOpen (state D.Store tx.old.conn.now) (state D.Store tx.new.conn.now) result }
     ensures step { IsStep D.Store tx.old.conn tx.new.conn }
 {
     match retired_owner(tx, ecu.text()) {
-        Ok(Some(shown)) => read_owner(shown),
+        Ok(Some(last)) => read_owner(last),
         Ok(None) => Ok(None),
         Err(fault) => Err(fault),
     }

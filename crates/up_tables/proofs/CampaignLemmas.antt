@@ -1,5 +1,5 @@
 -- The statements on campaigns that put rows in and read them.
-use Rattle.std.proofs.Common.{◌≡◌, ℕ, pos, List, [], ◌∷◌, map, filter, Result, OnOk, IfOk, Option, IsTrue, refl, ap, ◌∙◌, codes, string_bytes, append-nil, bytes_eq, drop, ◌⊎◌, Err, IfErr, inl, inr}
+use Rattle.std.proofs.Common.{◌≡◌, ℕ, pos, List, [], ◌∷◌, map, filter, Result, OnOk, IfOk, Option, IsTrue, refl, sym, ap, ◌∙◌, codes, string_bytes, append-nil, bytes_eq, drop, ◌⊎◌, Err, IfErr, inl, inr}
 use Rattle.std.specs.Option.{option_to_list}
 use Rattle.std.specs.Result.{IsOkAnd}
 use Rattle.std.specs.Ordering.{is_eq}
@@ -21,18 +21,21 @@ use Rattle.sqlite_value.specs.declared.keys.Collation.TheVariants.{Binary}
 use Rattle.up_tables.proofs.RefusalLemmas.{Writes}
 use Rattle.up_tables.specs.Texts.{insert_campaign_text}
 use Rattle.up_tables.specs.Rows.{columns_at, has_number, with_row, bare}
-use Rattle.up_tables.specs.Stands.{Lists, IfClean, IsInside, Alters, HasTables}
+use Rattle.up_tables.specs.Stands.{Lists, ListsAll, IfClean, IsInside, Alters, HasTables}
 use Rattle.up_tables.specs.declared.values.StoreFault.{StoreFault}
 use Rattle.up_tables.proofs.AnswerLemmas.{over, given, all_columns, equals_int}
 use Rattle.up_tables.proofs.Casts.{cast_int, cast_null}
 use Rattle.up_tables.proofs.EcuRows.{text_is, column_after}
 use Rattle.up_tables.proofs.EcuUpsert.{equals}
 use Rattle.up_tables.proofs.InsertLemmas.{inserts_in}
+use Rattle.sqlite_trees.specs.View.{IsShaped}
+use Rattle.sqlite_trees.specs.declared.store.Shape.TheVariants.{Table as TableShape}
 use Rattle.up_tables.specs.Tables.{up_schema, campaign_table}
 use Rattle.up_tables.specs.Forms.{campaign_row, campaign_places}
 use Rattle.up_tables.specs.Lines.{yes_or_no}
 use Rattle.up_tables.specs.declared.campaign.CampaignRow.{CampaignRow}
 use Rattle.up_tables.proofs.ByNameLemmas.{listed_in, named_in, all_in, named_blames, all_blames}
+use Rattle.up_tables.proofs.StateLemmas.{each_in, ok_then}
 use Rattle.up_tables.proofs.ReadLemmas.{Asks, answers_all, by_rowid}
 use Rattle.up_tables.specs.Faults.{store_fault}
 use Rattle.up_tables.specs.declared.values.StoreFault.TheVariants.{Store}
@@ -106,6 +109,15 @@ pub finds_running : {X R : Type 0} (items : X → List Row) (list : R → List C
 finds_running items list answer r old new h ran =
     all_in items list campaign_table running_text part campaign_row (λ c. string_bytes c.name) (has_number 3 (pos 1)) (λ x. refl) (λ x n. refl) (λ x n. text_is (string_bytes x.name) n) answer r old new
     (running_answer old new) h ran
+
+-- in the order of the table
+pub order_running : {X R : Type 0} (items : X → List Row) (list : R → List CampaignRow) (answer : Result X Error) (r : Result R StoreFault) (old new : State)
+    → IfOk r (λ found. IsOkAnd answer (λ v. map part (items v) ≡ map campaign_row (list found))) → IfOk answer (λ v. Shown running_text [] old new (items v))
+    → IfOk r (λ found. (all : List Row) → HasTables old → ListsAll all (old.now.trees campaign_table.tree) → map part (filter (has_number 3 (pos 1)) all) ≡ map campaign_row (list found))
+order_running items list answer r old new h ran =
+    ok_then _ _ r (λ found is all has lists. ap (λ xs. map part (filter (has_number 3 (pos 1)) xs)) (sym lists.every) ∙ is lists.shaped has)
+    (each_in items part part (λ x. refl) campaign_row running_text [] old new (IsShaped TableShape (old.now.trees campaign_table.tree)) list (filter (has_number 3 (pos 1)) (bare (old.now.trees campaign_table.tree))) answer r
+    (λ shown' shaped has. running_answer old new shown' has shaped.0) h ran)
 
 -- ---- faults of the reads
 

@@ -15,10 +15,12 @@ use Rattle.sqlite.proofs.Callers.{IsPlain, command_of}
 use Rattle.sqlite_tied.specs.Compute.{everything}
 use Rattle.up_tables.proofs.RefusalLemmas.{Writes}
 use Rattle.up_tables.specs.Texts.{insert_image_text}
+use Rattle.sqlite_trees.specs.View.{IsShaped}
+use Rattle.sqlite_trees.specs.declared.store.Shape.TheVariants.{Table as TableShape}
 use Rattle.up_tables.specs.Tables.{up_schema, image_table}
-use Rattle.up_tables.specs.Rows.{columns_at, with_row}
+use Rattle.up_tables.specs.Rows.{bare, columns_at, with_row}
 use Rattle.up_tables.specs.Forms.{image_row, image_places}
-use Rattle.up_tables.specs.Stands.{Lists, IfClean, IsInside, Alters, HasTables}
+use Rattle.up_tables.specs.Stands.{Lists, ListsAll, IfClean, IsInside, Alters, HasTables}
 use Rattle.up_tables.specs.declared.image.ImageRow.{ImageRow}
 use Rattle.up_tables.specs.declared.values.StoreFault.{StoreFault}
 use Rattle.up_tables.proofs.AnswerLemmas.{over, given, all_columns}
@@ -28,7 +30,7 @@ use Rattle.up_tables.proofs.EcuRows.{text_is, column_after}
 use Rattle.up_tables.proofs.EcuUpsert.{equals}
 use Rattle.up_tables.proofs.InsertLemmas.{inserts_in}
 use Rattle.up_tables.proofs.ReadLemmas.{Asks, answers_all, by_rowid}
-use Rattle.up_tables.proofs.StateLemmas.{ok_then}
+use Rattle.up_tables.proofs.StateLemmas.{each_in, ok_then}
 use Rattle.up_tables.specs.Faults.{store_fault}
 use Rattle.up_tables.specs.declared.values.StoreFault.TheVariants.{Store}
 use Rattle.up_tables.specs.Statements.{BlamesDisk, HoldsBy}
@@ -93,6 +95,15 @@ finds_images items list answer r old new h ran =
     ok_then _ _ r (λ found is rows_of has lists name. ap (map part) (sym (filter_true (rows_of name))) ∙ is rows_of has lists name)
     (all_in items list image_table all_images_text part image_row (λ i. string_bytes i.file) (λ _. true) (λ x. refl) (λ x n. refl) (λ x n. text_is (string_bytes x.file) n) answer r old new
     (λ shown' has table. answers_all up_schema all_images_text 5 [] (all_columns 7) names [] (λ _. true) part (λ x. refl) (shows []) (λ db. refl) all_is old new shown' has table) h ran)
+
+-- in the order of the table
+pub order_images : {X R : Type 0} (items : X → List Row) (list : R → List ImageRow) (answer : Result X Error) (r : Result R StoreFault) (old new : State)
+    → IfOk r (λ found. IsOkAnd answer (λ v. map part (items v) ≡ map image_row (list found))) → IfOk answer (λ v. Shown all_images_text [] old new (items v))
+    → IfOk r (λ found. (all : List Row) → HasTables old → ListsAll all (old.now.trees image_table.tree) → map part all ≡ map image_row (list found))
+order_images items list answer r old new h ran =
+    ok_then _ _ r (λ found is all has lists. ap (map part) (sym lists.every ∙ sym (filter_true (bare (old.now.trees image_table.tree)))) ∙ is lists.shaped has)
+    (each_in items part part (λ x. refl) image_row all_images_text [] old new (IsShaped TableShape (old.now.trees image_table.tree)) list (filter (λ _. true) (bare (old.now.trees image_table.tree))) answer r
+    (λ shown' shaped has. answers_all up_schema all_images_text 5 [] (all_columns 7) names [] (λ _. true) part (λ x. refl) (shows []) (λ db. refl) all_is old new shown' has shaped.0) h ran)
 
 -- ---- faults of the reads
 

@@ -12,6 +12,7 @@ pub mod UpdateLemmas
 pub mod OnlyLemmas
 pub mod ReadLemmas
 pub mod StateLemmas
+pub mod OrderLemmas
 pub mod CallLemmas
 pub mod ByNameLemmas
 pub mod ImageLemmas
@@ -31,6 +32,7 @@ pub mod OursLemmas
 pub mod OursReads
 pub mod WhoseLemmas
 pub mod RaisedLemmas
+pub mod RanLemmas
 pub mod ReplaceLemmas
 pub mod RetiredLemmas
 pub mod CrashLemmas

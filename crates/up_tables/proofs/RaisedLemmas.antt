@@ -12,9 +12,11 @@ use Rattle.sqlite_trees.specs.declared.store.Store.{Ghosts}
 use Rattle.up_tables.specs.declared.open.SchemaVersion.{SchemaVersion}
 use Rattle.up_tables.specs.declared.open.SchemaVersion.TheVariants.{One, Two, Three}
 use Rattle.up_tables.specs.Listed.{TableRows, ListsTables}
+use Rattle.up_tables.specs.Making.{MakesTrees, RaisesBy, RaisesTo, raising}
 use Rattle.up_tables.specs.Ours.{find_meta_text, IsOurs, IsOlder, ListsUs, NamesVersion, NamesOthers, Raised, RaisedFrom}
 use Rattle.up_tables.specs.Stands.{IfClean, IsWith, IsWithin, GoesOn, Steps, Stands, IsAsCommitted}
 use Rattle.up_tables.specs.Tables.{up_schema}
+use Rattle.up_tables.specs.Tried.{Makes}
 use Rattle.up_tables.specs.Versions.{number_of, schema_of, ListsAs, StandsAs}
 use Rattle.up_tables.proofs.StepLemmas.{shown_open}
 use Rattle.up_tables.proofs.OursLemmas.{before_begun}
@@ -61,14 +63,20 @@ module _ {S : Type 0} (g : Ghosts S) (version : SchemaVersion) (old first mid la
   going : (rows : TableRows) → StandsAs version rows (state g old) → HasCleanDisk (state g mid) → GoesOn up_schema (ListsTables rows) (state g mid)
   going rows was clean = goes clean rows (subst (λ h. IsWithin (schema_of version) (ListsAs version rows) (state g h)) (sym begun) (record { mode = refl; here = was.here }))
 
+  was_open : HasCleanDisk (state g mid) → IsTrue (state g mid).is_open → IsTrue (state g old).is_open
+  was_open clean is_open = subst (λ h. IsTrue (state g h).is_open) begun ((steps.kept clean).was_open is_open)
+
   pub raises : Sees (state g mid) (state g last) (state g mid).now (state g mid).now false → HasCleanDisk (state g mid) → (rows : TableRows) → StandsAs version rows (state g old) → Stands up_schema (ListsTables rows) (state g last)
   raises sees clean rows was = stands_after up_schema (ListsTables rows) (state g mid) (state g last) (going rows was clean) sees
 
-  pub raises_crash : Survives (state g mid) (state g last) (λ db. db ≡ (state g mid).now.trees) → Survives (state g old) (state g last) (RaisedFrom version (state g old))
-  raises_crash ends =
+  pub raises_crash : (HasCleanDisk (state g mid) → IsTrue (state g mid).is_open) → (HasCleanDisk (state g mid) → Makes (state g old).step_limit (raising version) (state g old).now (state g mid).now)
+      → Survives (state g mid) (state g last) (λ db. db ≡ (state g mid).now.trees) → Survives (state g old) (state g last) (λ db. RaisedFrom version (state g old) db × RaisesBy version (state g old) db)
+  raises_crash opened made ends =
       let inside : Survives (state g (record old { in_transaction = true })) (state g mid) (λ _. ⊥) = subst (λ h. Survives (state g h) (state g mid) (λ _. ⊥)) begun steps.survives in
-      survives_then (state g old) (state g mid) (state g last) (λ _. ⊥) (λ db. db ≡ (state g mid).now.trees) (RaisedFrom version (state g old)) (λ _ db none. absurd none)
-      (λ clean db is rows was. let now : HasCleanDisk (state g mid) = omega (arith, ends.clean) in as_held up_schema (ListsTables rows) (state g mid).now db (going rows was now).here is)
+      survives_then (state g old) (state g mid) (state g last) (λ _. ⊥) (λ db. db ≡ (state g mid).now.trees) (λ db. RaisedFrom version (state g old) db × RaisesBy version (state g old) db) (λ _ db none. absurd none)
+      (λ clean db is.
+      let now : HasCleanDisk (state g mid) = omega (arith, ends.clean) in
+      (λ rows was. as_held up_schema (ListsTables rows) (state g mid).now db (going rows was now).here is, (was_open now (opened now), ((state g mid).now, made now, is))))
       (survives_begin g old (state g mid) (λ _. ⊥) inside) ends
 
 -- ---- after `meta` was read
@@ -97,16 +105,20 @@ module _ (w : SchemaVersion) (old mid new : State) (older : IsOlder w) (before :
   pub taken_raised : HasCleanDisk mid → ((rows : TableRows) → StandsAs w rows mid → Stands up_schema (ListsTables rows) new) → (v : SchemaVersion) (rows : TableRows) → StandsAs v rows old → Stands up_schema (ListsTables rows) new
   taken_raised clean raised v rows was = raised rows (as_told v w rows old mid (told v w rows old (tells clean) was) before kept clean was)
 
-  pub crash_raised : (HasCleanDisk mid → IsTrue old.is_open) → (HasCleanDisk mid → NamesVersion w old) → Survives old mid (λ _. ⊥) → Survives mid new (RaisedFrom w mid) → Survives old new (Raised old)
+  pub crash_raised : (HasCleanDisk mid → IsTrue old.is_open) → (HasCleanDisk mid → NamesVersion w old) → Survives old mid (λ _. ⊥) → Survives mid new (λ db. RaisedFrom w mid db × RaisesBy w mid db)
+      → Survives old new (λ db. Raised old db × RaisesTo old db)
   crash_raised opened names first ends =
-      survives_then old mid new (λ _. ⊥) (RaisedFrom w mid) (Raised old) (λ _ db none. absurd none)
-      (λ clean db raised.
+      survives_then old mid new (λ _. ⊥) (λ db. RaisedFrom w mid db × RaisesBy w mid db) (λ db. Raised old db × RaisesTo old db) (λ _ db none. absurd none)
+      (λ clean db made.
       let now : HasCleanDisk mid = omega (arith, ends.clean) in (
-        opened now,
-        (w, older, names now),
-        λ v rows was.
-            let same = told v w rows old (tells now) was in
-            (subst IsOlder (sym same) older, raised rows (as_told v w rows old mid same before kept now was)),
+        (
+          opened now,
+          (w, older, names now),
+          λ v rows was.
+              let same = told v w rows old (tells now) was in
+              (subst IsOlder (sym same) older, made.0 rows (as_told v w rows old mid same before kept now was)),
+        ),
+        (w, older, names now, subst (λ l. MakesTrees l (raising w) old.committed db) first.limit (subst (λ d. MakesTrees mid.step_limit (raising w) d db) ((kept now).undone made.1.0).0 made.1.1)),
       ))
       first ends
 

@@ -15,11 +15,13 @@ use Rattle.sqlite.proofs.Callers.{IsPlain, command_of}
 use Rattle.sqlite_tied.specs.Compute.{everything}
 use Rattle.up_tables.proofs.RefusalLemmas.{Writes}
 use Rattle.up_tables.specs.Texts.{insert_sha512_text}
+use Rattle.sqlite_trees.specs.View.{IsShaped}
+use Rattle.sqlite_trees.specs.declared.store.Shape.TheVariants.{Table as TableShape}
 use Rattle.up_tables.specs.Tables.{up_schema, image_sha512_table}
-use Rattle.up_tables.specs.Rows.{columns_at, with_row}
+use Rattle.up_tables.specs.Rows.{bare, columns_at, with_row}
 use Rattle.up_tables.specs.Lines.{sha512_line}
 use Rattle.up_tables.specs.Forms.{sha512_row, sha512_places}
-use Rattle.up_tables.specs.Stands.{Lists, IfClean, IsInside, Alters, HasTables}
+use Rattle.up_tables.specs.Stands.{Lists, ListsAll, IfClean, IsInside, Alters, HasTables}
 use Rattle.up_tables.specs.declared.image_sha512.Sha512Row.{Sha512Row}
 use Rattle.up_tables.specs.declared.values.StoreFault.{StoreFault}
 use Rattle.up_tables.proofs.AnswerLemmas.{over, given, all_columns}
@@ -29,7 +31,7 @@ use Rattle.up_tables.proofs.EcuRows.{text_is, column_after}
 use Rattle.up_tables.proofs.EcuUpsert.{equals}
 use Rattle.up_tables.proofs.InsertLemmas.{inserts_in}
 use Rattle.up_tables.proofs.ReadLemmas.{Asks, answers_all, by_rowid}
-use Rattle.up_tables.proofs.StateLemmas.{ok_then}
+use Rattle.up_tables.proofs.StateLemmas.{each_in, ok_then}
 use Rattle.up_tables.specs.Faults.{store_fault}
 use Rattle.up_tables.specs.declared.values.StoreFault.TheVariants.{Store}
 use Rattle.up_tables.specs.Statements.{BlamesDisk, HoldsBy}
@@ -94,6 +96,15 @@ finds_sha512s items list answer r old new h ran =
     ok_then _ _ r (λ found is rows_of has lists name. ap (map part) (sym (filter_true (rows_of name))) ∙ is rows_of has lists name)
     (all_in items list image_sha512_table all_sha512s_text part sha512_row (λ i. string_bytes i.file) (λ _. true) (λ x. refl) (λ x n. refl) (λ x n. text_is (string_bytes x.file) n) answer r old new
     (λ shown' has table. answers_all up_schema all_sha512s_text 19 [] (all_columns 2) names [] (λ _. true) part (λ x. refl) (shows []) (λ db. refl) all_is old new shown' has table) h ran)
+
+-- in the order of the table
+pub order_sha512s : {X R : Type 0} (items : X → List Row) (list : R → List Sha512Row) (answer : Result X Error) (r : Result R StoreFault) (old new : State)
+    → IfOk r (λ found. IsOkAnd answer (λ v. map part (items v) ≡ map sha512_row (list found))) → IfOk answer (λ v. Shown all_sha512s_text [] old new (items v))
+    → IfOk r (λ found. (all : List Row) → HasTables old → ListsAll all (old.now.trees image_sha512_table.tree) → map part all ≡ map sha512_row (list found))
+order_sha512s items list answer r old new h ran =
+    ok_then _ _ r (λ found is all has lists. ap (map part) (sym lists.every ∙ sym (filter_true (bare (old.now.trees image_sha512_table.tree)))) ∙ is lists.shaped has)
+    (each_in items part part (λ x. refl) sha512_row all_sha512s_text [] old new (IsShaped TableShape (old.now.trees image_sha512_table.tree)) list (filter (λ _. true) (bare (old.now.trees image_sha512_table.tree))) answer r
+    (λ shown' shaped has. answers_all up_schema all_sha512s_text 19 [] (all_columns 2) names [] (λ _. true) part (λ x. refl) (shows []) (λ db. refl) all_is old new shown' has shaped.0) h ran)
 
 -- ---- faults of the reads
 

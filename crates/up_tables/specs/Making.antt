@@ -1,17 +1,18 @@
--- By which statements the tables are made, and those of an older version raised; and why they are not.
-use Rattle.std.specs.Prelude.{◌≡◌, ◌++◌, ◌⊎◌, ℕ, List, [], ◌∷◌, Option, Result, Ok, Err, codes}
+-- By which statements the tables are made, and those of an older version raised; what is then there; and why they are not.
+use Rattle.std.specs.Prelude.{◌≡◌, ◌++◌, ◌⊎◌, ℕ, false, List, [], ◌∷◌, Option, Result, Ok, Err, codes, IsTrue}
 use Rattle.sqlite.specs.declared.error.Error.{Error}
 use Rattle.sqlite.specs.Effect.{Database}
 use Rattle.sqlite.specs.Listing.{understood}
 use Rattle.sqlite.specs.Order.{Row}
 use Rattle.sqlite.specs.State.{State}
+use Rattle.sqlite.specs.Tree.{Trees}
 use Rattle.sqlite_resolve.specs.declared.error.CompileError.{CompileError}
 use Rattle.up_tables.specs.declared.open.OpenFault.TheVariants.{Store}
 use Rattle.up_tables.specs.declared.open.SchemaVersion.{SchemaVersion}
 use Rattle.up_tables.specs.declared.open.SchemaVersion.TheVariants.{One, Two, Three}
 use Rattle.up_tables.specs.Faults.{open_fault}
 use Rattle.up_tables.specs.Ours.{HasFailed, IsOlder, NamesVersion}
-use Rattle.up_tables.specs.Stands.{HasNoTables}
+use Rattle.up_tables.specs.Stands.{HasNoTables, IsAsCommitted, LeavesOnly}
 use Rattle.up_tables.specs.Tables.{meta_text, role_key_text, repo_file_text, image_text, campaign_text, vehicle_text, ecu_text, kept_text}
 use Rattle.up_tables.specs.Tables.{retired_text, image_sha512_text}
 use Rattle.up_tables.specs.Tried.{IsRefused, Makes, MakesOf, RefusesOne}
@@ -87,3 +88,34 @@ FailsToMake old new = HasFailed old new ⊎ ((¬ HasNoTables old) ⊎ RefusesOne
 -- those before it
 abbrev pub FailsToRaise : State → Type 0
 FailsToRaise s = (version : SchemaVersion) × IsOlder version × NamesVersion version s × StopsAtOne s.step_limit (raising version) s.committed
+
+-- ---- what is there when tables were raised
+
+-- these statements make these trees of the database
+abbrev pub MakesTrees : Option ℕ → List (List ℕ × Row) → Database → Trees → Type 0
+MakesTrees limit statements db trees = (after : Database) × Makes limit statements db after × (trees ≡ after.trees)
+
+-- The connection is open, and no transaction is under way. It shows what the statements that raise tables of this version make of the database,
+-- whatever stands there; that was committed, and that alone a crash may leave.
+pub record ShowsRaised (version : SchemaVersion) (limit : Option ℕ) (db : Database) (s : State) : Type 0 where
+  pub mode : s.in_transaction ≡ false
+  pub is_open : IsTrue s.is_open
+  pub made : Makes limit (raising version) db s.now
+  pub committed : s.committed ≡ s.now
+  pub left : LeavesOnly (λ trees. trees ≡ s.now.trees) s
+
+-- `meta` names the latest version, and what was committed is shown; or it names an older one, and what raises its tables makes of that is shown
+abbrev pub IsTaken : State → State → Type 0
+IsTaken old new = (NamesVersion Three old × IsAsCommitted old new)
+    ⊎ ((version : SchemaVersion) × IsOlder version × NamesVersion version old × ShowsRaised version old.step_limit old.committed new)
+
+-- ---- what a crash may leave where tables are raised
+
+-- what the statements that raise tables of this version make of what is seen, whatever stands there
+abbrev pub RaisesBy : SchemaVersion → State → Trees → Type 0
+RaisesBy version s trees = IsTrue s.is_open × MakesTrees s.step_limit (raising version) s.now trees
+
+-- `meta` names an older version, and the statements that raise its tables make these trees of what was committed, whatever stands there
+abbrev pub RaisesTo : State → Trees → Type 0
+RaisesTo s trees =
+    (version : SchemaVersion) × IsOlder version × NamesVersion version s × MakesTrees s.step_limit (raising version) s.committed trees

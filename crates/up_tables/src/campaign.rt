@@ -11,7 +11,7 @@ ghost use Rattle.up_tables.specs.Tables.{campaign_table};
 ghost use Rattle.up_tables.specs.Rows.{columns_at, has_number, with_row};
 ghost use Rattle.up_tables.specs.Forms.{campaign_places, campaign_row};
 ghost use Rattle.up_tables.specs.Stands.{IfClean, IsInside};
-ghost use Rattle.up_tables.specs.Statements.{IsOpenStep, AltersRows, ClosesCampaign, OnlyReads, Finds, BlamesDisk, HoldsBy};
+ghost use Rattle.up_tables.specs.Statements.{IsOpenStep, AltersRows, ClosesCampaign, OnlyReads, Finds, FindsAll, BlamesDisk, HoldsBy};
 ghost use Rattle.up_tables.specs.Tried.{BlamesRefusal, Ran, Undoes};
 
 use crate::reading::{Decode, at_most_one, each_row};
@@ -118,6 +118,9 @@ pub fn running_campaigns<S: Alter>(
     ensures found { Finds campaign_table 1 (λ rows_of found. (name : List ℕ)
         → map (columns_at campaign_places) (filter (has_number 3 (pos 1)) (rows_of name))
         ≡ map campaign_row (filter (λ c. bytes_eq (string_bytes c.name) name) found.items))
+        (state S.Store tx.old.conn.now) (state S.Store tx.new.conn.now) result }
+    ensures order { FindsAll campaign_table
+        (λ all found. map (columns_at campaign_places) (filter (has_number 3 (pos 1)) all) ≡ map campaign_row found.items)
         (state S.Store tx.old.conn.now) (state S.Store tx.new.conn.now) result }
     ensures reads { OnlyReads (state S.Store tx.old.conn.now) (state S.Store tx.new.conn.now) result }
     ensures blame { BlamesDisk (HoldsBy campaign_table 1 (λ rows_of. (name : List ℕ) → AllByRecursion ShowsCampaign (filter (has_number 3 (pos 1)) (rows_of name))))

@@ -10,7 +10,7 @@ ghost use Rattle.up_tables.specs.Tables.{image_table};
 ghost use Rattle.up_tables.specs.Rows.{columns_at, with_row};
 ghost use Rattle.up_tables.specs.Forms.{image_places, image_row, FitImage};
 ghost use Rattle.up_tables.specs.Stands.{IfClean, IsInside};
-ghost use Rattle.up_tables.specs.Statements.{IsOpenStep, AltersRows, OnlyReads, Finds, BlamesDisk, HoldsBy};
+ghost use Rattle.up_tables.specs.Statements.{IsOpenStep, AltersRows, OnlyReads, Finds, FindsAll, BlamesDisk, HoldsBy};
 ghost use Rattle.up_tables.specs.Tried.{BlamesRefusal, Ran, Undoes};
 
 use crate::reading::{Decode, at_most_one, each_row};
@@ -108,6 +108,8 @@ pub fn images<S: Alter>(
     requires mode { IfClean IsInside (state S.Store tx.old.conn.now) }
     ensures found { Finds image_table 1 (λ rows_of found. (name : List ℕ)
         → map (columns_at image_places) (rows_of name) ≡ map image_row (filter (λ i. bytes_eq (string_bytes i.file) name) found.items))
+        (state S.Store tx.old.conn.now) (state S.Store tx.new.conn.now) result }
+    ensures order { FindsAll image_table (λ all found. map (columns_at image_places) all ≡ map image_row found.items)
         (state S.Store tx.old.conn.now) (state S.Store tx.new.conn.now) result }
     ensures reads { OnlyReads (state S.Store tx.old.conn.now) (state S.Store tx.new.conn.now) result }
     ensures blame { BlamesDisk (HoldsBy image_table 1 (λ rows_of. (name : List ℕ) → AllByRecursion ShowsImage (rows_of name)))

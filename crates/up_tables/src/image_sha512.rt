@@ -11,7 +11,7 @@ ghost use Rattle.up_tables.specs.Rows.{columns_at, with_row};
 ghost use Rattle.up_tables.specs.Lines.{sha512_line};
 ghost use Rattle.up_tables.specs.Forms.{sha512_places, sha512_row};
 ghost use Rattle.up_tables.specs.Stands.{IfClean, IsInside};
-ghost use Rattle.up_tables.specs.Statements.{IsOpenStep, AltersRows, OnlyReads, Finds, BlamesDisk, HoldsBy};
+ghost use Rattle.up_tables.specs.Statements.{IsOpenStep, AltersRows, OnlyReads, Finds, FindsAll, BlamesDisk, HoldsBy};
 ghost use Rattle.up_tables.specs.Tried.{BlamesRefusal, Ran, Undoes};
 
 use crate::reading::{Decode, at_most_one, each_row};
@@ -94,6 +94,8 @@ pub fn image_sha512s<S: Alter>(
     requires mode { IfClean IsInside (state S.Store tx.old.conn.now) }
     ensures found { Finds image_sha512_table 1 (λ rows_of found. (name : List ℕ)
         → map (columns_at sha512_places) (rows_of name) ≡ map sha512_row (filter (λ i. bytes_eq (string_bytes i.file) name) found.items))
+        (state S.Store tx.old.conn.now) (state S.Store tx.new.conn.now) result }
+    ensures order { FindsAll image_sha512_table (λ all found. map (columns_at sha512_places) all ≡ map sha512_row found.items)
         (state S.Store tx.old.conn.now) (state S.Store tx.new.conn.now) result }
     ensures reads { OnlyReads (state S.Store tx.old.conn.now) (state S.Store tx.new.conn.now) result }
     ensures blame { BlamesDisk (HoldsBy image_sha512_table 1 (λ rows_of. (name : List ℕ) → AllByRecursion ShowsSha512 (rows_of name)))

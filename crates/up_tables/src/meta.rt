@@ -6,6 +6,7 @@ ghost use Rattle.up_tables.specs.Texts.{update_meta_text};
 ghost use Rattle.up_tables.specs.Forms.{FitMeta, meta_values};
 ghost use Rattle.up_tables.specs.Stands.{IfClean, IsInside};
 ghost use Rattle.up_tables.specs.Statements.{IsOpenStep, SetsMeta, OnlyReads, FindsMeta, BlamesDisk, HasMeta};
+ghost use Rattle.up_tables.specs.Found.{FindsShown, HasMetaOrNone};
 ghost use Rattle.up_tables.specs.Tried.{BlamesRefusal, Ran, Undoes};
 
 use crate::reading::{Decode, at_most_one};
@@ -63,8 +64,10 @@ pub fn update_meta<S: Alter>(tx: &mut Transaction<'_, S>, meta: &MetaRow) -> Res
 pub fn meta<S: Alter>(tx: &mut Transaction<'_, S>) -> Result<Option<MetaRow>, StoreFault>
     requires mode { IfClean IsInside (state S.Store tx.old.conn.now) }
     ensures found { FindsMeta (state S.Store tx.old.conn.now) (state S.Store tx.new.conn.now) result }
+    ensures shown { FindsShown (state S.Store tx.old.conn.now) (state S.Store tx.new.conn.now) result }
     ensures reads { OnlyReads (state S.Store tx.old.conn.now) (state S.Store tx.new.conn.now) result }
     ensures blame { BlamesDisk HasMeta (state S.Store tx.old.conn.now) (state S.Store tx.new.conn.now) result }
+    ensures kinds { BlamesDisk HasMetaOrNone (state S.Store tx.old.conn.now) (state S.Store tx.new.conn.now) result }
     ensures step { IsOpenStep S.Store tx.old.conn tx.new.conn result }
 {
     at_most_one(tx.query_all(

@@ -15,7 +15,7 @@ ghost use Rattle.up_tables.specs.Versions.{number_of, StandsAs};
 ghost use Rattle.up_tables.specs.Ours.{NamesUs, NamesVersion, NamesOthers, ListsUs, IsOurs, IsHindered, Raised, is_refused};
 ghost use Rattle.up_tables.specs.Ours.{TellsMeta, older_of, ours_told};
 ghost use Rattle.up_tables.specs.Faults.{open_fault};
-ghost use Rattle.up_tables.specs.Making.{FailsToMake, FailsToRaise};
+ghost use Rattle.up_tables.specs.Making.{FailsToMake, FailsToRaise, IsTaken, RaisesTo};
 ghost use Rattle.up_tables.specs.declared.open.OpenFault.TheVariants as OpenFault;
 ghost use Rattle.up_tables.specs.Statements.{IsStep};
 
@@ -90,7 +90,8 @@ pub fn create_tables<S: Alter>(conn: &mut Connection<S>) -> Result<(), OpenFault
 /// `meta` doesn't name it: where the database refuses the query on it, as one without such a table does, or answers anything but the one row.
 /// `Memory` for want of memory; `Store` only where the connection was shut, the disk failed, a limit on steps was met, or `meta` names an older
 /// version, and the database refuses one of the statements that raise its tables, or can't take it, as where a table that a raise makes is there
-/// already. Whatever it answers but `true`, the database is as it was committed. It looks at `meta` alone, not at which other tables there are.
+/// already. Whatever it answers but `true`, the database is as it was committed. It looks at `meta` alone, not at which other tables there are:
+/// whatever stands beside, a raise makes just its statements, and tables of the latest version are left alone.
 pub fn take_tables<S: Alter>(conn: &mut Connection<S>) -> Result<bool, OpenFault>
     requires { (state S.Store conn.old).in_transaction ≡ false }
     ensures ours { IfOk result (λ b. IsTrue b → HasCleanDisk (state S.Store conn.new) → NamesUs (state S.Store conn.old)) }
@@ -99,6 +100,8 @@ pub fn take_tables<S: Alter>(conn: &mut Connection<S>) -> Result<bool, OpenFault
         → (version : SchemaVersion) → ListsUs version (state S.Store conn.old) → IsTrue b) }
     ensures taken { IfOk result (λ b. IsTrue b → HasCleanDisk (state S.Store conn.new) → (version : SchemaVersion) (rows : TableRows)
         → StandsAs version rows (state S.Store conn.old) → Stands up_schema (ListsTables rows) (state S.Store conn.new)) }
+    ensures ran { IfOk result (λ b. IsTrue b → HasCleanDisk (state S.Store conn.new)
+        → IsTaken (state S.Store conn.old) (state S.Store conn.new)) }
     ensures fault { IfErr result (λ e. e ≢ OpenFault.NotOurs) }
     ensures cause { HasCleanDisk (state S.Store conn.new)
         → IfErr result (λ e. e ≡ OpenFault.Store
@@ -106,7 +109,8 @@ pub fn take_tables<S: Alter>(conn: &mut Connection<S>) -> Result<bool, OpenFault
     ensures kept { IfOk result (λ b. b ≡ false → IfClean (IsAsCommitted (state S.Store conn.old)) (state S.Store conn.new)) }
     ensures kept_err { OnErr result (IfClean (IsAsCommitted (state S.Store conn.old)) (state S.Store conn.new)) }
     ensures autocommit { (state S.Store conn.new).in_transaction ≡ false }
-    ensures crash { Survives (state S.Store conn.old) (state S.Store conn.new) (Raised (state S.Store conn.old)) }
+    ensures crash { Survives (state S.Store conn.old) (state S.Store conn.new)
+        (λ trees. Raised (state S.Store conn.old) trees × RaisesTo (state S.Store conn.old) trees) }
     ensures open { HasCleanDisk (state S.Store conn.new) → OnOk result (IsTrue (state S.Store conn.old).is_open) }
 {
     let _idle = conn.is_autocommit();

@@ -4,9 +4,9 @@ ghost use Rattle.std.specs.Prelude.{◌≡◌, ◌≢◌, ◌⊎◌, false, OnOk
 ghost use Rattle.sqlite.specs.Held.{state};
 ghost use Rattle.sqlite.specs.State.{HasCleanDisk, Survives};
 ghost use Rattle.up_tables.specs.Listed.{TableRows, ListsTables};
-ghost use Rattle.up_tables.specs.Making.{alone, raising, set_schema_text, StopsAtOne, TriesAnywhere};
+ghost use Rattle.up_tables.specs.Making.{alone, raising, set_schema_text, RaisesBy, ShowsRaised, StopsAtOne, TriesAnywhere};
 ghost use Rattle.up_tables.specs.Ours.{HasFailed, IsOlder, RaisedFrom};
-ghost use Rattle.up_tables.specs.Stands.{IfClean, IsAsCommitted, IsInside, Stands};
+ghost use Rattle.up_tables.specs.Stands.{IfClean, IsAsCommitted, IsInside, IsOpen, Stands};
 ghost use Rattle.up_tables.specs.Tables.{up_schema};
 ghost use Rattle.up_tables.specs.Versions.{StandsAs};
 ghost use Rattle.up_tables.specs.declared.open.OpenFault.TheVariants as OpenFault;
@@ -22,6 +22,7 @@ fn set_schema<S: Alter>(tx: &mut Transaction<'_, S>) -> Result<usize, Error>
     requires mode { IfClean IsInside (state S.Store tx.old.conn.now) }
     ensures set { NamesLatest (state S.Store tx.old.conn.now) (state S.Store tx.new.conn.now) result }
     ensures inside { OnOk result (IfClean IsInside (state S.Store tx.new.conn.now)) }
+    ensures open { OnOk result (IfClean IsOpen (state S.Store tx.new.conn.now)) }
     ensures tried { HasCleanDisk (state S.Store tx.new.conn.now)
         → TriesAnywhere (alone set_schema_text) (state S.Store tx.old.conn.now) (state S.Store tx.new.conn.now) result }
     ensures step { IsStep S.Store tx.old.conn tx.new.conn }
@@ -34,6 +35,7 @@ fn raise_first<S: Alter>(tx: &mut Transaction<'_, S>) -> Result<usize, Error>
     requires mode { IfClean IsInside (state S.Store tx.old.conn.now) }
     ensures raised { RaisesFrom One (state S.Store tx.old.conn.now) (state S.Store tx.new.conn.now) result }
     ensures inside { OnOk result (IfClean IsInside (state S.Store tx.new.conn.now)) }
+    ensures open { OnOk result (IfClean IsOpen (state S.Store tx.new.conn.now)) }
     ensures tried { HasCleanDisk (state S.Store tx.new.conn.now)
         → TriesAnywhere (raising One) (state S.Store tx.old.conn.now) (state S.Store tx.new.conn.now) result }
     ensures step { IsStep S.Store tx.old.conn tx.new.conn }
@@ -48,6 +50,7 @@ fn raise_second<S: Alter>(tx: &mut Transaction<'_, S>) -> Result<usize, Error>
     requires mode { IfClean IsInside (state S.Store tx.old.conn.now) }
     ensures raised { RaisesFrom Two (state S.Store tx.old.conn.now) (state S.Store tx.new.conn.now) result }
     ensures inside { OnOk result (IfClean IsInside (state S.Store tx.new.conn.now)) }
+    ensures open { OnOk result (IfClean IsOpen (state S.Store tx.new.conn.now)) }
     ensures tried { HasCleanDisk (state S.Store tx.new.conn.now)
         → TriesAnywhere (raising Two) (state S.Store tx.old.conn.now) (state S.Store tx.new.conn.now) result }
     ensures step { IsStep S.Store tx.old.conn tx.new.conn }
@@ -65,6 +68,7 @@ fn raise_tables<S: Alter>(
     requires mode { IfClean IsInside (state S.Store tx.old.conn.now) }
     ensures raised { RaisesFrom version (state S.Store tx.old.conn.now) (state S.Store tx.new.conn.now) result }
     ensures inside { OnOk result (IfClean IsInside (state S.Store tx.new.conn.now)) }
+    ensures open { OnOk result (IfClean IsOpen (state S.Store tx.new.conn.now)) }
     ensures tried { HasCleanDisk (state S.Store tx.new.conn.now)
         → TriesAnywhere (raising version) (state S.Store tx.old.conn.now) (state S.Store tx.new.conn.now) result }
     ensures step { IsStep S.Store tx.old.conn tx.new.conn }
@@ -85,6 +89,8 @@ pub(crate) fn raise<S: Alter>(
     requires mode { (state S.Store conn.old).in_transaction ≡ false }
     ensures raised { HasCleanDisk (state S.Store conn.new) → OnOk result ((rows : TableRows) → StandsAs version rows (state S.Store conn.old)
         → Stands up_schema (ListsTables rows) (state S.Store conn.new)) }
+    ensures ran { HasCleanDisk (state S.Store conn.new) → OnOk result
+        (ShowsRaised version (state S.Store conn.old).step_limit (state S.Store conn.old).now (state S.Store conn.new)) }
     ensures older { IsOlder version }
     ensures kept { OnErr result (IfClean (IsAsCommitted (state S.Store conn.old)) (state S.Store conn.new)) }
     ensures fault { IfErr result (λ e. e ≢ OpenFault.NotOurs) }
@@ -92,7 +98,8 @@ pub(crate) fn raise<S: Alter>(
         → HasFailed (state S.Store conn.old) (state S.Store conn.new)
         ⊎ StopsAtOne (state S.Store conn.old).step_limit (raising version) (state S.Store conn.old).now) }
     ensures autocommit { (state S.Store conn.new).in_transaction ≡ false }
-    ensures crash { Survives (state S.Store conn.old) (state S.Store conn.new) (RaisedFrom version (state S.Store conn.old)) }
+    ensures crash { Survives (state S.Store conn.old) (state S.Store conn.new)
+        (λ trees. RaisedFrom version (state S.Store conn.old) trees × RaisesBy version (state S.Store conn.old) trees) }
     ensures open { HasCleanDisk (state S.Store conn.new) → OnOk result (IsTrue (state S.Store conn.old).is_open) }
 {
     let mut tx = conn.transaction();

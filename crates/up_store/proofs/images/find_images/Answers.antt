@@ -3,7 +3,11 @@ use Rattle.std.specs.Prelude.{⊤}
 use Rattle.sqlite.specs.Held.{state}
 use Rattle.sqlite.specs.State.{HasCleanDisk}
 use Rattle.up_tables.proofs.StateLemmas.{ok_then}
+use Rattle.sqlite.specs.Effect.{Database}
+use Rattle.up_tables.specs.Stands.{Lists}
+use Rattle.up_tables.specs.Tables.{image_sha512_table}
 use Rattle.up_store.specs.ColumnRows.{AreImages}
+use Rattle.up_store.proofs.ReadRows.{tables_stay, now_stays}
 use Rattle.up_store.proofs.Blamed.{by_statement, then_blames}
 use Rattle.up_store.proofs.ColumnFound.{within_read, are_images}
 use Rattle.up_store.proofs.KindsOfImages.{holds_images}
@@ -28,3 +32,17 @@ returns-in-Ok-clause-blame g c =
 pub returns-in-Err-clause-blame : goal.returns-in-Err-clause-blame
 returns-in-Err-clause-blame g c =
     by_statement (λ _. ⊤) _ (state g.D.Store c.args.tx.now.conn.now) (state g.D.Store c.images.new.tx.conn.now) (Err c.in-Err.fault) (λ rows lists fits. holds_images (state g.D.Store c.args.tx.now.conn.now) rows lists) c.in-Err.ensures.blame
+
+pub returns-in-Ok-clause-shown : goal.returns-in-Ok-clause-shown
+returns-in-Ok-clause-shown g c clean =
+    let before = state g.D.Store c.args.tx.now.conn.now in
+    let mid = state g.D.Store c.images.new.tx.conn.now in
+    let then : HasCleanDisk mid = omega (arith, c.find_with_sha512s.ensures.step.steps.survives.clean) in
+    let reads = c.in-Ok.ensures.reads then in
+    ok_then _ _ c.find_with_sha512s.result
+    (λ read beside rows_of hashes_of has lists hashes. (
+      c.in-Ok.shown.items,
+      c.in-Ok.ensures.found then rows_of has lists,
+      beside hashes_of (tables_stay before mid reads has) (now_stays (λ (db : Database). Lists 1 hashes_of (db.trees image_sha512_table.tree)) before mid reads has hashes),
+    ))
+    (c.find_with_sha512s.ensures.shown clean)

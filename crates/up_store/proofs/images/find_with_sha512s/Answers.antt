@@ -20,3 +20,7 @@ returns-in-Ok-clause-blame g c =
 pub returns-in-Err-clause-blame : goal.returns-in-Err-clause-blame
 returns-in-Err-clause-blame g c =
     fits_blames (λ rows. AreImages c.args.shown.items rows.images) (λ _. ⊤) (state g.D.Store c.args.tx.now.conn.now) (state g.D.Store c.find_sha512s.new.tx.conn.now) (Err c.in-Err.fault) (λ rows lists fits. tt) c.in-Err.ensures.blame
+
+pub returns-in-Ok-clause-shown : goal.returns-in-Ok-clause-shown
+returns-in-Ok-clause-shown g c clean =
+    ok_then _ _ c.read_images.result (λ read is rows_of has lists. (_, c.in-Ok.ensures.shown clean rows_of has lists, is)) c.read_images.ensures.told

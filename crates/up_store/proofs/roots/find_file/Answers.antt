@@ -1,4 +1,4 @@
-use Rattle.std.proofs.Common.{Some, ◌∙◌, sym, ap, string_bytes, Err}
+use Rattle.std.proofs.Common.{Some, None, ◌∙◌, refl, sym, ap, string_bytes, Err}
 use Rattle.std.specs.Prelude.{⊤, option_map}
 use Rattle.sqlite.specs.Held.{state}
 use Rattle.up_tables.specs.declared.repo_file.FileRow.{FileRow}
@@ -25,3 +25,11 @@ pub returns-in-Err-clause-blame : goal.returns-in-Err-clause-blame
 returns-in-Err-clause-blame g c =
     let before = state g.D.Store c.args.tx.now.conn.now in
     by_statement (λ _. ⊤) _ before (state g.D.Store c.file.new.tx.conn.now) (Err c.in-Err.fault) (λ rows lists fits. holds_file c.args.repository c.args.name.now c.text.ensures.fits before rows lists) (rw (c.repository_word.ensures, c.text.ensures.value) at c.in-Err.ensures.blame)
+
+pub returns-in-Ok-Some-clause-shown : goal.returns-in-Ok-Some-clause-shown
+returns-in-Ok-Some-clause-shown g c clean rows_of has lists =
+    (Some c.in-Ok-Some.shown, (rw c.in-Ok-Some.field-0-is at (rw (c.repository_word.ensures, c.text.ensures.value) at c.in-Ok-Some.ensures.found clean)) rows_of has lists, ap Some c.new.ensures)
+
+pub returns-in-Ok-None-clause-shown : goal.returns-in-Ok-None-clause-shown
+returns-in-Ok-None-clause-shown g c clean rows_of has lists =
+    (None, (rw c.in-Ok-None.field-0-is at (rw (c.repository_word.ensures, c.text.ensures.value) at c.in-Ok-None.ensures.found clean)) rows_of has lists, refl)

@@ -8,6 +8,7 @@ use Rattle.up_tables.specs.Stands.{IsWithin}
 use Rattle.up_tables.specs.Tables.{up_schema}
 use Rattle.up_tables.proofs.StateLemmas.{ok_then}
 use Rattle.up_store.specs.Listing.{ListsRows}
+use Rattle.up_store.specs.ReadAs.{ReadsFounding}
 use Rattle.up_store.specs.Shown.{meta_told, IsFoundingOf}
 use Rattle.up_store.proofs.ColumnFound.{typed_in}
 use Rattle.up_store.proofs.FoundingReads.{founding_in, founding_told}
@@ -51,3 +52,11 @@ pub returns-in-Ok-clause-told : goal.returns-in-Ok-clause-told
 returns-in-Ok-clause-told g c =
     ok_then (IsFoundingOf c.args.row c.as_slice.result.now) (λ read. MatchOption read (c.args.row.root ≡ 0) (λ (f : Founding). meta_told (Some f) ≡ c.args.row)) c.read_founding.result
     (λ read is. subst (λ r. MatchOption r (c.args.row.root ≡ 0) (λ (f : Founding). meta_told (Some f) ≡ c.args.row)) (sym is.is) is.numbers) c.read_founding.ensures.found
+
+pub returns-in-Ok-clause-shown : goal.returns-in-Ok-clause-shown
+returns-in-Ok-clause-shown g c clean =
+    ok_then (IsFoundingOf c.args.row c.as_slice.result.now) _ c.read_founding.result
+    (λ read is all has lists.
+    let again = subst (IsFoundingOf c.args.row c.in-Ok.keys.items) is.is (subst (λ l. IsFoundingOf c.args.row l read) c.as_slice.ensures.value is) in
+    subst (ReadsFounding c.args.row all) (sym is.is) ((λ e. omega (arith, e, c.if-row-eq0.false)), c.in-Ok.keys.items, c.in-Ok.ensures.found clean all has lists, again))
+    c.read_founding.ensures.found

@@ -35,3 +35,9 @@ pub returns-in-Err-clause-blame : goal.returns-in-Err-clause-blame
 returns-in-Err-clause-blame g c =
     let before = state g.D.Store c.args.tx.now.conn.now in
     by_statement (λ _. ⊤) _ before (state g.D.Store c.ecus.new.tx.conn.now) (Err c.in-Err.fault) (λ rows lists fits. holds_ecus c.args.vehicle.now before rows lists) (rw c.text.ensures.value at c.in-Err.ensures.blame)
+
+pub returns-in-Ok-clause-shown : goal.returns-in-Ok-clause-shown
+returns-in-Ok-clause-shown g c clean =
+    ok_then _ _ c.read_ecus.result
+    (λ read is rows_of has lists. (c.in-Ok.shown.items, (rw c.text.ensures.value at c.in-Ok.ensures.shown clean) rows_of has lists, is))
+    c.read_ecus.ensures.same

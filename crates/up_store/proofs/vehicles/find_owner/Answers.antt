@@ -1,4 +1,4 @@
-use Rattle.std.proofs.Common.{◌≡◌, Option, Some, arith, sym, ap, ◌∙◌, string_bytes, Err}
+use Rattle.std.proofs.Common.{◌≡◌, Option, Some, None, arith, sym, ap, ◌∙◌, string_bytes, Err}
 use Rattle.std.specs.Prelude.{option_map}
 use Rattle.std.specs.Option.{option_or}
 use Rattle.sqlite.specs.Held.{state}
@@ -7,10 +7,10 @@ use Rattle.up_canon.specs.Names.{Name}
 use Rattle.up_rows.specs.Lookups.{last_owner, owner_found}
 use Rattle.up_rows.specs.StateRows.{StateRows}
 use Rattle.up_tables.specs.Stands.{IsWithin}
-use Rattle.up_tables.specs.Tables.{up_schema}
+use Rattle.up_tables.specs.Tables.{retired_table, up_schema}
 use Rattle.up_tables.proofs.StateLemmas.{ok_then}
 use Rattle.up_store.specs.Listing.{ListsRows}
-use Rattle.up_store.proofs.ColumnFound.{within_read}
+use Rattle.up_store.proofs.ColumnFound.{has_read, lists_read, within_read}
 use Rattle.up_store.proofs.EcuReads.{owner_in}
 use Rattle.std.specs.Prelude.{⊤}
 use Rattle.up_store.proofs.Blamed.{by_statement, then_blames, memory_blames}
@@ -52,3 +52,22 @@ pub returns-in-Err-clause-blame : goal.returns-in-Err-clause-blame
 returns-in-Err-clause-blame g c =
     let before = state g.D.Store c.args.tx.now.conn.now in
     by_statement (λ _. ⊤) _ before (state g.D.Store c.ecu_owner.new.tx.conn.now) (Err c.in-Err.fault) (λ rows lists fits. holds_owner c.args.ecu.now before rows lists) (rw c.text.ensures.value at c.in-Err.ensures.blame)
+
+pub returns-in-Ok-Some-clause-shown : goal.returns-in-Ok-Some-clause-shown
+returns-in-Ok-Some-clause-shown g c clean =
+    ok_then _ _ c.read_owner.result
+    (λ read is rows_of retired_of has lists more. (Some (string_bytes c.in-Ok-Some.shown), (rw c.in-Ok-Some.field-0-is at (rw c.text.ensures.value at c.in-Ok-Some.ensures.found clean)) rows_of has lists, is))
+    c.read_owner.ensures.ok
+
+pub returns-in-Ok-None-clause-shown : goal.returns-in-Ok-None-clause-shown
+returns-in-Ok-None-clause-shown g c clean =
+    let before = state g.D.Store c.args.tx.now.conn.now in
+    let mid = state g.D.Store c.ecu_owner.new.tx.conn.now in
+    let then : HasCleanDisk mid = omega (arith, c.find_retired.ensures.step.steps.survives.clean) in
+    ok_then _ _ c.find_retired.result
+    (λ read told rows_of retired_of has lists more. (
+      None,
+      (rw c.in-Ok-None.field-0-is at (rw c.text.ensures.value at c.in-Ok-None.ensures.found then)) rows_of has lists,
+      told retired_of (has_read before mid (c.in-Ok-None.ensures.reads then) has) (lists_read retired_table 2 retired_of before mid (c.in-Ok-None.ensures.reads then) has more),
+    ))
+    (c.find_retired.ensures.shown clean)

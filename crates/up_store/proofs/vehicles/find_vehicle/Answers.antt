@@ -1,4 +1,4 @@
-use Rattle.std.proofs.Common.{◌≡◌, Some, sym, ap, ◌∙◌, Err}
+use Rattle.std.proofs.Common.{◌≡◌, Some, None, refl, sym, ap, ◌∙◌, Err}
 use Rattle.std.specs.Prelude.{⊤, option_map}
 use Rattle.sqlite.specs.Held.{state}
 use Rattle.up_rows.specs.StateRows.{StateRows}
@@ -39,3 +39,13 @@ pub returns-in-Err-clause-blame : goal.returns-in-Err-clause-blame
 returns-in-Err-clause-blame g c =
     let before = state g.D.Store c.args.tx.now.conn.now in
     by_statement (λ _. ⊤) _ before (state g.D.Store c.vehicle.new.tx.conn.now) (Err c.in-Err.fault) (λ rows lists fits. holds_vehicle c.args.vehicle.now before rows lists) (rw c.text.ensures.value at c.in-Err.ensures.blame)
+
+pub returns-in-Ok-Some-clause-shown : goal.returns-in-Ok-Some-clause-shown
+returns-in-Ok-Some-clause-shown g c clean =
+    ok_then _ _ c.read_vehicle.result
+    (λ read is rows_of has lists. (Some c.in-Ok-Some.shown, (rw c.in-Ok-Some.field-0-is at (rw c.text.ensures.value at c.in-Ok-Some.ensures.found clean)) rows_of has lists, is))
+    c.read_vehicle.ensures.ok
+
+pub returns-in-Ok-None-clause-shown : goal.returns-in-Ok-None-clause-shown
+returns-in-Ok-None-clause-shown g c clean rows_of has lists =
+    (None, (rw c.in-Ok-None.field-0-is at (rw c.text.ensures.value at c.in-Ok-None.ensures.found clean)) rows_of has lists, refl)

@@ -21,6 +21,9 @@ returns-in-Ok-clause-taken g c version rows keeps clean =
     let is_open = took_true (λ _. IsTrue old.is_open) c.take_tables.result c.in-Ok.ensures.ours (c.take_tables.ensures.«open» clean) in
     rows_again version rows old new is_open was (took_true _ c.take_tables.result c.in-Ok.ensures.ours c.take_tables.ensures.taken refl clean version (table_rows rows) (tables_of version rows old was))
 
+pub returns-in-Ok-clause-ran : goal.returns-in-Ok-clause-ran
+returns-in-Ok-clause-ran g c clean = took_true _ c.take_tables.result c.in-Ok.ensures.ours c.take_tables.ensures.ran refl clean
+
 pub returns-in-Ok-clause-crash : goal.returns-in-Ok-clause-crash
 returns-in-Ok-clause-crash g c = raised_rows (state g.D.Store c.args.conn) (state g.D.Store c.take_tables.new.conn) c.take_tables.ensures.crash
 
