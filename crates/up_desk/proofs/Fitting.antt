@@ -254,7 +254,7 @@ rotation_fits k s at keys new sound added it = record {
 
 pub vehicle_fits : (k : Rules) (s : State) (at : ℕ) (new : NewVehicleData) (row : VehicleRows) → VehiclesAreFound → VehiclesAreAdded → NewVehiclesAreNew → EcusTellTheirHash
     → IsDone (λ r. r ≡ rows_of new.vehicle (added new)) (with_vehicle s new) row (decide_vehicle k s at new)
-    → WillWrite k s (vehicle_writes row) (λ rows. IsNewVehicle row rows × FitsVehicle row) (IsNewVehicle row) (λ rows. with_vehicle_rows rows row) Done (decide_vehicle k s at new)
+    → WillWrite k s (vehicle_writes row) (λ _. FitsVehicle row) (IsNewVehicle row) (λ rows. with_vehicle_rows rows row) Done (decide_vehicle k s at new)
 vehicle_fits k s at new row found written fresh tell it =
     let none = (fresh k s at new it.0).none in
     let rows = ap (with_vehicle_rows (rows_of_state k s)) it.1 ∙ written k s new none in
@@ -268,7 +268,7 @@ vehicle_fits k s at new row found written fresh tell it =
       fit = fit;
       rows = rows;
       commit = tt;
-      holds = λ next_sound. (fit, subst FitsVehicle (sym it.1) (vehicle_numbers k (with_vehicle s new) new.vehicle (added new) next_sound (get_same s.vehicles new.vehicle (added new))));
+      holds = λ next_sound. subst FitsVehicle (sym it.1) (vehicle_numbers k (with_vehicle s new) new.vehicle (added new) next_sound (get_same s.vehicles new.vehicle (added new)));
       write = writes.vehicle row fit (sym rows) refl;
     }
 

@@ -21,7 +21,7 @@ use Rattle.up_machine.specs.Machine.{outcome_of}
 use Rattle.up_rows.specs.StateRows.{StateRows, rows_of_state}
 use Rattle.up_tables.specs.declared.values.StoreFault.{StoreFault}
 use Rattle.up_tables.specs.declared.values.StoreFault.TheVariants as fault
-use Rattle.up_tables.specs.Stands.{HasTables, IfClean, IsAsCommitted, LeavesOnly}
+use Rattle.up_tables.specs.Stands.{IfClean, IsAsCommitted, LeavesOnly}
 use Rattle.up_tables.specs.Tables.{up_schema}
 use Rattle.up_tables.specs.Tried.{Makes, RefusesOne}
 use Rattle.up_tables.proofs.TransactionLemmas.{stands_kept}
@@ -283,18 +283,15 @@ written k s old mid new answer w these held fits change computed given was reads
         blamed_before k s new (outcome_of s computed) was reads (spares rows may).counts before
         (λ is_open unlimited. by_cause before sound (blame (store_told f store) is_open rows stands ((will before).holds (sound_next before sound))))
 
-    tables : HasCleanDisk mid → HasTables mid
-    tables now = λ is_open. let here = (stands now).here is_open in record { schema_is = here.schema_is; sound = here.sound; rows = tt }
-
     becomes : HasCleanDisk mid → Makes mid.step_limit these mid.now new.now → Becomes k s answer (outcome_of s computed).next mid.step_limit mid.now new.now
     becomes now made =
         let it = will now in
         subst (λ (n : State). Becomes k s answer n mid.step_limit mid.now new.now) (sym (ap (λ o. (outcome_of s o).next) it.computed_is))
         (inl (it.commit, record { these = these; write = it.write; made = made }))
 
-    by_kind : (w : Result ⊤ StoreFault) → OnErr w (IfClean (IsAsCommitted mid) new) → OnOk w (IsTrue mid.is_open) → OnOk w (HasTables mid → Makes mid.step_limit these mid.now new.now)
+    by_kind : (w : Result ⊤ StoreFault) → OnErr w (IfClean (IsAsCommitted mid) new) → OnOk w (IsTrue mid.is_open) → OnOk w (Makes mid.step_limit these mid.now new.now)
         → HasCleanDisk new → IsTrue new.is_open → IsTrue mid.is_open × Becomes k s (told (answer_written answer w)) (outcome_of s computed).next mid.step_limit mid.now new.now
-    by_kind (Ok done) kept opens ran now is_open = (opens, becomes (clean now) (ran (tables (clean now))))
+    by_kind (Ok done) kept opens ran now is_open = (opens, becomes (clean now) ran)
     by_kind (Err f) kept opens ran now is_open =
         let same = kept now in
         let was_open = same.was_open is_open in

@@ -70,8 +70,14 @@ pub struct Plan {
     pub withheld: Option<Cause>,
 }
 
-impl Duplicate for Plan {
-    fn copy(&self, alloc: Global) -> Result<Plan, AllocError> {
+impl Plan {
+    ghost use Rattle.std.specs.Prelude.{◌≡◌, [], None, IfOk, IsOk};
+
+    /// An equal one of its own memory; of a plan of nothing it takes none.
+    pub fn copy(&self, alloc: Global) -> Result<Plan, AllocError>
+        ensures copied { IfOk result (λ copied. copied ≡ self.now) }
+        ensures none { self.now.assigned ≡ [] → self.now.withheld ≡ None → IsOk result }
+    {
         Ok(Plan {
             assigned: copy_assigned(alloc, &self.assigned)?,
             withheld: copy_cause(alloc, &self.withheld)?,

@@ -1,7 +1,6 @@
 //! Campaigns.
-ghost use Rattle.std.specs.Prelude.{◌≡◌, IfOk, IsOk};
+ghost use Rattle.std.specs.Prelude.{◌≡◌};
 ghost use Rattle.up_plan.specs.Campaigns.{reach_fits as reach_fits_limits};
-ghost use Rattle.up_plan.specs.declared.campaign.Reach.TheVariants.{All};
 
 use std::alloc::{AllocError, Global};
 use std::marker::Model;
@@ -18,8 +17,9 @@ pub enum Reach {
 }
 
 impl Reach {
-    ghost use Rattle.std.specs.Prelude.{◌≡◌};
+    ghost use Rattle.std.specs.Prelude.{◌≡◌, IfOk, IsOk};
     ghost use Rattle.up_plan.specs.Planning.{reaches as is_reached};
+    ghost use Rattle.up_plan.specs.declared.campaign.Reach.TheVariants.{All};
 
     /// Whether the vehicle is one of them.
     pub fn reaches(&self, vehicle: &Ident) -> bool
@@ -30,21 +30,16 @@ impl Reach {
             Reach::Named(vehicles) => has_name(vehicles.as_slice(), vehicle.text()),
         }
     }
-}
 
-impl Duplicate for Reach {
-    fn copy(&self, alloc: Global) -> Result<Reach, AllocError> {
-        copy_reach(alloc, self)
-    }
-}
-
-fn copy_reach(alloc: Global, reach: &Reach) -> Result<Reach, AllocError>
-    ensures copied { IfOk result (λ copied. copied ≡ reach.now) }
-    ensures none { reach.now ≡ All → IsOk result }
-{
-    match reach {
-        Reach::All => Ok(Reach::All),
-        Reach::Named(vehicles) => Ok(Reach::Named(vehicles.copy(alloc)?)),
+    /// An equal one of its own memory; of all vehicles it takes none.
+    pub fn copy(&self, alloc: Global) -> Result<Reach, AllocError>
+        ensures copied { IfOk result (λ copied. copied ≡ self.now) }
+        ensures none { self.now ≡ All → IsOk result }
+    {
+        match self {
+            Reach::All => Ok(Reach::All),
+            Reach::Named(vehicles) => Ok(Reach::Named(vehicles.copy(alloc)?)),
+        }
     }
 }
 

@@ -7,14 +7,14 @@ use Rattle.sqlite.specs.Held.{Held, state}
 use Rattle.sqlite.specs.State.{State as Connected, HasCleanDisk, Survives}
 use Rattle.sqlite_trees.specs.declared.store.Store.{Ghosts}
 use Rattle.up_rows.specs.StateRows.{StateRows}
-use Rattle.up_tables.specs.Stands.{IsWithin, HasTables, Reads, Steps}
+use Rattle.up_tables.specs.Stands.{IsWithin, Reads, Steps}
 use Rattle.up_tables.specs.Statements.{BlamesDisk}
 use Rattle.up_tables.specs.Tables.{up_schema}
 use Rattle.up_tables.specs.declared.values.StoreFault.{StoreFault}
 use Rattle.up_tables.specs.declared.values.StoreFault.TheVariants.{Memory, Store}
 use Rattle.up_store.specs.Connections.{Blames, BlamesWithin}
 use Rattle.up_store.specs.Listing.{ListsRows}
-use Rattle.up_store.proofs.ColumnFound.{has_tables, within_read}
+use Rattle.up_store.proofs.ColumnFound.{within_read}
 
 -- what holds of all rows holds of those that are shown
 pub all_filtered : {X : Type 0} (P : X → Type 0) (test : X → Bool) (rows : List X) → AllByRecursion P rows → AllByRecursion P (filter test rows)
@@ -50,13 +50,13 @@ module _ (fits : StateRows → Type 0) where
 module _ {A : Type 0} (fits : StateRows → Type 0) where
   -- a step after one that went through
   pub then_blames : (next : StateRows → Type 0) (old mid new : Connected) (r : Result A StoreFault) → Steps old mid → Steps mid new
-      → (HasCleanDisk mid → HasTables old → Reads old mid) → (HasCleanDisk mid → (rows : StateRows) → IsWithin up_schema (ListsRows rows) old → fits rows → next rows)
+      → (HasCleanDisk mid → Reads old mid) → (HasCleanDisk mid → (rows : StateRows) → IsWithin up_schema (ListsRows rows) old → fits rows → next rows)
       → BlamesWithin next mid new r → BlamesWithin fits old new r
   then_blames next old mid new (Ok x) first second reads fit blame clean = tt
   then_blames next old mid new (Err f) first second reads fit blame clean = λ is is_open unlimited rows within fits_before.
       let then : HasCleanDisk mid = omega (arith, second.survives.clean) in
-      let read = reads then (has_tables rows old within) in
-      let fault = blame clean is read.is_open (first.survives.limit ∙ unlimited) rows (within_read rows old mid (reads then) within) (fit then rows within fits_before) in
+      let read = reads then in
+      let fault = blame clean is read.is_open (first.survives.limit ∙ unlimited) rows (within_read rows old mid read within) (fit then rows within fits_before) in
       omega (arith, first.survives.counts, fault)
 
   -- what is shown, read into values

@@ -7,7 +7,6 @@ use Rattle.std.specs.Ordering.{is_eq}
 use Rattle.std.specs.FinMap as table
 use Rattle.std.proofs.lemmas.Bool.Decides.{nat_tests}
 use Rattle.sqlite.specs.declared.types.Value.TheVariants.{Int, Text}
-use Rattle.sqlite.specs.Effect.{Database}
 use Rattle.sqlite.specs.Order.{Row, value_cmp}
 use Rattle.sqlite.specs.State.{State as Connected}
 use Rattle.sqlite.specs.Table.{Table as SqlTable}
@@ -33,7 +32,7 @@ use Rattle.up_tables.specs.declared.vehicle.VehicleRow.{VehicleRow as VehicleSho
 use Rattle.up_tables.specs.Forms.{image_places, image_row, sha512_places, sha512_row, campaign_places, campaign_row, vehicle_places, vehicle_row, kept_places, kept_row}
 use Rattle.up_tables.specs.Lines.{yes_or_no}
 use Rattle.up_tables.specs.Rows.{columns_at, has_number}
-use Rattle.up_tables.specs.Stands.{AnyRows, IsWith, IsWithin, HasTables, Reads, Lists}
+use Rattle.up_tables.specs.Stands.{IsWith, IsWithin, HasTables, Reads, Lists}
 use Rattle.up_tables.specs.Tables.{up_schema, image_table, image_sha512_table, campaign_table, vehicle_table, kept_table}
 use Rattle.up_store.specs.ColumnRows.{IsImage, IsCampaign, IsKept, AreImages, AreSha512s, AreRunning, last_found}
 use Rattle.up_store.specs.Found.{vehicle_found}
@@ -49,25 +48,16 @@ pub has_tables : (rows : StateRows) (before : Connected) → IsWithin up_schema 
 has_tables rows before within = λ is_open. let here = within.here is_open in record { schema_is = here.schema_is; sound = here.sound; rows = tt }
 
 -- a read that went through leaves the tables as they were
-pub within_read : (rows : StateRows) (before after : Connected) → (HasTables before → Reads before after) → IsWithin up_schema (ListsRows rows) before → IsWithin up_schema (ListsRows rows) after
+pub within_read : (rows : StateRows) (before after : Connected) → Reads before after → IsWithin up_schema (ListsRows rows) before → IsWithin up_schema (ListsRows rows) after
 within_read rows before after reads within =
-    let r = reads (has_tables rows before within) in record {
-      mode = subst IsTrue (sym r.mode) within.mode;
-      here = λ is_open. subst (IsWith up_schema (ListsRows rows)) (sym r.now_is) (within.here r.was_open);
+    record {
+      mode = subst IsTrue (sym reads.mode) within.mode;
+      here = λ is_open. subst (IsWith up_schema (ListsRows rows)) (sym reads.now_is) (within.here reads.was_open);
     }
 
--- the same of tables that list no state's rows
-pub has_read : (before after : Connected) → (HasTables before → Reads before after) → HasTables before → HasTables after
-has_read before after reads has =
-    let r = reads has in λ is_open. subst (IsWith up_schema AnyRows) (sym r.now_is) (has r.was_open)
-
-pub lists_read : (t : SqlTable) (at : ℕ) (rows_of : List ℕ → List Row) (before after : Connected) → (HasTables before → Reads before after) → HasTables before
-    → Lists at rows_of (before.now.trees t.tree) → Lists at rows_of (after.now.trees t.tree)
-lists_read t at rows_of before after reads has lists = subst (λ (d : Database). Lists at rows_of (d.trees t.tree)) (sym (reads has).now_is) lists
-
 -- the rows are typed
-pub typed_in : (rows : StateRows) (before after : Connected) → (HasTables before → Reads before after) → IsWithin up_schema (ListsRows rows) before → AreTyped rows
-typed_in rows before after reads within = (within.here (reads (has_tables rows before within)).was_open).rows.typed
+pub typed_in : (rows : StateRows) (before after : Connected) → Reads before after → IsWithin up_schema (ListsRows rows) before → AreTyped rows
+typed_in rows before after reads within = (within.here reads.was_open).rows.typed
 
 -- ---- the row of a name
 
@@ -104,11 +94,11 @@ module _ {X R : Type 0} (t : NamedRows X R) where
   Shows name found before =
       (rows_of : List ℕ → List Row) → HasTables before → Lists 1 rows_of (before.now.trees t.listed.tree) → map (columns_at t.places) (rows_of name) ≡ map t.row_of (option_to_list found)
 
-  rows_are : (rows : StateRows) (name : Name) (before after : Connected) (found : Option R) → (HasTables before → Reads before after) → Shows name found before
+  rows_are : (rows : StateRows) (name : Name) (before after : Connected) (found : Option R) → Reads before after → Shows name found before
       → IsWithin up_schema (ListsRows rows) before → map (columns_at t.places) (t.lines (table.get (t.values rows) name)) ≡ map t.row_of (option_to_list found)
   rows_are rows name before after found reads shows within =
       let has = has_tables rows before within in
-      shows (λ n. t.lines (table.get (t.values rows) n)) has (t.lists rows before.now.trees (within.here (reads has).was_open).rows)
+      shows (λ n. t.lines (table.get (t.values rows) n)) has (t.lists rows before.now.trees (within.here reads.was_open).rows)
 
   -- the row that is found is that of the name's value
   pub record FoundIn (rows : StateRows) (name : Name) (shown : R) : Type 0 where
@@ -117,16 +107,16 @@ module _ {X R : Type 0} (t : NamedRows X R) where
     pub typed : t.IsTyped name value
     pub same : t.IsRow shown value
 
-  pub found_in : (rows : StateRows) (name : Name) (before after : Connected) (found : Option R) (shown : R) → found ≡ Some shown → (HasTables before → Reads before after) → Shows name found before
+  pub found_in : (rows : StateRows) (name : Name) (before after : Connected) (found : Option R) (shown : R) → found ≡ Some shown → Reads before after → Shows name found before
       → IsWithin up_schema (ListsRows rows) before → FoundIn rows name shown
   found_in rows name before after found shown is reads shows within =
-      let here = within.here (reads (has_tables rows before within)).was_open in
+      let here = within.here reads.was_open in
       let f = some (table.get (t.values rows) name) shown (rows_are rows name before after found reads shows within ∙ ap (λ o. map t.row_of (option_to_list o)) is) in
       record { value = f.value; there = f.there; typed = t.typed rows before.now.trees here.rows name f.value f.there; same = f.same }
 
   -- what is read of a row that is found is what the table has under the name
   pub some_found : {E : Type 0} (r : Result (Option X) E) (name : Name) (before after : Connected) (found : Option R) (shown : R) → found ≡ Some shown
-      → IfOk r (λ read. (n : Name) (x : X) → t.IsTyped n x → t.IsRow shown x → read ≡ Some x) → (HasTables before → Reads before after) → Shows name found before
+      → IfOk r (λ read. (n : Name) (x : X) → t.IsTyped n x → t.IsRow shown x → read ≡ Some x) → Reads before after → Shows name found before
       → IfOk r (λ read. (rows : StateRows) → IsWithin up_schema (ListsRows rows) before → read ≡ table.get (t.values rows) name)
   some_found (Err e) name before after found shown is read reads shows = tt
   some_found (Ok x) name before after found shown is read reads shows = λ rows within.
@@ -136,13 +126,13 @@ module _ {X R : Type 0} (t : NamedRows X R) where
   -- the same of a row that is read together with another table's
   pub joined_found : {E : Type 0} (r : Result (Option X) E) (name : Name) (before mid : Connected) (found : Option R) (shown : R) → found ≡ Some shown
       → IfOk r (λ read. (rows : StateRows) → IsWithin up_schema (ListsRows rows) mid → (x : X) → table.get (t.values rows) name ≡ Some x → t.IsRow shown x → read ≡ Some x)
-      → (HasTables before → Reads before mid) → Shows name found before → IfOk r (λ read. (rows : StateRows) → IsWithin up_schema (ListsRows rows) before → read ≡ table.get (t.values rows) name)
+      → Reads before mid → Shows name found before → IfOk r (λ read. (rows : StateRows) → IsWithin up_schema (ListsRows rows) before → read ≡ table.get (t.values rows) name)
   joined_found (Err e) name before mid found shown is read reads shows = tt
   joined_found (Ok x) name before mid found shown is read reads shows = λ rows within.
       let f = found_in rows name before mid found shown is reads shows within in
       read rows (within_read rows before mid reads within) f.value f.there f.same ∙ sym f.there
 
-  pub none_found : (rows : StateRows) (name : Name) (before after : Connected) (found : Option R) → found ≡ None → (HasTables before → Reads before after) → Shows name found before
+  pub none_found : (rows : StateRows) (name : Name) (before after : Connected) (found : Option R) → found ≡ None → Reads before after → Shows name found before
       → IsWithin up_schema (ListsRows rows) before → None ≡ table.get (t.values rows) name
   none_found rows name before after found is reads shows within =
       sym (none (table.get (t.values rows) name) (rows_are rows name before after found reads shows within ∙ ap (λ o. map t.row_of (option_to_list o)) is))
@@ -218,11 +208,11 @@ ShowsImages found before =
     → (name : List ℕ) → map (columns_at image_places) (rows_of name) ≡ map image_row (filter (λ (i : ImageRow). bytes_eq (string_bytes i.file) name) found)
 
 -- the rows that are found are those of the images
-pub are_images : (rows : StateRows) (before after : Connected) (found : List ImageRow) → (HasTables before → Reads before after) → ShowsImages found before
+pub are_images : (rows : StateRows) (before after : Connected) (found : List ImageRow) → Reads before after → ShowsImages found before
     → IsWithin up_schema (ListsRows rows) before → AreImages found rows.images
 are_images rows before after found reads shows within =
     let has = has_tables rows before within in
-    let here = within.here (reads has).was_open in
+    let here = within.here reads.was_open in
     record {
       typed = here.rows.typed.images;
       each = λ name. sym (columns_are (table.get rows.images name)) ∙ shows (λ n. image_lines (table.get rows.images n)) has here.rows.tables.images name;
@@ -238,12 +228,12 @@ hash_is file (Some hash) (Some r) h = let same : r.sha512.items ≡ hash = cc in
 abbrev hash_lines_of : StateRows → Name → List Row
 hash_lines_of rows n = sha512_lines n (second_hash (table.get rows.images n))
 
-pub hash_found : (rows : StateRows) (file : Name) (before after : Connected) (found : Option Sha512Row) → (HasTables before → Reads before after)
+pub hash_found : (rows : StateRows) (file : Name) (before after : Connected) (found : Option Sha512Row) → Reads before after
     → ((rows_of : List ℕ → List Row) → HasTables before → Lists 1 rows_of (before.now.trees image_sha512_table.tree) → map (columns_at sha512_places) (rows_of file) ≡ map sha512_row (option_to_list found))
     → IsWithin up_schema (ListsRows rows) before → option_map (λ (r : Sha512Row). r.sha512.items) found ≡ second_hash (table.get rows.images file)
 hash_found rows file before after found reads shows within =
     let has = has_tables rows before within in
-    let here = within.here (reads has).was_open in
+    let here = within.here reads.was_open in
     hash_is file (second_hash (table.get rows.images file)) found (shows (hash_lines_of rows) has here.rows.tables.sha512s)
 
 hash_columns : (file : Name) (o : Option (List ℕ)) → map (columns_at sha512_places) (sha512_lines file o) ≡ sha512_lines file o
@@ -251,13 +241,13 @@ hash_columns file None = refl
 hash_columns file (Some hash) = refl
 
 -- the rows that are found are those of the images' second hashes
-pub are_hashes : (rows : StateRows) (before after : Connected) (found : List Sha512Row) → (HasTables before → Reads before after)
+pub are_hashes : (rows : StateRows) (before after : Connected) (found : List Sha512Row) → Reads before after
     → ((rows_of : List ℕ → List Row) → HasTables before → Lists 1 rows_of (before.now.trees image_sha512_table.tree)
     → (name : List ℕ) → map (columns_at sha512_places) (rows_of name) ≡ map sha512_row (filter (λ (i : Sha512Row). bytes_eq (string_bytes i.file) name) found))
     → IsWithin up_schema (ListsRows rows) before → AreSha512s found rows.images
 are_hashes rows before after found reads shows within name =
     let has = has_tables rows before within in
-    let here = within.here (reads has).was_open in
+    let here = within.here reads.was_open in
     sym (hash_columns name (second_hash (table.get rows.images name))) ∙ shows (hash_lines_of rows) has here.rows.tables.sha512s name
 
 abbrev row_with : CampaignData → Bool → Row
@@ -282,11 +272,11 @@ ShowsRunning found before =
     → (name : List ℕ) → map (columns_at campaign_places) (filter (has_number 3 (pos 1)) (rows_of name)) ≡ map campaign_row (filter (λ (c : CampaignRow). bytes_eq (string_bytes c.name) name) found)
 
 -- the rows that are found are those of the running campaigns
-pub are_running : (rows : StateRows) (before after : Connected) (found : List CampaignRow) → (HasTables before → Reads before after) → ShowsRunning found before
+pub are_running : (rows : StateRows) (before after : Connected) (found : List CampaignRow) → Reads before after → ShowsRunning found before
     → IsWithin up_schema (ListsRows rows) before → AreRunning found rows.campaigns
 are_running rows before after found reads shows within =
     let has = has_tables rows before within in
-    let here = within.here (reads has).was_open in
+    let here = within.here reads.was_open in
     record {
       typed = here.rows.typed.campaigns;
       each = λ name. sym (runs (table.get rows.campaigns name)) ∙ shows (λ n. campaign_lines (table.get rows.campaigns n)) has here.rows.tables.campaigns name;
@@ -333,25 +323,24 @@ ShowsKept vehicle counter found before =
     (rows_of : List ℕ → List Row) → HasTables before → Lists 1 rows_of (before.now.trees kept_table.tree)
     → map (columns_at kept_places) (filter (has_number 1 (pos counter)) (rows_of vehicle)) ≡ map kept_row (option_to_list found)
 
-kept_rows_are : (rows : StateRows) (vehicle : Name) (counter : ℕ) (before after : Connected) (found : Option KeptRow) → (HasTables before → Reads before after) → ShowsKept vehicle counter found before
+kept_rows_are : (rows : StateRows) (vehicle : Name) (counter : ℕ) (before after : Connected) (found : Option KeptRow) → Reads before after → ShowsKept vehicle counter found before
     → IsWithin up_schema (ListsRows rows) before → counted counter (rows.kept vehicle) ≡ map kept_row (option_to_list found)
 kept_rows_are rows vehicle counter before after found reads shows within =
     let has = has_tables rows before within in
-    let here = within.here (reads has).was_open in
+    let here = within.here reads.was_open in
     shows (λ n. map kept_line (rows.kept n)) has here.rows.tables.kept
 
 -- the row that is found is a kept manifest's
 kept_is : (rows : StateRows) (vehicle : Name) (counter : ℕ) (before after : Connected) (found : Option KeptRow) (shown : KeptRow) → found ≡ Some shown
-    → (HasTables before → Reads before after) → ShowsKept vehicle counter found before → IsWithin up_schema (ListsRows rows) before → FoundKept counter vehicle (rows.kept vehicle) shown
+    → Reads before after → ShowsKept vehicle counter found before → IsWithin up_schema (ListsRows rows) before → FoundKept counter vehicle (rows.kept vehicle) shown
 kept_is rows vehicle counter before after found shown is reads shows within =
-    let has = has_tables rows before within in
-    let here = within.here (reads has).was_open in
+    let here = within.here reads.was_open in
     kept_some counter vehicle (rows.kept vehicle) shown (here.rows.typed.kept vehicle) (kept_rows_are rows vehicle counter before after found reads shows within ∙ ap (λ o. map kept_row (option_to_list o)) is)
 
 -- the manifest that is found is that of the row
 pub kept_found : {E : Type 0} (r : Result (Option Kept) E) (rows : StateRows) (vehicle : Name) (counter : ℕ) (before after : Connected) (found : Option KeptRow) (shown : KeptRow) → found ≡ Some shown
     → IfOk r (λ read. (n : Name) (row : Kept) → IsTypedKept n row → IsKept shown row → read ≡ Some row)
-    → (HasTables before → Reads before after) → ShowsKept vehicle counter found before → IsWithin up_schema (ListsRows rows) before → IfOk r (λ read. read ≡ kept_with vehicle counter rows)
+    → Reads before after → ShowsKept vehicle counter found before → IsWithin up_schema (ListsRows rows) before → IfOk r (λ read. read ≡ kept_with vehicle counter rows)
 kept_found (Err e) rows vehicle counter before after found shown is read reads shows within = tt
 kept_found (Ok x) rows vehicle counter before after found shown is read reads shows within =
     let f = kept_is rows vehicle counter before after found shown is reads shows within in
@@ -360,12 +349,12 @@ kept_found (Ok x) rows vehicle counter before after found shown is read reads sh
 -- it is read again
 pub kept_reads : {A : Type 0} (r : Result A StoreFault) (rows : StateRows) (vehicle : Name) (counter : ℕ) (before after : Connected) (found : Option KeptRow) (shown : KeptRow) → found ≡ Some shown
     → ((n : Name) (row : Kept) → IsTypedKept n row → IsKept shown row → IfErr r (λ fault. fault ≡ Memory))
-    → (HasTables before → Reads before after) → ShowsKept vehicle counter found before → IsWithin up_schema (ListsRows rows) before → IfErr r (λ fault. fault ≡ Memory)
+    → Reads before after → ShowsKept vehicle counter found before → IsWithin up_schema (ListsRows rows) before → IfErr r (λ fault. fault ≡ Memory)
 kept_reads r rows vehicle counter before after found shown is read reads shows within =
     let f = kept_is rows vehicle counter before after found shown is reads shows within in
     read vehicle f.row f.typed f.same
 
-pub kept_unknown : (rows : StateRows) (vehicle : Name) (counter : ℕ) (before after : Connected) (found : Option KeptRow) → found ≡ None → (HasTables before → Reads before after) → ShowsKept vehicle counter found before
+pub kept_unknown : (rows : StateRows) (vehicle : Name) (counter : ℕ) (before after : Connected) (found : Option KeptRow) → found ≡ None → Reads before after → ShowsKept vehicle counter found before
     → IsWithin up_schema (ListsRows rows) before → None ≡ kept_with vehicle counter rows
 kept_unknown rows vehicle counter before after found is reads shows within =
     sym (kept_none counter (rows.kept vehicle) (kept_rows_are rows vehicle counter before after found reads shows within ∙ ap (λ o. map kept_row (option_to_list o)) is))
@@ -379,7 +368,7 @@ last_told rows vehicle = by_vehicle (table.get rows.vehicles vehicle)
     by_vehicle None = refl
     by_vehicle (Some v) = refl
 
-pub last_in : (rows : StateRows) (name : Name) (before after : Connected) (found is : Option VehicleShown) → is ≡ found → (HasTables before → Reads before after)
+pub last_in : (rows : StateRows) (name : Name) (before after : Connected) (found is : Option VehicleShown) → is ≡ found → Reads before after
     → ((rows_of : List ℕ → List Row) → HasTables before → Lists 1 rows_of (before.now.trees vehicle_table.tree) → map (columns_at vehicle_places) (rows_of name) ≡ map vehicle_row (option_to_list found))
     → IsWithin up_schema (ListsRows rows) before → option_map (λ (r : VehicleRow). r.last) (option_map vehicle_read is) ≡ last_found name rows
 last_in rows name before after found is same reads shows within =

@@ -88,13 +88,13 @@ in_place vehicle place (row ∷ rows) = (refl, refl, in_place vehicle (suc place
 abbrev shown_ecus : StateRows → List ℕ → List Row
 shown_ecus rows n = ecus_lines n (table.get rows.vehicles n)
 
-pub ecus_in : (rows : StateRows) (name : Name) (before after : Connected) (found : List EcuShown) → (HasTables before → Reads before after)
+pub ecus_in : (rows : StateRows) (name : Name) (before after : Connected) (found : List EcuShown) → Reads before after
     → ((rows_of : List ℕ → List Row) (es : List EcuLine) → HasTables before → Lists 2 rows_of (before.now.trees ecu_table.tree) → rows_of name ≡ map ecu_row es → AreInPlace name 0 es
     → rows_of name ≡ map ecu_row (lines name 0 found))
     → IsWithin up_schema (ListsRows rows) before → map ecu_read found ≡ ecus_found name rows
 ecus_in rows name before after found reads shows within =
     let has : HasTables before = λ is_open. let here = within.here is_open in record { schema_is = here.schema_is; sound = here.sound; rows = tt } in
-    let here = within.here (reads has).was_open in
+    let here = within.here reads.was_open in
     go (table.get rows.vehicles name) refl (λ v is. (here.rows.typed.vehicles name v is).tell) (shows (λ n. ecus_lines n (table.get rows.vehicles n))) has here.rows.tables.ecus
   where
     go : (o : Option VehicleRows) → table.get rows.vehicles name ≡ o → ((v : VehicleRows) → table.get rows.vehicles name ≡ Some v → AllByRecursion TellsItsHash v.ecus)
@@ -155,12 +155,12 @@ module _ (ecu : Name) (rows : StateRows) (typed : AreTyped rows) where
       let found : find stands (table.values vehicles) ≡ Some is.0 = found_at stands n (table.entries vehicles) (each_told (Some n) told) ∙ sym (table.get-entries vehicles n) ∙ is.1 in
       ap Some (sym (typed.vehicles n is.0 is.1).named) ∙ sym (ap (option_map (λ (v : VehicleRows). v.vehicle.vehicle)) found)
 
-pub owner_in : (rows : StateRows) (ecu : Name) (before after : Connected) (owner : Option (List ℕ)) → (HasTables before → Reads before after)
+pub owner_in : (rows : StateRows) (ecu : Name) (before after : Connected) (owner : Option (List ℕ)) → Reads before after
     → ((rows_of : List ℕ → List Row) → HasTables before → Lists 2 rows_of (before.now.trees ecu_table.tree) → (vehicle : List ℕ) → list_any (has_text 0 ecu) (rows_of vehicle) ≡ owns owner vehicle)
     → IsWithin up_schema (ListsRows rows) before → owner ≡ owner_now ecu rows
 owner_in rows ecu before after owner reads shows within =
     let has : HasTables before = λ is_open. let here = within.here is_open in record { schema_is = here.schema_is; sound = here.sound; rows = tt } in
-    let here = within.here (reads has).was_open in
+    let here = within.here reads.was_open in
     owner_told ecu rows here.rows.typed owner (shows (λ n. ecus_lines n (table.get rows.vehicles n)) has here.rows.tables.ecus)
 
 -- ---- the vehicle in which an ECU was replaced
@@ -208,10 +208,10 @@ module _ (ecu : Name) (rows : StateRows) (typed : AreTyped rows) where
       sym (key_at was_there n (table.entries rows.vehicles) (each_was (Some n) told) ∙ ap (option_map (λ (v : VehicleRows). n)) (sym (table.get-entries rows.vehicles n))
       ∙ known n (table.get rows.vehicles n) refl (each_was (Some n) told n ∙ own))
 
-pub last_in : (rows : StateRows) (ecu : Name) (before after : Connected) (owner : Option (List ℕ)) → (HasTables before → Reads before after)
+pub last_in : (rows : StateRows) (ecu : Name) (before after : Connected) (owner : Option (List ℕ)) → Reads before after
     → ((rows_of : List ℕ → List Row) → HasTables before → Lists 2 rows_of (before.now.trees retired_table.tree) → (vehicle : List ℕ) → list_any (has_text 0 ecu) (rows_of vehicle) ≡ owns owner vehicle)
     → IsWithin up_schema (ListsRows rows) before → owner ≡ last_owner ecu rows
 last_in rows ecu before after owner reads shows within =
     let has : HasTables before = λ is_open. let here = within.here is_open in record { schema_is = here.schema_is; sound = here.sound; rows = tt } in
-    let here = within.here (reads has).was_open in
+    let here = within.here reads.was_open in
     last_told ecu rows here.rows.typed owner (shows (λ n. retired_lines n (rows.retired n)) has here.rows.tables.retired)

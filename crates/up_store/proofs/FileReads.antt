@@ -28,12 +28,12 @@ pub own_lines : (rows : StateRows) (repository : Repository) (name : Name) → f
 own_lines rows Director name = refl
 own_lines rows Image name = refl
 
-pub text_in : (rows : StateRows) (repository : Repository) (name : Name) (before after : Connected) (found : Option FileShown) → (HasTables before → Reads before after)
+pub text_in : (rows : StateRows) (repository : Repository) (name : Name) (before after : Connected) (found : Option FileShown) → Reads before after
     → ((rows_of : List ℕ → List ℕ → List Row) → HasTables before → ListsPairs rows_of (before.now.trees repo_file_table.tree)
     → map (columns_at file_places) (rows_of (repository_word repository) name) ≡ map file_row (option_to_list found))
     → IsWithin up_schema (ListsRows rows) before → option_map (λ (f : FileShown). string_bytes f.body) found ≡ text_held rows repository name
 text_in rows repository name before after found reads shows within =
     let has : HasTables before = λ is_open. let here = within.here is_open in record { schema_is = here.schema_is; sound = here.sound; rows = tt } in
-    let here = within.here (reads has).was_open in
+    let here = within.here reads.was_open in
     text_is repository name (text_held rows repository name) found
     (Rattle.std.proofs.Common.subst (λ lines. map (columns_at file_places) lines ≡ map file_row (option_to_list found)) (own_lines rows repository name) (shows (files_lines rows) has here.rows.tables.files))

@@ -397,12 +397,12 @@ keyed None keys h = absurd (let e = h in cc)
 keyed (Some root) keys h = (root, refl, let same : root.keys ≡ keys = cc in same)
 
 -- the rows that were found are the founding's
-pub founding_told : (rows : StateRows) (row : MetaRow) (found : List RoleKeyRow) (before after : Connected) → (row.root == 0) ≡ false → (HasTables before → Reads before after)
+pub founding_told : (rows : StateRows) (row : MetaRow) (found : List RoleKeyRow) (before after : Connected) → (row.root == 0) ≡ false → Reads before after
     → ((all : List Row) → HasTables before → ListsAll all (before.now.trees role_key_table.tree) → map (columns_at role_key_places) (filter (has_number 0 (pos row.root)) all) ≡ map role_key_row found)
     → IsWithin up_schema (ListsRows rows) before → row ≡ meta_told rows.founding → IsFoundingOf row found rows.founding
 founding_told rows row found before after founded reads shows within numbers =
     let has : HasTables before = λ is_open. let here = within.here is_open in record { schema_is = here.schema_is; sound = here.sound; rows = tt } in
-    let here = within.here (reads has).was_open in
+    let here = within.here reads.was_open in
     go rows.founding refl here.rows.last (shows (roots_lines rows.roots) has here.rows.tables.role_keys)
     (each_weaker IsTypedRoot (λ (r : RootRow). EachHasKeys r.keys) (λ r is. is.keys) rows.roots here.rows.typed.roots)
   where
@@ -418,7 +418,7 @@ founding_told rows row found before after founded reads shows within numbers =
         let are = last_told rows f found root.0 root.2 root.1 last.0 typed (ap (λ (m : ℕ). map (columns_at role_key_places) (filter (has_number 0 (pos m)) (roots_lines rows.roots))) (sym number) ∙ lines) in
         record { founding = f; is = same; numbers = sym told; director = are.director; image = are.image }
 
-pub founding_in : (rows : StateRows) (row : MetaRow) (found : List RoleKeyRow) (read : Option Founding) (before after : Connected) → (row.root == 0) ≡ false → (HasTables before → Reads before after)
+pub founding_in : (rows : StateRows) (row : MetaRow) (found : List RoleKeyRow) (read : Option Founding) (before after : Connected) → (row.root == 0) ≡ false → Reads before after
     → ((all : List Row) → HasTables before → ListsAll all (before.now.trees role_key_table.tree) → map (columns_at role_key_places) (filter (has_number 0 (pos row.root)) all) ≡ map role_key_row found)
     → IsFoundingOf row found read → IsWithin up_schema (ListsRows rows) before → row ≡ meta_told rows.founding → read ≡ rows.founding
 founding_in rows row found read before after founded reads shows is within numbers =

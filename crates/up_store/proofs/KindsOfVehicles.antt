@@ -136,21 +136,21 @@ holds_retired ecu s rows lists = ((λ n. retired_lines n (rows.retired n)), list
 own : (name : Name) → bytes_eq name name ≡ true
 own name = (bytes_decides name name).1 refl
 
-pub owner_is_named : {A : Type 0} (rows : StateRows) (ecu : Name) (before after : Connected) (found : Option (String A)) (shown : String A) → found ≡ Some shown → (HasTables before → Reads before after)
+pub owner_is_named : {A : Type 0} (rows : StateRows) (ecu : Name) (before after : Connected) (found : Option (String A)) (shown : String A) → found ≡ Some shown → Reads before after
     → ((rows_of : List ℕ → List Row) → HasTables before → Lists 2 rows_of (before.now.trees ecu_table.tree) → (vehicle : List ℕ) → list_any (has_text 0 ecu) (rows_of vehicle) ≡ owns (option_map (λ s. string_bytes s) found) vehicle)
     → IsWithin up_schema (ListsRows rows) before → is_ident (string_bytes shown) ≡ true
 owner_is_named rows ecu before after found shown is reads shows within =
     let has = has_tables rows before within in
-    let here = within.here (reads has).was_open in
+    let here = within.here reads.was_open in
     let name = string_bytes shown in
     owner_named rows ecu name here.rows.typed (shows (λ n. ecus_lines n (table.get rows.vehicles n)) has here.rows.tables.ecus name ∙ ap (λ o. owns (option_map (λ s. string_bytes s) o) name) is ∙ own name)
 
-pub last_is_named : {A : Type 0} (rows : StateRows) (ecu : Name) (before after : Connected) (found : Option (String A)) (shown : String A) → found ≡ Some shown → (HasTables before → Reads before after)
+pub last_is_named : {A : Type 0} (rows : StateRows) (ecu : Name) (before after : Connected) (found : Option (String A)) (shown : String A) → found ≡ Some shown → Reads before after
     → ((rows_of : List ℕ → List Row) → HasTables before → Lists 2 rows_of (before.now.trees retired_table.tree) → (vehicle : List ℕ) → list_any (has_text 0 ecu) (rows_of vehicle) ≡ owns (option_map (λ s. string_bytes s) found) vehicle)
     → IsWithin up_schema (ListsRows rows) before → is_ident (string_bytes shown) ≡ true
 last_is_named rows ecu before after found shown is reads shows within =
     let has = has_tables rows before within in
-    let here = within.here (reads has).was_open in
+    let here = within.here reads.was_open in
     let name = string_bytes shown in
     last_named rows ecu name here.rows.typed
     (shows (λ n. retired_lines n (rows.retired n)) has here.rows.tables.retired name ∙ ap (λ o. owns (option_map (λ s. string_bytes s) o) name) is ∙ own name)

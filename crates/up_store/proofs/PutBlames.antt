@@ -34,7 +34,7 @@ blames_row P text row lines old new r same h = subst (λ rows. BlamesOne (each_w
 -- none
 pub ran_none : {A E : Type 0} (text : List ℕ) (lines : List Row) (s : Connected) (r : Result A E) → [] ≡ lines → IfClean IsOpen s → Ran (each_with text lines) s s r
 ran_none text all s (Err e) same is_open = λ clean. tt
-ran_none {A} {E} text all s (Ok x) same is_open = subst (λ rows. Ran {A = A} {E = E} (each_with text rows) s s (Ok x)) same (λ clean has. (is_open clean, refl, has))
+ran_none {A} {E} text all s (Ok x) same is_open = subst (λ rows. Ran {A = A} {E = E} (each_with text rows) s s (Ok x)) same (λ clean. (is_open clean, refl, λ has. has))
 
 -- the rows that were made, one after another
 pub each_is : {X : Type 0} (text : List ℕ) (row_of : X → Row) (made : List X) → map (λ x. (text, row_of x)) made ≡ each_with text (map row_of made)

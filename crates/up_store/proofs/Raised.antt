@@ -40,14 +40,11 @@ raised_rows old new survives = record {
   crash = λ clean db may. elim (survives.crash clean db may) [
     | inl before ↦ inl before
     | inr made ↦ inr (
-      (
-        made.0.1,
-        λ version rows was.
-            let told = made.0.2 version (table_rows rows) (tables_of version rows old was) in
-            let were = (was.here made.0.0).rows in
-            let held = told.1 in
-            (told.0, record { schema_is = held.schema_is; sound = held.sound; rows = record { last = were.last; numbered = were.numbered; typed = were.typed; tables = held.rows } }),
-      ),
+      λ version rows was.
+          let told = made.0.1 version (table_rows rows) (tables_of version rows old was) in
+          let were = (was.here made.0.0).rows in
+          let held = told.1 in
+          (told.0, record { schema_is = held.schema_is; sound = held.sound; rows = record { last = were.last; numbered = were.numbered; typed = were.typed; tables = held.rows } }),
       made.1,
     )
   ];

@@ -28,12 +28,11 @@ both_then P Q R (Ok x) f h k = f x h k
 both_then P Q R (Err e) f h k = tt
 
 -- a read that went through leaves the tables, and what they list
-pub tables_stay : (before after : Connected) → (HasTables before → Reads before after) → HasTables before → HasTables after
-tables_stay before after reads has = λ is_open.
-    let r = reads has in subst (IsWith up_schema AnyRows) (sym r.now_is) (has r.was_open)
+pub tables_stay : (before after : Connected) → Reads before after → HasTables before → HasTables after
+tables_stay before after reads has = λ is_open. subst (IsWith up_schema AnyRows) (sym reads.now_is) (has reads.was_open)
 
-pub now_stays : (P : Database → Type 0) (before after : Connected) → (HasTables before → Reads before after) → HasTables before → P before.now → P after.now
-now_stays P before after reads has = subst P (sym (reads has).now_is)
+pub now_stays : (P : Database → Type 0) (before after : Connected) → Reads before after → P before.now → P after.now
+now_stays P before after reads = subst P (sym reads.now_is)
 
 -- the row behind those that were read
 pub in_turn_more : {A S : Type 0} (step : A → S → S → Type 0) (xs : List A) (i : ℕ) (x : A) (before mid after : S) → i < length xs → x ≡ get_or xs i x

@@ -30,10 +30,10 @@ shown_is (Some v) (Some f) h =
     let last : f.last_counter ≡ v.vehicle.last = cc in
     λ i. Some (record { vehicle = vehicle i; primary = primary i; version = version i; last = last i })
 
-pub vehicle_in : (rows : StateRows) (name : Name) (before after : Connected) (found : Option VehicleShown) → (HasTables before → Reads before after)
+pub vehicle_in : (rows : StateRows) (name : Name) (before after : Connected) (found : Option VehicleShown) → Reads before after
     → ((rows_of : List ℕ → List Row) → HasTables before → Lists 1 rows_of (before.now.trees vehicle_table.tree) → map (columns_at vehicle_places) (rows_of name) ≡ map vehicle_row (option_to_list found))
     → IsWithin up_schema (ListsRows rows) before → option_map vehicle_read found ≡ vehicle_found name rows
 vehicle_in rows name before after found reads shows within =
     let has : HasTables before = λ is_open. let here = within.here is_open in record { schema_is = here.schema_is; sound = here.sound; rows = tt } in
-    let here = within.here (reads has).was_open in
+    let here = within.here reads.was_open in
     shown_is (table.get rows.vehicles name) found (shows (λ n. vehicle_lines (table.get rows.vehicles n)) has here.rows.tables.vehicles)

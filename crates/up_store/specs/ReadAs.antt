@@ -170,6 +170,11 @@ ReadsVehicle vehicle rows_of read = (shown : Option VehicleShown) × VehicleOf v
 abbrev pub ReadsLast : Name → (List ℕ → List Row) → Option ℕ → Type 0
 ReadsLast vehicle rows_of read = (shown : Option VehicleShown) × VehicleOf vehicle rows_of shown × (read ≡ option_map (λ v. v.last_counter) shown)
 
+-- the kept manifest of the greatest counter in the vehicle's row is what its own row is read as; none of an unknown vehicle
+abbrev pub ReadsLatest : Name → (List ℕ → List Row) → (List ℕ → List Row) → Option Kept → Type 0
+ReadsLatest vehicle rows_of kept_of read =
+    (last : Option ℕ) × ReadsLast vehicle rows_of last × MatchOption last (read ≡ None) (λ counter. ReadsKept vehicle counter kept_of read)
+
 -- its ECUs are what their rows are read as, in the order of their places
 abbrev pub ReadsEcus : Name → (List ℕ → List Row) → List EcuRow → Type 0
 ReadsEcus vehicle rows_of read = (shown : List EcuShown) × ReadsByPlace (rows_of vehicle) shown × (read ≡ map ecu_read shown)

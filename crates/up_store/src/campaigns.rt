@@ -36,6 +36,7 @@ impl<D: Alter> Store<D> {
     /// The campaign of this name, none where there is none.
     pub fn campaign(&mut self, alloc: Global, name: &Ident) -> Result<Option<Campaign>, StoreFault>
         ensures told { Answers (λ rows. table.get rows.campaigns name.now) (state D.Store self.old) (state D.Store self.new) result }
+        ensures shown { Finds campaign_table 1 (ReadsCampaign name.now) (state D.Store self.old) (state D.Store self.new) result }
         ensures kept { IfClean (IsAsCommitted (state D.Store self.old)) (state D.Store self.new) }
         ensures crash { Survives (state D.Store self.old) (state D.Store self.new) (λ _. ⊥) }
         ensures open { NeedsOpen (state D.Store self.old) (state D.Store self.new) result }
@@ -52,6 +53,7 @@ impl<D: Alter> Store<D> {
         vehicle: &Ident,
     ) -> Result<Table<Campaign>, StoreFault>
         ensures told { Answers (campaigns_found vehicle.now) (state D.Store self.old) (state D.Store self.new) result }
+        ensures shown { Finds campaign_table 1 (ReadsReaching vehicle.now) (state D.Store self.old) (state D.Store self.new) result }
         ensures kept { IfClean (IsAsCommitted (state D.Store self.old)) (state D.Store self.new) }
         ensures crash { Survives (state D.Store self.old) (state D.Store self.new) (λ _. ⊥) }
         ensures open { NeedsOpen (state D.Store self.old) (state D.Store self.new) result }
@@ -64,6 +66,7 @@ impl<D: Alter> Store<D> {
     /// The running campaigns by their names.
     pub fn running(&mut self, alloc: Global) -> Result<Table<Campaign>, StoreFault>
         ensures told { Answers running_found (state D.Store self.old) (state D.Store self.new) result }
+        ensures shown { Finds campaign_table 1 ReadsRunning (state D.Store self.old) (state D.Store self.new) result }
         ensures kept { IfClean (IsAsCommitted (state D.Store self.old)) (state D.Store self.new) }
         ensures crash { Survives (state D.Store self.old) (state D.Store self.new) (λ _. ⊥) }
         ensures open { NeedsOpen (state D.Store self.old) (state D.Store self.new) result }

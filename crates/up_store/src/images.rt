@@ -38,6 +38,7 @@ impl<D: Alter> Store<D> {
     /// The image of this filename, none where there is none.
     pub fn image(&mut self, alloc: Global, file: &FileName) -> Result<Option<Image>, StoreFault>
         ensures told { Answers (λ rows. table.get rows.images file.now) (state D.Store self.old) (state D.Store self.new) result }
+        ensures shown { FindsBoth image_table 1 image_sha512_table 1 (ReadsImage file.now) (state D.Store self.old) (state D.Store self.new) result }
         ensures kept { IfClean (IsAsCommitted (state D.Store self.old)) (state D.Store self.new) }
         ensures crash { Survives (state D.Store self.old) (state D.Store self.new) (λ _. ⊥) }
         ensures open { NeedsOpen (state D.Store self.old) (state D.Store self.new) result }
@@ -50,6 +51,7 @@ impl<D: Alter> Store<D> {
     /// All images by their filenames.
     pub fn images(&mut self, alloc: Global) -> Result<Table<Image>, StoreFault>
         ensures told { Answers (λ rows. rows.images) (state D.Store self.old) (state D.Store self.new) result }
+        ensures shown { FindsBoth image_table 1 image_sha512_table 1 ReadsImages (state D.Store self.old) (state D.Store self.new) result }
         ensures kept { IfClean (IsAsCommitted (state D.Store self.old)) (state D.Store self.new) }
         ensures crash { Survives (state D.Store self.old) (state D.Store self.new) (λ _. ⊥) }
         ensures open { NeedsOpen (state D.Store self.old) (state D.Store self.new) result }

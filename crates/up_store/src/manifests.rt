@@ -12,7 +12,7 @@ ghost use Rattle.up_rows.specs.Lookups.{kept_with, latest_kept};
 ghost use Rattle.up_rows.specs.SecondHashes.{TellsItsHash};
 ghost use Rattle.up_tables.specs.declared.values.StoreFault.TheVariants as StoreFault;
 ghost use Rattle.up_store.specs.ColumnRows.{IsKept, last_found, with_kept};
-ghost use Rattle.up_store.specs.ReadAs.{IsReadKept, ReadsKept, ReadsLast};
+ghost use Rattle.up_store.specs.ReadAs.{FindsBoth, IsReadKept, ReadsKept, ReadsLast, ReadsLatest};
 ghost use Rattle.up_store.specs.Typed.{IsTypedKept, IsTypedVehicle};
 ghost use Rattle.up_store.specs.Fitting.{IsRecorded};
 ghost use Rattle.up_store.specs.Puts.{AreMadeOf, IsMadeOfKept, IsReported, MayAccept, MayReport, with_reported};
@@ -21,10 +21,10 @@ ghost use Rattle.up_tables.specs.Statements.{IsStep, IsOpenStep, Finds, OnlyRead
 ghost use Rattle.up_tables.specs.Tables.{kept_table, vehicle_table};
 ghost use Rattle.up_tables.specs.Texts.{insert_kept_text};
 ghost use Rattle.up_tables.specs.Tried.{BlamesOne, Ran, Undoes};
-ghost use Rattle.up_store.specs.Lines.{kept_line};
+ghost use Rattle.up_store.specs.Lines.{kept_line, vehicle_lines};
 ghost use Rattle.up_store.specs.Writes.{FitsAccepted, accept_writes, each_with, reported_writes};
 ghost use Rattle.up_store.specs.Connections.{NeedsOpen, Answers, FindsRows, Blames, BlamesWithin, PutsRows, PutsTables, TakesRows};
-ghost use Rattle.up_store.specs.Connections.{BlamesWrite, CommitsRows, RanWrite, SparesRows, UndoesOrStays};
+ghost use Rattle.up_store.specs.Connections.{BlamesWrite, CommitsRows, HandsBack, RanWrite, SparesRows, UndoesOrStays};
 
 use crate::column_values::{check_places, count_in};
 use crate::ecus::make_ecus;
@@ -50,6 +50,7 @@ impl<D: Alter> Store<D> {
         counter: Count,
     ) -> Result<Option<Kept>, StoreFault>
         ensures told { Answers (kept_with vehicle.now counter) (state D.Store self.old) (state D.Store self.new) result }
+        ensures shown { Finds kept_table 1 (ReadsKept vehicle.now counter) (state D.Store self.old) (state D.Store self.new) result }
         ensures blame { Blames (state D.Store self.old) (state D.Store self.new) result }
         ensures kept { IfClean (IsAsCommitted (state D.Store self.old)) (state D.Store self.new) }
         ensures crash { Survives (state D.Store self.old) (state D.Store self.new) (λ _. ⊥) }
@@ -62,6 +63,7 @@ impl<D: Alter> Store<D> {
     /// The vehicle's row with its greatest counter, none of an unknown vehicle and before its first manifest.
     pub fn latest(&mut self, alloc: Global, vehicle: &Ident) -> Result<Option<Kept>, StoreFault>
         ensures told { Answers (latest_kept vehicle.now) (state D.Store self.old) (state D.Store self.new) result }
+        ensures shown { FindsBoth vehicle_table 1 kept_table 1 (ReadsLatest vehicle.now) (state D.Store self.old) (state D.Store self.new) result }
         ensures blame { Blames (state D.Store self.old) (state D.Store self.new) result }
         ensures kept { IfClean (IsAsCommitted (state D.Store self.old)) (state D.Store self.new) }
         ensures crash { Survives (state D.Store self.old) (state D.Store self.new) (λ _. ⊥) }
@@ -82,6 +84,7 @@ impl<D: Alter> Store<D> {
         ensures clean { HasCleanDisk (state D.Store self.new) → HasCleanDisk (state D.Store self.old) }
         ensures open { NeedsOpen (state D.Store self.old) (state D.Store self.new) result }
         ensures ran { RanWrite (accept_writes new.now) (state D.Store self.old) (state D.Store self.new) result }
+        ensures handed { HandsBack (vehicle_lines (Some new.now.vehicle)) (state D.Store self.old) (state D.Store self.new) result }
         ensures blame { BlamesWrite (accept_writes new.now) (λ rows. IsRecorded new.now rows × FitsAccepted new.now)
             (state D.Store self.old) (state D.Store self.new) result }
     {
@@ -103,6 +106,7 @@ fn put_accepted<D: Alter>(
     ensures put { PutsRows (IsRecorded new.now) (λ rows. with_accepted_rows rows new.now)
         (state D.Store tx.old.conn.now) (state D.Store tx.new.conn.now) result }
     ensures ran { Ran (accept_writes new.now) (state D.Store tx.old.conn.now) (state D.Store tx.new.conn.now) result }
+    ensures handed { HandsBack (vehicle_lines (Some new.now.vehicle)) (state D.Store tx.old.conn.now) (state D.Store tx.new.conn.now) result }
     ensures blame { BlamesOne (accept_writes new.now) (MayAccept new.now) (state D.Store tx.old.conn.now) (state D.Store tx.new.conn.now) result }
     ensures memory { UndoesOrStays D.Store tx.old.conn tx.new.conn result }
     ensures step { IsOpenStep D.Store tx.old.conn tx.new.conn result }
@@ -128,6 +132,7 @@ fn put_made<D: Alter>(
     ensures put { PutsRows (IsRecorded new.now) (λ rows. with_accepted_rows rows new.now)
         (state D.Store tx.old.conn.now) (state D.Store tx.new.conn.now) result }
     ensures ran { Ran (accept_writes new.now) (state D.Store tx.old.conn.now) (state D.Store tx.new.conn.now) result }
+    ensures handed { HandsBack (vehicle_lines (Some new.now.vehicle)) (state D.Store tx.old.conn.now) (state D.Store tx.new.conn.now) result }
     ensures blame { BlamesOne (accept_writes new.now) (MayAccept new.now) (state D.Store tx.old.conn.now) (state D.Store tx.new.conn.now) result }
     ensures memory { Undoes (state D.Store tx.new.conn.now) result }
     ensures step { IsOpenStep D.Store tx.old.conn tx.new.conn result }
@@ -148,6 +153,7 @@ fn put_reported<D: Alter>(
     ensures put { PutsTables (IsReported new.now) (with_reported new.now) (state D.Store tx.old.conn.now) (state D.Store tx.new.conn.now) result }
     ensures typed { OnOk result (AllByRecursion TellsItsHash new.now.ecus → IsTypedVehicle new.now.vehicle.vehicle new.now) }
     ensures ran { Ran (reported_writes new.now) (state D.Store tx.old.conn.now) (state D.Store tx.new.conn.now) result }
+    ensures handed { HandsBack (vehicle_lines (Some new.now)) (state D.Store tx.old.conn.now) (state D.Store tx.new.conn.now) result }
     ensures blame { BlamesOne (reported_writes new.now) (MayReport new.now) (state D.Store tx.old.conn.now) (state D.Store tx.new.conn.now) result }
     ensures memory { Undoes (state D.Store tx.new.conn.now) result }
     ensures step { IsOpenStep D.Store tx.old.conn tx.new.conn result }
@@ -198,6 +204,8 @@ fn find_latest<D: Alter>(
 ) -> Result<Option<Kept>, StoreFault>
     requires mode { IfClean IsInside (state D.Store tx.old.conn.now) }
     ensures found { FindsRows (latest_kept vehicle.now) (state D.Store tx.old.conn.now) (state D.Store tx.new.conn.now) result }
+    ensures shown { FindsBoth vehicle_table 1 kept_table 1 (ReadsLatest vehicle.now)
+        (state D.Store tx.old.conn.now) (state D.Store tx.new.conn.now) result }
     ensures blame { BlamesWithin (λ _. ⊤) (state D.Store tx.old.conn.now) (state D.Store tx.new.conn.now) result }
     ensures open { NeedsOpen (state D.Store tx.old.conn.now) (state D.Store tx.new.conn.now) result }
     ensures step { IsStep D.Store tx.old.conn tx.new.conn }

@@ -44,6 +44,8 @@ impl<D: Alter> Store<D> {
     /// The founding: the last root version with its keys, the image repository's version and its moment; none before founding.
     pub fn founding(&mut self, alloc: Global) -> Result<Option<Founding>, StoreFault>
         ensures told { Answers (λ rows. rows.founding) (state D.Store self.old) (state D.Store self.new) result }
+        ensures shown { FindsNumbers (λ row read. (all : List Row) → ListsAll all ((state D.Store self.old).now.trees role_key_table.tree)
+            → ReadsFounding row all read) (state D.Store self.old) (state D.Store self.new) result }
         ensures blame { Blames (state D.Store self.old) (state D.Store self.new) result }
         ensures kept { IfClean (IsAsCommitted (state D.Store self.old)) (state D.Store self.new) }
         ensures crash { Survives (state D.Store self.old) (state D.Store self.new) (λ _. ⊥) }
@@ -56,6 +58,7 @@ impl<D: Alter> Store<D> {
     /// Whether the repositories are founded.
     pub fn is_founded(&mut self) -> Result<bool, StoreFault>
         ensures told { Answers (λ rows. is_some rows.founding) (state D.Store self.old) (state D.Store self.new) result }
+        ensures shown { FindsNumbers (λ row founded. founded ≡ not (row.root == 0)) (state D.Store self.old) (state D.Store self.new) result }
         ensures blame { Blames (state D.Store self.old) (state D.Store self.new) result }
         ensures kept { IfClean (IsAsCommitted (state D.Store self.old)) (state D.Store self.new) }
         ensures crash { Survives (state D.Store self.old) (state D.Store self.new) (λ _. ⊥) }
@@ -73,6 +76,7 @@ impl<D: Alter> Store<D> {
         name: &FileName,
     ) -> Result<Option<Text>, StoreFault>
         ensures told { Answers (λ rows. text_held rows repository name.now) (state D.Store self.old) (state D.Store self.new) result }
+        ensures shown { FindsFiles (ReadsFile (word_of repository) name.now) (state D.Store self.old) (state D.Store self.new) result }
         ensures blame { Blames (state D.Store self.old) (state D.Store self.new) result }
         ensures kept { IfClean (IsAsCommitted (state D.Store self.old)) (state D.Store self.new) }
         ensures crash { Survives (state D.Store self.old) (state D.Store self.new) (λ _. ⊥) }

@@ -45,6 +45,7 @@ impl<D: Alter> Store<D> {
         vehicle: &Ident,
     ) -> Result<Option<VehicleRow>, StoreFault>
         ensures told { Answers (vehicle_found vehicle.now) (state D.Store self.old) (state D.Store self.new) result }
+        ensures shown { Finds vehicle_table 1 (ReadsVehicle vehicle.now) (state D.Store self.old) (state D.Store self.new) result }
         ensures blame { Blames (state D.Store self.old) (state D.Store self.new) result }
         ensures kept { IfClean (IsAsCommitted (state D.Store self.old)) (state D.Store self.new) }
         ensures crash { Survives (state D.Store self.old) (state D.Store self.new) (λ _. ⊥) }
@@ -58,6 +59,7 @@ impl<D: Alter> Store<D> {
     /// The vehicle's ECUs in inventory order; empty of an unknown vehicle.
     pub fn ecus(&mut self, alloc: Global, vehicle: &Ident) -> Result<Listed<EcuRow>, StoreFault>
         ensures told { Answers (ecus_found vehicle.now) (state D.Store self.old) (state D.Store self.new) result }
+        ensures shown { Finds ecu_table 2 (ReadsEcus vehicle.now) (state D.Store self.old) (state D.Store self.new) result }
         ensures blame { Blames (state D.Store self.old) (state D.Store self.new) result }
         ensures kept { IfClean (IsAsCommitted (state D.Store self.old)) (state D.Store self.new) }
         ensures crash { Survives (state D.Store self.old) (state D.Store self.new) (λ _. ⊥) }
@@ -70,6 +72,7 @@ impl<D: Alter> Store<D> {
     /// The vehicle in which the ECU stands, else the one in which an ECU of the name was replaced; none of an unknown ECU.
     pub fn ecu_owner(&mut self, alloc: Global, ecu: &Ident) -> Result<Option<Ident>, StoreFault>
         ensures told { Answers (owner_found ecu.now) (state D.Store self.old) (state D.Store self.new) result }
+        ensures shown { FindsBoth ecu_table 2 retired_table 2 (ReadsOwner ecu.now) (state D.Store self.old) (state D.Store self.new) result }
         ensures blame { Blames (state D.Store self.old) (state D.Store self.new) result }
         ensures kept { IfClean (IsAsCommitted (state D.Store self.old)) (state D.Store self.new) }
         ensures crash { Survives (state D.Store self.old) (state D.Store self.new) (λ _. ⊥) }
@@ -91,7 +94,7 @@ impl<D: Alter> Store<D> {
         ensures clean { HasCleanDisk (state D.Store self.new) → HasCleanDisk (state D.Store self.old) }
         ensures open { NeedsOpen (state D.Store self.old) (state D.Store self.new) result }
         ensures ran { RanWrite (vehicle_writes new.now) (state D.Store self.old) (state D.Store self.new) result }
-        ensures blame { BlamesWrite (vehicle_writes new.now) (λ rows. IsNewVehicle new.now rows × FitsVehicle new.now)
+        ensures blame { BlamesWrite (vehicle_writes new.now) (λ _. FitsVehicle new.now)
             (state D.Store self.old) (state D.Store self.new) result }
     {
         let mut tx = self.conn.transaction();

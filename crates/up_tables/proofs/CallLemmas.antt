@@ -3,28 +3,26 @@ use Rattle.std.proofs.Common.{◌≡◌, ◌∙◌, ◌⊎◌, ℕ, List, IfOk, 
 use Rattle.std.specs.Result.{IsOk, IsOkAnd}
 use Rattle.sqlite.specs.declared.error.Error.{Error}
 use Rattle.sqlite.specs.Order.{Row}
-use Rattle.sqlite.specs.Listing.{understood}
 use Rattle.sqlite.specs.State.{State, HasCleanDisk, Survives, ExecutesInside, Shown, FailsToQuery, IsTooLate}
-use Rattle.sqlite.proofs.Callers.{IsPlain}
-use Rattle.up_tables.specs.Tables.{up_schema}
-use Rattle.up_tables.specs.Stands.{IfClean, IsInside, IsOpen, HasTables, Reads, Steps}
+use Rattle.up_tables.specs.Stands.{IfClean, IsInside, IsOpen, Reads, Steps}
 use Rattle.up_tables.specs.declared.values.StoreFault.{StoreFault}
+use Rattle.up_tables.proofs.CommandLemmas.{IsRowAsked}
 use Rattle.up_tables.proofs.StateLemmas.{on_done, on_read, reads_in, inside_after, open_after, shown_inside, shown_is_open}
 use Rattle.up_tables.proofs.StepLemmas.{queries, executes, steps_then}
 
 -- ---- a query that writes nothing
 
 pub record IsRead {T : Type 0} (old new : State) (r : Result T StoreFault) : Type 0 where
-  pub reads : HasCleanDisk new → OnOk r (HasTables old → Reads old new)
+  pub reads : HasCleanDisk new → OnOk r (Reads old new)
   pub inside : OnOk r (IfClean IsInside new)
   pub opened : OnOk r (IfClean IsOpen new)
   pub steps : Steps old new
 
-pub is_read : {X T : Type 0} (items : X → List Row) (sql : List ℕ) (params : Row) (old new : State) (answer : Result X Error) (r : Result T StoreFault) (Q : T → X → Type 0) → IsPlain (understood up_schema sql)
+pub is_read : {X T : Type 0} (items : X → List Row) (sql : List ℕ) (params : Row) (old new : State) (answer : Result X Error) (r : Result T StoreFault) (Q : T → X → Type 0) → IsRowAsked sql
     → IfOk r (λ found. IsOkAnd answer (Q found)) → IfClean IsInside old → Survives old new (λ _. ⊥) → (HasCleanDisk new → IfOk answer (λ v. Shown sql params old new (items v)))
     → (HasCleanDisk new → IfErr answer (λ e. FailsToQuery sql params old new e ⊎ IsTooLate sql params old new e)) → IsRead old new r
-is_read items sql params old new answer r Q plain h inside survives ok err = record {
-  reads = λ clean. reads_in items sql params old new answer r Q plain h (ok clean);
+is_read items sql params old new answer r Q asks h inside survives ok err = record {
+  reads = λ clean. reads_in items sql params old new answer r Q asks h (ok clean);
   inside = on_read _ Q answer r h (shown_inside items sql params old new answer survives inside ok);
   opened = on_read _ Q answer r h (shown_is_open items sql params old new answer ok);
   steps = queries items sql params old new answer inside survives ok err;

@@ -19,7 +19,7 @@ use Rattle.sqlite_sql.specs.declared.ops.BinaryOp.TheVariants.{Compare}
 use Rattle.sqlite_sql.specs.declared.ops.CompareOp.TheVariants.{Eq}
 use Rattle.sqlite_value.specs.declared.keys.Collation.TheVariants.{Binary}
 use Rattle.up_tables.proofs.RefusalLemmas.{Writes}
-use Rattle.up_tables.specs.Texts.{insert_campaign_text}
+use Rattle.up_tables.specs.Texts.{insert_campaign_text, find_campaign_text, running_campaigns_text}
 use Rattle.up_tables.specs.Rows.{columns_at, has_number, with_row, bare}
 use Rattle.up_tables.specs.Stands.{Lists, ListsAll, IfClean, IsInside, Alters, HasTables}
 use Rattle.up_tables.specs.declared.values.StoreFault.{StoreFault}
@@ -74,12 +74,9 @@ names = codes "name" ∷ codes "reach" ∷ codes "items" ∷ codes "running" ∷
 shows : (params r : Row) → Rattle.sqlite.specs.Term.eval_all (all_columns 4) (params ∷ r ∷ []) ≡ part (drop 1 r)
 shows params r = rw (column_after r 0, column_after r 1, column_after r 2, column_after r 3) refl
 
-abbrev pub find_campaign_text : List ℕ
-find_campaign_text = codes "SELECT name, reach, items, running FROM campaign WHERE name = ?1"
-
 pub find_is : Asks up_schema find_campaign_text (over 7 (equals 1 0 ∷ []) (all_columns 4) []) names
 unfolding understood everything
-find_is = (refl, refl, (refl, refl))
+find_is = (refl, refl, (refl, refl), refl)
 
 pub finds_campaign : {X : Type 0} (items : X → List Row) (answer : Result X Error) (r : Result (Option CampaignRow) StoreFault) (old new : State) (name : List ℕ)
     → IfOk r (λ found. IsOkAnd answer (λ v. map part (items v) ≡ map campaign_row (option_to_list found))) → IfOk answer (λ v. Shown find_campaign_text (Text name ∷ []) old new (items v))
@@ -87,36 +84,33 @@ pub finds_campaign : {X : Type 0} (items : X → List Row) (answer : Result X Er
 finds_campaign items answer r old new name h ran =
     named_in items campaign_table 0 find_campaign_text (all_columns 4) names part campaign_row name find_is (λ db. refl) (shows (Text name ∷ [])) (λ x. refl) answer r old new h ran
 
-abbrev pub running_text : List ℕ
-running_text = codes "SELECT name, reach, items, running FROM campaign WHERE running = 1 ORDER BY rowid"
-
 abbrev runs : Term
 runs = op2 (Compare Eq Binary) (col 1 4) (lit (Int (pos 1)))
 
-pub running_is : Asks up_schema running_text (over 7 (runs ∷ []) (all_columns 4) by_rowid) names
+pub running_is : Asks up_schema running_campaigns_text (over 7 (runs ∷ []) (all_columns 4) by_rowid) names
 unfolding understood everything
-running_is = (refl, refl, (refl, refl))
+running_is = (refl, refl, (refl, refl), refl)
 
-running_answer : (old new : State) (rows : List Row) → old.now.schema ≡ up_schema → IsTable (old.now.trees campaign_table.tree) → Shown running_text [] old new rows
+running_answer : (old new : State) (rows : List Row) → old.now.schema ≡ up_schema → IsTable (old.now.trees campaign_table.tree) → Shown running_campaigns_text [] old new rows
     → rows ≡ map part (filter (has_number 3 (pos 1)) (bare (old.now.trees campaign_table.tree)))
-running_answer = answers_all up_schema running_text 7 (runs ∷ []) (all_columns 4) names [] (has_number 3 (pos 1)) part
+running_answer = answers_all up_schema running_campaigns_text 7 (runs ∷ []) (all_columns 4) names [] (has_number 3 (pos 1)) part
     (λ x. and-true _ ∙ equals_int (column x 4) (pos 1) ∙ ap (λ v. is_eq (value_cmp v (Int (pos 1)))) (column_after x 3)) (shows []) (λ db. refl) running_is
 
 pub finds_running : {X R : Type 0} (items : X → List Row) (list : R → List CampaignRow) (answer : Result X Error) (r : Result R StoreFault) (old new : State)
-    → IfOk r (λ found. IsOkAnd answer (λ v. map part (items v) ≡ map campaign_row (list found))) → IfOk answer (λ v. Shown running_text [] old new (items v))
+    → IfOk r (λ found. IsOkAnd answer (λ v. map part (items v) ≡ map campaign_row (list found))) → IfOk answer (λ v. Shown running_campaigns_text [] old new (items v))
     → IfOk r (λ found. (rows_of : List ℕ → List Row) → HasTables old → Lists 1 rows_of (old.now.trees campaign_table.tree)
     → (name : List ℕ) → map part (filter (has_number 3 (pos 1)) (rows_of name)) ≡ map campaign_row (filter (λ c. bytes_eq (string_bytes c.name) name) (list found)))
 finds_running items list answer r old new h ran =
-    all_in items list campaign_table running_text part campaign_row (λ c. string_bytes c.name) (has_number 3 (pos 1)) (λ x. refl) (λ x n. refl) (λ x n. text_is (string_bytes x.name) n) answer r old new
+    all_in items list campaign_table running_campaigns_text part campaign_row (λ c. string_bytes c.name) (has_number 3 (pos 1)) (λ x. refl) (λ x n. refl) (λ x n. text_is (string_bytes x.name) n) answer r old new
     (running_answer old new) h ran
 
 -- in the order of the table
 pub order_running : {X R : Type 0} (items : X → List Row) (list : R → List CampaignRow) (answer : Result X Error) (r : Result R StoreFault) (old new : State)
-    → IfOk r (λ found. IsOkAnd answer (λ v. map part (items v) ≡ map campaign_row (list found))) → IfOk answer (λ v. Shown running_text [] old new (items v))
+    → IfOk r (λ found. IsOkAnd answer (λ v. map part (items v) ≡ map campaign_row (list found))) → IfOk answer (λ v. Shown running_campaigns_text [] old new (items v))
     → IfOk r (λ found. (all : List Row) → HasTables old → ListsAll all (old.now.trees campaign_table.tree) → map part (filter (has_number 3 (pos 1)) all) ≡ map campaign_row (list found))
 order_running items list answer r old new h ran =
     ok_then _ _ r (λ found is all has lists. ap (λ xs. map part (filter (has_number 3 (pos 1)) xs)) (sym lists.every) ∙ is lists.shaped has)
-    (each_in items part part (λ x. refl) campaign_row running_text [] old new (IsShaped TableShape (old.now.trees campaign_table.tree)) list (filter (has_number 3 (pos 1)) (bare (old.now.trees campaign_table.tree))) answer r
+    (each_in items part part (λ x. refl) campaign_row running_campaigns_text [] old new (IsShaped TableShape (old.now.trees campaign_table.tree)) list (filter (has_number 3 (pos 1)) (bare (old.now.trees campaign_table.tree))) answer r
     (λ shown' shaped has. running_answer old new shown' has shaped.0) h ran)
 
 -- ---- faults of the reads
@@ -133,7 +127,7 @@ pub find_campaign_blames : {X : Type 0} (items : X → List Row) (answer : Resul
 find_campaign_blames items answer r old new name =
     named_blames items campaign_table 0 find_campaign_text (all_columns 4) names part campaign_row name find_is (λ db. refl) (shows (Text name ∷ [])) (λ x. refl) ShowsCampaign (λ x h. h) (find_campaign_takes name) answer r old new
 
-running_takes : Takes running_text [] (over 7 (runs ∷ []) (all_columns 4) by_rowid)
+running_takes : Takes running_campaigns_text [] (over 7 (runs ∷ []) (all_columns 4) by_rowid)
 unfolding understood everything
 running_takes = (refl, refl, λ trees h. absurd (let e = h in cc))
 
@@ -142,14 +136,14 @@ running_texts db sound = first_texts campaign_table (inr (inr (inr (inr (inl ref
 
 pub running_blames : {X R : Type 0} (items : X → List Row) (answer : Result X Error) (r : Result R StoreFault) (old new : State)
     → IfErr answer (λ e. r ≡ Err (store_fault e)) → IfOk answer (λ v. IfErr r (λ fault. fault ≡ Store → ¬ AllByRecursion ShowsCampaign (items v)))
-    → (HasCleanDisk new → IfOk answer (λ v. Shown running_text [] old new (items v)))
-    → (HasCleanDisk new → IfErr answer (λ e. FailsToQuery running_text [] old new e ⊎ IsTooLate running_text [] old new e))
+    → (HasCleanDisk new → IfOk answer (λ v. Shown running_campaigns_text [] old new (items v)))
+    → (HasCleanDisk new → IfErr answer (λ e. FailsToQuery running_campaigns_text [] old new e ⊎ IsTooLate running_campaigns_text [] old new e))
     → BlamesDisk (HoldsBy campaign_table 1 (λ rows_of. (name : List ℕ) → AllByRecursion ShowsCampaign (filter (has_number 3 (pos 1)) (rows_of name)))) old new r
 running_blames items answer r old new =
-    all_blames items campaign_table running_text part (has_number 3 (pos 1)) ShowsCampaign (λ x h. h) (runs ∷ []) (all_columns 4) names running_is running_takes running_answer running_texts answer r old new
+    all_blames items campaign_table running_campaigns_text part (has_number 3 (pos 1)) ShowsCampaign (λ x h. h) (runs ∷ []) (all_columns 4) names running_is running_takes running_answer running_texts answer r old new
 
 -- ---- faults of the write
 
 pub campaign_writes : (c : CampaignRow) → Writes insert_campaign_text (campaign_row c) (Insert 4 (Values (given 4) 5))
 unfolding understood everything
-campaign_writes c = record { is = insert_is.0; plain = insert_is.1; writes = refl; whole = refl; count = refl }
+campaign_writes c = record { row = refl; is = insert_is.0; plain = insert_is.1; writes = refl; whole = refl; count = refl }

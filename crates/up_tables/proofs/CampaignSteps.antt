@@ -88,4 +88,4 @@ closes_in r old new name survives inside ran clean = then_ok r closes (run_in cl
 
 pub close_writes : (name : List ℕ) → Writes close_campaign_text (Text name ∷ []) (Update 4 program)
 unfolding understood everything
-close_writes name = record { is = close_is.0; plain = close_is.1; writes = refl; whole = refl; count = refl }
+close_writes name = record { row = refl; is = close_is.0; plain = close_is.1; writes = refl; whole = refl; count = refl }

@@ -34,7 +34,7 @@ refuses_next limit (x ∷ more) (suc i) it db mid there so_far refused = inr (so
 
 -- what the loop has carried out when it comes to one of them
 pub record RanSoFar (these : List (List ℕ × Row)) (i : ℕ) (old new : State) : Type 0 where
-  pub told : HasTables old → IsTrue old.is_open × Makes old.step_limit (take i these) old.now new.now × HasTables new
+  pub told : IsTrue old.is_open × Makes old.step_limit (take i these) old.now new.now × (HasTables old → HasTables new)
 
 pub statement_at : {X : Type 0} (f : X → List ℕ × Row) (xs : List X) (i : ℕ) (x : X) → slice_get xs i ≡ Some x → slice_get (map f xs) i ≡ Some (f x)
 statement_at f [] i x there = absurd (let e = there in cc)
@@ -42,19 +42,18 @@ statement_at f (y ∷ xs) zero x there = let is : y ≡ x = cc in ap (λ z. Some
 statement_at f (y ∷ xs) (suc i) x there = statement_at f xs i x there
 
 pub next_ran : (these : List (List ℕ × Row)) (i : ℕ) (it : List ℕ × Row) (old mid new : State) → slice_get these i ≡ Some it → Steps old mid → RanSoFar these i old mid
-    → (HasTables mid → IsTrue mid.is_open × Makes mid.step_limit (it ∷ []) mid.now new.now × HasTables new) → RanSoFar these (i + 1) old new
-next_ran these i it old mid new there steps so_far ran = record {
-  told = λ has.
-      let before = so_far.told has in
-      let next = ran before.2 in
+    → IsTrue mid.is_open × Makes mid.step_limit (it ∷ []) mid.now new.now × (HasTables mid → HasTables new) → RanSoFar these (i + 1) old new
+next_ran these i it old mid new there steps so_far next = record {
+  told =
+      let before = so_far.told in
       let made : MakesOf old.step_limit it.0 it.1 mid.now new.now = subst (λ d. MakesOf old.step_limit it.0 it.1 mid.now d) (sym next.1.2) (subst (λ l. MakesOf l it.0 it.1 mid.now next.1.0) steps.survives.limit next.1.1) in
       let same : suc i ≡ i + 1 = omega arith in
-      (before.0, subst (λ n. Makes old.step_limit (take n these) old.now new.now) same (makes_next old.step_limit these i it old.now mid.now new.now there before.1 made), next.2);
+      (before.0, subst (λ n. Makes old.step_limit (take n these) old.now new.now) same (makes_next old.step_limit these i it old.now mid.now new.now there before.1 made), λ has. next.2 (before.2 has));
 }
 
-pub all_ran : (these : List (List ℕ × Row)) (i : ℕ) (old new : State) → i ≡ length these → RanSoFar these i old new → HasTables old → IsTrue old.is_open × Makes old.step_limit these old.now new.now × HasTables new
-all_ran these i old new end so_far has =
-    let it = so_far.told has in
+pub all_ran : (these : List (List ℕ × Row)) (i : ℕ) (old new : State) → i ≡ length these → RanSoFar these i old new → IsTrue old.is_open × Makes old.step_limit these old.now new.now × (HasTables old → HasTables new)
+all_ran these i old new end so_far =
+    let it = so_far.told in
     (it.0, subst (λ xs. Makes old.step_limit xs old.now new.now) (ap (λ k. take k these) end ∙ take_whole these) it.1, it.2)
 
 -- the next one fails, and its fault is handed on
@@ -63,8 +62,8 @@ pub blames_next : {T : Type 0} (r : Result T StoreFault) (these : List (List ℕ
 blames_next (Ok x) these i it old mid new f fails there on steps so_far blame clean = absurd fails
 blames_next (Err e) these i it old mid new f fails there on steps so_far blame clean = λ is is_open has _.
     let between : HasCleanDisk mid = clean_before mid new steps clean in
-    let before = (so_far between).told has in
-    elim (blame clean (sym fails ∙ is) (on.opened between) before.2) [
+    let before = (so_far between).told in
+    elim (blame clean (sym fails ∙ is) (on.opened between) (before.2 has)) [
       | inl more ↦ inl (omega (arith, on.steps.survives.counts, more))
       | inr refused ↦ inr (refuses_next old.step_limit these i it old.now mid.now there before.1 (subst (λ l. IsRefused l it.0 it.1 mid.now) on.steps.survives.limit refused))
     ]

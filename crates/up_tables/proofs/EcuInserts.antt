@@ -30,7 +30,7 @@ insert_is = (refl, (refl, refl))
 
 pub insert_ecu_writes : (e : EcuLine) → Writes insert_ecu_text (ecu_row e) (Insert 6 (Values terms 11))
 unfolding understood everything
-insert_ecu_writes e = record { is = insert_is.0; plain = insert_is.1; writes = refl; whole = refl; count = refl }
+insert_ecu_writes e = record { row = refl; is = insert_is.0; plain = insert_is.1; writes = refl; whole = refl; count = refl }
 
 pub ecu_inserts : (r : Result ℕ Error) (old new : State) (e : EcuLine) → IsKept e → Survives old new (λ _. ⊥) → IfClean IsInside old
     → (HasCleanDisk new → IsTrue old.in_transaction → ExecutesInside 0 insert_ecu_text (ecu_row e) old new r)

@@ -9,6 +9,7 @@ use Rattle.sqlite.specs.Order.{Row, column}
 use Rattle.sqlite.specs.Listing.{understood}
 use Rattle.sqlite.specs.State.{State, Shown, HasCleanDisk, FailsToQuery, IsTooLate}
 use Rattle.sqlite_tied.specs.Compute.{everything}
+use Rattle.up_tables.specs.Texts.{find_file_text}
 use Rattle.up_tables.specs.Rows.{bare, columns_at, has_text}
 use Rattle.up_tables.specs.Stands.{IsInside, Alters, HasTables}
 use Rattle.up_tables.specs.declared.values.StoreFault.{StoreFault}
@@ -83,12 +84,9 @@ part = columns_at file_places
 abbrev names : List (List ℕ)
 names = codes "repository" ∷ codes "name" ∷ codes "body" ∷ []
 
-abbrev pub find_file_text : List ℕ
-find_file_text = codes "SELECT repository, name, body FROM repo_file WHERE repository = ?1 AND name = ?2"
-
 pub find_is : Asks up_schema find_file_text (over 3 (equals 1 0 ∷ equals 2 1 ∷ []) (all_columns 3) []) names
 unfolding understood everything
-find_is = (refl, refl, (refl, refl))
+find_is = (refl, refl, (refl, refl), refl)
 
 abbrev its : List ℕ → List ℕ → Row → Bool
 its repository name x = has_text 0 repository x && has_text 1 name x

@@ -75,7 +75,7 @@ file_line repository name body = Text repository ∷ Text name ∷ Text body ∷
 
 pub file_writes : (repository name body : List ℕ) → Writes upsert_file_text (file_line repository name body) (InsertOr 2 Abort (Values (given 3) 4) (clause ∷ []))
 unfolding understood everything
-file_writes repository name body = record { is = upsert_is.0; plain = upsert_is.1; writes = refl; whole = refl; count = refl }
+file_writes repository name body = record { row = refl; is = upsert_is.0; plain = upsert_is.1; writes = refl; whole = refl; count = refl }
 
 casts : (repository name body : List ℕ) → cast_row repo_file_table (Null ∷ file_line repository name body) ≡ Null ∷ file_line repository name body
 casts repository name body = rw cast_null refl

@@ -14,7 +14,7 @@ use Rattle.sqlite.specs.State.{State, HasCleanDisk, Survives, ExecutesInside, Sh
 use Rattle.sqlite.proofs.Callers.{IsPlain, command_of}
 use Rattle.sqlite_tied.specs.Compute.{everything}
 use Rattle.up_tables.proofs.RefusalLemmas.{Writes}
-use Rattle.up_tables.specs.Texts.{insert_image_text}
+use Rattle.up_tables.specs.Texts.{insert_image_text, find_image_text, all_images_text}
 use Rattle.sqlite_trees.specs.View.{IsShaped}
 use Rattle.sqlite_trees.specs.declared.store.Shape.TheVariants.{Table as TableShape}
 use Rattle.up_tables.specs.Tables.{up_schema, image_table}
@@ -68,24 +68,18 @@ names = codes "file" ∷ codes "length" ∷ codes "sha256" ∷ codes "hardware" 
 shows : (params r : Row) → Rattle.sqlite.specs.Term.eval_all (all_columns 7) (params ∷ r ∷ []) ≡ part (Rattle.std.proofs.Common.drop 1 r)
 shows params r = rw (column_after r 0, column_after r 1, column_after r 2, column_after r 3, column_after r 4, column_after r 5, column_after r 6) refl
 
-abbrev pub find_image_text : List ℕ
-find_image_text = codes "SELECT file, length, sha256, hardware, release_count, needs, conflicts FROM image WHERE file = ?1"
-
 pub find_is : Asks up_schema find_image_text (over 5 (equals 1 0 ∷ []) (all_columns 7) []) names
 unfolding understood everything
-find_is = (refl, refl, (refl, refl))
+find_is = (refl, refl, (refl, refl), refl)
 
 pub finds_image : {X : Type 0} (items : X → List Row) (answer : Result X Error) (r : Result (Option ImageRow) StoreFault) (old new : State) (file : List ℕ)
     → IfOk r (λ found. IsOkAnd answer (λ v. map part (items v) ≡ map image_row (option_to_list found))) → IfOk answer (λ v. Shown find_image_text (Text file ∷ []) old new (items v))
     → IfOk r (λ found. (rows_of : List ℕ → List Row) → HasTables old → Lists 1 rows_of (old.now.trees image_table.tree) → map part (rows_of file) ≡ map image_row (option_to_list found))
 finds_image items answer r old new file = named_in items image_table 0 find_image_text (all_columns 7) names part image_row file find_is (λ db. refl) (shows (Text file ∷ [])) (λ x. refl) answer r old new
 
-abbrev pub all_images_text : List ℕ
-all_images_text = codes "SELECT file, length, sha256, hardware, release_count, needs, conflicts FROM image ORDER BY rowid"
-
 pub all_is : Asks up_schema all_images_text (over 5 [] (all_columns 7) by_rowid) names
 unfolding understood everything
-all_is = (refl, refl, (refl, refl))
+all_is = (refl, refl, (refl, refl), refl)
 
 pub finds_images : {X R : Type 0} (items : X → List Row) (list : R → List ImageRow) (answer : Result X Error) (r : Result R StoreFault) (old new : State)
     → IfOk r (λ found. IsOkAnd answer (λ v. map part (items v) ≡ map image_row (list found))) → IfOk answer (λ v. Shown all_images_text [] old new (items v))
@@ -139,4 +133,4 @@ all_images_blames items answer r old new fault kinds ok err =
 
 pub image_writes : (i : ImageRow) → Writes insert_image_text (image_row i) (Insert 3 (Values (given 7) 8))
 unfolding understood everything
-image_writes i = record { is = insert_is.0; plain = insert_is.1; writes = refl; whole = refl; count = refl }
+image_writes i = record { row = refl; is = insert_is.0; plain = insert_is.1; writes = refl; whole = refl; count = refl }

@@ -15,7 +15,7 @@ use Rattle.sqlite.specs.State.{State, HasCleanDisk, Survives, ExecutesInside, Sh
 use Rattle.sqlite.proofs.Callers.{IsPlain, command_of}
 use Rattle.sqlite_tied.specs.Compute.{everything}
 use Rattle.up_tables.proofs.RefusalLemmas.{Writes}
-use Rattle.up_tables.specs.Texts.{insert_kept_text}
+use Rattle.up_tables.specs.Texts.{insert_kept_text, find_kept_text}
 use Rattle.up_tables.specs.Rows.{bare, columns_at, has_text, has_number, with_row}
 use Rattle.up_tables.specs.Stands.{Lists, IfClean, IsInside, Alters, HasTables}
 use Rattle.up_tables.specs.declared.values.StoreFault.{StoreFault}
@@ -61,12 +61,9 @@ part = columns_at kept_places
 abbrev names : List (List ℕ)
 names = codes "vehicle" ∷ codes "counter" ∷ codes "version" ∷ codes "moment" ∷ codes "root" ∷ codes "signed" ∷ codes "plan_text" ∷ codes "reply" ∷ []
 
-abbrev pub find_kept_text : List ℕ
-find_kept_text = codes "SELECT vehicle, counter, version, moment, root, signed, plan_text, reply FROM kept WHERE vehicle = ?1 AND counter = ?2"
-
 pub find_is : Asks up_schema find_kept_text (over 14 (equals 1 0 ∷ equals 2 1 ∷ []) (all_columns 8) []) names
 unfolding understood everything
-find_is = (refl, refl, (refl, refl))
+find_is = (refl, refl, (refl, refl), refl)
 
 abbrev its : List ℕ → ℕ → Row → Bool
 its vehicle counter x = has_text 0 vehicle x && has_number 1 (pos counter) x
@@ -109,4 +106,4 @@ find_kept_blames items answer r old new vehicle counter =
 
 pub kept_writes : (k : KeptRow) → Writes insert_kept_text (kept_row k) (Insert 7 (Values (given 8) 9))
 unfolding understood everything
-kept_writes k = record { is = insert_is.0; plain = insert_is.1; writes = refl; whole = refl; count = refl }
+kept_writes k = record { row = refl; is = insert_is.0; plain = insert_is.1; writes = refl; whole = refl; count = refl }

@@ -50,6 +50,7 @@ pub mod RoleKeyLemmas
 pub mod ListedLemmas
 pub mod RaiseLemmas
 pub mod ColumnLemmas
+pub mod CommandLemmas
 pub mod BlameLemmas
 pub mod RefusalLemmas
 pub mod TriedLemmas

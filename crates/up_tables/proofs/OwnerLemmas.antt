@@ -17,6 +17,7 @@ use Rattle.sqlite_rules.proofs.ListLemmas.{all_has, all_from, has_filtered, has_
 use Rattle.sqlite_rules.proofs.ProbeLemmas.{mapped_has, has_mapped}
 use Rattle.sqlite_tied.specs.Compute.{everything}
 use Rattle.sqlite_value.specs.Keys.{plain}
+use Rattle.up_tables.specs.Texts.{find_owner_text, find_retired_text}
 use Rattle.up_tables.specs.Tables.{up_schema, ecu_table, retired_table}
 use Rattle.up_tables.specs.Faults.{store_fault}
 use Rattle.up_tables.specs.Kinds.{ShowsOne, ShowsWords, HasOwner}
@@ -27,12 +28,12 @@ use Rattle.up_tables.specs.declared.values.StoreFault.{StoreFault}
 use Rattle.up_tables.specs.declared.values.StoreFault.TheVariants.{Store}
 use Rattle.up_tables.proofs.AnswerLemmas.{over}
 use Rattle.up_tables.proofs.BlameLemmas.{Takes, blames, shown_one}
-use Rattle.up_tables.proofs.EcuReads.{find_owner_text, owner_is, owner_answer, vehicle_part}
+use Rattle.up_tables.proofs.EcuReads.{owner_is, owner_answer, vehicle_part}
 use Rattle.up_tables.proofs.EcuRows.{column_after, text_is, own_text}
 use Rattle.up_tables.proofs.EcuUpsert.{equals}
 use Rattle.up_tables.proofs.PlaceLemmas.{any_has}
 use Rattle.up_tables.proofs.ReadLemmas.{bare_filter}
-use Rattle.up_tables.proofs.RetiredLemmas.{find_retired_text, retired_is, retired_answer}
+use Rattle.up_tables.proofs.RetiredLemmas.{retired_is, retired_answer}
 use Rattle.up_tables.proofs.TypedLemmas.{HasTextAt, first_texts, second_texts, one_at_most}
 
 -- of a table that is keyed by its ECUs, with their vehicles

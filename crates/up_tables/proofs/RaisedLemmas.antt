@@ -113,7 +113,6 @@ module _ (w : SchemaVersion) (old mid new : State) (older : IsOlder w) (before :
       let now : HasCleanDisk mid = omega (arith, ends.clean) in (
         (
           opened now,
-          (w, older, names now),
           λ v rows was.
               let same = told v w rows old (tells now) was in
               (subst IsOlder (sym same) older, made.0 rows (as_told v w rows old mid same before kept now was)),
@@ -130,10 +129,6 @@ kept_both old mid new first mode kept clean second =
       was_open = λ is_open. before.was_open (second.was_open is_open);
       undone = λ is_open. let here = before.undone (second.was_open is_open) in let now = second.undone is_open in (now.0 ∙ here.1, now.1 ∙ here.1);
     }
-
--- nothing was committed
-pub spared : (old new : State) → Survives old new (λ _. ⊥) → Survives old new (Raised old)
-spared old new h = record { clean = h.clean; shield = h.shield; counts = h.counts; limit = h.limit; closes = h.closes; crash = λ clean db may. elim (h.crash clean db may) [ inl was ↦ inl was | inr none ↦ absurd none ] }
 
 -- ---- `meta` is read in a transaction of its own
 

@@ -24,6 +24,7 @@ use Rattle.sqlite_keyed.proofs.SortLemmas.{sorted_unique}
 use Rattle.sqlite_keyed.proofs.ListLemmas.{map-map, ascending-map, ascending-filter}
 use Rattle.up_tables.specs.Rows.{bare}
 use Rattle.up_tables.proofs.AnswerLemmas.{over, outputs, IsOrder, answer_is, shows_passing}
+use Rattle.up_tables.proofs.CommandLemmas.{IsRowAsked}
 
 -- tests and columns of the rows without their rowids
 pub picked_bare : {A : Type 0} (p' p : Row → Bool) (f' f : Row → A) → ((r : Row) → p' r ≡ p (drop 1 r)) → ((r : Row) → f' r ≡ f (drop 1 r)) → (rows : List Row) → map f' (filter p' rows) ≡ map f (filter p (bare rows))
@@ -65,9 +66,9 @@ few_permutation (x ∷ y ∷ more) ys h few = absurd (omega (arith, length_permu
 abbrev pub by_rowid : List (Term × Key)
 by_rowid = (col 1 0, ascending Binary) ∷ []
 
--- the text is this query, on tables alone and not on their listing
+-- the text is this query, on tables alone and not on their listing; and whatever tables there are, it is a query
 abbrev pub Asks : Schema → List ℕ → Query → List (List ℕ) → Type 0
-Asks schema text query names = (command_of (understood schema text) ≡ Select (record { lets = []; body = query }) names) × (reads_listing schema text ≡ false) × IsPlain (understood schema text)
+Asks schema text query names = (command_of (understood schema text) ≡ Select (record { lets = []; body = query }) names) × (reads_listing schema text ≡ false) × IsPlain (understood schema text) × IsRowAsked text
 
 -- so what it shows is an answer of the query
 pub asked : (schema : Schema) (text : List ℕ) (tree : ℕ) (tests shown : List Term) (order : List (Term × Key)) (names : List (List ℕ)) (params : Row) → Asks schema text (over tree tests shown order) names → (old new : State) (rows : List Row)

@@ -21,14 +21,8 @@ use Rattle.up_tables.specs.Tried.{BlamesRefusal, IsGiven, IsRefused}
 use Rattle.up_tables.specs.declared.values.StoreFault.{StoreFault}
 use Rattle.up_tables.specs.declared.values.StoreFault.TheVariants.{Store}
 use Rattle.up_tables.proofs.BlameLemmas.{IsUntimed, is_whole, count_of, is_statement, plain_untimed, cause_of, fault_alike}
+use Rattle.up_tables.proofs.CommandLemmas.{IsRowWritten, is_write}
 use Rattle.up_tables.proofs.ReturnLemmas.{IsShowing}
-
--- the command puts in rows, or sets some
-abbrev pub is_write : Command → Bool
-is_write (Insert at from) = true
-is_write (InsertOr at way from clauses) = true
-is_write (Update at q) = true
-is_write _ = false
 
 not_query : (k : Command) → is_write k ≡ true → is_query k ≡ false
 not_query (Insert at from) h = refl
@@ -66,8 +60,9 @@ pub record IsWriting (text : List ℕ) (params : Row) (command : Command) : Type
   pub whole : is_whole text (understood up_schema text) ≡ true
   pub count : count_of (understood up_schema text) ≡ Some (length params)
 
--- such a statement that shows no rows
+-- such a statement that shows no rows, and that writes rows whatever tables there are
 pub record Writes (text : List ℕ) (params : Row) (command : Command) : Type 0 where
+  pub row : IsRowWritten text
   pub is : command_of (understood up_schema text) ≡ command
   pub plain : IsPlain (understood up_schema text)
   pub writes : is_write command ≡ true
@@ -76,6 +71,7 @@ pub record Writes (text : List ℕ) (params : Row) (command : Command) : Type 0 
 
 -- one that shows this of each row that it wrote
 pub record WritesShowing (text : List ℕ) (params : Row) (command : Command) (what : Returning) : Type 0 where
+  pub row : IsRowWritten text
   pub is : command_of (understood up_schema text) ≡ command
   pub shows : IsShowing what (understood up_schema text)
   pub writes : is_write command ≡ true

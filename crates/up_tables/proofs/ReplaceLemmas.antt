@@ -117,4 +117,4 @@ replaces_in r old new ecu hardware public_key key survives inside ran clean = th
 
 pub replace_writes : (ecu hardware public_key old : List ℕ) → Writes replace_ecu_text (given ecu hardware public_key old) (Update 6 program)
 unfolding understood everything
-replace_writes ecu hardware public_key old = record { is = replace_is.0; plain = replace_is.1; writes = refl; whole = refl; count = refl }
+replace_writes ecu hardware public_key old = record { row = refl; is = replace_is.0; plain = replace_is.1; writes = refl; whole = refl; count = refl }

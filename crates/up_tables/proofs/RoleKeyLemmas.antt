@@ -27,7 +27,7 @@ use Rattle.sqlite.specs.Tree.{IsTable}
 use Rattle.sqlite_trees.specs.View.{IsShaped}
 use Rattle.sqlite_trees.specs.declared.store.Shape.TheVariants.{Table}
 use Rattle.up_tables.specs.Tables.{up_schema, role_key_table}
-use Rattle.up_tables.specs.Texts.{insert_role_key_text}
+use Rattle.up_tables.specs.Texts.{insert_role_key_text, all_role_keys_text, role_keys_of_text}
 use Rattle.up_tables.specs.Forms.{role_key_row, role_key_places}
 use Rattle.up_tables.specs.Stands.{IsOpen}
 use Rattle.up_tables.specs.declared.role_key.RoleKeyRow.{RoleKeyRow}
@@ -53,7 +53,7 @@ insert_is = (refl, (refl, refl))
 
 pub role_key_writes : (k : RoleKeyRow) → Writes insert_role_key_text (role_key_row k) (Insert 1 (Values (given 6) 7))
 unfolding understood everything
-role_key_writes k = record { is = insert_is.0; plain = insert_is.1; writes = refl; whole = refl; count = refl }
+role_key_writes k = record { row = refl; is = insert_is.0; plain = insert_is.1; writes = refl; whole = refl; count = refl }
 
 casts : (k : RoleKeyRow) → cast_row role_key_table (Null ∷ role_key_row k) ≡ Null ∷ role_key_row k
 casts k = rw (cast_null, cast_int (pos k.root), cast_int (pos k.place), cast_int (pos k.threshold)) refl
@@ -98,74 +98,68 @@ names = codes "root" ∷ codes "repository" ∷ codes "role" ∷ codes "place" �
 shows : (params r : Row) → Rattle.sqlite.specs.Term.eval_all (all_columns 6) (params ∷ r ∷ []) ≡ part (drop 1 r)
 shows params r = rw (column_after r 0, column_after r 1, column_after r 2, column_after r 3, column_after r 4, column_after r 5) refl
 
-abbrev pub keys_of_text : List ℕ
-keys_of_text = codes "SELECT root, repository, role, place, secret, threshold FROM role_key WHERE root = ?1 ORDER BY rowid"
-
-pub keys_of_is : Asks up_schema keys_of_text (over 1 (equals 1 0 ∷ []) (all_columns 6) by_rowid) names
+pub keys_of_is : Asks up_schema role_keys_of_text (over 1 (equals 1 0 ∷ []) (all_columns 6) by_rowid) names
 unfolding understood everything
-keys_of_is = (refl, refl, (refl, refl))
+keys_of_is = (refl, refl, (refl, refl), refl)
 
-keys_of_answer : (root : ℕ) (old new : State) (rows : List Row) → old.now.schema ≡ up_schema → IsTable (old.now.trees role_key_table.tree) → Shown keys_of_text (Int (pos root) ∷ []) old new rows
+keys_of_answer : (root : ℕ) (old new : State) (rows : List Row) → old.now.schema ≡ up_schema → IsTable (old.now.trees role_key_table.tree) → Shown role_keys_of_text (Int (pos root) ∷ []) old new rows
     → rows ≡ map part (filter (has_number 0 (pos root)) (bare (old.now.trees role_key_table.tree)))
-keys_of_answer root = answers_all up_schema keys_of_text 1 (equals 1 0 ∷ []) (all_columns 6) names (Int (pos root) ∷ []) (has_number 0 (pos root)) part
+keys_of_answer root = answers_all up_schema role_keys_of_text 1 (equals 1 0 ∷ []) (all_columns 6) names (Int (pos root) ∷ []) (has_number 0 (pos root)) part
     (λ x. and-true _ ∙ equals_int (column x 1) (pos root) ∙ ap (λ v. is_eq (value_cmp v (Int (pos root)))) (column_after x 0)) (shows (Int (pos root) ∷ [])) (λ db. refl) keys_of_is
 
 pub finds_keys_of : {X R : Type 0} (items : X → List Row) (list : R → List RoleKeyRow) (answer : Result X Error) (r : Result R StoreFault) (old new : State) (root : ℕ)
-    → IfOk r (λ found. IsOkAnd answer (λ v. map part (items v) ≡ map role_key_row (list found))) → IfOk answer (λ v. Shown keys_of_text (Int (pos root) ∷ []) old new (items v))
+    → IfOk r (λ found. IsOkAnd answer (λ v. map part (items v) ≡ map role_key_row (list found))) → IfOk answer (λ v. Shown role_keys_of_text (Int (pos root) ∷ []) old new (items v))
     → IfOk r (λ found. (all : List Row) → HasTables old → ListsAll all (old.now.trees role_key_table.tree) → map part (filter (has_number 0 (pos root)) all) ≡ map role_key_row (list found))
 finds_keys_of items list answer r old new root h ran =
     let rows = filter (has_number 0 (pos root)) (bare (old.now.trees role_key_table.tree)) in
     ok_then _ _ r (λ found is all has lists. ap (λ xs. map part (filter (has_number 0 (pos root)) xs)) (sym lists.every) ∙ is lists.shaped has)
-    (each_in items part part (λ x. refl) role_key_row keys_of_text (Int (pos root) ∷ []) old new (IsShaped Table (old.now.trees role_key_table.tree)) list rows answer r
+    (each_in items part part (λ x. refl) role_key_row role_keys_of_text (Int (pos root) ∷ []) old new (IsShaped Table (old.now.trees role_key_table.tree)) list rows answer r
     (λ shown' shaped has. keys_of_answer root old new shown' has shaped.0) h ran)
 
-abbrev pub all_keys_text : List ℕ
-all_keys_text = codes "SELECT root, repository, role, place, secret, threshold FROM role_key ORDER BY rowid"
-
-pub all_keys_is : Asks up_schema all_keys_text (over 1 [] (all_columns 6) by_rowid) names
+pub all_keys_is : Asks up_schema all_role_keys_text (over 1 [] (all_columns 6) by_rowid) names
 unfolding understood everything
-all_keys_is = (refl, refl, (refl, refl))
+all_keys_is = (refl, refl, (refl, refl), refl)
 
-all_keys_answer : (old new : State) (rows : List Row) → old.now.schema ≡ up_schema → IsTable (old.now.trees role_key_table.tree) → Shown all_keys_text [] old new rows
+all_keys_answer : (old new : State) (rows : List Row) → old.now.schema ≡ up_schema → IsTable (old.now.trees role_key_table.tree) → Shown all_role_keys_text [] old new rows
     → rows ≡ map part (filter (λ _. true) (bare (old.now.trees role_key_table.tree)))
-all_keys_answer = answers_all up_schema all_keys_text 1 [] (all_columns 6) names [] (λ _. true) part (λ x. refl) (shows []) (λ db. refl) all_keys_is
+all_keys_answer = answers_all up_schema all_role_keys_text 1 [] (all_columns 6) names [] (λ _. true) part (λ x. refl) (shows []) (λ db. refl) all_keys_is
 
 pub finds_all_keys : {X R : Type 0} (items : X → List Row) (list : R → List RoleKeyRow) (answer : Result X Error) (r : Result R StoreFault) (old new : State)
-    → IfOk r (λ found. IsOkAnd answer (λ v. map part (items v) ≡ map role_key_row (list found))) → IfOk answer (λ v. Shown all_keys_text [] old new (items v))
+    → IfOk r (λ found. IsOkAnd answer (λ v. map part (items v) ≡ map role_key_row (list found))) → IfOk answer (λ v. Shown all_role_keys_text [] old new (items v))
     → IfOk r (λ found. (all : List Row) → HasTables old → ListsAll all (old.now.trees role_key_table.tree) → map part all ≡ map role_key_row (list found))
 finds_all_keys items list answer r old new h ran =
     let rows = filter (λ _. true) (bare (old.now.trees role_key_table.tree)) in
     ok_then _ _ r (λ found is all has lists. ap (map part) (sym lists.every ∙ sym (filter_true (bare (old.now.trees role_key_table.tree)))) ∙ is lists.shaped has)
-    (each_in items part part (λ x. refl) role_key_row all_keys_text [] old new (IsShaped Table (old.now.trees role_key_table.tree)) list rows answer r
+    (each_in items part part (λ x. refl) role_key_row all_role_keys_text [] old new (IsShaped Table (old.now.trees role_key_table.tree)) list rows answer r
     (λ shown' shaped has. all_keys_answer old new shown' has shaped.0) h ran)
 
 -- ---- faults of the reads
 
-keys_of_takes : (root : ℕ) → Takes keys_of_text (Int (pos root) ∷ []) (over 1 (equals 1 0 ∷ []) (all_columns 6) by_rowid)
+keys_of_takes : (root : ℕ) → Takes role_keys_of_text (Int (pos root) ∷ []) (over 1 (equals 1 0 ∷ []) (all_columns 6) by_rowid)
 unfolding understood everything
 keys_of_takes root = (refl, refl, λ trees h. absurd (let e = h in cc))
 
 pub keys_of_blames : {X R : Type 0} (items : X → List Row) (answer : Result X Error) (r : Result R StoreFault) (old new : State) (root : ℕ)
     → IfErr answer (λ e. r ≡ Err (store_fault e)) → IfOk answer (λ v. IfErr r (λ fault. fault ≡ Store → ¬ AllByRecursion ShowsRoleKey (items v)))
-    → (HasCleanDisk new → IfOk answer (λ v. Shown keys_of_text (Int (pos root) ∷ []) old new (items v)))
-    → (HasCleanDisk new → IfErr answer (λ e. FailsToQuery keys_of_text (Int (pos root) ∷ []) old new e ⊎ IsTooLate keys_of_text (Int (pos root) ∷ []) old new e))
+    → (HasCleanDisk new → IfOk answer (λ v. Shown role_keys_of_text (Int (pos root) ∷ []) old new (items v)))
+    → (HasCleanDisk new → IfErr answer (λ e. FailsToQuery role_keys_of_text (Int (pos root) ∷ []) old new e ⊎ IsTooLate role_keys_of_text (Int (pos root) ∷ []) old new e))
     → BlamesDisk (HoldsOfAll role_key_table (λ all. AllByRecursion ShowsRoleKey (filter (has_number 0 (pos root)) all))) old new r
 keys_of_blames items answer r old new root =
-    blames items keys_of_text (Int (pos root) ∷ []) 1 (equals 1 0 ∷ []) (all_columns 6) by_rowid names keys_of_is (keys_of_takes root) answer r old new (HoldsOfAll role_key_table (λ all. AllByRecursion ShowsRoleKey (filter (has_number 0 (pos root)) all))) (AllByRecursion ShowsRoleKey)
+    blames items role_keys_of_text (Int (pos root) ∷ []) 1 (equals 1 0 ∷ []) (all_columns 6) by_rowid names keys_of_is (keys_of_takes root) answer r old new (HoldsOfAll role_key_table (λ all. AllByRecursion ShowsRoleKey (filter (has_number 0 (pos root)) all))) (AllByRecursion ShowsRoleKey)
     (λ ready holds rows h. subst (AllByRecursion ShowsRoleKey) (ap (λ xs. map part (filter (has_number 0 (pos root)) xs)) (sym holds.1.every) ∙ sym (keys_of_answer root old new rows ready.here.schema_is holds.1.shaped.0 h))
     (all_map ShowsRoleKey part _ holds.2))
 
-all_keys_takes : Takes all_keys_text [] (over 1 [] (all_columns 6) by_rowid)
+all_keys_takes : Takes all_role_keys_text [] (over 1 [] (all_columns 6) by_rowid)
 unfolding understood everything
 all_keys_takes = (refl, refl, λ trees h. absurd (let e = h in cc))
 
 pub all_keys_blames : {X R : Type 0} (items : X → List Row) (answer : Result X Error) (r : Result R StoreFault) (old new : State)
     → IfErr answer (λ e. r ≡ Err (store_fault e)) → IfOk answer (λ v. IfErr r (λ fault. fault ≡ Store → ¬ AllByRecursion ShowsRoleKey (items v)))
-    → (HasCleanDisk new → IfOk answer (λ v. Shown all_keys_text [] old new (items v)))
-    → (HasCleanDisk new → IfErr answer (λ e. FailsToQuery all_keys_text [] old new e ⊎ IsTooLate all_keys_text [] old new e))
+    → (HasCleanDisk new → IfOk answer (λ v. Shown all_role_keys_text [] old new (items v)))
+    → (HasCleanDisk new → IfErr answer (λ e. FailsToQuery all_role_keys_text [] old new e ⊎ IsTooLate all_role_keys_text [] old new e))
     → BlamesDisk (HoldsOfAll role_key_table (AllByRecursion ShowsRoleKey)) old new r
 all_keys_blames items answer r old new =
-    blames items all_keys_text [] 1 [] (all_columns 6) by_rowid names all_keys_is all_keys_takes answer r old new (HoldsOfAll role_key_table (AllByRecursion ShowsRoleKey)) (AllByRecursion ShowsRoleKey)
+    blames items all_role_keys_text [] 1 [] (all_columns 6) by_rowid names all_keys_is all_keys_takes answer r old new (HoldsOfAll role_key_table (AllByRecursion ShowsRoleKey)) (AllByRecursion ShowsRoleKey)
     (λ ready holds rows h. subst (AllByRecursion ShowsRoleKey)
     (ap (map part) (sym holds.1.every ∙ sym (filter_true (bare (old.now.trees role_key_table.tree)))) ∙ sym (all_keys_answer old new rows ready.here.schema_is holds.1.shaped.0 h))
     (all_map ShowsRoleKey part _ holds.2))

@@ -14,7 +14,7 @@ use Rattle.sqlite.specs.State.{State, HasCleanDisk, Survives, ExecutesInside, Sh
 use Rattle.sqlite.proofs.Callers.{IsPlain, command_of}
 use Rattle.sqlite_tied.specs.Compute.{everything}
 use Rattle.up_tables.proofs.RefusalLemmas.{Writes}
-use Rattle.up_tables.specs.Texts.{insert_sha512_text}
+use Rattle.up_tables.specs.Texts.{insert_sha512_text, find_sha512_text, all_sha512s_text}
 use Rattle.sqlite_trees.specs.View.{IsShaped}
 use Rattle.sqlite_trees.specs.declared.store.Shape.TheVariants.{Table as TableShape}
 use Rattle.up_tables.specs.Tables.{up_schema, image_sha512_table}
@@ -69,24 +69,18 @@ names = codes "file" ∷ codes "sha512" ∷ []
 shows : (params r : Row) → Rattle.sqlite.specs.Term.eval_all (all_columns 2) (params ∷ r ∷ []) ≡ part (Rattle.std.proofs.Common.drop 1 r)
 shows params r = rw (column_after r 0, column_after r 1) refl
 
-abbrev pub find_sha512_text : List ℕ
-find_sha512_text = codes "SELECT file, sha512 FROM image_sha512 WHERE file = ?1"
-
 pub find_is : Asks up_schema find_sha512_text (over 19 (equals 1 0 ∷ []) (all_columns 2) []) names
 unfolding understood everything
-find_is = (refl, refl, (refl, refl))
+find_is = (refl, refl, (refl, refl), refl)
 
 pub finds_sha512 : {X : Type 0} (items : X → List Row) (answer : Result X Error) (r : Result (Option Sha512Row) StoreFault) (old new : State) (file : List ℕ)
     → IfOk r (λ found. IsOkAnd answer (λ v. map part (items v) ≡ map sha512_row (option_to_list found))) → IfOk answer (λ v. Shown find_sha512_text (Text file ∷ []) old new (items v))
     → IfOk r (λ found. (rows_of : List ℕ → List Row) → HasTables old → Lists 1 rows_of (old.now.trees image_sha512_table.tree) → map part (rows_of file) ≡ map sha512_row (option_to_list found))
 finds_sha512 items answer r old new file = named_in items image_sha512_table 0 find_sha512_text (all_columns 2) names part sha512_row file find_is (λ db. refl) (shows (Text file ∷ [])) (λ x. refl) answer r old new
 
-abbrev pub all_sha512s_text : List ℕ
-all_sha512s_text = codes "SELECT file, sha512 FROM image_sha512 ORDER BY rowid"
-
 pub all_is : Asks up_schema all_sha512s_text (over 19 [] (all_columns 2) by_rowid) names
 unfolding understood everything
-all_is = (refl, refl, (refl, refl))
+all_is = (refl, refl, (refl, refl), refl)
 
 pub finds_sha512s : {X R : Type 0} (items : X → List Row) (list : R → List Sha512Row) (answer : Result X Error) (r : Result R StoreFault) (old new : State)
     → IfOk r (λ found. IsOkAnd answer (λ v. map part (items v) ≡ map sha512_row (list found))) → IfOk answer (λ v. Shown all_sha512s_text [] old new (items v))
@@ -140,4 +134,4 @@ all_sha512s_blames items answer r old new fault kinds ok err =
 
 pub sha512_writes : (file sha512 : List ℕ) → Writes insert_sha512_text (sha512_line file sha512) (Insert 9 (Values (given 2) 3))
 unfolding understood everything
-sha512_writes file sha512 = record { is = insert_is.0; plain = insert_is.1; writes = refl; whole = refl; count = refl }
+sha512_writes file sha512 = record { row = refl; is = insert_is.0; plain = insert_is.1; writes = refl; whole = refl; count = refl }

@@ -1,31 +1,27 @@
 -- What writes made of the database, one after another, and why they tell `Store`.
-use Rattle.std.proofs.Common.{◌≡◌, inl, inr, ℕ, List, [], ◌∷◌, ◌++◌, slice_get, true, Option, Some, None, Ok, Err, Result, IfOk, OnOk, IsTrue, refl, sym, ap, subst, ◌∙◌, arith}
+use Rattle.std.proofs.Common.{◌≡◌, inl, inr, ℕ, List, [], ◌∷◌, ◌++◌, slice_get, Bool, true, false, MatchBool, Option, Some, None, Ok, Err, Result, IfOk, OnOk, IsTrue, refl, sym, ap, subst, ◌∙◌, arith}
 use Rattle.std.specs.Result.{IsOk, IsOkAnd}
 use Rattle.sqlite.specs.declared.error.Error.{Error}
+use Rattle.sqlite.specs.declared.error.Error.TheVariants.{ExecuteReturnedResults}
 use Rattle.sqlite.specs.Does.{Does, Tally, OnRows, AtPlace}
-use Rattle.sqlite.specs.Effect.{Database}
-use Rattle.sqlite.specs.Listing.{understood}
+use Rattle.sqlite.specs.Effect.{Database, Reads as ReadsAs}
 use Rattle.sqlite.specs.Order.{Row}
 use Rattle.sqlite.specs.Rows.{Task}
-use Rattle.sqlite.specs.State.{State, HasCleanDisk, Survives, Writes as HasWritten, Executes, ExecutesIn, ExecutesInside, IsStatement, Runs, Shown, ShowsRows, text_of}
+use Rattle.sqlite.specs.State.{State, HasCleanDisk, Survives, Writes as HasWritten, Executes, ExecutesIn, ExecutesInside, IsStatement, IsUnchanged, Runs, RunsCommand, Shown, ShowsRows, shows_rows, text_of}
 use Rattle.sqlite.specs.Table.{Table}
 use Rattle.sqlite.specs.Tree.{Trees}
 use Rattle.sqlite.specs.Clock.{timed}
 use Rattle.sqlite.specs.declared.run.Mode.{Mode}
-use Rattle.sqlite.proofs.Callers.{IsPlain}
 use Rattle.sqlite_resolve.specs.declared.compiled.Compiled.{Compiled}
 use Rattle.sqlite_schema.specs.declared.command.Command.{Command}
 use Rattle.sqlite_schema.specs.declared.command.Command.TheVariants.{Insert, InsertOr, Update}
 use Rattle.sqlite_schema.specs.declared.command.Returning.{Returning}
-use Rattle.up_tables.specs.Tables.{up_schema}
-use Rattle.up_tables.specs.Statements.{OnlyReads}
-use Rattle.up_tables.specs.Stands.{HasTables, IfClean, IsInside, IsOpen, IsWith, AnyRows}
+use Rattle.up_tables.specs.Stands.{HasTables, IfClean, IsInside, IsOpen}
 use Rattle.up_tables.specs.Tried.{BlamesOne, BlamesRefusal, Makes, MakesOf, Ran, RefusesOne, our_mode}
 use Rattle.up_tables.specs.declared.values.StoreFault.{StoreFault}
 use Rattle.up_tables.proofs.CreateLemmas.{went, same_value}
-use Rattle.up_tables.proofs.RefusalLemmas.{IsWriting, Writes, WritesShowing, as_writing, given, is_write, known, quiet, shown_writing, writing}
-use Rattle.up_tables.proofs.ReturnLemmas.{IsShowing}
-use Rattle.up_tables.proofs.StepLemmas.{shown_open}
+use Rattle.up_tables.proofs.CommandLemmas.{IsRowWritten, is_write, writes_anywhere}
+use Rattle.up_tables.proofs.RefusalLemmas.{Writes, WritesShowing}
 
 -- ---- statements in their order
 
@@ -70,38 +66,52 @@ writes_of old new returning (InsertOr at way from clauses) text params count is 
 writes_of old new returning (Update at q) text params count is h = h
 writes_of old new returning _ text params count is h = absurd (let e = is in cc)
 
--- what a statement made of an open connection with the whole schema
+-- what a statement made of an open connection
 pub record HasMade (text : List ℕ) (params : Row) (old new : State) : Type 0 where
   pub was_open : IsTrue old.is_open
   pub made : MakesOf old.step_limit text params old.now new.now
-  pub tables : HasTables new
+  pub tables : HasTables old → HasTables new
 
-module _ (text : List ℕ) (params : Row) (command : Command) (it : IsWriting text params command) (old : State) (is_open : IsTrue old.is_open) (has : HasTables old) (new : State) where
+-- it is no query
+reads_none : (k : Command) (db : Database) (params : Row) (rows : List Row) → is_write k ≡ true → ReadsAs k db params rows → ⊥
+reads_none (Insert at from) db params rows is h = h
+reads_none (InsertOr at way from clauses) db params rows is h = h
+reads_none (Update at q) db params rows is h = h
+reads_none _ db params rows is h = absurd (let e = is in cc)
+
+module _ (text : List ℕ) (params : Row) (row : IsRowWritten text) (old new : State) where
+  writing : (c : Compiled) → IsStatement old text params c → is_write c.command ≡ true
+  writing c statement = subst (λ r. IfOk r (λ it. is_write it.command ≡ true)) statement.is (writes_anywhere text row old.now.schema)
+
   of_writes : (c : Compiled) (statement : IsStatement old text params c) (count : ℕ) → HasWritten old new c.returning c.command (text_of text c) (timed params c.formats statement.now) count → HasMade text params old new
   of_writes c statement count w = record {
-    was_open = is_open;
-    made = (w.tally, (c, given text params command it old is_open has c statement, w.changed));
-    tables = λ _. record {
-      schema_is = keeps_schema old.step_limit our_mode (timed params c.formats statement.now) old.now (text_of text c) c.returning c.command w.tally new.now (writing text params command it old is_open has c statement) w.changed ∙ (has is_open).schema_is;
+    was_open = w.shown.was_open;
+    made = (w.tally, (c, record { is = statement.is; whole = statement.whole; given = statement.given; now = statement.now }, w.changed));
+    tables = λ has _. record {
+      schema_is = keeps_schema old.step_limit our_mode (timed params c.formats statement.now) old.now (text_of text c) c.returning c.command w.tally new.now (writing c statement) w.changed ∙ (has w.shown.was_open).schema_is;
       sound = w.sound;
       rows = tt;
     };
   }
 
+  of_run : (c : Compiled) (statement : IsStatement old text params c) (count : ℕ) (X : Type 0) (b : Bool) → MatchBool b (◌≡◌ {A = Result ℕ Error} (Ok count) (Err ExecuteReturnedResults) × X) (RunsCommand old new text c (timed params c.formats statement.now) (Ok count))
+      → HasMade text params old new
+  of_run c statement count X false ran = of_writes c statement count (writes_of old new c.returning c.command _ _ count (writing c statement) ran)
+  of_run c statement count X true ran = absurd (let e = ran.0 in cc)
+
   -- by `execute`
-  pub executed : IsPlain (understood up_schema text) → (count : ℕ) → Executes text params old new (Ok count) → HasMade text params old new
+  pub executed : (count : ℕ) → Executes text params old new (Ok count) → HasMade text params old new
   unfolding ExecutesIn
-  executed plain count h =
-      let run : Runs old new h.0.returning h.0.command (text_of text h.0) (timed params h.0.formats h.1.now) count = rw (quiet text params command it old is_open has plain h.0 h.1) at h.2 in
-      of_writes h.0 h.1 count (writes_of old new h.0.returning h.0.command _ _ count (writing text params command it old is_open has h.0 h.1) run)
+  executed count h = of_run h.0 h.1 count (IsUnchanged old new) (shows_rows false h.0) h.2
+
+  of_shown : (c : Compiled) (statement : IsStatement old text params c) (rows : List Row) (how : Option Returning) → c.returning ≡ how → ShowsRows old new text c (timed params c.formats statement.now) rows how → HasMade text params old new
+  of_shown c statement rows None is h = absurd (reads_none c.command h.0 _ rows (writing c statement) h.2)
+  of_shown c statement rows (Some what) is h = of_writes c statement h.0 (subst (λ r. HasWritten old new r c.command (text_of text c) (timed params c.formats statement.now) h.0) (sym is) h.1)
 
   -- by `query_all`
-  pub showed : (what : Returning) → IsShowing what (understood up_schema text) → (rows : List Row) → Shown text params old new rows → HasMade text params old new
+  pub showed : (rows : List Row) → Shown text params old new rows → HasMade text params old new
   unfolding Shown
-  showed what shows rows h =
-      let some = (subst (IsShowing what) (known text params command it old is_open has h.0 h.1) shows).0 in
-      let run : ShowsRows old new text h.0 (timed params h.0.formats h.1.now) rows (Some what) = subst (ShowsRows old new text h.0 (timed params h.0.formats h.1.now) rows) some h.2 in
-      of_writes h.0 h.1 run.0 (subst (λ r. HasWritten old new r h.0.command (text_of text h.0) (timed params h.0.formats h.1.now) run.0) (sym some) run.1)
+  showed rows h = of_shown h.0 h.1 rows h.0.returning refl h.2
 
 -- ---- calls
 
@@ -110,10 +120,9 @@ pub ran_only : {T E : Type 0} (text : List ℕ) (params : Row) (command : Comman
     → Survives old new (λ _. ⊥) → IfClean IsInside old → (HasCleanDisk new → IsTrue old.in_transaction → ExecutesInside 0 text params old new written) → Ran ((text, params) ∷ []) old new r
 ran_only text params command it written (Err f) old new done survives inside ran clean = tt
 ran_only text params command it (Err e) (Ok x) old new done survives inside ran clean = absurd (let e' = done in cc)
-ran_only text params command it (Ok count) (Ok x) old new done survives inside ran clean = λ has.
+ran_only text params command it (Ok count) (Ok x) old new done survives inside ran clean =
     let before : HasCleanDisk old = omega (arith, survives.clean) in
-    let h = ran clean (inside before) in
-    let did = executed text params command (as_writing it) old h.1.was_open has new it.plain count h.0 in
+    let did = executed text params it.row old new count (ran clean (inside before)).0 in
     (did.was_open, (new.now, did.made, refl), did.tables)
 
 -- one by `query_all`
@@ -121,9 +130,8 @@ pub ran_showing : {X T E : Type 0} (items : X → List Row) (Q : X → Type 0) (
     → OnOk r (IsOkAnd answer Q) → (HasCleanDisk new → IfOk answer (λ v. Shown text params old new (items v))) → Ran ((text, params) ∷ []) old new r
 ran_showing items Q text params command what it answer (Err f) old new done ran clean = tt
 ran_showing items Q text params command what it (Err e) (Ok x) old new done ran clean = absurd done
-ran_showing items Q text params command what it (Ok v) (Ok x) old new done ran clean = λ has.
-    let h = ran clean in
-    let did = showed text params command (shown_writing it) old (shown_open text params old new (items v) h) has new what it.shows (items v) h in
+ran_showing items Q text params command what it (Ok v) (Ok x) old new done ran clean =
+    let did = showed text params it.row old new (items v) (ran clean) in
     (did.was_open, (new.now, did.made, refl), did.tables)
 
 -- a call that tells `Store` only where its statement is refused
@@ -135,13 +143,6 @@ blames_only P text values old new (Err f) h clean = λ is is_open has holds. eli
 pub blames_so : {T : Type 0} (these : List (List ℕ × Row)) (P Q : State → Type 0) (old new : State) (r : Result T StoreFault) → (IsTrue old.is_open → HasTables old → Q old → P old) → BlamesOne these P old new r → BlamesOne these Q old new r
 blames_so these P Q old new (Ok x) so h clean = tt
 blames_so these P Q old new (Err f) so h clean = λ is is_open has holds. h clean is is_open has (so is_open has holds)
-
--- a call that read
-pub ran_read : {T E : Type 0} (old new : State) (r : Result T E) → OnlyReads old new r → Ran [] old new r
-ran_read old new (Err f) h clean = tt
-ran_read old new (Ok x) h clean = λ has.
-    let it = h clean has in
-    (it.was_open, it.now_is, λ _. subst (IsWith up_schema AnyRows) (sym it.now_is) (has it.was_open))
 
 -- ---- a first call and a further one
 
@@ -159,11 +160,11 @@ module _ {T : Type 0} (these those : List (List ℕ × Row)) (old mid new : Stat
   -- and so did the other
   pub ran_then : {E : Type 0} (r : Result T E) → Went these old mid → Ran those mid new r → Ran (these ++ those) old new r
   ran_then (Err f) h k clean = tt
-  ran_then (Ok y) h k clean = λ has.
+  ran_then (Ok y) h k clean =
       let between : HasCleanDisk mid = omega (arith, second.clean) in
-      let one = h between has in
-      let two = k clean one.2 in
-      (one.0, makes_then old.step_limit these those old.now mid.now new.now one.1 (subst (λ l. Makes l those mid.now new.now) first.limit two.1), two.2)
+      let one = h between in
+      let two = k clean in
+      (one.0, makes_then old.step_limit these those old.now mid.now new.now one.1 (subst (λ l. Makes l those mid.now new.now) first.limit two.1), λ has. two.2 (one.2 has))
 
   -- and the other failed
   pub blames_then : (P Q : State → Type 0) (r : Result T StoreFault) → Went these old mid → IfClean IsOpen mid → (HasCleanDisk mid → IsTrue old.is_open → HasTables old → P old → Q mid)
@@ -171,8 +172,8 @@ module _ {T : Type 0} (these those : List (List ℕ × Row)) (old mid new : Stat
   blames_then P Q (Ok y) h opened so k clean = tt
   blames_then P Q (Err f) h opened so k clean = λ is is_open has holds.
       let between : HasCleanDisk mid = omega (arith, second.clean) in
-      let one = h between has in
-      elim (k clean is (opened between) one.2 (so between is_open has holds)) [
+      let one = h between in
+      elim (k clean is (opened between) (one.2 has) (so between is_open has holds)) [
         | inl more ↦ inl (omega (arith, first.counts, more))
         | inr refuses ↦ inr (refuses_then old.step_limit these those old.now mid.now one.1 (subst (λ l. RefusesOne l those mid.now) first.limit refuses))
       ]

@@ -43,7 +43,7 @@ use Rattle.sqlite_trees.specs.declared.store.Shape.TheVariants.{Table}
 use Rattle.sqlite_value.specs.Keys.{first_key}
 use Rattle.sqlite_value.specs.declared.keys.Collation.TheVariants.{Binary}
 use Rattle.up_tables.proofs.RefusalLemmas.{Writes, WritesShowing, refusal_showing, shown_writing}
-use Rattle.up_tables.specs.Texts.{insert_vehicle_text, upsert_vehicle_text}
+use Rattle.up_tables.specs.Texts.{insert_vehicle_text, upsert_vehicle_text, find_vehicle_text}
 use Rattle.up_tables.specs.Tables.{up_schema, vehicle_table}
 use Rattle.up_tables.specs.Rows.{columns_at, has_text, rows_with, with_row, with_only}
 use Rattle.up_tables.specs.Lines.{vehicle_line}
@@ -103,12 +103,9 @@ part = columns_at vehicle_places
 abbrev names : List (List ℕ)
 names = codes "vehicle" ∷ codes "primary_ecu" ∷ codes "version" ∷ codes "last_counter" ∷ []
 
-abbrev pub find_vehicle_text : List ℕ
-find_vehicle_text = codes "SELECT vehicle, primary_ecu, version, last_counter FROM vehicle WHERE vehicle = ?1"
-
 pub find_is : Asks up_schema find_vehicle_text (over 9 (equals 1 0 ∷ []) (all_columns 4) []) names
 unfolding understood everything
-find_is = (refl, refl, (refl, refl))
+find_is = (refl, refl, (refl, refl), refl)
 
 pub finds_vehicle : {X : Type 0} (items : X → List Row) (answer : Result X Error) (r : Result (Option VehicleRow) StoreFault) (old new : State) (name : List ℕ)
     → IfOk r (λ found. IsOkAnd answer (λ v. map part (items v) ≡ map vehicle_row (option_to_list found))) → IfOk answer (λ v. Shown find_vehicle_text (Text name ∷ []) old new (items v))
@@ -272,14 +269,14 @@ find_vehicle_blames items answer r old new name =
 
 pub vehicle_writes : (v : VehicleRow) → Writes insert_vehicle_text (vehicle_row v) (Insert 5 (Values (given 4) 5))
 unfolding understood everything
-vehicle_writes v = record { is = insert_is.0; plain = insert_is.1; writes = refl; whole = refl; count = refl }
+vehicle_writes v = record { row = refl; is = insert_is.0; plain = insert_is.1; writes = refl; whole = refl; count = refl }
 
 abbrev upsert : Command
 upsert = InsertOr 5 Abort (Values (given 4) 5) (clause ∷ [])
 
 upsert_writes : (name primary : List ℕ) (version last : ℕ) → WritesShowing upsert_vehicle_text (vehicle_line name primary version last) upsert what
 unfolding understood everything
-upsert_writes name primary version last = record { is = upsert_is.0; shows = upsert_is.1; writes = refl; whole = refl; count = refl }
+upsert_writes name primary version last = record { row = refl; is = upsert_is.0; shows = upsert_is.1; writes = refl; whole = refl; count = refl }
 
 pub upsert_ran : {X T : Type 0} (items : X → List Row) (answer : Result X Error) (r : Result T StoreFault) (old new : State) (v : VehicleRow) → OnOk r (IsOkAnd answer (λ shown. map part (items shown) ≡ vehicle_row v ∷ []))
     → (HasCleanDisk new → IfOk answer (λ shown. Shown upsert_vehicle_text (vehicle_row v) old new (items shown))) → Ran ((upsert_vehicle_text, vehicle_row v) ∷ []) old new r

@@ -113,9 +113,9 @@ ReplacesEcu replaced ecu hardware public_key old new result =
 
 -- ---- reads
 
--- nothing is written
+-- nothing is written, whatever stands in the database
 abbrev pub OnlyReads : {A E : Type 0} → State → State → Result A E → Type 0
-OnlyReads old new result = HasCleanDisk new → OnOk result (HasTables old → Reads old new)
+OnlyReads old new result = HasCleanDisk new → OnOk result (Reads old new)
 
 -- what is found is told by the table's rows, by the text in the column at this place
 abbrev pub Finds : {A E : Type 0} → Table → ℕ → ((List ℕ → List Row) → A → Type 0) → State → State → Result A E → Type 0

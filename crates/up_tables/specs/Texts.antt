@@ -1,5 +1,7 @@
--- The texts of writes that the database may refuse, each of one row.
+-- The texts of the statements that write and read rows.
 use Rattle.std.specs.Prelude.{ℕ, List, codes}
+
+-- ---- writes that the database may refuse, each of one row
 
 abbrev pub insert_image_text : List ℕ
 insert_image_text = codes "INSERT INTO image (file, length, sha256, hardware, release_count, needs, conflicts) VALUES (?1, ?2, ?3, ?4, ?5, ?6, ?7)"
@@ -42,3 +44,50 @@ insert_role_key_text = codes "INSERT INTO role_key (root, repository, role, plac
 
 abbrev pub upsert_file_text : List ℕ
 upsert_file_text = codes "INSERT INTO repo_file (repository, name, body) VALUES (?1, ?2, ?3) ON CONFLICT (repository, name) DO UPDATE SET body = excluded.body"
+
+-- ---- reads
+
+abbrev pub find_founding_text : List ℕ
+find_founding_text = codes "SELECT root, image_version, stamp FROM meta WHERE id = 1"
+
+abbrev pub all_role_keys_text : List ℕ
+all_role_keys_text = codes "SELECT root, repository, role, place, secret, threshold FROM role_key ORDER BY rowid"
+
+abbrev pub role_keys_of_text : List ℕ
+role_keys_of_text = codes "SELECT root, repository, role, place, secret, threshold FROM role_key WHERE root = ?1 ORDER BY rowid"
+
+abbrev pub find_file_text : List ℕ
+find_file_text = codes "SELECT repository, name, body FROM repo_file WHERE repository = ?1 AND name = ?2"
+
+abbrev pub find_image_text : List ℕ
+find_image_text = codes "SELECT file, length, sha256, hardware, release_count, needs, conflicts FROM image WHERE file = ?1"
+
+abbrev pub all_images_text : List ℕ
+all_images_text = codes "SELECT file, length, sha256, hardware, release_count, needs, conflicts FROM image ORDER BY rowid"
+
+abbrev pub find_sha512_text : List ℕ
+find_sha512_text = codes "SELECT file, sha512 FROM image_sha512 WHERE file = ?1"
+
+abbrev pub all_sha512s_text : List ℕ
+all_sha512s_text = codes "SELECT file, sha512 FROM image_sha512 ORDER BY rowid"
+
+abbrev pub find_campaign_text : List ℕ
+find_campaign_text = codes "SELECT name, reach, items, running FROM campaign WHERE name = ?1"
+
+abbrev pub running_campaigns_text : List ℕ
+running_campaigns_text = codes "SELECT name, reach, items, running FROM campaign WHERE running = 1 ORDER BY rowid"
+
+abbrev pub find_vehicle_text : List ℕ
+find_vehicle_text = codes "SELECT vehicle, primary_ecu, version, last_counter FROM vehicle WHERE vehicle = ?1"
+
+abbrev pub list_ecus_text : List ℕ
+list_ecus_text = codes "SELECT ecu, hardware, public_key, file, length, sha256, counter, report FROM ecu WHERE vehicle = ?1 ORDER BY place"
+
+abbrev pub find_owner_text : List ℕ
+find_owner_text = codes "SELECT vehicle FROM ecu WHERE ecu = ?1"
+
+abbrev pub find_retired_text : List ℕ
+find_retired_text = codes "SELECT vehicle FROM retired WHERE ecu = ?1"
+
+abbrev pub find_kept_text : List ℕ
+find_kept_text = codes "SELECT vehicle, counter, version, moment, root, signed, plan_text, reply FROM kept WHERE vehicle = ?1 AND counter = ?2"

@@ -1,6 +1,6 @@
--- What statements make of a database, one after another, and that the database refuses one of them. All of it is said of what a connection
--- sees, and of the limit on the steps of a query that is set there.
-use Rattle.std.specs.Prelude.{◌≡◌, ◌≤◌, ◌⊎◌, ℕ, false, List, [], ◌∷◌, length, Option, Result, Ok, Err, IfErr, OnOk, IsTrue}
+-- What statements make of a database, one after another, that the database refuses one of them, and what a query of it answers. All of it is
+-- said of what a connection sees, and of the limit on the steps of a query that is set there.
+use Rattle.std.specs.Prelude.{◌≡◌, ◌≤◌, ◌⊎◌, ℕ, false, List, [], ◌∷◌, length, Option, Result, Ok, Err, IfOk, IfErr, OnOk, IsTrue}
 use Rattle.sqlite_disk.specs.Disk.{MoreFaults}
 use Rattle.sqlite.specs.declared.error.Error.{Error}
 use Rattle.sqlite.specs.Clock.{timed}
@@ -8,7 +8,7 @@ use Rattle.sqlite.specs.Does.{Does, Tally}
 use Rattle.sqlite.specs.Effect.{Database}
 use Rattle.sqlite.specs.Listing.{understood}
 use Rattle.sqlite.specs.Order.{Row}
-use Rattle.sqlite.specs.State.{State, HasCleanDisk, text_of}
+use Rattle.sqlite.specs.State.{State, HasCleanDisk, Shown, text_of}
 use Rattle.sqlite.specs.declared.run.Mode.{Mode}
 use Rattle.sqlite_resolve.specs.declared.compiled.Compiled.{Compiled}
 use Rattle.sqlite_schema.specs.declared.schema.Keys.TheVariants.{Enforced}
@@ -64,10 +64,11 @@ BlamesRefusal text values old new result =
     HasCleanDisk new → IfErr result (λ fault. fault ≡ Store → IsTrue old.is_open → HasTables old
     → MoreFaults old.faults new.faults ⊎ IsRefused old.step_limit text values old.now)
 
--- what went through are these statements, over an open connection with the whole schema, which stays
+-- what went through are these statements, over an open connection, whatever stands in the database; and where the whole schema was there, it is
+-- there still
 abbrev pub Ran : {A E : Type 0} → List (List ℕ × Row) → State → State → Result A E → Type 0
 Ran these old new result =
-    HasCleanDisk new → OnOk result (HasTables old → IsTrue old.is_open × Makes old.step_limit these old.now new.now × HasTables new)
+    HasCleanDisk new → OnOk result (IsTrue old.is_open × Makes old.step_limit these old.now new.now × (HasTables old → HasTables new))
 
 -- over an open connection with the whole schema, where P holds of it, `Store` is told only where the disk counted a fault, or the database
 -- refuses one of these statements
@@ -79,3 +80,10 @@ BlamesOne these P old new result =
 -- want of memory is told only where the transaction was undone
 abbrev pub Undoes : {A : Type 0} → State → Result A StoreFault → Type 0
 Undoes new result = HasCleanDisk new → IfErr result (λ fault. fault ≡ Memory → new.in_transaction ≡ false)
+
+-- ---- queries within a transaction
+
+-- whatever stands in the database, what is found is told by the rows that it shows for the query of this text, or hands back for the write
+abbrev pub AnswersQuery : {A E : Type 0} → List ℕ → Row → (List Row → A → Type 0) → State → State → Result A E → Type 0
+AnswersQuery text values told old new result =
+    HasCleanDisk new → IfOk result (λ found. (rows : List Row) × Shown text values old new rows × told rows found)

@@ -5,14 +5,14 @@ ghost use Rattle.std.specs.Option.{option_to_list};
 ghost use Rattle.sqlite.specs.declared.types.Value.TheVariants.{Text};
 ghost use Rattle.sqlite.specs.Held.{state};
 ghost use Rattle.std.specs.List.{AllByRecursion};
-ghost use Rattle.up_tables.specs.Texts.{insert_campaign_text, close_campaign_text};
+ghost use Rattle.up_tables.specs.Texts.{insert_campaign_text, close_campaign_text, find_campaign_text, running_campaigns_text};
 ghost use Rattle.up_tables.specs.Kinds.{ShowsOne, ShowsCampaign};
 ghost use Rattle.up_tables.specs.Tables.{campaign_table};
 ghost use Rattle.up_tables.specs.Rows.{columns_at, has_number, with_row};
 ghost use Rattle.up_tables.specs.Forms.{campaign_places, campaign_row};
 ghost use Rattle.up_tables.specs.Stands.{IfClean, IsInside};
 ghost use Rattle.up_tables.specs.Statements.{IsOpenStep, AltersRows, ClosesCampaign, OnlyReads, Finds, FindsAll, BlamesDisk, HoldsBy};
-ghost use Rattle.up_tables.specs.Tried.{BlamesRefusal, Ran, Undoes};
+ghost use Rattle.up_tables.specs.Tried.{BlamesRefusal, Ran, Undoes, AnswersQuery};
 
 use crate::reading::{Decode, at_most_one, each_row};
 use crate::values::{StoreFault, done, flag, flag_at, text_at, words};
@@ -99,6 +99,9 @@ pub fn campaign<S: Alter>(
         (λ rows_of found. map (columns_at campaign_places) (rows_of name.now) ≡ map campaign_row (option_to_list found))
         (state S.Store tx.old.conn.now) (state S.Store tx.new.conn.now) result }
     ensures reads { OnlyReads (state S.Store tx.old.conn.now) (state S.Store tx.new.conn.now) result }
+    ensures asks { AnswersQuery find_campaign_text (Text name.now ∷ [])
+        (λ rows found. map (columns_at campaign_places) rows ≡ map campaign_row (option_to_list found))
+        (state S.Store tx.old.conn.now) (state S.Store tx.new.conn.now) result }
     ensures blame { BlamesDisk (HoldsBy campaign_table 1 (λ rows_of. ShowsOne ShowsCampaign (rows_of name.now)))
         (state S.Store tx.old.conn.now) (state S.Store tx.new.conn.now) result }
     ensures step { IsOpenStep S.Store tx.old.conn tx.new.conn result }
@@ -123,6 +126,8 @@ pub fn running_campaigns<S: Alter>(
         (λ all found. map (columns_at campaign_places) (filter (has_number 3 (pos 1)) all) ≡ map campaign_row found.items)
         (state S.Store tx.old.conn.now) (state S.Store tx.new.conn.now) result }
     ensures reads { OnlyReads (state S.Store tx.old.conn.now) (state S.Store tx.new.conn.now) result }
+    ensures asks { AnswersQuery running_campaigns_text [] (λ rows found. map (columns_at campaign_places) rows ≡ map campaign_row found.items)
+        (state S.Store tx.old.conn.now) (state S.Store tx.new.conn.now) result }
     ensures blame { BlamesDisk (HoldsBy campaign_table 1 (λ rows_of. (name : List ℕ) → AllByRecursion ShowsCampaign (filter (has_number 3 (pos 1)) (rows_of name))))
         (state S.Store tx.old.conn.now) (state S.Store tx.new.conn.now) result }
     ensures step { IsOpenStep S.Store tx.old.conn tx.new.conn result }

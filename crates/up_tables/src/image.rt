@@ -2,16 +2,17 @@
 
 ghost use Rattle.std.specs.Prelude.{◌≡◌, ◌∷◌, ℕ, List, [], map, filter, bytes_eq, string_bytes};
 ghost use Rattle.std.specs.Option.{option_to_list};
+ghost use Rattle.sqlite.specs.declared.types.Value.TheVariants.{Text};
 ghost use Rattle.sqlite.specs.Held.{state};
 ghost use Rattle.std.specs.List.{AllByRecursion};
-ghost use Rattle.up_tables.specs.Texts.{insert_image_text};
+ghost use Rattle.up_tables.specs.Texts.{insert_image_text, find_image_text, all_images_text};
 ghost use Rattle.up_tables.specs.Kinds.{ShowsOne, ShowsImage};
 ghost use Rattle.up_tables.specs.Tables.{image_table};
 ghost use Rattle.up_tables.specs.Rows.{columns_at, with_row};
 ghost use Rattle.up_tables.specs.Forms.{image_places, image_row, FitImage};
 ghost use Rattle.up_tables.specs.Stands.{IfClean, IsInside};
 ghost use Rattle.up_tables.specs.Statements.{IsOpenStep, AltersRows, OnlyReads, Finds, FindsAll, BlamesDisk, HoldsBy};
-ghost use Rattle.up_tables.specs.Tried.{BlamesRefusal, Ran, Undoes};
+ghost use Rattle.up_tables.specs.Tried.{BlamesRefusal, Ran, Undoes, AnswersQuery};
 
 use crate::reading::{Decode, at_most_one, each_row};
 use crate::values::{StoreFault, bytes, bytes_at, done, number, number_at, text_at, words};
@@ -90,6 +91,9 @@ pub fn image<S: Alter>(
     ensures found { Finds image_table 1 (λ rows_of found. map (columns_at image_places) (rows_of file.now) ≡ map image_row (option_to_list found))
         (state S.Store tx.old.conn.now) (state S.Store tx.new.conn.now) result }
     ensures reads { OnlyReads (state S.Store tx.old.conn.now) (state S.Store tx.new.conn.now) result }
+    ensures asks { AnswersQuery find_image_text (Text file.now ∷ [])
+        (λ rows found. map (columns_at image_places) rows ≡ map image_row (option_to_list found))
+        (state S.Store tx.old.conn.now) (state S.Store tx.new.conn.now) result }
     ensures blame { BlamesDisk (HoldsBy image_table 1 (λ rows_of. ShowsOne ShowsImage (rows_of file.now)))
         (state S.Store tx.old.conn.now) (state S.Store tx.new.conn.now) result }
     ensures step { IsOpenStep S.Store tx.old.conn tx.new.conn result }
@@ -112,6 +116,8 @@ pub fn images<S: Alter>(
     ensures order { FindsAll image_table (λ all found. map (columns_at image_places) all ≡ map image_row found.items)
         (state S.Store tx.old.conn.now) (state S.Store tx.new.conn.now) result }
     ensures reads { OnlyReads (state S.Store tx.old.conn.now) (state S.Store tx.new.conn.now) result }
+    ensures asks { AnswersQuery all_images_text [] (λ rows found. map (columns_at image_places) rows ≡ map image_row found.items)
+        (state S.Store tx.old.conn.now) (state S.Store tx.new.conn.now) result }
     ensures blame { BlamesDisk (HoldsBy image_table 1 (λ rows_of. (name : List ℕ) → AllByRecursion ShowsImage (rows_of name)))
         (state S.Store tx.old.conn.now) (state S.Store tx.new.conn.now) result }
     ensures step { IsOpenStep S.Store tx.old.conn tx.new.conn result }

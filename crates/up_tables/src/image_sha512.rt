@@ -2,9 +2,10 @@
 
 ghost use Rattle.std.specs.Prelude.{◌≡◌, ◌∷◌, ℕ, List, [], map, filter, bytes_eq, string_bytes};
 ghost use Rattle.std.specs.Option.{option_to_list};
+ghost use Rattle.sqlite.specs.declared.types.Value.TheVariants.{Text};
 ghost use Rattle.sqlite.specs.Held.{state};
 ghost use Rattle.std.specs.List.{AllByRecursion};
-ghost use Rattle.up_tables.specs.Texts.{insert_sha512_text};
+ghost use Rattle.up_tables.specs.Texts.{insert_sha512_text, find_sha512_text, all_sha512s_text};
 ghost use Rattle.up_tables.specs.Kinds.{ShowsOne, ShowsSha512};
 ghost use Rattle.up_tables.specs.Tables.{image_sha512_table};
 ghost use Rattle.up_tables.specs.Rows.{columns_at, with_row};
@@ -12,7 +13,7 @@ ghost use Rattle.up_tables.specs.Lines.{sha512_line};
 ghost use Rattle.up_tables.specs.Forms.{sha512_places, sha512_row};
 ghost use Rattle.up_tables.specs.Stands.{IfClean, IsInside};
 ghost use Rattle.up_tables.specs.Statements.{IsOpenStep, AltersRows, OnlyReads, Finds, FindsAll, BlamesDisk, HoldsBy};
-ghost use Rattle.up_tables.specs.Tried.{BlamesRefusal, Ran, Undoes};
+ghost use Rattle.up_tables.specs.Tried.{BlamesRefusal, Ran, Undoes, AnswersQuery};
 
 use crate::reading::{Decode, at_most_one, each_row};
 use crate::values::{StoreFault, bytes, bytes_at, done, text_at, words};
@@ -76,6 +77,9 @@ pub fn image_sha512<S: Alter>(
         (λ rows_of found. map (columns_at sha512_places) (rows_of file.now) ≡ map sha512_row (option_to_list found))
         (state S.Store tx.old.conn.now) (state S.Store tx.new.conn.now) result }
     ensures reads { OnlyReads (state S.Store tx.old.conn.now) (state S.Store tx.new.conn.now) result }
+    ensures asks { AnswersQuery find_sha512_text (Text file.now ∷ [])
+        (λ rows found. map (columns_at sha512_places) rows ≡ map sha512_row (option_to_list found))
+        (state S.Store tx.old.conn.now) (state S.Store tx.new.conn.now) result }
     ensures blame { BlamesDisk (HoldsBy image_sha512_table 1 (λ rows_of. ShowsOne ShowsSha512 (rows_of file.now)))
         (state S.Store tx.old.conn.now) (state S.Store tx.new.conn.now) result }
     ensures step { IsOpenStep S.Store tx.old.conn tx.new.conn result }
@@ -98,6 +102,8 @@ pub fn image_sha512s<S: Alter>(
     ensures order { FindsAll image_sha512_table (λ all found. map (columns_at sha512_places) all ≡ map sha512_row found.items)
         (state S.Store tx.old.conn.now) (state S.Store tx.new.conn.now) result }
     ensures reads { OnlyReads (state S.Store tx.old.conn.now) (state S.Store tx.new.conn.now) result }
+    ensures asks { AnswersQuery all_sha512s_text [] (λ rows found. map (columns_at sha512_places) rows ≡ map sha512_row found.items)
+        (state S.Store tx.old.conn.now) (state S.Store tx.new.conn.now) result }
     ensures blame { BlamesDisk (HoldsBy image_sha512_table 1 (λ rows_of. (name : List ℕ) → AllByRecursion ShowsSha512 (rows_of name)))
         (state S.Store tx.old.conn.now) (state S.Store tx.new.conn.now) result }
     ensures step { IsOpenStep S.Store tx.old.conn tx.new.conn result }

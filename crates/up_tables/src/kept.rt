@@ -2,15 +2,16 @@
 
 ghost use Rattle.std.specs.Prelude.{◌≡◌, ◌<◌, ◌∷◌, ◌^◌, [], pos, map, filter, string_bytes};
 ghost use Rattle.std.specs.Option.{option_to_list};
+ghost use Rattle.sqlite.specs.declared.types.Value.TheVariants.{Int, Text};
 ghost use Rattle.sqlite.specs.Held.{state};
-ghost use Rattle.up_tables.specs.Texts.{insert_kept_text};
+ghost use Rattle.up_tables.specs.Texts.{insert_kept_text, find_kept_text};
 ghost use Rattle.up_tables.specs.Kinds.{ShowsOne, ShowsKept};
 ghost use Rattle.up_tables.specs.Tables.{kept_table};
 ghost use Rattle.up_tables.specs.Rows.{columns_at, has_number, with_row};
 ghost use Rattle.up_tables.specs.Forms.{kept_places, kept_row, FitKept};
 ghost use Rattle.up_tables.specs.Stands.{IfClean, IsInside};
 ghost use Rattle.up_tables.specs.Statements.{IsOpenStep, AltersRows, OnlyReads, Finds, BlamesDisk, HoldsBy};
-ghost use Rattle.up_tables.specs.Tried.{BlamesRefusal, Ran, Undoes};
+ghost use Rattle.up_tables.specs.Tried.{BlamesRefusal, Ran, Undoes, AnswersQuery};
 
 use crate::reading::{Decode, at_most_one};
 use crate::values::{StoreFault, done, number, number_at, text_at, words};
@@ -92,6 +93,9 @@ pub fn kept<S: Alter>(
         ≡ map kept_row (option_to_list found))
         (state S.Store tx.old.conn.now) (state S.Store tx.new.conn.now) result }
     ensures reads { OnlyReads (state S.Store tx.old.conn.now) (state S.Store tx.new.conn.now) result }
+    ensures asks { AnswersQuery find_kept_text (Text vehicle.now ∷ Int (pos counter) ∷ [])
+        (λ rows found. map (columns_at kept_places) rows ≡ map kept_row (option_to_list found))
+        (state S.Store tx.old.conn.now) (state S.Store tx.new.conn.now) result }
     ensures blame { BlamesDisk (HoldsBy kept_table 1 (λ rows_of. ShowsOne ShowsKept (filter (has_number 1 (pos counter)) (rows_of vehicle.now))))
         (state S.Store tx.old.conn.now) (state S.Store tx.new.conn.now) result }
     ensures step { IsOpenStep S.Store tx.old.conn tx.new.conn result }

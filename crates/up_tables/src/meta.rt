@@ -1,13 +1,15 @@
 //! The row of `meta`.
 
-ghost use Rattle.std.specs.Prelude.{◌∷◌, []};
+ghost use Rattle.std.specs.Prelude.{◌∷◌, [], ◌≡◌, map};
+ghost use Rattle.std.specs.Option.{option_to_list};
+ghost use Rattle.up_tables.specs.Rows.{columns_at};
 ghost use Rattle.sqlite.specs.Held.{state};
-ghost use Rattle.up_tables.specs.Texts.{update_meta_text};
-ghost use Rattle.up_tables.specs.Forms.{FitMeta, meta_values};
+ghost use Rattle.up_tables.specs.Texts.{update_meta_text, find_founding_text};
+ghost use Rattle.up_tables.specs.Forms.{FitMeta, meta_values, meta_places};
 ghost use Rattle.up_tables.specs.Stands.{IfClean, IsInside};
 ghost use Rattle.up_tables.specs.Statements.{IsOpenStep, SetsMeta, OnlyReads, FindsMeta, BlamesDisk, HasMeta};
 ghost use Rattle.up_tables.specs.Found.{FindsShown, HasMetaOrNone};
-ghost use Rattle.up_tables.specs.Tried.{BlamesRefusal, Ran, Undoes};
+ghost use Rattle.up_tables.specs.Tried.{BlamesRefusal, Ran, Undoes, AnswersQuery};
 
 use crate::reading::{Decode, at_most_one};
 use crate::values::{StoreFault, done, number, number_at};
@@ -66,6 +68,8 @@ pub fn meta<S: Alter>(tx: &mut Transaction<'_, S>) -> Result<Option<MetaRow>, St
     ensures found { FindsMeta (state S.Store tx.old.conn.now) (state S.Store tx.new.conn.now) result }
     ensures shown { FindsShown (state S.Store tx.old.conn.now) (state S.Store tx.new.conn.now) result }
     ensures reads { OnlyReads (state S.Store tx.old.conn.now) (state S.Store tx.new.conn.now) result }
+    ensures asks { AnswersQuery find_founding_text [] (λ rows found. map (columns_at meta_places) rows ≡ map meta_values (option_to_list found))
+        (state S.Store tx.old.conn.now) (state S.Store tx.new.conn.now) result }
     ensures blame { BlamesDisk HasMeta (state S.Store tx.old.conn.now) (state S.Store tx.new.conn.now) result }
     ensures kinds { BlamesDisk HasMetaOrNone (state S.Store tx.old.conn.now) (state S.Store tx.new.conn.now) result }
     ensures step { IsOpenStep S.Store tx.old.conn tx.new.conn result }

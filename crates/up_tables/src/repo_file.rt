@@ -2,12 +2,13 @@
 
 ghost use Rattle.std.specs.Prelude.{◌≡◌, ◌∷◌, [], ⊤, map};
 ghost use Rattle.std.specs.Option.{option_to_list};
+ghost use Rattle.sqlite.specs.declared.types.Value.TheVariants.{Text};
 ghost use Rattle.sqlite.specs.Held.{state};
 ghost use Rattle.up_tables.specs.Kinds.{ShowsOne, ShowsFile};
 ghost use Rattle.up_tables.specs.Rows.{columns_at};
 ghost use Rattle.up_tables.specs.Forms.{file_places, file_row};
-ghost use Rattle.up_tables.specs.Texts.{upsert_file_text};
-ghost use Rattle.up_tables.specs.Tried.{BlamesRefusal, BlamesOne, Ran, Undoes};
+ghost use Rattle.up_tables.specs.Texts.{upsert_file_text, find_file_text};
+ghost use Rattle.up_tables.specs.Tried.{BlamesRefusal, BlamesOne, Ran, Undoes, AnswersQuery};
 ghost use Rattle.up_tables.specs.Stands.{IfClean, IsInside, IsOpen};
 ghost use Rattle.up_tables.specs.Statements.{IsOpenStep, SetsFile, SetsFiles, OnlyReads, FindsFiles, BlamesDisk, HoldsOfFiles};
 
@@ -92,6 +93,9 @@ pub fn file<S: Alter>(
     ensures found { FindsFiles (λ rows_of found. map (columns_at file_places) (rows_of repository.now name.now) ≡ map file_row (option_to_list found))
         (state S.Store tx.old.conn.now) (state S.Store tx.new.conn.now) result }
     ensures reads { OnlyReads (state S.Store tx.old.conn.now) (state S.Store tx.new.conn.now) result }
+    ensures asks { AnswersQuery find_file_text (Text repository.now ∷ Text name.now ∷ [])
+        (λ rows found. map (columns_at file_places) rows ≡ map file_row (option_to_list found))
+        (state S.Store tx.old.conn.now) (state S.Store tx.new.conn.now) result }
     ensures blame { BlamesDisk (HoldsOfFiles (λ rows_of. ShowsOne ShowsFile (rows_of repository.now name.now)))
         (state S.Store tx.old.conn.now) (state S.Store tx.new.conn.now) result }
     ensures step { IsOpenStep S.Store tx.old.conn tx.new.conn result }

@@ -1,17 +1,19 @@
 //! The rows of ECUs that were replaced.
 
-ghost use Rattle.std.specs.Prelude.{◌≡◌, ◌∷◌, ℕ, List, [], option_map, string_bytes};
+ghost use Rattle.std.specs.Prelude.{◌≡◌, ◌∷◌, ℕ, List, [], option_map, string_bytes, map};
 ghost use Rattle.std.specs.List.{list_any};
+ghost use Rattle.sqlite.specs.declared.types.Value.TheVariants.{Text};
+ghost use Rattle.std.specs.Option.{option_to_list};
 ghost use Rattle.sqlite.specs.Held.{state};
-ghost use Rattle.up_tables.specs.Texts.{insert_retired_text};
+ghost use Rattle.up_tables.specs.Texts.{insert_retired_text, find_retired_text};
 ghost use Rattle.up_tables.specs.Kinds.{HasOwner};
 ghost use Rattle.up_tables.specs.Tables.{retired_table};
-ghost use Rattle.up_tables.specs.Rows.{has_text, with_row};
+ghost use Rattle.up_tables.specs.Rows.{has_text, with_row, columns_at};
 ghost use Rattle.up_tables.specs.Lines.{retired_line};
 ghost use Rattle.up_tables.specs.Ecus.{owns};
 ghost use Rattle.up_tables.specs.Stands.{IfClean, IsInside};
 ghost use Rattle.up_tables.specs.Statements.{IsOpenStep, AltersRows, OnlyReads, Finds, BlamesDisk, HoldsBy};
-ghost use Rattle.up_tables.specs.Tried.{BlamesRefusal, Ran, Undoes};
+ghost use Rattle.up_tables.specs.Tried.{BlamesRefusal, Ran, Undoes, AnswersQuery};
 
 use crate::reading::at_most_one;
 use crate::values::{StoreFault, done, words};
@@ -49,6 +51,9 @@ pub fn retired_owner<S: Alter>(
         → list_any (has_text 0 ecu.now) (rows_of vehicle) ≡ owns (option_map (λ s. string_bytes s) found) vehicle)
         (state S.Store tx.old.conn.now) (state S.Store tx.new.conn.now) result }
     ensures reads { OnlyReads (state S.Store tx.old.conn.now) (state S.Store tx.new.conn.now) result }
+    ensures asks { AnswersQuery find_retired_text (Text ecu.now ∷ [])
+        (λ rows found. map (columns_at (0 ∷ [])) rows ≡ map (λ s. Text (string_bytes s) ∷ []) (option_to_list found))
+        (state S.Store tx.old.conn.now) (state S.Store tx.new.conn.now) result }
     ensures blame { BlamesDisk (HoldsBy retired_table 2 (HasOwner ecu.now))
         (state S.Store tx.old.conn.now) (state S.Store tx.new.conn.now) result }
     ensures step { IsOpenStep S.Store tx.old.conn tx.new.conn result }

@@ -1,12 +1,13 @@
 //! The rows of the keys of roles.
 
 ghost use Rattle.std.specs.Prelude.{◌≡◌, ◌<◌, ◌∷◌, [], ◌^◌, ⊤, pos, map, filter, All};
+ghost use Rattle.sqlite.specs.declared.types.Value.TheVariants.{Int};
 ghost use Rattle.sqlite.specs.Held.{state};
 ghost use Rattle.std.specs.List.{AllByRecursion};
 ghost use Rattle.up_tables.specs.Kinds.{ShowsRoleKey};
 ghost use Rattle.up_tables.specs.Tables.{role_key_table};
-ghost use Rattle.up_tables.specs.Texts.{insert_role_key_text};
-ghost use Rattle.up_tables.specs.Tried.{BlamesRefusal, BlamesOne, Ran, Undoes};
+ghost use Rattle.up_tables.specs.Texts.{insert_role_key_text, all_role_keys_text, role_keys_of_text};
+ghost use Rattle.up_tables.specs.Tried.{BlamesRefusal, BlamesOne, Ran, Undoes, AnswersQuery};
 ghost use Rattle.up_tables.specs.Rows.{columns_at, has_number};
 ghost use Rattle.up_tables.specs.Forms.{role_key_places, role_key_row, FitRoleKey};
 ghost use Rattle.up_tables.specs.Stands.{IfClean, IsInside, IsOpen};
@@ -110,6 +111,9 @@ pub fn role_keys_of<S: Alter>(
         (λ all found. map (columns_at role_key_places) (filter (has_number 0 (pos root)) all) ≡ map role_key_row found.items)
         (state S.Store tx.old.conn.now) (state S.Store tx.new.conn.now) result }
     ensures reads { OnlyReads (state S.Store tx.old.conn.now) (state S.Store tx.new.conn.now) result }
+    ensures asks { AnswersQuery role_keys_of_text (Int (pos root) ∷ [])
+        (λ rows found. map (columns_at role_key_places) rows ≡ map role_key_row found.items)
+        (state S.Store tx.old.conn.now) (state S.Store tx.new.conn.now) result }
     ensures blame { BlamesDisk (HoldsOfAll role_key_table (λ all. AllByRecursion ShowsRoleKey (filter (has_number 0 (pos root)) all)))
         (state S.Store tx.old.conn.now) (state S.Store tx.new.conn.now) result }
     ensures step { IsOpenStep S.Store tx.old.conn tx.new.conn result }
@@ -132,6 +136,8 @@ pub fn role_keys<S: Alter>(
     ensures found { FindsAll role_key_table (λ all found. map (columns_at role_key_places) all ≡ map role_key_row found.items)
         (state S.Store tx.old.conn.now) (state S.Store tx.new.conn.now) result }
     ensures reads { OnlyReads (state S.Store tx.old.conn.now) (state S.Store tx.new.conn.now) result }
+    ensures asks { AnswersQuery all_role_keys_text [] (λ rows found. map (columns_at role_key_places) rows ≡ map role_key_row found.items)
+        (state S.Store tx.old.conn.now) (state S.Store tx.new.conn.now) result }
     ensures blame { BlamesDisk (HoldsOfAll role_key_table (AllByRecursion ShowsRoleKey))
         (state S.Store tx.old.conn.now) (state S.Store tx.new.conn.now) result }
     ensures step { IsOpenStep S.Store tx.old.conn tx.new.conn result }

@@ -4,8 +4,9 @@ ghost use Rattle.std.specs.Prelude.{◌≡◌, ◌≢◌, ◌∷◌, [], map, st
 ghost use Rattle.std.specs.Option.{option_to_list};
 ghost use Rattle.std.specs.Prelude.{◌↔◌};
 ghost use Rattle.std.specs.Result.{IsOkAnd};
+ghost use Rattle.sqlite.specs.declared.types.Value.TheVariants.{Text};
 ghost use Rattle.sqlite.specs.Held.{state};
-ghost use Rattle.up_tables.specs.Texts.{insert_vehicle_text, upsert_vehicle_text};
+ghost use Rattle.up_tables.specs.Texts.{insert_vehicle_text, upsert_vehicle_text, find_vehicle_text};
 ghost use Rattle.up_tables.specs.Kinds.{ShowsOne, ShowsVehicle};
 ghost use Rattle.up_tables.specs.Faults.{store_fault};
 ghost use Rattle.up_tables.specs.Tables.{vehicle_table};
@@ -13,7 +14,7 @@ ghost use Rattle.up_tables.specs.Rows.{columns_at, with_row};
 ghost use Rattle.up_tables.specs.Forms.{vehicle_places, vehicle_row, FitVehicle};
 ghost use Rattle.up_tables.specs.Stands.{IfClean, IsInside};
 ghost use Rattle.up_tables.specs.Statements.{IsOpenStep, AltersRows, SetsVehicle, OnlyReads, Finds, BlamesDisk, HoldsBy, HasVehicle};
-ghost use Rattle.up_tables.specs.Tried.{BlamesRefusal, BlamesOne, Ran, Undoes};
+ghost use Rattle.up_tables.specs.Tried.{BlamesRefusal, BlamesOne, Ran, Undoes, AnswersQuery};
 ghost use Rattle.up_tables.specs.declared.values.StoreFault.TheVariants as StoreFault;
 
 use crate::reading::{Decode, at_most_one};
@@ -89,6 +90,9 @@ pub fn upsert_vehicle<S: Alter>(
     ensures blame { BlamesOne ((upsert_vehicle_text, vehicle_row vehicle.now) ∷ []) (HasVehicle vehicle.now)
         (state S.Store tx.old.conn.now) (state S.Store tx.new.conn.now) result }
     ensures ran { Ran ((upsert_vehicle_text, vehicle_row vehicle.now) ∷ []) (state S.Store tx.old.conn.now) (state S.Store tx.new.conn.now) result }
+    ensures handed { AnswersQuery upsert_vehicle_text (vehicle_row vehicle.now)
+        (λ rows done. map (columns_at vehicle_places) rows ≡ vehicle_row vehicle.now ∷ [])
+        (state S.Store tx.old.conn.now) (state S.Store tx.new.conn.now) result }
     ensures memory { Undoes (state S.Store tx.new.conn.now) result }
     ensures step { IsOpenStep S.Store tx.old.conn tx.new.conn result }
 {
@@ -155,6 +159,9 @@ pub fn vehicle<S: Alter>(
         (λ rows_of found. map (columns_at vehicle_places) (rows_of name.now) ≡ map vehicle_row (option_to_list found))
         (state S.Store tx.old.conn.now) (state S.Store tx.new.conn.now) result }
     ensures reads { OnlyReads (state S.Store tx.old.conn.now) (state S.Store tx.new.conn.now) result }
+    ensures asks { AnswersQuery find_vehicle_text (Text name.now ∷ [])
+        (λ rows found. map (columns_at vehicle_places) rows ≡ map vehicle_row (option_to_list found))
+        (state S.Store tx.old.conn.now) (state S.Store tx.new.conn.now) result }
     ensures blame { BlamesDisk (HoldsBy vehicle_table 1 (λ rows_of. ShowsOne ShowsVehicle (rows_of name.now)))
         (state S.Store tx.old.conn.now) (state S.Store tx.new.conn.now) result }
     ensures step { IsOpenStep S.Store tx.old.conn tx.new.conn result }

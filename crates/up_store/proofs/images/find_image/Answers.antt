@@ -50,7 +50,7 @@ returns-in-Ok-Some-clause-shown g c clean =
     let reads = c.in-Ok-Some.ensures.reads then in
     both_then _ _ _ c.find_with_sha512.result
     (λ read told hash rows_of hashes_of has lists beside.
-    let there = hash hashes_of (tables_stay before mid reads has) (now_stays (λ (db : Database). Lists 1 hashes_of (db.trees image_sha512_table.tree)) before mid reads has beside) in (
+    let there = hash hashes_of (tables_stay before mid reads has) (now_stays (λ (db : Database). Lists 1 hashes_of (db.trees image_sha512_table.tree)) before mid reads beside) in (
       Some c.in-Ok-Some.shown,
       (rw c.in-Ok-Some.field-0-is at (rw c.text.ensures.value at c.in-Ok-Some.ensures.found then)) rows_of has lists,
       some_both (IsRead c.in-Ok-Some.shown) (λ image. ReadsSha512 c.args.file.now hashes_of image.sha512) read told there,

@@ -43,6 +43,6 @@ returns-in-Ok-clause-shown g c clean =
     (λ read beside rows_of hashes_of has lists hashes. (
       c.in-Ok.shown.items,
       c.in-Ok.ensures.found then rows_of has lists,
-      beside hashes_of (tables_stay before mid reads has) (now_stays (λ (db : Database). Lists 1 hashes_of (db.trees image_sha512_table.tree)) before mid reads has hashes),
+      beside hashes_of (tables_stay before mid reads has) (now_stays (λ (db : Database). Lists 1 hashes_of (db.trees image_sha512_table.tree)) before mid reads hashes),
     ))
     (c.find_with_sha512s.ensures.shown clean)

@@ -27,6 +27,9 @@ returns-clause-put g c clean =
     (surely c.insert_kept.result c.requires.kept.typed) c.in_ok-put_reported.ensures.typed
     (was_open_before c.insert_kept.result s0 ((c.put_reported.ensures.step.steps.kept cleanly).was_open (c.in_ok-put_reported.ensures.step.is_open cleanly)))
 
+pub returns-clause-handed : goal.returns-clause-handed
+returns-clause-handed g c clean = surely c.insert_kept.result (c.in_ok-put_reported.ensures.handed (clean_step c.insert_kept.ensures.step.steps clean))
+
 pub returns-clause-blame : goal.returns-clause-blame
 returns-clause-blame g c =
     let s0 = state g.D.Store c.args.tx.now.conn.now in

@@ -1,12 +1,14 @@
-use Rattle.std.proofs.Common.{Err, refl}
+use Rattle.std.proofs.Common.{Err, refl, sym}
 use Rattle.std.specs.Prelude.{⊤}
 use Rattle.sqlite.specs.Held.{state}
+use Rattle.up_tables.specs.Forms.{vehicle_row}
 use Rattle.up_tables.proofs.UndoneLemmas.{undoes_next}
+use Rattle.up_store.proofs.HandedBack.{handed_by}
 use Rattle.up_store.specs.Puts.{MayReport}
 use Rattle.up_store.specs.Writes.{reported_writes}
 use Rattle.up_store.proofs.AcceptBlames.{reported_ran, ecus_fail, vehicle_fails}
 use Rattle.up_store.proofs.AcceptPuts.{puts_reported}
-use Rattle.up_store.proofs.PutBlames.{told_on}
+use Rattle.up_store.proofs.PutBlames.{told_on, vehicle_row_is}
 use Rattle.up_store.proofs.Written.{clean_step, surely, was_open_before}
 use Rattle.up_store.proofs.manifests.put_reported.Goals as goal
 
@@ -27,6 +29,12 @@ returns-clause-ran g c =
     let s1 = state g.D.Store c.upsert_vehicle.new.tx.conn.now in
     reported_ran c.args.new.now c.args.vehicle.now c.args.ecus.now s0 s1 (state g.D.Store c.upsert_ecus.new.tx.conn.now) c.upsert_ecus.result c.requires.made.vehicle_is c.requires.made.ecus_are
     c.upsert_vehicle.ensures.step.steps c.upsert_ecus.ensures.step.steps c.in_ok-upsert_vehicle.ensures.ran (rw c.text.ensures.value at c.upsert_ecus.ensures.ran)
+
+pub returns-clause-handed : goal.returns-clause-handed
+returns-clause-handed g c clean =
+    let told = c.in_ok-upsert_vehicle.ensures.handed (clean_step c.upsert_ecus.ensures.step.steps clean) in
+    surely c.upsert_ecus.result
+    (handed_by _ (vehicle_row c.args.vehicle.now) (state g.D.Store c.args.tx.now.conn.now) (state g.D.Store c.upsert_vehicle.new.tx.conn.now) told.0 (sym (vehicle_row_is c.args.new.now c.args.vehicle.now c.requires.made.vehicle_is)) told.1 told.2)
 
 pub returns-clause-blame : goal.returns-clause-blame
 returns-clause-blame g c =

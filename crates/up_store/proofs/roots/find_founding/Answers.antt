@@ -16,7 +16,6 @@ use Rattle.up_tables.specs.declared.meta.MetaRow.{MetaRow}
 use Rattle.up_store.proofs.ReadRows.{tables_stay, now_stays}
 use Rattle.up_store.specs.Shown.{meta_told}
 use Rattle.up_store.proofs.FoundingReads.{within_read, numbers_in, on_row, of_row}
-use Rattle.up_store.proofs.RootPuts.{has_tables}
 use Rattle.std.specs.Prelude.{⊤}
 use Rattle.up_store.proofs.Blamed.{then_blames}
 use Rattle.up_store.proofs.KindsOfFounding.{row_blames}
@@ -30,7 +29,7 @@ returns-in-Ok-clause-found g c clean =
     ok_then (λ found. (rows : StateRows) → IsWithin up_schema (ListsRows rows) mid → c.in-Ok.row ≡ meta_told rows.founding → found ≡ rows.founding)
     (λ found. (rows : StateRows) → IsWithin up_schema (ListsRows rows) before → found ≡ rows.founding) c.find_founded.result
     (λ found told rows within.
-    let reads = on_row _ c.meta.result c.in-Ok.row c.in-Ok.ensures.some (c.meta.ensures.reads cleanly) (has_tables (ListsRows rows) before within) in
+    let reads = on_row _ c.meta.result c.in-Ok.row c.in-Ok.ensures.some (c.meta.ensures.reads cleanly) in
     let both : Some c.in-Ok.row ≡ Some (meta_told rows.founding) =
     numbers_in rows (Some c.in-Ok.row) before (λ _. reads.was_open) (of_row _ c.meta.result c.in-Ok.row c.in-Ok.ensures.some (c.meta.ensures.found cleanly)) within in
     let same : c.in-Ok.row ≡ meta_told rows.founding = cc in
@@ -44,7 +43,7 @@ returns-in-Ok-clause-blame g c =
     then_blames (λ _. ⊤) (λ rows. c.in-Ok.row ≡ meta_told rows.founding) before mid (state g.D.Store c.find_founded.new.tx.conn.now) c.find_founded.result
     c.meta.ensures.step.steps c.find_founded.ensures.step.steps (λ clean. on_row _ c.meta.result c.in-Ok.row c.in-Ok.ensures.some (c.meta.ensures.reads clean))
     (λ clean rows within fits.
-    let reads = on_row _ c.meta.result c.in-Ok.row c.in-Ok.ensures.some (c.meta.ensures.reads clean) (has_tables (ListsRows rows) before within) in
+    let reads = on_row _ c.meta.result c.in-Ok.row c.in-Ok.ensures.some (c.meta.ensures.reads clean) in
     let both : Some c.in-Ok.row ≡ Some (meta_told rows.founding) =
     numbers_in rows (Some c.in-Ok.row) before (λ _. reads.was_open) (of_row _ c.meta.result c.in-Ok.row c.in-Ok.ensures.some (c.meta.ensures.found clean)) within in
     let same : c.in-Ok.row ≡ meta_told rows.founding = cc in
@@ -65,6 +64,6 @@ returns-in-Ok-clause-shown g c clean =
     (λ read told has. (
       c.in-Ok.row,
       of_row (λ (found : Option MetaRow). HasTables before → meta_shown (before.now.trees meta_table.tree) ≡ map meta_values (option_to_list found)) c.meta.result c.in-Ok.row c.in-Ok.ensures.some (c.meta.ensures.shown then) has,
-      λ all lists. told all (tables_stay before mid reads has) (now_stays (λ (db : Database). ListsAll all (db.trees role_key_table.tree)) before mid reads has lists),
+      λ all lists. told all (tables_stay before mid reads has) (now_stays (λ (db : Database). ListsAll all (db.trees role_key_table.tree)) before mid reads lists),
     ))
     (c.find_founded.ensures.shown clean)

@@ -8,8 +8,6 @@ use Rattle.up_tables.specs.Tables.{meta_table}
 use Rattle.up_tables.specs.declared.meta.MetaRow.{MetaRow}
 use Rattle.up_store.specs.Shown.{meta_told}
 use Rattle.up_store.proofs.FoundingReads.{founded_by, numbers_in, on_row, of_row}
-use Rattle.up_store.proofs.RootPuts.{has_tables}
-use Rattle.up_store.specs.Listing.{ListsRows}
 use Rattle.std.specs.Prelude.{⊤}
 use Rattle.up_store.proofs.KindsOfFounding.{row_blames}
 use Rattle.up_store.proofs.roots.find_whether_founded.Goals as goal
@@ -17,7 +15,7 @@ use Rattle.up_store.proofs.roots.find_whether_founded.Goals as goal
 pub returns-in-Ok-clause-found : goal.returns-in-Ok-clause-found
 returns-in-Ok-clause-found g c clean rows within =
     let before = state g.D.Store c.args.tx.now.conn.now in
-    let reads = on_row _ c.meta.result c.in-Ok.row c.in-Ok.ensures.some (c.meta.ensures.reads clean) (has_tables (ListsRows rows) before within) in
+    let reads = on_row _ c.meta.result c.in-Ok.row c.in-Ok.ensures.some (c.meta.ensures.reads clean) in
     let both : Some c.in-Ok.row ≡ Some (meta_told rows.founding) =
     numbers_in rows (Some c.in-Ok.row) before (λ _. reads.was_open) (of_row _ c.meta.result c.in-Ok.row c.in-Ok.ensures.some (c.meta.ensures.found clean)) within in
     let same : c.in-Ok.row ≡ meta_told rows.founding = cc in

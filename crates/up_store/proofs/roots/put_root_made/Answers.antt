@@ -1,4 +1,4 @@
-use Rattle.std.proofs.Common.{Err, ◌∙◌}
+use Rattle.std.proofs.Common.{Err, rules, ◌∙◌}
 use Rattle.std.specs.Prelude.{⊤}
 use Rattle.up_tables.proofs.StepLemmas.{steps_then}
 use Rattle.up_store.specs.Lines.{root_file_lines}
@@ -91,4 +91,17 @@ returns-clause-step g c =
       steps = steps_then s0 s3 s4 (steps_then s0 s2 s3 (steps_then s0 s1 s2 c.put_founding.ensures.step.steps c.put_keys.ensures.step.steps) c.put_files.ensures.step.steps) c.put_files-2.ensures.step.steps;
       inside = c.put_files-2.ensures.step.inside;
       is_open = c.put_files-2.ensures.step.is_open;
+    }
+
+pub returns-in_err-put_files-clause-step : goal.returns-in_err-put_files-clause-step
+returns-in_err-put_files-clause-step g c =
+    let s0 = state g.D.Store c.args.tx.now.conn.now in
+    let s1 = state g.D.Store c.put_founding.new.tx.conn.now in
+    let s2 = state g.D.Store c.put_keys.new.tx.conn.now in
+    let s3 = state g.D.Store c.put_files.new.tx.conn.now in
+    record {
+      same_reference = c.put_files.ensures.step.same_reference ∙ c.put_keys.ensures.step.same_reference ∙ c.put_founding.ensures.step.same_reference;
+      steps = steps_then s0 s2 s3 (steps_then s0 s1 s2 c.put_founding.ensures.step.steps c.put_keys.ensures.step.steps) c.put_files.ensures.step.steps;
+      inside = search rules;
+      is_open = search rules;
     }

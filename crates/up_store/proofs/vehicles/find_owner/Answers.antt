@@ -2,15 +2,17 @@ use Rattle.std.proofs.Common.{◌≡◌, Option, Some, None, arith, sym, ap, ◌
 use Rattle.std.specs.Prelude.{option_map}
 use Rattle.std.specs.Option.{option_or}
 use Rattle.sqlite.specs.Held.{state}
+use Rattle.sqlite.specs.Effect.{Database}
 use Rattle.sqlite.specs.State.{HasCleanDisk}
 use Rattle.up_canon.specs.Names.{Name}
 use Rattle.up_rows.specs.Lookups.{last_owner, owner_found}
 use Rattle.up_rows.specs.StateRows.{StateRows}
-use Rattle.up_tables.specs.Stands.{IsWithin}
+use Rattle.up_tables.specs.Stands.{IsWithin, Lists}
 use Rattle.up_tables.specs.Tables.{retired_table, up_schema}
 use Rattle.up_tables.proofs.StateLemmas.{ok_then}
 use Rattle.up_store.specs.Listing.{ListsRows}
-use Rattle.up_store.proofs.ColumnFound.{has_read, lists_read, within_read}
+use Rattle.up_store.proofs.ReadRows.{now_stays, tables_stay}
+use Rattle.up_store.proofs.ColumnFound.{within_read}
 use Rattle.up_store.proofs.EcuReads.{owner_in}
 use Rattle.std.specs.Prelude.{⊤}
 use Rattle.up_store.proofs.Blamed.{by_statement, then_blames, memory_blames}
@@ -68,6 +70,6 @@ returns-in-Ok-None-clause-shown g c clean =
     (λ read told rows_of retired_of has lists more. (
       None,
       (rw c.in-Ok-None.field-0-is at (rw c.text.ensures.value at c.in-Ok-None.ensures.found then)) rows_of has lists,
-      told retired_of (has_read before mid (c.in-Ok-None.ensures.reads then) has) (lists_read retired_table 2 retired_of before mid (c.in-Ok-None.ensures.reads then) has more),
+      told retired_of (tables_stay before mid (c.in-Ok-None.ensures.reads then) has) (now_stays (λ (db : Database). Lists 2 retired_of (db.trees retired_table.tree)) before mid (c.in-Ok-None.ensures.reads then) more),
     ))
     (c.find_retired.ensures.shown clean)

@@ -1,7 +1,7 @@
 use Rattle.std.proofs.Common.{string_bytes}
 use Rattle.sqlite.specs.Held.{state}
 use Rattle.up_tables.proofs.VehicleLemmas.{sets_vehicle, upsert_blames, upsert_ran}
-use Rattle.up_tables.proofs.StateLemmas.{on_answered, shown_inside, shown_is_open}
+use Rattle.up_tables.proofs.StateLemmas.{on_answered, query_told, shown_inside, shown_is_open}
 use Rattle.up_tables.proofs.StepLemmas.{queries}
 use Rattle.up_tables.proofs.UndoneLemmas.{undoes_showing}
 use Rattle.up_tables.specs.Texts.{upsert_vehicle_text}
@@ -23,6 +23,11 @@ returns-clause-blame g c =
 pub returns-clause-ran : goal.returns-clause-ran
 returns-clause-ran g c =
     upsert_ran (λ v. v.items) c.query_all.result c.shows.result (state g.S.Store c.args.tx.now.conn.now) (state g.S.Store c.query_all.new.self.conn.now) c.args.vehicle.now c.shows.ensures.ok
+    (rw (c.words.ensures, c.as_str.ensures.value, c.words-2.ensures, c.as_str-2.ensures.value, c.number.ensures, c.number-2.ensures) at c.query_all.ensures.ok)
+
+pub returns-clause-handed : goal.returns-clause-handed
+returns-clause-handed g c =
+    query_told (λ v. v.items) _ upsert_vehicle_text _ _ _ c.query_all.result c.shows.result c.shows.ensures.ok
     (rw (c.words.ensures, c.as_str.ensures.value, c.words-2.ensures, c.as_str-2.ensures.value, c.number.ensures, c.number-2.ensures) at c.query_all.ensures.ok)
 
 pub returns-clause-memory : goal.returns-clause-memory
