@@ -115,6 +115,21 @@ def waiting(program, own):
         yield "a client that waits meanwhile", well and http_cases.ended(running)
 
 
+def taking(program, own):
+    """A client that takes nothing of its answers while the program is stopped gets them all the same."""
+    path = http_cases.many_images(program, own / "large")
+    with http_cases.served(program, path, 2) as running:
+        wanted = 99 * http_cases.told(running, http_cases.GET_TARGETS)
+        with http_cases.connected(running) as client, client.makefile("rb") as reader:
+            client.sendall(99 * http_cases.GET_TARGETS)
+            time.sleep(1)
+            for at in range(3):
+                copy_served.copy(running.pid, str(path), str(own / ("taken%d" % at)))
+                time.sleep(0.3)
+            well = reader.read(len(wanted)) == wanted
+        yield "a client that takes nothing meanwhile", well and http_cases.ended(running)
+
+
 def refused(program, own):
     """What can't be copied, and what gets no sums, stays as it was."""
     path = own / "refused"
@@ -145,6 +160,7 @@ def cases(program, copies=6, number=2000):
     with trials.folder() as own:
         yield from under_load(program, own, copies, number)
         yield from waiting(program, own)
+        yield from taking(program, own)
         yield from refused(program, own)
 
 

@@ -618,6 +618,24 @@ class Texts(OnATree):
         self.write("crates/low/src/asked.rt", asked)
         self.write("crates/low_tests/stdin", "\n# rows are set\nset 1 => done\n")
         of_text = edit("WHERE b = 2", "WHERE a = 2", "src/asked.rt")
+        held, new = '"UPDATE t SET a = 1 WHERE b = 2"', '"UPDATE t SET a = 1"'
+        chosen = [
+            f"if 1 > 2 {{ {new} }} else {{ {held} }}",
+            f"if let Some(_) = more(1) {{ {held} }} else if held.len() == 9 {{ ({new}) }} else {{ {held} }}",
+            f"match (1, 2) {{ (a, 2) if a >= 2 => {new}, (_, 2) => {{ {held} }} _ => if more() {{ {new} }} else {{ {held} }} }}",
+            f"{{ {new} }}",
+        ]
+        others = [
+            f"if 1 > 2 {{ {new} }} else {{ held }}",
+            f"match 1 {{ 1 => {new}, _ => return {held} }}",
+            f"{{ let held = {new}; {held} }}",
+            f"if 1 > 2 {{ {new} }} else {{ {held} }}.trim()",
+            f"more(if 1 > 2 {{ {new} }} else {{ {held} }})",
+        ]
+        chosen, others = ([edit(held, new, "src/asked.rt") for new in these] for these in (chosen, others))
+        beside = chosen[0].partition("\n")[2]
+        chosen.append(edit("SELECT a", "SELECT b", "src/asked.rt") + beside)
+        others.append(edit("let held", "let mut held", "src/asked.rt") + beside)
         texts = {
             "no-rows": (of_text, True, "it turns a text of SQL alone"),
             "other-rows": (of_text + "rows: rows are read\n", True, "it names the rows 'rows are read'"),
@@ -626,6 +644,8 @@ class Texts(OnATree):
             "text-and-code": (of_text + "old: let held\nnew: let mut held\n", False, None),
             "another-text": (edit('"a SELECT"', '"b SELECT"', "src/asked.rt"), False, None),
             "another-begins": (edit('"a SELECT"', '"SELECT"', "src/asked.rt"), False, None),
+            **{f"chosen-{at}": (it + "rows: rows are set\n", False, "it chooses among texts of SQL") for at, it in enumerate(chosen)},
+            **{f"not-chosen-{at}": (it, False, None) for at, it in enumerate(others)},
         }
         for name, (text, _, _) in texts.items():
             self.write(f"crates/low/refused/{name}.edit", text)

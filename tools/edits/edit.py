@@ -5,7 +5,7 @@ from pathlib import Path
 
 from .functions import functions_in, functions_of, module_of, tokens_of, types_of, with_bodies
 from .kit import rt
-from .sql import rows_named, turns_a_text, unshown
+from .sql import chooses_a_text, rows_named, turns_a_text, unshown
 
 NAME = re.compile(r"[A-Za-z0-9_-][A-Za-z0-9_.-]*\.edit")
 
@@ -24,7 +24,10 @@ class Edit:
         if texts:
             self.why = self._read(folder, texts, functions)
         if self.function and not self.why:
-            self.is_of_text = turns_a_text(Path(folder, self.path).read_bytes()[self.function.opens : self.function.closes], self.body)
+            old = Path(folder, self.path).read_bytes()[self.function.opens : self.function.closes]
+            self.is_of_text = turns_a_text(old, self.body)
+            if chooses_a_text(old, self.body):
+                self.why = "it chooses among texts of SQL, so its spelling refuses it, and no rows are carried out with it; turn a text alone"
         if self.is_of_text:
             self.rows, self.why = rows_named(file), unshown(folder, file)
 

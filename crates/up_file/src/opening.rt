@@ -1,6 +1,6 @@
 //! Opening a database file.
 
-ghost use Rattle.std.specs.Prelude.{◌≡◌, ◌≢◌, ◌↔◌, ◌++◌, ℕ, List, false, true, IfOk, IfErr, IsTrue, codes, Err};
+ghost use Rattle.std.specs.Prelude.{◌≡◌, ◌≢◌, ◌↔◌, ◌++◌, ℕ, List, false, true, IfOk, IfErr, MatchResult, IsTrue, codes, Err};
 ghost use Rattle.std.specs.Fs.{new_options, with_create_new, with_read, with_write};
 ghost use Rattle.sqlite.specs.Files.{file_state, IsBlankAs, IsOpened};
 ghost use Rattle.std.specs.Prelude.{None};
@@ -10,10 +10,10 @@ ghost use Rattle.sqlite.specs.WalFiles.{image_at};
 ghost use Rattle.sqlite_store.specs.FileStore.{view};
 ghost use Rattle.up_tables.specs.Faults.{open_fault};
 ghost use Rattle.up_file.specs.NewFiles.{new_file_fault, made_fault};
-ghost use Rattle.up_file.specs.Opening.{NamesNoFile, OpenedFrom, OpensNamed, opened_fault};
+ghost use Rattle.up_file.specs.Opening.{NamesNoFile, OpenedFrom, FailsAtPath, FailsOpening, OpensNamed, opened_fault};
 ghost use Rattle.up_tables.specs.declared.open.OpenFault.TheVariants.{NotOurs};
 
-use sqlite::{Connection, Error, ErrorCode, FileFrom, FileStore, Start};
+use sqlite::{Connection, Error, ErrorCode, FileFrom, FileStore, Leftover, Start};
 use std::fs::OpenOptions;
 use std::io;
 use std::os::unix::fs::OpenOptionsExt;
@@ -28,25 +28,30 @@ const FOR_OWNER: u32 = 0o600;
 /// and `Store` for all else: a path that can't be opened or is `:memory:` or a URI, a file that another
 /// program has open, and one that holds no sound database.
 ///
+/// What is left of the file and its log comes with the fault, once they were opened: a database that they
+/// hold is still there, also after a crash. `Leftover::into_files` gives the two back, and dropping it closes
+/// them. It is `None` where the path names no file, or couldn't be opened.
+///
 /// `start` stands for what the files hold: no clause ties them to the path.
 pub fn open_file<S: Start>(
     rt: &HostRuntime,
     path: &str,
     start: S,
-) -> Result<Connection<FileStore<FileFrom<S>>>, OpenFault>
+) -> Result<Connection<FileStore<FileFrom<S>>>, (OpenFault, Option<Leftover<FileFrom<S>>>)>
     ensures opened { IfOk result (λ c. HasCleanDisk (file_state c) → IsOpened c) }
     ensures found { IfOk result (λ c. HasCleanDisk (file_state c) → FindsIn (image_at S.Start) (file_state c)) }
     ensures sums { IfOk result (λ c. HasCleanDisk (file_state c) → IsBlankAs true (image_at S.Start) → (view c.store).has_sums ≡ true) }
     ensures mode { IfOk result (λ c. (file_state c).in_transaction ≡ false) }
     ensures unlimited { IfOk result (λ c. (file_state c).step_limit ≡ None) }
     ensures shielded { IfOk result (λ c. HasCleanDisk (file_state c) → (file_state c).IsShielded) }
-    ensures fault { IfErr result (λ e. e ≢ NotOurs) }
-    ensures memory { path.now ≡ codes ":memory:" → result ≡ Err OpenFault.Store }
-    ensures uri { (rest : List ℕ) → path.now ≡ codes "file:" ++ rest → result ≡ Err OpenFault.Store }
+    ensures fault { IfErr result (λ e. e.0 ≢ NotOurs) }
+    ensures failed { IfErr result (FailsOpening path.now) }
+    ensures memory { path.now ≡ codes ":memory:" → result ≡ Err (OpenFault.Store, None) }
+    ensures uri { (rest : List ℕ) → path.now ≡ codes "file:" ++ rest → result ≡ Err (OpenFault.Store, None) }
 {
     let mut maker = || make_for_owner(rt, path);
     let mut opener = |start: S|
-        ensures { IfOk result (OpenedFrom (image_at S.Start)) }
+        ensures { MatchResult result (OpenedFrom (image_at S.Start)) FailsAtPath }
     { Connection::open_from(rt, path, true, start) };
     open_named(path, start, &mut maker, &mut opener)
 }
@@ -56,22 +61,22 @@ pub fn open_file<S: Start>(
 fn open_named<
     S: Drop,
     C,
-    L: Drop,
+    L,
     M: FnMut() -> Result<(), io::ErrorKind>,
-    O: FnMut(S) -> Result<C, (Error, L)>,
->(path: &str, start: S, maker: &mut M, opener: &mut O) -> Result<C, OpenFault>
+    O: FnMut(S) -> Result<C, (Error, Option<L>)>,
+>(path: &str, start: S, maker: &mut M, opener: &mut O) -> Result<C, (OpenFault, Option<L>)>
     requires maker { M.IsAlwaysCallable maker.old }
     requires opener { O.IsAlwaysCallable opener.old }
     ensures named { OpensNamed path.now (λ made. M.step maker.old made maker.new) (maker.new ≡ maker.old)
         (λ opened. O.step opener.old start opened opener.new) (opener.new ≡ opener.old) result }
-    ensures fault { IfErr result (λ e. e ≢ NotOurs) }
+    ensures fault { IfErr result (λ e. e.0 ≢ NotOurs) }
 {
     if names_no_file(path) {
-        return Err(OpenFault::Store);
+        return Err((OpenFault::Store, None));
     }
     match made(maker()) {
         Ok(()) => opened(opener(start)),
-        Err(fault) => Err(fault),
+        Err(fault) => Err((fault, None)),
     }
 }
 
@@ -123,14 +128,14 @@ fn not_made(kind: io::ErrorKind) -> Result<(), OpenFault>
     }
 }
 
-/// What is told where a file was opened, or was not.
-fn opened<C, L: Drop>(opened: Result<C, (Error, L)>) -> Result<C, OpenFault>
+/// What is told where a file was opened, or was not: the fault of its error, with what the open left.
+fn opened<C, L>(opened: Result<C, (Error, L)>) -> Result<C, (OpenFault, L)>
     ensures told { result ≡ opened_fault opened }
-    ensures known { IfErr result (λ e. e ≢ NotOurs) }
+    ensures known { IfErr result (λ e. e.0 ≢ NotOurs) }
 {
     match opened {
         Ok(conn) => Ok(conn),
-        Err((error, _)) => Err(opening_fault(error)),
+        Err((error, left)) => Err((opening_fault(error), left)),
     }
 }
 

@@ -11,7 +11,18 @@ fn opened(
     rt: &HostRuntime,
     path: &str,
 ) -> Result<Connection<FileStore<FileFrom<Unknown>>>, OpenFault> {
-    open_file(rt, path, Unknown)
+    match open_file(rt, path, Unknown) {
+        Ok(conn) => Ok(conn),
+        Err((fault, _)) => Err(fault),
+    }
+}
+
+/// The fault of a refused open, and whether files came with it.
+fn refused(rt: &HostRuntime, path: &str) -> Option<(OpenFault, bool)> {
+    match open_file(rt, path, Unknown) {
+        Ok(_) => None,
+        Err((fault, left)) => Some((fault, left.is_some())),
+    }
 }
 
 pub(crate) fn found(
@@ -83,16 +94,17 @@ fn a_closed_file_stands_alone(rt: HostRuntime) -> Result<(), Fail> {
 fn what_is_no_database_file_is_refused(rt: HostRuntime) -> Result<(), Fail> {
     in_new_folder(&rt, "up_file_refused")?;
     fs::write(&rt, "up_file_refused/text", b"no database\n".as_slice())?;
-    for path in [
-        ":memory:",
-        "file:up_file_refused/a.db",
-        "",
-        "up_file_refused",
-        "up_file_refused/no/a.db",
-        "up_file_refused/text",
+    for (path, has_files) in [
+        (":memory:", false),
+        ("file:up_file_refused/a.db", false),
+        ("", false),
+        ("up_file_refused", false),
+        ("up_file_refused/no/a.db", false),
+        ("up_file_refused/text", true),
     ] {
-        assert!(rt;
-            matches!(opened(&rt, path), Err(OpenFault::Store)),
+        assert_eq!(rt;
+            refused(&rt, path),
+            Some((OpenFault::Store, has_files)),
             "{path}"
         );
     }

@@ -3,3 +3,4 @@ pub mod Messages
 pub mod Times
 pub mod Calls
 pub mod Files
+pub mod Tries

@@ -1,7 +1,7 @@
 //! For how long the program waits, and the moment of a connection.
 ghost use Rattle.std.specs.Prelude.{◌≡◌, ◌/◌, ◌<◌, ◌↔◌, IsTrue, IsOk, IsOkAnd};
 ghost use Rattle.std.specs.Duration.{as_nanos};
-ghost use Rattle.up_program.specs.Times.{seconds_at};
+ghost use Rattle.up_program.specs.Times.{IsInTime, seconds_at};
 
 use std::io;
 use std::io::ErrorKind;
@@ -16,7 +16,7 @@ const PATIENCE: u64 = 10;
 
 /// Fails where a connection has taken as long as it may, or where the clock couldn't be read. It is given how long that is.
 pub fn in_time(passed: io::Result<Duration>) -> io::Result<()>
-    ensures { IsOk result ↔ IsOkAnd passed (λ time. as_nanos time / 1_000_000_000 < 300) }
+    ensures { IsOk result ↔ IsInTime passed }
 {
     if passed?.as_secs() < MOST_SECONDS {
         Ok(())

@@ -79,8 +79,8 @@ fn serve_one<D: Alter>(
     if limit_silence(stream).is_err() {
         return Err(ScriptCause::Read);
     }
-    let mut requests = half(rt, begun, stream);
-    let mut answers = half(rt, begun, stream);
+    let mut requests = half(|| begun.elapsed(rt), stream);
+    let mut answers = half(|| begun.elapsed(rt), stream);
     answer_requests(rt.alloc(), desk, at, &mut requests, &mut answers)
 }
 
@@ -124,14 +124,15 @@ fn limit_silence(stream: &TcpStream) -> io::Result<()> {
     stream.set_write_timeout(silence)
 }
 
-/// What is read from the connection, or written to it, in its whole time.
-fn half<'a>(
-    rt: &'a HostRuntime,
-    begun: Instant,
-    stream: &'a TcpStream,
-) -> Bounded<Since<'a, HostRuntime>, &'a TcpStream> {
+/// What is read from the connection, or written to it, in its whole time. It is given what tells how much of that has passed.
+fn half<F: FnMut() -> io::Result<Duration> + Drop>(
+    passed: F,
+    stream: &TcpStream,
+) -> Bounded<Since<F>, &TcpStream>
+    ensures { result.limit.passed ≡ passed }
+{
     Bounded {
-        limit: Since { clock: rt, begun },
+        limit: Since { passed },
         inner: stream,
     }
 }
