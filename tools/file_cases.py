@@ -75,6 +75,14 @@ def modes(program, own):
     path = own / "begun"
     path.write_bytes(b"\0")
     yield "what a stop may leave of a database that is made is taken", trials.printed(program, path, DAY[:1]) == ["done"]
+    # SQLite takes a journal back that begins with these bytes; the program leaves it to SQLite
+    path, journal, left = own / "new", own / "new-journal", bytes.fromhex("d9d505f920a163d7") + bytes(504)
+    held = path.read_bytes()
+    journal.write_bytes(left)
+    yield "a file with a journal that SQLite left is refused", trials.run(program, path, SHOWS[:1]) == (3, b"", trials.NO_DATABASE)
+    yield "and both stay", path.read_bytes() == held and journal.read_bytes() == left
+    journal.unlink()
+    yield "without the journal the file is taken", trials.printed(program, path, SHOWS[:1]) is not None
     # a journal's name has eight bytes more, and a file system takes 255
     there = sorted(os.listdir(own))
     told = trials.run(program, own / (248 * "n"), DAY[:1])

@@ -1,3 +1,2 @@
 pub mod Adopted
-pub mod Opened
 pub mod Closed

@@ -1,20 +1,22 @@
 //! Opening a database file.
 
-ghost use Rattle.std.specs.Prelude.{◌≡◌, ◌≢◌, ◌↔◌, ◌++◌, ℕ, List, false, true, IfOk, IfErr, MatchResult, IsTrue, codes, Err};
+ghost use Rattle.std.specs.Prelude.{◌≡◌, ◌≢◌, ◌↔◌, ◌++◌, ℕ, List, false, true, None, IfOk, IfErr, IsTrue, codes, Err};
 ghost use Rattle.std.specs.Fs.{new_options, with_create_new, with_read, with_write};
 ghost use Rattle.sqlite.specs.Files.{file_state, IsBlankAs, IsOpened};
-ghost use Rattle.std.specs.Prelude.{None};
 ghost use Rattle.sqlite.specs.Start.{FindsIn};
 ghost use Rattle.sqlite.specs.State.{HasCleanDisk};
 ghost use Rattle.sqlite.specs.WalFiles.{image_at};
 ghost use Rattle.sqlite_store.specs.FileStore.{view};
 ghost use Rattle.up_tables.specs.Faults.{open_fault};
-ghost use Rattle.up_file.specs.NewFiles.{new_file_fault, made_fault};
-ghost use Rattle.up_file.specs.Opening.{NamesNoFile, OpenedFrom, FailsAtPath, FailsOpening, OpensNamed, opened_fault};
+ghost use Rattle.up_file.specs.NewFiles.{kind_fault as fault_of_kind, made_fault};
+ghost use Rattle.up_file.specs.Opening.{AreFresh, NamesNoFile, OpensNamed, RefusesFiles, opened_fault};
 ghost use Rattle.up_tables.specs.declared.open.OpenFault.TheVariants.{NotOurs};
 
-use sqlite::{Connection, Error, ErrorCode, FileFrom, FileStore, Leftover, Start};
+use sqlite::{Connection, Error, ErrorCode, FileFrom, FileStore, Files, Leftover, Options, Start};
+use sqlite_std_file::OpenError;
+use std::alloc::Global;
 use std::fs::OpenOptions;
+use std::hash::{BuildHasher, RandomState};
 use std::io;
 use std::os::unix::fs::OpenOptionsExt;
 use up_tables::open::OpenFault;
@@ -22,22 +24,48 @@ use up_tables::open::OpenFault;
 /// The file's owner may read and write it, and nobody else may do anything.
 const FOR_OWNER: u32 = 0o600;
 
-/// Opens the database file at the path, which no other program then can, until the connection is dropped.
-/// Where nothing has that name, an empty database is made: for its owner alone, its log too, and with a sum
-/// on each page, so that a later open finds most bits that changed in between. `Memory` for want of memory,
-/// and `Store` for all else: a path that can't be opened or is `:memory:` or a URI, a file that another
-/// program has open, and one that holds no sound database.
-///
-/// What is left of the file and its log comes with the fault, once they were opened: a database that they
-/// hold is still there, also after a crash. `Leftover::into_files` gives the two back, and dropping it closes
-/// them. It is `None` where the path names no file, or couldn't be opened.
+/// Opens the database file at the path and its log, which no other program then can, until they are dropped: both are synced, and nothing else is
+/// done to them yet. Where nothing has that name, an empty file is made, for its owner alone; a missing log is made too. With them comes a number
+/// that was drawn at random, which `connect_files` takes as its seed. `Memory` for want of memory, and `Store` for all else: a path that can't be
+/// opened or is `:memory:` or a URI, a file that another program has open, a journal that SQLite left, and a system without random bytes.
 ///
 /// `start` stands for what the files hold: no clause ties them to the path.
-pub fn open_file<S: Start>(
+pub fn open_files<S: Start>(
     rt: &HostRuntime,
     path: &str,
     start: S,
-) -> Result<Connection<FileStore<FileFrom<S>>>, (OpenFault, Option<Leftover<FileFrom<S>>>)>
+) -> Result<(Files<FileFrom<S>>, u64), OpenFault>
+    ensures fresh { IfOk result (λ opened. AreFresh opened.0) }
+    ensures fault { IfErr result (λ e. e ≢ NotOurs) }
+    ensures memory { path.now ≡ codes ":memory:" → result ≡ Err OpenFault.Store }
+    ensures uri { (rest : List ℕ) → path.now ≡ codes "file:" ++ rest → result ≡ Err OpenFault.Store }
+{
+    // First, so that nothing is made or opened where there are no random bytes.
+    let Ok(state) = RandomState::new(rt) else {
+        return Err(OpenFault::Store);
+    };
+    let mut maker = || make_for_owner(rt, path);
+    let mut opener = |start: S|
+        ensures { IfOk result AreFresh }
+    { sqlite_std_file::open(rt, path, start) };
+    match open_named(path, start, &mut maker, &mut opener) {
+        Ok(files) => Ok((files, state.hash_one(&0u8))),
+        Err(fault) => Err(fault),
+    }
+}
+
+/// A connection over files that `open_files` gave, with the number that came with them: the log's salts are drawn from it. Where the database file
+/// is empty, it gets an empty database, with a sum on each page, so that a later open finds most bits that changed in between. `Memory` for want of
+/// memory, and `Store` where the files hold no sound database or are too large, or their disk fails.
+///
+/// What is left of the files comes with the fault: a database that they hold is still there, also after a crash. `Leftover::into_files` gives the
+/// two back, and dropping it closes them.
+pub fn connect_files<S: Start>(
+    alloc: Global,
+    files: Files<FileFrom<S>>,
+    seed: u64,
+) -> Result<Connection<FileStore<FileFrom<S>>>, (OpenFault, Leftover<FileFrom<S>>)>
+    requires fresh { AreFresh files }
     ensures opened { IfOk result (λ c. HasCleanDisk (file_state c) → IsOpened c) }
     ensures found { IfOk result (λ c. HasCleanDisk (file_state c) → FindsIn (image_at S.Start) (file_state c)) }
     ensures sums { IfOk result (λ c. HasCleanDisk (file_state c) → IsBlankAs true (image_at S.Start) → (view c.store).has_sums ≡ true) }
@@ -45,38 +73,34 @@ pub fn open_file<S: Start>(
     ensures unlimited { IfOk result (λ c. (file_state c).step_limit ≡ None) }
     ensures shielded { IfOk result (λ c. HasCleanDisk (file_state c) → (file_state c).IsShielded) }
     ensures fault { IfErr result (λ e. e.0 ≢ NotOurs) }
-    ensures failed { IfErr result (FailsOpening path.now) }
-    ensures memory { path.now ≡ codes ":memory:" → result ≡ Err (OpenFault.Store, None) }
-    ensures uri { (rest : List ℕ) → path.now ≡ codes "file:" ++ rest → result ≡ Err (OpenFault.Store, None) }
+    ensures failed { IfErr result (RefusesFiles files) }
 {
-    let mut maker = || make_for_owner(rt, path);
-    let mut opener = |start: S|
-        ensures { MatchResult result (OpenedFrom (image_at S.Start)) FailsAtPath }
-    { Connection::open_from(rt, path, true, start) };
-    open_named(path, start, &mut maker, &mut opener)
+    match Connection::open_files_with(alloc, files, Options::new(seed), true) {
+        Ok(conn) => Ok(conn),
+        Err((error, left)) => Err((opening_fault(error), left)),
+    }
 }
 
 /// What `opener` opens, once `maker` has made a file where nothing has that name. Each is asked once at most, and neither is for a
 /// path that names no file.
 fn open_named<
     S: Drop,
-    C,
-    L,
+    F,
     M: FnMut() -> Result<(), io::ErrorKind>,
-    O: FnMut(S) -> Result<C, (Error, Option<L>)>,
->(path: &str, start: S, maker: &mut M, opener: &mut O) -> Result<C, (OpenFault, Option<L>)>
+    O: FnMut(S) -> Result<F, OpenError>,
+>(path: &str, start: S, maker: &mut M, opener: &mut O) -> Result<F, OpenFault>
     requires maker { M.IsAlwaysCallable maker.old }
     requires opener { O.IsAlwaysCallable opener.old }
     ensures named { OpensNamed path.now (λ made. M.step maker.old made maker.new) (maker.new ≡ maker.old)
         (λ opened. O.step opener.old start opened opener.new) (opener.new ≡ opener.old) result }
-    ensures fault { IfErr result (λ e. e.0 ≢ NotOurs) }
+    ensures fault { IfErr result (λ e. e ≢ NotOurs) }
 {
     if names_no_file(path) {
-        return Err((OpenFault::Store, None));
+        return Err(OpenFault::Store);
     }
     match made(maker()) {
         Ok(()) => opened(opener(start)),
-        Err(fault) => Err((fault, None)),
+        Err(fault) => Err(fault),
     }
 }
 
@@ -104,38 +128,38 @@ fn new_file() -> OpenOptions
     options
 }
 
-/// What is told where a file was made, or was not.
+/// What is told where a file was made, or was not: one that is there already is no fault.
 fn made(made: Result<(), io::ErrorKind>) -> Result<(), OpenFault>
     ensures told { result ≡ made_fault made }
     ensures known { IfErr result (λ e. e ≢ NotOurs) }
 {
     match made {
-        Ok(()) => Ok(()),
-        Err(kind) => not_made(kind),
+        Ok(()) | Err(io::ErrorKind::AlreadyExists) => Ok(()),
+        Err(kind) => Err(kind_fault(kind)),
     }
 }
 
-/// What is told of an error where a file is made: one that is there already is no fault. `Memory` where memory was refused, else
-/// `Store`.
-fn not_made(kind: io::ErrorKind) -> Result<(), OpenFault>
-    ensures told { result ≡ new_file_fault kind }
+/// What is told where the files were opened, or were not.
+fn opened<F>(opened: Result<F, OpenError>) -> Result<F, OpenFault>
+    ensures told { result ≡ opened_fault opened }
     ensures known { IfErr result (λ e. e ≢ NotOurs) }
 {
-    match kind {
-        io::ErrorKind::AlreadyExists => Ok(()),
-        io::ErrorKind::OutOfMemory => Err(OpenFault::Memory),
-        _ => Err(OpenFault::Store),
+    match opened {
+        Ok(files) => Ok(files),
+        Err(OpenError::OutOfMemory) => Err(OpenFault::Memory),
+        Err(OpenError::Io(error)) => Err(kind_fault(error.kind())),
+        Err(OpenError::Busy | OpenError::HotJournal) => Err(OpenFault::Store),
     }
 }
 
-/// What is told where a file was opened, or was not: the fault of its error, with what the open left.
-fn opened<C, L>(opened: Result<C, (Error, L)>) -> Result<C, (OpenFault, L)>
-    ensures told { result ≡ opened_fault opened }
-    ensures known { IfErr result (λ e. e.0 ≢ NotOurs) }
+/// What is told of an error of the operating system: `Memory` where memory was refused, else `Store`.
+fn kind_fault(kind: io::ErrorKind) -> OpenFault
+    ensures told { result ≡ fault_of_kind kind }
+    ensures known { result ≢ NotOurs }
 {
-    match opened {
-        Ok(conn) => Ok(conn),
-        Err((error, left)) => Err((opening_fault(error), left)),
+    match kind {
+        io::ErrorKind::OutOfMemory => OpenFault::Memory,
+        _ => OpenFault::Store,
     }
 }
 

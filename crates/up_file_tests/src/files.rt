@@ -4,24 +4,21 @@ use std::os::unix::fs::{MetadataExt, PermissionsExt};
 use std::test::Fail;
 use std::{fs, io};
 use up_file::closing::close_file;
-use up_file::opening::open_file;
+use up_file::opening::{connect_files, open_files};
 use up_tables::open::{OpenFault, create_tables, take_tables};
 
+/// A connection over the file at the path; or the fault, and whether files came back with it.
 fn opened(
     rt: &HostRuntime,
     path: &str,
-) -> Result<Connection<FileStore<FileFrom<Unknown>>>, OpenFault> {
-    match open_file(rt, path, Unknown) {
+) -> Result<Connection<FileStore<FileFrom<Unknown>>>, (OpenFault, bool)> {
+    let (files, seed) = match open_files(rt, path, Unknown) {
+        Ok(opened) => opened,
+        Err(fault) => return Err((fault, false)),
+    };
+    match connect_files(rt.alloc(), files, seed) {
         Ok(conn) => Ok(conn),
-        Err((fault, _)) => Err(fault),
-    }
-}
-
-/// The fault of a refused open, and whether files came with it.
-fn refused(rt: &HostRuntime, path: &str) -> Option<(OpenFault, bool)> {
-    match open_file(rt, path, Unknown) {
-        Ok(_) => None,
-        Err((fault, left)) => Some((fault, left.is_some())),
+        Err((fault, _)) => Err((fault, true)),
     }
 }
 
@@ -66,7 +63,12 @@ fn a_new_file_is_its_owners_alone(rt: HostRuntime) -> Result<(), Fail> {
     assert!(rt; conn.is_ok());
     assert_eq!(rt; mode(&rt, "up_file_new/a.db")?, 0o600);
     assert_eq!(rt; mode(&rt, "up_file_new/a.db-wal")?, 0o600);
-    assert!(rt; matches!(opened(&rt, "up_file_new/a.db"), Err(OpenFault::Store)));
+    assert!(rt;
+        matches!(
+            opened(&rt, "up_file_new/a.db"),
+            Err((OpenFault::Store, false))
+        )
+    );
     drop(conn);
     fs::set_permissions(&rt, "up_file_new/a.db", fs::Permissions::from_mode(0o640))?;
     assert!(rt; opened(&rt, "up_file_new/a.db").is_ok());
@@ -102,11 +104,10 @@ fn what_is_no_database_file_is_refused(rt: HostRuntime) -> Result<(), Fail> {
         ("up_file_refused/no/a.db", false),
         ("up_file_refused/text", true),
     ] {
-        assert_eq!(rt;
-            refused(&rt, path),
-            Some((OpenFault::Store, has_files)),
-            "{path}"
-        );
+        let Err(refused) = opened(&rt, path) else {
+            return Err(Fail::from(io::Error::from(io::ErrorKind::Other)));
+        };
+        assert_eq!(rt; refused, (OpenFault::Store, has_files), "{path}");
     }
     assert!(rt; fs::metadata(&rt, "file:up_file_refused/a.db").is_err());
     let text = fs::read(&rt, "up_file_refused/text")?;
@@ -127,7 +128,10 @@ fn a_changed_bit_is_found(rt: HostRuntime) -> Result<(), Fail> {
         bytes[at] ^= 1;
         fs::write(&rt, "up_file_changed/b.db", bytes.as_slice())?;
         assert!(rt;
-            matches!(opened(&rt, "up_file_changed/b.db"), Err(OpenFault::Store)),
+            matches!(
+                opened(&rt, "up_file_changed/b.db"),
+                Err((OpenFault::Store, true))
+            ),
             "{at}"
         );
     }

@@ -1,15 +1,16 @@
 //! Databases: in memory, or in a file.
-ghost use Rattle.std.specs.Prelude.{◌≡◌, false};
+ghost use Rattle.std.specs.Prelude.{◌≡◌, false, IfSome};
+ghost use Rattle.sqlite.specs.Files.{file_state};
 ghost use Rattle.sqlite.specs.Held.{state};
 
 use crate::connections::serve;
 use crate::scripts::answer_lines;
-use sqlite::{Alter, Connection, Unknown};
+use sqlite::{Alter, Connection, FileFrom, FileStore, Unknown};
 use std::fs;
 use up_desk::desk::Desk;
 use up_file::adopting::adopt_or_create;
 use up_file::closing::close_file;
-use up_file::opening::open_file;
+use up_file::opening::{connect_files, open_files};
 use up_program::closing::closing;
 use up_program::failure::{Failure, told};
 use up_program::files::{is_memory, journal_of, may_open};
@@ -52,7 +53,7 @@ fn over_file(rt: &HostRuntime, path: &str, work: Work) -> Result<(), Failure> {
     if !is_usable(rt, path) {
         return told(&mut rt.stderr(), Err(Failure::Unopened));
     }
-    let Ok(conn) = open_file(rt, path, Unknown) else {
+    let Some(conn) = connected(rt, path) else {
         return told(&mut rt.stderr(), Err(Failure::Unopened));
     };
     match adopt_or_create(conn) {
@@ -65,6 +66,15 @@ fn over_file(rt: &HostRuntime, path: &str, work: Work) -> Result<(), Failure> {
         ),
         Err(_) => told(&mut rt.stderr(), Err(Failure::Unopened)),
     }
+}
+
+/// A connection over the database file at the path and its log; none where they can't be opened, or no connection can be made over
+/// them.
+fn connected(rt: &HostRuntime, path: &str) -> Option<Connection<FileStore<FileFrom<Unknown>>>>
+    ensures mode { IfSome result (λ c. (file_state c).in_transaction ≡ false) }
+{
+    let (files, seed) = open_files(rt, path, Unknown).ok()?;
+    connect_files(rt.alloc(), files, seed).ok()
 }
 
 /// Whether a database file may stand at the path, and beside it its log and the journal that SQLite looks for; else nothing is
