@@ -1,0 +1,17 @@
+cd /work/j3 && git checkout -q -f --detach main
+for c in up_tables up_store; do
+python3 - $c <<'P'
+import os,shutil,subprocess,sys
+j='/work/j3'; c=sys.argv[1]
+deps={}
+for l in open(f'{j}/crates.txt'):
+    if l.startswith('#') or ':' not in l: continue
+    n,d=l.split(':'); deps[n.split()[0]]=d.split()
+for x in [d for d in deps[c] if d in deps]+[c]:
+    o=f'{j}/crates/{x}/out'; shutil.rmtree(o,ignore_errors=True)
+    if x==c: subprocess.run(['cp','-r',f'/work/jout/{x}',o])
+    else:
+        os.makedirs(o,exist_ok=True); subprocess.run(['cp','-al',f'/work/jout/{x}/rlib',o+'/rlib'])
+P
+ONLY=planted PMOST=20 python3 /work/bin/judge.py /work/j3 1 /work/plant2 $c > /work/logs/plant2.$c 2>&1
+done
