@@ -187,11 +187,11 @@ def go_round(url, path, images):
 
 
 def pause(failed):
-    """The seconds until the next round, behind so many that failed in a row: a tenth more or less at random, so that a fleet that was
-    switched on at one moment doesn't come at one moment; and up to twice as long behind a failure, where all may have failed at once."""
+    """The seconds until the next round, behind so many that failed in a row. They differ at random, so that a fleet that was switched
+    on at one moment, or met one outage, doesn't come at one moment: by a tenth, and behind a failure by half the wait."""
     if not failed:
         return INTERVAL * random.uniform(0.9, 1.1)
-    return min(INTERVAL, FAILED * 2 ** min(failed - 1, 20)) * random.uniform(1, 2)
+    return min(INTERVAL, FAILED * 2 ** min(failed - 1, 20)) * random.uniform(0.5, 1)
 
 
 def go_rounds(url, path, images):
