@@ -1,10 +1,11 @@
 """What a copy of the database file tells of a fleet. `fleet_page.py` and `metrics.py` read by it; nothing is written."""
 import json
+import os
 import re
 import shutil
 import sqlite3
 import tempfile
-from contextlib import closing, contextmanager
+from contextlib import closing, contextmanager, nullcontext
 from datetime import datetime, timezone
 from pathlib import Path
 
@@ -30,18 +31,30 @@ def size_of(path):
 
 
 @contextmanager
-def opened(path):
-    """A connection that changes nothing. A file without a log is read where it lies; one with a log is copied first, with it."""
-    path = Path(path)
-    with tempfile.TemporaryDirectory() as folder:
-        alone = not log_of(path).exists() or log_of(path).stat().st_size <= EMPTY_LOG
-        own = path if alone else Path(folder) / "copy"
-        if not alone:
+def linked(path):
+    """Another name of the file, with a copy of its log beside it, so that reading leaves nothing beside the file itself. Where the
+    file can't have another name, it is a copy."""
+    folder = tempfile.mkdtemp(dir=path.parent if os.access(path.parent, os.W_OK) else None)
+    own = Path(folder) / "copy"
+    try:
+        try:
+            os.link(path, own)
+        except OSError:
             shutil.copyfile(path, own)
-            shutil.copyfile(log_of(path), log_of(own))
-        path.open("rb").close()
-        words = own.resolve().as_uri() + ("?mode=ro&immutable=1" if alone else "")
-        with closing(sqlite3.connect(words, uri=True)) as db:
+        shutil.copyfile(log_of(path), log_of(own))
+        yield own
+    finally:
+        shutil.rmtree(folder)
+
+
+@contextmanager
+def opened(path):
+    """A connection that changes nothing. A file without a log is read where it lies."""
+    path = Path(path)
+    path.open("rb").close()
+    alone = not log_of(path).exists() or log_of(path).stat().st_size <= EMPTY_LOG
+    with nullcontext(path) if alone else linked(path) as own:
+        with closing(sqlite3.connect(own.resolve().as_uri() + "?mode=ro" + "&immutable=1" * alone, uri=True)) as db:
             db.row_factory = sqlite3.Row
             yield db
 
