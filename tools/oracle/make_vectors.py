@@ -17,6 +17,7 @@ from pathlib import Path
 sys.dont_write_bytecode = True
 sys.path += map(str, Path(__file__).resolve().parents[1].iterdir())
 
+import ed25519
 import reference
 from reference import ROLES, canonical, keyid, mac, moment, sealed
 
@@ -183,6 +184,33 @@ def tags():
     yield {"name": "a canonical text", "key": key(0xA1), "data": data.encode().hex(), "tag": mac(bytes.fromhex(key(0xA1)), data)}
 
 
+# ---- Ed25519: secrets with their public keys, and signatures
+
+
+def ed25519_tags():
+    for name, (secret, public, data, sig) in zip(("1", "2", "3", "1024", "SHA(abc)"), ed25519.vectors(), strict=True):
+        yield {"name": "RFC 8032, section 7.1, test %s" % name, "secret": secret.hex(), "public": public.hex(), "data": data.hex(), "sig": sig.hex()}
+    secret, data = bytes.fromhex(key(0xA4)), payload_of("VIN-2", 1, reports_of("VIN-2", 1)).encode()
+    yield {"name": "a canonical text", "secret": secret.hex(), "public": ed25519.public_of(secret).hex(), "data": data.hex(), "sig": ed25519.sign(secret, data).hex()}
+
+
+def ed25519_cases():
+    secret, data = bytes.fromhex(key(0xA4)), canonical({"a": 1}).encode()
+    public, sig = ed25519.public_of(secret), ed25519.sign(secret, data)
+    first, last = sig[:32], ed25519.number(sig[32:])
+    bytes_of = lambda it: it.to_bytes(32, "little")
+    # with the neutral point as the key any s and s * B fit: what is tried is how the key is decoded
+    free = ed25519.encode(ed25519.multiple(5, ed25519.BASE)) + bytes_of(5)
+    for name, key_bytes, made in [
+        ("the signature", public, sig), ("a bit of R changed", public, bytes([sig[0] ^ 1]) + sig[1:]), ("a bit of s changed", public, sig[:63] + bytes([sig[63] ^ 1])),
+        ("s plus the order of the group", public, first + bytes_of(last + ed25519.ORDER)), ("63 bytes", public, sig[:-1]), ("65 bytes", public, sig + b"\0"),
+        ("another key", ed25519.public_of(bytes.fromhex(key(0xA1))), sig), ("the secret in place of the public key", secret, sig),
+        ("the neutral point as the key: nothing is wrong by section 5.1.7", bytes_of(1), free), ("the same point with y not below p", bytes_of(ed25519.P + 1), free),
+        ("the same point with the sign of x set, though x is 0", bytes_of(1 | 1 << 255), free), ("a key that is no point", bytes_of(2), sig),
+    ]:
+        yield {"name": name, "public": key_bytes.hex(), "data": data.hex(), "sig": made.hex(), "verified": ed25519.verify(key_bytes, data, made)}
+
+
 # ---- signatures: an envelope round the first manifest of VIN-2, in several forms
 
 
@@ -288,6 +316,8 @@ def manifests():
     yield "a report of an attack, at the end of the year 9999", later(5, report("gw", key(0xA1), 8, image, attack="bus flooded", time="9999-12-31T23:59:59Z"))
     yield "hashes in upper case", later(6, report("gw", key(0xA1), 9, upper_case))
     yield "a SHA-512 that is none: it counts as a member that nobody knows", later(7, report("gw", key(0xA1), 10, odd))
+    unknown = {"file": "unknown", "length": 0, "hashes": {"sha256": digest("")}}
+    yield "no time was verified, and the installed image isn't known", later(8, report("gw", key(0xA1), 11, unknown, time="1970-01-01T00:00:00Z"))
     yield "the greatest counter", manifest("VIN-2", 2**53 - 1, [one()])
     yield "another one: no greater counter is left, so each is refused from now on", manifest("VIN-2", 2**53 - 1, [one(attack="x")])
 
@@ -570,6 +600,9 @@ def files():
     yield "signatures_hmac.json", text(
         "tags, and envelopes round one payload: whether the key signed, or the refusal of one of another form", method,
         member("key", key(0xA4)), listed("setup", SETUP), listed("tags", tags()), listed("cases", signatures()))
+    yield "signatures_ed25519.json", text(
+        "secrets, public keys and signatures by RFC 8032, and whether a signature of data is this key's", member("method", "ed25519"),
+        listed("tags", ed25519_tags()), listed("cases", ed25519_cases()))
     yield "manifests.json", text("bodies that are delivered one after another once the lines of setup were carried out, and how each is answered",
                                  method, member("at", NOW), listed("setup", SETUP), listed("cases", delivered()))
     yield "replies.json", text("manifests that are accepted one after another, each after its lines, and the replies to them",
