@@ -41,7 +41,7 @@ def ran(*words, given=b""):
 
 
 def words():
-    documented = reference.__doc__.strip().encode() + b"\n"
+    documented = reference.__doc__.encode() + b"\n"
     yield "--help", ran("--help") == (0, documented, b"")
     for wrong in ([], ["run"], ["serve", "x"], ["serve", "x", "0"], ["serve", "x", "65536"], ["serve", "x", "80", "0"], ["digest", "x"]):
         yield "no words of it: %s" % " ".join(wrong), ran(*wrong) == (2, b"", documented)
@@ -148,6 +148,8 @@ def cases():
 
 
 if __name__ == "__main__":
+    if {"-h", "--help"} & {*sys.argv[1:]}:
+        sys.exit(print(__doc__))
     if len(sys.argv) > 1:
         sys.exit(__doc__)
     sys.exit(trials.judged("reference", cases()))
