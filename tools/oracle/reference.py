@@ -2,9 +2,10 @@
 """The rules once more, in plain Python over SQLite's own tables: what is printed and kept is compared with it.
 
     reference.py run FILE < SCRIPT      FILE is `:memory:`, or is made where it isn't there
+    reference.py serve FILE PORT        answers over HTTP, on 127.0.0.1, until it is stopped
 
-It is slow and short, and tests nothing of a database's own. It has no limits of lines or of a script: those are tried by
-`tools/try/program_cases.py`. The tables are those of `docs/use/TABLES.md`; those of an older schema are raised.
+It needs no kit, is slow and short, and nothing of it is proved: what it prints is labelled so, on standard error. `serve` stands in for
+the service where a Primary is written. It has no limits of lines or of a script: those are tried by `tools/try/program_cases.py`. The tables are those of `docs/use/TABLES.md`; those of an older schema are raised.
 """
 import hashlib
 import hmac
@@ -596,6 +597,12 @@ class Desk:
         self.in_range(line)
         return self.delivered(body, line["at"])
 
+    def reply_to(self, body, at):
+        """The reply to a manifest that is accepted, or was, as it goes over HTTP."""
+        self.delivered(body, at)
+        told = read_manifest(body)
+        return self.one("SELECT reply FROM kept WHERE vehicle = ? AND counter = ?", told["vehicle"], told["counter"])[0]
+
     def delivered(self, body, at):
         told = read_manifest(body)
         self.founded()
@@ -694,23 +701,43 @@ def opened(path):
     return desk
 
 
-def main(words):
-    if len(words) != 2 or words[0] != "run":
-        return 2
-    os.umask(0o077)
-    try:
-        desk = opened(words[1])
-    except sqlite3.Error:
-        print("uptane_desk: cannot open the database", file=sys.stderr)
-        return 3
-    for line in sys.stdin.buffer:
+def carried_out(desk, lines):
+    """Prints what the rules answer to each line."""
+    for line in lines:
         line = line.removesuffix(b"\n")
         if line:
             sys.stdout.buffer.write(desk.answer(line).encode() + b"\n")
             sys.stdout.buffer.flush()
+
+
+def main(words):
+    if len(words) == 3 and words[0] == "serve" and words[2].isdecimal() or len(words) == 2 and words[0] == "run":
+        os.umask(0o077)
+    else:
+        print(__doc__, file=sys.stderr)
+        return 2
+    try:
+        desk = opened(words[1])
+    except sqlite3.Error:
+        print("reference: cannot open the database", file=sys.stderr)
+        return 3
+    print("reference: these answers are the independent rules' in Python, and not the proved program's", file=sys.stderr)
+    if words[0] == "run":
+        carried_out(desk, sys.stdin.buffer)
+    else:
+        import over_http
+
+        try:
+            over_http.serve(desk, int(words[2]))
+        except KeyboardInterrupt:
+            print("reference: stopped", file=sys.stderr)
     desk.db.close()
     return 0
 
 
 if __name__ == "__main__":
+    if {"-h", "--help"} & {*sys.argv[1:]}:
+        sys.exit(print(__doc__))
+    # (what serves over HTTP takes the rules from here)
+    sys.modules["reference"] = sys.modules["__main__"]
     sys.exit(main(sys.argv[1:]))

@@ -12,7 +12,11 @@ import sys
 import textwrap
 from pathlib import Path
 
-TOP = Path(__file__).resolve().parents[2]
+sys.dont_write_bytecode = True
+
+import trials
+from trials import TOP
+
 PAGES = ["README.md", "docs/**/*.md", "examples/**/README.md", "rows/README.md"]
 
 
@@ -230,9 +234,9 @@ def cases():
 
 
 if __name__ == "__main__":
+    if {"-h", "--help"} & {*sys.argv[1:]}:
+        sys.exit(print(__doc__))
     if sys.argv[1:] == ["write"]:
         proofs = TOP / "docs" / "trust" / "PROOFS.md"
         proofs.write_text(with_files(proofs.read_text(encoding="utf-8")), encoding="utf-8")
-    other = [name for name, well in cases() if not well]
-    print("\n".join(other) or "nothing is missing")
-    sys.exit(bool(other))
+    sys.exit(trials.judged("page", cases()))
