@@ -30,6 +30,7 @@ PRIMARY = trials.TOP / "examples" / "primary"
 sys.path.insert(0, str(PRIMARY))
 
 import envelopes
+import primary
 import verify
 
 FOLDER = trials.TOP / "vectors"
@@ -66,7 +67,23 @@ def by_primary():
     told = vectors("chains")
     first = {name: key for name, key in told["vehicle"]["role_keys"].items() if name in told["files of update"]["director/1.root.json"]}
     lacks = told | {"vehicle": told["vehicle"] | {"role_keys": first}}
+    yield "a change of the repository between two requests", begins_again(told)
     yield "a Root whose keys the vehicle hasn't", verdict(verify, lacks, {"base": "rotation"})[0] == "refused"
+
+
+def begins_again(told):
+    """Whether the small Primary verifies the Image repository where its Targets were of another moment once, and not where they always are."""
+    files = {name: json.loads(text) for name, text in told["files of update"].items()}
+    other = next(case["replace"] for case in told["cases"] if case["name"] == "the Image repository's Targets are of another moment")
+    found = []
+    for times in (1, 2):
+        mixed = times * [json.loads(other["image/targets.json"])]
+        fetch = lambda name: mixed.pop() if mixed and name == "image/targets.json" else files.get(name)
+        trust = {"root": files["image/1.root.json"], "versions": {}}
+        secrets = {name: bytes.fromhex(it) for name, it in told["vehicle"]["role_keys"].items()}
+        with contextlib.suppress(verify.Refused):
+            found.append(primary.image_repository(trust, fetch, secrets, told["now"])[0])
+    return found == [files["image/targets.json"]]
 
 
 def verified(verify):
