@@ -41,8 +41,9 @@ sys.dont_write_bytecode = True
 import verify
 from envelopes import canonical, hashes, key_identifier, manifest
 
-# seconds: what an answer may take, and the waits between tries, each half as long again at random so that a fleet doesn't come at once
-PATIENCE = 20
+# seconds: what an answer may take, longer than the proxies of `examples/service` wait, and the waits between tries, each half as long again at
+# random so that a fleet doesn't come at once
+PATIENCE = 100
 WAITS = (1, 3, 9)
 # seconds between two rounds, and behind the first that failed; that wait doubles with each further one
 INTERVAL, FAILED = 86_400, 300
