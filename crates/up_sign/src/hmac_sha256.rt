@@ -108,6 +108,13 @@ impl HmacKey {
         }
     }
 
+    /// The block of the key, 64 bytes: a key of at most 64 bytes stands at its front, followed by zeros (RFC 2104, section 2).
+    pub fn block(&self) -> &[u8; 64]
+        ensures { result.now ≡ self.now }
+    {
+        &self.block
+    }
+
     /// The tag of a message, 32 bytes.
     #[tactic(auto, unfolding(crate::specs::Hmac::hmac_under))]
     pub fn tag(&self, message: &[u8]) -> [u8; 32]
