@@ -9,6 +9,8 @@ adopted and answers alike, and so are copies. The page's queries have to tell wh
 older schemas, which SQLite makes of the rows of worked rows, are raised and answer as before, with the same kept
 replies. And refusals that come before images or campaigns are read are answered where SQLite has damaged those rows,
 as lines that read a damaged row are refused.
+
+promise: columns-read, store-opened, store-columns, file-adopted
 """
 import json
 import re
