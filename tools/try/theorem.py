@@ -8,8 +8,10 @@
 A line `<!-- quote FILE NAME -->` stands above a quote: the function's contract or the definition of that name, as the file has it. A line
 `<!-- sizes -->` stands above the table of counts. Counted is what the contract of the headline leads to through names: each definition once, its
 lines and words without comments, and each type of the code that a definition uses. Definitions of the kit are where the count ends.
+A line `<!-- kit -->` stands above the table of the kit's crates, which are counted where the kit is.
 """
 import re
+import shutil
 import sys
 from collections import defaultdict
 from functools import lru_cache
@@ -24,6 +26,7 @@ PAGE = TOP / "docs" / "trust" / "THEOREM.md"
 HEADLINE = ("crates/up_desk/src/desk.rt", "run")
 QUOTE = re.compile(r"^<!-- quote (\S+) (\w+) -->\n\n((?:    .*\n|\n(?=    ))*)", re.MULTILINE)
 SIZES = re.compile(r"^<!-- sizes -->\n\n((?:\|.*\n)*)", re.MULTILINE)
+KIT_TABLE = re.compile(r"^<!-- kit -->\n\n((?:\|.*\n)*)", re.MULTILINE)
 BEGINS = re.compile(r"^(?:abbrev|unfoldable|record|data|pub record|pub data|abbrev pub|unfoldable pub) (?:pub )?(\w+)", re.MULTILINE)
 WORD = re.compile(r"[A-Za-z_]\w*(?:\.[A-Za-z_]\w*)*")
 # what a part of the definitions is for, by crate
@@ -59,8 +62,9 @@ def function_of(text, name):
 
 def definition_of(text, name):
     """A definition, with the comment above it."""
-    found = re.search(r"^((?:--.*\n)*)((?:abbrev|unfoldable|record|data|pub record|pub data)(?: pub)? %s\b.*?)(?=\n\n|\Z)" % name, text, re.MULTILINE | re.DOTALL)
-    return found and found[0] + "\n"
+    begins = r"^((?:--[^\n]*\n)*)(?:abbrev|unfoldable|record|data|pub record|pub data)(?: pub)? %s\b" % name
+    found = re.search(begins + r".*?(?=\n\n|\Z)", text, re.MULTILINE | re.DOTALL)
+    return found and found[0].rstrip("\n") + "\n"
 
 
 def quoted(file, name):
@@ -177,12 +181,70 @@ def table():
     return "\n".join(lines + ["| all | | %s |" % " | ".join("{:,}".format(it) for it in total)]) + "\n"
 
 
+# ---- the kit
+
+FAMILIES = [
+    ("Rust's libraries", r"core|std|std_\w+|io"),
+    ("the system's calls", r"libc|os"),
+    ("JSON", r"json|serde|serde_json|ryu|itoa|fast_float|simdutf8"),
+    ("times", r"jiff\w*"),
+    ("hashes and text", r"sha2|hex|memchr|arrayvec|slab|bytes"),
+    ("HTTP", r"httparse|http\w*|matchit"),
+    ("SQLite", r"sqlite\w*"),
+    ("other", r".*"),
+]
+
+
+def kit_crates(kit):
+    """The kit's crates that the program stands on."""
+    program = (TOP / "crates.txt").read_text(encoding="utf-8").split("\n#")[0]
+    waiting = ["core", "std"] + [it for it in re.findall(r"\b[a-z]\w*\b", re.sub(r"(?m)^.*?:", "", program)) if not it.startswith("up")]
+    found = set()
+    while waiting:
+        name = waiting.pop()
+        if name not in found and (kit / "rlibs" / ("%s.rlib" % name) / "format").is_file():
+            found.add(name)
+            waiting += re.findall(r"^dep (\w+)$", (kit / "rlibs" / ("%s.rlib" % name) / "format").read_text(encoding="utf-8"), re.MULTILINE)
+    return sorted(found)
+
+
+def lines_of(folder, pattern):
+    return sum(path.read_text(encoding="utf-8").count("\n") for path in folder.glob(pattern))
+
+
+def foreign(folder):
+    """How many functions of C the crate calls."""
+    blocks = [block for path in folder.glob("src/**/*.rt") for block in re.findall(r'extern "C" \{(.*?)^\}', path.read_text(encoding="utf-8"), re.DOTALL | re.MULTILINE)]
+    return sum(len(re.findall(r"\bfn \w+", block)) for block in blocks)
+
+
+def kit_table(kit):
+    left, lines = kit_crates(kit), ["| For | Crates | Code | Statements | Proofs | Calls of C |", "|---|---|---|---|---|---|"]
+    for words, pattern in FAMILIES:
+        of = [it for it in left if re.fullmatch(pattern, it)]
+        left = [it for it in left if it not in of]
+        folders = [kit / "rattle" / it for it in of]
+        counts = [sum(map(count, folders)) for count in (lambda it: lines_of(it, "src/**/*.rt"), lambda it: lines_of(it, "specs/**/*.antt"),
+                                                        lambda it: lines_of(it, "proofs/**/*.antt"), foreign)]
+        if of:
+            lines.append("| %s | %s | %s |" % (words, ", ".join("`%s`" % it for it in of), " | ".join("{:,}".format(it) for it in counts)))
+    return "\n".join(lines) + "\n"
+
+
+def kit_here():
+    """The folder of the kit, if there is one."""
+    found = shutil.which("rt")
+    return Path(found).resolve().parents[1] if found else None
+
+
 # ---- the page
 
 
 def written(text):
     """The page with the quotes and the counts of the sources."""
-    text = QUOTE.sub(lambda it: "<!-- quote %s %s -->\n\n%s" % (it[1], it[2], quoted(it[1], it[2])), text)
+    text = QUOTE.sub(lambda it: "<!-- quote %s %s -->\n\n%s%s" % (it[1], it[2], quoted(it[1], it[2]), "" if it[3] else "\n"), text)
+    if kit_here():
+        text = KIT_TABLE.sub(lambda it: "<!-- kit -->\n\n" + kit_table(kit_here()), text)
     return SIZES.sub(lambda it: "<!-- sizes -->\n\n" + table(), text)
 
 
@@ -192,7 +254,9 @@ def cases():
     yield "the page quotes the headline", HEADLINE in [(file, name) for file, name, _ in quotes]
     for file, name, shown in quotes:
         yield "%s: %s" % (file, name), shown == quoted(file, name)
-    yield "the counts of definitions", [it for it in SIZES.findall(text)] == [table()]
+    yield "the counts of definitions", SIZES.findall(text) == [table()]
+    if kit_here():
+        yield "the counts of the kit", KIT_TABLE.findall(text) == [kit_table(kit_here())]
 
 
 if __name__ == "__main__":
