@@ -1,18 +1,23 @@
 #!/usr/bin/env python3
-"""The rules once more, in plain Python over SQLite's own tables: what is printed and kept is compared with it.
+"""The rules once more, in plain Python over SQLite's own tables. This is the reference and not the product: nothing here is proved.
 
-    reference.py run FILE < SCRIPT      FILE is `:memory:`, or is made where it isn't there
-    reference.py serve FILE PORT        answers over HTTP, on 127.0.0.1, until it is stopped
+    reference.py run FILE < SCRIPT          answers the lines of a script as `uptane_desk run` does
+    reference.py serve FILE PORT [COUNT]    serves 127.0.0.1:PORT as `uptane_desk serve` does, COUNT connections or for ever
 
-It needs no kit, is slow and short, and nothing of it is proved: what it prints is labelled so, on standard error. `serve` stands in for
-the service where a Primary is written. It has no limits of lines or of a script: those are tried by `tools/try/program_cases.py`. The tables are those of `docs/use/TABLES.md`; those of an older schema are raised.
+FILE is `:memory:`, or is made where it isn't there. What the product prints and keeps is compared with this program, and whoever
+writes a Primary can try it here, without the kit that builds the product. It needs Python's standard library alone.
+
+Its limits: it is slow; what outlasts a crash is what Python's `sqlite3` keeps by default; a script's lines have no limit, nor has
+their number; refusals 1 and 2 never come. The tables are those of `docs/use/TABLES.md`; those of an older schema are raised.
 """
 import hashlib
 import hmac
 import json
 import os
+import re
 import sqlite3
 import sys
+from contextlib import closing
 from datetime import datetime, timedelta
 from pathlib import Path
 
@@ -597,12 +602,6 @@ class Desk:
         self.in_range(line)
         return self.delivered(body, line["at"])
 
-    def reply_to(self, body, at):
-        """The reply to a manifest that is accepted, or was, as it goes over HTTP."""
-        self.delivered(body, at)
-        told = read_manifest(body)
-        return self.one("SELECT reply FROM kept WHERE vehicle = ? AND counter = ?", told["vehicle"], told["counter"])[0]
-
     def delivered(self, body, at):
         told = read_manifest(body)
         self.founded()
@@ -701,43 +700,45 @@ def opened(path):
     return desk
 
 
-def carried_out(desk, lines):
-    """Prints what the rules answer to each line."""
-    for line in lines:
+LABEL = "reference.py: this is the reference in plain Python and not the product; nothing here is proved\n"
+
+
+def run(desk):
+    """Answers the lines of standard input."""
+    for line in sys.stdin.buffer:
         line = line.removesuffix(b"\n")
         if line:
             sys.stdout.buffer.write(desk.answer(line).encode() + b"\n")
             sys.stdout.buffer.flush()
-
-
-def main(words):
-    if len(words) == 3 and words[0] == "serve" and words[2].isdecimal() or len(words) == 2 and words[0] == "run":
-        os.umask(0o077)
-    else:
-        print(__doc__, file=sys.stderr)
-        return 2
-    try:
-        desk = opened(words[1])
-    except sqlite3.Error:
-        print("reference: cannot open the database", file=sys.stderr)
-        return 3
-    print("reference: these answers are the independent rules' in Python, and not the proved program's", file=sys.stderr)
-    if words[0] == "run":
-        carried_out(desk, sys.stdin.buffer)
-    else:
-        import over_http
-
-        try:
-            over_http.serve(desk, int(words[2]))
-        except KeyboardInterrupt:
-            print("reference: stopped", file=sys.stderr)
-    desk.db.close()
     return 0
 
 
+def main(words):
+    number = re.compile("[1-9][0-9]{0,6}")
+    if words == ["--help"]:
+        print(__doc__.strip())
+        return 0
+    asked, *given = words or [None]
+    serves = asked == "serve" and len(given) in (2, 3) and all(map(number.fullmatch, given[1:])) and int(given[1]) < 65536
+    if not serves and (asked != "run" or len(given) != 1):
+        print(__doc__.strip(), file=sys.stderr)
+        return 2
+    os.umask(0o077)
+    sys.stderr.write(LABEL)
+    try:
+        desk = opened(given[0])
+    except sqlite3.Error:
+        print("uptane_desk: cannot open the database", file=sys.stderr)
+        return 3
+    with closing(desk.db):
+        if asked == "run":
+            return run(desk)
+        import reference_http
+
+        return reference_http.serve(desk, *map(int, given[1:]))
+
+
 if __name__ == "__main__":
-    if {"-h", "--help"} & {*sys.argv[1:]}:
-        sys.exit(print(__doc__))
-    # (what serves over HTTP takes the rules from here)
-    sys.modules["reference"] = sys.modules["__main__"]
-    sys.exit(main(sys.argv[1:]))
+    import reference
+
+    sys.exit(reference.main(sys.argv[1:]))

@@ -16,7 +16,7 @@ sys.dont_write_bytecode = True
 import trials
 from trials import TOP
 
-PAGES = ["README.md", "docs/**/*.md", "examples/**/README.md", "rows/README.md"]
+PAGES = ["README.md", "docs/**/*.md", "examples/**/README.md", "rows/README.md", "vectors/README.md"]
 
 
 def pages():
@@ -46,7 +46,7 @@ def links():
 def files():
     """The files and folders of the repository that the pages name, but for what is built."""
     for page in pages():
-        named = re.findall(r"`((?:tools|docs|rows|examples|crates|up_\w+)/[\w./-]*)`", page.read_text(encoding="utf-8"))
+        named = re.findall(r"`((?:tools|docs|rows|vectors|examples|crates|up_\w+)/[\w./-]*)`", page.read_text(encoding="utf-8"))
         for name in sorted(set(named)):
             if "/NAME/" not in name and "/out/" not in name:
                 yield "%s: the file %s" % (page.relative_to(TOP), name), any((top / name).exists() for top in (TOP, TOP / "crates"))
