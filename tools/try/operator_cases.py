@@ -366,7 +366,7 @@ def pages(program, own):
     yield "all vehicles are on the page", len(packed["vehicles"]) == 11 and packed["vehicles"][0][0] == "new" and packed["vehicles"][0][2] is None
     yield "nothing comes from outside", not re.search(r"(?:src|href)=\"(?!#)|url\(|@import|https?:", made)
     with trials.read(path) as db:
-        left = dict(db.execute(query("TABLES.md", "SELECT campaign.name, count(ecu.ecu)")))
+        left = dict(db.execute(query("use/TABLES.md", "SELECT campaign.name, count(ecu.ecu)")))
         secrets = [row[0].hex() for row in db.execute("SELECT secret FROM role_key UNION SELECT public_key FROM ecu")]
     with fleet_page.opened(path) as db:
         schema = fleet_page.meta_of(db)["schema"]

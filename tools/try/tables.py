@@ -65,7 +65,7 @@ def dumped(path, to):
 
 def by_the_page(path, to):
     """The page's own commands for a copy of a file and its log, where `sqlite3` is installed."""
-    commands = re.search(r"^    (sqlite3 FILE '\.backup BACKUP')\n    (python3 tools/page_sums\.py BACKUP)$",
+    commands = re.search(r"^    (sqlite3 FILE '\.backup BACKUP')\n    (python3 tools/operate/page_sums\.py BACKUP)$",
                          statements.PAGE.read_text(encoding="ascii"), re.M)
     if not shutil.which("sqlite3"):
         return shutil.copy(path, to)
