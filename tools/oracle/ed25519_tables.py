@@ -157,7 +157,7 @@ small{k} : AreAffine e{k}
 small{k} = record {{ plus = {small}; minus = {small}; t = {small} }}
 
 keeps{k} : Keeps e{k} p{k}
-keeps{k} = record {{ point = point{k}; plus_is = refl; minus_is = refl; t_is = refl }}
+keeps{k} = record {{ point = point{k}; holds = record {{ plus_is = refl; minus_is = refl; t_is = refl }} }}
 
 '''
     text += f'abbrev pub table : List Affine\ntable = {" ∷ ".join(f"e{k}" for k in range(ENTRIES))} ∷ []\n\n'

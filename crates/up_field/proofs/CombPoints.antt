@@ -225,7 +225,7 @@ small0 : AreAffine e0
 small0 = record { plus = record { l0 = lit< tt; l1 = lit< tt; l2 = lit< tt; l3 = lit< tt; l4 = lit< tt }; minus = record { l0 = lit< tt; l1 = lit< tt; l2 = lit< tt; l3 = lit< tt; l4 = lit< tt }; t = record { l0 = lit< tt; l1 = lit< tt; l2 = lit< tt; l3 = lit< tt; l4 = lit< tt } }
 
 keeps0 : Keeps e0 p0
-keeps0 = record { point = point0; plus_is = refl; minus_is = refl; t_is = refl }
+keeps0 = record { point = point0; holds = record { plus_is = refl; minus_is = refl; t_is = refl } }
 
 abbrev pub e1 : Affine
 e1 = record { plus = record { l0 = 1288382639258501; l1 = 245678601348599; l2 = 269427782077623; l3 = 1462984067271730; l4 = 137412439391563 }; minus = record { l0 = 62697248952638; l1 = 204681361388450; l2 = 631292143396476; l3 = 338455783676468; l4 = 1213667448819585 }; t = record { l0 = 301289933810280; l1 = 1259582250014073; l2 = 1422107436869536; l3 = 796239922652654; l4 = 1953934009299142 } }
@@ -234,7 +234,7 @@ small1 : AreAffine e1
 small1 = record { plus = record { l0 = lit< tt; l1 = lit< tt; l2 = lit< tt; l3 = lit< tt; l4 = lit< tt }; minus = record { l0 = lit< tt; l1 = lit< tt; l2 = lit< tt; l3 = lit< tt; l4 = lit< tt }; t = record { l0 = lit< tt; l1 = lit< tt; l2 = lit< tt; l3 = lit< tt; l4 = lit< tt } }
 
 keeps1 : Keeps e1 p1
-keeps1 = record { point = point1; plus_is = refl; minus_is = refl; t_is = refl }
+keeps1 = record { point = point1; holds = record { plus_is = refl; minus_is = refl; t_is = refl } }
 
 abbrev pub e2 : Affine
 e2 = record { plus = record { l0 = 674994775520533; l1 = 266035846330789; l2 = 826951213393478; l3 = 1405007746162285; l4 = 1781791018620876 }; minus = record { l0 = 1001412661522686; l1 = 348196197067298; l2 = 1666614366723946; l3 = 888424995032760; l4 = 580747687801357 }; t = record { l0 = 1939560076207777; l1 = 1409892634407635; l2 = 552574736069277; l3 = 383854338280405; l4 = 190706709864139 } }
@@ -243,7 +243,7 @@ small2 : AreAffine e2
 small2 = record { plus = record { l0 = lit< tt; l1 = lit< tt; l2 = lit< tt; l3 = lit< tt; l4 = lit< tt }; minus = record { l0 = lit< tt; l1 = lit< tt; l2 = lit< tt; l3 = lit< tt; l4 = lit< tt }; t = record { l0 = lit< tt; l1 = lit< tt; l2 = lit< tt; l3 = lit< tt; l4 = lit< tt } }
 
 keeps2 : Keeps e2 p2
-keeps2 = record { point = point2; plus_is = refl; minus_is = refl; t_is = refl }
+keeps2 = record { point = point2; holds = record { plus_is = refl; minus_is = refl; t_is = refl } }
 
 abbrev pub e3 : Affine
 e3 = record { plus = record { l0 = 1624551517477352; l1 = 1526985457926154; l2 = 307387355253968; l3 = 2134835142682751; l4 = 684641650770236 }; minus = record { l0 = 1610469333033636; l1 = 190191412902254; l2 = 84713275875775; l3 = 2137341296211524; l4 = 166418598394898 }; t = record { l0 = 2008824292288323; l1 = 46584143137913; l2 = 507559506280054; l3 = 832440290011221; l4 = 1464991944925036 } }
@@ -252,7 +252,7 @@ small3 : AreAffine e3
 small3 = record { plus = record { l0 = lit< tt; l1 = lit< tt; l2 = lit< tt; l3 = lit< tt; l4 = lit< tt }; minus = record { l0 = lit< tt; l1 = lit< tt; l2 = lit< tt; l3 = lit< tt; l4 = lit< tt }; t = record { l0 = lit< tt; l1 = lit< tt; l2 = lit< tt; l3 = lit< tt; l4 = lit< tt } }
 
 keeps3 : Keeps e3 p3
-keeps3 = record { point = point3; plus_is = refl; minus_is = refl; t_is = refl }
+keeps3 = record { point = point3; holds = record { plus_is = refl; minus_is = refl; t_is = refl } }
 
 abbrev pub e4 : Affine
 e4 = record { plus = record { l0 = 849646212452002; l1 = 1410198775302919; l2 = 73767886183695; l3 = 1641663456615812; l4 = 762256272452411 }; minus = record { l0 = 692017667358279; l1 = 723305578826727; l2 = 1638042139863265; l3 = 748219305990306; l4 = 334589200523901 }; t = record { l0 = 22893968530686; l1 = 2235758574399251; l2 = 1661465835630252; l3 = 925707319443452; l4 = 1203475116966621 } }
@@ -261,7 +261,7 @@ small4 : AreAffine e4
 small4 = record { plus = record { l0 = lit< tt; l1 = lit< tt; l2 = lit< tt; l3 = lit< tt; l4 = lit< tt }; minus = record { l0 = lit< tt; l1 = lit< tt; l2 = lit< tt; l3 = lit< tt; l4 = lit< tt }; t = record { l0 = lit< tt; l1 = lit< tt; l2 = lit< tt; l3 = lit< tt; l4 = lit< tt } }
 
 keeps4 : Keeps e4 p4
-keeps4 = record { point = point4; plus_is = refl; minus_is = refl; t_is = refl }
+keeps4 = record { point = point4; holds = record { plus_is = refl; minus_is = refl; t_is = refl } }
 
 abbrev pub e5 : Affine
 e5 = record { plus = record { l0 = 43490364647240; l1 = 1154582803571747; l2 = 544010818846709; l3 = 1872445365496035; l4 = 679581506667843 }; minus = record { l0 = 612681709205998; l1 = 577909637326122; l2 = 1077262725499029; l3 = 588719574575702; l4 = 1299033186866215 }; t = record { l0 = 635739135469085; l1 = 237950402249375; l2 = 1889811722171621; l3 = 1936318337365715; l4 = 1374368030166990 } }
@@ -270,7 +270,7 @@ small5 : AreAffine e5
 small5 = record { plus = record { l0 = lit< tt; l1 = lit< tt; l2 = lit< tt; l3 = lit< tt; l4 = lit< tt }; minus = record { l0 = lit< tt; l1 = lit< tt; l2 = lit< tt; l3 = lit< tt; l4 = lit< tt }; t = record { l0 = lit< tt; l1 = lit< tt; l2 = lit< tt; l3 = lit< tt; l4 = lit< tt } }
 
 keeps5 : Keeps e5 p5
-keeps5 = record { point = point5; plus_is = refl; minus_is = refl; t_is = refl }
+keeps5 = record { point = point5; holds = record { plus_is = refl; minus_is = refl; t_is = refl } }
 
 abbrev pub e6 : Affine
 e6 = record { plus = record { l0 = 1976084982269004; l1 = 1732219114382012; l2 = 1273924360042226; l3 = 1638447558191465; l4 = 1378073021840475 }; minus = record { l0 = 255596122239004; l1 = 352339914129344; l2 = 12835213505392; l3 = 429224882251142; l4 = 2013214870468725 }; t = record { l0 = 285903756928030; l1 = 1502285098570926; l2 = 732736377395134; l3 = 16489309384240; l4 = 1776585086630844 } }
@@ -279,7 +279,7 @@ small6 : AreAffine e6
 small6 = record { plus = record { l0 = lit< tt; l1 = lit< tt; l2 = lit< tt; l3 = lit< tt; l4 = lit< tt }; minus = record { l0 = lit< tt; l1 = lit< tt; l2 = lit< tt; l3 = lit< tt; l4 = lit< tt }; t = record { l0 = lit< tt; l1 = lit< tt; l2 = lit< tt; l3 = lit< tt; l4 = lit< tt } }
 
 keeps6 : Keeps e6 p6
-keeps6 = record { point = point6; plus_is = refl; minus_is = refl; t_is = refl }
+keeps6 = record { point = point6; holds = record { plus_is = refl; minus_is = refl; t_is = refl } }
 
 abbrev pub e7 : Affine
 e7 = record { plus = record { l0 = 2067959909683402; l1 = 1867947096114973; l2 = 293953999856021; l3 = 976109304530914; l4 = 1956359328693512 }; minus = record { l0 = 1068399834225668; l1 = 1768431156523646; l2 = 231311706834942; l3 = 2171449007688551; l4 = 199667541915721 }; t = record { l0 = 2183123500725897; l1 = 271189499265593; l2 = 49911848781080; l3 = 954398874280800; l4 = 1145770758314694 } }
@@ -288,7 +288,7 @@ small7 : AreAffine e7
 small7 = record { plus = record { l0 = lit< tt; l1 = lit< tt; l2 = lit< tt; l3 = lit< tt; l4 = lit< tt }; minus = record { l0 = lit< tt; l1 = lit< tt; l2 = lit< tt; l3 = lit< tt; l4 = lit< tt }; t = record { l0 = lit< tt; l1 = lit< tt; l2 = lit< tt; l3 = lit< tt; l4 = lit< tt } }
 
 keeps7 : Keeps e7 p7
-keeps7 = record { point = point7; plus_is = refl; minus_is = refl; t_is = refl }
+keeps7 = record { point = point7; holds = record { plus_is = refl; minus_is = refl; t_is = refl } }
 
 abbrev pub e8 : Affine
 e8 = record { plus = record { l0 = 1632352921721536; l1 = 1833328609514701; l2 = 2092779091951987; l3 = 1923956201873226; l4 = 2210068022482919 }; minus = record { l0 = 35271216625062; l1 = 1712350667021807; l2 = 983664255668860; l3 = 98571260373038; l4 = 1232645608559836 }; t = record { l0 = 1998172393429622; l1 = 1798947921427073; l2 = 784387737563581; l3 = 1589352214827263; l4 = 1589861734168180 } }
@@ -297,7 +297,7 @@ small8 : AreAffine e8
 small8 = record { plus = record { l0 = lit< tt; l1 = lit< tt; l2 = lit< tt; l3 = lit< tt; l4 = lit< tt }; minus = record { l0 = lit< tt; l1 = lit< tt; l2 = lit< tt; l3 = lit< tt; l4 = lit< tt }; t = record { l0 = lit< tt; l1 = lit< tt; l2 = lit< tt; l3 = lit< tt; l4 = lit< tt } }
 
 keeps8 : Keeps e8 p8
-keeps8 = record { point = point8; plus_is = refl; minus_is = refl; t_is = refl }
+keeps8 = record { point = point8; holds = record { plus_is = refl; minus_is = refl; t_is = refl } }
 
 abbrev pub e9 : Affine
 e9 = record { plus = record { l0 = 1513031291027956; l1 = 978071895671121; l2 = 208058517387971; l3 = 809704200414172; l4 = 1224866842150897 }; minus = record { l0 = 957477013287300; l1 = 598383368855518; l2 = 1480617869813032; l3 = 243153616547584; l4 = 1127270065810741 }; t = record { l0 = 706833218037196; l1 = 2150959833208736; l2 = 830826272712275; l3 = 2013934446799999; l4 = 1268996877688582 } }
@@ -306,7 +306,7 @@ small9 : AreAffine e9
 small9 = record { plus = record { l0 = lit< tt; l1 = lit< tt; l2 = lit< tt; l3 = lit< tt; l4 = lit< tt }; minus = record { l0 = lit< tt; l1 = lit< tt; l2 = lit< tt; l3 = lit< tt; l4 = lit< tt }; t = record { l0 = lit< tt; l1 = lit< tt; l2 = lit< tt; l3 = lit< tt; l4 = lit< tt } }
 
 keeps9 : Keeps e9 p9
-keeps9 = record { point = point9; plus_is = refl; minus_is = refl; t_is = refl }
+keeps9 = record { point = point9; holds = record { plus_is = refl; minus_is = refl; t_is = refl } }
 
 abbrev pub e10 : Affine
 e10 = record { plus = record { l0 = 1102601618651136; l1 = 168574779352960; l2 = 183695185074645; l3 = 616946818421813; l4 = 1381369847203413 }; minus = record { l0 = 1707862135235468; l1 = 1448299987051099; l2 = 1737565776947498; l3 = 1304206957432509; l4 = 1895084066322871 }; t = record { l0 = 534666619113990; l1 = 477516486190409; l2 = 1879385259178983; l3 = 507597852931190; l4 = 577208567140030 } }
@@ -315,7 +315,7 @@ small10 : AreAffine e10
 small10 = record { plus = record { l0 = lit< tt; l1 = lit< tt; l2 = lit< tt; l3 = lit< tt; l4 = lit< tt }; minus = record { l0 = lit< tt; l1 = lit< tt; l2 = lit< tt; l3 = lit< tt; l4 = lit< tt }; t = record { l0 = lit< tt; l1 = lit< tt; l2 = lit< tt; l3 = lit< tt; l4 = lit< tt } }
 
 keeps10 : Keeps e10 p10
-keeps10 = record { point = point10; plus_is = refl; minus_is = refl; t_is = refl }
+keeps10 = record { point = point10; holds = record { plus_is = refl; minus_is = refl; t_is = refl } }
 
 abbrev pub e11 : Affine
 e11 = record { plus = record { l0 = 720517454060616; l1 = 607480198207866; l2 = 827407211919370; l3 = 1199685798519884; l4 = 2182635895518576 }; minus = record { l0 = 1288206469201354; l1 = 555756591632310; l2 = 1680553993845476; l3 = 930757093821978; l4 = 38852869261716 }; t = record { l0 = 1952710661917699; l1 = 711997964461086; l2 = 676721971764266; l3 = 635229866099198; l4 = 999593920499809 } }
@@ -324,7 +324,7 @@ small11 : AreAffine e11
 small11 = record { plus = record { l0 = lit< tt; l1 = lit< tt; l2 = lit< tt; l3 = lit< tt; l4 = lit< tt }; minus = record { l0 = lit< tt; l1 = lit< tt; l2 = lit< tt; l3 = lit< tt; l4 = lit< tt }; t = record { l0 = lit< tt; l1 = lit< tt; l2 = lit< tt; l3 = lit< tt; l4 = lit< tt } }
 
 keeps11 : Keeps e11 p11
-keeps11 = record { point = point11; plus_is = refl; minus_is = refl; t_is = refl }
+keeps11 = record { point = point11; holds = record { plus_is = refl; minus_is = refl; t_is = refl } }
 
 abbrev pub e12 : Affine
 e12 = record { plus = record { l0 = 19434968389087; l1 = 207076853941373; l2 = 1536437311607860; l3 = 1960823782616275; l4 = 74693193622004 }; minus = record { l0 = 360583023505943; l1 = 913101360832216; l2 = 290133816985316; l3 = 1019327942622904; l4 = 408764831560784 }; t = record { l0 = 539175473248708; l1 = 218177540040622; l2 = 656729648789984; l3 = 626089599215185; l4 = 530681902502860 } }
@@ -333,7 +333,7 @@ small12 : AreAffine e12
 small12 = record { plus = record { l0 = lit< tt; l1 = lit< tt; l2 = lit< tt; l3 = lit< tt; l4 = lit< tt }; minus = record { l0 = lit< tt; l1 = lit< tt; l2 = lit< tt; l3 = lit< tt; l4 = lit< tt }; t = record { l0 = lit< tt; l1 = lit< tt; l2 = lit< tt; l3 = lit< tt; l4 = lit< tt } }
 
 keeps12 : Keeps e12 p12
-keeps12 = record { point = point12; plus_is = refl; minus_is = refl; t_is = refl }
+keeps12 = record { point = point12; holds = record { plus_is = refl; minus_is = refl; t_is = refl } }
 
 abbrev pub e13 : Affine
 e13 = record { plus = record { l0 = 580253644521759; l1 = 2166439502965763; l2 = 2050597718253297; l3 = 1569348392261003; l4 = 1685225962758693 }; minus = record { l0 = 1418065946999716; l1 = 1900696495367712; l2 = 281965076297421; l3 = 1048710476094761; l4 = 75198959262510 }; t = record { l0 = 1447702841270623; l1 = 1365072883581313; l2 = 100552305147456; l3 = 782413237562040; l4 = 220597030603790 } }
@@ -342,7 +342,7 @@ small13 : AreAffine e13
 small13 = record { plus = record { l0 = lit< tt; l1 = lit< tt; l2 = lit< tt; l3 = lit< tt; l4 = lit< tt }; minus = record { l0 = lit< tt; l1 = lit< tt; l2 = lit< tt; l3 = lit< tt; l4 = lit< tt }; t = record { l0 = lit< tt; l1 = lit< tt; l2 = lit< tt; l3 = lit< tt; l4 = lit< tt } }
 
 keeps13 : Keeps e13 p13
-keeps13 = record { point = point13; plus_is = refl; minus_is = refl; t_is = refl }
+keeps13 = record { point = point13; holds = record { plus_is = refl; minus_is = refl; t_is = refl } }
 
 abbrev pub e14 : Affine
 e14 = record { plus = record { l0 = 1974402507673676; l1 = 882136779895228; l2 = 1009014736731625; l3 = 955850215000974; l4 = 1891537016310846 }; minus = record { l0 = 658283382178240; l1 = 1556393101922106; l2 = 1353400129847034; l3 = 1518784872812195; l4 = 173597198767128 }; t = record { l0 = 299015353690239; l1 = 1862832265381758; l2 = 1574557382798248; l3 = 393016605971214; l4 = 1605728866155300 } }
@@ -351,7 +351,7 @@ small14 : AreAffine e14
 small14 = record { plus = record { l0 = lit< tt; l1 = lit< tt; l2 = lit< tt; l3 = lit< tt; l4 = lit< tt }; minus = record { l0 = lit< tt; l1 = lit< tt; l2 = lit< tt; l3 = lit< tt; l4 = lit< tt }; t = record { l0 = lit< tt; l1 = lit< tt; l2 = lit< tt; l3 = lit< tt; l4 = lit< tt } }
 
 keeps14 : Keeps e14 p14
-keeps14 = record { point = point14; plus_is = refl; minus_is = refl; t_is = refl }
+keeps14 = record { point = point14; holds = record { plus_is = refl; minus_is = refl; t_is = refl } }
 
 abbrev pub e15 : Affine
 e15 = record { plus = record { l0 = 1947678682101826; l1 = 1878035172254319; l2 = 2220061782146417; l3 = 2217908592949176; l4 = 168580241144975 }; minus = record { l0 = 223526682294332; l1 = 2053829608920149; l2 = 443715593885467; l3 = 2137358094142851; l4 = 1136571521588332 }; t = record { l0 = 1475241864024260; l1 = 198730833103002; l2 = 1451341358868044; l3 = 1885102241829164; l4 = 1859920730277463 } }
@@ -360,7 +360,7 @@ small15 : AreAffine e15
 small15 = record { plus = record { l0 = lit< tt; l1 = lit< tt; l2 = lit< tt; l3 = lit< tt; l4 = lit< tt }; minus = record { l0 = lit< tt; l1 = lit< tt; l2 = lit< tt; l3 = lit< tt; l4 = lit< tt }; t = record { l0 = lit< tt; l1 = lit< tt; l2 = lit< tt; l3 = lit< tt; l4 = lit< tt } }
 
 keeps15 : Keeps e15 p15
-keeps15 = record { point = point15; plus_is = refl; minus_is = refl; t_is = refl }
+keeps15 = record { point = point15; holds = record { plus_is = refl; minus_is = refl; t_is = refl } }
 
 abbrev pub table : List Affine
 table = e0 ∷ e1 ∷ e2 ∷ e3 ∷ e4 ∷ e5 ∷ e6 ∷ e7 ∷ e8 ∷ e9 ∷ e10 ∷ e11 ∷ e12 ∷ e13 ∷ e14 ∷ e15 ∷ []

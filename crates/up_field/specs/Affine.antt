@@ -1,5 +1,5 @@
 -- Points by their coordinates, made ready for sums.
-use Rattle.std.specs.Prelude.{◌≡◌, ◌+◌, ◌*◌, ◌-◌, ◌%◌}
+use Rattle.std.specs.Prelude.{◌≡◌, ℕ, ◌+◌, ◌*◌, ◌-◌, ◌%◌}
 use Rattle.up_curve.specs.Field.{p}
 use Rattle.up_curve.specs.Curve.{d, Point}
 use Rattle.up_curve.specs.Points.{IsPoint}
@@ -12,9 +12,13 @@ pub record AreAffine (q : Affine) : Type 0 where
   pub minus : IsTight q.minus
   pub t : IsTight q.t
 
--- it has y + x, y - x and 2 d x y of the point
+-- it has y + x, y - x and 2 d t of x, y and t
+pub record Holds (q : Affine) (x y t : ℕ) : Type 0 where
+  pub plus_is : number q.plus % p ≡ (y + x) % p
+  pub minus_is : number q.minus % p ≡ (y + (p - 1) * x) % p
+  pub t_is : number q.t % p ≡ (2 * d * t) % p
+
+-- it is made of the point's coordinates and their product
 pub record Keeps (q : Affine) (a : Point) : Type 0 where
   pub point : IsPoint a
-  pub plus_is : number q.plus % p ≡ (a.y + a.x) % p
-  pub minus_is : number q.minus % p ≡ (a.y + (p - 1) * a.x) % p
-  pub t_is : number q.t % p ≡ (2 * d * (a.x * a.y)) % p
+  pub holds : Holds q a.x a.y (a.x * a.y)

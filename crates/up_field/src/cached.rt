@@ -6,6 +6,7 @@ ghost use Rattle.up_field.specs.Points.{AreTight, IsTight, number, Writes};
 ghost use Rattle.up_curve.specs.Curve.{d};
 ghost use Rattle.up_curve.specs.Curve.{Point, add as add_of};
 
+use crate::affine::{Affine, summed};
 use crate::limbs::{Field, add, sub, weak};
 use crate::points::Extended;
 use crate::products::mul;
@@ -55,21 +56,13 @@ pub(crate) fn sum_cached(a: Extended, b: Cached) -> Extended
     ensures limits { AreTight result }
     ensures writes { (m n : Point) → Writes a m → Stores b n → Writes result (add_of m n) }
 {
-    let i = sub(a.y, a.x);
-    let j = add(a.y, a.x);
-    let s = mul(i, b.minus);
-    let u = mul(j, b.plus);
-    let c = mul(a.t, b.t);
     let z = mul(a.z, b.z);
-    let e = sub(u, s);
-    let f = sub(z, c);
-    let g = add(z, c);
-    let h = add(u, s);
-    let x = mul(e, f);
-    let y = mul(g, h);
-    let w = mul(f, g);
-    let t = mul(e, h);
-    Extended { x, y, z: w, t }
+    let q = Affine {
+        plus: b.plus,
+        minus: b.minus,
+        t: b.t,
+    };
+    summed(a, q, z)
 }
 
 /// The sum of two points.

@@ -11,7 +11,7 @@ ghost use Rattle.up_field.specs.Decoded.{IsReduced, IsRoot, IsMaybe};
 
 use crate::bytes::{from_bytes, split};
 use crate::canonical::{are_same, canonical, is_reduced, is_zero};
-use crate::limbs::{Field, add, sub, weak};
+use crate::limbs::{Field, add, one, sub, weak, zero};
 use crate::points::Extended;
 use crate::power::root_power;
 use crate::products::{mul, square};
@@ -27,34 +27,6 @@ pub fn decode(bytes: &[u8]) -> Option<Extended>
         with_sign(y, sign)
     } else {
         None
-    }
-}
-
-#[inline(always)]
-fn zero() -> Field
-    ensures limit { IsTight result }
-    ensures value { number result ≡ 0 }
-{
-    Field {
-        l0: 0,
-        l1: 0,
-        l2: 0,
-        l3: 0,
-        l4: 0,
-    }
-}
-
-#[inline(always)]
-fn one() -> Field
-    ensures limit { IsTight result }
-    ensures value { number result ≡ 1 }
-{
-    Field {
-        l0: 1,
-        l1: 0,
-        l2: 0,
-        l3: 0,
-        l4: 0,
     }
 }
 

@@ -2,6 +2,7 @@
 ghost use Rattle.std.specs.Prelude.{◌≡◌, ◌+◌, ◌*◌, ◌%◌, ◌<◌, ◌≤◌, ◌^◌};
 ghost use Rattle.up_curve.specs.Field.{p};
 ghost use Rattle.up_field.specs.Limbs.{limbs, AreBelow};
+ghost use Rattle.up_field.specs.Points.{IsTight, number};
 
 /// A number in five limbs of 51 bits, the least first, each with some bits to spare.
 #[derive(Clone, Copy)]
@@ -11,6 +12,36 @@ pub struct Field {
     pub l2: u64,
     pub l3: u64,
     pub l4: u64,
+}
+
+/// The number 0.
+#[inline(always)]
+pub(crate) fn zero() -> Field
+    ensures limit { IsTight result }
+    ensures value { number result ≡ 0 }
+{
+    Field {
+        l0: 0,
+        l1: 0,
+        l2: 0,
+        l3: 0,
+        l4: 0,
+    }
+}
+
+/// The number 1.
+#[inline(always)]
+pub(crate) fn one() -> Field
+    ensures limit { IsTight result }
+    ensures value { number result ≡ 1 }
+{
+    Field {
+        l0: 1,
+        l1: 0,
+        l2: 0,
+        l3: 0,
+        l4: 0,
+    }
 }
 
 /// The sum of two numbers.

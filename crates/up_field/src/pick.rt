@@ -4,7 +4,7 @@ ghost use Rattle.up_field.specs.Affine.{AreAffine};
 ghost use Rattle.up_field.specs.Comb.{AllAffine, IsClear};
 
 use crate::affine::Affine;
-use crate::limbs::{Field, merged};
+use crate::limbs::{merged, zero};
 
 /// An entry of a table, by reading all of them.
 pub(crate) fn pick(table: &[Affine; 16], k: u64) -> Affine
@@ -57,16 +57,10 @@ fn merged_entries(bit: u64, a: Affine, r: Affine) -> Affine
 fn clear() -> Affine
     ensures { IsClear result }
 {
-    let zero = Field {
-        l0: 0,
-        l1: 0,
-        l2: 0,
-        l3: 0,
-        l4: 0,
-    };
+    let n = zero();
     Affine {
-        plus: zero,
-        minus: zero,
-        t: zero,
+        plus: n,
+        minus: n,
+        t: n,
     }
 }

@@ -1,10 +1,10 @@
 //! Points of the curve, in extended homogeneous coordinates (RFC 8032, section 5.1.4).
 ghost use Rattle.std.specs.Prelude.{◌≡◌, ◌%◌, ◌*◌, ◌+◌};
 ghost use Rattle.up_curve.specs.Field.{p};
-ghost use Rattle.up_field.specs.Points.{AreTight, IsTight, number, Writes};
+ghost use Rattle.up_field.specs.Points.{AreProducts, AreSides, AreTight, Writes};
 ghost use Rattle.up_curve.specs.Curve.{Point, add as add_of, neutral as neutral_point, base as base_point};
 
-use crate::limbs::{Field, add, sub, weak};
+use crate::limbs::{Field, add, one, sub, weak, zero};
 use crate::products::{mul, square};
 
 /// A point.
@@ -21,25 +21,13 @@ pub fn neutral() -> Extended
     ensures limits { AreTight result }
     ensures writes { Writes result neutral_point }
 {
-    let zero = Field {
-        l0: 0,
-        l1: 0,
-        l2: 0,
-        l3: 0,
-        l4: 0,
-    };
-    let one = Field {
-        l0: 1,
-        l1: 0,
-        l2: 0,
-        l3: 0,
-        l4: 0,
-    };
+    let o = one();
+    let n = zero();
     Extended {
-        x: zero,
-        y: one,
-        z: one,
-        t: zero,
+        x: n,
+        y: o,
+        z: o,
+        t: n,
     }
 }
 
@@ -96,9 +84,20 @@ pub(crate) fn twice(a: Extended) -> Extended
     let e = sub(h, q);
     let g = weak(sub(s, u));
     let f = add(c, g);
-    let x = mul(e, f);
-    let y = mul(g, h);
-    let w = mul(f, g);
-    let t = mul(e, h);
-    Extended { x, y, z: w, t }
+    completed(e, f, g, h)
+}
+
+/// The point of the last four factors of a formula, E, F, G and H (RFC 8032, section 5.1.4).
+#[inline(always)]
+pub(crate) fn completed(e: Field, f: Field, g: Field, h: Field) -> Extended
+    requires { AreSides e f g h }
+    ensures limits { AreTight result }
+    ensures values { AreProducts result e f g h }
+{
+    Extended {
+        x: mul(e, f),
+        y: mul(g, h),
+        z: mul(f, g),
+        t: mul(e, h),
+    }
 }
