@@ -10,6 +10,7 @@ mod image_rows;
 mod images;
 mod kept_rows;
 mod keys;
+pub mod latest_root;
 pub mod laws;
 mod manifests;
 mod replaced;
