@@ -1,17 +1,20 @@
 #!/usr/bin/env python3
 """Looks through a script before it is given to the program. It runs nothing, and needs neither the program nor a database.
 
-    check_script.py [SCRIPT] [--now SECONDS] [--far DAYS]
+    check_script.py [SCRIPT] [--now SECONDS] [--far DAYS] [--final]
 
 SCRIPT is a file; without it standard input is read. For each line in which something is amiss a line is printed:
 
     line 7: fault: needs: a list of 0 to 16 ..      the program would refuse the line, whatever it has done before
     line 8: look: need: no such member; needs?      the program would take the line, but hardly as it was meant
+    line 9: final: version: .. none is above it     the program would take the line, and no later line undoes it
 
 Looked for are: what is no JSON, words and members that the program doesn't know (it ignores a member that it doesn't know, so a
 misspelt `needs` is an image without needs for good), members that are missing, of a wrong kind or outside their limits, names
 past their limits, members that stand twice, moments more than a day (or DAYS) from now, moments that go back, a key that stands
-twice, and lines and scripts that are too long. Whether a vehicle or an image is there, only the program can tell.
+twice, and lines and scripts that are too long. Final are a version of the Image repository, a release of an image and a counter near
+their end, behind which no further one comes, and a filename that leaves the folder in which a Primary puts images; `--final` calls
+them `look`. Whether a vehicle or an image is there, only the program can tell.
 
 The status is 0 where nothing is amiss, 1 where something is, and 2 where the script can't be read. Words and members are those
 that `docs/integrate/FORMATS.md` lists.
@@ -26,10 +29,12 @@ from pathlib import Path
 
 sys.dont_write_bytecode = True
 
-from formats import COUNT, FILE, HASH, IDENT, KEY, LAST_AT, LAST_MOMENT, LIST, NOTE, OBJECT, REPOSITORIES, ROLES, SECOND_HASH, is_count, value_of
+from formats import COUNT, FILE, HASH, IDENT, KEY, LAST_AT, LAST_MOMENT, LIST, MOST, NOTE, OBJECT, REPOSITORIES, ROLES, SECOND_HASH, is_count, value_of
 
 PAGE = Path(__file__).resolve().parents[2] / "docs" / "integrate" / "FORMATS.md"
 LONGEST, MOST_LINES, DAY = 2_097_152, 100_000, 86400
+# so many numbers have to be left behind a version, a release or a counter; a version above the second is hardly meant
+LEFT, HIGH_VERSION = 1_000_000, 1_000_000
 A_NAME = "1 to 64 bytes of A-Z a-z 0-9 . _ -"
 A_FILE = "1 to 128 bytes of A-Z a-z 0-9 . _ - /"
 A_COUNT = "a whole number from 0 to 2^53-1"
@@ -101,6 +106,9 @@ class Line:
     def look(self, name, words):
         self.found.append("look: %s: %s" % (name, words))
 
+    def final(self, name, words):
+        self.found.append("final: %s: %s" % (name, words))
+
     def unknown(self, value, known, within=""):
         for name in value:
             if name not in known:
@@ -165,6 +173,26 @@ class Line:
         if asked["do"] == "add_image" and isinstance(asked.get("conflicts"), list) and asked.get("file") in asked["conflicts"]:
             self.fault("conflicts", "an image doesn't conflict with itself")
 
+    def last(self, asked):
+        """What would be taken, and leaves nothing that comes after it."""
+        word, ends = asked["do"], lambda value: is_count(value, MOST - LEFT + 1)
+        if word == "refresh" and ends(asked.get("version")):
+            self.final("version", "none is above it: no image, no keys and no new files could follow, and all metadata would expire for good")
+        elif word == "refresh" and is_count(asked.get("version"), HIGH_VERSION + 1):
+            self.look("version", "above 1,000,000; it never goes back")
+        if word == "add_image" and ends(asked.get("release")):
+            self.final("release", "none is above it: this hardware could get no further image")
+        if word == "add_image" and FILE(asked.get("file")):
+            parts = asked["file"].split("/")
+            if parts[0] == "" or ".." in parts:
+                self.final("file", "it leaves the folder in which a Primary puts images")
+            elif "" in parts or "." in parts:
+                self.look("file", "a part of its path is empty, or is a point")
+        if word == "bench":
+            reports = [it.get("counter") for it in asked["reports"]] if self.whole(asked, "reports") else []
+            if any(map(ends, [asked.get("counter"), *reports])):
+                self.final("counter", "none is above it: the vehicle's next manifests would be stale for good")
+
     @staticmethod
     def whole(asked, name):
         return isinstance(asked.get(name), list) and all(isinstance(it, dict) for it in asked[name])
@@ -216,6 +244,7 @@ def checked(text, before, now, far):
     if "director" in known:
         line.roles(asked)
     line.together(asked)
+    line.last(asked)
     at = asked["at"] if COUNT(asked.get("at")) else None
     if at is not None:
         line.moment(at, before, now, far)
@@ -240,6 +269,7 @@ def main():
     parser.add_argument("script", nargs="?", type=Path)
     parser.add_argument("--now", type=int, default=None)
     parser.add_argument("--far", type=float, default=1, help="days from now that a moment may be")
+    parser.add_argument("--final", action="store_true", help="what can't be undone is only to be looked at")
     given = parser.parse_args()
     try:
         script = given.script.read_bytes() if given.script else sys.stdin.buffer.read()
@@ -248,6 +278,7 @@ def main():
         return 2
     now = int(time.time()) if given.now is None else given.now
     found = list(amiss(script, now, given.far * DAY))
+    found = [it.replace(": final: ", ": look: ", 1) if given.final else it for it in found]
     print("\n".join(found), end="\n" * bool(found))
     return 1 if found else 0
 

@@ -120,6 +120,7 @@ def hashes_of(path, names):
 def new_image(given):
     name = given.file or given.image.name
     need(FILE(name), "%s: a filename has 1 to 128 bytes of A-Z a-z 0-9 . _ - /", name)
+    need(name[0] != "/" and ".." not in name.split("/"), "%s: it leaves the folder in which a Primary puts images", name)
     for one in given.hardware + [hardware for hardware, _ in given.needs]:
         need(IDENT(one), "%s: hardware has 1 to 64 bytes of A-Z a-z 0-9 . _ -", one)
     need(len(given.hardware) <= 16 and len(set(given.hardware)) == len(given.hardware), "hardware: 1 to 16 names, none twice")

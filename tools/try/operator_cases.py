@@ -148,6 +148,14 @@ AMISS = [
     (fleet.line("replace_ecu", NOW, vehicle="v", old="b", ecu="a", hardware=["HP"], key=fleet.key(1)), "fault: hardware: " + check_script.A_NAME),
     (fleet.line("show", NOW, vehicle=65 * "v"), "fault: vehicle: 1 to 64 bytes of A-Z a-z 0-9 . _ -"),
     (fleet.line("found", NOW, **KEYS | {"image": KEYS["director"]}), "look: keys: a key stands in two roles: whoever has it can sign for both"),
+    (fleet.line("refresh", NOW, version=2**53 - 1), "final: version: none is above it: no image, no keys and no new files could follow, and all metadata would expire for good"),
+    (fleet.line("refresh", NOW, version=2**53 - 10**6), "final: version: none is above it: no image, no keys and no new files could follow, and all metadata would expire for good"),
+    (fleet.line("refresh", NOW, version=2**53 - 1 - 10**6), "look: version: above 1,000,000; it never goes back"),
+    (fleet.line("add_image", NOW, **IMAGE | {"release": 2**53 - 1}), "final: release: none is above it: this hardware could get no further image"),
+    (fleet.line("add_image", NOW, **IMAGE | {"file": "/etc/passwd"}), "final: file: it leaves the folder in which a Primary puts images"),
+    (fleet.line("add_image", NOW, **IMAGE | {"file": "a/../../b"}), "final: file: it leaves the folder in which a Primary puts images"),
+    (fleet.line("add_image", NOW, **IMAGE | {"file": "a//b"}), "look: file: a part of its path is empty, or is a point"),
+    (fleet.line("bench", NOW, vehicle="v", primary="a", key=fleet.key(1), counter=2**53 - 1, reports=[]), "final: counter: none is above it: the vehicle's next manifests would be stale for good"),
     ("nope", "fault: line: no JSON"),
     (2_097_153 * " ", "fault: line: longer than 2097152 bytes: it ends the run"),
 ]
@@ -162,6 +170,13 @@ def of_the_line(text, answer):
 def checker():
     for text, wanted in AMISS:
         yield "the checker: " + wanted, list(check_script.amiss(text.encode(), NOW)) == ["line 1: " + wanted]
+    last = fleet.line("refresh", NOW, version=2**53 - 1) + "\n"
+    ran = [subprocess.run([sys.executable, TOOLS / "check_script.py", "--now", str(NOW), *words], input=last.encode(), capture_output=True, check=False)
+           for words in ([], ["--final"])]
+    yield "what can't be undone is refused, or only told where that is asked", [(it.returncode, it.stdout.split(b": ")[1]) for it in ran] == [(1, b"final"), (1, b"look")]
+    for name in ("/a.bin", "a.bin/..", "..", "x/../a.bin", "a..b.bin", "..a.bin"):
+        leaves = check_script.checked(fleet.line("add_image", NOW, **IMAGE | {"file": name}), None, NOW, 1e12)[0]
+        yield "the filename " + name, bool(leaves) == (name[0] == "/" or ".." in name.split("/"))
     backwards = [fleet.line("show", at, vehicle="v") for at in (NOW, NOW - 1)]
     yield "moments that go back", list(check_script.amiss("\n".join(backwards).encode(), NOW)) == ["line 2: look: at: earlier than in a line before"]
     yield "lines past the limit", list(check_script.amiss(100_001 * b"\n", NOW)) == ["line 100001: fault: line: a script has at most 100000 lines"]
