@@ -19,11 +19,16 @@ sys.path += map(str, Path(__file__).resolve().parents[1].iterdir())
 
 import ed25519
 import reference
-from reference import ROLES, canonical, keyid, mac, moment, sealed
+from reference import ROLES, canonical, moment, sealed
+from schemes import HmacSha256, key_identifier as keyid
 
 FOLDER = Path(__file__).resolve().parent.parent.parent / "vectors"
 NOW, DAY = 1767225600, 86400
 METHOD = reference.METHOD
+
+
+def mac(secret, words):
+    return HmacSha256.sign(secret, words.encode()).hex()
 
 
 def key(byte):
