@@ -94,7 +94,25 @@ def translated(lines, old, new):
     return list(map(translation.line, lines))
 
 
+def under(folder, method):
+    """A row's or an example's script under a method, and the lines that it prints; none in place of a file's text, which is another
+    where the script is translated."""
+    text = lambda name: (folder / name).read_text(encoding="ascii")
+    own = text("under").strip() if (folder / "under").exists() else HmacSha256.method
+    printed = text("printed").split("\n")[:-1]
+    if own == method:
+        return text("script").split("\n"), printed
+    return translated(text("script").split("\n"), own, method), [None if it.startswith("file ") else it for it in printed]
+
+
+def are_as(wanted, printed):
+    """Whether the lines printed are these, whatever stands where there is none."""
+    return printed is not None and len(wanted) == len(printed) and all(it in (None, got) for it, got in zip(wanted, printed))
+
+
 if __name__ == "__main__":
+    if {"-h", "--help"} & {*sys.argv[1:]}:
+        sys.exit(print(__doc__))
     if len(sys.argv) != 3 or not set(sys.argv[1:]) <= set(SCHEMES):
         sys.exit(__doc__.strip())
     print("\n".join(translated(sys.stdin.read().splitlines(), *sys.argv[1:])))

@@ -75,13 +75,14 @@ def update(at):
 
 
 def vehicle_of(roots):
-    """What the vehicle knows when it leaves the factory. It has the secrets of the next keys by another way, before the rotation."""
+    """What the vehicle knows when it leaves the factory. Under HMAC it has the secrets of the next keys by another way, before the rotation."""
     ecus = []
     for i, (ecu, kind) in enumerate(ECUS):
         name = "gateway-1.bin" if kind == "GW" else "brake-1.bin"
         has = {"file": name, "length": len(CONTENT[name]), **hashes(name), "release": 1}
         ecus.append({"ecu": ecu, "hardware": kind, "secret": ecu_key(i), "counter": 0, "installed": has})
-    told = {"vehicle": "VIN-1", "primary": "gw", "counter": 0, "ecus": ecus, "role_secrets": secrets(FIRST) + secrets(SECOND)}
+    told = {"vehicle": "VIN-1", "primary": "gw", "counter": 0, "ecus": ecus, "method": reference.METHOD}
+    told |= {} if reference.METHOD == "ed25519" else {"role_secrets": secrets(FIRST) + secrets(SECOND)}
     return told | {repository: {"root": root, "versions": {}} for repository, root in roots.items()}
 
 
