@@ -1,8 +1,8 @@
 #!/usr/bin/env python3
 """The generated table of up_field: sums of multiples of Ed25519's base point that are 64 bits apart.
 
-    tools/oracle/ed25519_tables.py           compares what stands in the repository with what this program makes
-    tools/oracle/ed25519_tables.py --write   writes the two files
+    ed25519_tables.py          compares what stands in the repository with what this program makes
+    ed25519_tables.py write    writes the two files
 
 The files are crates/up_field/src/comb_table.rt, the table, and crates/up_field/proofs/CombPoints.antt, the proof that each
 entry is the multiple that its place names. The prover decides over both: this program is trusted in nothing. All numbers
@@ -172,7 +172,7 @@ keeps{k} = record {{ point = point{k}; holds = record {{ plus_is = refl; minus_i
 
 
 def main():
-    if sys.argv[1:] not in ([], ['--write']):
+    if sys.argv[1:] not in ([], ['write']):
         sys.exit(__doc__)
     points = [multiple(spread(k), base_point()) for k in range(ENTRIES)]
     wrong = []

@@ -1,4 +1,4 @@
-//! Ed25519, by rows: each row is what a call is given, and what it has to answer. `tools/oracle/ed25519_rows.py` makes the rows.
+//! Ed25519, by rows: each row is what a call is given, and what it has to answer. `tools/rows/ed25519_rows.py` makes the rows.
 #![tactic(auto)]
 
 mod calls;

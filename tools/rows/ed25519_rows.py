@@ -1,10 +1,9 @@
 #!/usr/bin/env python3
 """The rows of up_test_ed25519, by tools/oracle/ed25519.py.
 
-    tools/oracle/ed25519_rows.py                     compares crates/up_test_ed25519/stdin and stdout with what this program makes
-    tools/oracle/ed25519_rows.py --write             writes them
-    tools/oracle/ed25519_rows.py PROGRAM [WORD [N]]  gives the program of up_test_ed25519 rows of N keys, 1,000 if none are said,
-                                                     drawn by the word, and compares what it tells
+    ed25519_rows.py                     compares stdin and stdout of crates/up_test_ed25519 with what this program makes
+    ed25519_rows.py write               writes them
+    ed25519_rows.py PROGRAM WORD [N]    gives the crate's program rows of N keys, 1,000 if none are said, drawn by the word
 
 The rows that stand are the vectors of RFC 8032, section 7.1; signatures of which each byte of R, S, A and M is changed in turn;
 S + order; keys and nonces of small order; and 32 bytes that write no point. What is drawn are keys, messages and signatures both
@@ -15,6 +14,8 @@ import random
 import subprocess
 import sys
 from pathlib import Path
+
+sys.path += map(str, Path(__file__).resolve().parents[1].iterdir())
 
 from ed25519 import BASE, ORDER, P, add, encode, decode, digest, multiple, number, public_of, sign, vectors, verify
 
@@ -159,29 +160,32 @@ def stdout(parts):
 
 
 def compare(program, parts):
-    told = subprocess.run([program], input=stdin(parts), capture_output=True, text=True).stdout
+    """What the program tells of the rows: how many of each section are answered as they want, and those that aren't."""
+    told = subprocess.run([program], input=stdin(parts), capture_output=True, text=True, check=False).stdout
+    asked = sum(len(rows) for _, rows in parts)
+    right = sum(int(line.rpartition(": ")[2]) for line in told.splitlines() if line.rpartition(": ")[0] in dict(parts))
     if told != stdout(parts):
-        sys.exit(f"the program tells:\n{told[:3000]}")
-    print(f"{sum(len(rows) for _, rows in parts)} rows are answered as the reference answers them")
+        print(told[:3000], end="")
+    print("%d passed, %d failed" % (right, asked - right))
+    return 0 if told == stdout(parts) else 1
 
 
-def main():
-    words = sys.argv[1:]
-    if words[:1] and not words[0].startswith("-") and len(words) < 4:
-        compare(words[0], drawn(words[1] if len(words) > 1 else "ed25519", int(words[2]) if len(words) > 2 else 1000))
-    elif words in ([], ["--write"]):
-        parts = list(sections())
-        wrong = []
-        for name, text in (("stdin", stdin(parts)), ("stdout", stdout(parts))):
-            if words:
-                (CRATE / name).write_text(text, encoding="ascii")
-            elif (CRATE / name).read_text(encoding="ascii") != text:
-                wrong.append(name)
-        if wrong:
-            sys.exit(f"not what this program makes: {', '.join(wrong)}")
-    else:
-        sys.exit(__doc__.strip())
+def stand(writes):
+    """Compares the files of the crate with what is made here, or writes them."""
+    parts, wrong = list(sections()), []
+    for name, text in (("stdin", stdin(parts)), ("stdout", stdout(parts))):
+        if writes:
+            (CRATE / name).write_text(text, encoding="ascii")
+        elif (CRATE / name).read_text(encoding="ascii") != text:
+            wrong.append(name)
+    if wrong:
+        print("not what this program makes: " + ", ".join(wrong))
+    return 1 if wrong else 0
 
 
 if __name__ == "__main__":
-    main()
+    if sys.argv[1:] in ([], ["write"]):
+        sys.exit(stand(sys.argv[1:]))
+    if len(sys.argv) not in (3, 4):
+        sys.exit(__doc__.strip())
+    sys.exit(compare(sys.argv[1], drawn(sys.argv[2], int(sys.argv[3]) if sys.argv[3:] else 1000)))
