@@ -10,7 +10,6 @@ mod image_rows;
 mod images;
 mod kept_rows;
 mod keys;
-pub mod latest_root;
 pub mod laws;
 mod manifests;
 mod replaced;

@@ -4,7 +4,7 @@ use Rattle.sqlite.specs.Held.{state}
 use Rattle.up_roles.specs.declared.repository.Repository.TheVariants.{Director}
 use Rattle.up_tables.specs.declared.repo_file.FileRow.{FileRow}
 use Rattle.up_store.proofs.FileReads.{text_in}
-use Rattle.up_store.proofs.latest_root.find_latest_root.Goals as goal
+use Rattle.up_file.proofs.schemes.find_latest_root.Goals as goal
 
 pub returns-in-Ok-Some-clause-found : goal.returns-in-Ok-Some-clause-found
 returns-in-Ok-Some-clause-found g c clean rows within =
