@@ -12,7 +12,7 @@ import row_texts
 TOP = Path(__file__).resolve().parents[2]
 EXAMPLE = {"README.md", "script", "printed"}
 PRIMARY = {"primary.py", "envelopes.py", "verify.py", "director-secrets.json", "manifest-input.json", "manifest.json", "reply.json", "vehicle.json", "ed25519"}
-ED25519 = {"director-root.json", "manifest-input.json", "manifest.json", "reply.json"}
+ED25519 = {"director-root.json", "manifest-input.json", "manifest.json", "reply.json", "vehicle.json"}
 SERVICE = {"README.md", "nginx.conf", "haproxy.cfg", "uptane-desk.service", "uptane-desk-refresh.service", "uptane-desk-refresh.timer", "refresh.sh", "several"}
 SEVERAL = {"nginx.conf", "haproxy.cfg", "uptane-desk@.service"}
 ROW = {"script", "printed"}

@@ -183,6 +183,8 @@ def by_the_page(program, own):
     page = (trials.TOP / "docs" / "integrate" / "PRIMARY.md").read_text(encoding="utf-8").split("\n## Rounds of a vehicle\n")[1].split("\n## ")[0]
     (own / "bin").mkdir()
     (own / "bin" / "uptane_desk").symlink_to(program)
+    if reference.METHOD == "ed25519":
+        page = page.replace("first_path/", "first_path_ed25519/").replace("primary/vehicle.json", "primary/ed25519/vehicle.json")
     (own / "empty").mkdir()
     commands = "".join(re.findall(r"^    (.*\n)", page, re.MULTILINE)).replace("8080", str(http_cases.free_port())).replace("sleep 1", "sleep 3")
     found = os.environ | {"PATH": "%s:%s" % (own / "bin", os.environ["PATH"]), "REPO": str(trials.TOP)}

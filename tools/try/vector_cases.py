@@ -43,9 +43,9 @@ def vectors(name):
 def made():
     yield "the vectors are those of the rules", make_vectors.main(["--check"]) == 0
     shown = re.findall(r"(?s)```json\n(.*?)\n```", (trials.TOP / "docs" / "integrate" / "PRIMARY.md").read_text(encoding="ascii"))
-    of_primary = [path.read_text(encoding="ascii").strip() for path in PRIMARY.glob("*.json")]
+    of_primary = [path.read_text(encoding="ascii").strip() for path in PRIMARY.glob("**/*.json")]
     texts = of_primary + [it["reply"] for it in vectors("replies")["cases"]] + list(vectors("chains")["files of update"].values())
-    yield "the page shows five messages", len(shown) == 5
+    yield "the page shows eight messages", len(shown) == 8
     for text in shown:
         yield "the page shows %s.." % text[:60], any(text in it for it in texts)
     known = {name for name, _ in make_vectors.files()} | {"README.md"}
