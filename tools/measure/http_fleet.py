@@ -10,6 +10,8 @@ be the same, byte for byte, and every answer the reply that was kept.
 
 Then the program is killed (SIGKILL) at KILLS moments (20) while it is sent manifests: each reply that came is the one that
 is kept, and SQLite finds the file whole.
+
+promise: statements-alone
 """
 import contextlib
 import itertools
@@ -142,6 +144,8 @@ def cases(program, number=1000, times=20):
 
 
 if __name__ == "__main__":
+    if {"-h", "--help"} & {*sys.argv[1:]}:
+        sys.exit(print(__doc__))
     if not 2 <= len(sys.argv) <= 4:
         sys.exit(__doc__)
     sys.exit(trials.judged("fleet", cases(sys.argv[1], *map(int, sys.argv[2:]))))

@@ -1,7 +1,7 @@
 #!/usr/bin/env python3
 """Copies a database file and its log while the program serves it: stops the program, copies, and lets it go on.
 
-    copy_served.py PID FILE COPY
+    copy_served.py PID FILE COPY [--one]
 
 PID is the program's (`systemctl show -p MainPID --value uptane-desk`), and it has to have FILE open. Clients wait for as long
 as the copy takes. COPY and its log COPY-wal are made, for their owner alone, and mustn't be there. They are what a kill at that
@@ -96,6 +96,8 @@ def main(pid, path, to, one):
 
 
 if __name__ == "__main__":
+    if {"-h", "--help"} & {*sys.argv[1:]}:
+        sys.exit(print(__doc__))
     given = [word for word in sys.argv[1:] if word != "--one"]
     if len(given) != 3 or len(sys.argv) - len(given) > 2:
         sys.exit(__doc__)

@@ -7,6 +7,8 @@
 Manifests of a fleet are posted without a pause (2,000, a hundred a connection) while copies are taken (6): SQLite finds each whole,
 it has the reply to every manifest that was answered before it was asked for, the program takes it and answers these
 manifests by the same replies, and the service goes on and answers all the rest.
+
+promise: time-limits
 """
 import contextlib
 import io
@@ -167,6 +169,8 @@ def cases(program, copies=6, number=2000):
 
 
 if __name__ == "__main__":
+    if {"-h", "--help"} & {*sys.argv[1:]}:
+        sys.exit(print(__doc__))
     if not 2 <= len(sys.argv) <= 4:
         sys.exit(__doc__)
     sys.exit(trials.judged("copies", cases(sys.argv[1], *map(int, sys.argv[2:]))))

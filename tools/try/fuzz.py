@@ -10,6 +10,8 @@ by the rules, and each file has to have its rows. Where they differ, the seed an
 
 With `bodies` each seed delivers a hundred manifests of one vehicle over memory: in the form in which Primaries write
 them, and with one change each, before an ECU signs, before the Primary signs, in the whole body, or in the line itself.
+
+promise: manifest-meaning, line-meaning
 """
 import json
 import random
@@ -522,6 +524,8 @@ def cases(way, program, first=1, number=100):
 
 
 if __name__ == "__main__":
+    if {"-h", "--help"} & {*sys.argv[1:]}:
+        sys.exit(print(__doc__))
     words = sys.argv[1:]
     way = tried_bodies if words[1:2] == ["bodies"] else tried
     words = [word for word in words if word != "bodies"]

@@ -8,6 +8,8 @@ are known beforehand. Clients that hold the connection are tried all at once, be
 those that send or take a byte now and then, the program's clock is made to go thirty times as fast, and one case sets it to a time
 before 1970, which needs a C compiler.
 `whole` tries these alone, by the clock as it is, which takes six minutes.
+
+promise: exit-status, messages, closed-once, connections-counted, time-limits
 """
 import calendar
 import contextlib
@@ -567,6 +569,8 @@ def cases(program, whole=False):
 
 
 if __name__ == "__main__":
+    if {"-h", "--help"} & {*sys.argv[1:]}:
+        sys.exit(print(__doc__))
     if len(sys.argv) not in (2, 3) or sys.argv[2:] not in ([], ["whole"]):
         sys.exit(__doc__)
     sys.exit(trials.judged("HTTP", cases(sys.argv[1], len(sys.argv) == 3)))
