@@ -2,10 +2,9 @@
 """Tries the program from outside, over files and over HTTP: runs the tools that do, as many at once as there are processors.
 
     check_program.py PROGRAM [WORD]
-
-The program is that of the scheme that the environment names (`SCHEME=ed25519`), or of HMAC.
     check_program.py PROGRAM quick     runs a part, of some minutes, that needs no proxy and no C compiler
 
+The program is that of the scheme that the environment names (`SCHEME=ed25519`), or of HMAC.
 Random scripts and requests are those of a hundred seeds, random bodies of ten. Each tool has fifteen minutes, many times what it
 takes on a machine with nothing else to do. Where there is a WORD it draws a part of the sweeps of `tools/try/sweeps.py`, some ten
 seconds of each kind; they need a C compiler.
