@@ -78,6 +78,8 @@ def main(program, count=100):
 
 
 if __name__ == "__main__":
+    if {"-h", "--help"} & {*sys.argv[1:]}:
+        sys.exit(print(__doc__))
     if len(sys.argv) not in (2, 3):
         sys.exit(__doc__.strip())
     sys.exit(main(sys.argv[1], *map(int, sys.argv[2:])))

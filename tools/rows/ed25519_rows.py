@@ -9,6 +9,8 @@ The rows that stand are the vectors of RFC 8032, section 7.1; signatures of whic
 S + order; keys and nonces of small order; and 32 bytes that write no point. What is drawn are keys, messages and signatures both
 ways: a signature of the program is the reference's, byte by byte, and the program verifies those of the reference, each as it is
 and once more with a bit changed.
+
+promise: ed25519-laws, ed25519-sign, ed25519-verify
 """
 import random
 import subprocess
@@ -184,6 +186,8 @@ def stand(writes):
 
 
 if __name__ == "__main__":
+    if {"-h", "--help"} & {*sys.argv[1:]}:
+        sys.exit(print(__doc__))
     if sys.argv[1:] in ([], ["write"]):
         sys.exit(stand(sys.argv[1:]))
     if len(sys.argv) not in (3, 4):

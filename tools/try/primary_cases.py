@@ -157,6 +157,10 @@ def rounds(program, own):
     vehicle.file.write_text(json.dumps(vehicle.told() | {"counter": 1}), encoding="ascii")
     yield "a counter that was lost", with_service(program, path, vehicle)[:2] == (0, ["verified: version 8, targets 0"])
     yield "each round is a manifest", trials.rows(path)["vehicle"] == [("VIN-1", "gw", 8, 8)]
+    known = vehicle.told()
+    known["ecus"][1]["counter"] = 1
+    vehicle.file.write_text(json.dumps(known), encoding="ascii")
+    yield "a report's counter that was lost", with_service(program, path, vehicle)[:2] == (0, ["verified: version 9, targets 0"])
     yield from replaced(program, path, vehicle)
 
 
@@ -169,7 +173,7 @@ def replaced(program, path, vehicle):
     told = vehicle.told()
     new = told["ecus"][1] | {"ecu": "left-2", "secret": ecu_key(9), "counter": 0, "installed": vehicle_of({})["ecus"][1]["installed"]}
     vehicle.file.write_text(json.dumps(told | {"ecus": [told["ecus"][0], new, told["ecus"][2]]}), encoding="ascii")
-    wanted = 0, ["left-2 installed brake-2.bin", "verified: version 9, targets 1"], ""
+    wanted = 0, ["left-2 installed brake-2.bin", "verified: version 10, targets 1"], ""
     yield "a round with the new one", with_service(program, path, vehicle) == wanted and vehicle.releases() == [2, 2, 2]
 
 

@@ -1,11 +1,13 @@
 #!/usr/bin/env python3
-"""Compares the page of the theorem with the sources that it quotes, and counts the definitions that its statement rests on.
+"""Compares the page of the theorem, and the page of each crate, with the sources that they quote, and counts the definitions that the theorem's
+statement rests on.
 
     theorem.py            tells what differs
     theorem.py write      writes the quotes and the counts anew
     theorem.py sizes      lists each definition that is counted, with its words
 
-A line `<!-- quote FILE NAME -->` stands above a quote: the function's contract or the definition of that name, as the file has it. A line
+A line `<!-- quote FILE NAME -->` stands above a quote: the function's contract or the definition of that name, as the file has it; a line
+`<!-- example FILE NAME -->` above a whole function, which is proved, and run by a test where it stands in a crate of tests. A line
 `<!-- sizes -->` stands above the table of counts. Counted is what the contract of the headline leads to through names: each definition once, its
 lines and words without comments, and each type of the code that a definition uses. Definitions of the kit are where the count ends.
 A line `<!-- kit -->` stands above the table of the kit's crates, which are counted where the kit is.
@@ -24,7 +26,7 @@ from trials import TOP
 
 PAGE = TOP / "docs" / "trust" / "THEOREM.md"
 HEADLINE = ("crates/up_desk/src/desk.rt", "run")
-QUOTE = re.compile(r"^<!-- quote (\S+) (\w+) -->\n\n((?:    .*\n|\n(?=    ))*)", re.MULTILINE)
+QUOTE = re.compile(r"^<!-- (quote|example) (\S+) (\w+) -->\n\n((?:    .*\n|\n(?=    ))*)", re.MULTILINE)
 SIZES = re.compile(r"^<!-- sizes -->\n\n((?:\|.*\n)*)", re.MULTILINE)
 KIT_TABLE = re.compile(r"^<!-- kit -->\n\n((?:\|.*\n)*)", re.MULTILINE)
 BEGINS = re.compile(r"^(?:abbrev|unfoldable|record|data|pub record|pub data|abbrev pub|unfoldable pub) (?:pub )?(\w+)", re.MULTILINE)
@@ -67,9 +69,15 @@ def definition_of(text, name):
     return found and found[0].rstrip("\n") + "\n"
 
 
-def quoted(file, name):
+def example_of(text, name):
+    """A function with its body, and its attributes."""
+    found = re.search(r"^( *)(?:#\[[^\n]*\]\n *)*(?:pub(?:\(crate\))? )?fn %s\b.*?^\1\}\n" % name, text, re.MULTILINE | re.DOTALL)
+    return found and re.sub(r"(?m)^%s" % found[1], "", found[0])
+
+
+def quoted(kind, file, name):
     text = (TOP / file).read_text(encoding="utf-8")
-    found = function_of(text, name) if file.endswith(".rt") else definition_of(text, name)
+    found = example_of(text, name) if kind == "example" else function_of(text, name) if file.endswith(".rt") else definition_of(text, name)
     if not found:
         sys.exit("theorem: %s has no %s" % (file, name))
     return "".join("    " + line if line.strip() else line for line in found.splitlines(keepends=True))
@@ -242,18 +250,22 @@ def kit_here():
 
 def written(text):
     """The page with the quotes and the counts of the sources."""
-    text = QUOTE.sub(lambda it: "<!-- quote %s %s -->\n\n%s%s" % (it[1], it[2], quoted(it[1], it[2]), "" if it[3] else "\n"), text)
+    text = QUOTE.sub(lambda it: "<!-- %s %s %s -->\n\n%s%s" % (*it.groups()[:3], quoted(*it.groups()[:3]), "" if it[4] else "\n"), text)
     if kit_here():
         text = KIT_TABLE.sub(lambda it: "<!-- kit -->\n\n" + kit_table(kit_here()), text)
-    return SIZES.sub(lambda it: "<!-- sizes -->\n\n" + table(), text)
+    return SIZES.sub(lambda it: "<!-- sizes -->\n\n" + table(), text).rstrip("\n") + "\n"
+
+
+def pages():
+    return [PAGE, *sorted((TOP / "crates").glob("*/README.md"))]
 
 
 def cases():
     text = PAGE.read_text(encoding="utf-8")
-    quotes = QUOTE.findall(text)
-    yield "the page quotes the headline", HEADLINE in [(file, name) for file, name, _ in quotes]
-    for file, name, shown in quotes:
-        yield "%s: %s" % (file, name), shown == quoted(file, name)
+    yield "the page quotes the headline", HEADLINE in [(file, name) for _, file, name, _ in QUOTE.findall(text)]
+    for page in pages():
+        for kind, file, name, shown in QUOTE.findall(page.read_text(encoding="utf-8")):
+            yield "%s: %s of %s" % (page.relative_to(TOP), name, file), shown == quoted(kind, file, name)
     yield "the counts of definitions", SIZES.findall(text) == [table()]
     if kit_here():
         yield "the counts of the kit", KIT_TABLE.findall(text) == [kit_table(kit_here())]
@@ -267,5 +279,6 @@ if __name__ == "__main__":
             print("%5d %s: %s" % (len(words.split()), path.relative_to(TOP), what))
         sys.exit()
     if sys.argv[1:] == ["write"]:
-        PAGE.write_text(written(PAGE.read_text(encoding="utf-8")), encoding="utf-8")
+        for page in pages():
+            page.write_text(written(page.read_text(encoding="utf-8")), encoding="utf-8")
     sys.exit(trials.judged("theorem", cases()))

@@ -30,6 +30,7 @@ PRIMARY = trials.TOP / "examples" / "primary"
 sys.path.insert(0, str(PRIMARY))
 
 import envelopes
+import primary
 import verify
 
 FOLDER = trials.TOP / "vectors"
@@ -41,6 +42,12 @@ def vectors(name):
 
 def made():
     yield "the vectors are those of the rules", make_vectors.main(["--check"]) == 0
+    shown = re.findall(r"(?s)```json\n(.*?)\n```", (trials.TOP / "docs" / "integrate" / "PRIMARY.md").read_text(encoding="ascii"))
+    of_primary = [path.read_text(encoding="ascii").strip() for path in PRIMARY.glob("*.json")]
+    texts = of_primary + [it["reply"] for it in vectors("replies")["cases"]] + list(vectors("chains")["files of update"].values())
+    yield "the page shows five messages", len(shown) == 5
+    for text in shown:
+        yield "the page shows %s.." % text[:60], any(text in it for it in texts)
     known = {name for name, _ in make_vectors.files()} | {"README.md"}
     yield "there is no other file", {path.name for path in FOLDER.iterdir()} == known
 
@@ -66,7 +73,23 @@ def by_primary():
     told = vectors("chains")
     first = {name: key for name, key in told["vehicle"]["role_keys"].items() if name in told["files of update"]["director/1.root.json"]}
     lacks = told | {"vehicle": told["vehicle"] | {"role_keys": first}}
+    yield "a change of the repository between two requests", begins_again(told)
     yield "a Root whose keys the vehicle hasn't", verdict(verify, lacks, {"base": "rotation"})[0] == "refused"
+
+
+def begins_again(told):
+    """Whether the small Primary verifies the Image repository where its Targets were of another moment once, and not where they always are."""
+    files = {name: json.loads(text) for name, text in told["files of update"].items()}
+    other = next(case["replace"] for case in told["cases"] if case["name"] == "the Image repository's Targets are of another moment")
+    found = []
+    for times in (1, 2):
+        mixed = times * [json.loads(other["image/targets.json"])]
+        fetch = lambda name: mixed.pop() if mixed and name == "image/targets.json" else files.get(name)
+        trust = {"root": files["image/1.root.json"], "versions": {}}
+        secrets = {name: bytes.fromhex(it) for name, it in told["vehicle"]["role_keys"].items()}
+        with contextlib.suppress(verify.Refused):
+            found.append(primary.image_repository(trust, fetch, secrets, told["now"])[0])
+    return found == [files["image/targets.json"]]
 
 
 def verified(verify):
