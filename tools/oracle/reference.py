@@ -602,6 +602,12 @@ class Desk:
         self.in_range(line)
         return self.delivered(body, line["at"])
 
+    def reply_to(self, body, at):
+        """The reply to a manifest that is accepted, or was."""
+        self.delivered(body, at)
+        sent = read_manifest(body)
+        return self.one("SELECT reply FROM kept WHERE vehicle = ? AND counter = ?", sent["vehicle"], sent["counter"])[0]
+
     def delivered(self, body, at):
         told = read_manifest(body)
         self.founded()
