@@ -602,6 +602,12 @@ class Desk:
         self.in_range(line)
         return self.delivered(body, line["at"])
 
+    def reply_to(self, body, at):
+        """The reply to a manifest that is accepted, or was, as it goes over HTTP."""
+        self.delivered(body, at)
+        told = read_manifest(body)
+        return self.one("SELECT reply FROM kept WHERE vehicle = ? AND counter = ?", told["vehicle"], told["counter"])[0]
+
     def delivered(self, body, at):
         told = read_manifest(body)
         self.founded()
