@@ -4,8 +4,9 @@
     ed25519_steps.py PROGRAM [N]
 
 PROGRAM is that of up_test_ed25519. It gets N secrets, a hundred if none are said: 32 zeros, 32 bytes of 255, and others that are
-drawn. Messages have one length. A call takes as many instructions for each secret, or this fails. How many a verification
-takes depends on what is verified, which is no secret: the most and the fewest are told.
+drawn. Messages have one length. Each call with a secret takes as many instructions as the others, or this fails: `public_of`, and
+`sign_with`, which has the public key at hand. `sign` is the one and then the other. How many a verification takes depends on what
+is verified, which is no secret: what is told is the mean, without what the program takes for rows whose key is a byte short.
 """
 import random
 import re
@@ -18,56 +19,61 @@ sys.path += map(str, Path(__file__).resolve().parents[1].iterdir())
 
 import ed25519_rows as rows
 
-# a call of the program, and the function that it stands for
-CALLS = {"key": "public_of", "signature": "sign", "verified": "verify"}
-SECRET = ("key", "signature")
 MESSAGE = b"a message of 32 bytes, as any is"
 
 
 def symbol(program, name):
     """The name of the crate's function in the program."""
     told = subprocess.run(["nm", str(program)], capture_output=True, text=True, check=True).stdout
-    found = re.findall(r" [tT] (\S*up_ed25519\S*%s\S*)$" % name, told, re.M)
-    exact = [one for one in found if re.search(r"(?<![a-z_])%s(?![a-z]|_[a-z])" % name, one)]
-    if len(exact) != 1:
-        sys.exit("no one function %s: %s" % (name, ", ".join(found)))
-    return exact[0]
+    found = re.findall(r" [tT] (up_ed25519::signing::%s)$" % name, told, re.M)
+    if len(found) != 1:
+        sys.exit("the program has %d functions %s" % (len(found), name))
+    return found[0]
 
 
-def counted(program, function, parts, folder):
-    """The instructions of each call of the function."""
-    words = ["valgrind", "--tool=callgrind", "--callgrind-out-file=%s" % (folder / "told"), "--collect-atstart=no",
-             "--toggle-collect=%s" % function, "--dump-after=%s" % function, str(program)]
+def callgrind(program, parts, folder, *more):
+    """What callgrind says of the program, which has to answer the rows."""
+    words = ["valgrind", "--tool=callgrind", "--callgrind-out-file=%s" % (folder / "told"), *more, str(program)]
     ran = subprocess.run(words, input=rows.stdin(parts), capture_output=True, text=True, check=False)
     if ran.stdout != rows.stdout(parts):
         sys.exit("the program tells:\n" + ran.stdout[:2000])
-    counts = []
-    for path in folder.glob("told.*"):
-        found = re.search(r"^totals: (\d+)", path.read_text(encoding="utf-8", errors="replace"), re.M)
-        if found and int(found[1]):
-            counts.append(int(found[1]))
-        path.unlink()
-    return counts
+    return ran.stderr
 
 
-def sections(count):
-    draw = random.Random("steps")
-    secrets = [bytes(32), b"\xff" * 32, *(draw.randbytes(32) for _ in range(count - 2))]
-    yield "key", [rows.key_row(secret) for secret in secrets]
-    yield "signature", [rows.signature_row(secret, MESSAGE) for secret in secrets]
-    yield "verified", [rows.verified_row(rows.public_of(secret), MESSAGE, rows.sign(secret, MESSAGE)) for secret in secrets]
+def each(program, name, parts, folder):
+    """The instructions of each call of a function."""
+    function = symbol(program, name)
+    callgrind(program, parts, folder, "--collect-atstart=no", "--toggle-collect=" + function, "--dump-after=" + function)
+    counts = [re.search(r"^totals: (\d+)", path.read_text(encoding="utf-8", errors="replace"), re.M) for path in folder.glob("told.*")]
+    return [int(count[1]) for count in counts if count and int(count[1])]
+
+
+def whole(program, parts, folder):
+    """The instructions of a run of the program."""
+    return int(re.search(r"Collected : (\d+)", callgrind(program, parts, folder))[1])
+
+
+def verification(program, secrets, folder):
+    triples = [(rows.public_of(secret), MESSAGE, rows.sign(secret, MESSAGE)) for secret in secrets]
+    taken = [("verified", [rows.verified_row(*triple) for triple in triples])]
+    refused = [("verified", [rows.verified_row(public[:31], message, tag) for public, message, tag in triples])]
+    return (whole(program, taken, folder) - whole(program, refused, folder)) // len(secrets)
 
 
 def main(program, count=100):
+    draw = random.Random("steps")
+    secrets = [bytes(32), b"\xff" * 32, *(draw.randbytes(32) for _ in range(count - 2))]
+    parts = [("signature", [rows.signature_row(secret, MESSAGE) for secret in secrets])]
     failed = 0
-    for call, given in sections(count):
+    for name in ("public_of", "sign_with"):
         with tempfile.TemporaryDirectory() as folder:
-            counts = counted(program, symbol(program, CALLS[call]), [(call, given)], Path(folder))
+            counts = each(program, name, parts, Path(folder))
         few, most = min(counts), max(counts)
-        print("%s: %d calls, %s instructions" % (CALLS[call], len(counts), few if few == most else "%d to %d" % (few, most)))
-        if len(counts) < count or call in SECRET and few != most:
-            failed += 1
-    print("%d passed, %d failed" % (len(CALLS) - failed, failed))
+        print("%s: %d calls, %s instructions" % (name, len(counts), few if few == most else "%d to %d" % (few, most)))
+        failed += int(len(counts) < count or few != most)
+    with tempfile.TemporaryDirectory() as folder:
+        print("verify: %d calls, %d instructions in the mean" % (count, verification(program, secrets, Path(folder))))
+    print("%d passed, %d failed" % (2 - failed, failed))
     return 1 if failed else 0
 
 

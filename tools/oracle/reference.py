@@ -603,10 +603,10 @@ class Desk:
         return self.delivered(body, line["at"])
 
     def reply_to(self, body, at):
-        """The reply to a manifest that is accepted, or was, as it goes over HTTP."""
+        """The reply to a manifest that is accepted, or was."""
         self.delivered(body, at)
-        told = read_manifest(body)
-        return self.one("SELECT reply FROM kept WHERE vehicle = ? AND counter = ?", told["vehicle"], told["counter"])[0]
+        sent = read_manifest(body)
+        return self.one("SELECT reply FROM kept WHERE vehicle = ? AND counter = ?", sent["vehicle"], sent["counter"])[0]
 
     def delivered(self, body, at):
         told = read_manifest(body)

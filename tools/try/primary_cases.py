@@ -11,6 +11,7 @@ import hashlib
 import json
 import os
 import re
+import shutil
 import subprocess
 import sys
 import time
@@ -177,19 +178,20 @@ def replaced(program, path, vehicle):
     yield "a round with the new one", with_service(program, path, vehicle) == wanted and vehicle.releases() == [2, 2, 2]
 
 
-def by_the_page(program, own):
-    """The commands of the page's section on rounds, in an empty folder."""
+def by_the_page(program, own, primary=None):
+    """The commands of the page's section on rounds, in an empty folder, with another Primary where one is given."""
     page = (trials.TOP / "docs" / "integrate" / "PRIMARY.md").read_text(encoding="utf-8").split("\n## Rounds of a vehicle\n")[1].split("\n## ")[0]
     (own / "bin").mkdir()
     (own / "bin" / "uptane_desk").symlink_to(program)
     (own / "empty").mkdir()
     commands = "".join(re.findall(r"^    (.*\n)", page, re.MULTILINE)).replace("8080", str(http_cases.free_port())).replace("sleep 1", "sleep 3")
+    commands = commands.replace("python3 $REPO/examples/primary/primary.py", primary) if primary else commands
     found = os.environ | {"PATH": "%s:%s" % (own / "bin", os.environ["PATH"]), "REPO": str(trials.TOP)}
     ran = subprocess.run(["bash", "-c", commands], cwd=own / "empty", env=found, capture_output=True, check=False, timeout=120)
     told = [line for line in ran.stdout.decode("ascii").splitlines() if not line.startswith("listening")]
     first = ["done", "done", "reply V1 version 1 targets 0", "trusted: root version 1 of both repositories", "verified: version 2, targets 0"]
     second = ["done", "done", "P1 installed gateway-1.bin", "verified: version 3, targets 1", "done"]
-    yield "the page's commands", told == first + second and b"Traceback" not in ran.stderr
+    yield "the page's commands%s" % (" with `%s`" % primary if primary else ""), told == first + second and b"Traceback" not in ran.stderr
 
 
 def words():
@@ -207,6 +209,9 @@ def cases(program):
         yield from rounds(program, own)
     with trials.folder() as own:
         yield from by_the_page(program, own)
+    if shutil.which("node"):
+        with trials.folder() as own:
+            yield from by_the_page(program, own, "node $REPO/examples/primary_node/primary.mjs")
     yield from words()
 
 

@@ -1,9 +1,10 @@
 #!/usr/bin/env python3
-"""Tries the vectors of `vectors/`: by the small Primary, and by the program where it takes them.
+"""Tries the vectors of `vectors/`: by the small Primaries, and by the program where it takes them.
 
     vector_cases.py [PROGRAM]
 
-They have to be what `tools/oracle/make_vectors.py` makes. Without a PROGRAM the small Primary alone is tried.
+They have to be what `tools/oracle/make_vectors.py` makes. Without a PROGRAM the small Primaries alone are tried; the one in JavaScript
+where Node is installed.
 """
 import contextlib
 import copy
@@ -12,6 +13,8 @@ import hmac
 import http.client
 import json
 import re
+import shutil
+import subprocess
 import sys
 import types
 from contextlib import closing
@@ -90,6 +93,15 @@ def begins_again(told):
         with contextlib.suppress(verify.Refused):
             found.append(primary.image_repository(trust, fetch, secrets, told["now"])[0])
     return found == [files["image/targets.json"]]
+
+
+def by_node():
+    """Whether the small Primary in JavaScript answers all of them."""
+    if shutil.which("node"):
+        words = ["node", trials.TOP / "examples" / "primary_node" / "primary.mjs", "vectors", FOLDER]
+        ran = subprocess.run(words, capture_output=True, check=False, timeout=http_cases.PATIENCE)
+        counts = re.fullmatch(rb"([0-9]+) passed, 0 failed\n", ran.stdout)
+        yield "the small Primary in JavaScript", ran.returncode == 0 and not ran.stderr and bool(counts) and int(counts[1]) > 100
 
 
 def verified(verify):
@@ -277,6 +289,7 @@ def by_program(program):
 def cases(program=None):
     yield from made()
     yield from by_primary()
+    yield from by_node()
     yield from each_check()
     if program:
         yield from by_program(program)

@@ -1,7 +1,8 @@
 //! The scheme, as the rest of the product names it.
-use crate::signing::{public_of, sign};
+use crate::signing::{public_of, sign, sign_with};
 use crate::verification::verify;
 use std::alloc::{AllocError, Global};
+use up_sign::hmac_sha256::{HmacKey, block_under};
 use up_sign::scheme::Scheme;
 
 /// Ed25519: secrets and public keys of 32 bytes, signatures of 64.
@@ -36,6 +37,18 @@ impl Scheme for Ed25519 {
 
     fn verify(&self, public: &[u8], message: &[u8], signature: &[u8]) -> bool {
         verify(public, message, signature)
+    }
+
+    // The key's block begins with the public key, so that a signature takes one multiple and not two.
+    fn sign_by(
+        &self,
+        alloc: Global,
+        key: &HmacKey,
+        secret: &[u8],
+        message: &[u8],
+    ) -> Result<Vec<u8>, AllocError> {
+        let public = &block_under(key)[..32];
+        sign_with(secret, public, message).to_vec(alloc)
     }
 
     fn shown(&self, alloc: Global, public: &[u8]) -> Result<String, AllocError> {
