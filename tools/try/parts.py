@@ -21,7 +21,7 @@ WIDTH, HEIGHT, ROW, GAP = 128, 40, 74, 12
 # the lanes from left to right, and what a crate is for in three words
 LANES = {
     "the rules": {
-        "up_canon": "canonical text, names", "up_curve": "points of Ed25519", "up_ed25519": "Ed25519", "up_sign": "signatures", "up_roles": "role files",
+        "up_canon": "canonical text, names", "up_field": "numbers mod 2^255-19", "up_curve": "points of edwards25519", "up_ed25519": "Ed25519", "up_sign": "signatures", "up_roles": "role files",
         "up_metadata": "keys and files", "up_manifest": "manifests", "up_plan": "plans", "up_machine": "state, decisions",
     },
     "the database": {
