@@ -299,6 +299,8 @@ def cases(whole):
 
 
 if __name__ == "__main__":
+    if {"-h", "--help"} & {*sys.argv[1:]}:
+        sys.exit(print(__doc__))
     if sys.argv[1:] not in ([], ["whole"]):
         sys.exit(__doc__)
     sys.exit(trials.judged("SQL", cases(sys.argv[1:] == ["whole"])))

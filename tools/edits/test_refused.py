@@ -1,5 +1,8 @@
 #!/usr/bin/env python3
-"""Tests of tools/edits/refused: on texts, on hashes of small trees, and by the prover on a tiny crate."""
+"""Tests of tools/edits/refused: on texts, on hashes of small trees, and by the prover on a tiny crate.
+
+    test_refused.py [TEST ..]     all, or those that are named, as Verdicts or Texts.test_owners
+"""
 import itertools
 import os
 import re
@@ -813,6 +816,8 @@ class Verdicts(OnATree):
 
 
 if __name__ == "__main__":
+    if {"-h", "--help"} & {*sys.argv[1:]}:
+        sys.exit(print(__doc__))
     ran = unittest.main(exit=False, verbosity=2).result
     failed = len(ran.failures) + len(ran.errors)
     print(f"{ran.testsRun - failed} passed, {failed} failed")

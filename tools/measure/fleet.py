@@ -212,9 +212,9 @@ def script(vehicles=100, ecus=4, rounds=5, images=20, campaigns=5, seed=1, repea
 
 def main():
     parser = argparse.ArgumentParser(description=__doc__, formatter_class=argparse.RawDescriptionHelpFormatter)
-    numbers = {"vehicles": 100, "ecus": 4, "rounds": 5, "images": 20, "campaigns": 5, "seed": 1, "from-round": 0}
+    numbers = {"--vehicles": 100, "--ecus": 4, "--rounds": 5, "--images": 20, "--campaigns": 5, "--seed": 1, "--from-round": 0}
     for name, usual in numbers.items():
-        parser.add_argument("--" + name, type=int, default=usual)
+        parser.add_argument(name, type=int, default=usual)
     parser.add_argument("--repeats", type=float, default=0.2)
     parser.add_argument("--replaced", type=float, default=0)
     parser.add_argument("--second-hashes", type=float, default=0)

@@ -142,6 +142,8 @@ def cases(program, number=1000, times=20):
 
 
 if __name__ == "__main__":
+    if {"-h", "--help"} & {*sys.argv[1:]}:
+        sys.exit(print(__doc__))
     if not 2 <= len(sys.argv) <= 4:
         sys.exit(__doc__)
     sys.exit(trials.judged("fleet", cases(sys.argv[1], *map(int, sys.argv[2:]))))

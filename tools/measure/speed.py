@@ -533,6 +533,8 @@ def main(program, part, *most):
 
 
 if __name__ == "__main__":
+    if {"-h", "--help"} & {*sys.argv[1:]}:
+        sys.exit(print(__doc__))
     if len(sys.argv) not in (3, 4) or sys.argv[2] not in [part.__name__ for part in PARTS]:
         sys.exit(__doc__)
     main(*sys.argv[1:])

@@ -167,4 +167,6 @@ def main(words):
 
 
 if __name__ == "__main__":
+    if {"-h", "--help"} & {*sys.argv[1:]}:
+        sys.exit(print(__doc__))
     sys.exit(main(sys.argv[1:]))

@@ -1,17 +1,23 @@
 #!/usr/bin/env python3
-"""The rules once more, in plain Python over SQLite's own tables: what is printed and kept is compared with it.
+"""The rules once more, in plain Python over SQLite's own tables. This is the reference and not the product: nothing here is proved.
 
-    reference.py run FILE < SCRIPT      FILE is `:memory:`, or is made where it isn't there
+    reference.py run FILE < SCRIPT          answers the lines of a script as `uptane_desk run` does
+    reference.py serve FILE PORT [COUNT]    serves 127.0.0.1:PORT as `uptane_desk serve` does, COUNT connections or for ever
 
-It is slow and short, and tests nothing of a database's own. It has no limits of lines or of a script: those are tried by
-`tools/try/program_cases.py`. The tables are those of `docs/use/TABLES.md`; those of an older schema are raised.
+FILE is `:memory:`, or is made where it isn't there. What the product prints and keeps is compared with this program, and whoever
+writes a Primary can try it here, without the kit that builds the product. It needs Python's standard library alone.
+
+Its limits: it is slow; what outlasts a crash is what Python's `sqlite3` keeps by default; a script's lines have no limit, nor has
+their number; refusals 1 and 2 never come. The tables are those of `docs/use/TABLES.md`; those of an older schema are raised.
 """
 import hashlib
 import hmac
 import json
 import os
+import re
 import sqlite3
 import sys
+from contextlib import closing
 from datetime import datetime, timedelta
 from pathlib import Path
 
@@ -694,23 +700,45 @@ def opened(path):
     return desk
 
 
-def main(words):
-    if len(words) != 2 or words[0] != "run":
-        return 2
-    os.umask(0o077)
-    try:
-        desk = opened(words[1])
-    except sqlite3.Error:
-        print("uptane_desk: cannot open the database", file=sys.stderr)
-        return 3
+LABEL = "reference.py: this is the reference in plain Python and not the product; nothing here is proved\n"
+
+
+def run(desk):
+    """Answers the lines of standard input."""
     for line in sys.stdin.buffer:
         line = line.removesuffix(b"\n")
         if line:
             sys.stdout.buffer.write(desk.answer(line).encode() + b"\n")
             sys.stdout.buffer.flush()
-    desk.db.close()
     return 0
 
 
+def main(words):
+    number = re.compile("[1-9][0-9]{0,6}")
+    if words == ["--help"]:
+        print(__doc__.strip())
+        return 0
+    asked, *given = words or [None]
+    serves = asked == "serve" and len(given) in (2, 3) and all(map(number.fullmatch, given[1:])) and int(given[1]) < 65536
+    if not serves and (asked != "run" or len(given) != 1):
+        print(__doc__.strip(), file=sys.stderr)
+        return 2
+    os.umask(0o077)
+    sys.stderr.write(LABEL)
+    try:
+        desk = opened(given[0])
+    except sqlite3.Error:
+        print("uptane_desk: cannot open the database", file=sys.stderr)
+        return 3
+    with closing(desk.db):
+        if asked == "run":
+            return run(desk)
+        import reference_http
+
+        return reference_http.serve(desk, *map(int, given[1:]))
+
+
 if __name__ == "__main__":
-    sys.exit(main(sys.argv[1:]))
+    import reference
+
+    sys.exit(reference.main(sys.argv[1:]))

@@ -161,4 +161,6 @@ def main(crate, order="tell"):
 
 
 if __name__ == "__main__":
+    if {"-h", "--help"} & {*sys.argv[1:]}:
+        sys.exit(print(__doc__))
     sys.exit(main(*sys.argv[1:]))

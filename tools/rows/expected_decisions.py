@@ -1,7 +1,10 @@
 #!/usr/bin/env python3
 """Computes the answers that the rows of decisions want where they have digests, under each scheme, by Python's own libraries
 from the formats in docs/integrate/FORMATS.md, and tells which of them no row wants, and which wanted ones aren't among them. The rows
-are the standard input of the crate `up_test_decisions`."""
+are the standard input of the crate `up_test_decisions`.
+
+    expected_decisions.py
+"""
 import datetime, hashlib, hmac, json, re, sys
 from pathlib import Path
 
@@ -147,4 +150,6 @@ def main():
 
 
 if __name__ == "__main__":
+    if {"-h", "--help"} & {*sys.argv[1:]}:
+        sys.exit(print(__doc__))
     sys.exit(main())

@@ -79,6 +79,8 @@ def gaps():
 
 
 if __name__ == "__main__":
+    if {"-h", "--help"} & {*sys.argv[1:]}:
+        sys.exit(print(__doc__))
     other = list(gaps())
     print("\n".join(other) or "nothing is missing")
     sys.exit(bool(other))

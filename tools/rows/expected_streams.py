@@ -200,9 +200,16 @@ def texts():
     return {"stdin": stdin, "stdout": "".join(medium + text for words, text in told for medium in media(words))}
 
 
-if sys.argv[1:] == ["write"]:
-    for name, text in texts().items():
-        (CRATE / name).write_text(text)
-differing = [name for name, text in texts().items() if (CRATE / name).read_text() != text]
-print("\n".join("%s is another" % name for name in differing) or "the rows are those of the formats")
-sys.exit(1 if differing else 0)
+def main(words):
+    if words == ["write"]:
+        for name, text in texts().items():
+            (CRATE / name).write_text(text)
+    differing = [name for name, text in texts().items() if (CRATE / name).read_text() != text]
+    print("\n".join("%s is another" % name for name in differing) or "the rows are those of the formats")
+    return 1 if differing else 0
+
+
+if __name__ == "__main__":
+    if {"-h", "--help"} & {*sys.argv[1:]}:
+        sys.exit(print(__doc__))
+    sys.exit(main(sys.argv[1:]))

@@ -1,7 +1,10 @@
 #!/usr/bin/env python3
 """Computes what the rows of texts want, by Python's own libraries from the formats in docs/integrate/FORMATS.md, and tells where it is
 something else. The rows are the standard input of the crate `up_test_texts`. Refusals and the rows that are wrong on purpose
-are left out: their answers are by hand."""
+are left out: their answers are by hand.
+
+    expected_texts.py
+"""
 import datetime, hashlib, hmac, json, re, sys
 from pathlib import Path
 
@@ -222,4 +225,6 @@ def main():
 
 
 if __name__ == "__main__":
+    if {"-h", "--help"} & {*sys.argv[1:]}:
+        sys.exit(print(__doc__))
     sys.exit(main())

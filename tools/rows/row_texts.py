@@ -204,4 +204,6 @@ def files(row):
 
 
 if __name__ == "__main__":
+    if {"-h", "--help"} & {*sys.argv[1:]}:
+        sys.exit(print(__doc__))
     sys.stdout.write({"replies": replies, "files": files}[sys.argv[1]](sys.argv[2]))

@@ -2,6 +2,7 @@
 """Tries the program from outside, over files and over HTTP: runs the tools that do, as many at once as there are processors.
 
     check_program.py PROGRAM [WORD]
+    check_program.py PROGRAM quick     runs a part, of some minutes, that needs no proxy and no C compiler
 
 Random scripts and requests are those of a hundred seeds, random bodies of ten. Each tool has fifteen minutes, many times what it
 takes on a machine with nothing else to do. Where there is a WORD it draws a part of the sweeps of `tools/try/sweeps.py`, some ten
@@ -23,7 +24,9 @@ TRIED = [("try/file_cases.py",), ("try/fuzz.py", "1", "50"), ("try/fuzz.py", "51
          ("try/fuzz.py", "bodies", "1", "10"), ("try/each_line.py",), ("try/damaged_rows.py",), ("try/tables.py",)]
 # what operators and integrators use
 TRIED += [("try/copy_cases.py", "2"), ("try/primary_cases.py",), ("try/operator_cases.py",), ("try/scale_cases.py",),
-          ("try/large_cases.py",)]
+          ("try/large_cases.py",), ("try/vector_cases.py",)]
+QUICK = [("try/fuzz.py", "1", "5"), ("try/fuzz_http.py", "1", "5"), ("try/fuzz.py", "bodies", "1", "1"), ("try/each_line.py",),
+         ("try/tables.py",), ("try/primary_cases.py",), ("try/operator_cases.py",)]
 # every so manieth call of a kind
 SWEPT = {"memory": "997", "disk": "31", "reading": "211", "http": "199"}
 
@@ -46,8 +49,8 @@ def ran(program, words):
 
 def tried(word):
     """The words of each tool. Without a C compiler no call can be made to fail."""
-    if not word:
-        return TRIED
+    if word in ("", "quick"):
+        return QUICK if word else TRIED
     if not shutil.which("cc"):
         print("no C compiler, so no sweeps")
         return TRIED
@@ -65,6 +68,8 @@ def main(program, word=""):
 
 
 if __name__ == "__main__":
+    if {"-h", "--help"} & {*sys.argv[1:]}:
+        sys.exit(print(__doc__))
     if len(sys.argv) not in (2, 3):
         sys.exit(__doc__)
     sys.exit(main(*sys.argv[1:]))

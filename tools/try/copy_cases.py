@@ -204,6 +204,8 @@ def cases(program, copies=6, number=2000):
 
 
 if __name__ == "__main__":
+    if {"-h", "--help"} & {*sys.argv[1:]}:
+        sys.exit(print(__doc__))
     if not 2 <= len(sys.argv) <= 4:
         sys.exit(__doc__)
     sys.exit(trials.judged("copies", cases(sys.argv[1], *map(int, sys.argv[2:]))))

@@ -251,6 +251,8 @@ def wanted(order="tell"):
 
 
 if __name__ == "__main__":
+    if {"-h", "--help"} & {*sys.argv[1:]}:
+        sys.exit(print(__doc__))
     if len(sys.argv) not in (2, 3):
         sys.exit(__doc__)
     if sys.argv[1] == "wanted":

@@ -329,6 +329,8 @@ def cases(program, number=100):
 
 
 if __name__ == "__main__":
+    if {"-h", "--help"} & {*sys.argv[1:]}:
+        sys.exit(print(__doc__))
     if len(sys.argv) not in (2, 3):
         sys.exit(__doc__)
     sys.exit(trials.judged("file", cases(os.path.abspath(sys.argv[1]), *map(int, sys.argv[2:]))))

@@ -522,6 +522,8 @@ def cases(way, program, first=1, number=100):
 
 
 if __name__ == "__main__":
+    if {"-h", "--help"} & {*sys.argv[1:]}:
+        sys.exit(print(__doc__))
     words = sys.argv[1:]
     way = tried_bodies if words[1:2] == ["bodies"] else tried
     words = [word for word in words if word != "bodies"]

@@ -10,12 +10,11 @@ over which earlier manifests come again too. Each answer has to be, byte for byt
 had, and the file has to have its rows. The same is then asked for by script, each manifest at the moment that was kept: over a
 copy of the file as it was, and over memory after the script that filled it. Both have to answer alike, and the copy has to have
 the same rows, byte for byte. Five more connections send requests whose
-heads are damaged anywhere: whatever they mean, whole answers come, and the file stays as it was.
+heads are damaged anywhere: they are answered as `tools/oracle/reference_http.py` answers them, and the file stays as it was.
 """
 import contextlib
 import json
 import random
-import re
 import shutil
 import socket
 import sqlite3
@@ -30,15 +29,8 @@ import fleet
 import fuzz
 import http_cases
 import reference
+import reference_http
 import trials
-
-PHRASES = {200: "OK", 400: "Bad Request", 403: "Forbidden", 404: "Not Found", 405: "Method Not Allowed",
-           409: "Conflict", 411: "Length Required", 413: "Payload Too Large", 501: "Not Implemented",
-           503: "Service Unavailable"}
-STATUS = {4: 413, 5: 400, 6: 400, 7: 400, 10: 404, 11: 403, 12: 403, 13: 409, 14: 409, 15: 409, 16: 409, 17: 403,
-          18: 409, 29: 404}
-MOST_BODY = 262_144
-
 
 class Request:
     """Its bytes, what it asks, and how its answer ends: `check` is a fixed answer, `asks` a body or a file."""
@@ -50,44 +42,16 @@ class Request:
         self.ends = ends or version == "1.0"
 
 
-def response(status, body, request, allow=None, ends=False):
-    lines = ["HTTP/1.1 %d %s" % (status, PHRASES[status]), "Content-Type: application/json"]
-    lines += ["Content-Length: %d" % len(body)] + (["Allow: " + allow] if allow else [])
-    lines += ["Connection: close"] if ends or request.ends else []
-    return "".join(line + "\r\n" for line in lines).encode() + b"\r\n" + (b"" if request.is_head else body.encode())
-
-
-def error(number, words):
-    return reference.canonical({"error": number, "text": words})
-
-
-CHECKS = {"bad request": 400, "not found": 404, "method not allowed": 405, "length required": 411,
-          "not implemented": 501}
-
-
 def answer(desk, request, moments):
-    """The bytes of the answer by the rules."""
-    if request.check:
-        words, allow = request.check
-        if words == "TooLarge":
-            return response(413, error(4, words), request, ends=True)
-        return response(CHECKS[words], error(0, words), request, allow, ends=CHECKS[words] in (400, 411, 501))
-    try:
-        with desk.db:
-            return response(200, asked(desk, request.asks, moments), request)
-    except reference.Refused as refused:
-        number, words = refused.args[0], refused.text.split(" ", 2)[2]
-        return response(STATUS.get(number, 503), error(number, words), request)
-
-
-def asked(desk, asks, moments):
-    if isinstance(asks, tuple):
-        line = {"at": 0, "repository": asks[0], "file": asks[1]}
-        return desk.fetch(line).removeprefix("file ")
-    told = reference.read_manifest(asks)
-    key = told["vehicle"], told["counter"]
-    desk.delivered(asks, moments.get(key, 0))
-    return desk.one("SELECT reply FROM kept WHERE vehicle = ? AND counter = ?", *key)[0]
+    """The bytes of the answer by the rules, at the moment that was kept where it is a manifest that was accepted."""
+    what, allow = request.check or (request.asks, None)
+    at = 0
+    if isinstance(what, bytes):
+        with contextlib.suppress(reference.Refused):
+            told = reference.read_manifest(what)
+            at = moments.get((told["vehicle"], told["counter"]), 0)
+    ends = request.ends or bool(request.check) and reference_http.CHECKS[what][0] in (400, 411, 413, 501)
+    return reference_http.answer(desk, at, reference_http.Next(what, request.is_head, ends, allow or ""))
 
 
 class Stream:
@@ -140,7 +104,7 @@ class Stream:
             lambda: Request("GET", "/image/root.json", ["Host: d", "Host: d"], check=("bad request", None)),
             lambda: Request("POST", "/director/manifest", self.fields(), check=("length required", None)),
             lambda: Request("POST", "/director/manifest", self.fields("Content-Length: x"), check=("bad request", None)),
-            lambda: Request("POST", "/director/manifest", self.fields("Content-Length: %d" % (MOST_BODY + 1)),
+            lambda: Request("POST", "/director/manifest", self.fields("Content-Length: %d" % (reference_http.MOST_BODY + 1)),
                             check=("TooLarge", None)),
             lambda: Request("POST", "/director/manifest", self.fields("Transfer-Encoding: chunked"),
                             check=("not implemented", None)),
@@ -224,23 +188,6 @@ def by_script(program, before, path, commands, moments):
 
 # ---- damaged heads
 
-ANSWER = re.compile(rb"HTTP/1\.1 (\d{3}) ([A-Za-z ]+)\r\nContent-Type: application/json\r\nContent-Length: (\d+)\r\n"
-                    rb"(?:Allow: (?:GET|POST)\r\n)?(Connection: close\r\n)?\r\n")
-
-
-def are_answers(told):
-    """Whether the bytes are whole answers, of which none stands behind one that closes the connection."""
-    open_still = True
-    while told:
-        head = ANSWER.match(told)
-        if not open_still or head is None or PHRASES.get(int(head[1])) != head[2].decode():
-            return False
-        body, told = told[head.end() : head.end() + int(head[3])], told[head.end() + int(head[3]) :]
-        open_still = head[4] is None
-        if len(body) < int(head[3]) or (head[1] != b"200" and set(json.loads(body)) != {"error", "text"}):
-            return False
-    return True
-
 
 def spoiled(rng):
     """Requests that no manifest is accepted by, with bytes that are damaged anywhere."""
@@ -251,11 +198,19 @@ def spoiled(rng):
     return sent
 
 
+def by_the_rules(desk, sent):
+    """What is answered to a connection that sends this and ends its half."""
+    return b"".join(reference_http.answer(desk, 0, asked) for asked in reference_http.Stream().feed(sent, True))
+
+
 def hostile(program, path, rng):
-    """Whether requests with damaged heads are answered by whole answers, and leave the file as it was."""
-    rows = trials.rows(path)
+    """Whether requests with damaged heads are answered as by the rules, and leave the file as it was."""
+    rows, streams = trials.rows(path), [spoiled(rng) for _ in range(5)]
+    with trials.folder(path.parent) as own, closing(sqlite3.connect(trials.copied(path, own / "copy"))) as db:
+        desk = reference.Desk(db)
+        wanted = [by_the_rules(desk, sent) for sent in streams]
     with http_cases.served(program, path, 5) as running:
-        well = all([are_answers(came(running, spoiled(rng), rng)) for _ in range(5)])
+        well = [came(running, sent, rng) for sent in streams] == wanted
         return well and http_cases.ended(running) and trials.rows(path) == rows
 
 
@@ -320,6 +275,8 @@ def cases(program, first=1, number=100):
 
 
 if __name__ == "__main__":
+    if {"-h", "--help"} & {*sys.argv[1:]}:
+        sys.exit(print(__doc__))
     if not 2 <= len(sys.argv) <= 4:
         sys.exit(__doc__)
     sys.exit(trials.judged("http", cases(sys.argv[1], *map(int, sys.argv[2:]))))

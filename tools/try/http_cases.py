@@ -567,6 +567,8 @@ def cases(program, whole=False):
 
 
 if __name__ == "__main__":
+    if {"-h", "--help"} & {*sys.argv[1:]}:
+        sys.exit(print(__doc__))
     if len(sys.argv) not in (2, 3) or sys.argv[2:] not in ([], ["whole"]):
         sys.exit(__doc__)
     sys.exit(trials.judged("HTTP", cases(sys.argv[1], len(sys.argv) == 3)))

@@ -12,8 +12,12 @@ import sys
 import textwrap
 from pathlib import Path
 
-TOP = Path(__file__).resolve().parents[2]
-PAGES = ["README.md", "docs/**/*.md", "examples/**/README.md", "rows/README.md"]
+sys.dont_write_bytecode = True
+
+import trials
+from trials import TOP
+
+PAGES = ["README.md", "docs/**/*.md", "examples/**/README.md", "rows/README.md", "vectors/README.md"]
 
 
 def pages():
@@ -43,7 +47,7 @@ def links():
 def files():
     """The files and folders of the repository that the pages name, but for what is built."""
     for page in pages():
-        named = re.findall(r"`((?:tools|docs|rows|examples|crates|up_\w+)/[\w./-]*)`", page.read_text(encoding="utf-8"))
+        named = re.findall(r"`((?:tools|docs|rows|vectors|examples|crates|up_\w+)/[\w./-]*)`", page.read_text(encoding="utf-8"))
         for name in sorted(set(named)):
             if "/NAME/" not in name and "/out/" not in name:
                 yield "%s: the file %s" % (page.relative_to(TOP), name), any((top / name).exists() for top in (TOP, TOP / "crates"))
@@ -230,9 +234,9 @@ def cases():
 
 
 if __name__ == "__main__":
+    if {"-h", "--help"} & {*sys.argv[1:]}:
+        sys.exit(print(__doc__))
     if sys.argv[1:] == ["write"]:
         proofs = TOP / "docs" / "trust" / "PROOFS.md"
         proofs.write_text(with_files(proofs.read_text(encoding="utf-8")), encoding="utf-8")
-    other = [name for name, well in cases() if not well]
-    print("\n".join(other) or "nothing is missing")
-    sys.exit(bool(other))
+    sys.exit(trials.judged("page", cases()))

@@ -5,19 +5,15 @@
 
 A vehicle of three ECUs goes its rounds over HTTP: nothing to install, an update of which one image comes late, a reply that is
 lost before the keys are rotated, one that has expired, an ECU that is replaced, a service that isn't there. The commands of the page's
-section on rounds are carried out as they stand. Then each check of its verification is given metadata that breaks it alone, signed
-anew by the right keys.
+section on rounds are carried out as they stand. What it verifies is tried by `tools/try/vector_cases.py`.
 """
-import copy
 import hashlib
 import json
 import os
 import re
-import sqlite3
 import subprocess
 import sys
 import time
-from contextlib import closing
 from pathlib import Path
 
 sys.dont_write_bytecode = True
@@ -29,11 +25,6 @@ import reference
 import trials
 
 HERE = trials.TOP / "examples" / "primary"
-sys.path.insert(0, str(HERE))
-
-import envelopes
-import verify
-
 NOW = int(time.time())
 DAY = 86400
 # the Primary with short waits
@@ -197,150 +188,6 @@ def by_the_page(program, own):
     yield "the page's commands", told == first + second and b"Traceback" not in ran.stderr
 
 
-# ---- each check by itself
-
-
-def resealed(envelope, given, change):
-    """The file after a change, signed by these keys."""
-    signed = copy.deepcopy(envelope["signed"])
-    change(signed)
-    return json.loads(reference.sealed(given, reference.canonical(signed)))
-
-
-def key_of(repository, role, start=FIRST):
-    return [bytes.fromhex(key) for key in keys(start)[repository][role]["keys"]]
-
-
-class Metadata:
-    """The files of both repositories and a reply that assigns all three ECUs, by the rules."""
-
-    def __init__(self):
-        with closing(sqlite3.connect(":memory:")) as db:
-            desk = reference.Desk(db)
-            told = vehicle_of({})
-            reports = [{"ecu": ecu["ecu"], "key": ecu["secret"], "counter": 1, "time": NOW} | ecu["installed"] for ecu in told["ecus"]]
-            delivered = fleet.line("bench", NOW, vehicle="VIN-1", primary="gw", key=ecu_key(0), counter=1, reports=reports)
-            for line in [*beginning(NOW), *update(NOW), delivered]:
-                desk.answer(line)
-            files = desk.all("SELECT repository, name, body FROM repo_file")
-            self.files = {"%s/%s" % (row[0], row[1]): json.loads(row[2]) for row in files}
-            self.reply = json.loads(desk.one("SELECT reply FROM kept")[0])
-            desk.answer(fleet.line("rotate", NOW, **keys(SECOND)))
-            root = desk.one("SELECT body FROM repo_file WHERE repository = 'director' AND name = '2.root.json'")[0]
-        self.second = json.loads(root)
-        self.secrets = {envelopes.key_identifier(key): key for key in map(bytes.fromhex, told["role_secrets"])}
-        self.trust = {it: {"root": self.files[it + "/1.root.json"], "versions": {}} for it in reference.REPOSITORIES}
-        self.ecus = {ecu["ecu"]: ecu for ecu in told["ecus"]}
-        self.now = NOW
-
-    def image(self):
-        return {role: self.files["image/%s.json" % role] for role in verify.ROLES}
-
-    def resealed(self, role, change):
-        """The reply after a change of one of its files; the Timestamp and the Snapshot name what follows them."""
-        told = {role: resealed(self.reply[role], key_of("director", role), change)}
-        self.reply = self.reply | told
-
-    def verified(self):
-        trust = verify.latest_root(self.trust["director"], self.files.get, self.secrets, "director", self.now)
-        verify.check_reply(trust, self.reply, self.secrets, "VIN-1", self.now)
-        verify.latest_root(self.trust["image"], self.files.get, self.secrets, "image", self.now)
-        verify.check_files(self.trust["image"], self.image(), self.secrets, "image", self.now)
-        return verify.check_targets(self.reply["targets"], self.files["image/targets.json"], self.ecus)
-
-
-def target(**members):
-    """A change of the first target."""
-    return lambda signed: signed["targets"][0].update(members)
-
-
-def put(it, **members):
-    if isinstance(it, dict):
-        it.update(members)
-    else:
-        vars(it).update(members)
-
-
-CHANGES = {
-    "a reply for another vehicle": lambda it: put(it.reply, vehicle="VIN-2"),
-    "a reply of a Root that isn't served": lambda it: put(it.reply, root=2),
-    "files of two versions": lambda it: put(it.reply, version=9),
-    "a changed file": lambda it: it.reply["targets"]["signed"].update(version=1, expires="2099-01-01T00:00:00Z"),
-    "a file of another vehicle": lambda it: it.resealed("timestamp", lambda signed: signed.update(vehicle="VIN-2")),
-    "a Snapshot in place of Targets": lambda it: it.resealed("targets", lambda signed: signed.update(type="snapshot")),
-    "an expired Targets file": lambda it: it.resealed("targets", lambda signed: signed.update(expires=reference.moment(NOW))),
-    "an expired Snapshot": lambda it: it.resealed("snapshot", lambda signed: signed.update(expires=reference.moment(NOW))),
-    "an expired Timestamp": lambda it: put(it, now=NOW + 8 * DAY),
-    "a Timestamp that goes back": lambda it: it.trust["director"]["versions"].update(timestamp=2),
-    "a Snapshot that goes back": lambda it: it.trust["director"]["versions"].update(snapshot=2),
-    "Targets that go back": lambda it: it.trust["director"]["versions"].update(targets=2),
-    "a Timestamp of another Snapshot": lambda it: it.resealed("snapshot", lambda signed: signed.update(more=1)),
-    "a Snapshot of other Targets": lambda it: it.resealed("targets", lambda signed: signed.update(version=3)),
-    "an image that the Image repository hasn't": lambda it: it.resealed("targets", target(file="gateway-9.bin")),
-    "another length": lambda it: it.resealed("targets", target(length=1)),
-    "another hash": lambda it: it.resealed("targets", target(hashes=hashes("gateway-2.bin") | {"sha256": 64 * "0"})),
-    "another second hash": lambda it: it.resealed("targets", target(hashes=hashes("gateway-2.bin") | {"sha512": 128 * "0"})),
-    "no second hash": lambda it: it.resealed("targets", target(hashes={"sha256": hashes("gateway-2.bin")["sha256"]})),
-    "another release": lambda it: it.resealed("targets", target(release=3)),
-    "other hardware": lambda it: it.resealed("targets", target(hardware=["GW", "BR"])),
-    "an ECU of another vehicle": lambda it: it.resealed("targets", target(ecu="other")),
-    "two images for an ECU": lambda it: it.resealed("targets", target(ecu="left")),
-    "an image for other hardware": lambda it: it.ecus["gw"].update(hardware="GW-9"),
-    "a release that is lower": lambda it: it.ecus["gw"]["installed"].update(release=3),
-    "an Image repository that has expired": lambda it: put(it, now=NOW + 2 * DAY),
-    "an Image repository that goes back": lambda it: it.trust["image"]["versions"].update(targets=9),
-    "a Root that has expired": lambda it: put(it, now=NOW + 366 * DAY),
-    "a Root that the old keys didn't sign": lambda it: it.files.update({"director/2.root.json": resealed(it.second, key_of("director", "root", SECOND), lambda _: None)}),
-    "a Root that its own keys didn't sign": lambda it: it.files.update({"director/2.root.json": resealed(it.second, key_of("director", "root"), lambda _: None)}),
-    "a Root by one of two old keys": lambda it: it.files.update({"director/2.root.json": resealed(
-        it.second, key_of("director", "root", SECOND) + 2 * key_of("director", "root")[:1], lambda _: None)}),
-    "a Root of a later version": lambda it: it.files.update({"director/2.root.json": resealed(
-        it.second, key_of("director", "root", SECOND) + key_of("director", "root"), lambda signed: signed.update(version=3))}),
-    "a Root of the other repository": lambda it: it.files.update({"director/2.root.json": resealed(
-        it.second, key_of("director", "root", SECOND) + key_of("director", "root"), lambda signed: signed.update(repository="image"))}),
-    "a Root whose keys the vehicle hasn't": lambda it: [it.files.update({"director/2.root.json": it.second}),
-                                                       [it.secrets.pop(envelopes.key_identifier(key)) for key in key_of("director", "root", SECOND)]],
-    "an older Root's reply": lambda it: it.files.update({"director/2.root.json": it.second}),
-}
-OLD = {"an expired Targets file", "an expired Snapshot", "an expired Timestamp", "an older Root's reply"}
-
-
-def checks():
-    whole = Metadata()
-    yield "metadata of both repositories", sorted(whole.verified()) == ["gw", "left", "right"]
-    for name, change in CHANGES.items():
-        broken = copy.deepcopy(whole)
-        change(broken)
-        try:
-            broken.verified()
-            well = False
-        except verify.Refused as refused:
-            well = isinstance(refused, verify.Old) == (name in OLD)
-        yield name, well
-    due, wrong = whole.verified()["gw"], 0
-    for content in (b"", CONTENT["gateway-1.bin"]):
-        try:
-            verify.check_image(due, content)
-        except verify.Refused:
-            wrong += 1
-    yield "another image's bytes", wrong == 2 and verify.check_image(due, CONTENT["gateway-2.bin"]) is None
-    yield "an image of another second hash", is_refused(due | {"hashes": due["hashes"] | {"sha512": 128 * "0"}}, CONTENT["gateway-2.bin"])
-    yield "an image of one hash", not is_refused(due | {"hashes": {"sha256": due["hashes"]["sha256"]}}, CONTENT["gateway-2.bin"])
-    forgotten = copy.deepcopy(whole)
-    forgotten.files["director/2.root.json"] = forgotten.second
-    forgotten.trust["director"]["versions"] = {"timestamp": 9, "snapshot": 9, "targets": 9}
-    trusted = verify.latest_root(forgotten.trust["director"], forgotten.files.get, forgotten.secrets, "director", NOW)
-    yield "versions are forgotten with their keys", trusted["versions"] == {"timestamp": 0, "snapshot": 0, "targets": 9}
-
-
-def is_refused(target, content):
-    try:
-        verify.check_image(target, content)
-        return False
-    except verify.Refused:
-        return True
-
-
 def words():
     """What the Primary says to what isn't as it must be: one line, and no trace of its own."""
     tried = [(["send", "http://127.0.0.1:%d" % http_cases.free_port()], http_cases.GIVEN, 1), (["build"], b"{}", 1), (["build"], b"nope", 1),
@@ -356,11 +203,12 @@ def cases(program):
         yield from rounds(program, own)
     with trials.folder() as own:
         yield from by_the_page(program, own)
-    yield from checks()
     yield from words()
 
 
 if __name__ == "__main__":
+    if {"-h", "--help"} & {*sys.argv[1:]}:
+        sys.exit(print(__doc__))
     if len(sys.argv) != 2:
         sys.exit(__doc__)
     sys.exit(trials.judged("primary", cases(Path(sys.argv[1]).resolve())))

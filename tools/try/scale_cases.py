@@ -293,6 +293,8 @@ def cases(program):
 
 
 if __name__ == "__main__":
+    if {"-h", "--help"} & {*sys.argv[1:]}:
+        sys.exit(print(__doc__))
     if len(sys.argv) not in (2, 3) or sys.argv[2:] not in ([], ["measure"]):
         sys.exit(__doc__)
     given = Path(sys.argv[1]).resolve()

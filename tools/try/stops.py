@@ -163,6 +163,8 @@ def cases(program):
 
 
 if __name__ == "__main__":
+    if {"-h", "--help"} & {*sys.argv[1:]}:
+        sys.exit(print(__doc__))
     if len(sys.argv) != 2:
         sys.exit(__doc__)
     sys.exit(trials.judged("stop", cases(sys.argv[1])))

@@ -353,6 +353,8 @@ def main(program, kind, every="1", first="1"):
 
 
 if __name__ == "__main__":
+    if {"-h", "--help"} & {*sys.argv[1:]}:
+        sys.exit(print(__doc__))
     if len(sys.argv) not in (3, 4, 5) or sys.argv[2] not in VARIABLES:
         sys.exit(__doc__)
     sys.exit(main(*sys.argv[1:]))

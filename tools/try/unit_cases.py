@@ -352,6 +352,8 @@ def main(program):
 
 
 if __name__ == "__main__":
+    if {"-h", "--help"} & {*sys.argv[1:]}:
+        sys.exit(print(__doc__))
     if sys.argv[2:] == ["inside"]:
         sys.exit(trials.judged("units", cases(sys.argv[1])))
     if len(sys.argv) != 2:
