@@ -270,8 +270,8 @@ def checked_files(program, own):
     stopped = trials.copied(path, own / "stopped")
     yield "one with the log that a stop left", stop_after(program, stopped, fleet.line("refresh", version=1000)) and check(stopped) == (0, [])
     anew = [(name, campaign_anew(old, new), said) for name, old, new, said in MADE_ANEW]
-    for name, statements, said in CHANGED + anew:
-        found = check(changed(path, own / "changed", statements))
+    for name, changes, said in CHANGED + anew:
+        found = check(changed(path, own / "changed", changes))
         wanted = said if isinstance(said, list) else [said]
         yield "one with " + name, found is not None and found[0] == bool(wanted) and begin(found[1], wanted)
     # (the log alone has the change)

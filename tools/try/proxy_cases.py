@@ -210,10 +210,17 @@ def proxied(program, own, name, secret):
                 yield name + ": no service is the proxy's own answer", status == 502
             waits = [pool.submit(asked, proxy, "GET", "/image/root.json") for _ in range(10 if name == "haproxy" else 0)]
             time.sleep(1)
-            again = up.enter_context(subprocess.Popen(words, stdout=subprocess.PIPE))
-            again.stdout.readline()
+            again = begun(up, words)
             yield name + ": a service that is started again", asked(proxy, "GET", "/image/root.json") == [(200, root)]
             yield from over_a_restart(proxy, pool, again, words, up, waits, root) if name == "haproxy" else ()
+
+
+def begun(up, words):
+    """The service, once it listens; it ends with the rest."""
+    running = up.enter_context(subprocess.Popen(words, stdout=subprocess.PIPE))
+    up.callback(running.kill)
+    running.stdout.readline()
+    return running
 
 
 def over_a_restart(proxy, pool, running, words, up, waits, root):
@@ -225,12 +232,11 @@ def over_a_restart(proxy, pool, running, words, up, waits, root):
     running.kill()
     running.wait()
     time.sleep(1.5)
-    last = up.enter_context(subprocess.Popen(words, stdout=subprocess.PIPE))
+    begun(up, words)
     before = sum(it.done() for it in sent)
     well = [it.result() for it in sent] == HUNDRED * [[(200, REPLY)]]
     print("haproxy: %d of %d were answered before the service was there again" % (before, HUNDRED))
     yield "haproxy: a hundred requests over a restart, none is refused", well and before < HUNDRED
-    last.kill()
 
 
 # ---- units

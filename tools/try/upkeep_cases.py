@@ -97,7 +97,7 @@ def measured(program, own):
             "assignments_open": one("SELECT count(*) %s, json_each(plan_text, '$.assigned')" % last),
             "assignments_open_long": sum(len(set.intersection(*its[-3:])) for its in plans.values() if len(its) >= 3),
             "kept_replies": one("SELECT count(*) FROM kept"), "kept_replies_last_day": one("SELECT count(*) FROM kept WHERE moment > %d" % (after - DAY)),
-            "images": one("SELECT count(*) FROM image"), "file_bytes": path.stat().st_size,
+            "images": one("SELECT count(*) FROM image"), "file_bytes": path.stat().st_size + trials.log_of(path).stat().st_size,
             "newest_timestamp_seconds": one("SELECT max(moment) FROM kept"), "copy_timestamp_seconds": int(path.stat().st_mtime),
         }
         silent = one("SELECT count(*) %s WHERE moment < %d" % (last, after - DAY))
