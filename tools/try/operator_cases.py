@@ -368,7 +368,7 @@ def pages(program, own):
     yield "all vehicles are on the page", len(packed["vehicles"]) == 11 and packed["vehicles"][0][0] == "new" and packed["vehicles"][0][2] is None
     yield "nothing comes from outside", not re.search(r"(?:src|href)=\"(?!#)|url\(|@import|https?:", made)
     with trials.read(path) as db:
-        left = dict(db.execute(query("TABLES.md", "SELECT campaign.name, count(ecu.ecu)")))
+        left = dict(db.execute(query("use/TABLES.md", "SELECT campaign.name, count(ecu.ecu)")))
         secrets = [row[0].hex() for row in db.execute("SELECT secret FROM role_key UNION SELECT public_key FROM ecu")]
     with fleet_tables.opened(path) as db:
         schema = fleet_tables.meta_of(db)["schema"]
@@ -388,7 +388,7 @@ def pages(program, own):
              if has and ecu["file"] == offers[it["name"]][ecu["hardware"]]) for it in campaigns}
     yield "ECUs began to report an image when their manifests first had it", began == first and len(set(sum(began.values(), []))) > 1
     with trials.read(path) as db:
-        wanted = db.execute(query("TABLES.md", "SELECT retired.vehicle, retired.ecu, max(version)")).fetchall()
+        wanted = db.execute(query("use/TABLES.md", "SELECT retired.vehicle, retired.ecu, max(version)")).fetchall()
     yield "replaced ECUs are those of the query", sorted(gone) == sorted(wanted) and len(gone) > 1 and all(it[1] in made for it in gone)
     yield "each table can be saved", re.findall('data-csv="([a-z]+)"', made)[:3] == ["campaigns", "files", "releases"]
     yield "the page is as of the newest manifest", "as of %s UTC" % date_of(max(it["seen"] or 0 for it in vehicles)) in made

@@ -123,25 +123,21 @@ def measured(program, own):
 
 # ---- scripts that are dropped
 
-SYSTEMCTL = """#!%s
-import json, os, signal, subprocess, sys, time
-folder = %r
-words = [it for it in sys.argv[1:] if not it.startswith("-") and it not in ("MainPID",)]
-verb, unit = words[0], words[-1]
-path = os.path.join(folder, unit + ".pid")
-alive = lambda: os.path.exists(path) and os.path.exists("/proc/" + open(path).read())
-with open(os.path.join(folder, "calls"), "a") as out:
-    print(verb, unit, file=out)
-if verb == "show":
-    print(open(path).read() if alive() else 0)
-elif verb == "stop" and alive():
-    os.kill(int(open(path).read()), signal.SIGTERM)
-    while alive():
-        time.sleep(0.01)
-elif verb == "start" and not alive():
-    child = subprocess.Popen(json.load(open(os.path.join(folder, "units")))[unit], stdout=subprocess.PIPE, stderr=subprocess.DEVNULL, start_new_session=True)
-    open(path, "w").write(str(child.pid))
-    child.stdout.readline()
+SYSTEMCTL = """#!/bin/sh
+cd %s
+for unit; do :; done
+read -r pid < "$unit.pid" || pid=0
+alive() { [ "$pid" != 0 ] && [ -e "/proc/$pid" ] && ! grep -q '^State:.Z' "/proc/$pid/status"; }
+if [ "$1" != show ]; then echo "$1 $unit" >> calls; fi
+case $1 in
+show) if alive; then echo "$pid"; else echo 0; fi;;
+stop) if alive; then kill "$pid"; while alive; do sleep 0.02; done; fi;;
+start)
+    if ! alive; then
+        setsid sh -c 'echo $$ > "$0.pid"; exec $(cat "$0.words")' "$unit" > "$unit.said" 2>&1 9>&- &
+        until grep -q listening "$unit.said"; do sleep 0.02; done
+    fi;;
+esac 2> /dev/null
 """
 # what `runuser -u USER -- WORDS` does, by the same user
 RUNUSER = '#!/bin/sh\nshift 3\nexec "$@"\n'
@@ -156,9 +152,11 @@ class Service:
             (own / name).mkdir()
         first = next(port for port in (http_cases.free_port() for _ in range(100)) if port < 65_000)
         self.ports = {name: first + int(name or 0) for name in self.names}
-        units = {self.unit(name): [str(program), "serve", str(self.file(name)), str(port), "100000"] for name, port in self.ports.items()}
-        (own / "run" / "units").write_text(json.dumps(units), encoding="ascii")
-        for name, text in (("systemctl", SYSTEMCTL % (sys.executable, str(own / "run"))), ("runuser", RUNUSER)):
+        for name, port in self.ports.items():
+            (own / "run" / (self.unit(name) + ".words")).write_text("%s serve %s %d 1000000" % (program, self.file(name), port), encoding="ascii")
+            (own / "run" / (self.unit(name) + ".pid")).write_text("0\n", encoding="ascii")
+        (own / "bin" / "python3").symlink_to(os.path.realpath(sys.executable))
+        for name, text in (("systemctl", SYSTEMCTL % (own / "run")), ("runuser", RUNUSER)):
             (own / "bin" / name).write_text(text, encoding="ascii")
             (own / "bin" / name).chmod(0o755)
         told = {"PROGRAM": program, "TOOLS": TOOLS, "FOLDER": own / "data", "SPOOL": own / "spool", "JOURNAL": own / "journal", "COPIES": own / "copies"}
