@@ -24,17 +24,21 @@ older() { find "$COPIES" -maxdepth 1 -name "$1" | sort -r | tail -n "+$(($2 + 1)
 
 backup() {
     copy="$COPIES/desk$1-$(date -u +%Y%m%dT%H%M%SZ).db" process=$(systemctl show -p MainPID --value "$(unit_of "$1")")
-    if tool copy_served "$process" "$FOLDER/desk$1.db" "$copy" && tool check_file "$copy"; then
+    if tool copy_served "$process" "$FOLDER/desk$1.db" "$copy"; then
         made="$made $copy" named="$named desk$1=$copy"
-        older "desk$1-*Z.db" "$KEEP"
-        older "desk$1-*Z-before.db" "$KEEP"
     else
         echo "backup.sh: desk $1: no copy" >&2
         failed=yes
     fi
 }
 
-for desk in $(if [ "$DESKS" ]; then seq "$DESKS"; else echo alone; fi); do backup "${desk#alone}"; done
+each() { for desk in $(if [ "$DESKS" ]; then seq "$DESKS"; else echo alone; fi); do "$@" "${desk#alone}"; done; }
+each backup
+# shellcheck disable=SC2086
+tool check_file $made || failed=yes
+# copies that are amiss take no older one's place
+dropped() { older "desk$1-*Z.db" "$KEEP"; older "desk$1-*Z-before.db" "$KEEP"; }
+if [ ! "$failed" ]; then each dropped; fi
 # shellcheck disable=SC2086
 if [ "$METRICS" ] && [ ! "$failed" ]; then tool metrics --to "$METRICS" $named || failed=yes; fi
 # shellcheck disable=SC2086

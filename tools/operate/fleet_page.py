@@ -260,7 +260,7 @@ def heading(desks, images, now):
     old = ", %s before now" % span(now - newest) if now - newest >= 120 else ""
     roots = sorted({it["meta"]["root"] for it in desks})
     grown = sum(it["day"] * it["size"] // it["kept"] for it in desks if it["kept"])
-    told = ["as of %s UTC%s" % (date(newest), old), many(len(desks), "desk") if len(desks) > 1 else "",
+    told = ["as of %s UTC%s" % (moment(newest), old), many(len(desks), "desk") if len(desks) > 1 else "",
             "root version %s of %d" % (" to ".join(map(str, {roots[0]: 0, roots[-1]: 0})), ROOTS), "%s of %s images" % (grouped(len(images)), grouped(IMAGES)),
             "%s in %s, %s a day" % (many(sum(it["kept"] for it in desks), "kept reply").replace("replys", "replies"), size(sum(it["size"] for it in desks)), size(grown)),
             "schema %s" % " and ".join(map(str, sorted({it["meta"]["schema"] for it in desks})))]
