@@ -41,8 +41,9 @@ sys.dont_write_bytecode = True
 import verify
 from envelopes import canonical, hashes, key_identifier, manifest
 
-# seconds: what an answer may take, and the waits between tries, each half as long again at random so that a fleet doesn't come at once
-PATIENCE = 20
+# seconds: what an answer may take, longer than the proxies of `examples/service` wait, and the waits between tries, each half as long again at
+# random so that a fleet doesn't come at once
+PATIENCE = 100
 WAITS = (1, 3, 9)
 # seconds between two rounds, and behind the first that failed; that wait doubles with each further one
 INTERVAL, FAILED = 86_400, 300
@@ -114,11 +115,23 @@ def verified(told, reply, url, now):
     director["versions"] |= verify.check_reply(director, reply, secrets, told["vehicle"], now)
     if not reply["targets"]["signed"]["targets"]:
         return {}, {"director": director}
-    image = verify.latest_root(told["image"], fetch, secrets, "image", now)
-    files = {role: fetch("image/%s.json" % role) for role in verify.ROLES}
-    verify.expect(all(files.values()), "the Image repository lacks a file")
-    image["versions"] |= verify.check_files(image, files, secrets, "image", now)
-    return verify.check_targets(reply["targets"], files["targets"], ecus), {"director": director, "image": image}
+    targets, image = image_repository(told["image"], fetch, secrets, now)
+    return verify.check_targets(reply["targets"], targets, ecus), {"director": director, "image": image}
+
+
+def image_repository(trust, fetch, secrets, now):
+    """The Image repository's Targets, and what is trusted from now on. A change of the repository between two of these requests mixes
+    files of two versions: so what can't be verified is fetched once more, from the Root on."""
+    for again in (True, False):
+        try:
+            image = verify.latest_root(trust, fetch, secrets, "image", now)
+            files = {role: fetch("image/%s.json" % role) for role in verify.ROLES}
+            verify.expect(all(files.values()), "the Image repository lacks a file")
+            versions = verify.check_files(image, files, secrets, "image", now)
+            return files["targets"], image | {"versions": image["versions"] | versions}
+        except verify.Refused:
+            if not again:
+                raise
 
 
 def answered(told, url, save):
@@ -134,8 +147,13 @@ def answered(told, url, save):
         if refused.get("error") == 13:
             told["counter"], told["pending"] = int(refused["text"].split()[1]), None
             continue
+        if refused.get("error") == 18:
+            # (the ECU has lost its counter: no one says what the last one was, but counters needn't be consecutive)
+            skip(told, refused["text"].split()[1], now)
+            continue
         if status != 200:
-            told["pending"] = told["pending"] if status >= 500 else None
+            # (without an error it is a proxy's answer, and the service may not have had the manifest)
+            told["pending"] = None if refused and status < 500 else told["pending"]
             raise Failed("%d %s" % (status, text))
         try:
             return verified(told, json.loads(text), url, now)
@@ -143,6 +161,14 @@ def answered(told, url, save):
             print("again with a new manifest: %s" % old)
             told["pending"] = None
     raise Failed("the service's replies stay old: is its clock right?")
+
+
+def skip(told, name, now):
+    """The ECU goes on from the time in seconds, which is above all of its reports so far."""
+    for ecu in told["ecus"]:
+        if ecu["ecu"] == name:
+            ecu["counter"] = max(ecu["counter"], now)
+    told["pending"] = None
 
 
 def within(folder, name):

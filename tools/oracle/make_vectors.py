@@ -618,7 +618,7 @@ def files():
 def main(words):
     if words not in ([], ["--check"]):
         print(__doc__)
-        return 0 if words == ["--help"] else 2
+        return 0 if {"-h", "--help"} & {*words} else 2
     differing = 0
     for name, made in files():
         path = FOLDER / name

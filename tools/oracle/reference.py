@@ -602,6 +602,12 @@ class Desk:
         self.in_range(line)
         return self.delivered(body, line["at"])
 
+    def reply_to(self, body, at):
+        """The reply to a manifest that is accepted, or was."""
+        self.delivered(body, at)
+        sent = read_manifest(body)
+        return self.one("SELECT reply FROM kept WHERE vehicle = ? AND counter = ?", sent["vehicle"], sent["counter"])[0]
+
     def delivered(self, body, at):
         told = read_manifest(body)
         self.founded()
@@ -715,13 +721,13 @@ def run(desk):
 
 def main(words):
     number = re.compile("[1-9][0-9]{0,6}")
-    if words == ["--help"]:
-        print(__doc__.strip())
+    if {"-h", "--help"} & {*words}:
+        print(__doc__)
         return 0
     asked, *given = words or [None]
     serves = asked == "serve" and len(given) in (2, 3) and all(map(number.fullmatch, given[1:])) and int(given[1]) < 65536
     if not serves and (asked != "run" or len(given) != 1):
-        print(__doc__.strip(), file=sys.stderr)
+        print(__doc__, file=sys.stderr)
         return 2
     os.umask(0o077)
     sys.stderr.write(LABEL)

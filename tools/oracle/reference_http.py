@@ -157,9 +157,8 @@ def carried_out(desk, at, what):
     """The text that answers a command."""
     if isinstance(what, tuple):
         return desk.fetch({"at": at, "repository": what[0], "file": what[1]}).removeprefix("file ")
-    desk.delivered(what, at)
-    told = reference.read_manifest(what)
-    return desk.one("SELECT reply FROM kept WHERE vehicle = ? AND counter = ?", told["vehicle"], told["counter"])[0]
+    desk.in_range({"at": at})
+    return desk.reply_to(what, at)
 
 
 def answer(desk, at, asked):

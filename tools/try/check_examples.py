@@ -4,6 +4,8 @@ as the page for integrators shows. What needs no program is compared by `tools/r
 
     check_examples.py PROGRAM [ROWS]    PROGRAM is uptane_desk, ROWS the program of the crate that carries the rows out, which is
                                         given the page's reply, and a changed one, too
+
+promise: script-ends
 """
 import subprocess
 import sys

@@ -7,6 +7,8 @@
 Manifests of a fleet are posted without a pause (2,000, a hundred a connection) while copies are taken (6): SQLite finds each whole,
 it has the reply to every manifest that was answered before it was asked for, the program takes it and answers these
 manifests by the same replies, and the service goes on and answers all the rest.
+
+promise: time-limits
 """
 import contextlib
 import io

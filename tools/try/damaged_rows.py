@@ -13,6 +13,8 @@ Where the row breaks the schema, as SQLite tells, the program doesn't start and 
 as over the story's own file, or `refused 2 Store`, and no line that is refused so changes a row of any table. Some columns are
 answered otherwise today, and are named here: `KEYS` and `AS_THEY_STAND`. There each line is answered by the rules of
 `tools/oracle/reference.py` over the rows as they stand, or `Store`.
+
+promise: store-columns
 """
 import copy
 import os

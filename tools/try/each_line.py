@@ -11,6 +11,8 @@ TEXT`, `cuts TEXT` and `bytes HEX` are a body that is delivered, each of its beg
 in hex. How texts that repeat or change in one place are spelled is said in `up_test_rows/src/sections.rt`. What is wanted is the line printed, with the SHA-256
 of a file in place of its text and of a reply behind its line, and what is shown of a vehicle without its name. In a section of
 stops a row is a whole run, its lines parted by ` ;; `, for `stops.py`.
+
+promise: line-meaning, script-any-database, http-output
 """
 import hashlib
 import http.client

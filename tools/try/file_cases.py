@@ -9,6 +9,8 @@ The program is killed (SIGKILL) once so many lines of a fleet's day are printed,
 a new file, and the day is repeated over what is left: it is answered as by the rules after the lines that were
 carried out. A minute is given for it, in which at least a quarter of the moments must come. And it is killed while it
 opens files of older schemas: they are of the old schema or of the page's, and go on as they would have gone on.
+
+promise: closed-once, file-names, file-adopted, deliveries-act-once
 """
 import json
 import os

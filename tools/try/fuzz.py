@@ -10,6 +10,8 @@ by the rules, and each file has to have its rows. Where they differ, the seed an
 
 With `bodies` each seed delivers a hundred manifests of one vehicle over memory: in the form in which Primaries write
 them, and with one change each, before an ECU signs, before the Primary signs, in the whole body, or in the line itself.
+
+promise: manifest-meaning, line-meaning
 """
 import json
 import random

@@ -11,6 +11,8 @@ had, and the file has to have its rows. The same is then asked for by script, ea
 copy of the file as it was, and over memory after the script that filled it. Both have to answer alike, and the copy has to have
 the same rows, byte for byte. Five more connections send requests whose
 heads are damaged anywhere: they are answered as `tools/oracle/reference_http.py` answers them, and the file stays as it was.
+
+promise: statements-alone
 """
 import contextlib
 import json

@@ -8,6 +8,8 @@ are known beforehand. Clients that hold the connection are tried all at once, be
 those that send or take a byte now and then, the program's clock is made to go thirty times as fast, and one case sets it to a time
 before 1970, which needs a C compiler.
 `whole` tries these alone, by the clock as it is, which takes six minutes.
+
+promise: exit-status, messages, closed-once, connections-counted, time-limits
 """
 import calendar
 import contextlib

@@ -244,11 +244,11 @@ def check(path):
     return (ran.returncode, ran.stdout.decode("ascii").splitlines()) if after == before and not ran.stderr else None
 
 
-def changed(path, to, statements):
+def changed(path, to, made_of):
     """A copy of a file of the program's own in which SQLite carries out statements."""
     trials.copied(path, to)
     with closing(sqlite3.connect(to, isolation_level=None)) as db:
-        for statement in statements:
+        for statement in made_of:
             db.execute(statement)
     return to
 
@@ -270,8 +270,8 @@ def checked_files(program, own):
     stopped = trials.copied(path, own / "stopped")
     yield "one with the log that a stop left", stop_after(program, stopped, fleet.line("refresh", version=1000)) and check(stopped) == (0, [])
     anew = [(name, campaign_anew(old, new), said) for name, old, new, said in MADE_ANEW]
-    for name, changes, said in CHANGED + anew:
-        found = check(changed(path, own / "changed", changes))
+    for name, sql, said in CHANGED + anew:
+        found = check(changed(path, own / "changed", sql))
         wanted = said if isinstance(said, list) else [said]
         yield "one with " + name, found is not None and found[0] == bool(wanted) and begin(found[1], wanted)
     # (the log alone has the change)
@@ -316,8 +316,8 @@ def taken_changed(program, own):
     trials.printed(program, path, http_cases.FIRST_PATH)
     as_ever = trials.printed(program, trials.copied(path, own / "same"), ASKED)
     yield "each line is answered", len(as_ever) == 5 and not any(it.startswith("refused") for it in as_ever)
-    for name, statements, lost in TAKEN + [(name, it, None) for name, it in REFUSED]:
-        other = changed(path, own / name.replace(" ", "-"), statements)
+    for name, sql, lost in TAKEN + [(name, it, None) for name, it in REFUSED]:
+        other = changed(path, own / name.replace(" ", "-"), sql)
         unwritten = trials.run(program, trials.copied(other, own / "unwritten"), ASKED)
         yield "a file with %s is refused for its sums" % name, unwritten == (3, b"", trials.NO_DATABASE)
         page_sums.main(other)

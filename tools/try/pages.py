@@ -1,8 +1,7 @@
 #!/usr/bin/env python3
-"""What the pages name is there: links, headings, files, contracts, calls, tests, refused edits, rows, and the texts of the
-Primary's page. Tests are functions, or sections of the rows that a crate or a tool carries out, named by their words. And each
-public call of the program's libraries is named by the page of proofs, each refusal and each message of the program by the page
-for operators.
+"""What the pages name is there: links, headings, files, contracts, calls, tests, rows, and the texts of the Primary's page. Tests
+are functions, or sections of the rows that a crate or a tool carries out, named by their words. And each public call of the
+program's libraries is named by the page of proofs, each refusal and each message of the program by the page for operators.
 
     pages.py          tells what isn't there
     pages.py write    writes, for each promise of the page of proofs, the files of its contract; then the same
@@ -17,7 +16,7 @@ sys.dont_write_bytecode = True
 import trials
 from trials import TOP
 
-PAGES = ["README.md", "docs/**/*.md", "examples/**/README.md", "rows/README.md", "vectors/README.md"]
+PAGES = ["README.md", "SECURITY.md", "docs/**/*.md", "examples/**/README.md", "rows/README.md", "vectors/README.md", "crates/*/README.md"]
 
 
 def pages():
@@ -58,10 +57,8 @@ def promised():
     proofs, standard = ((TOP / "docs" / "trust" / name).read_text(encoding="utf-8") for name in ("PROOFS.md", "STANDARD.md"))
     front = (TOP / "README.md").read_text(encoding="utf-8").split("\n## What is proved\n")[1].split("\n## ")[0]
     yield from (("README.md", "Contract", name) for name in re.findall(r"`([\w:]+)`", front))
-    for label in ("Contract", "Calls", "Tests", "Rows", "Edits"):
-        for part in re.findall(r"\*%s\*(.*?)(?=\n  \*|\n- |\n\n|\n#)" % label, proofs, re.DOTALL):
-            named = r"[\w:\-, ]+" if label == "Tests" else r"[\w:\-]+"
-            yield from (("PROOFS.md", label, name) for name in re.findall(r"`([^`]+)`", part) if re.fullmatch(named, name))
+    for bullet in BULLET.findall(proofs):
+        yield from (("PROOFS.md", "Contract", name) for name in re.findall(r"`([\w:]+)`", CONTRACT.search(bullet)[1]))
     for begins, label in (("Contract", "Contract"), ("Shown by", "Tests, Rows")):
         for part in re.findall(r"- %s:(.*?)(?=\n- |\n\n)" % begins, standard, re.DOTALL):
             yield from (("STANDARD.md", label, name) for name in re.findall(r"`([\w: ]+)`", part))
@@ -83,27 +80,26 @@ def names_there():
     contracts = re.findall(r"\b(?:fn|ensures|struct|enum|trait|mod) (\w+)", code)
     return {
         "Contract": set(contracts) | set(re.findall(r"\bpub (?:record |data )?(\w+)", specs)),
-        "Calls": set(re.findall(r"\b(?:fn|impl|struct|trait) (\w+)", code)),
         "Tests": set(re.findall(r"#\[test\]\s*fn (\w+)", code)) | {path.name for path in TOP.glob("crates/*")} | sections(),
         "Rows": {path.parent.name for path in TOP.glob("rows/*/script")},
-        "Edits": {path.stem for path in TOP.glob("crates/*/*/*.edit")},
     }
 
 
 def promises():
-    """Whether what the pages name is there. Crates of tests stand for their tests; the names of edits have hyphens."""
+    """Whether what the pages name is there. Crates of tests stand for their tests."""
     there = names_there()
     for page, labels, name in sorted(set(promised())):
         words = set(name.split("::"))
-        if labels != "Edits" or "-" in name:
-            yield "%s: %s" % (page, name), any(words <= there[label] for label in labels.split(", "))
+        yield "%s: %s" % (page, name), any(words <= there[label] for label in labels.split(", "))
 
 
 # ---- the files of contracts
 
-BULLET = re.compile(r"^- \*\*.*?(?=^- \*\*|^## |\Z)", re.MULTILINE | re.DOTALL)
-CONTRACT = re.compile(r"^  \*Contract\*.*?\n(?=  \*|- |\n|#|\Z)", re.MULTILINE | re.DOTALL)
-FILES = re.compile(r"^  \*Files?\*:.*?\n(?=  \*|- |\n|#|\Z)", re.MULTILINE | re.DOTALL)
+# A promise: its name and its sentence, then its contract, with the files in which that is declared.
+BULLET = re.compile(r"^- `[a-z][a-z0-9-]*`: .*?(?=^- `[a-z]|^## |^Crates? |\n\n|\Z)", re.MULTILINE | re.DOTALL)
+CONTRACT = re.compile(r"^  \*Contract\*: (.*?)(?:,\s+in\s+(`[\w./]+`(?:,\s+`[\w./]+`)*))?\.\s*\Z", re.MULTILINE | re.DOTALL)
+# so many files are named, and else their folder
+MOST_FILES = 4
 
 
 def crates_in(text):
@@ -135,38 +131,26 @@ def contract_files(contract, code):
     return sorted(made or {path for path, text in code.items() for name in names if re.search(r"\bensures %s\b" % name, text)})
 
 
-def files_of(bullet, crates):
-    """The line of a promise that names the files of its contract."""
-    contract = CONTRACT.search(bullet)
-    for tried in (crates, crates_in(bullet[: contract.start()])):
-        paths = contract_files(contract.group(0), sources(tried))
-        if paths:
-            break
-    names = ["`%s`" % (path.name if tried == crates and len(crates) == 1 else path.relative_to(TOP / "crates")) for path in paths]
-    line = "*File%s*: %s." % ("s" * (len(names) > 1), ", ".join(names))
-    return textwrap.fill(line, 100, initial_indent="  ", subsequent_indent="  ", break_on_hyphens=False) + "\n" if names else ""
-
-
 def with_files(text):
-    """The page of proofs with these lines. A contract that is `the same` as the one before stands in the same files."""
-    def named(crates):
-        last = ""
+    """The page of proofs, with the files of each contract."""
+    made, crates = [], []
+    for part in re.split(r"(?m)^(?=Crates? `)", text):
+        head = re.match(r"Crates? .*?\.\n", part, re.DOTALL)
+        crates = crates_in(head[0]) if head else crates
+        code = sources(crates)
 
-        def replaced(found):
-            nonlocal last
-            bullet = FILES.sub("", found.group(0))
+        def named(found):
+            bullet = found[0].rstrip("\n")
             contract = CONTRACT.search(bullet)
-            if contract and not re.search(r"\bthe same(?: \([^)]*\))?\.\s*$", contract.group(0)):
-                last = files_of(bullet, crates)
-            return CONTRACT.sub(lambda it: it.group(0) + last, bullet, count=1)
+            paths = contract_files(contract[1], code)
+            names = [str(path.relative_to(TOP / "crates")) if len(crates) > 1 else path.name for path in paths]
+            if len(names) > MOST_FILES:
+                names = sorted({"%s/src/" % path.relative_to(TOP / "crates").parts[0] for path in paths})
+            said = "*Contract*: %s, in %s." % (" ".join(contract[1].split()), ", ".join("`%s`" % name for name in names))
+            made_of = textwrap.fill(said, 100, initial_indent="  ", subsequent_indent="  ", break_on_hyphens=False)
+            return bullet[: contract.start()] + made_of + "\n" * (len(found[0]) - len(bullet))
 
-        return replaced
-
-    made = re.split(r"(?m)^(?=## )", text)
-    for at, part in enumerate(made):
-        head = re.search(r"^Crates? .*?(?=\n\n)", part, re.MULTILINE | re.DOTALL)
-        if head:
-            made[at] = BULLET.sub(named(crates_in(head.group(0).split(".")[0])), part)
+        made.append(BULLET.sub(named, part) if head else part)
     return "".join(made)
 
 
@@ -175,8 +159,7 @@ def located():
     page = (TOP / "docs" / "trust" / "PROOFS.md").read_text(encoding="utf-8")
     here, wanted = (BULLET.findall(text) for text in (page, with_files(page)))
     for bullet, other in zip(here, wanted, strict=True):
-        named = not CONTRACT.search(other) or FILES.search(other)
-        yield "docs/trust/PROOFS.md: the files of: %s" % " ".join(bullet.split("**")[1].split()), bullet == other and bool(named)
+        yield "docs/trust/PROOFS.md: the files of %s" % bullet.split("`")[1], bullet == other and CONTRACT.search(other)[2] is not None
 
 
 def calls():

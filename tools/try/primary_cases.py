@@ -11,6 +11,7 @@ import hashlib
 import json
 import os
 import re
+import shutil
 import subprocess
 import sys
 import time
@@ -157,6 +158,10 @@ def rounds(program, own):
     vehicle.file.write_text(json.dumps(vehicle.told() | {"counter": 1}), encoding="ascii")
     yield "a counter that was lost", with_service(program, path, vehicle)[:2] == (0, ["verified: version 8, targets 0"])
     yield "each round is a manifest", trials.rows(path)["vehicle"] == [("VIN-1", "gw", 8, 8)]
+    known = vehicle.told()
+    known["ecus"][1]["counter"] = 1
+    vehicle.file.write_text(json.dumps(known), encoding="ascii")
+    yield "a report's counter that was lost", with_service(program, path, vehicle)[:2] == (0, ["verified: version 9, targets 0"])
     yield from replaced(program, path, vehicle)
 
 
@@ -169,23 +174,24 @@ def replaced(program, path, vehicle):
     told = vehicle.told()
     new = told["ecus"][1] | {"ecu": "left-2", "secret": ecu_key(9), "counter": 0, "installed": vehicle_of({})["ecus"][1]["installed"]}
     vehicle.file.write_text(json.dumps(told | {"ecus": [told["ecus"][0], new, told["ecus"][2]]}), encoding="ascii")
-    wanted = 0, ["left-2 installed brake-2.bin", "verified: version 9, targets 1"], ""
+    wanted = 0, ["left-2 installed brake-2.bin", "verified: version 10, targets 1"], ""
     yield "a round with the new one", with_service(program, path, vehicle) == wanted and vehicle.releases() == [2, 2, 2]
 
 
-def by_the_page(program, own):
-    """The commands of the page's section on rounds, in an empty folder."""
+def by_the_page(program, own, primary=None):
+    """The commands of the page's section on rounds, in an empty folder, with another Primary where one is given."""
     page = (trials.TOP / "docs" / "integrate" / "PRIMARY.md").read_text(encoding="utf-8").split("\n## Rounds of a vehicle\n")[1].split("\n## ")[0]
     (own / "bin").mkdir()
     (own / "bin" / "uptane_desk").symlink_to(program)
     (own / "empty").mkdir()
     commands = "".join(re.findall(r"^    (.*\n)", page, re.MULTILINE)).replace("8080", str(http_cases.free_port())).replace("sleep 1", "sleep 3")
+    commands = commands.replace("python3 $REPO/examples/primary/primary.py", primary) if primary else commands
     found = os.environ | {"PATH": "%s:%s" % (own / "bin", os.environ["PATH"]), "REPO": str(trials.TOP)}
     ran = subprocess.run(["bash", "-c", commands], cwd=own / "empty", env=found, capture_output=True, check=False, timeout=120)
     told = [line for line in ran.stdout.decode("ascii").splitlines() if not line.startswith("listening")]
     first = ["done", "done", "reply V1 version 1 targets 0", "trusted: root version 1 of both repositories", "verified: version 2, targets 0"]
     second = ["done", "done", "P1 installed gateway-1.bin", "verified: version 3, targets 1", "done"]
-    yield "the page's commands", told == first + second and b"Traceback" not in ran.stderr
+    yield "the page's commands%s" % (" with `%s`" % primary if primary else ""), told == first + second and b"Traceback" not in ran.stderr
 
 
 def words():
@@ -203,6 +209,9 @@ def cases(program):
         yield from rounds(program, own)
     with trials.folder() as own:
         yield from by_the_page(program, own)
+    if shutil.which("node"):
+        with trials.folder() as own:
+            yield from by_the_page(program, own, "node $REPO/examples/primary_node/primary.mjs")
     yield from words()
 
 

@@ -1,4 +1,7 @@
-"""The program's words, exit statuses and messages: what `docs/use/PROGRAM.md` says, tried."""
+"""The program's words, exit statuses and messages: what `docs/use/PROGRAM.md` says, tried.
+
+promise: digest, exit-status, messages, script-ends-well, file-names, digest-line, words-after-the-name
+"""
 import hashlib
 import os
 import resource

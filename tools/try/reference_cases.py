@@ -41,7 +41,7 @@ def ran(*words, given=b""):
 
 
 def words():
-    documented = reference.__doc__.strip().encode() + b"\n"
+    documented = reference.__doc__.encode() + b"\n"
     yield "--help", ran("--help") == (0, documented, b"")
     for wrong in ([], ["run"], ["serve", "x"], ["serve", "x", "0"], ["serve", "x", "65536"], ["serve", "x", "80", "0"], ["digest", "x"]):
         yield "no words of it: %s" % " ".join(wrong), ran(*wrong) == (2, b"", documented)

@@ -13,6 +13,8 @@ already; what was answered before the stop is done, and a reply is the kept one,
 was answered as by the rules, which the lost lines never reached, and the tables are those of the rules, in which at most one of
 the lost lines is done. SQLite always finds the file whole. After each stop a file of an older schema is still of that schema or
 of the page's, with the rows that it had and those of the lines that were answered, or of one more.
+
+promise: store-opened, deliveries-act-once, stopped-tables, store-stop
 """
 import json
 import sqlite3

@@ -11,6 +11,8 @@ databases of schema 1 and 2, which are taken, read and written.
 What is told has to be the same whichever request was refused: a call that is answered `Memory` changed nothing, and goes through when it is made
 again. Over `memory` no disk can fail, and a call that is answered `Store` isn't made again: so want of memory that is told as `Store` is found.
 Else the program has to end with a message, having told nothing.
+
+promise: store-memory
 """
 import pathlib
 import shutil

@@ -23,6 +23,8 @@ these two alone, and `reading` over the one of manifests.
 `http` refuses memory while a vehicle's first manifest is posted four times, a request a connection. Each answer has to be
 the kept reply, but for one, which may be a 503 for want of memory or none, and the tables those of the rules at the moment
 that was kept. Images and running campaigns are there, which the first one reads.
+
+promise: messages, connections-counted, store-opened, file-refused
 """
 import hashlib
 import json

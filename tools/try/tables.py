@@ -9,6 +9,8 @@ adopted and answers alike, and so are copies. The page's queries have to tell wh
 older schemas, which SQLite makes of the rows of worked rows, are raised and answer as before, with the same kept
 replies. And refusals that come before images or campaigns are read are answered where SQLite has damaged those rows,
 as lines that read a damaged row are refused.
+
+promise: columns-read, store-opened, store-columns, file-adopted
 """
 import json
 import re
@@ -63,7 +65,7 @@ def dumped(path, to):
 
 def by_the_page(path, to):
     """The page's own commands for a copy of a file and its log, where `sqlite3` is installed."""
-    commands = re.search(r"^    (sqlite3 FILE '\.backup BACKUP')\n    (python3 tools/page_sums\.py BACKUP)$",
+    commands = re.search(r"^    (sqlite3 FILE '\.backup BACKUP')\n    (python3 tools/operate/page_sums\.py BACKUP)$",
                          statements.PAGE.read_text(encoding="ascii"), re.M)
     if not shutil.which("sqlite3"):
         return shutil.copy(path, to)
@@ -105,10 +107,10 @@ def foreign(program, own):
         "one without our row": statements.schema(),
         "tables of the same names": ["CREATE TABLE %s (a INTEGER) STRICT" % table for table in trials.TABLES],
     }
-    for number, (name, statements) in enumerate(made.items()):
+    for number, (name, sql) in enumerate(made.items()):
         path = own / ("foreign%d" % number)
         with closing(sqlite3.connect(path)) as db, db:
-            for statement in statements:
+            for statement in sql:
                 db.execute(statement)
         yield name + " is refused and stays", is_refused(program, path) and trials.faults(path) == []
     path = own / "text"
@@ -419,12 +421,12 @@ def read(program, own):
         "64 roots": ([*founded(), *rotated], [DAMAGED_IMAGES], [(rotate, "refused 30 RootFull")]),
         "the greatest version": ([*founded(), greatest], [DAMAGED_IMAGES], [(rotate, "refused 21 VersionLimit")]),
     }
-    for name, (before, statements, asked_of_it) in made.items():
+    for name, (before, sql, asked_of_it) in made.items():
         begun = trials.printed(program, own / name, before)
         yield "before %s" % name, begun is not None and not any(answer.startswith("refused") for answer in begun)
         path, lines = dumped(own / name, own / (name + " damaged")), list(asked_of_it)
         with closing(sqlite3.connect(path)) as db, db:
-            for statement in statements:
+            for statement in sql:
                 db.execute(statement)
         rows = trials.rows(path)
         told = trials.printed(program, path, [line for line, _ in lines]) or len(lines) * [None]

@@ -1,9 +1,10 @@
 #!/usr/bin/env python3
-"""Tries the vectors of `vectors/`: by the small Primary, and by the program where it takes them.
+"""Tries the vectors of `vectors/`: by the small Primaries, and by the program where it takes them.
 
     vector_cases.py [PROGRAM]
 
-They have to be what `tools/oracle/make_vectors.py` makes. Without a PROGRAM the small Primary alone is tried.
+They have to be what `tools/oracle/make_vectors.py` makes. Without a PROGRAM the small Primaries alone are tried; the one in JavaScript
+where Node is installed.
 """
 import contextlib
 import copy
@@ -12,6 +13,8 @@ import hmac
 import http.client
 import json
 import re
+import shutil
+import subprocess
 import sys
 import types
 from contextlib import closing
@@ -30,6 +33,7 @@ PRIMARY = trials.TOP / "examples" / "primary"
 sys.path.insert(0, str(PRIMARY))
 
 import envelopes
+import primary
 import verify
 
 FOLDER = trials.TOP / "vectors"
@@ -41,6 +45,12 @@ def vectors(name):
 
 def made():
     yield "the vectors are those of the rules", make_vectors.main(["--check"]) == 0
+    shown = re.findall(r"(?s)```json\n(.*?)\n```", (trials.TOP / "docs" / "integrate" / "PRIMARY.md").read_text(encoding="ascii"))
+    of_primary = [path.read_text(encoding="ascii").strip() for path in PRIMARY.glob("*.json")]
+    texts = of_primary + [it["reply"] for it in vectors("replies")["cases"]] + list(vectors("chains")["files of update"].values())
+    yield "the page shows five messages", len(shown) == 5
+    for text in shown:
+        yield "the page shows %s.." % text[:60], any(text in it for it in texts)
     known = {name for name, _ in make_vectors.files()} | {"README.md"}
     yield "there is no other file", {path.name for path in FOLDER.iterdir()} == known
 
@@ -66,7 +76,32 @@ def by_primary():
     told = vectors("chains")
     first = {name: key for name, key in told["vehicle"]["role_keys"].items() if name in told["files of update"]["director/1.root.json"]}
     lacks = told | {"vehicle": told["vehicle"] | {"role_keys": first}}
+    yield "a change of the repository between two requests", begins_again(told)
     yield "a Root whose keys the vehicle hasn't", verdict(verify, lacks, {"base": "rotation"})[0] == "refused"
+
+
+def begins_again(told):
+    """Whether the small Primary verifies the Image repository where its Targets were of another moment once, and not where they always are."""
+    files = {name: json.loads(text) for name, text in told["files of update"].items()}
+    other = next(case["replace"] for case in told["cases"] if case["name"] == "the Image repository's Targets are of another moment")
+    found = []
+    for times in (1, 2):
+        mixed = times * [json.loads(other["image/targets.json"])]
+        fetch = lambda name: mixed.pop() if mixed and name == "image/targets.json" else files.get(name)
+        trust = {"root": files["image/1.root.json"], "versions": {}}
+        secrets = {name: bytes.fromhex(it) for name, it in told["vehicle"]["role_keys"].items()}
+        with contextlib.suppress(verify.Refused):
+            found.append(primary.image_repository(trust, fetch, secrets, told["now"])[0])
+    return found == [files["image/targets.json"]]
+
+
+def by_node():
+    """Whether the small Primary in JavaScript answers all of them."""
+    if shutil.which("node"):
+        words = ["node", trials.TOP / "examples" / "primary_node" / "primary.mjs", "vectors", FOLDER]
+        ran = subprocess.run(words, capture_output=True, check=False, timeout=http_cases.PATIENCE)
+        counts = re.fullmatch(rb"([0-9]+) passed, 0 failed\n", ran.stdout)
+        yield "the small Primary in JavaScript", ran.returncode == 0 and not ran.stderr and bool(counts) and int(counts[1]) > 100
 
 
 def verified(verify):
@@ -254,6 +289,7 @@ def by_program(program):
 def cases(program=None):
     yield from made()
     yield from by_primary()
+    yield from by_node()
     yield from each_check()
     if program:
         yield from by_program(program)

@@ -56,6 +56,7 @@ pub(crate) fn in_new_folder(rt: &HostRuntime, folder: &str) -> Result<(), Fail> 
     Ok(())
 }
 
+// promise: file-refused
 #[test]
 fn a_new_file_is_its_owners_alone(rt: HostRuntime) -> Result<(), Fail> {
     in_new_folder(&rt, "up_file_new")?;
@@ -77,6 +78,7 @@ fn a_new_file_is_its_owners_alone(rt: HostRuntime) -> Result<(), Fail> {
     Ok(())
 }
 
+// promise: file-found, file-closed
 #[test]
 fn a_closed_file_stands_alone(rt: HostRuntime) -> Result<(), Fail> {
     in_new_folder(&rt, "up_file_closed")?;
@@ -92,6 +94,7 @@ fn a_closed_file_stands_alone(rt: HostRuntime) -> Result<(), Fail> {
     Ok(())
 }
 
+// promise: file-refused
 #[test]
 fn what_is_no_database_file_is_refused(rt: HostRuntime) -> Result<(), Fail> {
     in_new_folder(&rt, "up_file_refused")?;
@@ -116,6 +119,7 @@ fn what_is_no_database_file_is_refused(rt: HostRuntime) -> Result<(), Fail> {
     Ok(())
 }
 
+// promise: file-found
 #[test]
 fn a_changed_bit_is_found(rt: HostRuntime) -> Result<(), Fail> {
     in_new_folder(&rt, "up_file_changed")?;

@@ -119,6 +119,7 @@ fn is_refused(rt: &HostRuntime, path: &str) -> io::Result<bool> {
     Ok(before.as_slice() == after.as_slice())
 }
 
+// promise: file-adopted
 #[test]
 fn a_file_of_schema_1_is_raised(rt: HostRuntime) -> Result<(), Fail> {
     in_new_folder(&rt, "up_file_first")?;
@@ -130,6 +131,7 @@ fn a_file_of_schema_1_is_raised(rt: HostRuntime) -> Result<(), Fail> {
     Ok(())
 }
 
+// promise: file-adopted
 #[test]
 fn a_file_of_schema_2_is_raised(rt: HostRuntime) -> Result<(), Fail> {
     in_new_folder(&rt, "up_file_second")?;
@@ -148,6 +150,7 @@ fn a_file_of_schema_2_is_raised(rt: HostRuntime) -> Result<(), Fail> {
     Ok(())
 }
 
+// promise: file-adopted
 #[test]
 fn another_schema_is_refused(rt: HostRuntime) -> Result<(), Fail> {
     for change in [
@@ -167,6 +170,7 @@ fn another_schema_is_refused(rt: HostRuntime) -> Result<(), Fail> {
     Ok(())
 }
 
+// promise: file-adopted
 #[test]
 fn a_new_file_gets_the_tables(rt: HostRuntime) -> Result<(), Fail> {
     in_new_folder(&rt, "up_file_made")?;

@@ -86,6 +86,7 @@ pub(crate) fn fault(cause: Cause, lines: u32) -> Result<u32, ScriptFault> {
     Err(ScriptFault { cause, lines })
 }
 
+// promise: lines-answered
 #[test]
 fn answers_each_line(rt: HostRuntime) -> Result<(), Fail> {
     let table: [(&[u8], &[u8], u32); 7] = [
@@ -133,6 +134,7 @@ fn shaky_run(
     (result, writer.written, state)
 }
 
+// promise: lines-prefix, lines-causes
 #[test]
 fn ends_at_one_failure(rt: HostRuntime) {
     let table: [(
@@ -189,6 +191,7 @@ fn reads_no_more_behind_the_end(rt: HostRuntime) {
     }
 }
 
+// promise: lines-limits
 #[test]
 fn counts_empty_lines(rt: HostRuntime) -> Result<(), Fail> {
     for (newlines, more, wanted) in [
@@ -209,6 +212,7 @@ fn counts_empty_lines(rt: HostRuntime) -> Result<(), Fail> {
     Ok(())
 }
 
+// promise: lines-answered, lines-limits
 #[test]
 fn measures_lines(rt: HostRuntime) -> Result<(), Fail> {
     for (long, wanted, written_len) in [

@@ -125,6 +125,7 @@ fn run_once(
     told
 }
 
+// promise: tried-once, faults-located, lines-causes
 #[test]
 fn ends_at_the_first_failure(rt: HostRuntime) {
     // What fails, the answer, how often was read, and how many bytes were written.

@@ -3,6 +3,7 @@ use crate::lines::Shaky;
 use std::test::Fail;
 use up_pieces::{NotWritten, read_piece, write_whole};
 
+// promise: pieces
 #[test]
 fn reads_pieces(rt: HostRuntime) {
     let mut reader: &[u8] = b"abcdefgh";
@@ -17,6 +18,7 @@ fn reads_pieces(rt: HostRuntime) {
     }
 }
 
+// promise: pieces
 #[test]
 fn writes_whole_or_a_part(rt: HostRuntime) -> Result<(), Fail> {
     // The calls that fail and that take nothing, the answer, and what was written by two bytes a call.

@@ -38,6 +38,7 @@ fn told(
     }
 }
 
+// promise: digest
 #[test]
 fn digests(rt: HostRuntime) -> Result<(), Fail> {
     let table: [(&[u8], &str); 4] = [
@@ -83,6 +84,7 @@ fn shown(rt: &HostRuntime, words: &[&str]) -> Result<String, Fail> {
     })
 }
 
+// promise: command-line
 #[test]
 fn words(rt: HostRuntime) -> Result<(), Fail> {
     let table: [(&[&str], &str); 22] = [
