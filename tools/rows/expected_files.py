@@ -12,7 +12,7 @@ import row_texts
 TOP = Path(__file__).resolve().parents[2]
 EXAMPLE = {"README.md", "script", "printed"}
 PRIMARY = {"primary.py", "envelopes.py", "verify.py", "director-secrets.json", "manifest-input.json", "manifest.json", "reply.json", "vehicle.json"}
-SERVICE = {"README.md", "nginx.conf", "haproxy.cfg", "uptane-desk.service", "uptane-desk-refresh.service", "uptane-desk-refresh.timer", "refresh.sh", "several"}
+SERVICE = {"README.md", "nginx.conf", "haproxy.cfg", "uptane-desk.service", "uptane-desk-refresh.service", "uptane-desk-refresh.timer", "refresh.sh", "apply.sh", "several", "alerts"}
 SEVERAL = {"nginx.conf", "haproxy.cfg", "uptane-desk@.service"}
 ROW = {"script", "printed"}
 
@@ -69,7 +69,7 @@ def gaps():
     examples, rows = TOP / "examples", TOP / "rows"
     yield from apart("examples", listed(examples / "README.md"), folders(examples))
     for name in sorted(folders(examples)):
-        yield from apart("examples/" + name, {"primary": PRIMARY, "service": SERVICE}.get(name, EXAMPLE), names(examples / name))
+        yield from apart("examples/" + name, {"primary": PRIMARY, "primary_node": {"primary.mjs"}, "service": SERVICE}.get(name, EXAMPLE), names(examples / name))
     yield from apart("examples/service/several", SEVERAL, names(examples / "service" / "several"))
     yield from apart("rows", listed(rows / "README.md") | set(row_texts.REPLIES) | set(row_texts.FILES), folders(rows))
     for name in sorted(folders(rows)):
