@@ -175,15 +175,16 @@ def main():
     if sys.argv[1:] not in ([], ['write']):
         sys.exit(__doc__)
     points = [multiple(spread(k), base_point()) for k in range(ENTRIES)]
-    wrong = []
+    wrong = 0
     for name, text in (('src/comb_table.rt', source(points)), ('proofs/CombPoints.antt', proof(points))):
         if sys.argv[1:]:
             (CRATE / name).write_text(text)
         elif (CRATE / name).read_text() != text:
-            wrong.append(name)
-    if wrong:
-        sys.exit(f'not what this program makes: {", ".join(wrong)}')
+            print(f"{name} isn't what this program makes")
+            wrong += 1
+    print(f'{2 - wrong} passed, {wrong} failed')
+    return 1 if wrong else 0
 
 
 if __name__ == '__main__':
-    main()
+    sys.exit(main())

@@ -174,14 +174,14 @@ def compare(program, parts):
 
 def stand(writes):
     """Compares the files of the crate with what is made here, or writes them."""
-    parts, wrong = list(sections()), []
+    parts, wrong = list(sections()), 0
     for name, text in (("stdin", stdin(parts)), ("stdout", stdout(parts))):
         if writes:
             (CRATE / name).write_text(text, encoding="ascii")
         elif (CRATE / name).read_text(encoding="ascii") != text:
-            wrong.append(name)
-    if wrong:
-        print("not what this program makes: " + ", ".join(wrong))
+            print("%s isn't what this program makes" % name)
+            wrong += 1
+    print("%d passed, %d failed" % (2 - wrong, wrong))
     return 1 if wrong else 0
 
 

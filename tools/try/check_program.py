@@ -25,9 +25,9 @@ TRIED = [("try/file_cases.py",), ("try/fuzz.py", "1", "50"), ("try/fuzz.py", "51
          ("try/fuzz.py", "bodies", "1", "10"), ("try/each_line.py",), ("try/damaged_rows.py",), ("try/tables.py",)]
 # what operators and integrators use
 TRIED += [("try/copy_cases.py", "2"), ("try/primary_cases.py",), ("try/operator_cases.py",), ("try/scale_cases.py",),
-          ("try/large_cases.py",), ("try/vector_cases.py",)]
+          ("try/large_cases.py",), ("try/vector_cases.py",), ("try/upkeep_cases.py",)]
 QUICK = [("try/fuzz.py", "1", "5"), ("try/fuzz_http.py", "1", "5"), ("try/fuzz.py", "bodies", "1", "1"), ("try/each_line.py",),
-         ("try/tables.py",), ("try/primary_cases.py",), ("try/operator_cases.py",), ("try/vector_cases.py",)]
+         ("try/tables.py",), ("try/primary_cases.py",), ("try/operator_cases.py",), ("try/vector_cases.py",), ("try/upkeep_cases.py",)]
 # every so manieth call of a kind
 SWEPT = {"memory": "997", "disk": "31", "reading": "211", "http": "199"}
 

@@ -16,7 +16,7 @@ sys.dont_write_bytecode = True
 import trials
 from trials import TOP
 
-PAGES = ["README.md", "docs/**/*.md", "examples/**/README.md", "rows/README.md", "vectors/README.md", "crates/*/README.md"]
+PAGES = ["README.md", "SECURITY.md", "docs/**/*.md", "examples/**/README.md", "rows/README.md", "vectors/README.md", "crates/*/README.md"]
 
 
 def pages():
