@@ -161,7 +161,7 @@ class Service:
             (own / "bin" / name).chmod(0o755)
         told = {"PROGRAM": program, "TOOLS": TOOLS, "FOLDER": own / "data", "SPOOL": own / "spool", "JOURNAL": own / "journal", "COPIES": own / "copies"}
         told |= {"RUN": own / "run", "PORT": first, "DESKS": desks or "", "DIVISION": own / "division", "PATIENCE": 60, "SETTINGS": "/nonexistent", "KEEP": 3}
-        told |= {"METRICS": own / "metrics.prom", "PAGE": own / "page.html", "AFTER": own / "after"}
+        told |= {"METRICS": own / "metrics.prom", "PAGE": own / "page.html", "AFTER": own / "after", "AFTER_APPLY": own / "after-apply"}
         self.env = os.environ | {name: str(value) for name, value in told.items()} | {"PATH": "%s:%s" % (own / "bin", os.environ["PATH"])}
 
     def unit(self, name):
@@ -279,10 +279,13 @@ def applied_to_several(program, own):
         it.systemctl("start")
         it.calls()
         it.drop("1.script", image(2), campaign("two", ["V1", "V2"]), vehicle("V4", 5))
+        (own / "after-apply").write_text('#!/bin/sh\ncp "$1" %s/map\n' % own, encoding="ascii")
+        (own / "after-apply").chmod(0o755)
         version = it.version("1")
         done = it.script("apply.sh", "--refresh")
         order = ["%s uptane-desk@%s.service" % (verb, name) for name in it.names for verb in ("stop", "start")]
         yield "two desks, one after the other", done.returncode == 0 and it.calls() == order and it.answers("1.answers") == ["done", "done", "done"]
+        yield "and the proxy may read its map again", (own / "map").read_text("ascii").split()[::2] == ["V1", "V2", "V3", "V4"]
         yield "all have the files of one version", [it.version(name) for name in it.names] == [version + 2] * 2
         it.drop("1.script", campaign("none", ["nobody"]))
         done = it.script("apply.sh", "--refresh")
