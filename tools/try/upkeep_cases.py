@@ -79,7 +79,7 @@ def sample(text, name, **labels):
 
 
 def measured(program, own):
-    path, lines = own / "fleet", list(fleet.script(vehicles=12, ecus=4, rounds=5, second_hashes=0.3))
+    path, lines = own / "fleet", list(fleet.script(vehicles=30, ecus=4, rounds=4, second_hashes=0.3))
     lines.append(fleet.line("add_vehicle", vehicle="new", primary="n", ecus=[{"ecu": "n", "hardware": "HP", "key": fleet.key(9)}]))
     yield "a fleet", trials.printed(program, path, lines) is not None
     before, after = path.read_bytes(), fleet.START + 2 * DAY
@@ -108,7 +108,7 @@ def measured(program, own):
     yield "the copy stays as it was", path.read_bytes() == before
     both = tool("metrics", "a=%s" % path, "b=%s" % path, "--to", own / "both.prom")
     made = (own / "both.prom").read_text("ascii")
-    yield "of two desks, into a file", both.returncode == 0 and sample(made, "vehicles", desk="a") == sample(made, "vehicles", desk="b") == 13 and made.count("# HELP uptane_desk_vehicles ") == 1
+    yield "of two desks, into a file", both.returncode == 0 and sample(made, "vehicles", desk="a") == sample(made, "vehicles", desk="b") == 31 and made.count("# HELP uptane_desk_vehicles ") == 1
     (own / "other").write_bytes(b"")
     yield "another file, and one name for two", tool("metrics", own / "other").returncode == 1 and tool("metrics", path, path).returncode == 2
     if shutil.which("promtool"):
