@@ -458,6 +458,8 @@ def cases(program):
 
 
 if __name__ == "__main__":
-    if len(sys.argv) != 2 or sys.argv[1].startswith("-"):
+    if {"-h", "--help"} & {*sys.argv[1:]}:
+        sys.exit(print(__doc__))
+    if len(sys.argv) != 2:
         sys.exit(__doc__)
     sys.exit(trials.judged("upkeep", cases(Path(sys.argv[1]).resolve())))
