@@ -4,6 +4,7 @@
     check_program.py PROGRAM [WORD]
     check_program.py PROGRAM quick     runs a part, of some minutes, that needs no proxy and no C compiler
 
+The program is that of the scheme that the environment names (`SCHEME=ed25519`), or of HMAC.
 Random scripts and requests are those of a hundred seeds, random bodies of ten. Each tool has fifteen minutes, many times what it
 takes on a machine with nothing else to do. Where there is a WORD it draws a part of the sweeps of `tools/try/sweeps.py`, some ten
 seconds of each kind; they need a C compiler.

@@ -4,6 +4,7 @@ and the queries and idioms of `docs/use/OPERATING.md`.
 
     operator_cases.py PROGRAM
 """
+import base64
 import itertools
 import json
 import re
@@ -87,6 +88,7 @@ def makers(program, own):
     yield "a refresh by either way", by_file == by_url and json.loads(by_file[1][0])["version"] == 5
     yield "the program takes it once", trials.printed(program, path, 2 * by_file[1]) == ["done", "refused 28 VersionNotGreater"]
     yield from refusals(own, first, at)
+    yield from openssl_keys(own, at)
 
 
 def replaced(program, path, own, at):
@@ -103,6 +105,39 @@ def replaced(program, path, own, at):
     yield "the new one stands in its place", [row[0::2] for row in now] == [("P1", "HP"), ("S3", "HS")] and gone == [("S1", "V1")]
     words[3] = "S1"
     yield "not by itself", made(*words)[:2] == (1, [])
+
+
+def pem(kind, data):
+    return "-----BEGIN %s KEY-----\n%s\n-----END %s KEY-----\n" % (kind, base64.b64encode(data).decode(), kind)
+
+
+def openssl_keys(own, at):
+    """Keys as OpenSSL writes those of RFC 8410's example (section 10.3)."""
+    secret = bytes.fromhex("d4ee72dbf913584ad5b6d8f1f769f8ad3afe7c28cbf1d4fbe097a88f44755842")
+    public = bytes.fromhex("19bf44096984cdfe8541bac167dc3b96c85086aa30b6b6cb0c5c38ad703166e1")
+    private_text = pem("PRIVATE", bytes.fromhex("302e020100300506032b657004220420") + secret)
+    public_text = pem("PUBLIC", bytes.fromhex("302a300506032b6570032100") + public)
+    keys = key_files(own / "pem", 150)
+    role, ecu = keys / "image-root-1.key", own / "ecu.key"
+
+    def asked(path, text, *words):
+        path.write_text(text, encoding="ascii")
+        path.chmod(0o644 if path is ecu else 0o600)
+        status, lines, err = made(*words, *at)
+        return status, lines[0].count(secret.hex()) + 2 * lines[0].count(public.hex()) if lines else 0, err
+
+    table = own / "pem.csv"
+    table.write_text("vehicle,ecu,hardware,primary,keyfile\nV9,P9,HP,yes,ecu.key\n", encoding="ascii")
+    found, vehicle = ("found", keys), ("add_vehicle", table)
+    other = ("replace_ecu", "V9", "P9", "Q9", "--hardware", "HP", "--key", ecu)
+    yield "a role's secret that OpenSSL wrote", asked(role, private_text, *found) == (0, 1, "")
+    yield "an ECU's public key that OpenSSL wrote", asked(ecu, public_text, *vehicle) == asked(ecu, public_text, *other) == (0, 2, "")
+    refused = lambda told, words: told[:2] == (1, 0) and told[2].endswith(words + "\n")
+    yield "no private key in the inventory", all(refused(asked(ecu, private_text, *it), "a private key, where a public one is asked") for it in (vehicle, other))
+    yield "no public key for a role", refused(asked(role, public_text, *found), "a public key, where a private one is asked")
+    longer = pem("PRIVATE", bytes.fromhex("302e020100300506032b657004220420") + secret + b"0")
+    yield "no key of another kind", all(refused(asked(role, it, *found), "no Ed25519 key") for it in (longer, private_text.replace("MC4C", "MC4D")))
+    yield "no key under a password", refused(asked(role, private_text.replace("PRIVATE", "ENCRYPTED PRIVATE"), *found), "without a password")
 
 
 def refusals(own, keys, at):

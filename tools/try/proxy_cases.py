@@ -30,8 +30,7 @@ import http_cases
 import trials
 
 GIVEN = trials.TOP / "examples" / "service"
-KEPT = trials.TOP / "examples" / "primary"
-MANIFEST, REPLY = ((KEPT / name).read_bytes().strip() for name in ("manifest.json", "reply.json"))
+MANIFEST, REPLY = ((trials.MESSAGES / name).read_bytes().strip() for name in ("manifest.json", "reply.json"))
 STRANGERS, AT_ONCE, ROUNDS, PATIENCE, SLOWEST, HUNDRED = 40, 300, 20, 60, 10, 100
 
 
