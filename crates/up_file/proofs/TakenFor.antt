@@ -72,8 +72,8 @@ made_ok shown method old mid (Ok x) read empty made durable crash before = recor
   taken = λ clean. inr (record { empty = empty clean; made = made clean; durable = durable clean });
   crash = made_taken mid (shown x) crash;
   keys = λ clean rows listed.
-    let between = omega (arith, clean, crash.clean) in
-    absurd (never_none old mid rows (read.kept between) (empty clean) (listed (before between)));
+      let between = omega (arith, clean, crash.clean) in
+      absurd (never_none old mid rows (read.kept between) (empty clean) (listed (before between)));
 }
 made_ok shown method old mid (Err e) read empty made durable crash before = tt
 
