@@ -1,10 +1,12 @@
 -- A database that is taken for a scheme, or refused, behind a read that changed nothing.
-use Rattle.std.proofs.Common.{◌≡◌, ◌⊎◌, ℕ, List, Bool, true, false, inl, inr, Ok, Err, Result, IfOk, IfErr, IsTrue, length, sym, ap, ◌∙◌, arith}
+use Rattle.std.proofs.Common.{◌≡◌, ◌≢◌, ◌⊎◌, ℕ, List, Bool, true, false, inl, inr, Ok, Err, Result, IfOk, IfErr, IsTrue, length, refl, sym, ap, ◌∙◌, arith}
 use Rattle.sqlite.specs.State.{State, HasCleanDisk, Survives}
 use Rattle.sqlite.specs.Effect.{Database}
 use Rattle.sqlite.specs.Schema.{Schema}
 use Rattle.sqlite.specs.Tree.{Trees}
 use Rattle.up_tables.specs.Tables.{no_schema, up_schema}
+use Rattle.up_tables.specs.declared.open.OpenFault.{OpenFault}
+use Rattle.up_tables.specs.declared.open.OpenFault.TheVariants.{NotOurs}
 use Rattle.up_tables.specs.Stands.{IfClean, IsAsCommitted, HasNoTables, LeavesOnly}
 use Rattle.up_rows.specs.StateRows.{StateRows, no_rows}
 use Rattle.up_store.specs.Connections.{HoldsRows, KeepsRows, MadeIn}
@@ -78,3 +80,29 @@ made_ok shown method old mid (Err e) read empty made durable crash before = tt
 pub made_err : {A E : Type 0} (shown : E → State) (old mid : State) (r : Result A E) → IfErr r (λ e. Survives mid (shown e) (MadeIn mid)) → IfErr r (λ e. Survives mid (shown e) (AdoptedIn mid))
 made_err shown old mid (Ok x) crash = tt
 made_err shown old mid (Err e) crash = made_taken mid (shown e) crash
+
+-- ---- what comes back without a further step
+
+same : (s : State) (Q : Trees → Type 0) → Survives s s Q
+same s Q = record {
+  clean = omega (arith);
+  shield = λ shielded. shielded;
+  counts = omega (arith);
+  limit = refl;
+  closes = λ clean is_open. inl is_open;
+  crash = λ clean db may. inl may;
+}
+
+pub refused_at : (old mid : State) → IsRead old mid → mid.in_transaction ≡ false → IsRefused old mid
+refused_at old mid read mode = record {
+  between = mid;
+  read = read;
+  crash = same mid (AdoptedIn mid);
+  kept = read.kept;
+  mode = mode;
+}
+
+-- what is never told as another product's is never told as another scheme's
+pub never_other : {A C : Type 0} (P : C × OpenFault → Type 0) (r : Result A (C × OpenFault)) → IfErr r (λ e. e.1 ≢ NotOurs) → IfErr r (λ e. e.1 ≡ NotOurs → P e)
+never_other P (Ok x) never = tt
+never_other P (Err e) never = λ is. absurd (never is)
