@@ -12,7 +12,7 @@ umask 077
 : "${SETTINGS:=/etc/uptane/settings}"
 # shellcheck source=/dev/null
 if [ -r "$SETTINGS" ]; then . "$SETTINGS"; fi
-: "${PROGRAM:=/usr/local/bin/uptane_desk}" "${TOOLS:=/usr/local/lib/uptane_desk/tools}" "${OWNER:=uptane}" "${PORT:=8080}"
+: "${PROGRAM:=/usr/bin/uptane_desk}" "${TOOLS:=/usr/lib/uptane_desk/tools/operate}" "${OWNER:=uptane}" "${PORT:=8080}"
 : "${FOLDER:=/var/lib/uptane}" "${SPOOL:=/var/spool/uptane}" "${JOURNAL:=/var/log/uptane/journal}" "${COPIES:=/var/backups/uptane}"
 # several desks: their number, and the folder of their division; how long a start may take, in seconds
 : "${DESKS:=}" "${DIVISION:=/var/lib/uptane-division}" "${PATIENCE:=600}" "${RUN:=/run}"

@@ -7,6 +7,7 @@ Nothing is missing that there has to be; each script prints what stands beside i
 computed from the formats; the crates that carry rows out have just these; the small Primary builds and checks what its page shows.
 """
 import contextlib
+import os
 import re
 import shlex
 import socket
@@ -22,6 +23,7 @@ import collect_rows
 import expected_files
 import http_cases
 import row_texts
+import translated
 import trials
 
 EXAMPLES, ROWS = trials.TOP / "examples", trials.TOP / "rows"
@@ -48,6 +50,16 @@ def scripts():
         if not (script.parent / "under").exists():
             wanted = read(script.parent / "printed").split("\n")[:-1]
             yield "%s, by the rules" % script.parent.relative_to(trials.TOP), trials.expected(":memory:", read(script).split("\n")) == wanted
+
+
+def scripts_under_ed25519():
+    """Each of them under Ed25519, as it stands or translated."""
+    for script in sorted([*EXAMPLES.glob("*/script"), *ROWS.glob("*/script")]):
+        lines, wanted = translated.under(script.parent, "ed25519")
+        words, scheme = [sys.executable, REFERENCE, "run", ":memory:"], os.environ | {"SCHEME": "ed25519"}
+        done = subprocess.run(words, input="\n".join(lines).encode(), capture_output=True, check=False, env=scheme)
+        name = "%s under Ed25519, by the rules" % script.parent.relative_to(trials.TOP)
+        yield name, translated.are_as(wanted, done.stdout.decode("ascii").split("\n")[:-1])
 
 
 def texts():
@@ -104,6 +116,7 @@ def cases():
     yield from ((gap, False) for gap in gaps)
     yield "nothing is missing", not gaps
     yield from scripts()
+    yield from scripts_under_ed25519()
     yield from texts()
     for rows, *words in COMPUTED:
         yield "answers that the rows of %s want" % rows, ran(trials.TOP / "tools" / words[0], *words[1:])[0] == 0

@@ -8,7 +8,9 @@ ghost use Rattle.up_tables.specs.declared.open.OpenFault.TheVariants.{NotOurs};
 ghost use Rattle.up_tables.specs.declared.open.OpenFault.TheVariants as Fault;
 ghost use Rattle.up_file.specs.Adopting.{IsAdopted, AdoptedIn, FailsToTake, TakesOrMakes};
 
+use crate::schemes::{has_keys_of, may_take};
 use sqlite::{Alter, Connection};
+use std::alloc::Global;
 use up_store::store::{OpenFault, Store};
 
 /// Adopts a database of this product, which raises one of an older schema, and makes the tables in one without any: `OpenFault::Store` where it
@@ -29,6 +31,24 @@ pub fn adopt_or_create<D: Alter>(
     ensures mode { IfErr result (λ e. (state D.Store e.0).in_transaction ≡ false) }
 {
     or_made(conn, Store::adopt, Store::create)
+}
+
+/// What `adopt_or_create` does with a database for a program that signs by this method. One whose keys are of another comes back as it
+/// is, with `OpenFault::NotOurs`.
+pub fn take_for<D: Alter>(
+    alloc: Global,
+    method: &str,
+    mut conn: Connection<D>,
+) -> Result<Store<D>, (Connection<D>, OpenFault)>
+    requires { (state D.Store conn).in_transaction ≡ false }
+    ensures mode { IfErr result (λ e. (state D.Store e.0).in_transaction ≡ false) }
+{
+    let told = has_keys_of(alloc, method, &mut conn);
+    if may_take(told) {
+        adopt_or_create(conn)
+    } else {
+        Err((conn, OpenFault::NotOurs))
+    }
 }
 
 /// What `adopter` takes, or tells; where that is `NotOurs`, what `maker` makes of what was handed back, or tells. Each is asked once at most.
