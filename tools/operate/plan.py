@@ -94,11 +94,12 @@ def parsed(words):
     parser.add_argument("--vehicles", type=int, required=True)
     parser.add_argument("--ecus", type=int, required=True)
     parser.add_argument("--desks", type=int, default=None)
-    usual = {"manifests-a-day": 1, "years": 10, "seconds": 60, "memory": 8, "disk": 200, "busiest": 0.2, "refreshes": 2, "copies": 2, "speed": 1}
+    usual = {"--manifests-a-day": 1, "--years": 10, "--seconds": 60, "--memory": 8, "--disk": 200, "--busiest": 0.2, "--refreshes": 2,
+             "--copies": 2, "--speed": 1}
     for name, value in usual.items():
-        parser.add_argument("--" + name, type=float, default=value)
+        parser.add_argument(name, type=float, default=value)
     given = parser.parse_args(words)
-    if min(given.vehicles, given.ecus, given.desks or 1) < 1 or min(vars(given)[name.replace("-", "_")] for name in usual) < 0 or not given.speed:
+    if min(given.vehicles, given.ecus, given.desks or 1) < 1 or min(filter(lambda it: it is not None, vars(given).values())) < 0 or not given.speed:
         parser.error("these are numbers from 1 on, or from 0 on")
     return given
 
