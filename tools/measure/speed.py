@@ -22,7 +22,7 @@
 
 Instructions are those that valgrind's callgrind counts; compressions are the calls of SHA-256's function in its file, and those of
 malloc are counted in it too. Other parts need no valgrind. A number behind `growth_counts`, `start`, `millions` or `sums` is the
-greatest number of kept replies, for a quick trial; `millions` needs 9 GB of disk and as much memory, and makes its files by SQLite. Files are made where `TMPDIR` says.
+greatest number of kept replies, for a quick trial; `millions` needs 9 GB of disk and as much memory, and a C compiler. Files are made where `TMPDIR` says.
 """
 import contextlib
 import json
@@ -439,8 +439,10 @@ def multiplied(path, vehicles, kept):
             db.execute("INSERT INTO kept SELECT vehicle, counter + ?1, version + ?1, moment, root, signed, plan_text, reply FROM first", (at,))
         db.execute("UPDATE vehicle SET version = version + ?1, last_counter = last_counter + ?1 WHERE version = 1", (more,))
         db.execute("COMMIT")
-    with open(path, "r+b") as file:
-        page_sums.written(file, page_sums.page_size(file.read(100)))
+    # (by a program in C, since Python takes a minute for a gigabyte)
+    summing, size = path.with_name("sums"), page_sums.page_size(path.open("rb").read(100))
+    subprocess.run(["cc", "-O2", "-o", str(summing), str(Path(__file__).resolve().parent / "sums.c")], check=True)
+    subprocess.run([str(summing), str(path), str(size)], check=True)
 
 
 def millions(program, own, most=4_000_000):
