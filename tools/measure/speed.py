@@ -461,8 +461,8 @@ def millions(program, own, most=4_000_000):
 
 def allocators(program, own):
     path, kept = own / "kept", 40_000
-    trials.printed(program, path, prepared(100, 10, 10, 4))
-    kept_replies(program, path, 0, kept, 4)
+    trials.printed(program, path, [*prepared(100, 10, 10, 4), *manifests(100, 100, 1, 4)])
+    multiplied(path, 100, kept)
     script = list(fleet.script(vehicles=100, ecus=4))
     for name, variables in allocators_here().items():
         os.environ |= variables
