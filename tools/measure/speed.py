@@ -410,15 +410,17 @@ def allocators_here():
 
 
 def started(program, path, variables, script=()):
-    """Over a file, the processor seconds of a start, its peak of memory and what is resident three seconds later, in MB; and the
-    processor microseconds of a line of the script behind that."""
+    """Over a file, the processor seconds of a start, its peak of memory and what is resident four seconds and 800 lines later, in MB;
+    and the processor microseconds of a line of the script after that."""
     status = lambda it, name: int(re.search(name + r":\s+(\d+)", open("/proc/%d/status" % it.pid, encoding="ascii").read())[1]) >> 10
     with subprocess.Popen([program, "run", str(path)], stdin=subprocess.PIPE, stdout=subprocess.PIPE, env=os.environ | variables) as it:
         assert asked(it, ["x"]) == [b"refused 5 NotJson\n"]
         took, peak = processor(it.pid) / 1e6, status(it, "VmHWM")
         asked(it, script[:1])
-        time.sleep(3)
-        asked(it, ["x"])
+        # jemalloc looks at what to give back while memory is asked for
+        for _ in range(4):
+            time.sleep(1)
+            asked(it, 200 * ["x"])
         stays, begun = status(it, "VmRSS"), processor(it.pid)
         answers = asked(it, script[1:])
         line = (processor(it.pid) - begun) / max(1, len(script) - 1)

@@ -306,8 +306,10 @@ def lived(week, days):
         if hour == 2 * 24 + 8:
             yield "a desk is killed among its requests", bool(week.hour(hour, lambda: week.kill(str(KILLED))) or True)
         elif hour == 4 * 24 + 9:
-            week.hour(hour, week.backup)
+            # (it fails before the hour's copy is made)
+            week.hour(hour, lambda: None)
             yield "a desk is restored from its copy", week.restore(str(LOST))
+            week.backup()
         else:
             week.hour(hour, week.backup)
         if hour % 12 == 11:
