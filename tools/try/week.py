@@ -148,7 +148,7 @@ class Week(upkeep_cases.Service):
     def apply(self):
         """Gives what was dropped, with a refresh; what each desk was given is kept for the comparison."""
         before = {name: (self.own / "division" / ("desk%s.answers" % name)).read_text("ascii") for name in self.names}
-        ran = subprocess.run(["sh", str(self.spy), "--refresh"], env=self.env, capture_output=True, text=True, check=False, timeout=900)
+        ran = subprocess.run(["sh", str(self.spy), "--refresh"], env=self.env, capture_output=True, text=True, check=False, timeout=3600)
         for name in self.names:
             lines, answers = ((self.own / "run" / ("%s.%s" % (name, what))).read_text("ascii").splitlines() for what in ("given", "answered"))
             self.log[name].append(("script", list(zip(lines, answers))))
@@ -227,9 +227,9 @@ class Week(upkeep_cases.Service):
         os.kill(int(path.read_text("ascii")), signal.SIGKILL)
         self.note("desk %s is killed" % name)
         time.sleep(1)
-        ran = upkeep_cases.ran(self.own / "bin" / "systemctl", "start", self.unit(name), env=self.env)
+        upkeep_cases.ran(self.own / "bin" / "systemctl", "start", self.unit(name), env=self.env)
         self.note("desk %s is started again" % name)
-        return ran.returncode == 0
+        return self.version(name) > 0
 
     def restore(self, name):
         """A desk loses its file, and is restored from the newest copy, as the page says; the drill tells before what is forgotten."""
@@ -252,7 +252,7 @@ class Week(upkeep_cases.Service):
         return drilled.returncode == 0
 
     def backup(self):
-        ran = self.script("backup.sh")
+        ran = upkeep_cases.ran("sh", upkeep_cases.SERVICE / "backup.sh", env=self.env, timeout=3600)
         self.counts["backups"] += ran.returncode == 0
         self.counts["stood still, ms"] += int(sum(1000 * float(it) for it in re.findall(r"stood still for ([\d.]+)", ran.stdout)))
         if ran.returncode:
@@ -303,9 +303,11 @@ def lived(week, days):
         if hour % 12 == 3:
             week.set_clock(START + DAY + HOUR * hour)
             yield "apply.sh --refresh at hour %d" % hour, week.apply()
-        if hour == 2 * 24 + 8:
-            yield "a desk is killed among its requests", bool(week.hour(hour, lambda: week.kill(str(KILLED))) or True)
-        elif hour == 4 * 24 + 9:
+        if hour == (48 if days > 2 else 0) + 8:
+            happened = []
+            week.hour(hour, lambda: happened.append(week.kill(str(KILLED))))
+            yield "a desk is killed among its requests, and comes again", happened == [True]
+        elif hour == (96 if days > 4 else 0) + 9:
             # (it fails before the hour's copy is made)
             week.hour(hour, lambda: None)
             yield "a desk is restored from its copy", week.restore(str(LOST))
@@ -391,7 +393,7 @@ def judged(week):
     week.note("%d acknowledged replies are missing; %d more were forgotten by the restore, and the drill told of %d" % (lost, once, week.foretold))
     yield "nothing acknowledged is lost but what the restore forgets", lost == 0 and once == week.foretold == len(week.forgotten) and gone >= 0
     yield "each desk's file is whole", all(trials.faults(week.file(name)) == [] for name in week.names)
-    yield "all backups and refreshes went well", week.counts["backups"] >= week.hours - 2 and week.counts["applies"] == 2 * (week.hours // 24)
+    yield "all backups and refreshes went well", week.counts["backups"] >= week.hours - 1 and week.counts["applies"] == 2 * (week.hours // 24)
     journal = week.journal()
     who = [it for it in journal if it["asked"]["do"] == "open_campaign"]
     yield "the journal tells who opened each campaign", sorted(it["asked"]["campaign"] for it in who) == sorted(["spring", "first-two-hundred", "engines"][: len(who)]) and len(who) >= 1 and all(it["who"] for it in who)
@@ -438,7 +440,7 @@ def that_clones(size):
             yield folder
         finally:
             if mounted:
-                subprocess.run(["umount", str(folder)], check=True)
+                subprocess.run(["umount", "--lazy", str(folder)], check=True)
 
 
 def main():
