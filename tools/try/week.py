@@ -1,7 +1,7 @@
 #!/usr/bin/env python3
 """A simulated week of a large fleet over eight desks behind nginx, by the scripts and tools that operators use. By hand: up to an hour.
 
-    week.py PROGRAM [--vehicles N] [--days N] [--to FOLDER]
+    week.py PROGRAM [--vehicles N] [--days N] [--to FOLDER] [--within FOLDER]
 
 10,000 vehicles of four ECUs report once a day each, through nginx, over desks that `apply.sh`, `backup.sh` and a systemd in small
 start and stop. The time of day is set by the trial (`fast_clock.c`), an hour at a time, so a week takes as long as its work does.
@@ -11,7 +11,8 @@ killed among its requests; on the fifth one loses its file, and is restored from
 
 At the end every answer that a desk gave, to scripts and to manifests, is compared with that of the rules at the same moment, and
 every acknowledged reply has to be kept, but for those that the restore forgets: these are the ones that the drill told. The page,
-the metrics and what happened are put into FOLDER, `/tmp/week` where none is named.
+the metrics and what happened are put into the first FOLDER, `/tmp/week` where none is named. All else is in the second, one for new
+files where none is named, on a filesystem that clones where one can be made; in `/dev/shm` no disk has to synchronise (1 GB).
 """
 import argparse
 import calendar
@@ -425,9 +426,9 @@ def cases(program, vehicles, days, to, within):
 
 
 @contextlib.contextmanager
-def that_clones(size):
-    """A folder in memory on a filesystem that clones files, where one can be made and mounted; else one in memory."""
-    with trials.folder("/dev/shm" if os.access("/dev/shm", os.W_OK) else None) as own:
+def that_clones(size, within):
+    """A folder on a filesystem that clones files, where one can be made and mounted; else on any."""
+    with trials.folder(within) as own:
         image_file, folder = own / "disk", own / "mounted"
         folder.mkdir()
         with open(image_file, "wb") as file:
@@ -449,13 +450,14 @@ def main():
     parser.add_argument("--vehicles", type=int, default=10_000)
     parser.add_argument("--days", type=int, default=7)
     parser.add_argument("--to", type=Path, default=Path("/tmp/week"))
+    parser.add_argument("--within", type=Path, default=None)
     given = parser.parse_args()
     lacks = [word for word in ("nginx", "curl", "cc") if not shutil.which(word)]
     if lacks:
         print("there is no %s, so no week is lived" % ", no ".join(lacks))
         return trials.judged("week", [])
     given.to.mkdir(exist_ok=True)
-    with that_clones(4 << 30) as within:
+    with that_clones(4 << 30, given.within) as within:
         return trials.judged("week", cases(given.program.resolve(), given.vehicles, given.days, given.to, within))
 
 
