@@ -399,7 +399,7 @@ def start(program, own, most=MOST):
 
 # where Debian has it, and how it gives memory back
 JEMALLOC = "/usr/lib/x86_64-linux-gnu/libjemalloc.so.2"
-PRELOADED = {"LD_PRELOAD": JEMALLOC, "MALLOC_CONF": "dirty_decay_ms:1000,muzzy_decay_ms:0"}
+PRELOADED = {"LD_PRELOAD": JEMALLOC, "MALLOC_CONF": "background_thread:true,dirty_decay_ms:1000,muzzy_decay_ms:0"}
 
 
 def allocators_here():
