@@ -559,7 +559,7 @@ def rate(ask, bodies, clients):
         return len(bodies) / (time.perf_counter() - begun)
 
 
-def proxied(program, own, number=2000, clients=8):
+def proxied(program, own, number=600, clients=8):
     """Fresh manifests of four ECUs, a connection each; and what a synchronised write takes on this disk."""
     own.chmod(0o755)
     with open(own / "synced", "wb") as file:
