@@ -84,7 +84,7 @@ def fetcher(url):
 
     def fetch(name):
         status, text = asked("%s/%s" % (url, name))
-        if status == 404:
+        if status == 404 and text.startswith('{"error":29,'):
             return None
         verify.expect(status == 200, "%s: %d %s", name, status, text)
         return json.loads(text)

@@ -203,8 +203,8 @@ async function asked(url, body) {
 }
 
 const fetcher = (url) => async (name) => {
-  const { status, text } = await asked(`${url}/${name}`);
-  expect(status === 200 || status === 404, `${name}: ${text}`);
+  const { status, text, error } = await asked(`${url}/${name}`);
+  expect(status === 200 || error.error === 29, `${name}: ${text}`);
   return status === 200 ? read(text) : null;
 };
 

@@ -433,9 +433,10 @@ def multiplied(path, vehicles, kept):
     with closing(sqlite3.connect(path, isolation_level=None)) as db:
         for pragma in ("journal_mode = OFF", "synchronous = OFF", "cache_size = -2000000"):
             db.execute("PRAGMA " + pragma).fetchall()
+        db.execute("CREATE TEMP TABLE first AS SELECT * FROM kept WHERE version = 1")
         db.execute("BEGIN")
         for at in range(1, more + 1):
-            db.execute("INSERT INTO kept SELECT vehicle, counter + ?1, version + ?1, moment, root, signed, plan_text, reply FROM kept WHERE version = 1", (at,))
+            db.execute("INSERT INTO kept SELECT vehicle, counter + ?1, version + ?1, moment, root, signed, plan_text, reply FROM first", (at,))
         db.execute("UPDATE vehicle SET version = version + ?1, last_counter = last_counter + ?1 WHERE version = 1", (more,))
         db.execute("COMMIT")
     with open(path, "r+b") as file:

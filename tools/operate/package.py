@@ -4,8 +4,9 @@
     package.py [--program PROGRAM] [--to FOLDER]    makes FOLDER/uptane-desk_VERSION_ARCHITECTURE.deb, and prints its path
     package.py [--program PROGRAM] --tree FOLDER    puts the same files below FOLDER, `/` for one, where there is no dpkg
 
-PROGRAM is `crates/uptane_desk/out/uptane_desk` where none is named: what the gate built and proved. `/usr/lib/uptane_desk/MANIFEST`
-has the commit, whether the checkout differed from it, and the SHA-256 sum of each file; `sha256sum --check` reads it, from `/`.
+PROGRAM is `crates/uptane_desk_ed25519/out/uptane_desk_ed25519` where none is named: what the gate built and proved for a fleet. It
+is installed as `/usr/bin/uptane_desk`. `/usr/lib/uptane_desk/MANIFEST` has the commit, whether the checkout differed from it, the
+program's name, and the SHA-256 sum of each file; `sha256sum --check` reads it, from `/`.
 Installing makes a user, a group of operators and folders, and enables the units, which start nothing before the founding. Removing
 stops the units, and leaves data, copies, the spool and the journal.
 """
@@ -98,7 +99,7 @@ def manifest(listed, program):
     """The commit, and the sum of each file."""
     changed = git("status", "--porcelain", "--untracked-files=no")
     head = ["# commit %s%s" % (git("rev-parse", "HEAD") or "unknown", ", and changes that are in no commit" if changed else ""),
-            "# program %s, %d bytes" % (hashlib.sha256(program.read_bytes()).hexdigest(), program.stat().st_size)]
+            "# program %s, %s, %d bytes" % (program.name, hashlib.sha256(program.read_bytes()).hexdigest(), program.stat().st_size)]
     sums = ["%s  %s" % (hashlib.sha256(path.read_bytes()).hexdigest(), place) for place, path in listed]
     return "\n".join(head + sums) + "\n"
 
@@ -147,7 +148,7 @@ def packed(program, to):
 
 def main():
     parser = argparse.ArgumentParser(description=__doc__, formatter_class=argparse.RawDescriptionHelpFormatter)
-    parser.add_argument("--program", type=Path, default=TOP / "crates" / "uptane_desk" / "out" / "uptane_desk")
+    parser.add_argument("--program", type=Path, default=TOP / "crates" / "uptane_desk_ed25519" / "out" / "uptane_desk_ed25519")
     parser.add_argument("--to", type=Path, default=Path("."))
     parser.add_argument("--tree", type=Path)
     given = parser.parse_args()

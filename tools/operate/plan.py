@@ -99,7 +99,7 @@ def parsed(words):
     for name, value in usual.items():
         parser.add_argument(name, type=float, default=value)
     given = parser.parse_args(words)
-    if min(given.vehicles, given.ecus, given.desks or 1) < 1 or min(vars(given)[name[2:].replace("-", "_")] for name in usual) < 0 or not given.speed:
+    if min(given.vehicles, given.ecus, given.desks or 1) < 1 or min(filter(lambda it: it is not None, vars(given).values())) < 0 or not given.speed:
         parser.error("these are numbers from 1 on, or from 0 on")
     return given
 

@@ -7,6 +7,8 @@
 FILE is `:memory:`, or is made where it isn't there. What the product prints and keeps is compared with this program, and whoever
 writes a Primary can try it here, without the kit that builds the product. It needs Python's standard library alone.
 
+The scheme is HMAC-SHA-256, or Ed25519 where the environment has SCHEME=ed25519.
+
 Its limits: it is slow; what outlasts a crash is what Python's `sqlite3` keeps by default; a script's lines have no limit, nor has
 their number; refusals 1 and 2 never come. The tables are those of `docs/use/TABLES.md`; those of an older schema are raised.
 """

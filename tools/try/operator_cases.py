@@ -512,8 +512,9 @@ def operating(program, own):
         yield "attacks", len(attacks) == 1 and attacks[0][:2] == ("VIN-0001", "br-0001")
     text = "\n".join(["", lines[0], "", "nope", '{"at":1767225600,"do":"show","vehicle":"V9"}']) + "\n"
     (own / "today.script").write_text(text, encoding="ascii")
+    yield "the page has both idioms", len(idioms()) == 2
     for idiom in idioms():
-        asked = idiom.replace("uptane_desk run", "%s run" % program).replace("/srv/uptane/desk.db", str(path))
+        asked = idiom.replace("uptane_desk run", "%s run" % program).replace("/var/lib/uptane/desk.db", str(path))
         ran = subprocess.run(["bash", "-c", asked], cwd=own, capture_output=True, check=False)
         if "paste" in idiom:
             told = ran.stdout.decode("ascii").splitlines()
@@ -523,9 +524,10 @@ def operating(program, own):
 
 
 def idioms():
-    """The commands of the section on long scripts, in order."""
-    page = (trials.TOP / "docs" / "use" / "OPERATING.md").read_text(encoding="utf-8").split("\n## Long scripts\n")[1].split("\n## ")[0]
-    return [" ".join(line.strip().rstrip("\\") for line in it.splitlines()) for it in re.findall(r"(?:^    .*\n)+", page, re.MULTILINE)]
+    """The commands of the section on giving scripts that are a program's, in order."""
+    page = (trials.TOP / "docs" / "use" / "OPERATING.md").read_text(encoding="utf-8").split("\n## Giving scripts\n")[1].split("\n## ")[0]
+    every = [" ".join(line.strip().rstrip("\\") for line in it.splitlines()) for it in re.findall(r"(?:^    .*\n)+", page, re.MULTILINE)]
+    return [it for it in every if "uptane_desk run" in it or "paste" in it]
 
 
 def cases(program):

@@ -182,7 +182,7 @@ def set_up(program, own):
         shutil.copytree(trials.TOP / name, own / name)
     for name in ("README.md", "LICENSE", "SECURITY.md", "CHANGELOG.md", "VERSION"):
         shutil.copy(trials.TOP / name, own / name)
-    built = own / "crates" / "uptane_desk" / "out" / "uptane_desk"
+    built = own / "crates" / "uptane_desk_ed25519" / "out" / "uptane_desk_ed25519"
     built.parent.mkdir(parents=True)
     shutil.copy(program, built)
     (own / "founding.script").write_text("\n".join(http_cases.FIRST_PATH) + "\n", "ascii")

@@ -79,7 +79,7 @@ def sample(text, name, **labels):
 
 
 def measured(program, own):
-    path, lines = own / "fleet", list(fleet.script(vehicles=12, ecus=4, rounds=5, second_hashes=0.3))
+    path, lines = own / "fleet", list(fleet.script(vehicles=30, ecus=4, rounds=4, second_hashes=0.3))
     lines.append(fleet.line("add_vehicle", vehicle="new", primary="n", ecus=[{"ecu": "n", "hardware": "HP", "key": fleet.key(9)}]))
     yield "a fleet", trials.printed(program, path, lines) is not None
     before, after = path.read_bytes(), fleet.START + 2 * DAY
@@ -108,7 +108,7 @@ def measured(program, own):
     yield "the copy stays as it was", path.read_bytes() == before
     both = tool("metrics", "a=%s" % path, "b=%s" % path, "--to", own / "both.prom")
     made = (own / "both.prom").read_text("ascii")
-    yield "of two desks, into a file", both.returncode == 0 and sample(made, "vehicles", desk="a") == sample(made, "vehicles", desk="b") == 13 and made.count("# HELP uptane_desk_vehicles ") == 1
+    yield "of two desks, into a file", both.returncode == 0 and sample(made, "vehicles", desk="a") == sample(made, "vehicles", desk="b") == 31 and made.count("# HELP uptane_desk_vehicles ") == 1
     (own / "other").write_bytes(b"")
     yield "another file, and one name for two", tool("metrics", own / "other").returncode == 1 and tool("metrics", path, path).returncode == 2
     if shutil.which("promtool"):
@@ -161,7 +161,7 @@ class Service:
             (own / "bin" / name).chmod(0o755)
         told = {"PROGRAM": program, "TOOLS": TOOLS, "FOLDER": own / "data", "SPOOL": own / "spool", "JOURNAL": own / "journal", "COPIES": own / "copies"}
         told |= {"RUN": own / "run", "PORT": first, "DESKS": desks or "", "DIVISION": own / "division", "PATIENCE": 60, "SETTINGS": "/nonexistent", "KEEP": 3}
-        told |= {"METRICS": own / "metrics.prom", "PAGE": own / "page.html", "AFTER": own / "after"}
+        told |= {"METRICS": own / "metrics.prom", "PAGE": own / "page.html", "AFTER": own / "after", "AFTER_APPLY": own / "after-apply"}
         self.env = os.environ | {name: str(value) for name, value in told.items()} | {"PATH": "%s:%s" % (own / "bin", os.environ["PATH"])}
 
     def unit(self, name):
@@ -279,10 +279,13 @@ def applied_to_several(program, own):
         it.systemctl("start")
         it.calls()
         it.drop("1.script", image(2), campaign("two", ["V1", "V2"]), vehicle("V4", 5))
+        (own / "after-apply").write_text('#!/bin/sh\ncp "$1" %s/map\n' % own, encoding="ascii")
+        (own / "after-apply").chmod(0o755)
         version = it.version("1")
         done = it.script("apply.sh", "--refresh")
         order = ["%s uptane-desk@%s.service" % (verb, name) for name in it.names for verb in ("stop", "start")]
         yield "two desks, one after the other", done.returncode == 0 and it.calls() == order and it.answers("1.answers") == ["done", "done", "done"]
+        yield "and the proxy may read its map again", (own / "map").read_text("ascii").split()[::2] == ["V1", "V2", "V3", "V4"]
         yield "all have the files of one version", [it.version(name) for name in it.names] == [version + 2] * 2
         it.drop("1.script", campaign("none", ["nobody"]))
         done = it.script("apply.sh", "--refresh")
@@ -455,6 +458,8 @@ def cases(program):
 
 
 if __name__ == "__main__":
-    if len(sys.argv) != 2 or sys.argv[1].startswith("-"):
+    if {"-h", "--help"} & {*sys.argv[1:]}:
+        sys.exit(print(__doc__))
+    if len(sys.argv) != 2:
         sys.exit(__doc__)
     sys.exit(trials.judged("upkeep", cases(Path(sys.argv[1]).resolve())))

@@ -1,7 +1,7 @@
 -- A file belongs to one scheme of signatures: the keys of its roles are of one method.
-use Rattle.std.specs.Prelude.{◌&&◌, ℕ, List, Bool, true, bytes_eq, Option, None, Some, Result, Ok, Err, codes}
+use Rattle.std.specs.Prelude.{◌≡◌, ◌⊎◌, ◌&&◌, false, ℕ, List, Bool, true, bytes_eq, Option, None, Some, Result, Ok, Err, codes}
 use Rattle.std.specs.List.{list_all}
-use Rattle.sqlite.specs.State.{State}
+use Rattle.sqlite.specs.State.{State, HasCleanDisk, Survives}
 use Rattle.up_canon.specs.declared.refusal.Refusal.{Refusal}
 use Rattle.up_roles.specs.Root.{root_in}
 use Rattle.up_roles.specs.declared.root.RoleKeys.{RoleKeys}
@@ -9,7 +9,10 @@ use Rattle.up_roles.specs.declared.root.RootFile.{RootFile}
 use Rattle.up_roles.specs.declared.repository.Repository.TheVariants.{Director}
 use Rattle.up_rows.specs.Lookups.{text_held}
 use Rattle.up_sign.specs.declared.envelope.Envelope.{Envelope}
-use Rattle.up_store.specs.Connections.{Answers}
+use Rattle.up_rows.specs.StateRows.{StateRows, no_rows}
+use Rattle.up_store.specs.Connections.{Answers, HoldsRows, KeepsRows}
+use Rattle.up_tables.specs.Stands.{IfClean, IsAsCommitted, HasNoTables, LeavesOnly}
+use Rattle.up_file.specs.Adopting.{AdoptedIn, IsAdopted}
 
 -- each key of the role is of the method
 abbrev pub is_role_by : List ℕ → RoleKeys → Bool
@@ -30,6 +33,42 @@ abbrev pub are_keys_of : List ℕ → Option (List ℕ) → Bool
 are_keys_of method None = true
 are_keys_of method (Some text) = is_by method (root_in text)
 
+-- whatever rows the tables list, the keys of the Director's latest Root are, or are not, of the method
+abbrev pub TellKeys : List ℕ → Bool → State → Type 0
+TellKeys method yes s = (rows : StateRows) → IfClean (KeepsRows rows) s → are_keys_of method (text_held rows Director (codes "root.json")) ≡ yes
+
 -- what is answered is told by the Director's latest Root
 abbrev pub AnswersKeys : {E : Type 0} → List ℕ → State → State → Result Bool E → Type 0
 AnswersKeys method = Answers (λ rows. are_keys_of method (text_held rows Director (codes "root.json")))
+
+-- the database was read, stays as it was committed, and a crash leaves what it could leave before
+pub record IsRead (old new : State) : Type 0 where
+  pub kept : IfClean (IsAsCommitted old) new
+  pub survives : Survives old new (λ _. ⊥)
+
+-- it had no tables, of this product or another, and now has those of this product, which show that nothing is founded, also after a crash
+pub record IsMade (old new : State) : Type 0 where
+  pub empty : HasNoTables old
+  pub made : KeepsRows no_rows new
+  pub durable : LeavesOnly (HoldsRows no_rows) new
+
+-- it was read, all keys that its tables told were of the method, and then it was adopted or made
+pub record IsTakenFor (method : List ℕ) (old new : State) : Type 0 where
+  pub between : State
+  pub read : IsRead old between
+  pub taken : HasCleanDisk new → IsAdopted between new ⊎ IsMade between new
+  pub crash : Survives between new (AdoptedIn between)
+  pub keys : HasCleanDisk new → TellKeys method true old
+
+-- it was read, and is as it was committed, with no transaction under way
+pub record IsRefused (old new : State) : Type 0 where
+  pub between : State
+  pub read : IsRead old between
+  pub crash : Survives between new (AdoptedIn between)
+  pub kept : IfClean (IsAsCommitted old) new
+  pub mode : new.in_transaction ≡ false
+
+-- it was read alone, and a key that its tables told was of another method
+pub record IsOther (method : List ℕ) (old new : State) : Type 0 where
+  pub read : IsRead old new
+  pub keys : HasCleanDisk new → TellKeys method false old

@@ -1,5 +1,5 @@
 //! Whose keys a database has: a file belongs to one scheme of signatures.
-ghost use Rattle.std.specs.Prelude.{◌≡◌, Bool, false, IfOk, IfErr, IsTrue, Ok, Err, codes};
+ghost use Rattle.std.specs.Prelude.{◌≡◌, Bool, false, IfOk, IfErr, Ok, Err, codes};
 ghost use Rattle.sqlite.specs.Held.{state};
 ghost use Rattle.sqlite.specs.State.{HasCleanDisk, Survives};
 ghost use Rattle.up_roles.specs.Root.{root_in};
@@ -114,20 +114,5 @@ fn told(answer: Result<bool, AllocError>) -> Result<bool, StoreFault>
     match answer {
         Ok(yes) => Ok(yes),
         Err(_) => Err(StoreFault::Memory),
-    }
-}
-
-/// Whether a database may be taken that told this of its keys. One that can't be read has no tables yet, or is refused where it is
-/// taken.
-pub fn may_take(told: Result<bool, StoreFault>) -> bool
-    ensures yes { told ≡ Ok true → IsTrue result }
-    ensures no { told ≡ Ok false → result ≡ false }
-    ensures memory { told ≡ Err StoreFault.Memory → result ≡ false }
-    ensures unread { told ≡ Err StoreFault.Store → IsTrue result }
-{
-    match told {
-        Ok(yes) => yes,
-        Err(StoreFault::Store) => true,
-        Err(StoreFault::Memory) => false,
     }
 }
