@@ -88,7 +88,7 @@ def served(path):
         it.bind(("127.0.0.1", 0))
         port = it.getsockname()[1]
     words = [sys.executable, REFERENCE, "serve", path, str(port)]
-    with subprocess.Popen(words, stderr=subprocess.DEVNULL) as running:
+    with subprocess.Popen(words, stdout=subprocess.DEVNULL, stderr=subprocess.DEVNULL) as running:
         try:
             for _ in range(100):
                 with contextlib.suppress(OSError), socket.create_connection(("127.0.0.1", port), 1):
