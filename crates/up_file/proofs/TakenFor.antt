@@ -40,42 +40,42 @@ never_none old mid rows kept none listed =
     absurd (let no : length up_schema.tables ≡ length no_schema.tables = ap (λ (s : Schema). length s.tables) same in cc)
 
 -- behind the answer that all keys are of the method
-pub taken_ok : {A E : Type 0} (shown : A → State) (method : List ℕ) (old mid : State) (r : Result A E) → IsRead old mid → (HasCleanDisk mid → TellKeys method true old)
-    → IfOk r (λ x. HasCleanDisk (shown x) → IsAdopted mid (shown x)) → IfOk r (λ x. Survives mid (shown x) (AdoptedIn mid)) → IfOk r (λ x. IsTakenFor method old (shown x))
-taken_ok shown method old mid (Ok x) read keys taken crash = record {
+pub taken_ok : {A C E : Type 0} (shown : A → State) (held : C → State) (method : List ℕ) (old : State) (mid : C) (r : Result A E) → IsRead old (held mid) → (HasCleanDisk (held mid) → TellKeys method true old)
+    → IfOk r (λ x. HasCleanDisk (shown x) → IsAdopted (held mid) (shown x)) → IfOk r (λ x. Survives (held mid) (shown x) (AdoptedIn (held mid))) → IfOk r (λ x. IsTakenFor held method old (shown x))
+taken_ok shown held method old mid (Ok x) read keys taken crash = record {
   between = mid;
   read = read;
   taken = λ clean. inl (taken clean);
   crash = crash;
   keys = λ clean. keys (omega (arith, clean, crash.clean));
 }
-taken_ok shown method old mid (Err e) read keys taken crash = tt
+taken_ok shown held method old mid (Err e) read keys taken crash = tt
 
-pub refused_by : {A E : Type 0} (shown : E → State) (old mid : State) (r : Result A E) → IsRead old mid → IfErr r (λ e. IfClean (IsAsCommitted mid) (shown e))
-    → IfErr r (λ e. Survives mid (shown e) (AdoptedIn mid)) → IfErr r (λ e. (shown e).in_transaction ≡ false) → IfErr r (λ e. IsRefused old (shown e))
-refused_by shown old mid (Ok x) read kept crash mode = tt
-refused_by shown old mid (Err e) read kept crash mode = record {
+pub refused_by : {A C E : Type 0} (shown : E → State) (held : C → State) (old : State) (mid : C) (r : Result A E) → IsRead old (held mid) → IfErr r (λ e. IfClean (IsAsCommitted (held mid)) (shown e))
+    → IfErr r (λ e. Survives (held mid) (shown e) (AdoptedIn (held mid))) → IfErr r (λ e. (shown e).in_transaction ≡ false) → IfErr r (λ e. IsRefused held old (shown e))
+refused_by shown held old mid (Ok x) read kept crash mode = tt
+refused_by shown held old mid (Err e) read kept crash mode = record {
   between = mid;
   read = read;
   crash = crash;
-  kept = λ clean. as_before old mid (shown e) (read.kept (omega (arith, clean, crash.clean))) (kept clean);
+  kept = λ clean. as_before old (held mid) (shown e) (read.kept (omega (arith, clean, crash.clean))) (kept clean);
   mode = mode;
 }
 
 -- where the Root couldn't be read, and tables were made
-pub made_ok : {A E : Type 0} (shown : A → State) (method : List ℕ) (old mid : State) (r : Result A E) → IsRead old mid → IfOk r (λ x. HasCleanDisk (shown x) → HasNoTables mid)
-    → IfOk r (λ x. IfClean (KeepsRows no_rows) (shown x)) → IfOk r (λ x. IfClean (LeavesOnly (HoldsRows no_rows)) (shown x)) → IfOk r (λ x. Survives mid (shown x) (MadeIn mid))
-    → (HasCleanDisk mid → HasCleanDisk old) → IfOk r (λ x. IsTakenFor method old (shown x))
-made_ok shown method old mid (Ok x) read empty made durable crash before = record {
+pub made_ok : {A C E : Type 0} (shown : A → State) (held : C → State) (method : List ℕ) (old : State) (mid : C) (r : Result A E) → IsRead old (held mid) → IfOk r (λ x. HasCleanDisk (shown x) → HasNoTables (held mid))
+    → IfOk r (λ x. IfClean (KeepsRows no_rows) (shown x)) → IfOk r (λ x. IfClean (LeavesOnly (HoldsRows no_rows)) (shown x)) → IfOk r (λ x. Survives (held mid) (shown x) (MadeIn (held mid)))
+    → (HasCleanDisk (held mid) → HasCleanDisk old) → IfOk r (λ x. IsTakenFor held method old (shown x))
+made_ok shown held method old mid (Ok x) read empty made durable crash before = record {
   between = mid;
   read = read;
   taken = λ clean. inr (record { empty = empty clean; made = made clean; durable = durable clean });
-  crash = made_taken mid (shown x) crash;
+  crash = made_taken (held mid) (shown x) crash;
   keys = λ clean rows listed.
-      let between = omega (arith, clean, crash.clean) in
-      absurd (never_none old mid rows (read.kept between) (empty clean) (listed (before between)));
+    let between = omega (arith, clean, crash.clean) in
+    absurd (never_none old (held mid) rows (read.kept between) (empty clean) (listed (before between)));
 }
-made_ok shown method old mid (Err e) read empty made durable crash before = tt
+made_ok shown held method old mid (Err e) read empty made durable crash before = tt
 
 pub made_err : {A E : Type 0} (shown : E → State) (old mid : State) (r : Result A E) → IfErr r (λ e. Survives mid (shown e) (MadeIn mid)) → IfErr r (λ e. Survives mid (shown e) (AdoptedIn mid))
 made_err shown old mid (Ok x) crash = tt
@@ -93,11 +93,11 @@ same s Q = record {
   crash = λ clean db may. inl may;
 }
 
-pub refused_at : (old mid : State) → IsRead old mid → mid.in_transaction ≡ false → IsRefused old mid
-refused_at old mid read mode = record {
+pub refused_at : {C : Type 0} (held : C → State) (old : State) (mid : C) → IsRead old (held mid) → (held mid).in_transaction ≡ false → IsRefused held old (held mid)
+refused_at held old mid read mode = record {
   between = mid;
   read = read;
-  crash = same mid (AdoptedIn mid);
+  crash = same (held mid) (AdoptedIn (held mid));
   kept = read.kept;
   mode = mode;
 }

@@ -42,8 +42,8 @@ pub fn take_for<D: Alter>(
     mut conn: Connection<D>,
 ) -> Result<Store<D>, (Connection<D>, OpenFault)>
     requires { (state D.Store conn).in_transaction ≡ false }
-    ensures taken { IfOk result (λ s. IsTakenFor method.now (state D.Store conn) (state D.Store s)) }
-    ensures refused { IfErr result (λ e. IsRefused (state D.Store conn) (state D.Store e.0)) }
+    ensures taken { IfOk result (λ s. IsTakenFor (state D.Store) method.now (state D.Store conn) (state D.Store s)) }
+    ensures refused { IfErr result (λ e. IsRefused (state D.Store) (state D.Store conn) (state D.Store e.0)) }
     ensures other { IfErr result (λ e. e.1 ≡ NotOurs → IsOther method.now (state D.Store conn) (state D.Store e.0)) }
     ensures mode { IfErr result (λ e. (state D.Store e.0).in_transaction ≡ false) }
 {
