@@ -40,42 +40,45 @@ never_none old mid rows kept none listed =
     absurd (let no : length up_schema.tables ≡ length no_schema.tables = ap (λ (s : Schema). length s.tables) same in cc)
 
 -- behind the answer that all keys are of the method
-pub taken_ok : {A C E : Type 0} (shown : A → State) (held : C → State) (method : List ℕ) (old : State) (mid : C) (r : Result A E) → IsRead old (held mid) → (HasCleanDisk (held mid) → TellKeys method true old)
-    → IfOk r (λ x. HasCleanDisk (shown x) → IsAdopted (held mid) (shown x)) → IfOk r (λ x. Survives (held mid) (shown x) (AdoptedIn (held mid))) → IfOk r (λ x. IsTakenFor held method old (shown x))
-taken_ok shown held method old mid (Ok x) read keys taken crash = record {
+pub taken_ok : {A C E : Type 0} (of_conn : C → State) (shown : A → State) (method : List ℕ) (old : State) (mid : C) (r : Result A E) → IsRead old (of_conn mid)
+    → (HasCleanDisk (of_conn mid) → TellKeys method true old) → IfOk r (λ x. HasCleanDisk (shown x) → IsAdopted (of_conn mid) (shown x))
+    → IfOk r (λ x. Survives (of_conn mid) (shown x) (AdoptedIn (of_conn mid))) → IfOk r (λ x. IsTakenFor of_conn method old (shown x))
+taken_ok of_conn shown method old mid (Ok x) read keys taken crash = record {
   between = mid;
   read = read;
   taken = λ clean. inl (taken clean);
   crash = crash;
   keys = λ clean. keys (omega (arith, clean, crash.clean));
 }
-taken_ok shown held method old mid (Err e) read keys taken crash = tt
+taken_ok of_conn shown method old mid (Err e) read keys taken crash = tt
 
-pub refused_by : {A C E : Type 0} (shown : E → State) (held : C → State) (old : State) (mid : C) (r : Result A E) → IsRead old (held mid) → IfErr r (λ e. IfClean (IsAsCommitted (held mid)) (shown e))
-    → IfErr r (λ e. Survives (held mid) (shown e) (AdoptedIn (held mid))) → IfErr r (λ e. (shown e).in_transaction ≡ false) → IfErr r (λ e. IsRefused held old (shown e))
-refused_by shown held old mid (Ok x) read kept crash mode = tt
-refused_by shown held old mid (Err e) read kept crash mode = record {
+pub refused_by : {A C E : Type 0} (of_conn : C → State) (shown : E → State) (old : State) (mid : C) (r : Result A E) → IsRead old (of_conn mid)
+    → IfErr r (λ e. IfClean (IsAsCommitted (of_conn mid)) (shown e)) → IfErr r (λ e. Survives (of_conn mid) (shown e) (AdoptedIn (of_conn mid)))
+    → IfErr r (λ e. (shown e).in_transaction ≡ false) → IfErr r (λ e. IsRefused of_conn old (shown e))
+refused_by of_conn shown old mid (Ok x) read kept crash mode = tt
+refused_by of_conn shown old mid (Err e) read kept crash mode = record {
   between = mid;
   read = read;
   crash = crash;
-  kept = λ clean. as_before old (held mid) (shown e) (read.kept (omega (arith, clean, crash.clean))) (kept clean);
+  kept = λ clean. as_before old (of_conn mid) (shown e) (read.kept (omega (arith, clean, crash.clean))) (kept clean);
   mode = mode;
 }
 
 -- where the Root couldn't be read, and tables were made
-pub made_ok : {A C E : Type 0} (shown : A → State) (held : C → State) (method : List ℕ) (old : State) (mid : C) (r : Result A E) → IsRead old (held mid) → IfOk r (λ x. HasCleanDisk (shown x) → HasNoTables (held mid))
-    → IfOk r (λ x. IfClean (KeepsRows no_rows) (shown x)) → IfOk r (λ x. IfClean (LeavesOnly (HoldsRows no_rows)) (shown x)) → IfOk r (λ x. Survives (held mid) (shown x) (MadeIn (held mid)))
-    → (HasCleanDisk (held mid) → HasCleanDisk old) → IfOk r (λ x. IsTakenFor held method old (shown x))
-made_ok shown held method old mid (Ok x) read empty made durable crash before = record {
+pub made_ok : {A C E : Type 0} (of_conn : C → State) (shown : A → State) (method : List ℕ) (old : State) (mid : C) (r : Result A E) → IsRead old (of_conn mid)
+    → IfOk r (λ x. HasCleanDisk (shown x) → HasNoTables (of_conn mid)) → IfOk r (λ x. IfClean (KeepsRows no_rows) (shown x))
+    → IfOk r (λ x. IfClean (LeavesOnly (HoldsRows no_rows)) (shown x)) → IfOk r (λ x. Survives (of_conn mid) (shown x) (MadeIn (of_conn mid)))
+    → (HasCleanDisk (of_conn mid) → HasCleanDisk old) → IfOk r (λ x. IsTakenFor of_conn method old (shown x))
+made_ok of_conn shown method old mid (Ok x) read empty made durable crash before = record {
   between = mid;
   read = read;
   taken = λ clean. inr (record { empty = empty clean; made = made clean; durable = durable clean });
-  crash = made_taken (held mid) (shown x) crash;
+  crash = made_taken (of_conn mid) (shown x) crash;
   keys = λ clean rows listed.
-    let between = omega (arith, clean, crash.clean) in
-    absurd (never_none old (held mid) rows (read.kept between) (empty clean) (listed (before between)));
+      let between = omega (arith, clean, crash.clean) in
+      absurd (never_none old (of_conn mid) rows (read.kept between) (empty clean) (listed (before between)));
 }
-made_ok shown held method old mid (Err e) read empty made durable crash before = tt
+made_ok of_conn shown method old mid (Err e) read empty made durable crash before = tt
 
 pub made_err : {A E : Type 0} (shown : E → State) (old mid : State) (r : Result A E) → IfErr r (λ e. Survives mid (shown e) (MadeIn mid)) → IfErr r (λ e. Survives mid (shown e) (AdoptedIn mid))
 made_err shown old mid (Ok x) crash = tt
@@ -93,11 +96,12 @@ same s Q = record {
   crash = λ clean db may. inl may;
 }
 
-pub refused_at : {C : Type 0} (held : C → State) (old : State) (mid : C) → IsRead old (held mid) → (held mid).in_transaction ≡ false → IsRefused held old (held mid)
-refused_at held old mid read mode = record {
+pub refused_at : {C : Type 0} (of_conn : C → State) (old : State) (mid : C) → IsRead old (of_conn mid) → (of_conn mid).in_transaction ≡ false
+    → IsRefused of_conn old (of_conn mid)
+refused_at of_conn old mid read mode = record {
   between = mid;
   read = read;
-  crash = same (held mid) (AdoptedIn (held mid));
+  crash = same (of_conn mid) (AdoptedIn (of_conn mid));
   kept = read.kept;
   mode = mode;
 }

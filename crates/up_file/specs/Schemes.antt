@@ -35,7 +35,7 @@ are_keys_of method (Some text) = is_by method (root_in text)
 
 -- whatever rows the tables list, the keys of the Director's latest Root are, or are not, of the method
 abbrev pub TellKeys : List ℕ → Bool → State → Type 0
-TellKeys method told s = (rows : StateRows) → IfClean (KeepsRows rows) s → are_keys_of method (text_held rows Director (codes "root.json")) ≡ told
+TellKeys method are s = (rows : StateRows) → IfClean (KeepsRows rows) s → are_keys_of method (text_held rows Director (codes "root.json")) ≡ are
 
 -- what is answered is told by the Director's latest Root
 abbrev pub AnswersKeys : {E : Type 0} → List ℕ → State → State → Result Bool E → Type 0
@@ -53,18 +53,18 @@ pub record IsMade (old new : State) : Type 0 where
   pub durable : LeavesOnly (HoldsRows no_rows) new
 
 -- it was read, all keys that its tables told were of the method, and then it was adopted or made
-pub record IsTakenFor {C : Type 0} (shown : C → State) (method : List ℕ) (old new : State) : Type 0 where
+pub record IsTakenFor {C : Type 0} (of_conn : C → State) (method : List ℕ) (old new : State) : Type 0 where
   pub between : C
-  pub read : IsRead old (shown between)
-  pub taken : HasCleanDisk new → IsAdopted (shown between) new ⊎ IsMade (shown between) new
-  pub crash : Survives (shown between) new (AdoptedIn (shown between))
+  pub read : IsRead old (of_conn between)
+  pub taken : HasCleanDisk new → IsAdopted (of_conn between) new ⊎ IsMade (of_conn between) new
+  pub crash : Survives (of_conn between) new (AdoptedIn (of_conn between))
   pub keys : HasCleanDisk new → TellKeys method true old
 
 -- it was read, and is as it was committed, with no transaction under way
-pub record IsRefused {C : Type 0} (shown : C → State) (old new : State) : Type 0 where
+pub record IsRefused {C : Type 0} (of_conn : C → State) (old new : State) : Type 0 where
   pub between : C
-  pub read : IsRead old (shown between)
-  pub crash : Survives (shown between) new (AdoptedIn (shown between))
+  pub read : IsRead old (of_conn between)
+  pub crash : Survives (of_conn between) new (AdoptedIn (of_conn between))
   pub kept : IfClean (IsAsCommitted old) new
   pub mode : new.in_transaction ≡ false
 

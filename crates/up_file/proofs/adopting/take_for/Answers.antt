@@ -12,7 +12,7 @@ returns-in-Ok-true-clause-taken g c =
 pub returns-in-Ok-true-clause-refused : goal.returns-in-Ok-true-clause-refused
 returns-in-Ok-true-clause-refused g c =
     let read = record { kept = c.has_keys_of.ensures.kept; survives = c.has_keys_of.ensures.crash } in
-    refused_by (λ e. state g.D.Store e.0) (state g.D.Store) (state g.D.Store c.args.conn) c.has_keys_of.new.conn c.adopt_or_create.result read
+    refused_by (state g.D.Store) (λ e. state g.D.Store e.0) (state g.D.Store c.args.conn) c.has_keys_of.new.conn c.adopt_or_create.result read
     c.adopt_or_create.ensures.kept c.adopt_or_create.ensures.crash_err c.adopt_or_create.ensures.mode
 
 pub returns-in-Ok-true-clause-other : goal.returns-in-Ok-true-clause-other
@@ -37,9 +37,10 @@ returns-in-Err-Store-clause-taken g c =
 
 pub returns-in-Err-Store-clause-refused : goal.returns-in-Err-Store-clause-refused
 returns-in-Err-Store-clause-refused g c =
-    let mid = state g.D.Store c.has_keys_of.new.conn in
+    let mid = c.has_keys_of.new.conn in
     let read = record { kept = c.has_keys_of.ensures.kept; survives = c.has_keys_of.ensures.crash } in
-    refused_by (λ e. state g.D.Store e.0) (state g.D.Store) (state g.D.Store c.args.conn) c.has_keys_of.new.conn c.create.result read c.create.ensures.kept (made_err (λ e. state g.D.Store e.0) mid c.create.result c.create.ensures.crash_err) c.create.ensures.mode
+    refused_by (state g.D.Store) (λ e. state g.D.Store e.0) (state g.D.Store c.args.conn) mid c.create.result read c.create.ensures.kept
+    (made_err (λ e. state g.D.Store e.0) (state g.D.Store mid) c.create.result c.create.ensures.crash_err) c.create.ensures.mode
 
 pub returns-in-Err-Store-clause-other : goal.returns-in-Err-Store-clause-other
 returns-in-Err-Store-clause-other g c = never_other _ c.create.result c.create.ensures.fault
