@@ -33,7 +33,7 @@ START_SECONDS = (30.2, 2.4)
 # what a program without kept replies takes
 PROGRAM_BYTES = 11_500_000
 # processor microseconds of a manifest: so many, for each ECU, and for each thousand kept replies
-MANIFEST, MANIFEST_ECU, MANIFEST_KEPT = 350, 150, 11
+MANIFEST, MANIFEST_ECU, MANIFEST_KEPT = 350, 150, 0.2
 MOST_DESKS = 64
 YEAR = 365
 
