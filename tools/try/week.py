@@ -459,6 +459,8 @@ def main():
         print("there is no %s, so no week is lived" % ", no ".join(lacks))
         return trials.judged("week", [])
     given.to.mkdir(exist_ok=True)
+    # where it is told to end, the services end first
+    signal.signal(signal.SIGTERM, lambda *_: sys.exit(1))
     with that_clones(4 << 30, given.within) as within:
         return trials.judged("week", cases(given.program.resolve(), given.vehicles, given.days, given.to, within))
 
