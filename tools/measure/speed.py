@@ -441,10 +441,13 @@ def multiplied(path, vehicles, kept):
             db.execute("INSERT INTO kept SELECT vehicle, counter + ?1, version + ?1, moment, root, signed, plan_text, reply FROM first", (at,))
         db.execute("UPDATE vehicle SET version = version + ?1, last_counter = last_counter + ?1 WHERE version = 1", (more,))
         db.execute("COMMIT")
-    # (by a program in C, since Python takes a minute for a gigabyte)
+    if not shutil.which("cc"):
+        with open(path, "r+b") as file:
+            return page_sums.written(file, page_sums.page_size(file.read(100)))
+    # (Python takes minutes for a gigabyte)
     summing, size = path.with_name("sums"), page_sums.page_size(path.open("rb").read(100))
     subprocess.run(["cc", "-O2", "-o", str(summing), str(Path(__file__).resolve().parent / "sums.c")], check=True)
-    subprocess.run([str(summing), str(path), str(size)], check=True)
+    return subprocess.run([str(summing), str(path), str(size)], check=True)
 
 
 def millions(program, own, most=4_000_000):

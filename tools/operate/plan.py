@@ -26,14 +26,14 @@ import sys
 FILE_BYTES = (1430, 690)
 # of the peak of a start's memory
 START_BYTES = (1538, 423)
-# of what stays in memory, behind a start with jemalloc
-STAYS_BYTES = (200, 0)
+# of what stays in memory after a start with jemalloc: so much, and so much for each reply
+STAYS, STAYS_BYTES = 18_000_000, 20
 # processor seconds of a start, for a million kept replies
 START_SECONDS = (30.2, 2.4)
 # what a program without kept replies takes
 PROGRAM_BYTES = 11_500_000
 # processor microseconds of a manifest: so many, for each ECU, and for each thousand kept replies
-MANIFEST, MANIFEST_ECU, MANIFEST_KEPT = 350, 150, 11
+MANIFEST, MANIFEST_ECU, MANIFEST_KEPT = 350, 150, 0.2
 MOST_DESKS = 64
 YEAR = 365
 
@@ -52,7 +52,7 @@ class Desk:
         self.file = self.kept * of_ecus(FILE_BYTES, given.ecus)
         self.start = self.kept / 1e6 * of_ecus(START_SECONDS, given.ecus) / given.speed
         self.peak = PROGRAM_BYTES + self.kept * of_ecus(START_BYTES, given.ecus)
-        self.stays = PROGRAM_BYTES + self.kept * of_ecus(STAYS_BYTES, given.ecus)
+        self.stays = min(self.peak, STAYS + self.kept * STAYS_BYTES)
         self.away = given.refreshes * (self.start + 1)
         self.manifest = (MANIFEST + MANIFEST_ECU * given.ecus + MANIFEST_KEPT * self.kept / 1000) / given.speed + 1000 * given.sync
         self.busy = self.a_day * given.busiest / 3600 * self.manifest / 1e6

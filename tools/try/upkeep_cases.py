@@ -52,8 +52,8 @@ def planned(program, own):
     """What it tells of small files that are really made; those of SPEED are large ones."""
     for ecus, kept in ((1, 6000), (4, 3000)):
         path = own / ("kept of %d" % ecus)
-        trials.printed(program, path, speed.prepared(100, 1, 0, ecus))
-        speed.kept_replies(program, path, 0, kept, ecus)
+        trials.printed(program, path, [*speed.prepared(100, 1, 0, ecus), *speed.manifests(100, 100, 1, ecus)])
+        speed.multiplied(path, 100, kept)
         took, memory = speed.used([program, "run", path])
         given = plan.parsed(["--vehicles", "100", "--ecus", str(ecus), "--years", "1"])
         given.manifests_a_day = kept / 100 / plan.YEAR

@@ -136,9 +136,11 @@ class Week(upkeep_cases.Service):
         lines = [fleet.line("found", START, **fleet.key_set(1)), *(fleet.line("add_image", START, **image(kind, 1)) for kind in KINDS)]
         lines += [it.line() for it in self.vehicles]
         upkeep_cases.tool("divide_script", self.own / "division", "--desks", DESKS, input="".join(line + "\n" for line in lines), env=self.env)
-        for name in self.names:
-            own = (self.own / "division" / ("desk%s.script" % name)).read_text("ascii").splitlines()
-            answers = trials.run(self.program, self.file(name), own, 600)[1].decode("ascii").splitlines()
+        scripts = {name: (self.own / "division" / ("desk%s.script" % name)).read_text("ascii").splitlines() for name in self.names}
+        with ThreadPoolExecutor(DESKS) as pool:
+            answered = pool.map(lambda name: trials.run(self.program, self.file(name), scripts[name], 3600)[1], self.names)
+        for name, told in zip(self.names, answered):
+            own, answers = scripts[name], told.decode("ascii").splitlines()
             (self.own / "division" / ("desk%s.answers" % name)).write_text("".join(it + "\n" for it in answers), encoding="ascii")
             self.log[name].append(("script", list(zip(own, answers))))
         joined = upkeep_cases.tool("divide_script", self.own / "division", "--join", env=self.env)
@@ -457,6 +459,8 @@ def main():
         print("there is no %s, so no week is lived" % ", no ".join(lacks))
         return trials.judged("week", [])
     given.to.mkdir(exist_ok=True)
+    # where it is told to end, the services end first
+    signal.signal(signal.SIGTERM, lambda *_: sys.exit(1))
     with that_clones(4 << 30, given.within) as within:
         return trials.judged("week", cases(given.program.resolve(), given.vehicles, given.days, given.to, within))
 
