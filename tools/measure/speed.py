@@ -22,7 +22,7 @@
 
 Instructions are those that valgrind's callgrind counts; compressions are the calls of SHA-256's function in its file, and those of
 malloc are counted in it too. Other parts need no valgrind. A number behind `growth_counts`, `start`, `millions` or `sums` is the
-greatest number of kept replies, for a quick trial; `millions` needs 9 GB of disk and as much memory, and makes its files by SQLite. Files are made where `TMPDIR` says.
+greatest number of kept replies, for a quick trial; `millions` needs 9 GB of disk and as much memory, and a C compiler. Files are made where `TMPDIR` says.
 """
 import contextlib
 import json
@@ -399,7 +399,7 @@ def start(program, own, most=MOST):
 
 # where Debian has it, and how it gives memory back
 JEMALLOC = "/usr/lib/x86_64-linux-gnu/libjemalloc.so.2"
-PRELOADED = {"LD_PRELOAD": JEMALLOC, "MALLOC_CONF": "dirty_decay_ms:1000,muzzy_decay_ms:0"}
+PRELOADED = {"LD_PRELOAD": JEMALLOC, "MALLOC_CONF": "background_thread:true,dirty_decay_ms:1000,muzzy_decay_ms:0"}
 
 
 def allocators_here():
@@ -410,15 +410,17 @@ def allocators_here():
 
 
 def started(program, path, variables, script=()):
-    """Over a file, the processor seconds of a start, its peak of memory and what is resident three seconds later, in MB; and the
-    processor microseconds of a line of the script behind that."""
+    """Over a file, the processor seconds of a start, its peak of memory and what is resident four seconds and 800 lines later, in MB;
+    and the processor microseconds of a line of the script after that."""
     status = lambda it, name: int(re.search(name + r":\s+(\d+)", open("/proc/%d/status" % it.pid, encoding="ascii").read())[1]) >> 10
     with subprocess.Popen([program, "run", str(path)], stdin=subprocess.PIPE, stdout=subprocess.PIPE, env=os.environ | variables) as it:
         assert asked(it, ["x"]) == [b"refused 5 NotJson\n"]
         took, peak = processor(it.pid) / 1e6, status(it, "VmHWM")
         asked(it, script[:1])
-        time.sleep(3)
-        asked(it, ["x"])
+        # jemalloc looks at what to give back while memory is asked for
+        for _ in range(4):
+            time.sleep(1)
+            asked(it, 200 * ["x"])
         stays, begun = status(it, "VmRSS"), processor(it.pid)
         answers = asked(it, script[1:])
         line = (processor(it.pid) - begun) / max(1, len(script) - 1)
@@ -439,8 +441,10 @@ def multiplied(path, vehicles, kept):
             db.execute("INSERT INTO kept SELECT vehicle, counter + ?1, version + ?1, moment, root, signed, plan_text, reply FROM first", (at,))
         db.execute("UPDATE vehicle SET version = version + ?1, last_counter = last_counter + ?1 WHERE version = 1", (more,))
         db.execute("COMMIT")
-    with open(path, "r+b") as file:
-        page_sums.written(file, page_sums.page_size(file.read(100)))
+    # (by a program in C, since Python takes a minute for a gigabyte)
+    summing, size = path.with_name("sums"), page_sums.page_size(path.open("rb").read(100))
+    subprocess.run(["cc", "-O2", "-o", str(summing), str(Path(__file__).resolve().parent / "sums.c")], check=True)
+    subprocess.run([str(summing), str(path), str(size)], check=True)
 
 
 def millions(program, own, most=4_000_000):
@@ -459,8 +463,8 @@ def millions(program, own, most=4_000_000):
 
 def allocators(program, own):
     path, kept = own / "kept", 40_000
-    trials.printed(program, path, prepared(100, 10, 10, 4))
-    kept_replies(program, path, 0, kept, 4)
+    trials.printed(program, path, [*prepared(100, 10, 10, 4), *manifests(100, 100, 1, 4)])
+    multiplied(path, 100, kept)
     script = list(fleet.script(vehicles=100, ecus=4))
     for name, variables in allocators_here().items():
         os.environ |= variables
@@ -555,7 +559,7 @@ def rate(ask, bodies, clients):
         return len(bodies) / (time.perf_counter() - begun)
 
 
-def proxied(program, own, number=2000, clients=8):
+def proxied(program, own, number=600, clients=8):
     """Fresh manifests of four ECUs, a connection each; and what a synchronised write takes on this disk."""
     own.chmod(0o755)
     with open(own / "synced", "wb") as file:

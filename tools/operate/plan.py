@@ -3,7 +3,7 @@
 needs.
 
     plan.py --vehicles N --ecus N [--manifests-a-day N] [--years N] [--desks N]
-            [--seconds S] [--memory GB] [--disk GB] [--busiest SHARE] [--refreshes N] [--copies N] [--speed FACTOR]
+            [--seconds S] [--memory GB] [--disk GB] [--busiest SHARE] [--refreshes N] [--copies N] [--speed FACTOR] [--sync MS]
 
 For 1, 2, 4, 8, 16, 32 and 64 desks, or for N, it prints what there is at the end of so many years (10): the replies that each keeps, its
 file, the seconds of a start and its peak of memory, what stays in memory behind it, the seconds a day that each is away for
@@ -15,6 +15,7 @@ memory (8 GB), all files and copies on its disk (200 GB), and where the busiest 
 a desk half of its time. The last line says how many are enough, and the status is 1 where 64 aren't.
 
 The figures are those of `docs/use/SPEED.md`, measured on a machine that had other work: FACTOR (1) is how many times as fast yours is.
+Each manifest waits once until the disk has synchronised, MS milliseconds (5; a disk for servers takes 0.1).
 Each manifest is kept for good, with its reply, whose size is for reports without a note and plans without an assignment; the estimates
 are for what grows, and leave out images, campaigns and keys.
 """
@@ -53,7 +54,7 @@ class Desk:
         self.peak = PROGRAM_BYTES + self.kept * of_ecus(START_BYTES, given.ecus)
         self.stays = PROGRAM_BYTES + self.kept * of_ecus(STAYS_BYTES, given.ecus)
         self.away = given.refreshes * (self.start + 1)
-        self.manifest = (MANIFEST + MANIFEST_ECU * given.ecus + MANIFEST_KEPT * self.kept / 1000) / given.speed
+        self.manifest = (MANIFEST + MANIFEST_ECU * given.ecus + MANIFEST_KEPT * self.kept / 1000) / given.speed + 1000 * given.sync
         self.busy = self.a_day * given.busiest / 3600 * self.manifest / 1e6
         self.memory = self.stays * (desks - 1) + self.peak
         self.disk = self.file * desks * (1 + given.copies)
@@ -95,7 +96,7 @@ def parsed(words):
     parser.add_argument("--ecus", type=int, required=True)
     parser.add_argument("--desks", type=int, default=None)
     usual = {"--manifests-a-day": 1, "--years": 10, "--seconds": 60, "--memory": 8, "--disk": 200, "--busiest": 0.2, "--refreshes": 2,
-             "--copies": 2, "--speed": 1}
+             "--copies": 2, "--speed": 1, "--sync": 5}
     for name, value in usual.items():
         parser.add_argument(name, type=float, default=value)
     given = parser.parse_args(words)

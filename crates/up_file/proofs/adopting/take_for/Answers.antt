@@ -41,7 +41,7 @@ returns-in-Err-Store-clause-refused g c =
     let mid = c.has_keys_of.new.conn in
     let read : IsRead (state g.D.Store c.args.conn) (state g.D.Store c.has_keys_of.new.conn) = record { kept = c.has_keys_of.ensures.kept; survives = c.has_keys_of.ensures.crash } in
     refused_by (state g.D.Store) (λ e. state g.D.Store e.0) (state g.D.Store c.args.conn) mid c.create.result read c.create.ensures.kept
-    (made_err (λ e. state g.D.Store e.0) (state g.D.Store mid) c.create.result c.create.ensures.crash_err) c.create.ensures.mode
+    (made_err (λ e. state g.D.Store e.0) (state g.D.Store c.args.conn) (state g.D.Store mid) c.create.result c.create.ensures.crash_err) c.create.ensures.mode
 
 pub returns-in-Err-Store-clause-other : goal.returns-in-Err-Store-clause-other
 returns-in-Err-Store-clause-other g c = never_other _ c.create.result c.create.ensures.fault
