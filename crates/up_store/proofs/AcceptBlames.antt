@@ -8,25 +8,22 @@ use Rattle.up_machine.specs.declared.rows.Kept.{Kept}
 use Rattle.up_machine.specs.declared.rows.VehicleRow.{VehicleRow}
 use Rattle.up_machine.specs.declared.rows.VehicleRows.{VehicleRows}
 use Rattle.up_tables.specs.declared.ecu.EcuRow.{EcuRow as EcuShown}
-use Rattle.up_tables.specs.declared.kept.KeptRow.{KeptRow}
 use Rattle.up_tables.specs.declared.values.StoreFault.{StoreFault}
 use Rattle.up_tables.specs.declared.vehicle.VehicleRow.{VehicleRow as VehicleShown}
 use Rattle.up_tables.specs.Ecus.{lines}
-use Rattle.up_tables.specs.Forms.{kept_row, vehicle_row}
+use Rattle.up_tables.specs.Forms.{vehicle_row}
 use Rattle.up_tables.specs.Lines.{EcuLine, ecu_row, vehicle_line}
 use Rattle.up_tables.specs.Stands.{IfClean, IsOpen, Steps}
 use Rattle.up_tables.specs.Statements.{HasVehicle}
 use Rattle.up_tables.specs.Texts.{insert_kept_text, upsert_vehicle_text, upsert_ecu_text}
 use Rattle.up_tables.specs.Tried.{BlamesOne, Ran}
 use Rattle.up_tables.proofs.TriedLemmas.{Went, blames_first, blames_so, blames_then, ran_then}
-use Rattle.up_store.specs.ColumnRows.{IsKept}
 use Rattle.up_store.specs.Lines.{kept_line}
 use Rattle.up_store.specs.Listing.{table_rows}
 use Rattle.up_store.specs.Puts.{MayAccept, MayReport}
 use Rattle.up_store.specs.Shown.{as_told, vehicle_read, ecu_read}
 use Rattle.up_store.specs.Writes.{accept_writes, each_with, reported_writes}
 use Rattle.up_store.proofs.AcceptPuts.{reported, reported_primary}
-use Rattle.up_store.proofs.ColumnPuts.{kept_is}
 use Rattle.up_store.proofs.VehiclePuts.{vehicle_is}
 use Rattle.up_store.proofs.PutBlames.{ecu_rows_are, each_is}
 
@@ -72,9 +69,6 @@ vehicle_fits new s may large = let small = may.fits.version in absurd (omega (ar
 pub fits_kept : (row : Kept) → (row.version < 2 ^ 63) × (row.root < 2 ^ 63) → ((2 ^ 63 ≤ row.version) ⊎ (2 ^ 63 ≤ row.root)) → ⊥
 fits_kept row fits (inl large) = absurd (omega (arith, fits.0, large))
 fits_kept row fits (inr large) = absurd (omega (arith, fits.1, large))
-
-pub kept_row_is : (row : Kept) (made : KeptRow) → IsKept made row → kept_row made ∷ [] ≡ kept_line row ∷ []
-kept_row_is row made is = ap (λ (r : Row). r ∷ []) (kept_is made row is)
 
 module _ (new : VehicleRows) (vehicle : VehicleShown) (ecus : List EcuShown) where
   abbrev first : List (List ℕ × Row)

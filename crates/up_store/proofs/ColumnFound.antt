@@ -1,7 +1,6 @@
 -- What is read of the tables of images, campaigns and kept manifests.
 use Rattle.std.proofs.Common.{◌≡◌, ℕ, pos, List, [], ◌∷◌, Bool, true, false, Option, Some, None, Result, Ok, Err, IsTrue, map, filter, refl, sym, ap, subst, ◌∙◌, string_bytes, bytes_eq, arith}
-use Rattle.std.specs.Prelude.{◌==◌, if◌then◌else◌, option_map, option_and_then, IfOk, IfErr, find}
-use Rattle.std.specs.List.{AllByRecursion}
+use Rattle.std.specs.Prelude.{◌==◌, if◌then◌else◌, option_map, option_and_then, IfOk}
 use Rattle.std.specs.Option.{option_to_list}
 use Rattle.std.specs.Ordering.{is_eq}
 use Rattle.std.specs.FinMap as table
@@ -24,22 +23,18 @@ use Rattle.up_rows.specs.StateRows.{StateRows}
 use Rattle.up_rows.specs.Lookups.{kept_with, latest_kept}
 use Rattle.up_tables.specs.declared.campaign.CampaignRow.{CampaignRow}
 use Rattle.up_tables.specs.declared.image.ImageRow.{ImageRow}
-use Rattle.up_tables.specs.declared.image_sha512.Sha512Row.{Sha512Row}
-use Rattle.up_tables.specs.declared.kept.KeptRow.{KeptRow}
-use Rattle.up_tables.specs.declared.values.StoreFault.{StoreFault}
-use Rattle.up_tables.specs.declared.values.StoreFault.TheVariants.{Memory}
 use Rattle.up_tables.specs.declared.vehicle.VehicleRow.{VehicleRow as VehicleShown}
-use Rattle.up_tables.specs.Forms.{image_places, image_row, sha512_places, sha512_row, campaign_places, campaign_row, vehicle_places, vehicle_row, kept_places, kept_row}
+use Rattle.up_tables.specs.Forms.{image_places, image_row, campaign_places, campaign_row, vehicle_places, vehicle_row}
 use Rattle.up_tables.specs.Lines.{yes_or_no}
 use Rattle.up_tables.specs.Rows.{columns_at, has_number}
 use Rattle.up_tables.specs.Stands.{IsWith, IsWithin, HasTables, Reads, Lists}
-use Rattle.up_tables.specs.Tables.{up_schema, image_table, image_sha512_table, campaign_table, vehicle_table, kept_table}
-use Rattle.up_store.specs.ColumnRows.{IsImage, IsCampaign, IsKept, AreImages, AreSha512s, AreRunning, last_found}
+use Rattle.up_tables.specs.Tables.{up_schema, image_table, campaign_table, vehicle_table}
+use Rattle.up_store.specs.ColumnRows.{IsImage, IsCampaign, AreImages, AreRunning, last_found}
 use Rattle.up_store.specs.Found.{vehicle_found}
-use Rattle.up_store.specs.Lines.{image_lines, second_hash, sha512_lines, campaign_lines, kept_line}
+use Rattle.up_store.specs.Lines.{image_lines, campaign_lines}
 use Rattle.up_store.specs.Listing.{ListsRows}
 use Rattle.up_store.specs.Shown.{vehicle_read}
-use Rattle.up_store.specs.Typed.{AreTyped, IsTypedImage, IsTypedCampaign, IsTypedKept}
+use Rattle.up_store.specs.Typed.{AreTyped, IsTypedImage, IsTypedCampaign}
 use Rattle.up_store.proofs.VehicleReads.{vehicle_in}
 
 -- ---- within a transaction
@@ -218,38 +213,6 @@ are_images rows before after found reads shows within =
       each = λ name. sym (columns_are (table.get rows.images name)) ∙ shows (λ n. image_lines (table.get rows.images n)) has here.rows.tables.images name;
     }
 
--- the row that is found has the second hash of the name's image
-hash_is : (file : Name) (o : Option (List ℕ)) (found : Option Sha512Row) → map (columns_at sha512_places) (sha512_lines file o) ≡ map sha512_row (option_to_list found) → option_map (λ (r : Sha512Row). r.sha512.items) found ≡ o
-hash_is file None None h = refl
-hash_is file None (Some r) h = cc
-hash_is file (Some hash) None h = cc
-hash_is file (Some hash) (Some r) h = let same : r.sha512.items ≡ hash = cc in ap Some same
-
-abbrev hash_lines_of : StateRows → Name → List Row
-hash_lines_of rows n = sha512_lines n (second_hash (table.get rows.images n))
-
-pub hash_found : (rows : StateRows) (file : Name) (before after : Connected) (found : Option Sha512Row) → Reads before after
-    → ((rows_of : List ℕ → List Row) → HasTables before → Lists 1 rows_of (before.now.trees image_sha512_table.tree) → map (columns_at sha512_places) (rows_of file) ≡ map sha512_row (option_to_list found))
-    → IsWithin up_schema (ListsRows rows) before → option_map (λ (r : Sha512Row). r.sha512.items) found ≡ second_hash (table.get rows.images file)
-hash_found rows file before after found reads shows within =
-    let has = has_tables rows before within in
-    let here = within.here reads.was_open in
-    hash_is file (second_hash (table.get rows.images file)) found (shows (hash_lines_of rows) has here.rows.tables.sha512s)
-
-hash_columns : (file : Name) (o : Option (List ℕ)) → map (columns_at sha512_places) (sha512_lines file o) ≡ sha512_lines file o
-hash_columns file None = refl
-hash_columns file (Some hash) = refl
-
--- the rows that are found are those of the images' second hashes
-pub are_hashes : (rows : StateRows) (before after : Connected) (found : List Sha512Row) → Reads before after
-    → ((rows_of : List ℕ → List Row) → HasTables before → Lists 1 rows_of (before.now.trees image_sha512_table.tree)
-    → (name : List ℕ) → map (columns_at sha512_places) (rows_of name) ≡ map sha512_row (filter (λ (i : Sha512Row). bytes_eq (string_bytes i.file) name) found))
-    → IsWithin up_schema (ListsRows rows) before → AreSha512s found rows.images
-are_hashes rows before after found reads shows within name =
-    let has = has_tables rows before within in
-    let here = within.here reads.was_open in
-    sym (hash_columns name (second_hash (table.get rows.images name))) ∙ shows (hash_lines_of rows) has here.rows.tables.sha512s name
-
 abbrev row_with : CampaignData → Bool → Row
 row_with c b = Text c.name ∷ Text (reach_column c.reach) ∷ Text (items_column c.items) ∷ Int (yes_or_no b) ∷ []
 
@@ -283,81 +246,6 @@ are_running rows before after found reads shows within =
     }
 
 -- ---- kept manifests
-
-pub record FoundKept (counter : ℕ) (vehicle : Name) (rows : List Kept) (shown : KeptRow) : Type 0 where
-  pub row : Kept
-  pub there : find (λ (k : Kept). k.counter == counter) rows ≡ Some row
-  pub typed : IsTypedKept vehicle row
-  pub same : IsKept shown row
-
-kept_shown : (row : Kept) (shown : KeptRow) → kept_line row ≡ kept_row shown → IsKept shown row
-kept_shown row shown h = record { vehicle = cc; counter = cc; version = cc; moment = cc; root = cc; signed = cc; plan_text = cc; reply = cc }
-
-abbrev counted : ℕ → List Kept → List Row
-counted counter rows = map (columns_at kept_places) (filter (has_number 1 (pos counter)) (map kept_line rows))
-
-kept_some : (counter : ℕ) (vehicle : Name) (rows : List Kept) (shown : KeptRow) → AllByRecursion (IsTypedKept vehicle) rows → counted counter rows ≡ kept_row shown ∷ [] → FoundKept counter vehicle rows shown
-kept_some counter vehicle [] shown typed h = cc
-kept_some counter vehicle (row ∷ rows) shown typed h = by_test (row.counter == counter) refl (kept_some counter vehicle rows shown typed.1)
-  where
-    by_test : (b : Bool) → (row.counter == counter) ≡ b → (counted counter rows ≡ kept_row shown ∷ [] → FoundKept counter vehicle rows shown) → FoundKept counter vehicle (row ∷ rows) shown
-    by_test true is rest =
-        let test = numbers_are row.counter counter ∙ is in
-        let first : kept_line row ≡ kept_row shown = let found = rw test at h in cc in
-        record { row = row; there = rw is refl; typed = typed.0; same = kept_shown row shown first }
-    by_test false is rest =
-        let test = numbers_are row.counter counter ∙ is in
-        let f = rest (rw test at h) in
-        record { row = f.row; there = rw is f.there; typed = f.typed; same = f.same }
-
-kept_none : (counter : ℕ) (rows : List Kept) → counted counter rows ≡ [] → find (λ (k : Kept). k.counter == counter) rows ≡ None
-kept_none counter [] h = refl
-kept_none counter (row ∷ rows) h = by_test (row.counter == counter) refl (kept_none counter rows)
-  where
-    by_test : (b : Bool) → (row.counter == counter) ≡ b → (counted counter rows ≡ [] → find (λ (k : Kept). k.counter == counter) rows ≡ None) → find (λ (k : Kept). k.counter == counter) (row ∷ rows) ≡ None
-    by_test true is rest = let test = numbers_are row.counter counter ∙ is in let found = rw test at h in cc
-    by_test false is rest = let test = numbers_are row.counter counter ∙ is in rw is (rest (rw test at h))
-
-abbrev ShowsKept : Name → ℕ → Option KeptRow → Connected → Type 0
-ShowsKept vehicle counter found before =
-    (rows_of : List ℕ → List Row) → HasTables before → Lists 1 rows_of (before.now.trees kept_table.tree)
-    → map (columns_at kept_places) (filter (has_number 1 (pos counter)) (rows_of vehicle)) ≡ map kept_row (option_to_list found)
-
-kept_rows_are : (rows : StateRows) (vehicle : Name) (counter : ℕ) (before after : Connected) (found : Option KeptRow) → Reads before after → ShowsKept vehicle counter found before
-    → IsWithin up_schema (ListsRows rows) before → counted counter (rows.kept vehicle) ≡ map kept_row (option_to_list found)
-kept_rows_are rows vehicle counter before after found reads shows within =
-    let has = has_tables rows before within in
-    let here = within.here reads.was_open in
-    shows (λ n. map kept_line (rows.kept n)) has here.rows.tables.kept
-
--- the row that is found is a kept manifest's
-kept_is : (rows : StateRows) (vehicle : Name) (counter : ℕ) (before after : Connected) (found : Option KeptRow) (shown : KeptRow) → found ≡ Some shown
-    → Reads before after → ShowsKept vehicle counter found before → IsWithin up_schema (ListsRows rows) before → FoundKept counter vehicle (rows.kept vehicle) shown
-kept_is rows vehicle counter before after found shown is reads shows within =
-    let here = within.here reads.was_open in
-    kept_some counter vehicle (rows.kept vehicle) shown (here.rows.typed.kept vehicle) (kept_rows_are rows vehicle counter before after found reads shows within ∙ ap (λ o. map kept_row (option_to_list o)) is)
-
--- the manifest that is found is that of the row
-pub kept_found : {E : Type 0} (r : Result (Option Kept) E) (rows : StateRows) (vehicle : Name) (counter : ℕ) (before after : Connected) (found : Option KeptRow) (shown : KeptRow) → found ≡ Some shown
-    → IfOk r (λ read. (n : Name) (row : Kept) → IsTypedKept n row → IsKept shown row → read ≡ Some row)
-    → Reads before after → ShowsKept vehicle counter found before → IsWithin up_schema (ListsRows rows) before → IfOk r (λ read. read ≡ kept_with vehicle counter rows)
-kept_found (Err e) rows vehicle counter before after found shown is read reads shows within = tt
-kept_found (Ok x) rows vehicle counter before after found shown is read reads shows within =
-    let f = kept_is rows vehicle counter before after found shown is reads shows within in
-    read vehicle f.row f.typed f.same ∙ sym f.there
-
--- it is read again
-pub kept_reads : {A : Type 0} (r : Result A StoreFault) (rows : StateRows) (vehicle : Name) (counter : ℕ) (before after : Connected) (found : Option KeptRow) (shown : KeptRow) → found ≡ Some shown
-    → ((n : Name) (row : Kept) → IsTypedKept n row → IsKept shown row → IfErr r (λ fault. fault ≡ Memory))
-    → Reads before after → ShowsKept vehicle counter found before → IsWithin up_schema (ListsRows rows) before → IfErr r (λ fault. fault ≡ Memory)
-kept_reads r rows vehicle counter before after found shown is read reads shows within =
-    let f = kept_is rows vehicle counter before after found shown is reads shows within in
-    read vehicle f.row f.typed f.same
-
-pub kept_unknown : (rows : StateRows) (vehicle : Name) (counter : ℕ) (before after : Connected) (found : Option KeptRow) → found ≡ None → Reads before after → ShowsKept vehicle counter found before
-    → IsWithin up_schema (ListsRows rows) before → None ≡ kept_with vehicle counter rows
-kept_unknown rows vehicle counter before after found is reads shows within =
-    sym (kept_none counter (rows.kept vehicle) (kept_rows_are rows vehicle counter before after found reads shows within ∙ ap (λ o. map kept_row (option_to_list o)) is))
 
 -- ---- the latest manifest
 

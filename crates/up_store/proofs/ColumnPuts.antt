@@ -24,7 +24,7 @@ use Rattle.up_tables.specs.Rows.{changed_at, with_row}
 use Rattle.up_tables.specs.Stands.{IsWithin, GoesOn, HasTables, Alters, Lists}
 use Rattle.up_tables.specs.Tables.{up_schema, image_table, image_sha512_table, campaign_table, kept_table}
 use Rattle.up_tables.proofs.ListedLemmas.{goes_on, lists_images, lists_sha512s, lists_campaigns, lists_kept}
-use Rattle.up_store.specs.ColumnRows.{IsImage, IsCampaign, IsKept, with_image, with_kept}
+use Rattle.up_store.specs.ColumnRows.{IsImage, IsCampaign, with_image, with_kept}
 use Rattle.up_store.specs.Fitting.{IsNewCampaign, IsNewImage, IsSameRoot}
 use Rattle.up_store.specs.Lines.{image_lines, second_hash, sha512_lines, campaign_lines, kept_line}
 use Rattle.up_store.specs.Listing.{ListsRows, table_rows}
@@ -180,19 +180,16 @@ puts_campaign r new made before after is typed puts was_open =
 
 -- ---- kept manifests
 
-pub kept_is : (made : KeptRow) (row : Kept) → IsKept made row → kept_row made ≡ kept_line row
-kept_is made row is = λ i.
-    Text (is.vehicle i) ∷ Int (pos (is.counter i)) ∷ Int (pos (is.version i)) ∷ Int (pos (is.moment i)) ∷ Int (pos (is.root i)) ∷ Text (is.signed i) ∷ Text (is.plan_text i) ∷ Text (is.reply i) ∷ []
-
-pub puts_kept : {A : Type 0} (r : Result A StoreFault) (row : Kept) (made : KeptRow) (before after : Connected) → IsKept made row
-    → OnOk r ((rows_of : List ℕ → List Row) → HasTables before → Lists 1 rows_of (before.now.trees kept_table.tree) → Alters kept_table (Lists 1 (with_row (string_bytes made.vehicle) (kept_row made) rows_of)) before after)
+pub puts_kept : {A : Type 0} (r : Result A StoreFault) (row : Kept) (made : KeptRow) (before after : Connected) → kept_row made ≡ kept_line row
+    → OnOk r ((rows_of : List ℕ → List Row) → HasTables before → Lists 1 rows_of (before.now.trees kept_table.tree) → Alters kept_table (Lists 1 (with_row made.vehicle.now (kept_row made) rows_of)) before after)
     → OnOk r (IsTrue before.is_open) → OnOk r ((rows : TableRows) → IsWithin up_schema (ListsTables rows) before → Unit {0} → GoesOn up_schema (ListsTables (with_kept row rows)) after)
 puts_kept (Err e) row made before after is puts was_open = tt
 puts_kept (Ok done) row made before after is puts was_open = λ rows within fits.
     let here = within.here was_open in
     let kept : List ℕ → List Row = with_row row.vehicle (kept_line row) rows.kept in
     let put = puts rows.kept (λ _. record { schema_is = here.schema_is; sound = here.sound; rows = tt }) here.rows.kept in
-    let named : (n : List ℕ) → with_row (string_bytes made.vehicle) (kept_row made) rows.kept n ≡ kept n =
-    λ n. ap (λ m. with_row m (kept_row made) rows.kept n) is.vehicle ∙ ap (λ (line : Row). with_row row.vehicle line rows.kept n) (kept_is made row is) in
+    let vehicle : made.vehicle.now ≡ row.vehicle = cc in
+    let named : (n : List ℕ) → with_row made.vehicle.now (kept_row made) rows.kept n ≡ kept n =
+    λ n. ap (λ m. with_row m (kept_row made) rows.kept n) vehicle ∙ ap (λ (line : Row). with_row row.vehicle line rows.kept n) is in
     let now : Alters kept_table (Lists 1 kept) before after = alters_as kept_table _ _ (λ trees. lists_as 1 _ _ trees named) before after put in
     goes_on kept_table _ (ListsTables (with_kept row rows)) before after now (lists_kept rows kept before after here.rows now)

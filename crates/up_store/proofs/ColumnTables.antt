@@ -13,12 +13,12 @@ use Rattle.up_plan.specs.Images.{ImageData}
 use Rattle.up_plan.specs.Planning.{reaches}
 use Rattle.up_tables.specs.declared.campaign.CampaignRow.{CampaignRow}
 use Rattle.up_tables.specs.declared.image.ImageRow.{ImageRow}
-use Rattle.up_tables.specs.declared.image_sha512.Sha512Row.{Sha512Row}
-use Rattle.up_tables.specs.Forms.{image_row, sha512_row, campaign_row}
+use Rattle.up_store.specs.declared.second_hashes.SecondHash.{SecondHash}
+use Rattle.up_tables.specs.Forms.{image_row, campaign_row}
 use Rattle.up_tables.specs.Lines.{campaign_line, sha512_line, yes_or_no}
 use Rattle.up_store.specs.ColumnRows.{IsImage, IsCampaign, AreImages, AreSha512s, AreHashesOf, AreRunning}
 use Rattle.up_store.specs.Found.{values_where}
-use Rattle.up_store.specs.Lines.{image_lines, second_hash, sha512_lines, campaign_lines}
+use Rattle.up_store.specs.Lines.{hash_line, image_lines, second_hash, sha512_lines, campaign_lines}
 use Rattle.up_store.specs.Typed.{IsTypedImage, IsTypedCampaign}
 use Rattle.up_store.proofs.ColumnFound.{image_shown, campaign_shown}
 use Rattle.up_store.proofs.ValuesWhere.{get_where}
@@ -69,8 +69,8 @@ images_ended images rows t are so =
 
 -- ---- the second hashes of images
 
-abbrev hash_key : Sha512Row → Name
-hash_key shown = string_bytes shown.file
+abbrev hash_key : SecondHash → Name
+hash_key shown = shown.file
 
 abbrev any_hash : List ℕ → Bool
 any_hash hash = true
@@ -79,35 +79,29 @@ abbrev hash_at : Table ImageData → Name → Option (List ℕ)
 hash_at images n = second_hash (table.get images n)
 
 -- the second hashes of these rows
-abbrev pub AreHashesSofar : List Sha512Row → Table ImageData → Table (List ℕ) → Type 0
-AreHashesSofar rows images t = whole.IsSofar hash_key sha512_row sha512_lines sha512_line (λ n. refl) (λ n x. refl) any_hash (hash_at images) rows t
+abbrev pub AreHashesSofar : List SecondHash → Table ImageData → Table (List ℕ) → Type 0
+AreHashesSofar rows images t = whole.IsSofar hash_key hash_line sha512_lines sha512_line (λ n. refl) (λ n x. refl) any_hash (hash_at images) rows t
 
 pub hashes_begun : (images : Table ImageData) → AreHashesSofar [] images table.empty
-hashes_begun images = whole.begun hash_key sha512_row sha512_lines sha512_line (λ n. refl) (λ n x. refl) any_hash (hash_at images)
+hashes_begun images = whole.begun hash_key hash_line sha512_lines sha512_line (λ n. refl) (λ n x. refl) any_hash (hash_at images)
 
-the_hash : (n : Name) (hash : List ℕ) (r : Sha512Row) → sha512_lines n (Some hash) ≡ sha512_row r ∷ [] → r.sha512.items ≡ hash
+the_hash : (n : Name) (hash : List ℕ) (r : SecondHash) → sha512_lines n (Some hash) ≡ hash_line r ∷ [] → r.sha512 ≡ hash
 the_hash n hash r h = cc
 
-pub hashes_more : (images : Table ImageData) (rows : List Sha512Row) (i : ℕ) (r : Sha512Row) (t next : Table (List ℕ)) → i < length rows → r ≡ get_or rows i r → AreSha512s rows images
-    → next ≡ table.insert t (string_bytes r.file) r.sha512.items → AreHashesSofar (take i rows) images t → AreHashesSofar (take (i + 1) rows) images next
+pub hashes_more : (images : Table ImageData) (rows : List SecondHash) (i : ℕ) (r : SecondHash) (t next : Table (List ℕ)) → i < length rows → r ≡ get_or rows i r → AreSha512s rows images
+    → next ≡ table.insert t r.file r.sha512 → AreHashesSofar (take i rows) images t → AreHashesSofar (take (i + 1) rows) images next
 hashes_more images rows i r t next h at are put so =
-    let is = whole.row_is hash_key sha512_row sha512_lines sha512_line (λ n. refl) (λ n x. refl) any_hash (hash_at images) rows i r h at are in
-    whole.more hash_key sha512_row sha512_lines sha512_line (λ n. refl) (λ n x. refl) any_hash (hash_at images) rows i r is.value t next h at is.there
+    let is = whole.row_is hash_key hash_line sha512_lines sha512_line (λ n. refl) (λ n x. refl) any_hash (hash_at images) rows i r h at are in
+    whole.more hash_key hash_line sha512_lines sha512_line (λ n. refl) (λ n x. refl) any_hash (hash_at images) rows i r is.value t next h at is.there
     (put ∙ ap (table.insert t (hash_key r)) (the_hash (hash_key r) is.value r is.same)) so
-
--- each row is of a second hash
-pub hash_of : (images : Table ImageData) (rows : List Sha512Row) (i : ℕ) (r : Sha512Row) → i < length rows → r ≡ get_or rows i r → AreSha512s rows images → second_hash (table.get images (hash_key r)) ≡ Some r.sha512.items
-hash_of images rows i r h at are =
-    let is = whole.row_is hash_key sha512_row sha512_lines sha512_line (λ n. refl) (λ n x. refl) any_hash (hash_at images) rows i r h at are in
-    is.there ∙ ap Some (sym (the_hash (hash_key r) is.value r is.same))
 
 any_hash_passes : (o : Option (List ℕ)) → if_passes any_hash o ≡ o
 any_hash_passes None = refl
 any_hash_passes (Some hash) = refl
 
-pub hashes_ended : (images : Table ImageData) (rows : List Sha512Row) (t : Table (List ℕ)) → AreSha512s rows images → AreHashesSofar rows images t → AreHashesOf t images
+pub hashes_ended : (images : Table ImageData) (rows : List SecondHash) (t : Table (List ℕ)) → AreSha512s rows images → AreHashesSofar rows images t → AreHashesOf t images
 hashes_ended images rows t are so n =
-    whole.ended hash_key sha512_row sha512_lines sha512_line (λ n. refl) (λ n x. refl) any_hash (hash_at images) rows t are so n ∙ any_hash_passes (hash_at images n)
+    whole.ended hash_key hash_line sha512_lines sha512_line (λ n. refl) (λ n x. refl) any_hash (hash_at images) rows t are so n ∙ any_hash_passes (hash_at images n)
 
 -- ---- running campaigns
 

@@ -11,17 +11,15 @@ use Rattle.up_machine.specs.declared.rows.Kept.{Kept}
 use Rattle.up_rows.specs.StateRows.{StateRows}
 use Rattle.up_columns.specs.Columns.{names_column, needs_column}
 use Rattle.up_columns.specs.CampaignColumns.{reach_column, items_column}
-use Rattle.up_columns.specs.PlanColumns.{plan_column}
 use Rattle.up_tables.specs.declared.campaign.CampaignRow.{CampaignRow}
 use Rattle.up_tables.specs.declared.image.ImageRow.{ImageRow}
-use Rattle.up_tables.specs.declared.image_sha512.Sha512Row.{Sha512Row}
-use Rattle.up_tables.specs.declared.kept.KeptRow.{KeptRow}
+use Rattle.up_store.specs.declared.second_hashes.SecondHash.{SecondHash}
 use Rattle.up_tables.specs.declared.values.StoreFault.{StoreFault}
 use Rattle.up_tables.specs.declared.values.StoreFault.TheVariants.{Memory, Store}
-use Rattle.up_tables.specs.Forms.{image_row, sha512_row, campaign_row}
+use Rattle.up_tables.specs.Forms.{image_row, campaign_row}
 use Rattle.up_tables.specs.Listed.{TableRows}
 use Rattle.up_tables.specs.Rows.{with_row}
-use Rattle.up_store.specs.Lines.{image_lines, second_hash, sha512_lines, campaign_lines, kept_line}
+use Rattle.up_store.specs.Lines.{hash_line, image_lines, second_hash, sha512_lines, campaign_lines, kept_line}
 use Rattle.up_store.specs.Typed.{IsTypedImage, IsTypedCampaign}
 
 -- want of memory by itself, every fault of a column alike
@@ -47,16 +45,6 @@ pub record IsCampaign (shown : CampaignRow) (campaign : CampaignData) : Type 0 w
   pub items : string_bytes shown.items ≡ items_column campaign.items
   pub running : shown.running ≡ campaign.running
 
-pub record IsKept (shown : KeptRow) (row : Kept) : Type 0 where
-  pub vehicle : string_bytes shown.vehicle ≡ row.vehicle
-  pub counter : shown.counter ≡ row.counter
-  pub version : shown.version ≡ row.version
-  pub moment : shown.moment ≡ row.at
-  pub root : shown.root ≡ row.root
-  pub signed : string_bytes shown.signed ≡ row.signed
-  pub plan_text : string_bytes shown.plan_text ≡ plan_column row.plan
-  pub reply : string_bytes shown.reply ≡ row.reply
-
 -- ---- the rows of a table, read whole
 
 -- of each name the row of the image, or none
@@ -65,9 +53,9 @@ pub record AreImages (shown : List ImageRow) (images : Table ImageData) : Type 0
   pub each : (name : Name) → image_lines (table.get images name) ≡ map image_row (filter (λ i. bytes_eq (string_bytes i.file) name) shown)
 
 -- of each name the row of its image's second hash, or none
-abbrev pub AreSha512s : List Sha512Row → Table ImageData → Type 0
+abbrev pub AreSha512s : List SecondHash → Table ImageData → Type 0
 AreSha512s shown images =
-    (name : Name) → sha512_lines name (second_hash (table.get images name)) ≡ map sha512_row (filter (λ i. bytes_eq (string_bytes i.file) name) shown)
+    (name : Name) → sha512_lines name (second_hash (table.get images name)) ≡ map hash_line (filter (λ i. bytes_eq i.file name) shown)
 
 -- of each name its image's second hash, or none
 abbrev pub AreHashesOf : Table (List ℕ) → Table ImageData → Type 0

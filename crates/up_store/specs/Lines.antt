@@ -24,6 +24,7 @@ use Rattle.up_columns.specs.CampaignColumns.{reach_column, items_column}
 use Rattle.up_columns.specs.PlanColumns.{plan_column}
 use Rattle.up_tables.specs.Lines.{EcuLine, ecu_row, campaign_line, vehicle_line, retired_line, sha512_line, yes_or_no}
 use Rattle.up_tables.specs.Rows.{with_only_at}
+use Rattle.up_store.specs.declared.second_hashes.SecondHash.{SecondHash}
 
 -- ---- meta: the numbers of the founding; zeros before it
 
@@ -108,6 +109,9 @@ vehicle_lines (Some v) = vehicle_line v.vehicle.vehicle v.vehicle.primary v.vehi
 
 abbrev pub second_hash : Option ImageData → Option (List ℕ)
 second_hash image = option_and_then (λ i. i.sha512) image
+
+abbrev pub hash_line : SecondHash → Row
+hash_line h = sha512_line h.file h.sha512
 
 abbrev pub sha512_lines : Name → Option (List ℕ) → List Row
 sha512_lines file None = []

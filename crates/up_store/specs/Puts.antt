@@ -1,5 +1,5 @@
 -- What the parts of a write change of the rows of the tables.
-use Rattle.std.specs.Prelude.{◌≡◌, ℕ, ◌≤◌, ◌<◌, ◌^◌, ◌++◌, List, [], ◌∷◌, All, Some, IfSome, IsUtf8, length, map}
+use Rattle.std.specs.Prelude.{◌≡◌, true, ℕ, ◌≤◌, ◌<◌, ◌^◌, ◌++◌, List, [], ◌∷◌, All, Some, IfSome, IsUtf8, length, map}
 use Rattle.std.specs.List.{AllByRecursion}
 use Rattle.sqlite.specs.State.{State as Connected}
 use Rattle.sqlite.specs.Order.{Row}
@@ -14,22 +14,23 @@ use Rattle.up_metadata.specs.declared.role_files.RoleTexts.{RoleTexts}
 use Rattle.up_rows.specs.StateRows.{StateRows}
 use Rattle.up_tables.specs.declared.ecu.EcuRow.{EcuRow as EcuShown}
 use Rattle.up_tables.specs.declared.image.ImageRow.{ImageRow}
-use Rattle.up_tables.specs.declared.kept.KeptRow.{KeptRow}
 use Rattle.up_tables.specs.declared.repo_file.FileRow.{FileRow as FileShown}
 use Rattle.up_tables.specs.declared.role_key.RoleKeyRow.{RoleKeyRow}
 use Rattle.up_tables.specs.declared.vehicle.VehicleRow.{VehicleRow as VehicleShown}
 use Rattle.up_tables.specs.Ecus.{FitEcu}
-use Rattle.up_tables.specs.Forms.{FitImage, FitKept, FitRoleKey, FitVehicle, role_key_row}
+use Rattle.up_tables.specs.Forms.{FitImage, FitRoleKey, FitVehicle, role_key_row}
 use Rattle.up_tables.specs.Lines.{EcuLine, ecu_row, vehicle_line, AreSameEcus, AreDistinct, set_ecus}
 use Rattle.up_tables.specs.Listed.{TableRows, ListsTables}
 use Rattle.up_tables.specs.Rows.{changed_at, with_only}
 use Rattle.up_roles.specs.declared.repository.Repository.TheVariants.{Director, Image}
-use Rattle.up_store.specs.ColumnRows.{IsImage, IsKept}
+use Rattle.up_columns.specs.PlanColumns.{plan_column}
+use Rattle.up_columns.specs.Typed.{is_typed_plan}
+use Rattle.up_store.specs.ColumnRows.{IsImage}
 use Rattle.up_store.specs.Fitting.{IsRecorded}
 use Rattle.up_store.specs.Lines.{FileLine, repository_lines, role_file_lines, root_file_lines, set_lines, image_lines, sha512_lines, ecu_lines}
 use Rattle.up_store.specs.Listing.{ListsRows}
 use Rattle.up_store.specs.Shown.{as_told, ecu_read, file_read, vehicle_read}
-use Rattle.up_store.specs.Typed.{AreTypedTexts, IsTypedEcu, IsTypedImage, IsTypedKept, IsTypedVehicleRow}
+use Rattle.up_store.specs.Typed.{AreTypedTexts, IsTypedEcu, IsTypedImage, IsTypedVehicleRow}
 use Rattle.up_store.specs.Writes.{FitsAccepted, FitsVehicle}
 
 -- rows as they stand in the tables, made of a vehicle and its ECUs
@@ -42,11 +43,12 @@ pub record AreMadeOf (new : VehicleRows) (vehicle : VehicleShown) (ecus : List E
   pub typed : IsTypedVehicleRow new.vehicle
   pub typed_each : AllByRecursion IsTypedEcu new.ecus
 
--- a row as it stands in the table, made of a kept manifest
-pub record IsMadeOfKept (new : Kept) (row : KeptRow) : Type 0 where
-  pub is : IsKept row new
-  pub fit : FitKept row
-  pub typed : IsTypedKept new.vehicle new
+-- the column of a kept manifest's plan, whose numbers fit their columns
+pub record IsMadeOfKept (new : Kept) (plan : List ℕ) : Type 0 where
+  pub is : plan ≡ plan_column new.plan
+  pub typed : is_typed_plan new.plan ≡ true
+  pub version : new.version < 2 ^ 63
+  pub root : new.root < 2 ^ 63
 
 -- rows of files, made of the image repository's files
 pub record AreMadeOfTexts (new : RoleTexts) (files : List FileShown) : Type 0 where

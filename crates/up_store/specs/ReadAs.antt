@@ -4,11 +4,14 @@ use Rattle.std.specs.Prelude.{bytes_eq, Ok, IfOk, IsSomeAnd, MatchOption, option
 use Rattle.std.specs.FinMap as table
 use Rattle.std.specs.List.{list_any}
 use Rattle.std.specs.Option.{option_to_list}
-use Rattle.sqlite.specs.Order.{Row}
+use Rattle.sqlite.specs.Order.{Row, column}
+use Rattle.sqlite.specs.declared.types.Value.{Value}
+use Rattle.sqlite.specs.declared.types.Value.TheVariants.{Blob, Int, Text}
 use Rattle.sqlite.specs.State.{State as Connected, HasCleanDisk}
 use Rattle.sqlite.specs.Table.{Table as SqlTable}
 use Rattle.up_canon.specs.Canon.{quoted}
 use Rattle.up_canon.specs.Names.{Name, Table}
+use Rattle.up_canon.specs.declared.refusal.Refusal.{Refusal}
 use Rattle.up_plan.specs.Campaigns.{CampaignData}
 use Rattle.up_plan.specs.Images.{ImageData}
 use Rattle.up_plan.specs.Planning.{reaches}
@@ -23,18 +26,18 @@ use Rattle.up_columns.specs.PlanColumns.{plan_in}
 use Rattle.up_tables.specs.declared.campaign.CampaignRow.{CampaignRow}
 use Rattle.up_tables.specs.declared.ecu.EcuRow.{EcuRow as EcuShown}
 use Rattle.up_tables.specs.declared.image.ImageRow.{ImageRow}
-use Rattle.up_tables.specs.declared.image_sha512.Sha512Row.{Sha512Row}
-use Rattle.up_tables.specs.declared.kept.KeptRow.{KeptRow}
+use Rattle.up_store.specs.declared.second_hashes.SecondHash.{SecondHash}
 use Rattle.up_tables.specs.declared.meta.MetaRow.{MetaRow}
 use Rattle.up_tables.specs.declared.repo_file.FileRow.{FileRow}
 use Rattle.up_tables.specs.declared.role_key.RoleKeyRow.{RoleKeyRow}
 use Rattle.up_tables.specs.declared.vehicle.VehicleRow.{VehicleRow as VehicleShown}
 use Rattle.up_tables.specs.Ecus.{owns}
-use Rattle.up_tables.specs.Forms.{campaign_places, campaign_row, file_places, file_row, image_places, image_row, kept_places, kept_row}
-use Rattle.up_tables.specs.Forms.{meta_values, role_key_places, role_key_row, sha512_places, sha512_row, vehicle_places, vehicle_row}
+use Rattle.up_tables.specs.Forms.{campaign_places, campaign_row, file_places, file_row, image_places, image_row, kept_places}
+use Rattle.up_tables.specs.Forms.{meta_values, role_key_places, role_key_row, sha512_places, vehicle_places, vehicle_row}
 use Rattle.up_tables.specs.Found.{ReadsByPlace, meta_shown}
 use Rattle.up_tables.specs.Rows.{columns_at, has_number, has_text}
 use Rattle.up_tables.specs.Stands.{HasTables, Lists}
+use Rattle.up_tables.specs.Stored.{EachSays}
 use Rattle.up_tables.specs.Tables.{meta_table}
 use Rattle.up_store.specs.Shown.{IsFoundingOf, ecu_read, vehicle_read}
 
@@ -57,15 +60,20 @@ pub record IsReadCampaign (shown : CampaignRow) (read : CampaignData) : Type 0 w
   pub items : campaign_items_in (string_bytes shown.items) ≡ Ok read.items
   pub running : read.running ≡ shown.running
 
-pub record IsReadKept (shown : KeptRow) (read : Kept) : Type 0 where
-  pub vehicle : read.vehicle ≡ string_bytes shown.vehicle
-  pub counter : read.counter ≡ shown.counter
-  pub version : read.version ≡ shown.version
-  pub moment : read.at ≡ shown.moment
-  pub root : read.root ≡ shown.root
-  pub signed : read.signed ≡ string_bytes shown.signed
-  pub plan : plan_in (string_bytes shown.plan_text) ≡ Ok read.plan
-  pub reply : read.reply ≡ string_bytes shown.reply
+-- the column is a text that is read as this value
+abbrev pub IsColumnOf : {A : Type 0} → (List ℕ → Result A Refusal) → Value → A → Type 0
+IsColumnOf read v x = (text : List ℕ) × (v ≡ Text text) × (read text ≡ Ok x)
+
+-- the row says this kept manifest
+pub record SaysKept (row : Row) (read : Kept) : Type 0 where
+  pub vehicle : column row 0 ≡ Text read.vehicle
+  pub counter : column row 1 ≡ Int (pos read.counter)
+  pub version : column row 2 ≡ Int (pos read.version)
+  pub moment : column row 3 ≡ Int (pos read.at)
+  pub root : column row 4 ≡ Int (pos read.root)
+  pub signed : column row 5 ≡ Text read.signed
+  pub plan : IsColumnOf plan_in (column row 6) read.plan
+  pub reply : column row 7 ≡ Text read.reply
 
 -- ---- rows of a table, one after another
 
@@ -80,10 +88,15 @@ pub record PutsImage (hashes : Table (List ℕ)) (shown : ImageRow) (before afte
   pub read : IsReadImage shown (table.get hashes (string_bytes shown.file)) image
   pub put : after ≡ table.insert before image.file image
 
--- the row's 64 bytes are put in under its filename
-pub record PutsSha512 (shown : Sha512Row) (before after : Table (List ℕ)) : Type 0 where
-  pub whole : length shown.sha512.items ≡ 64
-  pub put : after ≡ table.insert before (string_bytes shown.file) shown.sha512.items
+-- the row says this second hash, of 64 bytes
+pub record SaysHash (row : Row) (read : SecondHash) : Type 0 where
+  pub file : column row 0 ≡ Text read.file
+  pub sha512 : column row 1 ≡ Blob read.sha512
+  pub whole : length read.sha512 ≡ 64
+
+-- it is put in under its filename
+abbrev pub PutsSha512 : SecondHash → Table (List ℕ) → Table (List ℕ) → Type 0
+PutsSha512 read before after = after ≡ table.insert before read.file read.sha512
 
 -- the campaign that the row is read as is put in under its own name
 pub record PutsCampaign (shown : CampaignRow) (before after : Table CampaignData) : Type 0 where
@@ -142,12 +155,10 @@ ReadsRunning rows_of read = (shown : List CampaignRow) × RunOf rows_of shown ×
 abbrev pub ReadsReaching : Name → (List ℕ → List Row) → Table CampaignData → Type 0
 ReadsReaching vehicle rows_of read = (shown : List CampaignRow) × RunOf rows_of shown × InTurn (PutsReaching vehicle) shown table.empty read
 
--- the kept manifest of this vehicle and counter is what its row is read as
+-- the kept manifest of this vehicle and counter is what its row says
 abbrev pub ReadsKept : Name → ℕ → (List ℕ → List Row) → Option Kept → Type 0
 ReadsKept vehicle counter rows_of read =
-    (shown : Option KeptRow)
-    × (map (columns_at kept_places) (filter (has_number 1 (pos counter)) (rows_of vehicle)) ≡ map kept_row (option_to_list shown))
-    × IsReadOf IsReadKept shown read
+    EachSays SaysKept (map (columns_at kept_places) (filter (has_number 1 (pos counter)) (rows_of vehicle))) (option_to_list read)
 
 -- ---- of vehicles and their ECUs
 
@@ -190,23 +201,17 @@ ReadsOwner ecu rows_of retired_of read =
 
 -- ---- of images, second hashes and the founding
 
--- the row's 64 bytes
-pub record IsReadSha512 (shown : Sha512Row) (read : List ℕ) : Type 0 where
-  pub whole : length shown.sha512.items ≡ 64
-  pub bytes : read ≡ shown.sha512.items
-
--- the second hash of the image of this filename is what its row is read as
+-- the second hash of the image of this filename is what its row says
 abbrev pub ReadsSha512 : Name → (List ℕ → List Row) → Option (List ℕ) → Type 0
 ReadsSha512 file rows_of read =
-    (shown : Option Sha512Row) × (map (columns_at sha512_places) (rows_of file) ≡ map sha512_row (option_to_list shown))
-    × IsReadOf IsReadSha512 shown read
+    (said : Option SecondHash) × EachSays SaysHash (map (columns_at sha512_places) (rows_of file)) (option_to_list said) × (read ≡ option_map (λ h. h.sha512) said)
 
--- all second hashes are what their rows are read as, one after another
+-- all second hashes are what their rows say, one after another
 abbrev pub ReadsSha512s : (List ℕ → List Row) → Table (List ℕ) → Type 0
 ReadsSha512s rows_of read =
-    (shown : List Sha512Row)
-    × ((name : List ℕ) → map (columns_at sha512_places) (rows_of name) ≡ map sha512_row (filter (λ i. bytes_eq (string_bytes i.file) name) shown))
-    × InTurn PutsSha512 shown table.empty read
+    (said : List SecondHash)
+    × ((name : List ℕ) → EachSays SaysHash (map (columns_at sha512_places) (rows_of name)) (filter (λ h. bytes_eq h.file name) said))
+    × InTurn PutsSha512 said table.empty read
 
 -- it is read, with the second hash that it has
 abbrev pub IsRead : ImageRow → ImageData → Type 0

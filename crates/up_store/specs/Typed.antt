@@ -22,6 +22,7 @@ use Rattle.up_machine.specs.declared.rows.Kept.{Kept}
 use Rattle.up_rows.specs.SecondHashes.{TellsItsHash}
 use Rattle.up_rows.specs.StateRows.{StateRows}
 use Rattle.up_rows.specs.declared.root_row.RootRow.{RootRow}
+use Rattle.up_store.specs.declared.second_hashes.SecondHash.{SecondHash}
 use Rattle.up_columns.specs.Typed.{is_typed_need, is_typed_item, is_typed_reach, is_typed_plan}
 
 -- ---- keys
@@ -91,6 +92,11 @@ pub record IsTypedCampaign (name : Name) (campaign : CampaignData) : Type 0 wher
   pub reach : is_typed_reach campaign.reach ≡ true
   pub items : list_all is_typed_item campaign.items ≡ true
   pub fits : campaign_fits campaign ≡ true
+
+-- the second hash of an image, of 64 bytes
+pub record IsTypedHash (h : SecondHash) : Type 0 where
+  pub file : IsUtf8 h.file
+  pub whole : length h.sha512 ≡ 64
 
 -- ---- vehicles
 

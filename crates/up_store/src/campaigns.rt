@@ -17,6 +17,7 @@ ghost use Rattle.up_tables.specs.Statements.{IsStep, IsOpenStep, Finds};
 ghost use Rattle.up_tables.specs.Tables.{campaign_table};
 ghost use Rattle.up_tables.specs.Tried.{BlamesOne, Ran, Undoes};
 ghost use Rattle.up_store.specs.Writes.{campaign_writes, close_writes};
+ghost use Rattle.up_store.specs.Connections.{ReadsStore, WritesStore};
 ghost use Rattle.up_store.specs.Connections.{NeedsOpen, Answers, Blames, BlamesWithin, FindsRows, PutsRows, TakesRows, CommitsRows, SparesRows};
 ghost use Rattle.up_store.specs.Connections.{BlamesWrite, RanWrite, UndoesOrStays};
 
@@ -35,12 +36,8 @@ use up_tables::campaign::{
 impl<D: Alter> Store<D> {
     /// The campaign of this name, none where there is none.
     pub fn campaign(&mut self, alloc: Global, name: &Ident) -> Result<Option<Campaign>, StoreFault>
-        ensures told { Answers (λ rows. table.get rows.campaigns name.now) (state D.Store self.old) (state D.Store self.new) result }
-        ensures shown { Finds campaign_table 1 (ReadsCampaign name.now) (state D.Store self.old) (state D.Store self.new) result }
-        ensures kept { IfClean (IsAsCommitted (state D.Store self.old)) (state D.Store self.new) }
-        ensures crash { Survives (state D.Store self.old) (state D.Store self.new) (λ _. ⊥) }
-        ensures open { NeedsOpen (state D.Store self.old) (state D.Store self.new) result }
-        ensures blame { Blames (state D.Store self.old) (state D.Store self.new) result }
+        ensures { ReadsStore (λ rows. table.get rows.campaigns name.now) (Finds campaign_table 1 (ReadsCampaign name.now))
+            (state D.Store self.old) (state D.Store self.new) result }
     {
         let mut tx = self.conn.transaction();
         find_campaign(&mut tx, alloc, name)
@@ -52,12 +49,8 @@ impl<D: Alter> Store<D> {
         alloc: Global,
         vehicle: &Ident,
     ) -> Result<Table<Campaign>, StoreFault>
-        ensures told { Answers (campaigns_found vehicle.now) (state D.Store self.old) (state D.Store self.new) result }
-        ensures shown { Finds campaign_table 1 (ReadsReaching vehicle.now) (state D.Store self.old) (state D.Store self.new) result }
-        ensures kept { IfClean (IsAsCommitted (state D.Store self.old)) (state D.Store self.new) }
-        ensures crash { Survives (state D.Store self.old) (state D.Store self.new) (λ _. ⊥) }
-        ensures open { NeedsOpen (state D.Store self.old) (state D.Store self.new) result }
-        ensures blame { Blames (state D.Store self.old) (state D.Store self.new) result }
+        ensures { ReadsStore (campaigns_found vehicle.now) (Finds campaign_table 1 (ReadsReaching vehicle.now))
+            (state D.Store self.old) (state D.Store self.new) result }
     {
         let mut tx = self.conn.transaction();
         find_campaigns(&mut tx, alloc, vehicle)
@@ -65,12 +58,8 @@ impl<D: Alter> Store<D> {
 
     /// The running campaigns by their names.
     pub fn running(&mut self, alloc: Global) -> Result<Table<Campaign>, StoreFault>
-        ensures told { Answers running_found (state D.Store self.old) (state D.Store self.new) result }
-        ensures shown { Finds campaign_table 1 ReadsRunning (state D.Store self.old) (state D.Store self.new) result }
-        ensures kept { IfClean (IsAsCommitted (state D.Store self.old)) (state D.Store self.new) }
-        ensures crash { Survives (state D.Store self.old) (state D.Store self.new) (λ _. ⊥) }
-        ensures open { NeedsOpen (state D.Store self.old) (state D.Store self.new) result }
-        ensures blame { Blames (state D.Store self.old) (state D.Store self.new) result }
+        ensures { ReadsStore running_found (Finds campaign_table 1 ReadsRunning)
+            (state D.Store self.old) (state D.Store self.new) result }
     {
         let mut tx = self.conn.transaction();
         find_running(&mut tx, alloc)
@@ -78,17 +67,8 @@ impl<D: Alter> Store<D> {
 
     /// Writes a campaign whose name is new.
     pub fn write_campaign(&mut self, alloc: Global, new: &Campaign) -> Result<(), StoreFault>
-        ensures written { TakesRows (IsNewCampaign new.now) (λ rows. with_campaign_row rows new.now)
+        ensures { WritesStore (IsNewCampaign new.now) (λ rows. with_campaign_row rows new.now) (campaign_writes new.now) (λ _. ⊤)
             (state D.Store self.old) (state D.Store self.new) result }
-        ensures durable { CommitsRows (IsNewCampaign new.now) (λ rows. with_campaign_row rows new.now)
-            (state D.Store self.old) (state D.Store self.new) result }
-        ensures kept { OnErr result (IfClean (IsAsCommitted (state D.Store self.old)) (state D.Store self.new)) }
-        ensures crash { SparesRows (IsNewCampaign new.now) (λ rows. with_campaign_row rows new.now)
-            (state D.Store self.old) (state D.Store self.new) }
-        ensures clean { HasCleanDisk (state D.Store self.new) → HasCleanDisk (state D.Store self.old) }
-        ensures open { NeedsOpen (state D.Store self.old) (state D.Store self.new) result }
-        ensures ran { RanWrite (campaign_writes new.now) (state D.Store self.old) (state D.Store self.new) result }
-        ensures blame { BlamesWrite (campaign_writes new.now) (λ _. ⊤) (state D.Store self.old) (state D.Store self.new) result }
     {
         let mut tx = self.conn.transaction();
         if let Err(fault) = put_campaign(&mut tx, alloc, new) {
@@ -99,17 +79,8 @@ impl<D: Alter> Store<D> {
 
     /// Closes a campaign that is there: `closed` is the same, not running.
     pub fn write_close(&mut self, alloc: Global, closed: &Campaign) -> Result<(), StoreFault>
-        ensures written { TakesRows (IsClosing closed.now) (λ rows. with_campaign_row rows closed.now)
+        ensures { WritesStore (IsClosing closed.now) (λ rows. with_campaign_row rows closed.now) (close_writes closed.now) (λ _. ⊤)
             (state D.Store self.old) (state D.Store self.new) result }
-        ensures durable { CommitsRows (IsClosing closed.now) (λ rows. with_campaign_row rows closed.now)
-            (state D.Store self.old) (state D.Store self.new) result }
-        ensures kept { OnErr result (IfClean (IsAsCommitted (state D.Store self.old)) (state D.Store self.new)) }
-        ensures crash { SparesRows (IsClosing closed.now) (λ rows. with_campaign_row rows closed.now)
-            (state D.Store self.old) (state D.Store self.new) }
-        ensures clean { HasCleanDisk (state D.Store self.new) → HasCleanDisk (state D.Store self.old) }
-        ensures open { NeedsOpen (state D.Store self.old) (state D.Store self.new) result }
-        ensures ran { RanWrite (close_writes closed.now) (state D.Store self.old) (state D.Store self.new) result }
-        ensures blame { BlamesWrite (close_writes closed.now) (λ _. ⊤) (state D.Store self.old) (state D.Store self.new) result }
     {
         let _ = alloc;
         let mut tx = self.conn.transaction();

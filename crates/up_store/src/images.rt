@@ -1,13 +1,12 @@
 //! Registered images.
-ghost use Rattle.std.specs.Prelude.{◌≡◌, None, Some, ⊤, IfOk, IfErr, IsSomeAnd, OnErr};
+ghost use Rattle.std.specs.Prelude.{◌≡◌, None, Some, ⊤, IfOk, IfErr, IsSomeAnd};
 ghost use Rattle.sqlite.specs.Held.{state};
-ghost use Rattle.sqlite.specs.State.{HasCleanDisk, Survives};
 ghost use Rattle.std.specs.FinMap as table;
 ghost use Rattle.up_canon.specs.Names.{Name};
 ghost use Rattle.up_plan.specs.Images.{ImageData};
 ghost use Rattle.up_rows.specs.Changes.{with_image_rows};
 ghost use Rattle.up_store.specs.Fitting.{IsNewImage};
-ghost use Rattle.up_tables.specs.Stands.{IfClean, IsAsCommitted, IsInside};
+ghost use Rattle.up_tables.specs.Stands.{IfClean, IsInside};
 ghost use Rattle.up_tables.specs.Statements.{IsStep, IsOpenStep, Finds};
 ghost use Rattle.up_tables.specs.Tables.{image_table, image_sha512_table};
 ghost use Rattle.up_tables.specs.Tried.{BlamesOne, Ran, Undoes};
@@ -17,8 +16,7 @@ ghost use Rattle.up_store.specs.ReadAs.{FindsBoth, IsRead, IsReadImage, ReadsBes
 ghost use Rattle.up_store.specs.Writes.{FitsFounding, image_row_writes, image_writes};
 ghost use Rattle.up_store.specs.Typed.{IsTypedImage};
 ghost use Rattle.up_tables.specs.declared.values.StoreFault.TheVariants.{Memory};
-ghost use Rattle.up_store.specs.Connections.{NeedsOpen, Answers, Blames, BlamesWithin, FindsRows, FindsSuch, PutsRows, TakesRows};
-ghost use Rattle.up_store.specs.Connections.{BlamesWrite, CommitsRows, RanWrite, SparesRows, UndoesOrStays};
+ghost use Rattle.up_store.specs.Connections.{NeedsOpen, BlamesWithin, FindsRows, FindsSuch, PutsRows, ReadsStore, UndoesOrStays, WritesStore};
 
 use crate::files::make_role_files;
 use crate::image_rows::{make_image, read_image, read_images};
@@ -37,12 +35,8 @@ use up_tables::repo_file::FileRow;
 impl<D: Alter> Store<D> {
     /// The image of this filename, none where there is none.
     pub fn image(&mut self, alloc: Global, file: &FileName) -> Result<Option<Image>, StoreFault>
-        ensures told { Answers (λ rows. table.get rows.images file.now) (state D.Store self.old) (state D.Store self.new) result }
-        ensures shown { FindsBoth image_table 1 image_sha512_table 1 (ReadsImage file.now) (state D.Store self.old) (state D.Store self.new) result }
-        ensures kept { IfClean (IsAsCommitted (state D.Store self.old)) (state D.Store self.new) }
-        ensures crash { Survives (state D.Store self.old) (state D.Store self.new) (λ _. ⊥) }
-        ensures open { NeedsOpen (state D.Store self.old) (state D.Store self.new) result }
-        ensures blame { Blames (state D.Store self.old) (state D.Store self.new) result }
+        ensures { ReadsStore (λ rows. table.get rows.images file.now) (FindsBoth image_table 1 image_sha512_table 1 (ReadsImage file.now))
+            (state D.Store self.old) (state D.Store self.new) result }
     {
         let mut tx = self.conn.transaction();
         find_image(&mut tx, alloc, file)
@@ -50,12 +44,8 @@ impl<D: Alter> Store<D> {
 
     /// All images by their filenames.
     pub fn images(&mut self, alloc: Global) -> Result<Table<Image>, StoreFault>
-        ensures told { Answers (λ rows. rows.images) (state D.Store self.old) (state D.Store self.new) result }
-        ensures shown { FindsBoth image_table 1 image_sha512_table 1 ReadsImages (state D.Store self.old) (state D.Store self.new) result }
-        ensures kept { IfClean (IsAsCommitted (state D.Store self.old)) (state D.Store self.new) }
-        ensures crash { Survives (state D.Store self.old) (state D.Store self.new) (λ _. ⊥) }
-        ensures open { NeedsOpen (state D.Store self.old) (state D.Store self.new) result }
-        ensures blame { Blames (state D.Store self.old) (state D.Store self.new) result }
+        ensures { ReadsStore (λ rows. rows.images) (FindsBoth image_table 1 image_sha512_table 1 ReadsImages)
+            (state D.Store self.old) (state D.Store self.new) result }
     {
         let mut tx = self.conn.transaction();
         find_images(&mut tx, alloc)
@@ -68,18 +58,8 @@ impl<D: Alter> Store<D> {
         image: &Image,
         new: &RegisterRows,
     ) -> Result<(), StoreFault>
-        ensures written { TakesRows (IsNewImage image.now new.now) (λ rows. with_image_rows rows image.now new.now)
-            (state D.Store self.old) (state D.Store self.new) result }
-        ensures durable { CommitsRows (IsNewImage image.now new.now) (λ rows. with_image_rows rows image.now new.now)
-            (state D.Store self.old) (state D.Store self.new) result }
-        ensures kept { OnErr result (IfClean (IsAsCommitted (state D.Store self.old)) (state D.Store self.new)) }
-        ensures crash { SparesRows (IsNewImage image.now new.now) (λ rows. with_image_rows rows image.now new.now)
-            (state D.Store self.old) (state D.Store self.new) }
-        ensures clean { HasCleanDisk (state D.Store self.new) → HasCleanDisk (state D.Store self.old) }
-        ensures open { NeedsOpen (state D.Store self.old) (state D.Store self.new) result }
-        ensures ran { RanWrite (image_writes image.now new.now) (state D.Store self.old) (state D.Store self.new) result }
-        ensures blame { BlamesWrite (image_writes image.now new.now) (λ _. FitsFounding new.now.founding)
-            (state D.Store self.old) (state D.Store self.new) result }
+        ensures { WritesStore (IsNewImage image.now new.now) (λ rows. with_image_rows rows image.now new.now) (image_writes image.now new.now)
+            (λ _. FitsFounding new.now.founding) (state D.Store self.old) (state D.Store self.new) result }
     {
         let mut tx = self.conn.transaction();
         if let Err(fault) = put_image(&mut tx, alloc, image, new) {
@@ -129,7 +109,7 @@ fn find_with_sha512<D: Alter>(
         (state D.Store tx.old.conn.now) (state D.Store tx.new.conn.now) result }
     ensures step { IsStep D.Store tx.old.conn tx.new.conn }
 {
-    match find_sha512(tx, file) {
+    match find_sha512(tx, alloc, file) {
         Ok(hash) => some_image(alloc, shown, hash),
         Err(fault) => Err(fault),
     }

@@ -1,19 +1,17 @@
 //! Accepted manifests.
-ghost use Rattle.std.specs.Prelude.{◌≡◌, ⊤, Some, IfOk, IsSomeAnd, OnErr, OnOk};
+ghost use Rattle.std.specs.Prelude.{◌≡◌, ⊤, Some, IfOk, OnErr, OnOk};
 ghost use Rattle.sqlite.specs.Held.{state};
 ghost use Rattle.sqlite.specs.State.{HasCleanDisk, Survives};
 ghost use Rattle.std.specs.Prelude.{◌<◌, ◌^◌, ◌∷◌, [], IfErr};
 ghost use Rattle.std.specs.List.{AllByRecursion};
 ghost use Rattle.up_canon.specs.Canon.{max_count};
-ghost use Rattle.up_canon.specs.Names.{Name};
-ghost use Rattle.up_machine.specs.declared.rows.Kept.{Kept as KeptData};
 ghost use Rattle.up_rows.specs.Changes.{with_accepted_rows};
 ghost use Rattle.up_rows.specs.Lookups.{kept_with, latest_kept};
 ghost use Rattle.up_rows.specs.SecondHashes.{TellsItsHash};
 ghost use Rattle.up_tables.specs.declared.values.StoreFault.TheVariants as StoreFault;
-ghost use Rattle.up_store.specs.ColumnRows.{IsKept, last_found, with_kept};
-ghost use Rattle.up_store.specs.ReadAs.{FindsBoth, IsReadKept, ReadsKept, ReadsLast, ReadsLatest};
-ghost use Rattle.up_store.specs.Typed.{IsTypedKept, IsTypedVehicle};
+ghost use Rattle.up_store.specs.ColumnRows.{last_found, with_kept};
+ghost use Rattle.up_store.specs.ReadAs.{FindsBoth, ReadsKept, ReadsLast, ReadsLatest};
+ghost use Rattle.up_store.specs.Typed.{IsTypedVehicle};
 ghost use Rattle.up_store.specs.Fitting.{IsRecorded};
 ghost use Rattle.up_store.specs.Puts.{AreMadeOf, IsMadeOfKept, IsReported, MayAccept, MayReport, with_reported};
 ghost use Rattle.up_tables.specs.Stands.{IfClean, IsAsCommitted, IsInside};
@@ -23,12 +21,12 @@ ghost use Rattle.up_tables.specs.Texts.{insert_kept_text};
 ghost use Rattle.up_tables.specs.Tried.{BlamesOne, Ran, Undoes};
 ghost use Rattle.up_store.specs.Lines.{kept_line, vehicle_lines};
 ghost use Rattle.up_store.specs.Writes.{FitsAccepted, accept_writes, each_with, reported_writes};
-ghost use Rattle.up_store.specs.Connections.{NeedsOpen, Answers, FindsRows, Blames, BlamesWithin, PutsRows, PutsTables, TakesRows};
+ghost use Rattle.up_store.specs.Connections.{NeedsOpen, FindsRows, BlamesWithin, PutsRows, PutsTables, ReadsStore, TakesRows};
 ghost use Rattle.up_store.specs.Connections.{BlamesWrite, CommitsRows, HandsBack, RanWrite, SparesRows, UndoesOrStays};
 
 use crate::column_values::{check_places, count_in};
 use crate::ecus::make_ecus;
-use crate::kept_rows::{make_kept, read_kept};
+use crate::kept_rows::{KeptReading, make_plan, row_of};
 use crate::store::{Store, StoreFault, commit};
 use crate::vehicles::make_vehicle;
 use sqlite::{Alter, Transaction};
@@ -38,7 +36,7 @@ use up_canon::ident::Ident;
 use up_machine::decision::AcceptedRows;
 use up_machine::rows::{Kept, VehicleRows};
 use up_tables::ecu::{EcuRow as EcuShown, upsert_ecus};
-use up_tables::kept::{KeptRow, insert_kept, kept as kept_shown};
+use up_tables::kept::{insert_kept, kept as kept_found};
 use up_tables::vehicle::{VehicleRow as VehicleShown, upsert_vehicle, vehicle as vehicle_shown};
 
 impl<D: Alter> Store<D> {
@@ -49,12 +47,8 @@ impl<D: Alter> Store<D> {
         vehicle: &Ident,
         counter: Count,
     ) -> Result<Option<Kept>, StoreFault>
-        ensures told { Answers (kept_with vehicle.now counter) (state D.Store self.old) (state D.Store self.new) result }
-        ensures shown { Finds kept_table 1 (ReadsKept vehicle.now counter) (state D.Store self.old) (state D.Store self.new) result }
-        ensures blame { Blames (state D.Store self.old) (state D.Store self.new) result }
-        ensures kept { IfClean (IsAsCommitted (state D.Store self.old)) (state D.Store self.new) }
-        ensures crash { Survives (state D.Store self.old) (state D.Store self.new) (λ _. ⊥) }
-        ensures open { NeedsOpen (state D.Store self.old) (state D.Store self.new) result }
+        ensures { ReadsStore (kept_with vehicle.now counter) (Finds kept_table 1 (ReadsKept vehicle.now counter))
+            (state D.Store self.old) (state D.Store self.new) result }
     {
         let mut tx = self.conn.transaction();
         find_kept(&mut tx, alloc, vehicle, counter)
@@ -62,12 +56,8 @@ impl<D: Alter> Store<D> {
 
     /// The vehicle's row with its greatest counter, none of an unknown vehicle and before its first manifest.
     pub fn latest(&mut self, alloc: Global, vehicle: &Ident) -> Result<Option<Kept>, StoreFault>
-        ensures told { Answers (latest_kept vehicle.now) (state D.Store self.old) (state D.Store self.new) result }
-        ensures shown { FindsBoth vehicle_table 1 kept_table 1 (ReadsLatest vehicle.now) (state D.Store self.old) (state D.Store self.new) result }
-        ensures blame { Blames (state D.Store self.old) (state D.Store self.new) result }
-        ensures kept { IfClean (IsAsCommitted (state D.Store self.old)) (state D.Store self.new) }
-        ensures crash { Survives (state D.Store self.old) (state D.Store self.new) (λ _. ⊥) }
-        ensures open { NeedsOpen (state D.Store self.old) (state D.Store self.new) result }
+        ensures { ReadsStore (latest_kept vehicle.now) (FindsBoth vehicle_table 1 kept_table 1 (ReadsLatest vehicle.now))
+            (state D.Store self.old) (state D.Store self.new) result }
     {
         let mut tx = self.conn.transaction();
         find_latest(&mut tx, alloc, vehicle)
@@ -114,8 +104,8 @@ fn put_accepted<D: Alter>(
     let vehicle = make_vehicle(alloc, &new.vehicle.vehicle)?;
     let ecus = make_ecus(alloc, new.vehicle.ecus.as_slice())?;
     check_places(ecus.len())?;
-    let kept = make_kept(alloc, &new.kept)?;
-    put_made(tx, new, &vehicle, ecus.as_slice(), &kept)
+    let plan = make_plan(alloc, &new.kept)?;
+    put_made(tx, new, &vehicle, ecus.as_slice(), plan.as_str())
 }
 
 /// Sets and puts in the rows that were made of an accepted manifest, which takes no memory but the database's own.
@@ -124,10 +114,10 @@ fn put_made<D: Alter>(
     new: &AcceptedRows,
     vehicle: &VehicleShown,
     ecus: &[EcuShown],
-    kept: &KeptRow,
+    plan: &str,
 ) -> Result<(), StoreFault>
     requires made { AreMadeOf new.now.vehicle vehicle.now ecus.now }
-    requires kept { IsMadeOfKept new.now.kept kept.now }
+    requires kept { IsMadeOfKept new.now.kept plan.now }
     requires mode { IfClean IsInside (state D.Store tx.old.conn.now) }
     ensures put { PutsRows (IsRecorded new.now) (λ rows. with_accepted_rows rows new.now)
         (state D.Store tx.old.conn.now) (state D.Store tx.new.conn.now) result }
@@ -138,7 +128,7 @@ fn put_made<D: Alter>(
     ensures step { IsOpenStep D.Store tx.old.conn tx.new.conn result }
 {
     put_reported(tx, &new.vehicle, vehicle, ecus)?;
-    insert_kept(tx, kept)
+    insert_kept(tx, &row_of(&new.kept, plan))
 }
 
 /// Sets the row of a vehicle that is there, and what its ECUs reported.
@@ -176,24 +166,7 @@ fn find_kept<D: Alter>(
     ensures open { NeedsOpen (state D.Store tx.old.conn.now) (state D.Store tx.new.conn.now) result }
     ensures step { IsStep D.Store tx.old.conn tx.new.conn }
 {
-    match kept_shown(tx, vehicle.text(), counter.get()) {
-        Ok(Some(shown)) => some_kept(alloc, shown),
-        Ok(None) => Ok(None),
-        Err(fault) => Err(fault),
-    }
-}
-
-/// A row as it stands in the table, read; of a row that stands for a kept manifest, `Memory` is the one fault.
-fn some_kept(alloc: Global, shown: KeptRow) -> Result<Option<Kept>, StoreFault>
-    ensures same { IfOk result (λ read. (vehicle : Name) (row : KeptData) → IsTypedKept vehicle row → IsKept shown row → read ≡ Some row) }
-    ensures told { IfOk result (λ read. IsSomeAnd read (IsReadKept shown)) }
-    ensures fault { (vehicle : Name) (row : KeptData) → IsTypedKept vehicle row → IsKept shown row
-        → IfErr result (λ fault. fault ≡ StoreFault.Memory) }
-{
-    match read_kept(alloc, shown) {
-        Ok(row) => Ok(Some(row)),
-        Err(fault) => Err(fault),
-    }
+    kept_found::<D, KeptReading>(tx, alloc, vehicle.text(), counter.get())
 }
 
 /// The vehicle's row with its greatest counter.

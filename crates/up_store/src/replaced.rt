@@ -8,6 +8,7 @@ ghost use Rattle.up_tables.specs.Stands.{IfClean, IsAsCommitted, IsInside};
 ghost use Rattle.up_tables.specs.Statements.{IsOpenStep};
 ghost use Rattle.up_tables.specs.Tried.{BlamesOne, Ran, Undoes};
 ghost use Rattle.up_store.specs.Writes.{replace_writes};
+ghost use Rattle.up_store.specs.Connections.{ReadsStore, WritesStore};
 ghost use Rattle.up_store.specs.Connections.{NeedsOpen, BlamesWrite, PutsRows, RanWrite, TakesRows, CommitsRows, SparesRows};
 
 use crate::store::{Store, StoreFault, commit};
@@ -20,17 +21,8 @@ use up_tables::retired::insert_retired;
 impl<D: Alter> Store<D> {
     /// Puts an ECU, before its first report, in the place of one of its vehicle, whose identifier is retired.
     pub fn write_replace(&mut self, alloc: Global, new: &Replacement) -> Result<(), StoreFault>
-        ensures written { TakesRows (IsReplacement new.now) (λ rows. with_replaced_rows rows new.now)
+        ensures { WritesStore (IsReplacement new.now) (λ rows. with_replaced_rows rows new.now) (replace_writes new.now) (λ _. ⊤)
             (state D.Store self.old) (state D.Store self.new) result }
-        ensures durable { CommitsRows (IsReplacement new.now) (λ rows. with_replaced_rows rows new.now)
-            (state D.Store self.old) (state D.Store self.new) result }
-        ensures kept { OnErr result (IfClean (IsAsCommitted (state D.Store self.old)) (state D.Store self.new)) }
-        ensures crash { SparesRows (IsReplacement new.now) (λ rows. with_replaced_rows rows new.now)
-            (state D.Store self.old) (state D.Store self.new) }
-        ensures clean { HasCleanDisk (state D.Store self.new) → HasCleanDisk (state D.Store self.old) }
-        ensures open { NeedsOpen (state D.Store self.old) (state D.Store self.new) result }
-        ensures ran { RanWrite (replace_writes new.now) (state D.Store self.old) (state D.Store self.new) result }
-        ensures blame { BlamesWrite (replace_writes new.now) (λ _. ⊤) (state D.Store self.old) (state D.Store self.new) result }
     {
         let _ = alloc;
         let mut tx = self.conn.transaction();

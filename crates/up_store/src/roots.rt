@@ -22,6 +22,7 @@ ghost use Rattle.up_tables.specs.Stands.{IfClean, IsAsCommitted, IsInside, IsOpe
 ghost use Rattle.up_tables.specs.Statements.{IsStep, IsOpenStep, FindsAll, FindsFiles};
 ghost use Rattle.up_tables.specs.Tried.{BlamesOne, Ran, Undoes};
 ghost use Rattle.up_store.specs.Writes.{FitsFounding, each_with, founding_writes, file_writes, register_writes, root_writes};
+ghost use Rattle.up_store.specs.Connections.{ReadsStore, WritesStore};
 ghost use Rattle.up_store.specs.Connections.{NeedsOpen, Answers, FindsRows, Blames, BlamesWithin, PutsRows, PutsTables, TakesRows};
 ghost use Rattle.up_store.specs.Connections.{BlamesWrite, CommitsRows, RanWrite, SparesRows, UndoesOrStays};
 
@@ -43,13 +44,8 @@ use up_tables::role_key::{RoleKeyRow, insert_role_keys, role_keys_of};
 impl<D: Alter> Store<D> {
     /// The founding: the last root version with its keys, the image repository's version and its moment; none before founding.
     pub fn founding(&mut self, alloc: Global) -> Result<Option<Founding>, StoreFault>
-        ensures told { Answers (λ rows. rows.founding) (state D.Store self.old) (state D.Store self.new) result }
-        ensures shown { FindsNumbers (λ row read. (all : List Row) → ListsAll all ((state D.Store self.old).now.trees role_key_table.tree)
-            → ReadsFounding row all read) (state D.Store self.old) (state D.Store self.new) result }
-        ensures blame { Blames (state D.Store self.old) (state D.Store self.new) result }
-        ensures kept { IfClean (IsAsCommitted (state D.Store self.old)) (state D.Store self.new) }
-        ensures crash { Survives (state D.Store self.old) (state D.Store self.new) (λ _. ⊥) }
-        ensures open { NeedsOpen (state D.Store self.old) (state D.Store self.new) result }
+        ensures { ReadsStore (λ rows. rows.founding) (FindsNumbers (λ row read. (all : List Row) → ListsAll all ((state D.Store self.old).now.trees role_key_table.tree) → ReadsFounding row all read))
+            (state D.Store self.old) (state D.Store self.new) result }
     {
         let mut tx = self.conn.transaction();
         find_founding(&mut tx, alloc)
@@ -57,12 +53,8 @@ impl<D: Alter> Store<D> {
 
     /// Whether the repositories are founded.
     pub fn is_founded(&mut self) -> Result<bool, StoreFault>
-        ensures told { Answers (λ rows. is_some rows.founding) (state D.Store self.old) (state D.Store self.new) result }
-        ensures shown { FindsNumbers (λ row founded. founded ≡ not (row.root == 0)) (state D.Store self.old) (state D.Store self.new) result }
-        ensures blame { Blames (state D.Store self.old) (state D.Store self.new) result }
-        ensures kept { IfClean (IsAsCommitted (state D.Store self.old)) (state D.Store self.new) }
-        ensures crash { Survives (state D.Store self.old) (state D.Store self.new) (λ _. ⊥) }
-        ensures open { NeedsOpen (state D.Store self.old) (state D.Store self.new) result }
+        ensures { ReadsStore (λ rows. is_some rows.founding) (FindsNumbers (λ row founded. founded ≡ not (row.root == 0)))
+            (state D.Store self.old) (state D.Store self.new) result }
     {
         let mut tx = self.conn.transaction();
         find_whether_founded(&mut tx)
@@ -75,12 +67,8 @@ impl<D: Alter> Store<D> {
         repository: Repository,
         name: &FileName,
     ) -> Result<Option<Text>, StoreFault>
-        ensures told { Answers (λ rows. text_held rows repository name.now) (state D.Store self.old) (state D.Store self.new) result }
-        ensures shown { FindsFiles (ReadsFile (word_of repository) name.now) (state D.Store self.old) (state D.Store self.new) result }
-        ensures blame { Blames (state D.Store self.old) (state D.Store self.new) result }
-        ensures kept { IfClean (IsAsCommitted (state D.Store self.old)) (state D.Store self.new) }
-        ensures crash { Survives (state D.Store self.old) (state D.Store self.new) (λ _. ⊥) }
-        ensures open { NeedsOpen (state D.Store self.old) (state D.Store self.new) result }
+        ensures { ReadsStore (λ rows. text_held rows repository name.now) (FindsFiles (ReadsFile (word_of repository) name.now))
+            (state D.Store self.old) (state D.Store self.new) result }
     {
         let _ = alloc;
         let mut tx = self.conn.transaction();
@@ -89,16 +77,7 @@ impl<D: Alter> Store<D> {
 
     /// Writes the first root version, with the files of the image repository.
     pub fn write_found(&mut self, alloc: Global, new: &RootRows) -> Result<(), StoreFault>
-        ensures written { TakesRows (IsNextRoot new.now) (λ rows. with_root_rows rows new.now)
-            (state D.Store self.old) (state D.Store self.new) result }
-        ensures durable { CommitsRows (IsNextRoot new.now) (λ rows. with_root_rows rows new.now)
-            (state D.Store self.old) (state D.Store self.new) result }
-        ensures kept { OnErr result (IfClean (IsAsCommitted (state D.Store self.old)) (state D.Store self.new)) }
-        ensures crash { SparesRows (IsNextRoot new.now) (λ rows. with_root_rows rows new.now) (state D.Store self.old) (state D.Store self.new) }
-        ensures clean { HasCleanDisk (state D.Store self.new) → HasCleanDisk (state D.Store self.old) }
-        ensures open { NeedsOpen (state D.Store self.old) (state D.Store self.new) result }
-        ensures ran { RanWrite (root_writes new.now) (state D.Store self.old) (state D.Store self.new) result }
-        ensures blame { BlamesWrite (root_writes new.now) (λ _. FitsFounding new.now.founding)
+        ensures { WritesStore (IsNextRoot new.now) (λ rows. with_root_rows rows new.now) (root_writes new.now) (λ _. FitsFounding new.now.founding)
             (state D.Store self.old) (state D.Store self.new) result }
     {
         self.write_root(alloc, new)
@@ -106,16 +85,7 @@ impl<D: Alter> Store<D> {
 
     /// Writes the next root version, with new files of the image repository.
     pub fn write_rotate(&mut self, alloc: Global, new: &RootRows) -> Result<(), StoreFault>
-        ensures written { TakesRows (IsNextRoot new.now) (λ rows. with_root_rows rows new.now)
-            (state D.Store self.old) (state D.Store self.new) result }
-        ensures durable { CommitsRows (IsNextRoot new.now) (λ rows. with_root_rows rows new.now)
-            (state D.Store self.old) (state D.Store self.new) result }
-        ensures kept { OnErr result (IfClean (IsAsCommitted (state D.Store self.old)) (state D.Store self.new)) }
-        ensures crash { SparesRows (IsNextRoot new.now) (λ rows. with_root_rows rows new.now) (state D.Store self.old) (state D.Store self.new) }
-        ensures clean { HasCleanDisk (state D.Store self.new) → HasCleanDisk (state D.Store self.old) }
-        ensures open { NeedsOpen (state D.Store self.old) (state D.Store self.new) result }
-        ensures ran { RanWrite (root_writes new.now) (state D.Store self.old) (state D.Store self.new) result }
-        ensures blame { BlamesWrite (root_writes new.now) (λ _. FitsFounding new.now.founding)
+        ensures { WritesStore (IsNextRoot new.now) (λ rows. with_root_rows rows new.now) (root_writes new.now) (λ _. FitsFounding new.now.founding)
             (state D.Store self.old) (state D.Store self.new) result }
     {
         self.write_root(alloc, new)
@@ -123,16 +93,7 @@ impl<D: Alter> Store<D> {
 
     /// Writes a root version, the first or the next.
     fn write_root(&mut self, alloc: Global, new: &RootRows) -> Result<(), StoreFault>
-        ensures written { TakesRows (IsNextRoot new.now) (λ rows. with_root_rows rows new.now)
-            (state D.Store self.old) (state D.Store self.new) result }
-        ensures durable { CommitsRows (IsNextRoot new.now) (λ rows. with_root_rows rows new.now)
-            (state D.Store self.old) (state D.Store self.new) result }
-        ensures kept { OnErr result (IfClean (IsAsCommitted (state D.Store self.old)) (state D.Store self.new)) }
-        ensures crash { SparesRows (IsNextRoot new.now) (λ rows. with_root_rows rows new.now) (state D.Store self.old) (state D.Store self.new) }
-        ensures clean { HasCleanDisk (state D.Store self.new) → HasCleanDisk (state D.Store self.old) }
-        ensures open { NeedsOpen (state D.Store self.old) (state D.Store self.new) result }
-        ensures ran { RanWrite (root_writes new.now) (state D.Store self.old) (state D.Store self.new) result }
-        ensures blame { BlamesWrite (root_writes new.now) (λ _. FitsFounding new.now.founding)
+        ensures { WritesStore (IsNextRoot new.now) (λ rows. with_root_rows rows new.now) (root_writes new.now) (λ _. FitsFounding new.now.founding)
             (state D.Store self.old) (state D.Store self.new) result }
     {
         let mut tx = self.conn.transaction();
@@ -144,16 +105,7 @@ impl<D: Alter> Store<D> {
 
     /// Writes new files of the image repository.
     pub fn write_refresh(&mut self, alloc: Global, new: &RegisterRows) -> Result<(), StoreFault>
-        ensures written { TakesRows (IsSameRoot new.now) (λ rows. with_register_rows rows new.now)
-            (state D.Store self.old) (state D.Store self.new) result }
-        ensures durable { CommitsRows (IsSameRoot new.now) (λ rows. with_register_rows rows new.now)
-            (state D.Store self.old) (state D.Store self.new) result }
-        ensures kept { OnErr result (IfClean (IsAsCommitted (state D.Store self.old)) (state D.Store self.new)) }
-        ensures crash { SparesRows (IsSameRoot new.now) (λ rows. with_register_rows rows new.now) (state D.Store self.old) (state D.Store self.new) }
-        ensures clean { HasCleanDisk (state D.Store self.new) → HasCleanDisk (state D.Store self.old) }
-        ensures open { NeedsOpen (state D.Store self.old) (state D.Store self.new) result }
-        ensures ran { RanWrite (register_writes new.now) (state D.Store self.old) (state D.Store self.new) result }
-        ensures blame { BlamesWrite (register_writes new.now) (λ _. FitsFounding new.now.founding)
+        ensures { WritesStore (IsSameRoot new.now) (λ rows. with_register_rows rows new.now) (register_writes new.now) (λ _. FitsFounding new.now.founding)
             (state D.Store self.old) (state D.Store self.new) result }
     {
         let mut tx = self.conn.transaction();

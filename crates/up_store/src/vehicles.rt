@@ -19,6 +19,7 @@ ghost use Rattle.up_tables.specs.Tables.{ecu_table, retired_table, vehicle_table
 ghost use Rattle.up_tables.specs.Tried.{BlamesOne, Ran, Undoes};
 ghost use Rattle.up_store.specs.Writes.{FitsVehicle, vehicle_writes};
 ghost use Rattle.up_tables.specs.Forms.{FitVehicle};
+ghost use Rattle.up_store.specs.Connections.{ReadsStore, WritesStore};
 ghost use Rattle.up_store.specs.Connections.{NeedsOpen, Answers, FindsRows, Blames, BlamesWithin, PutsRows, TakesRows, CommitsRows, SparesRows};
 ghost use Rattle.up_store.specs.Connections.{BlamesWrite, RanWrite, UndoesOrStays};
 ghost use Rattle.up_store.specs.Puts.{AreMadeOf};
@@ -44,12 +45,8 @@ impl<D: Alter> Store<D> {
         alloc: Global,
         vehicle: &Ident,
     ) -> Result<Option<VehicleRow>, StoreFault>
-        ensures told { Answers (vehicle_found vehicle.now) (state D.Store self.old) (state D.Store self.new) result }
-        ensures shown { Finds vehicle_table 1 (ReadsVehicle vehicle.now) (state D.Store self.old) (state D.Store self.new) result }
-        ensures blame { Blames (state D.Store self.old) (state D.Store self.new) result }
-        ensures kept { IfClean (IsAsCommitted (state D.Store self.old)) (state D.Store self.new) }
-        ensures crash { Survives (state D.Store self.old) (state D.Store self.new) (λ _. ⊥) }
-        ensures open { NeedsOpen (state D.Store self.old) (state D.Store self.new) result }
+        ensures { ReadsStore (vehicle_found vehicle.now) (Finds vehicle_table 1 (ReadsVehicle vehicle.now))
+            (state D.Store self.old) (state D.Store self.new) result }
     {
         let _ = alloc;
         let mut tx = self.conn.transaction();
@@ -58,12 +55,8 @@ impl<D: Alter> Store<D> {
 
     /// The vehicle's ECUs in inventory order; empty of an unknown vehicle.
     pub fn ecus(&mut self, alloc: Global, vehicle: &Ident) -> Result<Listed<EcuRow>, StoreFault>
-        ensures told { Answers (ecus_found vehicle.now) (state D.Store self.old) (state D.Store self.new) result }
-        ensures shown { Finds ecu_table 2 (ReadsEcus vehicle.now) (state D.Store self.old) (state D.Store self.new) result }
-        ensures blame { Blames (state D.Store self.old) (state D.Store self.new) result }
-        ensures kept { IfClean (IsAsCommitted (state D.Store self.old)) (state D.Store self.new) }
-        ensures crash { Survives (state D.Store self.old) (state D.Store self.new) (λ _. ⊥) }
-        ensures open { NeedsOpen (state D.Store self.old) (state D.Store self.new) result }
+        ensures { ReadsStore (ecus_found vehicle.now) (Finds ecu_table 2 (ReadsEcus vehicle.now))
+            (state D.Store self.old) (state D.Store self.new) result }
     {
         let mut tx = self.conn.transaction();
         find_ecus(&mut tx, alloc, vehicle)
@@ -71,12 +64,8 @@ impl<D: Alter> Store<D> {
 
     /// The vehicle in which the ECU stands, else the one in which an ECU of the name was replaced; none of an unknown ECU.
     pub fn ecu_owner(&mut self, alloc: Global, ecu: &Ident) -> Result<Option<Ident>, StoreFault>
-        ensures told { Answers (owner_found ecu.now) (state D.Store self.old) (state D.Store self.new) result }
-        ensures shown { FindsBoth ecu_table 2 retired_table 2 (ReadsOwner ecu.now) (state D.Store self.old) (state D.Store self.new) result }
-        ensures blame { Blames (state D.Store self.old) (state D.Store self.new) result }
-        ensures kept { IfClean (IsAsCommitted (state D.Store self.old)) (state D.Store self.new) }
-        ensures crash { Survives (state D.Store self.old) (state D.Store self.new) (λ _. ⊥) }
-        ensures open { NeedsOpen (state D.Store self.old) (state D.Store self.new) result }
+        ensures { ReadsStore (owner_found ecu.now) (FindsBoth ecu_table 2 retired_table 2 (ReadsOwner ecu.now))
+            (state D.Store self.old) (state D.Store self.new) result }
     {
         let _ = alloc;
         let mut tx = self.conn.transaction();
@@ -85,16 +74,7 @@ impl<D: Alter> Store<D> {
 
     /// Writes a vehicle whose name is new, with its ECUs.
     pub fn write_vehicle(&mut self, alloc: Global, new: &VehicleRows) -> Result<(), StoreFault>
-        ensures written { TakesRows (IsNewVehicle new.now) (λ rows. with_vehicle_rows rows new.now)
-            (state D.Store self.old) (state D.Store self.new) result }
-        ensures durable { CommitsRows (IsNewVehicle new.now) (λ rows. with_vehicle_rows rows new.now)
-            (state D.Store self.old) (state D.Store self.new) result }
-        ensures kept { OnErr result (IfClean (IsAsCommitted (state D.Store self.old)) (state D.Store self.new)) }
-        ensures crash { SparesRows (IsNewVehicle new.now) (λ rows. with_vehicle_rows rows new.now) (state D.Store self.old) (state D.Store self.new) }
-        ensures clean { HasCleanDisk (state D.Store self.new) → HasCleanDisk (state D.Store self.old) }
-        ensures open { NeedsOpen (state D.Store self.old) (state D.Store self.new) result }
-        ensures ran { RanWrite (vehicle_writes new.now) (state D.Store self.old) (state D.Store self.new) result }
-        ensures blame { BlamesWrite (vehicle_writes new.now) (λ _. FitsVehicle new.now)
+        ensures { WritesStore (IsNewVehicle new.now) (λ rows. with_vehicle_rows rows new.now) (vehicle_writes new.now) (λ _. FitsVehicle new.now)
             (state D.Store self.old) (state D.Store self.new) result }
     {
         let mut tx = self.conn.transaction();

@@ -116,7 +116,7 @@ filter_swap p q (x ∷ xs) = go (p x) (q x) refl refl (filter_swap p q xs)
     go false true e f h = rw e h
     go false false e f h = h
 
-map_filter : {A B : Type 0} (f : A → B) (p : A → Bool) (q : B → Bool) → ((x : A) → q (f x) ≡ p x) → (xs : List A) → map f (filter p xs) ≡ filter q (map f xs)
+pub map_filter : {A B : Type 0} (f : A → B) (p : A → Bool) (q : B → Bool) → ((x : A) → q (f x) ≡ p x) → (xs : List A) → map f (filter p xs) ≡ filter q (map f xs)
 map_filter f p q same [] = refl
 map_filter f p q same (x ∷ xs) = rw (same x) (go (p x) (map_filter f p q same xs))
   where

@@ -63,3 +63,5 @@ pub mod AnywhereLemmas
 pub mod UndoneLemmas
 pub mod UnmadeLemmas
 mod UnraisedLemmas
+pub mod StoredLemmas
+pub mod SaysLemmas

@@ -1,17 +1,15 @@
 -- What stands behind the query on `meta`, and behind the version that it named.
-use Rattle.std.proofs.Common.{◌≡◌, ◌≢◌, ◌⊎◌, inl, inr, List, Bool, Option, None, Some, Ok, Err, Result, IfOk, IfErr, IfSome, OnOk, OnErr, IsTrue, true, false, refl, sym, ap, subst, ◌∙◌, arith}
+use Rattle.std.proofs.Common.{◌≡◌, List, Bool, Option, None, Some, Ok, Err, Result, IfOk, IfErr, IfSome, OnOk, IsTrue, true, refl, sym, ap, subst}
 use Rattle.sqlite.specs.declared.error.Error.{Error}
 use Rattle.sqlite.specs.Held.{Held, state}
 use Rattle.sqlite.specs.Order.{Row}
-use Rattle.sqlite.specs.State.{State, HasCleanDisk, Survives}
+use Rattle.sqlite.specs.State.{State, HasCleanDisk}
 use Rattle.sqlite_trees.specs.declared.store.Store.{Ghosts}
 use Rattle.up_tables.specs.declared.open.OpenFault.{OpenFault}
-use Rattle.up_tables.specs.declared.open.OpenFault.TheVariants as opening
 use Rattle.up_tables.specs.declared.open.SchemaVersion.{SchemaVersion}
 use Rattle.up_tables.specs.declared.open.SchemaVersion.TheVariants.{One, Two, Three}
-use Rattle.up_tables.specs.Faults.{open_fault}
 use Rattle.up_tables.specs.Listed.{TableRows, ListsTables}
-use Rattle.up_tables.specs.Ours.{IsOurs, IsOlder, ListsUs, NamesUs, NamesVersion, NamesOthers, TellsMeta, is_refused, older_of, ours_told}
+use Rattle.up_tables.specs.Ours.{IsOurs, IsOlder, ListsUs, NamesVersion, NamesOthers, TellsMeta, is_refused, older_of, ours_told}
 use Rattle.up_tables.specs.Stands.{IfClean, Stands, IsAsCommitted}
 use Rattle.up_tables.specs.Tables.{up_schema}
 use Rattle.up_tables.specs.Versions.{StandsAs}

@@ -1,5 +1,5 @@
 -- Tables of an older version, from the start of the transaction that raises them to its end.
-use Rattle.std.proofs.Common.{◌≡◌, inl, inr, ℕ, pos, List, [], Option, None, Some, Ok, Err, Result, IfOk, IfSome, IsTrue, true, false, refl, sym, ap, subst, ◌∙◌, arith}
+use Rattle.std.proofs.Common.{◌≡◌, ℕ, pos, List, [], Option, None, Some, Ok, Err, Result, IfOk, IfSome, IsTrue, true, false, refl, sym, ap, subst, ◌∙◌, arith}
 use Rattle.sqlite.specs.declared.error.Error.{Error}
 use Rattle.sqlite.specs.declared.types.Value.TheVariants.{Int}
 use Rattle.sqlite.specs.Held.{Held, state}

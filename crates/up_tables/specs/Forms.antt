@@ -3,12 +3,11 @@ use Rattle.std.specs.Prelude.{◌<◌, ◌^◌, ℕ, pos, List, [], ◌∷◌, s
 use Rattle.sqlite.specs.declared.types.Value.TheVariants.{Int, Text, Blob}
 use Rattle.sqlite.specs.Order.{Row}
 use Rattle.up_tables.specs.declared.image.ImageRow.{ImageRow}
-use Rattle.up_tables.specs.declared.image_sha512.Sha512Row.{Sha512Row}
 use Rattle.up_tables.specs.declared.kept.KeptRow.{KeptRow}
 use Rattle.up_tables.specs.declared.repo_file.FileRow.{FileRow}
 use Rattle.up_tables.specs.Rows.{with_only_at}
 use Rattle.up_tables.specs.declared.vehicle.VehicleRow.{VehicleRow}
-use Rattle.up_tables.specs.Lines.{meta_row, campaign_line, vehicle_line, sha512_line, yes_or_no}
+use Rattle.up_tables.specs.Lines.{meta_row, campaign_line, vehicle_line, yes_or_no}
 use Rattle.up_tables.specs.declared.meta.MetaRow.{MetaRow}
 use Rattle.up_tables.specs.declared.role_key.RoleKeyRow.{RoleKeyRow}
 use Rattle.up_tables.specs.declared.campaign.CampaignRow.{CampaignRow}
@@ -25,10 +24,6 @@ image_places = 0 ∷ 1 ∷ 2 ∷ 3 ∷ 4 ∷ 5 ∷ 6 ∷ []
 pub record FitImage (i : ImageRow) : Type 0 where
   pub length : i.length < 2 ^ 63
   pub release_count : i.release_count < 2 ^ 63
-
--- the second hash of an image
-abbrev pub sha512_row : Sha512Row → Row
-sha512_row i = sha512_line (string_bytes i.file) i.sha512.items
 
 abbrev pub sha512_places : List ℕ
 sha512_places = 0 ∷ 1 ∷ []
@@ -52,8 +47,8 @@ pub record FitVehicle (v : VehicleRow) : Type 0 where
 -- an accepted manifest: when it came, under which root version, and what was planned and answered
 abbrev pub kept_row : KeptRow → Row
 kept_row k =
-    Text (string_bytes k.vehicle) ∷ Int (pos k.counter) ∷ Int (pos k.version) ∷ Int (pos k.moment) ∷ Int (pos k.root)
-    ∷ Text (string_bytes k.signed) ∷ Text (string_bytes k.plan_text) ∷ Text (string_bytes k.reply) ∷ []
+    Text k.vehicle.now ∷ Int (pos k.counter) ∷ Int (pos k.version) ∷ Int (pos k.moment) ∷ Int (pos k.root)
+    ∷ Text k.signed.now ∷ Text k.plan_text.now ∷ Text k.reply.now ∷ []
 
 abbrev pub kept_places : List ℕ
 kept_places = 0 ∷ 1 ∷ 2 ∷ 3 ∷ 4 ∷ 5 ∷ 6 ∷ 7 ∷ []

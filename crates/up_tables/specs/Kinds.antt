@@ -45,9 +45,6 @@ ShowsImage r =
     IsWords (column r 0) × IsNumber (column r 1) × IsBytes (column r 2) × IsWords (column r 3) × IsNumber (column r 4) × IsWords (column r 5)
     × IsWords (column r 6)
 
-abbrev pub ShowsSha512 : Row → Type 0
-ShowsSha512 r = IsWords (column r 0) × IsBytes (column r 1)
-
 abbrev pub ShowsCampaign : Row → Type 0
 ShowsCampaign r = IsWords (column r 0) × IsWords (column r 1) × IsWords (column r 2) × IsFlag (column r 3)
 
@@ -66,11 +63,6 @@ ShowsEcu r =
 -- the same of a row of the table, which has the vehicle and the place, too
 abbrev pub ShowsEcuLine : Row → Type 0
 ShowsEcuLine r = ShowsEcu (columns_at (0 ∷ 3 ∷ 4 ∷ 5 ∷ 6 ∷ 7 ∷ 8 ∷ 9 ∷ []) r)
-
-abbrev pub ShowsKept : Row → Type 0
-ShowsKept r =
-    IsWords (column r 0) × IsNumber (column r 1) × IsNumber (column r 2) × IsNumber (column r 3) × IsNumber (column r 4) × IsWords (column r 5)
-    × IsWords (column r 6) × IsWords (column r 7)
 
 -- ---- answers
 

@@ -11,11 +11,13 @@ ghost use Rattle.up_tables.specs.Tables.{campaign_table};
 ghost use Rattle.up_tables.specs.Rows.{columns_at, has_number, with_row};
 ghost use Rattle.up_tables.specs.Forms.{campaign_places, campaign_row};
 ghost use Rattle.up_tables.specs.Stands.{IfClean, IsInside};
+ghost use Rattle.up_tables.specs.Stored.{IsListed, IsQueried, IsWritten};
 ghost use Rattle.up_tables.specs.Statements.{IsOpenStep, AltersRows, ClosesCampaign, OnlyReads, Finds, FindsAll, BlamesDisk, HoldsBy};
 ghost use Rattle.up_tables.specs.Tried.{BlamesRefusal, Ran, Undoes, AnswersQuery};
 
 use crate::reading::{Decode, at_most_one, each_row};
-use crate::values::{StoreFault, done, flag, flag_at, text_at, words};
+use crate::statement::write;
+use crate::values::{StoreFault, flag, flag_at, text_at, words};
 use sqlite::{Alter, Row, Transaction};
 use std::alloc::Global;
 
@@ -54,16 +56,11 @@ pub fn insert_campaign<S: Alter>(
     campaign: &CampaignRow,
 ) -> Result<(), StoreFault>
     requires mode { IfClean IsInside (state S.Store tx.old.conn.now) }
-    ensures inserted { AltersRows campaign_table 1 (with_row (string_bytes campaign.now.name) (campaign_row campaign.now))
-        (state S.Store tx.old.conn.now) (state S.Store tx.new.conn.now) result }
-    ensures blame { BlamesRefusal insert_campaign_text (campaign_row campaign.now)
-        (state S.Store tx.old.conn.now) (state S.Store tx.new.conn.now) result }
-    ensures ran { Ran ((insert_campaign_text, campaign_row campaign.now) ∷ [])
-        (state S.Store tx.old.conn.now) (state S.Store tx.new.conn.now) result }
-    ensures memory { Undoes (state S.Store tx.new.conn.now) result }
-    ensures step { IsOpenStep S.Store tx.old.conn tx.new.conn result }
+    ensures { IsWritten S.Store insert_campaign_text (campaign_row campaign.now)
+        (AltersRows campaign_table 1 (with_row (string_bytes campaign.now.name) (campaign_row campaign.now))) tx.old.conn tx.new.conn result }
 {
-    done(tx.execute(
+    write(
+        tx,
         "INSERT INTO campaign (name, reach, items, running) VALUES (?1, ?2, ?3, ?4)",
         &[
             words(campaign.name.as_str()),
@@ -71,22 +68,19 @@ pub fn insert_campaign<S: Alter>(
             words(campaign.items.as_str()),
             flag(campaign.running),
         ],
-    ))
+    )
 }
 
 /// Says in its row that a campaign that is there doesn't run.
 pub fn close_campaign<S: Alter>(tx: &mut Transaction<'_, S>, name: &str) -> Result<(), StoreFault>
     requires mode { IfClean IsInside (state S.Store tx.old.conn.now) }
-    ensures closed { ClosesCampaign name.now (state S.Store tx.old.conn.now) (state S.Store tx.new.conn.now) result }
-    ensures blame { BlamesRefusal close_campaign_text (Text name.now ∷ []) (state S.Store tx.old.conn.now) (state S.Store tx.new.conn.now) result }
-    ensures ran { Ran ((close_campaign_text, Text name.now ∷ []) ∷ []) (state S.Store tx.old.conn.now) (state S.Store tx.new.conn.now) result }
-    ensures memory { Undoes (state S.Store tx.new.conn.now) result }
-    ensures step { IsOpenStep S.Store tx.old.conn tx.new.conn result }
+    ensures { IsWritten S.Store close_campaign_text (Text name.now ∷ []) (ClosesCampaign name.now) tx.old.conn tx.new.conn result }
 {
-    done(tx.execute(
+    write(
+        tx,
         "UPDATE campaign SET running = 0 WHERE name = ?1",
         &[words(name)],
-    ))
+    )
 }
 
 /// The campaign of this name, none where there is none.
@@ -95,16 +89,9 @@ pub fn campaign<S: Alter>(
     name: &str,
 ) -> Result<Option<CampaignRow>, StoreFault>
     requires mode { IfClean IsInside (state S.Store tx.old.conn.now) }
-    ensures found { Finds campaign_table 1
-        (λ rows_of found. map (columns_at campaign_places) (rows_of name.now) ≡ map campaign_row (option_to_list found))
-        (state S.Store tx.old.conn.now) (state S.Store tx.new.conn.now) result }
-    ensures reads { OnlyReads (state S.Store tx.old.conn.now) (state S.Store tx.new.conn.now) result }
-    ensures asks { AnswersQuery find_campaign_text (Text name.now ∷ [])
-        (λ rows found. map (columns_at campaign_places) rows ≡ map campaign_row (option_to_list found))
-        (state S.Store tx.old.conn.now) (state S.Store tx.new.conn.now) result }
-    ensures blame { BlamesDisk (HoldsBy campaign_table 1 (λ rows_of. ShowsOne ShowsCampaign (rows_of name.now)))
-        (state S.Store tx.old.conn.now) (state S.Store tx.new.conn.now) result }
-    ensures step { IsOpenStep S.Store tx.old.conn tx.new.conn result }
+    ensures { IsQueried S.Store find_campaign_text (Text name.now ∷ []) (λ rows found. map (columns_at campaign_places) rows ≡ map campaign_row (option_to_list found))
+        (Finds campaign_table 1 (λ rows_of found. map (columns_at campaign_places) (rows_of name.now) ≡ map campaign_row (option_to_list found)))
+        (HoldsBy campaign_table 1 (λ rows_of. ShowsOne ShowsCampaign (rows_of name.now))) tx.old.conn tx.new.conn result }
 {
     at_most_one(tx.query_all(
         "SELECT name, reach, items, running FROM campaign WHERE name = ?1",
@@ -118,19 +105,8 @@ pub fn running_campaigns<S: Alter>(
     alloc: Global,
 ) -> Result<Vec<CampaignRow>, StoreFault>
     requires mode { IfClean IsInside (state S.Store tx.old.conn.now) }
-    ensures found { Finds campaign_table 1 (λ rows_of found. (name : List ℕ)
-        → map (columns_at campaign_places) (filter (has_number 3 (pos 1)) (rows_of name))
-        ≡ map campaign_row (filter (λ c. bytes_eq (string_bytes c.name) name) found.items))
-        (state S.Store tx.old.conn.now) (state S.Store tx.new.conn.now) result }
-    ensures order { FindsAll campaign_table
-        (λ all found. map (columns_at campaign_places) (filter (has_number 3 (pos 1)) all) ≡ map campaign_row found.items)
-        (state S.Store tx.old.conn.now) (state S.Store tx.new.conn.now) result }
-    ensures reads { OnlyReads (state S.Store tx.old.conn.now) (state S.Store tx.new.conn.now) result }
-    ensures asks { AnswersQuery running_campaigns_text [] (λ rows found. map (columns_at campaign_places) rows ≡ map campaign_row found.items)
-        (state S.Store tx.old.conn.now) (state S.Store tx.new.conn.now) result }
-    ensures blame { BlamesDisk (HoldsBy campaign_table 1 (λ rows_of. (name : List ℕ) → AllByRecursion ShowsCampaign (filter (has_number 3 (pos 1)) (rows_of name))))
-        (state S.Store tx.old.conn.now) (state S.Store tx.new.conn.now) result }
-    ensures step { IsOpenStep S.Store tx.old.conn tx.new.conn result }
+    ensures { IsListed S.Store running_campaigns_text campaign_table (filter (has_number 3 (pos 1))) (columns_at campaign_places) campaign_row
+        (λ c. string_bytes c.name) ShowsCampaign (λ found. found.items) tx.old.conn tx.new.conn result }
 {
     each_row(
         alloc,

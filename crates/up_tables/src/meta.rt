@@ -7,12 +7,14 @@ ghost use Rattle.sqlite.specs.Held.{state};
 ghost use Rattle.up_tables.specs.Texts.{update_meta_text, find_founding_text};
 ghost use Rattle.up_tables.specs.Forms.{FitMeta, meta_values, meta_places};
 ghost use Rattle.up_tables.specs.Stands.{IfClean, IsInside};
+ghost use Rattle.up_tables.specs.Stored.{IsWritten};
 ghost use Rattle.up_tables.specs.Statements.{IsOpenStep, SetsMeta, OnlyReads, FindsMeta, BlamesDisk, HasMeta};
 ghost use Rattle.up_tables.specs.Found.{FindsShown, HasMetaOrNone};
 ghost use Rattle.up_tables.specs.Tried.{BlamesRefusal, Ran, Undoes, AnswersQuery};
 
 use crate::reading::{Decode, at_most_one};
-use crate::values::{StoreFault, done, number, number_at};
+use crate::statement::write;
+use crate::values::{StoreFault, number, number_at};
 use sqlite::{Alter, Row, Transaction};
 
 /// What `meta` says of the founding: the last root version, the version of the Image repository's files and their moment in seconds; all 0 before it.
@@ -46,20 +48,17 @@ impl Decode for MetaRow {
 pub fn update_meta<S: Alter>(tx: &mut Transaction<'_, S>, meta: &MetaRow) -> Result<(), StoreFault>
     requires fit { FitMeta meta.now }
     requires mode { IfClean IsInside (state S.Store tx.old.conn.now) }
-    ensures set { SetsMeta meta.now (state S.Store tx.old.conn.now) (state S.Store tx.new.conn.now) result }
-    ensures blame { BlamesRefusal update_meta_text (meta_values meta.now) (state S.Store tx.old.conn.now) (state S.Store tx.new.conn.now) result }
-    ensures ran { Ran ((update_meta_text, meta_values meta.now) ∷ []) (state S.Store tx.old.conn.now) (state S.Store tx.new.conn.now) result }
-    ensures memory { Undoes (state S.Store tx.new.conn.now) result }
-    ensures step { IsOpenStep S.Store tx.old.conn tx.new.conn result }
+    ensures { IsWritten S.Store update_meta_text (meta_values meta.now) (SetsMeta meta.now) tx.old.conn tx.new.conn result }
 {
-    done(tx.execute(
+    write(
+        tx,
         "UPDATE meta SET root = ?1, image_version = ?2, stamp = ?3 WHERE id = 1",
         &[
             number(meta.root),
             number(meta.image_version),
             number(meta.stamp),
         ],
-    ))
+    )
 }
 
 /// What `meta` says of the founding, none where it has no row.

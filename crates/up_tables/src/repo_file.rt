@@ -10,10 +10,12 @@ ghost use Rattle.up_tables.specs.Forms.{file_places, file_row};
 ghost use Rattle.up_tables.specs.Texts.{upsert_file_text, find_file_text};
 ghost use Rattle.up_tables.specs.Tried.{BlamesRefusal, BlamesOne, Ran, Undoes, AnswersQuery};
 ghost use Rattle.up_tables.specs.Stands.{IfClean, IsInside, IsOpen};
+ghost use Rattle.up_tables.specs.Stored.{IsQueried, IsWritten};
 ghost use Rattle.up_tables.specs.Statements.{IsOpenStep, SetsFile, SetsFiles, OnlyReads, FindsFiles, BlamesDisk, HoldsOfFiles};
 
 use crate::reading::{Decode, at_most_one};
-use crate::values::{StoreFault, done, text_at, words};
+use crate::statement::write;
+use crate::values::{StoreFault, text_at, words};
 use sqlite::{Alter, Row, Transaction};
 
 /// A row of `repo_file`: the text of a file that a repository serves.
@@ -46,20 +48,17 @@ impl Decode for FileRow {
 /// Sets the text of a file, which may be there or not.
 fn upsert_file<S: Alter>(tx: &mut Transaction<'_, S>, file: &FileRow) -> Result<(), StoreFault>
     requires mode { IfClean IsInside (state S.Store tx.old.conn.now) }
-    ensures set { SetsFile file.now (state S.Store tx.old.conn.now) (state S.Store tx.new.conn.now) result }
-    ensures ran { Ran ((upsert_file_text, file_row file.now) ∷ []) (state S.Store tx.old.conn.now) (state S.Store tx.new.conn.now) result }
-    ensures blame { BlamesRefusal upsert_file_text (file_row file.now) (state S.Store tx.old.conn.now) (state S.Store tx.new.conn.now) result }
-    ensures memory { Undoes (state S.Store tx.new.conn.now) result }
-    ensures step { IsOpenStep S.Store tx.old.conn tx.new.conn result }
+    ensures { IsWritten S.Store upsert_file_text (file_row file.now) (SetsFile file.now) tx.old.conn tx.new.conn result }
 {
-    done(tx.execute(
+    write(
+        tx,
         "INSERT INTO repo_file (repository, name, body) VALUES (?1, ?2, ?3) ON CONFLICT (repository, name) DO UPDATE SET body = excluded.body",
         &[
             words(file.repository.as_str()),
             words(file.name.as_str()),
             words(file.body.as_str()),
         ],
-    ))
+    )
 }
 
 /// Sets the texts of files, one after another.
@@ -90,15 +89,9 @@ pub fn file<S: Alter>(
     name: &str,
 ) -> Result<Option<FileRow>, StoreFault>
     requires mode { IfClean IsInside (state S.Store tx.old.conn.now) }
-    ensures found { FindsFiles (λ rows_of found. map (columns_at file_places) (rows_of repository.now name.now) ≡ map file_row (option_to_list found))
-        (state S.Store tx.old.conn.now) (state S.Store tx.new.conn.now) result }
-    ensures reads { OnlyReads (state S.Store tx.old.conn.now) (state S.Store tx.new.conn.now) result }
-    ensures asks { AnswersQuery find_file_text (Text repository.now ∷ Text name.now ∷ [])
-        (λ rows found. map (columns_at file_places) rows ≡ map file_row (option_to_list found))
-        (state S.Store tx.old.conn.now) (state S.Store tx.new.conn.now) result }
-    ensures blame { BlamesDisk (HoldsOfFiles (λ rows_of. ShowsOne ShowsFile (rows_of repository.now name.now)))
-        (state S.Store tx.old.conn.now) (state S.Store tx.new.conn.now) result }
-    ensures step { IsOpenStep S.Store tx.old.conn tx.new.conn result }
+    ensures { IsQueried S.Store find_file_text (Text repository.now ∷ Text name.now ∷ []) (λ rows found. map (columns_at file_places) rows ≡ map file_row (option_to_list found))
+        (FindsFiles (λ rows_of found. map (columns_at file_places) (rows_of repository.now name.now) ≡ map file_row (option_to_list found)))
+        (HoldsOfFiles (λ rows_of. ShowsOne ShowsFile (rows_of repository.now name.now))) tx.old.conn tx.new.conn result }
 {
     at_most_one(tx.query_all(
         "SELECT repository, name, body FROM repo_file WHERE repository = ?1 AND name = ?2",

@@ -11,10 +11,12 @@ ghost use Rattle.up_tables.specs.Tried.{BlamesRefusal, BlamesOne, Ran, Undoes, A
 ghost use Rattle.up_tables.specs.Rows.{columns_at, has_number};
 ghost use Rattle.up_tables.specs.Forms.{role_key_places, role_key_row, FitRoleKey};
 ghost use Rattle.up_tables.specs.Stands.{IfClean, IsInside, IsOpen};
+ghost use Rattle.up_tables.specs.Stored.{IsQueried, IsWritten};
 ghost use Rattle.up_tables.specs.Statements.{IsOpenStep, AppendsRows, OnlyReads, FindsAll, BlamesDisk, HoldsOfAll};
 
 use crate::reading::{Decode, each_row};
-use crate::values::{StoreFault, bytes, bytes_at, done, number, number_at, text_at, words};
+use crate::statement::write;
+use crate::values::{StoreFault, bytes, bytes_at, number, number_at, text_at, words};
 use sqlite::{Alter, Row, Transaction};
 use std::alloc::Global;
 
@@ -58,13 +60,11 @@ fn insert_role_key<S: Alter>(
 ) -> Result<(), StoreFault>
     requires fit { FitRoleKey key.now }
     requires mode { IfClean IsInside (state S.Store tx.old.conn.now) }
-    ensures inserted { AppendsRows role_key_table (role_key_row key.now ∷ []) (state S.Store tx.old.conn.now) (state S.Store tx.new.conn.now) result }
-    ensures ran { Ran ((insert_role_key_text, role_key_row key.now) ∷ []) (state S.Store tx.old.conn.now) (state S.Store tx.new.conn.now) result }
-    ensures blame { BlamesRefusal insert_role_key_text (role_key_row key.now) (state S.Store tx.old.conn.now) (state S.Store tx.new.conn.now) result }
-    ensures memory { Undoes (state S.Store tx.new.conn.now) result }
-    ensures step { IsOpenStep S.Store tx.old.conn tx.new.conn result }
+    ensures { IsWritten S.Store insert_role_key_text (role_key_row key.now)
+        (AppendsRows role_key_table (role_key_row key.now ∷ [])) tx.old.conn tx.new.conn result }
 {
-    done(tx.execute(
+    write(
+        tx,
         "INSERT INTO role_key (root, repository, role, place, secret, threshold) VALUES (?1, ?2, ?3, ?4, ?5, ?6)",
         &[
             number(key.root),
@@ -74,7 +74,7 @@ fn insert_role_key<S: Alter>(
             bytes(key.secret.as_slice()),
             number(key.threshold),
         ],
-    ))
+    )
 }
 
 /// Puts in the rows of keys, one after another, behind the others.
@@ -107,16 +107,9 @@ pub fn role_keys_of<S: Alter>(
 ) -> Result<Vec<RoleKeyRow>, StoreFault>
     requires root { root < 2 ^ 63 }
     requires mode { IfClean IsInside (state S.Store tx.old.conn.now) }
-    ensures found { FindsAll role_key_table
-        (λ all found. map (columns_at role_key_places) (filter (has_number 0 (pos root)) all) ≡ map role_key_row found.items)
-        (state S.Store tx.old.conn.now) (state S.Store tx.new.conn.now) result }
-    ensures reads { OnlyReads (state S.Store tx.old.conn.now) (state S.Store tx.new.conn.now) result }
-    ensures asks { AnswersQuery role_keys_of_text (Int (pos root) ∷ [])
-        (λ rows found. map (columns_at role_key_places) rows ≡ map role_key_row found.items)
-        (state S.Store tx.old.conn.now) (state S.Store tx.new.conn.now) result }
-    ensures blame { BlamesDisk (HoldsOfAll role_key_table (λ all. AllByRecursion ShowsRoleKey (filter (has_number 0 (pos root)) all)))
-        (state S.Store tx.old.conn.now) (state S.Store tx.new.conn.now) result }
-    ensures step { IsOpenStep S.Store tx.old.conn tx.new.conn result }
+    ensures { IsQueried S.Store role_keys_of_text (Int (pos root) ∷ []) (λ rows found. map (columns_at role_key_places) rows ≡ map role_key_row found.items)
+        (FindsAll role_key_table (λ all found. map (columns_at role_key_places) (filter (has_number 0 (pos root)) all) ≡ map role_key_row found.items))
+        (HoldsOfAll role_key_table (λ all. AllByRecursion ShowsRoleKey (filter (has_number 0 (pos root)) all))) tx.old.conn tx.new.conn result }
 {
     each_row(
         alloc,
@@ -133,14 +126,9 @@ pub fn role_keys<S: Alter>(
     alloc: Global,
 ) -> Result<Vec<RoleKeyRow>, StoreFault>
     requires mode { IfClean IsInside (state S.Store tx.old.conn.now) }
-    ensures found { FindsAll role_key_table (λ all found. map (columns_at role_key_places) all ≡ map role_key_row found.items)
-        (state S.Store tx.old.conn.now) (state S.Store tx.new.conn.now) result }
-    ensures reads { OnlyReads (state S.Store tx.old.conn.now) (state S.Store tx.new.conn.now) result }
-    ensures asks { AnswersQuery all_role_keys_text [] (λ rows found. map (columns_at role_key_places) rows ≡ map role_key_row found.items)
-        (state S.Store tx.old.conn.now) (state S.Store tx.new.conn.now) result }
-    ensures blame { BlamesDisk (HoldsOfAll role_key_table (AllByRecursion ShowsRoleKey))
-        (state S.Store tx.old.conn.now) (state S.Store tx.new.conn.now) result }
-    ensures step { IsOpenStep S.Store tx.old.conn tx.new.conn result }
+    ensures { IsQueried S.Store all_role_keys_text [] (λ rows found. map (columns_at role_key_places) rows ≡ map role_key_row found.items)
+        (FindsAll role_key_table (λ all found. map (columns_at role_key_places) all ≡ map role_key_row found.items))
+        (HoldsOfAll role_key_table (AllByRecursion ShowsRoleKey)) tx.old.conn tx.new.conn result }
 {
     each_row(
         alloc,

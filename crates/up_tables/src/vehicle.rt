@@ -13,13 +13,15 @@ ghost use Rattle.up_tables.specs.Tables.{vehicle_table};
 ghost use Rattle.up_tables.specs.Rows.{columns_at, with_row};
 ghost use Rattle.up_tables.specs.Forms.{vehicle_places, vehicle_row, FitVehicle};
 ghost use Rattle.up_tables.specs.Stands.{IfClean, IsInside};
+ghost use Rattle.up_tables.specs.Stored.{IsQueried, IsWritten};
 ghost use Rattle.up_tables.specs.Statements.{IsOpenStep, AltersRows, SetsVehicle, OnlyReads, Finds, BlamesDisk, HoldsBy, HasVehicle};
 ghost use Rattle.up_tables.specs.Tried.{BlamesRefusal, BlamesOne, Ran, Undoes, AnswersQuery};
 ghost use Rattle.up_tables.specs.declared.values.StoreFault.TheVariants as StoreFault;
 
 use crate::reading::{Decode, at_most_one};
+use crate::statement::write;
 use crate::values::{
-    StoreFault, done, fault_of, has_number, has_words, number, number_at, text_at, words,
+    StoreFault, fault_of, has_number, has_words, number, number_at, text_at, words,
 };
 use sqlite::{Alter, Error, Row, Transaction};
 
@@ -59,15 +61,11 @@ pub fn insert_vehicle<S: Alter>(
 ) -> Result<(), StoreFault>
     requires fit { FitVehicle vehicle.now }
     requires mode { IfClean IsInside (state S.Store tx.old.conn.now) }
-    ensures inserted { AltersRows vehicle_table 1 (with_row (string_bytes vehicle.now.vehicle) (vehicle_row vehicle.now))
-        (state S.Store tx.old.conn.now) (state S.Store tx.new.conn.now) result }
-    ensures blame { BlamesRefusal insert_vehicle_text (vehicle_row vehicle.now)
-        (state S.Store tx.old.conn.now) (state S.Store tx.new.conn.now) result }
-    ensures ran { Ran ((insert_vehicle_text, vehicle_row vehicle.now) ∷ []) (state S.Store tx.old.conn.now) (state S.Store tx.new.conn.now) result }
-    ensures memory { Undoes (state S.Store tx.new.conn.now) result }
-    ensures step { IsOpenStep S.Store tx.old.conn tx.new.conn result }
+    ensures { IsWritten S.Store insert_vehicle_text (vehicle_row vehicle.now)
+        (AltersRows vehicle_table 1 (with_row (string_bytes vehicle.now.vehicle) (vehicle_row vehicle.now))) tx.old.conn tx.new.conn result }
 {
-    done(tx.execute(
+    write(
+        tx,
         "INSERT INTO vehicle (vehicle, primary_ecu, version, last_counter) VALUES (?1, ?2, ?3, ?4)",
         &[
             words(vehicle.vehicle.as_str()),
@@ -75,7 +73,7 @@ pub fn insert_vehicle<S: Alter>(
             number(vehicle.version),
             number(vehicle.last_counter),
         ],
-    ))
+    )
 }
 
 /// Sets the version and the last counter of a vehicle that is there. The statement hands the row back as it stands then; `Store` where it is another
@@ -155,16 +153,9 @@ pub fn vehicle<S: Alter>(
     name: &str,
 ) -> Result<Option<VehicleRow>, StoreFault>
     requires mode { IfClean IsInside (state S.Store tx.old.conn.now) }
-    ensures found { Finds vehicle_table 1
-        (λ rows_of found. map (columns_at vehicle_places) (rows_of name.now) ≡ map vehicle_row (option_to_list found))
-        (state S.Store tx.old.conn.now) (state S.Store tx.new.conn.now) result }
-    ensures reads { OnlyReads (state S.Store tx.old.conn.now) (state S.Store tx.new.conn.now) result }
-    ensures asks { AnswersQuery find_vehicle_text (Text name.now ∷ [])
-        (λ rows found. map (columns_at vehicle_places) rows ≡ map vehicle_row (option_to_list found))
-        (state S.Store tx.old.conn.now) (state S.Store tx.new.conn.now) result }
-    ensures blame { BlamesDisk (HoldsBy vehicle_table 1 (λ rows_of. ShowsOne ShowsVehicle (rows_of name.now)))
-        (state S.Store tx.old.conn.now) (state S.Store tx.new.conn.now) result }
-    ensures step { IsOpenStep S.Store tx.old.conn tx.new.conn result }
+    ensures { IsQueried S.Store find_vehicle_text (Text name.now ∷ []) (λ rows found. map (columns_at vehicle_places) rows ≡ map vehicle_row (option_to_list found))
+        (Finds vehicle_table 1 (λ rows_of found. map (columns_at vehicle_places) (rows_of name.now) ≡ map vehicle_row (option_to_list found)))
+        (HoldsBy vehicle_table 1 (λ rows_of. ShowsOne ShowsVehicle (rows_of name.now))) tx.old.conn tx.new.conn result }
 {
     at_most_one(tx.query_all(
         "SELECT vehicle, primary_ecu, version, last_counter FROM vehicle WHERE vehicle = ?1",

@@ -9,7 +9,7 @@ use Rattle.up_store.proofs.campaigns.put_closed.Goals as goal
 
 pub returns-clause-put : goal.returns-clause-put
 returns-clause-put g c clean =
-    puts_closed c.close_campaign.result c.args.closed.now (state g.D.Store c.args.tx.now.conn.now) (state g.D.Store c.close_campaign.new.tx.conn.now) (rw (c.text.ensures.value, ap (λ r. r.name) c.closed.view_is) at c.close_campaign.ensures.closed clean)
+    puts_closed c.close_campaign.result c.args.closed.now (state g.D.Store c.args.tx.now.conn.now) (state g.D.Store c.close_campaign.new.tx.conn.now) (rw (c.text.ensures.value, ap (λ r. r.name) c.closed.view_is) at c.close_campaign.ensures.altered clean)
     (open_before c.close_campaign.result c.close_campaign.ensures.step.steps clean c.close_campaign.ensures.step.is_open)
 
 pub returns-clause-blame : goal.returns-clause-blame

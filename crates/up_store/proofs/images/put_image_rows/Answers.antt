@@ -17,7 +17,7 @@ returns-clause-put g c clean =
     let s1 = state g.D.Store c.insert_image.new.tx.conn.now in
     let cleanly = clean_step c.put_sha512.ensures.step.steps clean in
     let was_open = (c.insert_image.ensures.step.steps.kept cleanly).was_open (c.in_default.ensures.step.is_open cleanly) in
-    puts_image_rows c.put_sha512.result c.args.image.now s0 s1 (state g.D.Store c.put_sha512.new.tx.conn.now) (puts_image {A = ⊤} (Ok tt) c.args.image.now c.args.row.now s0 s1 c.requires.made.is (c.in_default.ensures.inserted cleanly) was_open)
+    puts_image_rows c.put_sha512.result c.args.image.now s0 s1 (state g.D.Store c.put_sha512.new.tx.conn.now) (puts_image {A = ⊤} (Ok tt) c.args.image.now c.args.row.now s0 s1 c.requires.made.is (c.in_default.ensures.altered cleanly) was_open)
     (c.put_sha512.ensures.put clean) c.requires.made.typed c.put_sha512.ensures.typed was_open
 
 pub returns-clause-ran : goal.returns-clause-ran

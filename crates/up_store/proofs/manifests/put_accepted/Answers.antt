@@ -23,9 +23,9 @@ returns-in_err-check_places-clause-blame g c =
     never_blames (accept_writes new) (MayAccept new) before before c.from_residual-in_err-check_places.result
     (λ may. places_fit new.vehicle c.in_ok-ecus.ecus.items (c.in_ok-ecus.ensures.same ∙ ap (map as_told) c.as_slice.ensures) may.fits.vehicle.ecus many)
 
-pub returns-in_err-kept-clause-blame : goal.returns-in_err-kept-clause-blame
-returns-in_err-kept-clause-blame g c =
+pub returns-in_err-plan-clause-blame : goal.returns-in_err-plan-clause-blame
+returns-in_err-plan-clause-blame g c =
     let new = c.args.new.now in
     let before = state g.D.Store c.args.tx.now.conn.now in
-    never_store (accept_writes new) (MayAccept new) before before c.from_residual-in_err-kept.result c.in_err-kept.field-0.0 c.from_residual-in_err-kept.ensures.1
-    (λ told may. fits_kept new.kept (may.fits.version, may.fits.root) (c.in_err-kept.ensures.large.0 (ap Err told)))
+    never_store (accept_writes new) (MayAccept new) before before c.from_residual-in_err-plan.result c.in_err-plan.field-0.0 c.from_residual-in_err-plan.ensures.1
+    (λ told may. fits_kept new.kept (may.fits.version, may.fits.root) (c.in_err-plan.ensures.large.0 (ap Err told)))

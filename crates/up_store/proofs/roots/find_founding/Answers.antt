@@ -1,4 +1,4 @@
-use Rattle.std.proofs.Common.{◌≡◌, List, Some, Option, map, arith}
+use Rattle.std.proofs.Common.{◌≡◌, Some, Option, map, arith}
 use Rattle.std.specs.Option.{option_to_list}
 use Rattle.sqlite.specs.Effect.{Database}
 use Rattle.sqlite.specs.Held.{state}

@@ -1,28 +1,15 @@
-use Rattle.std.proofs.Common.{◌∙◌, Err}
+use Rattle.std.proofs.Common.{Err, Ok, ◌∙◌}
 use Rattle.std.specs.Prelude.{⊤}
 use Rattle.sqlite.specs.Held.{state}
-use Rattle.up_tables.proofs.StateLemmas.{ok_then}
-use Rattle.up_store.proofs.Blamed.{by_statement, if_err, memory_blames}
-use Rattle.up_store.proofs.ColumnFound.{typed_in, hash_found}
-use Rattle.up_store.proofs.KindsOfImages.{holds_hash, hash_reads}
+use Rattle.up_store.proofs.Blamed.{by_statement}
+use Rattle.up_store.proofs.KindsOfImages.{holds_hash, hash_found}
 use Rattle.up_store.proofs.second_hashes.find_sha512.Goals as goal
 
 pub returns-in-Ok-clause-found : goal.returns-in-Ok-clause-found
-returns-in-Ok-clause-found g c clean =
-    let before = state g.D.Store c.args.tx.now.conn.now in
-    let after = state g.D.Store c.image_sha512.new.tx.conn.now in
-    ok_then _ _ c.read_sha512.result
-    (λ read is rows within. is ∙ hash_found rows c.args.file.now before after c.in-Ok.shown (c.in-Ok.ensures.reads clean) (rw c.text.ensures.value at c.in-Ok.ensures.found clean) within)
-    c.read_sha512.ensures.ok
+returns-in-Ok-clause-found g c clean rows within = c.hash_of.ensures ∙ hash_found {E = ⊤} (Ok c.in-Ok.found) c.args.file.now _ _ (rw c.text.ensures.value at c.in-Ok.ensures.found clean) (c.in-Ok.ensures.reads clean) rows within
 
-pub returns-in-Ok-clause-blame : goal.returns-in-Ok-clause-blame
-returns-in-Ok-clause-blame g c =
-    let before = state g.D.Store c.args.tx.now.conn.now in
-    let after = state g.D.Store c.image_sha512.new.tx.conn.now in
-    memory_blames (λ _. ⊤) before after c.read_sha512.result
-    (λ clean rows within fits.
-    if_err c.read_sha512.result c.read_sha512.ensures.fault
-    (λ fault bad. absurd (hash_reads rows c.args.file.now c.in-Ok.shown (typed_in rows before after (c.in-Ok.ensures.reads clean) within) (hash_found rows c.args.file.now before after c.in-Ok.shown (c.in-Ok.ensures.reads clean) (rw c.text.ensures.value at c.in-Ok.ensures.found clean) within) bad.1)))
+pub returns-in-Ok-clause-shown : goal.returns-in-Ok-clause-shown
+returns-in-Ok-clause-shown g c clean rows_of has lists = (c.in-Ok.found, ((rw c.text.ensures.value at c.in-Ok.ensures.found clean) rows_of has lists).said, c.hash_of.ensures)
 
 pub returns-in-Err-clause-blame : goal.returns-in-Err-clause-blame
 returns-in-Err-clause-blame g c =

@@ -20,7 +20,7 @@ returns-clause-put g c clean =
     let cleanly = clean_step c.insert_ecus.ensures.step.steps clean in
     puts_vehicle c.insert_ecus.result c.args.new.now c.args.vehicle.now c.args.ecus.now (state g.D.Store c.args.tx.now.conn.now) (state g.D.Store c.insert_vehicle.new.tx.conn.now) (state g.D.Store c.insert_ecus.new.tx.conn.now) c.requires.made.vehicle_is c.requires.made.ecus_are
     c.requires.made.typed c.requires.made.typed_each
-    (c.in_ok-insert_vehicle.ensures.inserted cleanly) (rw c.text.ensures.value at c.insert_ecus.ensures.inserted clean)
+    (c.in_ok-insert_vehicle.ensures.altered cleanly) (rw c.text.ensures.value at c.insert_ecus.ensures.inserted clean)
     ((c.insert_vehicle.ensures.step.steps.kept cleanly).was_open (c.in_ok-insert_vehicle.ensures.step.is_open cleanly))
 
 pub returns-clause-blame : goal.returns-clause-blame

@@ -22,7 +22,7 @@ loop-place-preserved g c =
     let there = got_at c.args.rows.now c.loop-place.place c.index-rows-place.result (omega (arith, c.loop-place-test.true)) c.index-rows-place.is in
     let row_there = first_line_at c.args.vehicle.now c.loop-place.place c.args.rows.now c.index-rows-place.result there in
     keeps_on _ _ _ _ _ _ _ _ c.loop-place.invariant c.insert_ecu.ensures.step.same_reference c.in_ok-insert_ecu.ensures.step.inside c.in_ok-insert_ecu.ensures.step.is_open c.insert_ecu.ensures.step.steps (λ clean so_far. (
-      next_put c.args.vehicle.now rows c.loop-place.place e _ _ _ row_there so_far.0 (c.in_ok-insert_ecu.ensures.inserted clean),
+      next_put c.args.vehicle.now rows c.loop-place.place e _ _ _ row_there so_far.0 (c.in_ok-insert_ecu.ensures.altered clean),
       next_ran (map it rows) c.loop-place.place (it e) _ _ _ (statement_at it rows c.loop-place.place e row_there) c.loop-place.invariant.on.steps so_far.1 (c.in_ok-insert_ecu.ensures.ran clean),
     ))
 

@@ -1,13 +1,10 @@
-use Rattle.up_tables.specs.Texts.{all_images_text}
-use Rattle.up_tables.proofs.CallLemmas.{is_read}
-use Rattle.up_tables.proofs.StateLemmas.{query_told}
-use Rattle.up_tables.proofs.ImageLemmas.{all_is, finds_images, order_images, all_images_blames}
+use Rattle.std.proofs.Common.{string_bytes}
+use Rattle.up_tables.specs.Forms.{image_row}
+use Rattle.up_tables.specs.Kinds.{ShowsImage}
+use Rattle.up_tables.proofs.EcuRows.{text_is}
+use Rattle.up_tables.proofs.StoredLemmas.{listed}
+use Rattle.up_tables.proofs.ImageLemmas.{images_listed}
 use Rattle.up_tables.proofs.image.images.Goals as goal
 
 pub returns : goal.returns
-returns g c =
-    let found = λ (clean : _). finds_images (λ v. v.items) (λ v. v.items) c.query_all.result c.each_row.result _ _ c.each_row.ensures.ok (c.query_all.ensures.ok clean) in
-    let order = λ (clean : _). order_images (λ v. v.items) (λ v. v.items) c.query_all.result c.each_row.result _ _ c.each_row.ensures.ok (c.query_all.ensures.ok clean) in
-    let read = is_read (λ v. v.items) all_images_text _ _ _ c.query_all.result c.each_row.result _ all_is.3 c.each_row.ensures.ok c.requires.mode c.query_all.ensures.survives c.query_all.ensures.ok c.query_all.ensures.err in
-    let blame = all_images_blames (λ v. v.items) c.query_all.result c.each_row.result _ _ c.each_row.ensures.fault c.each_row.ensures.kinds c.query_all.ensures.ok c.query_all.ensures.err in
-    record { found = found; order = order; reads = read.reads; asks = query_told (λ v. v.items) _ all_images_text _ _ _ c.query_all.result c.each_row.result c.each_row.ensures.ok c.query_all.ensures.ok; blame = blame; step = record { same_reference = c.query_all.ensures.same_reference; steps = read.steps; inside = read.inside; is_open = read.opened } }
+returns g c = listed g.S.Store _ _ (λ rows. rows) _ _ 7 _ _ image_row (λ i. string_bytes i.file) ShowsImage _ _ _ c.list.result images_listed (λ x n. text_is (string_bytes x.file) n) (λ x h. h) c.list.ensures

@@ -19,7 +19,7 @@ pub loop-file-preserved : goal.loop-file-preserved
 loop-file-preserved g c =
     let there = got_at c.args.files.now c.loop-file.file-index c.file-item.result (omega (arith, c.loop-file-test.true)) c.file-item.is in
     keeps_on _ _ _ _ _ _ _ _ c.loop-file.invariant c.upsert_file.ensures.step.same_reference c.in_ok-upsert_file.ensures.step.inside c.in_ok-upsert_file.ensures.step.is_open c.upsert_file.ensures.step.steps (λ clean so_far. (
-      next_set c.args.files.now c.loop-file.file-index c.file-item.result _ _ _ there so_far.0 (c.in_ok-upsert_file.ensures.set clean),
+      next_set c.args.files.now c.loop-file.file-index c.file-item.result _ _ _ there so_far.0 (c.in_ok-upsert_file.ensures.altered clean),
       next_ran (map it c.args.files.now) c.loop-file.file-index (it c.file-item.result) _ _ _ (statement_at it c.args.files.now c.loop-file.file-index c.file-item.result there) c.loop-file.invariant.on.steps so_far.1 (c.in_ok-upsert_file.ensures.ran clean),
     ))
 

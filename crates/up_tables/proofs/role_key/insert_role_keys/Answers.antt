@@ -19,7 +19,7 @@ pub loop-key-preserved : goal.loop-key-preserved
 loop-key-preserved g c =
     let there = got_at c.args.keys.now c.loop-key.key-index c.key-item.result (omega (arith, c.loop-key-test.true)) c.key-item.is in
     keeps_on _ _ _ _ _ _ _ _ c.loop-key.invariant c.insert_role_key.ensures.step.same_reference c.in_ok-insert_role_key.ensures.step.inside c.in_ok-insert_role_key.ensures.step.is_open c.insert_role_key.ensures.step.steps (λ clean so_far. (
-      next_put c.args.keys.now c.loop-key.key-index c.key-item.result _ _ _ there so_far.0 (c.in_ok-insert_role_key.ensures.inserted clean),
+      next_put c.args.keys.now c.loop-key.key-index c.key-item.result _ _ _ there so_far.0 (c.in_ok-insert_role_key.ensures.altered clean),
       next_ran (map it c.args.keys.now) c.loop-key.key-index (it c.key-item.result) _ _ _ (statement_at it c.args.keys.now c.loop-key.key-index c.key-item.result there) c.loop-key.invariant.on.steps so_far.1 (c.in_ok-insert_role_key.ensures.ran clean),
     ))
 

@@ -14,7 +14,8 @@ returns g c =
     let ran = ran_write g.D.Store c.args.self.now c.transaction-tx.result.conn.now c.put_image.new.tx.conn.now c.commit.new.tx.0 (image_writes c.args.image.now c.args.new.now) (λ _. FitsFounding c.args.new.now.founding) c.self.view_is c.transaction-tx.ensures.begun c.put_image.ensures.step.steps c.commit.result _ c.commit.ensures.survives c.in_default.ensures.ran c.commit.ensures.committed in
     record { written = did.written; durable = did.durable; kept = search rules; crash = did.crash; clean = search rules; «open» = search rules; ran = ran; blame = blame }
 
-pub returns-in-Err-clause-blame : goal.returns-in-Err-clause-blame
-returns-in-Err-clause-blame g c =
-    put_blames g.D.Store c.args.self.now c.transaction-tx.result.conn.now c.put_image.new.tx.conn.now c.drop-tx.new.self.0 (image_writes c.args.image.now c.args.new.now) (λ _. FitsFounding c.args.new.now.founding) c.self.view_is c.transaction-tx.ensures.begun c.put_image.ensures.step.steps {A = ⊤} (λ _. FitsFounding c.args.new.now.founding) (Err c.in-Err.fault)
-    (λ rows lists fits. fits) c.in-Err.ensures.blame c.drop-tx.ensures.survives
+pub returns-in-Err : goal.returns-in-Err
+returns-in-Err g c =
+    let blame = put_blames g.D.Store c.args.self.now c.transaction-tx.result.conn.now c.put_image.new.tx.conn.now c.drop-tx.new.self.0 (image_writes c.args.image.now c.args.new.now) (λ _. FitsFounding c.args.new.now.founding) c.self.view_is c.transaction-tx.ensures.begun c.put_image.ensures.step.steps {A = ⊤} (λ _. FitsFounding c.args.new.now.founding) (Err c.in-Err.fault)
+    (λ rows lists fits. fits) c.in-Err.ensures.blame c.drop-tx.ensures.survives in
+    record { written = search rules; durable = search rules; kept = search rules; crash = search rules; clean = search rules; «open» = search rules; ran = search rules; blame = blame }

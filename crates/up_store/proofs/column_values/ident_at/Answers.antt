@@ -1,0 +1,9 @@
+use Rattle.std.proofs.Common.{◌∙◌}
+use Rattle.up_tables.proofs.ColumnLemmas.{handed_on}
+use Rattle.up_store.proofs.KindsOfTexts.{ident}
+use Rattle.up_store.proofs.column_values.ident_at.Goals as goal
+
+pub returns-in_err-text-clause-fault : goal.returns-in_err-text-clause-fault
+returns-in_err-text-clause-fault c =
+    handed_on c.from_residual.result c.in_err-text.field-0.0 _ c.from_residual.ensures.1
+    (λ is name typed same. let w = ident name typed in c.in_err-text.ensures.fault is w.0 w.2 (same ∙ w.1))
