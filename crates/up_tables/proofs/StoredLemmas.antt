@@ -33,7 +33,7 @@ use Rattle.up_tables.specs.declared.values.StoreFault.TheVariants.{Store}
 use Rattle.up_tables.specs.Faults.{store_fault}
 use Rattle.up_tables.specs.Kinds.{ShowsOne}
 use Rattle.up_tables.specs.Rows.{bare, has_text, with_row}
-use Rattle.up_tables.specs.Stands.{IfClean, IsInside, Lists}
+use Rattle.up_tables.specs.Stands.{HasTables, IfClean, IsInside, Lists}
 use Rattle.up_tables.specs.Statements.{AltersRows, FindsAll, HoldsBy}
 use Rattle.up_tables.specs.Stored.{AreLines, EachSays, IsAsked, IsCarriedOut, IsFound, IsListed, IsQueried, IsTold, IsWritten}
 use Rattle.up_tables.specs.Tables.{up_schema}
@@ -144,11 +144,22 @@ few_lines : {T : Type 0} (line : T → Row) (o : Option T) → length (map line 
 few_lines line None = omega arith
 few_lines line (Some x) = omega arith
 
-pub found_value : {S T : Type 0} (g : Ghosts S) (text : List ℕ) (values : Row) (table : Table) (at : ℕ) (part : (List ℕ → List Row) → List Row) (columns : Row → Row) (tests : List Term) (width : ℕ) (names : List (List ℕ)) (passes : Row → Bool)
-    (says : Row → T → Type 0) (fits : T → Type 0) (line : T → Row) (old new : MutBor (Held S)) (r : Result (Option T) StoreFault) → IsQueryOf text values table at part columns tests width names passes
+-- the same of rows that are listed in any way
+pub record IsQueryIn {L : Type 0} (lists : L → List Row → Type 0) (text : List ℕ) (values : Row) (table : Table) (part : L → List Row) (columns : Row → Row) (tests : List Term) (width : ℕ) (names : List (List ℕ)) (passes : Row → Bool) : Type 0 where
+  pub asks : Asks up_schema text (over table.tree tests (all_columns width) []) names
+  pub takes : Takes text values (over table.tree tests (all_columns width) [])
+  pub base : (db : Trees) → overlay db [] table.tree ≡ db table.tree
+  pub meets : (r : Row) → list_all (holds (values ∷ r ∷ [])) tests ≡ passes (drop 1 r)
+  pub shows : (r : Row) → eval_all (all_columns width) (values ∷ r ∷ []) ≡ columns (drop 1 r)
+  pub its : (listed : L) (rows : List Row) → lists listed rows → part listed ≡ filter passes (bare rows)
+
+pub queried_value : {S T L : Type 0} (g : Ghosts S) (lists : L → List Row → Type 0) (text : List ℕ) (values : Row) (table : Table) (part : L → List Row) (columns : Row → Row) (tests : List Term) (width : ℕ) (names : List (List ℕ)) (passes : Row → Bool)
+    (says : Row → T → Type 0) (fits : T → Type 0) (line : T → Row) (old new : MutBor (Held S)) (r : Result (Option T) StoreFault) → IsQueryIn lists text values table part columns tests width names passes
     → IsAsked g text values (IsTold says fits line) (AreLines fits line) old new r
-    → IsFound g text values table at (λ rows_of. map columns (part rows_of)) (IsTold says fits line) (AreLines fits line) old new r
-found_value {T = T} g text values table at part columns tests width names passes says fits line old new r is c =
+    → IsQueried g text values (IsTold says fits line)
+    (λ old new r. HasCleanDisk new → IfOk r (λ found. (listed : L) → HasTables old → lists listed (old.now.trees table.tree) → IsTold says fits line (map columns (part listed)) found))
+    (λ s. (listed : L) × lists listed (s.now.trees table.tree) × AreLines fits line (map columns (part listed))) old new r
+queried_value {S} {T} {L} g lists text values table part columns tests width names passes says fits line old new r is c =
     let before = state g old.now in
     let after = state g new.now in
     let all = before.now.trees table.tree in
@@ -157,13 +168,13 @@ found_value {T = T} g text values table at part columns tests width names passes
     let asks = query_told (λ rows. rows) (IsTold says fits line) text values before after c.answer r c.reads c.ok in
     record {
       found = λ clean. ok_then _ _ r
-          (λ found a rows_of has lists.
+          (λ found a listed has here.
           let same = few_permutation _ a.0 (answers a.0 (has (shown_open text values before after a.0 a.1)).schema_is a.1) (says_few says a.0 found a.2.said) in
-          subst (λ rows. IsTold says fits line rows found) (sym (ap (map columns) (is.its rows_of all lists) ∙ same)) a.2)
+          subst (λ rows. IsTold says fits line rows found) (sym (ap (map columns) (is.its listed all here) ∙ same)) a.2)
           (asks clean);
       reads = read.reads;
       asks = asks;
-      blame = blames (λ rows. rows) text values table.tree tests (all_columns width) [] names is.asks is.takes c.answer r before after (HoldsBy table at (λ rows_of. AreLines fits line (map columns (part rows_of)))) (AreLines fits line)
+      blame = blames (λ rows. rows) text values table.tree tests (all_columns width) [] names is.asks is.takes c.answer r before after (λ (s : State). (listed : L) × lists listed (s.now.trees table.tree) × AreLines fits line (map columns (part listed))) (AreLines fits line)
           (λ ready holds rows h.
           let mine : AreLines fits line (map columns (filter passes (bare all))) = subst (λ rows. AreLines fits line (map columns rows)) (is.its holds.0 all holds.1) holds.2 in
           let order = answers rows ready.here.schema_is h in
@@ -172,6 +183,14 @@ found_value {T = T} g text values table at part columns tests width names passes
           c.fault c.damaged c.ok c.err;
       step = record { same_reference = c.same_reference; steps = read.steps; inside = read.inside; is_open = read.opened };
     }
+
+pub found_value : {S T : Type 0} (g : Ghosts S) (text : List ℕ) (values : Row) (table : Table) (at : ℕ) (part : (List ℕ → List Row) → List Row) (columns : Row → Row) (tests : List Term) (width : ℕ) (names : List (List ℕ)) (passes : Row → Bool)
+    (says : Row → T → Type 0) (fits : T → Type 0) (line : T → Row) (old new : MutBor (Held S)) (r : Result (Option T) StoreFault) → IsQueryOf text values table at part columns tests width names passes
+    → IsAsked g text values (IsTold says fits line) (AreLines fits line) old new r
+    → IsFound g text values table at (λ rows_of. map columns (part rows_of)) (IsTold says fits line) (AreLines fits line) old new r
+found_value g text values table at part columns tests width names passes says fits line old new r is =
+    queried_value g (Lists at) text values table part columns tests width names passes says fits line old new r
+    (record { asks = is.asks; takes = is.takes; base = is.base; meets = is.meets; shows = is.shows; its = is.its })
 
 -- the test of a text in a column, and the rows of that text
 pub has_its_text : (at : ℕ) (name : List ℕ) (r : Row) → has_text (suc at) name r ≡ has_text at name (drop 1 r)
