@@ -55,7 +55,8 @@ pub trait RowReading {
     fn read(alloc: Global, row: &Row) -> Result<Self::Item, StoreFault>
         ensures said { IfOk result (says row.now) }
         ensures same { IfOk result (λ x. (y : Self.Item) → fits y → row.now ≡ line y → x ≡ y) }
-        ensures fault { IfErr result (λ fault. fault ≡ StoreFault.Store → (y : Self.Item) → fits y → row.now ≢ line y) };
+        ensures fault { IfErr result (λ fault. fault ≡ StoreFault.Store → (y : Self.Item) → fits y → row.now ≢ line y) }
+        ensures damaged { IfErr result (λ fault. fault ≡ StoreFault.Store → (y : Self.Item) → fits y → ¬ says row.now y) };
 }
 
 /// A text, the one column that is read.
@@ -150,6 +151,8 @@ pub(crate) fn one_value<R: RowReading>(
     ensures ok { IfOk result (λ found. IsOkAnd answer (λ rows. IsTold R.says R.fits R.line rows.items found)) }
     ensures fault { IfErr answer (λ e. result ≡ Err (store_fault e)) }
     ensures kinds { IfOk answer (λ rows. IfErr result (λ fault. fault ≡ StoreFault.Store → ¬ AreLines R.fits R.line rows.items)) }
+    ensures damaged { IfOk answer (λ rows. IfErr result (λ fault. fault ≡ StoreFault.Store
+        → (found : Option R.Item) → AllByRecursion R.fits (option_to_list found) → ¬ EachSays R.says rows.items (option_to_list found))) }
     ensures none { IfOk answer (λ rows. rows.items ≡ [] → result ≡ Ok None) }
     ensures several { IfOk answer (λ rows. 2 ≤ length rows.items → result ≡ Err StoreFault.Store) }
 {
@@ -163,6 +166,8 @@ pub(crate) fn one_value<R: RowReading>(
 fn value_of<R: RowReading>(alloc: Global, rows: &[Row]) -> Result<Option<R::Item>, StoreFault>
     ensures ok { IfOk result (IsTold R.says R.fits R.line rows.now) }
     ensures kinds { IfErr result (λ fault. fault ≡ StoreFault.Store → ¬ AreLines R.fits R.line rows.now) }
+    ensures damaged { IfErr result (λ fault. fault ≡ StoreFault.Store
+        → (found : Option R.Item) → AllByRecursion R.fits (option_to_list found) → ¬ EachSays R.says rows.now (option_to_list found)) }
     ensures none { rows.now ≡ [] → result ≡ Ok None }
     ensures several { 2 ≤ length rows.now → result ≡ Err StoreFault.Store }
 {
@@ -184,6 +189,8 @@ pub(crate) fn each_value<R: RowReading>(
     ensures ok { IfOk result (λ read. IsOkAnd answer (λ rows. EachSays (Tells R.says R.fits R.line) rows.items read.items)) }
     ensures fault { IfErr answer (λ e. result ≡ Err (store_fault e)) }
     ensures kinds { IfOk answer (λ rows. IfErr result (λ fault. fault ≡ StoreFault.Store → ¬ AllByRecursion (IsLine R.fits R.line) rows.items)) }
+    ensures damaged { IfOk answer (λ rows. IfErr result (λ fault. fault ≡ StoreFault.Store
+        → (read : List R.Item) → AllByRecursion R.fits read → ¬ EachSays R.says rows.items read)) }
 {
     match answer {
         Ok(rows) => values_of::<R>(alloc, &rows),
@@ -195,6 +202,7 @@ pub(crate) fn each_value<R: RowReading>(
 fn values_of<R: RowReading>(alloc: Global, rows: &[Row]) -> Result<Vec<R::Item>, StoreFault>
     ensures ok { IfOk result (λ read. EachSays (Tells R.says R.fits R.line) rows.now read.items) }
     ensures kinds { IfErr result (λ fault. fault ≡ StoreFault.Store → ¬ AllByRecursion (IsLine R.fits R.line) rows.now) }
+    ensures damaged { IfErr result (λ fault. fault ≡ StoreFault.Store → (read : List R.Item) → AllByRecursion R.fits read → ¬ EachSays R.says rows.now read) }
 {
     let mut read = Vec::with_capacity(alloc, rows.len())?;
     for row in rows {
