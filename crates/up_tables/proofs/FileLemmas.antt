@@ -1,6 +1,7 @@
 -- Files that are served: one after another is set, and one is read.
-use Rattle.std.proofs.Common.{◌≡◌, ◌≤◌, ◌+◌, suc, take, slice_get, arith, ℕ, List, [], ◌∷◌, ◌++◌, filter, Bool, true, false, ◌&&◌, if◌then◌else◌, length, Some, refl, sym, ap, subst, ◌∙◌, codes, bytes_eq, drop}
+use Rattle.std.proofs.Common.{◌≡◌, ◌≤◌, ◌+◌, suc, take, slice_get, arith, ℕ, List, [], ◌∷◌, ◌++◌, map, filter, Bool, true, false, ◌&&◌, if◌then◌else◌, length, Some, refl, sym, ap, subst, ◌∙◌, codes, bytes_eq, drop}
 use Rattle.std.proofs.Math.Bool.{and-true}
+use Rattle.std.specs.List.Sorted.{IsPermutation}
 use Rattle.sqlite.specs.declared.types.Value.TheVariants.{Text}
 use Rattle.sqlite.specs.Order.{Row, column}
 use Rattle.sqlite.specs.Listing.{understood}
@@ -19,7 +20,7 @@ use Rattle.up_tables.specs.Stands.{ListsPairs, IsOpen}
 use Rattle.up_tables.specs.declared.repo_file.FileRow.{FileRow}
 use Rattle.up_tables.proofs.EcuInserts.{take_next, take_whole}
 use Rattle.up_tables.proofs.OthersLemmas.{alters_to, alters_none, has_after, alters_then}
-use Rattle.up_tables.proofs.ReadLemmas.{Asks, bare_filter}
+use Rattle.up_tables.proofs.ReadLemmas.{Asks, answers_some, bare_filter}
 use Rattle.up_tables.proofs.BlameLemmas.{Takes}
 use Rattle.up_tables.proofs.StoredLemmas.{IsQueryIn}
 
@@ -91,12 +92,12 @@ find_takes : (repository name : List ℕ) → Takes find_file_text (Text reposit
 unfolding understood everything
 find_takes repository name = (refl, refl, λ trees h. absurd (let e = h in cc))
 
-pub file_found : (repository name : List ℕ) → IsQueryIn ListsPairs find_file_text (Text repository ∷ Text name ∷ []) repo_file_table (λ rows_of. rows_of repository name) part (equals 1 0 ∷ equals 2 1 ∷ []) 3 names (its repository name)
+pub file_found : (repository name : List ℕ) → IsQueryIn ListsPairs find_file_text (Text repository ∷ Text name ∷ []) repo_file_table (λ rows_of. map part (rows_of repository name)) (equals 1 0 ∷ equals 2 1 ∷ []) (all_columns 3) names
 file_found repository name = record {
   asks = find_is;
   takes = find_takes repository name;
-  base = λ db. refl;
-  meets = λ x. rw (equals_text (column x 1) repository, equals_text (column x 2) name, column_after x 0, column_after x 1) (ap (λ b. has_text 0 repository (drop 1 x) && b) (and-true _));
-  shows = λ x. rw (column_after x 0, column_after x 1, column_after x 2) refl;
-  its = its_rows repository name;
+  answers = λ old new rows_of rows has lists h. subst (λ xs. IsPermutation (map part xs) rows) (sym (its_rows repository name rows_of (old.now.trees repo_file_table.tree) lists))
+      (answers_some up_schema find_file_text repo_file_table.tree (equals 1 0 ∷ equals 2 1 ∷ []) (all_columns 3) names (Text repository ∷ Text name ∷ []) (its repository name) part
+      (λ x. rw (equals_text (column x 1) repository, equals_text (column x 2) name, column_after x 0, column_after x 1) (ap (λ b. has_text 0 repository (drop 1 x) && b) (and-true _)))
+      (λ x. rw (column_after x 0, column_after x 1, column_after x 2) refl) (λ db. refl) find_is old new rows has h);
 }

@@ -1,15 +1,14 @@
 //! The rows of files that are served.
 
-ghost use Rattle.std.specs.Prelude.{◌∷◌, [], ⊤, map};
+ghost use Rattle.std.specs.Prelude.{◌∷◌, [], map};
 ghost use Rattle.sqlite.specs.declared.types.Value.TheVariants.{Text};
 ghost use Rattle.sqlite.specs.Held.{state};
 ghost use Rattle.up_tables.specs.Rows.{columns_at};
 ghost use Rattle.up_tables.specs.Forms.{file_places, file_row};
 ghost use Rattle.up_tables.specs.Texts.{upsert_file_text, find_file_text};
-ghost use Rattle.up_tables.specs.Tried.{BlamesOne, Ran, Undoes};
 ghost use Rattle.up_tables.specs.Stands.{IfClean, IsInside, IsOpen};
-ghost use Rattle.up_tables.specs.Stored.{AreLines, IsQueried, IsTold, IsWritten};
-ghost use Rattle.up_tables.specs.Statements.{IsOpenStep, SetsFile, SetsFiles, FindsFiles, HoldsOfFiles};
+ghost use Rattle.up_tables.specs.Stored.{AreLines, AreWritten, IsQueried, IsTold, IsWritten};
+ghost use Rattle.up_tables.specs.Statements.{SetsFile, SetsFiles, FindsFiles, HoldsOfFiles};
 
 use crate::reading::RowReading;
 use crate::statement::{find_value, write};
@@ -47,13 +46,7 @@ pub fn upsert_files<S: Alter>(
 ) -> Result<(), StoreFault>
     requires mode { IfClean IsInside (state S.Store tx.old.conn.now) }
     requires open { IfClean IsOpen (state S.Store tx.old.conn.now) }
-    ensures set { SetsFiles files.now (state S.Store tx.old.conn.now) (state S.Store tx.new.conn.now) result }
-    ensures ran { Ran (map (λ f. (upsert_file_text, file_row f)) files.now)
-        (state S.Store tx.old.conn.now) (state S.Store tx.new.conn.now) result }
-    ensures blame { BlamesOne (map (λ f. (upsert_file_text, file_row f)) files.now) (λ _. ⊤)
-        (state S.Store tx.old.conn.now) (state S.Store tx.new.conn.now) result }
-    ensures memory { Undoes (state S.Store tx.new.conn.now) result }
-    ensures step { IsOpenStep S.Store tx.old.conn tx.new.conn result }
+    ensures { AreWritten S.Store (map (λ f. (upsert_file_text, file_row f)) files.now) (SetsFiles files.now) tx.old.conn tx.new.conn result }
 {
     for file in files {
         upsert_file(tx, file)?;
