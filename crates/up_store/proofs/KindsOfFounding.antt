@@ -1,7 +1,7 @@
 -- The row of `meta`, the rows of keys and those of files have the columns that the statements show.
-use Rattle.std.proofs.Common.{◌≡◌, ◌⊎◌, inl, inr, ℕ, pos, ◌+◌, ◌-◌, ◌≤◌, ◌^◌, zero, suc, Bool, cond, length, bytes_eq, false, List, [], ◌∷◌, ◌++◌, Option, Some, None, Ok, Err, map, filter, codes, refl, sym, subst, arith, true, IsUtf8}
-use Rattle.std.specs.Prelude.{⊤, IfOk, IfErr, IfSome, Result, flat_map, find, slice_get, if◌then◌else◌, option_map}
-use Rattle.std.specs.Option.{option_or}
+use Rattle.std.proofs.Common.{◌≡◌, ◌⊎◌, inl, inr, ℕ, pos, ◌+◌, ◌-◌, ◌≤◌, ◌^◌, zero, suc, Bool, cond, length, bytes_eq, false, List, [], ◌∷◌, ◌++◌, Option, Some, None, Ok, Err, map, filter, codes, refl, sym, ap, ◌∙◌, subst, arith, true, IsUtf8}
+use Rattle.std.specs.Prelude.{⊤, IfOk, IfErr, IfSome, OnOk, Result, flat_map, find, slice_get, if◌then◌else◌, option_map}
+use Rattle.std.specs.Option.{option_or, option_to_list}
 use Rattle.std.specs.List.{AllByRecursion, enumerate_from}
 use Rattle.sqlite.specs.declared.types.Value.TheVariants.{Text}
 use Rattle.sqlite.specs.Order.{Row}
@@ -20,21 +20,25 @@ use Rattle.up_tables.specs.declared.meta.MetaRow.{MetaRow}
 use Rattle.up_tables.specs.declared.role_key.RoleKeyRow.{RoleKeyRow}
 use Rattle.up_tables.specs.declared.values.StoreFault.{StoreFault}
 use Rattle.up_tables.specs.declared.values.StoreFault.TheVariants.{Memory, Store}
-use Rattle.up_tables.specs.Kinds.{IsWords, ShowsOne, ShowsRoleKey, ShowsFile}
-use Rattle.up_tables.specs.Rows.{has_number}
+use Rattle.up_tables.specs.Forms.{file_places}
+use Rattle.up_tables.specs.Kinds.{IsWords, ShowsRoleKey}
+use Rattle.up_tables.specs.Rows.{columns_at, has_number}
 use Rattle.up_tables.specs.Lines.{meta_row}
-use Rattle.up_tables.specs.Stands.{HasTables}
+use Rattle.up_tables.specs.Stands.{HasTables, IsWithin, ListsPairs, Reads}
 use Rattle.up_tables.specs.Statements.{BlamesDisk, FindsMeta, HasMeta, HoldsOfAll, HoldsOfFiles}
-use Rattle.up_tables.specs.Tables.{meta_table, role_key_table}
+use Rattle.up_tables.specs.Stored.{AreLines, IsTold}
+use Rattle.up_tables.specs.Tables.{meta_table, repo_file_table, role_key_table, up_schema}
 use Rattle.up_store.specs.Connections.{BlamesWithin}
-use Rattle.up_store.specs.Lines.{founding_number, repository_word, repository_lines, root_lines, roots_lines, file_lines}
+use Rattle.up_store.specs.declared.files.ServedFile.{ServedFile}
+use Rattle.up_store.specs.Lines.{founding_number, repository_word, repository_lines, root_lines, roots_lines, file_line, file_lines, file_row}
 use Rattle.up_store.specs.Listing.{ListsRows, files_lines}
+use Rattle.up_store.specs.ReadAs.{SaysFile}
 use Rattle.up_store.specs.Shown.{IsFoundingOf, meta_told}
-use Rattle.up_store.specs.Typed.{AreTyped, AreTypedTexts, IsTypedFounding, IsTypedRoot}
+use Rattle.up_store.specs.Typed.{AreTyped, AreTypedTexts, IsTypedFile, IsTypedFounding, IsTypedRoot}
 use Rattle.up_store.proofs.Blamed.{all_filtered, by_statement}
-use Rattle.up_store.proofs.FileReads.{own_lines}
+use Rattle.up_store.proofs.ColumnFound.{has_tables}
 use Rattle.up_store.proofs.FoundingReads.{key_line, numbers_in}
-use Rattle.up_store.proofs.KindsOfTexts.{file_name, printed}
+use Rattle.up_store.proofs.KindsOfTexts.{file_name, printed, utf8}
 
 word : (repository : Repository) → IsWords (Text (repository_word repository))
 word Director = printed (codes "director") refl
@@ -92,10 +96,6 @@ holds_keys root s rows lists = (roots_lines rows.roots, lists.tables.role_keys, 
 
 -- ---- files
 
-file_shows : (repository : Repository) (name : Name) (o : Option (List ℕ)) → is_file_name name ≡ true → IfSome o IsUtf8 → ShowsOne ShowsFile (file_lines repository name o)
-file_shows repository name None fits utf8 = (omega arith, tt)
-file_shows repository name (Some text) fits utf8 = (omega arith, ((word repository, file_name name fits, (text, refl, utf8)), tt))
-
 first_typed : {X : Type 0} (P : X → Type 0) (test : X → Bool) (xs : List X) → AllByRecursion P xs → IfSome (find test xs) P
 first_typed P test [] all = tt
 first_typed {X} P test (x ∷ xs) all = by_test (test x) (first_typed P test xs all.1)
@@ -143,6 +143,43 @@ held_typed : (rows : StateRows) (repository : Repository) (name : Name) → AreT
 held_typed rows repository name typed =
     either_typed IsUtf8 (option_map (text_in repository) (row_named name rows.roots)) (other_text repository rows.files name) (root_typed repository (row_named name rows.roots) (named_typed name rows.roots typed.roots)) (other_typed repository rows.files name typed.files)
 
-pub holds_file : (repository : Repository) (name : Name) → is_file_name name ≡ true → (s : Connected) (rows : StateRows) → ListsRows rows s.now.trees → HoldsOfFiles (λ rows_of. ShowsOne ShowsFile (rows_of (repository_word repository) name)) s
-holds_file repository name fits s rows lists =
-    (files_lines rows, lists.tables.files, subst (ShowsOne ShowsFile) (sym (own_lines rows repository name)) (file_shows repository name (text_held rows repository name) fits (held_typed rows repository name lists.typed)))
+-- the row of the file, or none
+abbrev its_file : Repository → Name → StateRows → Option ServedFile
+its_file repository name rows = option_map (file_line repository name) (text_held rows repository name)
+
+its_lines : (rows : StateRows) (repository : Repository) (name : Name) → map (columns_at file_places) (files_lines rows (repository_word repository) name) ≡ map file_row (option_to_list (its_file repository name rows))
+its_lines rows repository name = ap (map (columns_at file_places)) (own repository) ∙ by_text (text_held rows repository name)
+  where
+    own : (repository : Repository) → files_lines rows (repository_word repository) name ≡ file_lines repository name (text_held rows repository name)
+    own Director = refl
+    own Image = refl
+
+    by_text : (o : Option (List ℕ)) → map (columns_at file_places) (file_lines repository name o) ≡ map file_row (option_to_list (option_map (file_line repository name) o))
+    by_text None = refl
+    by_text (Some text) = refl
+
+its_typed : (repository : Repository) (name : Name) → is_file_name name ≡ true → (rows : StateRows) → AreTyped rows → AllByRecursion IsTypedFile (option_to_list (its_file repository name rows))
+its_typed repository name fits rows typed = by_text (text_held rows repository name) (held_typed rows repository name typed)
+  where
+    by_text : (o : Option (List ℕ)) → IfSome o IsUtf8 → AllByRecursion IsTypedFile (option_to_list (option_map (file_line repository name) o))
+    by_text None is = tt
+    by_text (Some text) is = (record { repository = utf8 _ (word repository); name = utf8 name (file_name name fits); body = is }, tt)
+
+pub holds_file : (repository : Repository) (name : Name) → is_file_name name ≡ true → (s : Connected) (rows : StateRows) → ListsRows rows s.now.trees
+    → HoldsOfFiles (λ rows_of. AreLines IsTypedFile file_row (map (columns_at file_places) (rows_of (repository_word repository) name))) s
+holds_file repository name fits s rows lists = (files_lines rows, lists.tables.files, (its_file repository name rows, its_typed repository name fits rows lists.typed, its_lines rows repository name))
+
+-- the file that is found is that of the text
+pub file_found : {E : Type 0} (r : Result (Option ServedFile) E) (repository : Repository) (name : Name) → is_file_name name ≡ true → (before after : Connected)
+    → IfOk r (λ found. (rows_of : List ℕ → List ℕ → List Row) → HasTables before → ListsPairs rows_of (before.now.trees repo_file_table.tree)
+    → IsTold SaysFile IsTypedFile file_row (map (columns_at file_places) (rows_of (repository_word repository) name)) found)
+    → OnOk r (Reads before after) → IfOk r (λ found. (rows : StateRows) → IsWithin up_schema (ListsRows rows) before → option_map (λ (f : ServedFile). f.body) found ≡ text_held rows repository name)
+file_found (Err e) repository name fits before after told reads = tt
+file_found (Ok found) repository name fits before after told reads = λ rows within.
+    let here = within.here reads.was_open in
+    let same = (told (files_lines rows) (has_tables rows before within) here.rows.tables.files).same (its_file repository name rows) (its_typed repository name fits rows here.rows.typed) (its_lines rows repository name) in
+    ap (option_map (λ (f : ServedFile). f.body)) same ∙ back (text_held rows repository name)
+  where
+    back : (o : Option (List ℕ)) → option_map (λ (f : ServedFile). f.body) (option_map (file_line repository name) o) ≡ o
+    back None = refl
+    back (Some text) = refl

@@ -36,7 +36,7 @@ use Rattle.up_store.specs.Listing.{ListsRows}
 use Rattle.up_store.specs.Typed.{AreTyped, IsTypedHash, IsTypedImage}
 use Rattle.up_store.specs.ReadAs.{SaysHash}
 use Rattle.up_store.proofs.ColumnFound.{has_tables}
-use Rattle.up_store.proofs.KindsOfTexts.{file_name, canonical}
+use Rattle.up_store.proofs.KindsOfTexts.{file_name, canonical, utf8}
 
 -- ---- images
 
@@ -82,12 +82,9 @@ hash_typed : (name : Name) (o : Option ImageData) → ((image : ImageData) → o
 hash_typed name None typed = tt
 hash_typed name (Some i) typed = by_hash i.sha512 (typed i refl).sha512
   where
-    utf8 : IsUtf8 name
-    utf8 = let w = file_name name (subst (λ n. is_file_name n ≡ true) (typed i refl).named (typed i refl).file_name) in subst IsUtf8 (let e = w.1 in cc) w.2
-
     by_hash : (o : Option (List ℕ)) → IfSome o (λ hash. length hash ≡ 64) → AllByRecursion IsTypedHash (option_to_list (named_hash name o))
     by_hash None whole = tt
-    by_hash (Some hash) whole = (record { file = utf8; whole = whole }, tt)
+    by_hash (Some hash) whole = (record { file = utf8 name (file_name name (subst (λ n. is_file_name n ≡ true) (typed i refl).named (typed i refl).file_name)); whole = whole }, tt)
 
 pub holds_hash : (file : Name) (s : Connected) (rows : StateRows) → ListsRows rows s.now.trees
     → HoldsBy image_sha512_table 1 (λ rows_of. AreLines IsTypedHash hash_line (map (columns_at sha512_places) (rows_of file))) s

@@ -10,7 +10,6 @@ pub mod HandedBack
 pub mod VehicleReads
 pub mod Inserted
 pub mod EcuReads
-pub mod FileReads
 pub mod VehiclePuts
 pub mod FoundingReads
 pub mod RootPuts

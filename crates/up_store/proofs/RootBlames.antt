@@ -11,7 +11,8 @@ use Rattle.up_tables.specs.Stands.{Steps}
 use Rattle.up_tables.specs.Tried.{BlamesOne, Ran}
 use Rattle.up_tables.specs.declared.values.StoreFault.{StoreFault}
 use Rattle.up_tables.proofs.TriedLemmas.{blames_first}
-use Rattle.up_store.specs.Lines.{FileLine, file_row, root_file_lines, role_file_lines}
+use Rattle.up_store.specs.declared.files.ServedFile.{ServedFile}
+use Rattle.up_store.specs.Lines.{file_row, root_file_lines, role_file_lines}
 use Rattle.up_store.specs.Shown.{file_read}
 use Rattle.up_store.specs.Writes.{FitsFounding, each_with, founding_writes, key_writes, file_writes, root_writes}
 use Rattle.up_store.proofs.PutBlames.{each_is}
@@ -23,7 +24,7 @@ fits_meta f fits (inl large) = absurd (omega (arith, fits.root, large))
 fits_meta f fits (inr large) = absurd (omega (arith, fits.image_version, large))
 
 -- the rows of files that are made
-pub files_are : (made : List FileShown) (files : List FileLine) → map file_read made ≡ files → map shown_row made ≡ map file_row files
+pub files_are : (made : List FileShown) (files : List ServedFile) → map file_read made ≡ files → map shown_row made ≡ map file_row files
 files_are made files same = go made ∙ ap (map file_row) same
   where
     go : (made : List FileShown) → map shown_row made ≡ map file_row (map file_read made)

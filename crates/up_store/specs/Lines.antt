@@ -24,6 +24,7 @@ use Rattle.up_columns.specs.CampaignColumns.{reach_column, items_column}
 use Rattle.up_columns.specs.PlanColumns.{plan_column}
 use Rattle.up_tables.specs.Lines.{EcuLine, ecu_row, campaign_line, vehicle_line, retired_line, sha512_line, yes_or_no}
 use Rattle.up_tables.specs.Rows.{with_only_at}
+use Rattle.up_store.specs.declared.files.ServedFile.{ServedFile}
 use Rattle.up_store.specs.declared.second_hashes.SecondHash.{SecondHash}
 
 -- ---- meta: the numbers of the founding; zeros before it
@@ -57,15 +58,10 @@ roots_lines roots = flat_map (λ r. root_lines r.0 r.1) (enumerate_from 1 roots)
 
 -- ---- repo_file: a file that is served
 
-pub record FileLine : Type 0 where
-  pub repository : List ℕ
-  pub name : Name
-  pub body : List ℕ
-
-abbrev pub file_row : FileLine → Row
+abbrev pub file_row : ServedFile → Row
 file_row f = Text f.repository ∷ Text f.name ∷ Text f.body ∷ []
 
-abbrev pub file_line : Repository → Name → List ℕ → FileLine
+abbrev pub file_line : Repository → Name → List ℕ → ServedFile
 file_line repository name body = record { repository = repository_word repository; name = name; body = body }
 
 abbrev pub file_lines : Repository → Name → Option (List ℕ) → List Row
@@ -73,18 +69,18 @@ file_lines repository name None = []
 file_lines repository name (Some body) = file_row (file_line repository name body) ∷ []
 
 -- each of the files, in turn, has its text alone
-abbrev pub set_lines : List FileLine → (List ℕ → List ℕ → List Row) → List ℕ → List ℕ → List Row
+abbrev pub set_lines : List ServedFile → (List ℕ → List ℕ → List Row) → List ℕ → List ℕ → List Row
 set_lines [] rows_of = rows_of
 set_lines (f ∷ fs) rows_of = set_lines fs (with_only_at f.repository f.name (file_row f) rows_of)
 
 -- the Root files of a new version, which is the latest, too
-abbrev pub root_file_lines : RootRows → List FileLine
+abbrev pub root_file_lines : RootRows → List ServedFile
 root_file_lines new =
     file_line Director (numbered_root_name new.founding.root) new.director ∷ file_line Director (codes "root.json") new.director
     ∷ file_line Image (numbered_root_name new.founding.root) new.image ∷ file_line Image (codes "root.json") new.image ∷ []
 
 -- the image repository's files that are made together
-abbrev pub role_file_lines : RoleTexts → List FileLine
+abbrev pub role_file_lines : RoleTexts → List ServedFile
 role_file_lines texts =
     file_line Image (codes "targets.json") texts.targets ∷ file_line Image (codes "snapshot.json") texts.snapshot
     ∷ file_line Image (codes "timestamp.json") texts.timestamp ∷ []

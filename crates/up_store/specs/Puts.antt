@@ -1,20 +1,19 @@
 -- What the parts of a write change of the rows of the tables.
-use Rattle.std.specs.Prelude.{◌≡◌, true, ℕ, ◌≤◌, ◌<◌, ◌^◌, ◌++◌, List, [], ◌∷◌, All, Some, IfSome, IsUtf8, length, map}
+use Rattle.std.specs.Prelude.{◌≡◌, true, ℕ, ◌≤◌, ◌<◌, ◌^◌, ◌++◌, List, [], ◌∷◌, All, Some, IfSome, length, map}
 use Rattle.std.specs.List.{AllByRecursion}
 use Rattle.sqlite.specs.State.{State as Connected}
 use Rattle.sqlite.specs.Order.{Row}
 use Rattle.up_canon.specs.Names.{Name}
 use Rattle.up_plan.specs.Images.{ImageData}
+use Rattle.up_machine.specs.Files.{numbered_root_name}
 use Rattle.up_machine.specs.declared.decision.AcceptedRows.{AcceptedRows}
 use Rattle.up_machine.specs.declared.decision.RootRows.{RootRows}
 use Rattle.up_machine.specs.declared.rows.Founding.{Founding}
 use Rattle.up_machine.specs.declared.rows.Kept.{Kept}
 use Rattle.up_machine.specs.declared.rows.VehicleRows.{VehicleRows}
-use Rattle.up_metadata.specs.declared.role_files.RoleTexts.{RoleTexts}
 use Rattle.up_rows.specs.StateRows.{StateRows}
 use Rattle.up_tables.specs.declared.ecu.EcuRow.{EcuRow as EcuShown}
 use Rattle.up_tables.specs.declared.image.ImageRow.{ImageRow}
-use Rattle.up_tables.specs.declared.repo_file.FileRow.{FileRow as FileShown}
 use Rattle.up_tables.specs.declared.role_key.RoleKeyRow.{RoleKeyRow}
 use Rattle.up_tables.specs.declared.vehicle.VehicleRow.{VehicleRow as VehicleShown}
 use Rattle.up_tables.specs.Ecus.{FitEcu}
@@ -25,12 +24,13 @@ use Rattle.up_tables.specs.Rows.{changed_at, with_only}
 use Rattle.up_roles.specs.declared.repository.Repository.TheVariants.{Director, Image}
 use Rattle.up_columns.specs.PlanColumns.{plan_column}
 use Rattle.up_columns.specs.Typed.{is_typed_plan}
+use Rattle.up_store.specs.declared.files.ServedFile.{ServedFile}
 use Rattle.up_store.specs.ColumnRows.{IsImage}
 use Rattle.up_store.specs.Fitting.{IsRecorded}
-use Rattle.up_store.specs.Lines.{FileLine, repository_lines, role_file_lines, root_file_lines, set_lines, image_lines, sha512_lines, ecu_lines}
+use Rattle.up_store.specs.Lines.{repository_lines, set_lines, image_lines, sha512_lines, ecu_lines}
 use Rattle.up_store.specs.Listing.{ListsRows}
-use Rattle.up_store.specs.Shown.{as_told, ecu_read, file_read, vehicle_read}
-use Rattle.up_store.specs.Typed.{AreTypedTexts, IsTypedEcu, IsTypedImage, IsTypedVehicleRow}
+use Rattle.up_store.specs.Shown.{as_told, ecu_read, vehicle_read}
+use Rattle.up_store.specs.Typed.{IsTypedEcu, IsTypedImage, IsTypedVehicleRow}
 use Rattle.up_store.specs.Writes.{FitsAccepted, FitsVehicle}
 
 -- rows as they stand in the tables, made of a vehicle and its ECUs
@@ -50,19 +50,12 @@ pub record IsMadeOfKept (new : Kept) (plan : List ℕ) : Type 0 where
   pub version : new.version < 2 ^ 63
   pub root : new.root < 2 ^ 63
 
--- rows of files, made of the image repository's files
-pub record AreMadeOfTexts (new : RoleTexts) (files : List FileShown) : Type 0 where
-  pub are : map file_read files ≡ role_file_lines new
-  pub typed : AreTypedTexts new
-
--- rows of keys and of files, made of a root version
-pub record AreMadeOfRoot (new : RootRows) (keys : List RoleKeyRow) (root_files role_files : List FileShown) : Type 0 where
+-- rows of keys, and the name of the Root files, made of a root version
+pub record AreMadeOfRoot (new : RootRows) (keys : List RoleKeyRow) (name : Name) : Type 0 where
   pub keys_are : map role_key_row keys ≡ repository_lines new.founding.root Director new.founding.keys.director
       ++ repository_lines new.founding.root Image new.founding.keys.image
   pub fit : All FitRoleKey keys
-  pub root_files_are : map file_read root_files ≡ root_file_lines new
-  pub typed : IsUtf8 new.director × IsUtf8 new.image
-  pub role_files_are : AreMadeOfTexts new.files role_files
+  pub name_is : name ≡ numbered_root_name new.founding.root
 
 -- a row as it stands in the table, made of an image
 pub record IsMadeOfImage (new : ImageData) (row : ImageRow) : Type 0 where
@@ -87,7 +80,7 @@ abbrev pub HasFilesOnce : TableRows → Type 0
 HasFilesOnce rows = (repository name : List ℕ) → length (rows.files repository name) ≤ 1
 
 -- the texts of these files
-abbrev pub with_files : List FileLine → TableRows → TableRows
+abbrev pub with_files : List ServedFile → TableRows → TableRows
 with_files files rows = record rows { files = set_lines files rows.files }
 
 -- one more image

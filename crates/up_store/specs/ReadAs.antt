@@ -26,15 +26,16 @@ use Rattle.up_columns.specs.PlanColumns.{plan_in}
 use Rattle.up_tables.specs.declared.campaign.CampaignRow.{CampaignRow}
 use Rattle.up_tables.specs.declared.ecu.EcuRow.{EcuRow as EcuShown}
 use Rattle.up_tables.specs.declared.image.ImageRow.{ImageRow}
+use Rattle.up_store.specs.declared.files.ServedFile.{ServedFile}
 use Rattle.up_store.specs.declared.second_hashes.SecondHash.{SecondHash}
 use Rattle.up_tables.specs.declared.meta.MetaRow.{MetaRow}
-use Rattle.up_tables.specs.declared.repo_file.FileRow.{FileRow}
 use Rattle.up_tables.specs.declared.role_key.RoleKeyRow.{RoleKeyRow}
 use Rattle.up_tables.specs.declared.vehicle.VehicleRow.{VehicleRow as VehicleShown}
 use Rattle.up_tables.specs.Ecus.{owns}
-use Rattle.up_tables.specs.Forms.{campaign_places, campaign_row, file_places, file_row, image_places, image_row, kept_places}
+use Rattle.up_tables.specs.Forms.{campaign_places, campaign_row, file_places, image_places, image_row, kept_places}
 use Rattle.up_tables.specs.Forms.{meta_values, role_key_places, role_key_row, sha512_places, vehicle_places, vehicle_row}
 use Rattle.up_tables.specs.Found.{ReadsByPlace, meta_shown}
+use Rattle.up_tables.specs.Kinds.{IsText}
 use Rattle.up_tables.specs.Rows.{columns_at, has_number, has_text}
 use Rattle.up_tables.specs.Stands.{HasTables, Lists}
 use Rattle.up_tables.specs.Stored.{EachSays}
@@ -71,9 +72,15 @@ pub record SaysKept (row : Row) (read : Kept) : Type 0 where
   pub version : column row 2 ≡ Int (pos read.version)
   pub moment : column row 3 ≡ Int (pos read.at)
   pub root : column row 4 ≡ Int (pos read.root)
-  pub signed : column row 5 ≡ Text read.signed
+  pub signed : IsText (column row 5) read.signed
   pub plan : IsColumnOf plan_in (column row 6) read.plan
-  pub reply : column row 7 ≡ Text read.reply
+  pub reply : IsText (column row 7) read.reply
+
+-- the row says this file
+pub record SaysFile (row : Row) (read : ServedFile) : Type 0 where
+  pub repository : IsText (column row 0) read.repository
+  pub name : IsText (column row 1) read.name
+  pub body : IsText (column row 2) read.body
 
 -- ---- rows of a table, one after another
 
@@ -90,7 +97,7 @@ pub record PutsImage (hashes : Table (List ℕ)) (shown : ImageRow) (before afte
 
 -- the row says this second hash, of 64 bytes
 pub record SaysHash (row : Row) (read : SecondHash) : Type 0 where
-  pub file : column row 0 ≡ Text read.file
+  pub file : IsText (column row 0) read.file
   pub sha512 : column row 1 ≡ Blob read.sha512
   pub whole : length read.sha512 ≡ 64
 
@@ -246,8 +253,8 @@ ReadsFounding row all read =
     MatchOption read (row.root ≡ 0) (λ founding. (row.root ≢ 0) × (keys : List RoleKeyRow)
     × (map (columns_at role_key_places) (filter (has_number 0 (pos row.root)) all) ≡ map role_key_row keys) × IsFoundingOf row keys (Some founding))
 
--- the text of the file of this name is its row's
+-- the text of the file of this name is what its row says
 abbrev pub ReadsFile : Name → Name → (List ℕ → List ℕ → List Row) → Option (List ℕ) → Type 0
 ReadsFile repository name rows_of read =
-    (shown : Option FileRow) × (map (columns_at file_places) (rows_of repository name) ≡ map file_row (option_to_list shown))
-    × (read ≡ option_map (λ row. string_bytes row.body) shown)
+    (said : Option ServedFile) × EachSays SaysFile (map (columns_at file_places) (rows_of repository name)) (option_to_list said)
+    × (read ≡ option_map (λ f. f.body) said)

@@ -19,7 +19,8 @@ use Rattle.up_tables.specs.declared.meta.MetaRow.{MetaRow}
 use Rattle.up_tables.specs.declared.repo_file.FileRow.{FileRow as FileShown}
 use Rattle.up_tables.specs.declared.role_key.RoleKeyRow.{RoleKeyRow}
 use Rattle.up_tables.specs.declared.vehicle.VehicleRow.{VehicleRow as VehicleShown}
-use Rattle.up_store.specs.Lines.{FileLine, founding_number}
+use Rattle.up_store.specs.declared.files.ServedFile.{ServedFile}
+use Rattle.up_store.specs.Lines.{founding_number}
 
 -- ---- vehicles
 
@@ -59,8 +60,8 @@ ecu_read shown = record {
 
 -- ---- files
 
-abbrev pub file_read : FileShown → FileLine
-file_read shown = record { repository = string_bytes shown.repository; name = string_bytes shown.name; body = string_bytes shown.body }
+abbrev pub file_read : FileShown → ServedFile
+file_read shown = record { repository = shown.repository.now; name = shown.name.now; body = shown.body.now }
 
 -- ---- the founding
 

@@ -22,6 +22,7 @@ use Rattle.up_machine.specs.declared.rows.Kept.{Kept}
 use Rattle.up_rows.specs.SecondHashes.{TellsItsHash}
 use Rattle.up_rows.specs.StateRows.{StateRows}
 use Rattle.up_rows.specs.declared.root_row.RootRow.{RootRow}
+use Rattle.up_store.specs.declared.files.ServedFile.{ServedFile}
 use Rattle.up_store.specs.declared.second_hashes.SecondHash.{SecondHash}
 use Rattle.up_columns.specs.Typed.{is_typed_need, is_typed_item, is_typed_reach, is_typed_plan}
 
@@ -69,6 +70,12 @@ pub record AreTypedTexts (texts : RoleTexts) : Type 0 where
   pub targets : IsUtf8 texts.targets
   pub snapshot : IsUtf8 texts.snapshot
   pub timestamp : IsUtf8 texts.timestamp
+
+-- its texts are in UTF-8
+pub record IsTypedFile (f : ServedFile) : Type 0 where
+  pub repository : IsUtf8 f.repository
+  pub name : IsUtf8 f.name
+  pub body : IsUtf8 f.body
 
 -- ---- images, campaigns
 

@@ -5,6 +5,7 @@ ghost use Rattle.sqlite.specs.declared.types.Value.TheVariants as Value;
 ghost use Rattle.up_canon.specs.Canon.{max_count};
 ghost use Rattle.up_canon.specs.Moments.{last_moment};
 ghost use Rattle.up_canon.specs.Names.{is_ident, is_file_name};
+ghost use Rattle.up_tables.specs.Kinds.{IsText};
 ghost use Rattle.up_tables.specs.declared.values.StoreFault.TheVariants.{Store};
 ghost use Rattle.up_columns.specs.PlanColumns.{plan_column, plan_in};
 ghost use Rattle.up_columns.specs.Typed.{is_typed_plan};
@@ -153,7 +154,7 @@ pub fn ident_at(row: &Row, at: usize) -> Result<Ident, StoreFault>
 
 /// The text in a column; `Store` where it has none.
 pub fn words_at(row: &Row, at: usize) -> Result<Text, StoreFault>
-    ensures ok { IfOk result (λ text. column row.now at ≡ Value.Text text) }
+    ensures ok { IfOk result (IsText (column row.now at)) }
     ensures fault { IfErr result (λ fault. fault ≡ Store → (text : List ℕ) → IsUtf8 text → column row.now at ≢ Value.Text text) }
 {
     Ok(Text::new(text_at(row, at)?))

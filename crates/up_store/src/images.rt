@@ -11,16 +11,15 @@ ghost use Rattle.up_tables.specs.Statements.{IsStep, IsOpenStep, Finds};
 ghost use Rattle.up_tables.specs.Tables.{image_table, image_sha512_table};
 ghost use Rattle.up_tables.specs.Tried.{BlamesOne, Ran, Undoes};
 ghost use Rattle.up_store.specs.ColumnRows.{IsImage, AreImages, with_image};
-ghost use Rattle.up_store.specs.Puts.{AreMadeOfTexts, IsMadeOfImage};
+ghost use Rattle.up_store.specs.Puts.{IsMadeOfImage};
 ghost use Rattle.up_store.specs.ReadAs.{FindsBoth, IsRead, IsReadImage, ReadsBeside, ReadsImage, ReadsImages, ReadsSha512};
 ghost use Rattle.up_store.specs.Writes.{FitsFounding, image_row_writes, image_writes};
 ghost use Rattle.up_store.specs.Typed.{IsTypedImage};
 ghost use Rattle.up_tables.specs.declared.values.StoreFault.TheVariants.{Memory};
 ghost use Rattle.up_store.specs.Connections.{NeedsOpen, BlamesWithin, FindsRows, FindsSuch, PutsRows, ReadsStore, UndoesOrStays, WritesStore};
 
-use crate::files::make_role_files;
 use crate::image_rows::{make_image, read_image, read_images};
-use crate::roots::put_register_made;
+use crate::roots::put_register;
 use crate::second_hashes::{find_sha512, find_sha512s, put_sha512};
 use crate::store::{Store, StoreFault, commit};
 use sqlite::{Alter, Transaction};
@@ -30,7 +29,6 @@ use up_canon::table::Table;
 use up_machine::decision::RegisterRows;
 use up_plan::image::Image;
 use up_tables::image::{ImageRow, image as image_shown, images as images_shown, insert_image};
-use up_tables::repo_file::FileRow;
 
 impl<D: Alter> Store<D> {
     /// The image of this filename, none where there is none.
@@ -170,7 +168,7 @@ fn find_with_sha512s<D: Alter>(
     }
 }
 
-/// Puts in an image, and sets the files of the image repository. All rows are made before the first is written.
+/// Puts in an image, and sets the files of the image repository. Its row is made before anything is written.
 fn put_image<D: Alter>(
     tx: &mut Transaction<'_, D>,
     alloc: Global,
@@ -187,20 +185,17 @@ fn put_image<D: Alter>(
     ensures step { IsOpenStep D.Store tx.old.conn tx.new.conn result }
 {
     let row = make_image(alloc, image)?;
-    let files = make_role_files(alloc, &new.files)?;
-    put_image_made(tx, image, new, &row, files.as_slice())
+    put_image_made(tx, image, new, &row)
 }
 
-/// Puts in the rows that were made of an image and of the image repository's files, which takes no memory but the database's own.
+/// Puts in the row that was made of an image, and sets the files, which takes no memory but the database's own.
 fn put_image_made<D: Alter>(
     tx: &mut Transaction<'_, D>,
     image: &Image,
     new: &RegisterRows,
     row: &ImageRow,
-    files: &[FileRow],
 ) -> Result<(), StoreFault>
     requires made { IsMadeOfImage image.now row.now }
-    requires files { AreMadeOfTexts new.now.files files.now }
     requires mode { IfClean IsInside (state D.Store tx.old.conn.now) }
     ensures put { PutsRows (IsNewImage image.now new.now) (λ rows. with_image_rows rows image.now new.now)
         (state D.Store tx.old.conn.now) (state D.Store tx.new.conn.now) result }
@@ -213,7 +208,7 @@ fn put_image_made<D: Alter>(
     if let Err(fault) = put_image_rows(tx, image, row) {
         return Err(fault);
     }
-    put_register_made(tx, new, files)
+    put_register(tx, new)
 }
 
 /// Puts in the row that was made of an image, and that of its second hash where it has one.

@@ -1,5 +1,5 @@
 //! Root versions and the files that are served.
-ghost use Rattle.std.specs.Prelude.{◌≡◌, ◌==◌, ◌↔◌, ◌⊎◌, ◌≤◌, ◌^◌, ⊤, not, All, List, Option, Some, None, Ok, Err, OnErr, OnOk, IfOk, IfErr, is_some, map, MatchOption};
+ghost use Rattle.std.specs.Prelude.{◌≡◌, ◌==◌, ◌↔◌, ◌⊎◌, ◌≤◌, ◌^◌, ⊤, not, All, List, Option, Some, None, Ok, Err, OnErr, OnOk, IfOk, IfErr, is_some, map, option_map, MatchOption};
 ghost use Rattle.sqlite.specs.Held.{state};
 ghost use Rattle.sqlite.specs.State.{HasCleanDisk, Survives};
 ghost use Rattle.up_rows.specs.Changes.{with_root_rows, with_register_rows};
@@ -16,18 +16,19 @@ ghost use Rattle.up_tables.specs.Texts.{insert_role_key_text};
 ghost use Rattle.up_tables.specs.declared.values.StoreFault.TheVariants as StoreFault;
 ghost use Rattle.up_store.specs.Shown.{file_read, meta_told, IsFoundingOf};
 ghost use Rattle.up_store.specs.Typed.{IsTypedFounding};
-ghost use Rattle.up_store.specs.Puts.{AreMadeOfRoot, AreMadeOfTexts, HasFilesOnce, with_founding, with_key_lines, with_files};
+ghost use Rattle.up_store.specs.Puts.{AreMadeOfRoot, HasFilesOnce, with_founding, with_key_lines, with_files};
 ghost use Rattle.up_store.specs.Fitting.{IsNextRoot, IsSameRoot};
 ghost use Rattle.up_tables.specs.Stands.{IfClean, IsAsCommitted, IsInside, IsOpen, IsWithin, ListsAll};
 ghost use Rattle.up_tables.specs.Statements.{IsStep, IsOpenStep, FindsAll, FindsFiles};
 ghost use Rattle.up_tables.specs.Tried.{BlamesOne, Ran, Undoes};
 ghost use Rattle.up_store.specs.Writes.{FitsFounding, each_with, founding_writes, file_writes, register_writes, root_writes};
+ghost use Rattle.up_store.specs.Within.{FindsWithin};
 ghost use Rattle.up_store.specs.Connections.{ReadsStore, WritesStore};
 ghost use Rattle.up_store.specs.Connections.{NeedsOpen, Answers, FindsRows, Blames, BlamesWithin, PutsRows, PutsTables, TakesRows};
 ghost use Rattle.up_store.specs.Connections.{BlamesWrite, CommitsRows, RanWrite, SparesRows, UndoesOrStays};
 
 use crate::column_values::{check_version, moment_in};
-use crate::files::{make_role_files, make_root_files};
+use crate::files::{FileReading, ServedFile, role_files, root_files, root_name};
 use crate::keys::{keeps_thresholds, make_keys, read_keys, repository_word};
 use crate::store::{MOST_NUMBER, Store, StoreFault, commit};
 use sqlite::{Alter, Transaction};
@@ -38,7 +39,7 @@ use up_machine::decision::{RegisterRows, RootRows};
 use up_machine::rows::Founding;
 use up_roles::repository::Repository;
 use up_tables::meta::{MetaRow, meta, update_meta};
-use up_tables::repo_file::{FileRow, file as file_shown, upsert_files};
+use up_tables::repo_file::{FileRow, file, upsert_files};
 use up_tables::role_key::{RoleKeyRow, insert_role_keys, role_keys_of};
 
 impl<D: Alter> Store<D> {
@@ -70,9 +71,8 @@ impl<D: Alter> Store<D> {
         ensures { ReadsStore (λ rows. text_held rows repository name.now) (FindsFiles (ReadsFile (word_of repository) name.now))
             (state D.Store self.old) (state D.Store self.new) result }
     {
-        let _ = alloc;
         let mut tx = self.conn.transaction();
-        find_file(&mut tx, repository, name)
+        find_file(&mut tx, alloc, repository, name)
     }
 
     /// Writes the first root version, with the files of the image repository.
@@ -104,12 +104,12 @@ impl<D: Alter> Store<D> {
     }
 
     /// Writes new files of the image repository.
-    pub fn write_refresh(&mut self, alloc: Global, new: &RegisterRows) -> Result<(), StoreFault>
+    pub fn write_refresh(&mut self, _: Global, new: &RegisterRows) -> Result<(), StoreFault>
         ensures { WritesStore (IsSameRoot new.now) (λ rows. with_register_rows rows new.now) (register_writes new.now) (λ _. FitsFounding new.now.founding)
             (state D.Store self.old) (state D.Store self.new) result }
     {
         let mut tx = self.conn.transaction();
-        if let Err(fault) = put_register(&mut tx, alloc, new) {
+        if let Err(fault) = put_register(&mut tx, new) {
             return Err(fault);
         }
         commit(tx)
@@ -209,20 +209,27 @@ fn read_founding(
 /// The text of a file.
 fn find_file<D: Alter>(
     tx: &mut Transaction<'_, D>,
+    alloc: Global,
     repository: Repository,
     name: &FileName,
 ) -> Result<Option<Text>, StoreFault>
     requires mode { IfClean IsInside (state D.Store tx.old.conn.now) }
-    ensures found { FindsRows (λ rows. text_held rows repository name.now) (state D.Store tx.old.conn.now) (state D.Store tx.new.conn.now) result }
-    ensures shown { FindsFiles (ReadsFile (word_of repository) name.now) (state D.Store tx.old.conn.now) (state D.Store tx.new.conn.now) result }
-    ensures blame { BlamesWithin (λ _. ⊤) (state D.Store tx.old.conn.now) (state D.Store tx.new.conn.now) result }
-    ensures open { NeedsOpen (state D.Store tx.old.conn.now) (state D.Store tx.new.conn.now) result }
-    ensures step { IsStep D.Store tx.old.conn tx.new.conn }
+    ensures { FindsWithin D.Store (λ rows found. found ≡ text_held rows repository name.now) (FindsFiles (ReadsFile (word_of repository) name.now)) (λ _. ⊤)
+        tx.old.conn tx.new.conn result }
 {
-    match file_shown(tx, repository_word(repository), name.text()) {
-        Ok(Some(shown)) => Ok(Some(Text::new(shown.body))),
-        Ok(None) => Ok(None),
+    match file::<D, FileReading>(tx, alloc, repository_word(repository), name.text()) {
+        Ok(found) => Ok(body_of(found)),
         Err(fault) => Err(fault),
+    }
+}
+
+/// The text alone.
+fn body_of(found: Option<ServedFile>) -> Option<Text>
+    ensures { result ≡ option_map (λ f. f.body) found }
+{
+    match found {
+        Some(row) => Some(row.body),
+        None => None,
     }
 }
 
@@ -243,15 +250,8 @@ fn put_root<D: Alter>(
 {
     check_version(new.founding.root)?;
     let keys = make_keys(alloc, new.founding.root, &new.founding.keys)?;
-    let root_files = make_root_files(alloc, new)?;
-    let role_files = make_role_files(alloc, &new.files)?;
-    put_root_made(
-        tx,
-        new,
-        keys.as_slice(),
-        root_files.as_slice(),
-        role_files.as_slice(),
-    )
+    let name = root_name(alloc, new.founding.root)?;
+    put_root_made(tx, new, keys.as_slice(), name.as_str())
 }
 
 /// Puts in the founding and the rows that were made of a root version, which takes no memory but the database's own.
@@ -259,10 +259,9 @@ fn put_root_made<D: Alter>(
     tx: &mut Transaction<'_, D>,
     new: &RootRows,
     keys: &[RoleKeyRow],
-    root_files: &[FileRow],
-    role_files: &[FileRow],
+    name: &str,
 ) -> Result<(), StoreFault>
-    requires made { AreMadeOfRoot new.now keys.now root_files.now role_files.now }
+    requires made { AreMadeOfRoot new.now keys.now name.now }
     requires mode { IfClean IsInside (state D.Store tx.old.conn.now) }
     ensures put { PutsRows (IsNextRoot new.now) (λ rows. with_root_rows rows new.now)
         (state D.Store tx.old.conn.now) (state D.Store tx.new.conn.now) result }
@@ -274,37 +273,16 @@ fn put_root_made<D: Alter>(
 {
     put_founding(tx, &new.founding)?;
     put_keys(tx, keys)?;
-    put_files(tx, root_files)?;
-    put_files(tx, role_files)
+    put_files(tx, &root_files(new, name))?;
+    put_files(tx, &role_files(&new.files))
 }
 
-/// Puts in what changes with the register of images: the founding's numbers, and the image repository's files. All rows are made before the first is
-/// written.
-fn put_register<D: Alter>(
-    tx: &mut Transaction<'_, D>,
-    alloc: Global,
-    new: &RegisterRows,
-) -> Result<(), StoreFault>
-    requires mode { IfClean IsInside (state D.Store tx.old.conn.now) }
-    ensures put { PutsRows (IsSameRoot new.now) (λ rows. with_register_rows rows new.now)
-        (state D.Store tx.old.conn.now) (state D.Store tx.new.conn.now) result }
-    ensures ran { Ran (register_writes new.now) (state D.Store tx.old.conn.now) (state D.Store tx.new.conn.now) result }
-    ensures blame { BlamesOne (register_writes new.now) (λ _. FitsFounding new.now.founding)
-        (state D.Store tx.old.conn.now) (state D.Store tx.new.conn.now) result }
-    ensures memory { UndoesOrStays D.Store tx.old.conn tx.new.conn result }
-    ensures step { IsOpenStep D.Store tx.old.conn tx.new.conn result }
-{
-    let files = make_role_files(alloc, &new.files)?;
-    put_register_made(tx, new, files.as_slice())
-}
-
-/// Puts in the founding's numbers and the rows that were made of the image repository's files, which takes no memory but the database's own.
-pub(crate) fn put_register_made<D: Alter>(
+/// Puts in what changes with the register of images: the founding's numbers, and the image repository's files. It takes no memory but the database's
+/// own.
+pub(crate) fn put_register<D: Alter>(
     tx: &mut Transaction<'_, D>,
     new: &RegisterRows,
-    files: &[FileRow],
 ) -> Result<(), StoreFault>
-    requires made { AreMadeOfTexts new.now.files files.now }
     requires mode { IfClean IsInside (state D.Store tx.old.conn.now) }
     ensures put { PutsRows (IsSameRoot new.now) (λ rows. with_register_rows rows new.now)
         (state D.Store tx.old.conn.now) (state D.Store tx.new.conn.now) result }
@@ -315,7 +293,7 @@ pub(crate) fn put_register_made<D: Alter>(
     ensures step { IsOpenStep D.Store tx.old.conn tx.new.conn result }
 {
     put_founding(tx, &new.founding)?;
-    put_files(tx, files)
+    put_files(tx, &role_files(&new.files))
 }
 
 /// Sets the numbers of the founding; `Store` where one is 2^63 or more.
@@ -374,7 +352,10 @@ fn put_keys<D: Alter>(tx: &mut Transaction<'_, D>, keys: &[RoleKeyRow]) -> Resul
 }
 
 /// Sets the texts of files.
-fn put_files<D: Alter>(tx: &mut Transaction<'_, D>, files: &[FileRow]) -> Result<(), StoreFault>
+fn put_files<D: Alter>(
+    tx: &mut Transaction<'_, D>,
+    files: &[FileRow<'_>],
+) -> Result<(), StoreFault>
     requires mode { IfClean IsInside (state D.Store tx.old.conn.now) }
     requires open { IfClean IsOpen (state D.Store tx.old.conn.now) }
     ensures put { PutsTables HasFilesOnce (with_files (map file_read files.now))

@@ -61,7 +61,7 @@ pub record FitKept (k : KeptRow) : Type 0 where
 
 -- a file that is served
 abbrev pub file_row : FileRow → Row
-file_row f = Text (string_bytes f.repository) ∷ Text (string_bytes f.name) ∷ Text (string_bytes f.body) ∷ []
+file_row f = Text f.repository.now ∷ Text f.name.now ∷ Text f.body.now ∷ []
 
 abbrev pub file_places : List ℕ
 file_places = 0 ∷ 1 ∷ 2 ∷ []
@@ -69,7 +69,7 @@ file_places = 0 ∷ 1 ∷ 2 ∷ []
 -- each of the files, in turn, has its text alone
 abbrev pub set_files : List FileRow → (List ℕ → List ℕ → List Row) → List ℕ → List ℕ → List Row
 set_files [] rows_of = rows_of
-set_files (f ∷ fs) rows_of = set_files fs (with_only_at (string_bytes f.repository) (string_bytes f.name) (file_row f) rows_of)
+set_files (f ∷ fs) rows_of = set_files fs (with_only_at f.repository.now f.name.now (file_row f) rows_of)
 
 -- the row of `meta` with these numbers, and what a read of it is of
 abbrev pub meta_of : MetaRow → Row

@@ -13,6 +13,10 @@ use Rattle.up_tables.specs.Rows.{columns_at, has_text}
 abbrev pub IsWords : Value → Type 0
 IsWords v = (s : List ℕ) × (v ≡ Text s) × IsUtf8 s
 
+-- it is this text
+abbrev pub IsText : Value → List ℕ → Type 0
+IsText v s = (v ≡ Text s) × IsUtf8 s
+
 abbrev pub IsWordsOrNull : Value → Type 0
 IsWordsOrNull v = (v ≡ Null) ⊎ IsWords v
 
@@ -36,9 +40,6 @@ ShowsMeta r = IsNumber (column r 0) × IsNumber (column r 1) × IsNumber (column
 abbrev pub ShowsRoleKey : Row → Type 0
 ShowsRoleKey r =
     IsNumber (column r 0) × IsWords (column r 1) × IsWords (column r 2) × IsNumber (column r 3) × IsBytes (column r 4) × IsNumber (column r 5)
-
-abbrev pub ShowsFile : Row → Type 0
-ShowsFile r = IsWords (column r 0) × IsWords (column r 1) × IsWords (column r 2)
 
 abbrev pub ShowsImage : Row → Type 0
 ShowsImage r =

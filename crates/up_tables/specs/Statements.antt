@@ -67,8 +67,8 @@ SetsMeta meta old new result =
 abbrev pub SetsFile : {A E : Type 0} → FileRow → State → State → Result A E → Type 0
 SetsFile file old new result =
     HasCleanDisk new → OnOk result ((rows_of : List ℕ → List ℕ → List Row) → HasTables old
-    → ListsPairs rows_of (old.now.trees repo_file_table.tree) → length (rows_of (string_bytes file.repository) (string_bytes file.name)) ≤ 1
-    → Alters repo_file_table (ListsPairs (with_only_at (string_bytes file.repository) (string_bytes file.name) (file_row file) rows_of)) old new)
+    → ListsPairs rows_of (old.now.trees repo_file_table.tree) → length (rows_of file.repository.now file.name.now) ≤ 1
+    → Alters repo_file_table (ListsPairs (with_only_at file.repository.now file.name.now (file_row file) rows_of)) old new)
 
 -- where each file stood there once at most, these have their texts
 abbrev pub SetsFiles : {A E : Type 0} → List FileRow → State → State → Result A E → Type 0

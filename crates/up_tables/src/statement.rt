@@ -67,15 +67,16 @@ pub(crate) fn find_value<S: Alter, R: RowReading>(
     one_value::<R>(alloc, tx.query_all(sql, values))
 }
 
-/// Asks for the values of all rows.
+/// Asks for the values of rows.
 pub(crate) fn list_values<S: Alter, R: RowReading>(
     tx: &mut Transaction<'_, S>,
     alloc: Global,
     sql: &str,
+    values: &[ValueRef<'_>],
 ) -> Result<Vec<R::Item>, StoreFault>
     requires mode { IfClean IsInside (state S.Store tx.old.conn.now) }
-    ensures { IsAsked S.Store sql.now [] (λ rows found. EachSays (Tells R.says R.fits R.line) rows found.items)
+    ensures { IsAsked S.Store sql.now (bound values.now) (λ rows found. EachSays (Tells R.says R.fits R.line) rows found.items)
         (AllByRecursion (IsLine R.fits R.line)) tx.old.conn tx.new.conn result }
 {
-    each_value::<R>(alloc, tx.query_all(sql, &[]))
+    each_value::<R>(alloc, tx.query_all(sql, values))
 }

@@ -10,13 +10,13 @@ use Rattle.up_store.proofs.images.put_image_made.Goals as goal
 
 pub returns-clause-put : goal.returns-clause-put
 returns-clause-put g c clean =
-    let cleanly = clean_step c.put_register_made.ensures.step.steps clean in
-    puts_both c.put_register_made.result c.args.image.now c.args.new.now (state g.D.Store c.args.tx.now.conn.now) (state g.D.Store c.put_image_rows.new.tx.conn.now) (state g.D.Store c.put_register_made.new.tx.conn.now) (c.in_default.ensures.put cleanly) (c.put_register_made.ensures.put clean)
+    let cleanly = clean_step c.put_register.ensures.step.steps clean in
+    puts_both c.put_register.result c.args.image.now c.args.new.now (state g.D.Store c.args.tx.now.conn.now) (state g.D.Store c.put_image_rows.new.tx.conn.now) (state g.D.Store c.put_register.new.tx.conn.now) (c.in_default.ensures.put cleanly) (c.put_register.ensures.put clean)
 
 pub returns-clause-blame : goal.returns-clause-blame
 returns-clause-blame g c =
-    blames_then (image_row_writes c.args.image.now) (register_writes c.args.new.now) (state g.D.Store c.args.tx.now.conn.now) (state g.D.Store c.put_image_rows.new.tx.conn.now) (state g.D.Store c.put_register_made.new.tx.conn.now)
-    c.put_image_rows.ensures.step.steps.survives c.put_register_made.ensures.step.steps.survives (λ _. FitsFounding c.args.new.now.founding) (λ _. FitsFounding c.args.new.now.founding) c.put_register_made.result c.in_default.ensures.ran c.in_default.ensures.step.is_open (λ clean is_open has fits. fits) c.put_register_made.ensures.blame
+    blames_then (image_row_writes c.args.image.now) (register_writes c.args.new.now) (state g.D.Store c.args.tx.now.conn.now) (state g.D.Store c.put_image_rows.new.tx.conn.now) (state g.D.Store c.put_register.new.tx.conn.now)
+    c.put_image_rows.ensures.step.steps.survives c.put_register.ensures.step.steps.survives (λ _. FitsFounding c.args.new.now.founding) (λ _. FitsFounding c.args.new.now.founding) c.put_register.result c.in_default.ensures.ran c.in_default.ensures.step.is_open (λ clean is_open has fits. fits) c.put_register.ensures.blame
 
 pub returns-in-Err-clause-blame : goal.returns-in-Err-clause-blame
 returns-in-Err-clause-blame g c =
@@ -28,5 +28,5 @@ returns-in-Err-clause-blame g c =
 
 pub returns-clause-ran : goal.returns-clause-ran
 returns-clause-ran g c =
-    ran_then (image_row_writes c.args.image.now) (register_writes c.args.new.now) (state g.D.Store c.args.tx.now.conn.now) (state g.D.Store c.put_image_rows.new.tx.conn.now) (state g.D.Store c.put_register_made.new.tx.conn.now)
-    c.put_image_rows.ensures.step.steps.survives c.put_register_made.ensures.step.steps.survives c.put_register_made.result c.in_default.ensures.ran c.put_register_made.ensures.ran
+    ran_then (image_row_writes c.args.image.now) (register_writes c.args.new.now) (state g.D.Store c.args.tx.now.conn.now) (state g.D.Store c.put_image_rows.new.tx.conn.now) (state g.D.Store c.put_register.new.tx.conn.now)
+    c.put_image_rows.ensures.step.steps.survives c.put_register.ensures.step.steps.survives c.put_register.result c.in_default.ensures.ran c.put_register.ensures.ran

@@ -8,12 +8,12 @@ use Rattle.sqlite.specs.Held.{state}
 use Rattle.up_store.proofs.PutBlames.{told_on}
 use Rattle.up_store.proofs.Written.{clean_step, surely, was_open_before}
 use Rattle.up_store.proofs.RootPuts.{puts_register}
-use Rattle.up_store.proofs.roots.put_register_made.Goals as goal
+use Rattle.up_store.proofs.roots.put_register.Goals as goal
 
 pub returns-clause-put : goal.returns-clause-put
 returns-clause-put g c clean =
     let cleanly = clean_step c.put_files.ensures.step.steps clean in
-    puts_register c.put_files.result c.args.new.now (state g.D.Store c.args.tx.now.conn.now) (state g.D.Store c.put_founding.new.tx.conn.now) (state g.D.Store c.put_files.new.tx.conn.now) (c.in_ok-put_founding.ensures.put cleanly) (rw c.requires.made.are at c.put_files.ensures.put clean) c.in_ok-put_founding.ensures.typed (surely c.put_files.result c.requires.made.typed)
+    puts_register c.put_files.result c.args.new.now (state g.D.Store c.args.tx.now.conn.now) (state g.D.Store c.put_founding.new.tx.conn.now) (state g.D.Store c.put_files.new.tx.conn.now) (c.in_ok-put_founding.ensures.put cleanly) (rw c.role_files.ensures.same at c.put_files.ensures.put clean) c.in_ok-put_founding.ensures.typed (surely c.put_files.result c.role_files.ensures.typed)
     (was_open_before c.put_files.result (state g.D.Store c.args.tx.now.conn.now) ((c.put_founding.ensures.step.steps.kept cleanly).was_open (c.in_ok-put_founding.ensures.step.is_open cleanly)))
 
 pub returns-clause-blame : goal.returns-clause-blame
@@ -22,7 +22,7 @@ returns-clause-blame g c =
     let s0 = state g.D.Store c.args.tx.now.conn.now in
     let s1 = state g.D.Store c.put_founding.new.tx.conn.now in
     let on : WentOn (founding_writes new.founding) s0 s1 = record { steps = c.put_founding.ensures.step.steps; went = c.in_ok-put_founding.ensures.ran; opened = c.in_ok-put_founding.ensures.step.is_open } in
-    blames_on (founding_writes new.founding) (file_writes (role_file_lines new.files)) (λ _. FitsFounding new.founding) (λ _. ⊤) s0 s1 (state g.D.Store c.put_files.new.tx.conn.now) c.put_files.result on c.put_files.ensures.step.steps (λ clean is_open has fits. tt) (rw c.requires.made.are at c.put_files.ensures.blame)
+    blames_on (founding_writes new.founding) (file_writes (role_file_lines new.files)) (λ _. FitsFounding new.founding) (λ _. ⊤) s0 s1 (state g.D.Store c.put_files.new.tx.conn.now) c.put_files.result on c.put_files.ensures.step.steps (λ clean is_open has fits. tt) (rw c.role_files.ensures.same at c.put_files.ensures.blame)
 
 pub returns-in_err-put_founding-clause-blame : goal.returns-in_err-put_founding-clause-blame
 returns-in_err-put_founding-clause-blame g c =
@@ -38,4 +38,4 @@ returns-clause-ran g c =
     let s0 = state g.D.Store c.args.tx.now.conn.now in
     let s1 = state g.D.Store c.put_founding.new.tx.conn.now in
     let on : WentOn (founding_writes new.founding) s0 s1 = record { steps = c.put_founding.ensures.step.steps; went = c.in_ok-put_founding.ensures.ran; opened = c.in_ok-put_founding.ensures.step.is_open } in
-    ran_on (founding_writes new.founding) (file_writes (role_file_lines new.files)) s0 s1 (state g.D.Store c.put_files.new.tx.conn.now) c.put_files.result on c.put_files.ensures.step.steps (rw c.requires.made.are at c.put_files.ensures.ran)
+    ran_on (founding_writes new.founding) (file_writes (role_file_lines new.files)) s0 s1 (state g.D.Store c.put_files.new.tx.conn.now) c.put_files.result on c.put_files.ensures.step.steps (rw c.role_files.ensures.same at c.put_files.ensures.ran)
