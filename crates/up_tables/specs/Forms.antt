@@ -1,11 +1,11 @@
 -- Rows as values, column by column, and which of their numbers fit a column.
-use Rattle.std.specs.Prelude.{◌<◌, ◌^◌, ℕ, pos, List, [], ◌∷◌, string_bytes}
+use Rattle.std.specs.Prelude.{◌<◌, ◌^◌, ℕ, pos, List, [], ◌∷◌, filter, map, string_bytes}
 use Rattle.sqlite.specs.declared.types.Value.TheVariants.{Int, Text, Blob}
 use Rattle.sqlite.specs.Order.{Row}
 use Rattle.up_tables.specs.declared.image.ImageRow.{ImageRow}
 use Rattle.up_tables.specs.declared.kept.KeptRow.{KeptRow}
 use Rattle.up_tables.specs.declared.repo_file.FileRow.{FileRow}
-use Rattle.up_tables.specs.Rows.{with_only_at}
+use Rattle.up_tables.specs.Rows.{columns_at, has_number, with_only_at}
 use Rattle.up_tables.specs.declared.vehicle.VehicleRow.{VehicleRow}
 use Rattle.up_tables.specs.Lines.{meta_row, campaign_line, vehicle_line, yes_or_no}
 use Rattle.up_tables.specs.declared.meta.MetaRow.{MetaRow}
@@ -89,11 +89,14 @@ pub record FitMeta (m : MetaRow) : Type 0 where
 -- a key of a role in a root version, at its place there, with the role's threshold
 abbrev pub role_key_row : RoleKeyRow → Row
 role_key_row k =
-    Int (pos k.root) ∷ Text (string_bytes k.repository) ∷ Text (string_bytes k.role) ∷ Int (pos k.place) ∷ Blob k.secret.items
-    ∷ Int (pos k.threshold) ∷ []
+    Int (pos k.root) ∷ Text k.repository.now ∷ Text k.role.now ∷ Int (pos k.place) ∷ Blob k.secret.now ∷ Int (pos k.threshold) ∷ []
 
 abbrev pub role_key_places : List ℕ
 role_key_places = 0 ∷ 1 ∷ 2 ∷ 3 ∷ 4 ∷ 5 ∷ []
+
+-- the rows of this root version
+abbrev pub keys_shown : ℕ → List Row → List Row
+keys_shown root all = map (columns_at role_key_places) (filter (has_number 0 (pos root)) all)
 
 pub record FitRoleKey (k : RoleKeyRow) : Type 0 where
   pub root : k.root < 2 ^ 63
