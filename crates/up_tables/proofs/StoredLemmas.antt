@@ -49,6 +49,7 @@ use Rattle.up_tables.proofs.ReadLemmas.{Asks, answers_all, answers_some, bare_fi
 use Rattle.up_tables.proofs.StateLemmas.{each_in, ok_then, one_in, query_told}
 use Rattle.up_tables.proofs.StepLemmas.{shown_open}
 use Rattle.up_tables.proofs.RefusalLemmas.{Writes, blames_refusal}
+use Rattle.up_tables.proofs.SaysLemmas.{says_few}
 use Rattle.up_tables.proofs.TriedLemmas.{ran_only}
 use Rattle.up_tables.proofs.TypedLemmas.{HasTextAt}
 use Rattle.up_tables.proofs.UndoneLemmas.{undoes_only}
@@ -134,12 +135,6 @@ found g text values table at part columns tests width names passes value_of kind
     }
 
 -- ---- one value
-
-says_few : {T : Type 0} (says : Row → T → Type 0) (rows : List Row) (o : Option T) → EachSays says rows (option_to_list o) → length rows ≤ 1
-says_few says [] o said = omega arith
-says_few says (row ∷ []) o said = omega arith
-says_few says (row ∷ more ∷ rows) None said = absurd said
-says_few says (row ∷ more ∷ rows) (Some x) said = absurd said.1
 
 few_lines : {T : Type 0} (line : T → Row) (o : Option T) → length (map line (option_to_list o)) ≤ 1
 few_lines line None = omega arith

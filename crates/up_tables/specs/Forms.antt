@@ -35,7 +35,7 @@ abbrev pub campaign_places : List ℕ
 campaign_places = 0 ∷ 1 ∷ 2 ∷ 3 ∷ []
 
 abbrev pub vehicle_row : VehicleRow → Row
-vehicle_row v = vehicle_line (string_bytes v.vehicle) (string_bytes v.primary_ecu) v.version v.last_counter
+vehicle_row v = vehicle_line v.vehicle.now v.primary_ecu.now v.version v.last_counter
 
 abbrev pub vehicle_places : List ℕ
 vehicle_places = 0 ∷ 1 ∷ 2 ∷ 3 ∷ []

@@ -42,9 +42,6 @@ ShowsImage r =
 abbrev pub ShowsCampaign : Row → Type 0
 ShowsCampaign r = IsWords (column r 0) × IsWords (column r 1) × IsWords (column r 2) × IsFlag (column r 3)
 
-abbrev pub ShowsVehicle : Row → Type 0
-ShowsVehicle r = IsWords (column r 0) × IsWords (column r 1) × IsNumber (column r 2) × IsNumber (column r 3)
-
 -- what is installed on an ECU: three columns, or none
 abbrev pub ShowsInstalled : Row → Type 0
 ShowsInstalled r =

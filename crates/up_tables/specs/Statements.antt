@@ -89,8 +89,8 @@ abbrev pub SetsVehicle : {A E : Type 0} → VehicleRow → State → State → R
 SetsVehicle vehicle old new result =
     HasCleanDisk new → OnOk result ((rows_of : List ℕ → List Row) (primary : List ℕ) (version : ℕ) (last : ℕ) → HasTables old
     → Lists 1 rows_of (old.now.trees vehicle_table.tree)
-    → rows_of (string_bytes vehicle.vehicle) ≡ vehicle_line (string_bytes vehicle.vehicle) primary version last ∷ []
-    → Alters vehicle_table (Lists 1 (with_only (string_bytes vehicle.vehicle) (vehicle_row vehicle) rows_of)) old new)
+    → rows_of vehicle.vehicle.now ≡ vehicle_line vehicle.vehicle.now primary version last ∷ []
+    → Alters vehicle_table (Lists 1 (with_only vehicle.vehicle.now (vehicle_row vehicle) rows_of)) old new)
 
 -- the ECU that was recorded has this row
 abbrev pub SetsEcu : {A E : Type 0} → EcuLine → State → State → Result A E → Type 0
@@ -164,7 +164,7 @@ HoldsOfFiles P s = (rows_of : List ℕ → List ℕ → List Row) × ListsPairs 
 abbrev pub HasVehicle : VehicleRow → State → Type 0
 HasVehicle vehicle =
     HoldsBy vehicle_table 1 (λ rows_of. (version : ℕ) × (last : ℕ)
-    × (rows_of (string_bytes vehicle.vehicle) ≡ vehicle_line (string_bytes vehicle.vehicle) (string_bytes vehicle.primary_ecu) version last ∷ []))
+    × (rows_of vehicle.vehicle.now ≡ vehicle_line vehicle.vehicle.now vehicle.primary_ecu.now version last ∷ []))
 
 -- ---- tables that are made, and raised to the latest version of the schema
 

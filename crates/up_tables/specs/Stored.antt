@@ -1,5 +1,5 @@
 -- What a statement on one table leaves and tells, all of it in one relation each.
-use Rattle.std.specs.Prelude.{◌≡◌, ◌⊎◌, ⊤, ℕ, List, [], ◌∷◌, Option, Result, Err, IfOk, IfErr, OnOk, IsTrue, map, filter, bytes_eq}
+use Rattle.std.specs.Prelude.{◌≡◌, ◌⊎◌, ℕ, List, [], ◌∷◌, Option, Result, Err, IfOk, IfErr, OnOk, IsTrue, map, filter, bytes_eq}
 use Rattle.std.specs.List.{AllByRecursion}
 use Rattle.std.specs.Option.{option_to_list}
 use Rattle.std.specs.Borrow.{MutBor}
@@ -82,11 +82,11 @@ pub record IsWritten {S A : Type 0} (g : Ghosts S) (text : List ℕ) (row : Row)
   pub memory : Undoes (state g new.now) result
   pub step : IsOpenStep g old new result
 
--- these statements are carried out, one after another: the same of all of them
-pub record AreWritten {S A : Type 0} (g : Ghosts S) (these : List (List ℕ × Row)) (alters : State → State → Result A StoreFault → Type 0)
+-- these statements are carried out, one after another: the same of all of them, over rows of which this holds
+pub record AreWritten {S A : Type 0} (g : Ghosts S) (these : List (List ℕ × Row)) (may : State → Type 0) (alters : State → State → Result A StoreFault → Type 0)
     (old new : MutBor (Held S)) (result : Result A StoreFault) : Type 0 where
   pub altered : alters (state g old.now) (state g new.now) result
-  pub blame : BlamesOne these (λ _. ⊤) (state g old.now) (state g new.now) result
+  pub blame : BlamesOne these may (state g old.now) (state g new.now) result
   pub ran : Ran these (state g old.now) (state g new.now) result
   pub memory : Undoes (state g new.now) result
   pub step : IsOpenStep g old new result

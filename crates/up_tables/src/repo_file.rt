@@ -1,6 +1,6 @@
 //! The rows of files that are served.
 
-ghost use Rattle.std.specs.Prelude.{◌∷◌, [], map};
+ghost use Rattle.std.specs.Prelude.{◌∷◌, [], ⊤, map};
 ghost use Rattle.sqlite.specs.declared.types.Value.TheVariants.{Text};
 ghost use Rattle.sqlite.specs.Held.{state};
 ghost use Rattle.up_tables.specs.Rows.{columns_at};
@@ -46,7 +46,7 @@ pub fn upsert_files<S: Alter>(
 ) -> Result<(), StoreFault>
     requires mode { IfClean IsInside (state S.Store tx.old.conn.now) }
     requires open { IfClean IsOpen (state S.Store tx.old.conn.now) }
-    ensures { AreWritten S.Store (map (λ f. (upsert_file_text, file_row f)) files.now) (SetsFiles files.now) tx.old.conn tx.new.conn result }
+    ensures { AreWritten S.Store (map (λ f. (upsert_file_text, file_row f)) files.now) (λ _. ⊤) (SetsFiles files.now) tx.old.conn tx.new.conn result }
 {
     for file in files {
         upsert_file(tx, file)?;
