@@ -15,8 +15,8 @@ use Rattle.up_tables.specs.declared.campaign.CampaignRow.{CampaignRow}
 -- an image: what it is, the hardware that it is for, and its needs and conflicts as texts
 abbrev pub image_row : ImageRow → Row
 image_row i =
-    Text (string_bytes i.file) ∷ Int (pos i.length) ∷ Blob i.sha256.items ∷ Text (string_bytes i.hardware) ∷ Int (pos i.release_count)
-    ∷ Text (string_bytes i.needs) ∷ Text (string_bytes i.conflicts) ∷ []
+    Text i.file.now ∷ Int (pos i.length) ∷ Blob i.sha256.now ∷ Text i.hardware.now ∷ Int (pos i.release_count)
+    ∷ Text i.needs.now ∷ Text i.conflicts.now ∷ []
 
 abbrev pub image_places : List ℕ
 image_places = 0 ∷ 1 ∷ 2 ∷ 3 ∷ 4 ∷ 5 ∷ 6 ∷ []
@@ -29,10 +29,14 @@ abbrev pub sha512_places : List ℕ
 sha512_places = 0 ∷ 1 ∷ []
 
 abbrev pub campaign_row : CampaignRow → Row
-campaign_row c = campaign_line (string_bytes c.name) (string_bytes c.reach) (string_bytes c.items) (yes_or_no c.running)
+campaign_row c = campaign_line c.name.now c.reach.now c.items.now (yes_or_no c.running)
 
 abbrev pub campaign_places : List ℕ
 campaign_places = 0 ∷ 1 ∷ 2 ∷ 3 ∷ []
+
+-- those that run
+abbrev pub running_shown : List Row → List Row
+running_shown rows = map (columns_at campaign_places) (filter (has_number 3 (pos 1)) rows)
 
 abbrev pub vehicle_row : VehicleRow → Row
 vehicle_row v = vehicle_line v.vehicle.now v.primary_ecu.now v.version v.last_counter

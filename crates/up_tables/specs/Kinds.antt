@@ -34,14 +34,6 @@ IsBytes v = (b : List ℕ) × (v ≡ Blob b)
 abbrev pub ShowsWords : Row → Type 0
 ShowsWords r = IsWords (column r 0)
 
-abbrev pub ShowsImage : Row → Type 0
-ShowsImage r =
-    IsWords (column r 0) × IsNumber (column r 1) × IsBytes (column r 2) × IsWords (column r 3) × IsNumber (column r 4) × IsWords (column r 5)
-    × IsWords (column r 6)
-
-abbrev pub ShowsCampaign : Row → Type 0
-ShowsCampaign r = IsWords (column r 0) × IsWords (column r 1) × IsWords (column r 2) × IsFlag (column r 3)
-
 -- what is installed on an ECU: three columns, or none
 abbrev pub ShowsInstalled : Row → Type 0
 ShowsInstalled r =

@@ -1,6 +1,6 @@
 //! The rows of the keys of roles.
 
-ghost use Rattle.std.specs.Prelude.{◌<◌, ◌∷◌, [], ◌^◌, pos, map, All};
+ghost use Rattle.std.specs.Prelude.{◌<◌, ◌∷◌, [], ◌^◌, ⊤, pos, map, All};
 ghost use Rattle.std.specs.List.{AllByRecursion};
 ghost use Rattle.sqlite.specs.declared.types.Value.TheVariants.{Int};
 ghost use Rattle.sqlite.specs.Held.{state};
@@ -60,7 +60,7 @@ pub fn insert_role_keys<S: Alter>(
     requires fit { All FitRoleKey keys.now }
     requires mode { IfClean IsInside (state S.Store tx.old.conn.now) }
     requires open { IfClean IsOpen (state S.Store tx.old.conn.now) }
-    ensures { AreWritten S.Store (map (λ k. (insert_role_key_text, role_key_row k)) keys.now) (AppendsRows role_key_table (map role_key_row keys.now))
+    ensures { AreWritten S.Store (map (λ k. (insert_role_key_text, role_key_row k)) keys.now) (λ _. ⊤) (AppendsRows role_key_table (map role_key_row keys.now))
         tx.old.conn tx.new.conn result }
 {
     for key in keys {

@@ -1,4 +1,5 @@
 use Rattle.std.proofs.Common.{◌≡◌, List, refl}
+use Rattle.sqlite.specs.Held.{state}
 use Rattle.sqlite.specs.Order.{Row}
 use Rattle.up_tables.specs.Found.{HoldsOfMeta, meta_shown}
 use Rattle.up_tables.specs.Stored.{AreLines}
@@ -17,7 +18,7 @@ returns g c =
       found = λ clean. ok_then _ _ c.find_value.result (λ found told has. told _ has refl) (is.found clean);
       reads = is.reads;
       asks = is.asks;
-      blame = blames_where (HoldsOfMeta (AreLines R.fits R.line)) (λ s. (all : List Row) × (all ≡ s.now.trees meta_table.tree) × AreLines R.fits R.line (meta_shown all)) _ _ c.find_value.result
-          (λ holds. (_, refl, holds)) is.blame;
+      blame = blames_where (HoldsOfMeta (AreLines R.fits R.line)) (λ s. (all : List Row) × (all ≡ s.now.trees meta_table.tree) × AreLines R.fits R.line (meta_shown all)) (state g.S.Store c.args.tx.now.conn.now) (state g.S.Store c.find_value.new.tx.conn.now)
+          c.find_value.result (λ holds. (_, refl, holds)) is.blame;
       step = is.step;
     }
