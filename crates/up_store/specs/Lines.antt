@@ -16,6 +16,7 @@ use Rattle.up_machine.specs.Files.{numbered_root_name}
 use Rattle.up_machine.specs.declared.decision.RootRows.{RootRows}
 use Rattle.up_machine.specs.declared.rows.Founding.{Founding}
 use Rattle.up_machine.specs.declared.rows.EcuRow.{EcuRow}
+use Rattle.up_machine.specs.declared.rows.VehicleRow.{VehicleRow}
 use Rattle.up_machine.specs.declared.rows.VehicleRows.{VehicleRows}
 use Rattle.up_machine.specs.declared.rows.Kept.{Kept}
 use Rattle.up_rows.specs.declared.root_row.RootRow.{RootRow}
@@ -97,9 +98,12 @@ abbrev pub campaign_lines : Option CampaignData → List Row
 campaign_lines None = []
 campaign_lines (Some c) = campaign_line c.name (reach_column c.reach) (items_column c.items) (yes_or_no c.running) ∷ []
 
+abbrev pub row_of_vehicle : VehicleRow → Row
+row_of_vehicle row = vehicle_line row.vehicle row.primary row.version row.last
+
 abbrev pub vehicle_lines : Option VehicleRows → List Row
 vehicle_lines None = []
-vehicle_lines (Some v) = vehicle_line v.vehicle.vehicle v.vehicle.primary v.vehicle.version v.vehicle.last ∷ []
+vehicle_lines (Some v) = row_of_vehicle v.vehicle ∷ []
 
 -- ---- image_sha512: the second hash of an image, or none
 
@@ -128,6 +132,12 @@ ecu_line vehicle place row = record {
   counter = pos row.counter;
   report = or_null (λ t. Text t) row.report;
 }
+
+-- what a read shows of it: all columns but the vehicle and the place
+abbrev pub ecu_shown : EcuRow → Row
+ecu_shown row =
+    Text row.ecu ∷ Text row.hardware ∷ Blob row.public ∷ or_null (λ i. Text i.file) row.installed ∷ or_null (λ i. Int (pos i.length)) row.installed
+    ∷ or_null (λ i. Blob i.sha256) row.installed ∷ Int (pos row.counter) ∷ or_null (λ t. Text t) row.report ∷ []
 
 abbrev pub ecu_lines : Name → ℕ → List EcuRow → List EcuLine
 ecu_lines vehicle place [] = []

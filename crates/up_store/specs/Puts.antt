@@ -12,12 +12,9 @@ use Rattle.up_machine.specs.declared.rows.Founding.{Founding}
 use Rattle.up_machine.specs.declared.rows.Kept.{Kept}
 use Rattle.up_machine.specs.declared.rows.VehicleRows.{VehicleRows}
 use Rattle.up_rows.specs.StateRows.{StateRows}
-use Rattle.up_tables.specs.declared.ecu.EcuRow.{EcuRow as EcuShown}
 use Rattle.up_tables.specs.declared.image.ImageRow.{ImageRow}
 use Rattle.up_tables.specs.declared.role_key.RoleKeyRow.{RoleKeyRow}
-use Rattle.up_tables.specs.declared.vehicle.VehicleRow.{VehicleRow as VehicleShown}
-use Rattle.up_tables.specs.Ecus.{FitEcu}
-use Rattle.up_tables.specs.Forms.{FitImage, FitRoleKey, FitVehicle, role_key_row}
+use Rattle.up_tables.specs.Forms.{FitImage, FitRoleKey, role_key_row}
 use Rattle.up_tables.specs.Lines.{EcuLine, ecu_row, vehicle_line, AreSameEcus, AreDistinct, set_ecus}
 use Rattle.up_tables.specs.Listed.{TableRows, ListsTables}
 use Rattle.up_tables.specs.Rows.{changed_at, with_only}
@@ -29,19 +26,8 @@ use Rattle.up_store.specs.ColumnRows.{IsImage}
 use Rattle.up_store.specs.Fitting.{IsRecorded}
 use Rattle.up_store.specs.Lines.{repository_lines, set_lines, image_lines, sha512_lines, ecu_lines}
 use Rattle.up_store.specs.Listing.{ListsRows}
-use Rattle.up_store.specs.Shown.{as_told, ecu_read, vehicle_read}
-use Rattle.up_store.specs.Typed.{IsTypedEcu, IsTypedImage, IsTypedVehicleRow}
+use Rattle.up_store.specs.Typed.{IsTypedImage}
 use Rattle.up_store.specs.Writes.{FitsAccepted, FitsVehicle}
-
--- rows as they stand in the tables, made of a vehicle and its ECUs
-pub record AreMadeOf (new : VehicleRows) (vehicle : VehicleShown) (ecus : List EcuShown) : Type 0 where
-  pub vehicle_is : vehicle_read vehicle ≡ new.vehicle
-  pub ecus_are : map ecu_read ecus ≡ map as_told new.ecus
-  pub fit : FitVehicle vehicle
-  pub fit_each : All FitEcu ecus
-  pub few : length ecus < 2 ^ 63
-  pub typed : IsTypedVehicleRow new.vehicle
-  pub typed_each : AllByRecursion IsTypedEcu new.ecus
 
 -- the column of a kept manifest's plan, whose numbers fit their columns
 pub record IsMadeOfKept (new : Kept) (plan : List ℕ) : Type 0 where

@@ -1,17 +1,19 @@
 -- What rows are read as, whoever wrote them: each column as what it says, so that a row that says no image, campaign or kept manifest isn't read.
 use Rattle.std.specs.Prelude.{◌≡◌, ◌≢◌, ◌<◌, ◌++◌, ◌∷◌, ◌⊎◌, ℕ, pos, List, [], Option, Some, None, Result, true, false, length, get_or, map, filter}
-use Rattle.std.specs.Prelude.{bytes_eq, Ok, IfOk, IsSomeAnd, MatchOption, option_map, string_bytes}
+use Rattle.std.specs.Prelude.{◌&&◌, ◌||◌, Bool, not, bytes_eq, Ok, IfOk, IfSome, IsSomeAnd, MatchOption, option_map, string_bytes}
 use Rattle.std.specs.FinMap as table
 use Rattle.std.specs.List.{list_any}
 use Rattle.std.specs.Option.{option_to_list}
 use Rattle.sqlite.specs.Order.{Row, column}
 use Rattle.sqlite.specs.declared.types.Value.{Value}
-use Rattle.sqlite.specs.declared.types.Value.TheVariants.{Blob, Int, Text}
+use Rattle.sqlite.specs.declared.types.Value.TheVariants.{Blob, Int, Null, Text}
+use Rattle.sqlite_sql.specs.Ops.{is_null}
 use Rattle.sqlite.specs.State.{State as Connected, HasCleanDisk}
 use Rattle.sqlite.specs.Table.{Table as SqlTable}
 use Rattle.up_canon.specs.Canon.{quoted}
 use Rattle.up_canon.specs.Names.{Name, Table}
 use Rattle.up_canon.specs.declared.refusal.Refusal.{Refusal}
+use Rattle.up_manifest.specs.declared.report.Installed.{Installed}
 use Rattle.up_plan.specs.Campaigns.{CampaignData}
 use Rattle.up_plan.specs.Images.{ImageData}
 use Rattle.up_plan.specs.Planning.{reaches}
@@ -24,23 +26,21 @@ use Rattle.up_columns.specs.Columns.{names_in, needs_in, file_names_in}
 use Rattle.up_columns.specs.CampaignColumns.{reach_in, campaign_items_in}
 use Rattle.up_columns.specs.PlanColumns.{plan_in}
 use Rattle.up_tables.specs.declared.campaign.CampaignRow.{CampaignRow}
-use Rattle.up_tables.specs.declared.ecu.EcuRow.{EcuRow as EcuShown}
 use Rattle.up_tables.specs.declared.image.ImageRow.{ImageRow}
 use Rattle.up_store.specs.declared.files.ServedFile.{ServedFile}
 use Rattle.up_store.specs.declared.second_hashes.SecondHash.{SecondHash}
 use Rattle.up_tables.specs.declared.meta.MetaRow.{MetaRow}
 use Rattle.up_tables.specs.declared.role_key.RoleKeyRow.{RoleKeyRow}
-use Rattle.up_tables.specs.declared.vehicle.VehicleRow.{VehicleRow as VehicleShown}
 use Rattle.up_tables.specs.Ecus.{owns}
 use Rattle.up_tables.specs.Forms.{campaign_places, campaign_row, file_places, image_places, image_row, kept_places}
-use Rattle.up_tables.specs.Forms.{meta_values, role_key_places, role_key_row, sha512_places, vehicle_places, vehicle_row}
+use Rattle.up_tables.specs.Forms.{meta_values, role_key_places, role_key_row, sha512_places, vehicle_places}
 use Rattle.up_tables.specs.Found.{ReadsByPlace, meta_shown}
 use Rattle.up_tables.specs.Kinds.{IsText}
 use Rattle.up_tables.specs.Rows.{columns_at, has_number, has_text}
 use Rattle.up_tables.specs.Stands.{HasTables, Lists}
 use Rattle.up_tables.specs.Stored.{EachSays}
 use Rattle.up_tables.specs.Tables.{meta_table}
-use Rattle.up_store.specs.Shown.{IsFoundingOf, ecu_read, vehicle_read}
+use Rattle.up_store.specs.Shown.{IsFoundingOf, reported_sha512}
 
 -- ---- one row
 
@@ -61,13 +61,13 @@ pub record IsReadCampaign (shown : CampaignRow) (read : CampaignData) : Type 0 w
   pub items : campaign_items_in (string_bytes shown.items) ≡ Ok read.items
   pub running : read.running ≡ shown.running
 
--- the column is a text that is read as this value
+-- the column is a text in UTF-8 that is read as this value
 abbrev pub IsColumnOf : {A : Type 0} → (List ℕ → Result A Refusal) → Value → A → Type 0
-IsColumnOf read v x = (text : List ℕ) × (v ≡ Text text) × (read text ≡ Ok x)
+IsColumnOf read v x = (text : List ℕ) × IsText v text × (read text ≡ Ok x)
 
 -- the row says this kept manifest
 pub record SaysKept (row : Row) (read : Kept) : Type 0 where
-  pub vehicle : column row 0 ≡ Text read.vehicle
+  pub vehicle : IsText (column row 0) read.vehicle
   pub counter : column row 1 ≡ Int (pos read.counter)
   pub version : column row 2 ≡ Int (pos read.version)
   pub moment : column row 3 ≡ Int (pos read.at)
@@ -81,6 +81,39 @@ pub record SaysFile (row : Row) (read : ServedFile) : Type 0 where
   pub repository : IsText (column row 0) read.repository
   pub name : IsText (column row 1) read.name
   pub body : IsText (column row 2) read.body
+
+-- the row says this vehicle
+pub record SaysVehicle (row : Row) (read : VehicleRow) : Type 0 where
+  pub vehicle : IsText (column row 0) read.vehicle
+  pub primary : IsText (column row 1) read.primary
+  pub version : column row 2 ≡ Int (pos read.version)
+  pub last : column row 3 ≡ Int (pos read.last)
+
+-- the text, or null
+abbrev pub IsTextOrNull : Value → Option (List ℕ) → Type 0
+IsTextOrNull v None = v ≡ Null
+IsTextOrNull v (Some t) = IsText v t
+
+-- three columns say what is installed, or none
+abbrev pub SaysInstalled : Row → Option Installed → Type 0
+SaysInstalled row None = (column row 3 ≡ Null) × (column row 4 ≡ Null) × (column row 5 ≡ Null)
+SaysInstalled row (Some i) = IsText (column row 3) i.file × (column row 4 ≡ Int (pos i.length)) × (column row 5 ≡ Blob i.sha256)
+
+-- one of the three is null, and another isn't
+abbrev pub is_partly_null : Row → Bool
+is_partly_null row =
+    (is_null (column row 3) || is_null (column row 4) || is_null (column row 5))
+    && not (is_null (column row 3) && is_null (column row 4) && is_null (column row 5))
+
+-- what a read shows of an ECU says this one, with the second hash that its report's text has
+pub record SaysEcu (row : Row) (read : EcuRow) : Type 0 where
+  pub ecu : IsText (column row 0) read.ecu
+  pub hardware : IsText (column row 1) read.hardware
+  pub public : column row 2 ≡ Blob read.public
+  pub installed : SaysInstalled row read.installed
+  pub counter : column row 6 ≡ Int (pos read.counter)
+  pub report : IsTextOrNull (column row 7) read.report
+  pub sha512 : IfSome read.installed (λ i. i.sha512 ≡ reported_sha512 read.report)
 
 -- ---- rows of a table, one after another
 
@@ -176,26 +209,18 @@ FindsBoth first at second place told old new result =
     HasCleanDisk new → IfOk result (λ found. (rows_of more_of : List ℕ → List Row) → HasTables old → Lists at rows_of (old.now.trees first.tree)
     → Lists place more_of (old.now.trees second.tree) → told rows_of more_of found)
 
--- of this vehicle the row, or none
-abbrev pub VehicleOf : Name → (List ℕ → List Row) → Option VehicleShown → Type 0
-VehicleOf vehicle rows_of shown = map (columns_at vehicle_places) (rows_of vehicle) ≡ map vehicle_row (option_to_list shown)
-
--- the vehicle of this name is what its row is read as
+-- the vehicle of this name is what its row says
 abbrev pub ReadsVehicle : Name → (List ℕ → List Row) → Option VehicleRow → Type 0
-ReadsVehicle vehicle rows_of read = (shown : Option VehicleShown) × VehicleOf vehicle rows_of shown × (read ≡ option_map vehicle_read shown)
+ReadsVehicle vehicle rows_of read = EachSays SaysVehicle (map (columns_at vehicle_places) (rows_of vehicle)) (option_to_list read)
 
--- its greatest counter is the one in its row
-abbrev pub ReadsLast : Name → (List ℕ → List Row) → Option ℕ → Type 0
-ReadsLast vehicle rows_of read = (shown : Option VehicleShown) × VehicleOf vehicle rows_of shown × (read ≡ option_map (λ v. v.last_counter) shown)
-
--- the kept manifest of the greatest counter in the vehicle's row is what its own row is read as; none of an unknown vehicle
+-- the kept manifest of the greatest counter in the vehicle's row is what its own row says; none of an unknown vehicle
 abbrev pub ReadsLatest : Name → (List ℕ → List Row) → (List ℕ → List Row) → Option Kept → Type 0
 ReadsLatest vehicle rows_of kept_of read =
-    (last : Option ℕ) × ReadsLast vehicle rows_of last × MatchOption last (read ≡ None) (λ counter. ReadsKept vehicle counter kept_of read)
+    (row : Option VehicleRow) × ReadsVehicle vehicle rows_of row × MatchOption row (read ≡ None) (λ r. ReadsKept vehicle r.last kept_of read)
 
--- its ECUs are what their rows are read as, in the order of their places
+-- its ECUs are what their rows say, in the order of their places
 abbrev pub ReadsEcus : Name → (List ℕ → List Row) → List EcuRow → Type 0
-ReadsEcus vehicle rows_of read = (shown : List EcuShown) × ReadsByPlace (rows_of vehicle) shown × (read ≡ map ecu_read shown)
+ReadsEcus vehicle rows_of read = ReadsByPlace (rows_of vehicle) (λ rows. EachSays SaysEcu rows read)
 
 -- the ECU stands in the rows of this vehicle, and of no other; of none where there is none
 abbrev pub StandsIn : Name → (List ℕ → List Row) → Option Name → Type 0

@@ -1,7 +1,6 @@
 -- What rows of tables are read as.
 use Rattle.std.specs.Prelude.{◌≡◌, ℕ, ◌&&◌, Bool, List, Option, Some, map, filter, find, option_map, option_and_then, bytes_eq, codes, string_bytes}
 use Rattle.up_manifest.specs.Manifests.{report_sha512_of}
-use Rattle.up_manifest.specs.declared.report.Installed.{Installed}
 use Rattle.up_metadata.specs.declared.keys.RoleSecrets.{RoleSecrets}
 use Rattle.up_metadata.specs.declared.keys.RepoKeys.{RepoKeys}
 use Rattle.up_canon.specs.Names.{Name}
@@ -10,11 +9,8 @@ use Rattle.up_plan.specs.Images.{ImageData}
 use Rattle.up_plan.specs.declared.campaign.Item.{Item}
 use Rattle.up_plan.specs.declared.campaign.Reach.{Reach}
 use Rattle.up_plan.specs.declared.image.Need.{Need}
-use Rattle.up_machine.specs.declared.rows.EcuRow.{EcuRow}
 use Rattle.up_machine.specs.declared.rows.Founding.{Founding}
 use Rattle.up_machine.specs.declared.rows.VehicleRow.{VehicleRow}
-use Rattle.up_tables.specs.declared.ecu.EcuRow.{EcuRow as EcuShown}
-use Rattle.up_tables.specs.declared.ecu.Installed.{Installed as InstalledShown}
 use Rattle.up_tables.specs.declared.meta.MetaRow.{MetaRow}
 use Rattle.up_tables.specs.declared.repo_file.FileRow.{FileRow as FileShown}
 use Rattle.up_tables.specs.declared.role_key.RoleKeyRow.{RoleKeyRow}
@@ -26,37 +22,15 @@ use Rattle.up_store.specs.Lines.{founding_number}
 
 abbrev pub vehicle_read : VehicleShown → VehicleRow
 vehicle_read shown = record {
-  vehicle = string_bytes shown.vehicle;
-  primary = string_bytes shown.primary_ecu;
+  vehicle = shown.vehicle.now;
+  primary = shown.primary_ecu.now;
   version = shown.version;
   last = shown.last_counter;
 }
 
--- the second hash has no column of its own
-abbrev pub installed_read : Option (List ℕ) → InstalledShown → Installed
-installed_read sha512 shown = record { file = string_bytes shown.file; length = shown.length; sha256 = shown.sha256.items; sha512 = sha512 }
-
--- the second hash that the text of a report has
+-- the second hash that the text of a report has, which no column has of its own
 abbrev pub reported_sha512 : Option (List ℕ) → Option (List ℕ)
 reported_sha512 report = option_and_then report_sha512_of report
-
--- an image that is installed, with this second hash
-abbrev pub with_sha512 : Option (List ℕ) → Installed → Installed
-with_sha512 sha512 installed = record installed { sha512 = sha512 }
-
--- an ECU as its line tells it: what is installed has the second hash of the report's text
-abbrev pub as_told : EcuRow → EcuRow
-as_told row = record row { installed = option_map (with_sha512 (reported_sha512 row.report)) row.installed }
-
-abbrev pub ecu_read : EcuShown → EcuRow
-ecu_read shown = record {
-  ecu = string_bytes shown.ecu;
-  hardware = string_bytes shown.hardware;
-  public = shown.public_key.items;
-  installed = option_map (installed_read (reported_sha512 (option_map string_bytes shown.report))) shown.installed;
-  counter = shown.counter;
-  report = option_map string_bytes shown.report;
-}
 
 -- ---- files
 

@@ -119,6 +119,10 @@ pub record IsTypedEcu (row : EcuRow) : Type 0 where
   pub counter : row.counter ≤ max_count
   pub report : IfSome row.report IsUtf8
 
+-- the same, whose report tells the second hash of what is installed
+abbrev pub IsToldEcu : EcuRow → Type 0
+IsToldEcu row = IsTypedEcu row × TellsItsHash row
+
 pub record IsTypedVehicleRow (row : VehicleRow) : Type 0 where
   pub vehicle : is_ident row.vehicle ≡ true
   pub primary : is_ident row.primary ≡ true

@@ -17,9 +17,6 @@ IsWords v = (s : List ℕ) × (v ≡ Text s) × IsUtf8 s
 abbrev pub IsText : Value → List ℕ → Type 0
 IsText v s = (v ≡ Text s) × IsUtf8 s
 
-abbrev pub IsWordsOrNull : Value → Type 0
-IsWordsOrNull v = (v ≡ Null) ⊎ IsWords v
-
 abbrev pub IsNumber : Value → Type 0
 IsNumber v = (n : ℕ) × (v ≡ Int (pos n))
 
@@ -33,19 +30,6 @@ IsBytes v = (b : List ℕ) × (v ≡ Blob b)
 
 abbrev pub ShowsWords : Row → Type 0
 ShowsWords r = IsWords (column r 0)
-
--- what is installed on an ECU: three columns, or none
-abbrev pub ShowsInstalled : Row → Type 0
-ShowsInstalled r =
-    ((column r 3 ≡ Null) × (column r 4 ≡ Null) × (column r 5 ≡ Null)) ⊎ (IsWords (column r 3) × IsNumber (column r 4) × IsBytes (column r 5))
-
-abbrev pub ShowsEcu : Row → Type 0
-ShowsEcu r =
-    IsWords (column r 0) × IsWords (column r 1) × IsBytes (column r 2) × ShowsInstalled r × IsNumber (column r 6) × IsWordsOrNull (column r 7)
-
--- the same of a row of the table, which has the vehicle and the place, too
-abbrev pub ShowsEcuLine : Row → Type 0
-ShowsEcuLine r = ShowsEcu (columns_at (0 ∷ 3 ∷ 4 ∷ 5 ∷ 6 ∷ 7 ∷ 8 ∷ 9 ∷ []) r)
 
 -- ---- answers
 

@@ -134,13 +134,6 @@ FindsFiles told old new result =
     HasCleanDisk new → IfOk result (λ found. (rows_of : List ℕ → List ℕ → List Row) → HasTables old
     → ListsPairs rows_of (old.now.trees repo_file_table.tree) → told rows_of found)
 
--- the ECUs of the vehicle, in order of their places
-abbrev pub FindsEcus : {A E : Type 0} → List ℕ → (A → List EcuLine) → State → State → Result A E → Type 0
-FindsEcus vehicle read old new result =
-    HasCleanDisk new → IfOk result (λ found. (rows_of : List ℕ → List Row) (es : List EcuLine) → HasTables old
-    → Lists 2 rows_of (old.now.trees ecu_table.tree) → rows_of vehicle ≡ map ecu_row es → AreInPlace vehicle 0 es
-    → rows_of vehicle ≡ map ecu_row (read found))
-
 -- ---- faults of reads
 
 -- where the tables can be read, and P holds of them, `Store` is told only where the disk counted a fault
