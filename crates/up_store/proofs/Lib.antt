@@ -40,5 +40,6 @@ pub mod KindsOfVehicles
 pub mod KindsOfKept
 pub mod KindsOfFounding
 pub mod WentOn
+pub mod WithinLemmas
 pub mod RootBlames
 pub mod AcceptBlames

@@ -57,12 +57,13 @@ pub record AreTypedKeys (keys : RepoKeys) : Type 0 where
 
 -- ---- the founding, root versions, files
 
--- its root version is a number that a column holds
+-- its versions are numbers that a column holds
 pub record IsTypedFounding (founding : Founding) : Type 0 where
   pub director : AreTypedKeys founding.keys.director
   pub image : AreTypedKeys founding.keys.image
   pub stamp : founding.stamp ≤ last_moment
   pub root : founding.root < 2 ^ 63
+  pub image_version : founding.image_version < 2 ^ 63
 
 pub record IsTypedRoot (root : RootRow) : Type 0 where
   pub keys : EachHasKeys root.keys
