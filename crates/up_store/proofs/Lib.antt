@@ -19,6 +19,7 @@ pub mod RootFiles
 pub mod AcceptPuts
 pub mod ReplacePuts
 pub mod ColumnReads
+pub mod ByName
 pub mod ColumnFound
 pub mod ColumnPuts
 pub mod PutBlames
