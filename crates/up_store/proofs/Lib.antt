@@ -18,6 +18,7 @@ pub mod RootFiles
 pub mod AcceptPuts
 pub mod ReplacePuts
 pub mod ColumnReads
+pub mod ByName
 pub mod ColumnFound
 pub mod ColumnPuts
 pub mod PutBlames
@@ -39,5 +40,6 @@ pub mod KindsOfVehicles
 pub mod KindsOfKept
 pub mod KindsOfFounding
 pub mod WentOn
+pub mod WithinLemmas
 pub mod RootBlames
 pub mod AcceptBlames

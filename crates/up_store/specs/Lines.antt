@@ -25,6 +25,9 @@ use Rattle.up_columns.specs.CampaignColumns.{reach_column, items_column}
 use Rattle.up_columns.specs.PlanColumns.{plan_column}
 use Rattle.up_tables.specs.Lines.{EcuLine, ecu_row, campaign_line, vehicle_line, retired_line, sha512_line, yes_or_no}
 use Rattle.up_tables.specs.Rows.{with_only_at}
+use Rattle.up_store.specs.declared.campaign_rows.CampaignShown.{CampaignShown}
+use Rattle.up_store.specs.declared.image_rows.ImageShown.{ImageShown}
+use Rattle.up_store.specs.declared.keys.RoleKey.{RoleKey}
 use Rattle.up_store.specs.declared.files.ServedFile.{ServedFile}
 use Rattle.up_store.specs.declared.second_hashes.SecondHash.{SecondHash}
 
@@ -34,6 +37,9 @@ abbrev pub founding_number : (Founding → ℕ) → Option Founding → ℕ
 founding_number part founding = unwrap_or (option_map part founding) 0
 
 -- ---- role_key: the keys of a role in the order given, the places counted from 0
+
+abbrev pub key_row : RoleKey → Row
+key_row k = Int (pos k.root) ∷ Text k.repository ∷ Text k.role ∷ Int (pos k.place) ∷ Blob k.secret ∷ Int (pos k.threshold) ∷ []
 
 abbrev pub repository_word : Repository → List ℕ
 repository_word Director = codes "director"
@@ -88,15 +94,30 @@ role_file_lines texts =
 
 -- ---- image, campaign, vehicle: the row of a name, or none
 
+abbrev pub image_line : ImageData → Row
+image_line i =
+    Text i.file ∷ Int (pos i.length) ∷ Blob i.sha256 ∷ Text (names_column i.hardware) ∷ Int (pos i.release)
+    ∷ Text (needs_column i.needs) ∷ Text (names_column i.conflicts) ∷ []
+
 abbrev pub image_lines : Option ImageData → List Row
 image_lines None = []
-image_lines (Some i) =
-    (Text i.file ∷ Int (pos i.length) ∷ Blob i.sha256 ∷ Text (names_column i.hardware) ∷ Int (pos i.release)
-    ∷ Text (needs_column i.needs) ∷ Text (names_column i.conflicts) ∷ []) ∷ []
+image_lines (Some i) = image_line i ∷ []
+
+-- as it is read, its lists still texts
+abbrev pub image_shown_line : ImageShown → Row
+image_shown_line i =
+    Text i.file ∷ Int (pos i.length) ∷ Blob i.sha256 ∷ Text i.hardware ∷ Int (pos i.release) ∷ Text i.needs ∷ Text i.conflicts ∷ []
+
+abbrev pub line_of_campaign : CampaignData → Row
+line_of_campaign c = campaign_line c.name (reach_column c.reach) (items_column c.items) (yes_or_no c.running)
 
 abbrev pub campaign_lines : Option CampaignData → List Row
 campaign_lines None = []
-campaign_lines (Some c) = campaign_line c.name (reach_column c.reach) (items_column c.items) (yes_or_no c.running) ∷ []
+campaign_lines (Some c) = line_of_campaign c ∷ []
+
+-- as it is read, its reach and its items still texts
+abbrev pub campaign_shown_line : CampaignShown → Row
+campaign_shown_line c = campaign_line c.name c.reach c.items (yes_or_no c.running)
 
 abbrev pub row_of_vehicle : VehicleRow → Row
 row_of_vehicle row = vehicle_line row.vehicle row.primary row.version row.last

@@ -13,7 +13,7 @@ use Rattle.up_machine.specs.declared.rows.Founding.{Founding}
 use Rattle.up_machine.specs.declared.rows.VehicleRow.{VehicleRow}
 use Rattle.up_tables.specs.declared.meta.MetaRow.{MetaRow}
 use Rattle.up_tables.specs.declared.repo_file.FileRow.{FileRow as FileShown}
-use Rattle.up_tables.specs.declared.role_key.RoleKeyRow.{RoleKeyRow}
+use Rattle.up_store.specs.declared.keys.RoleKey.{RoleKey}
 use Rattle.up_tables.specs.declared.vehicle.VehicleRow.{VehicleRow as VehicleShown}
 use Rattle.up_store.specs.declared.files.ServedFile.{ServedFile}
 use Rattle.up_store.specs.Lines.{founding_number}
@@ -50,28 +50,28 @@ meta_told founding = record {
 -- ---- keys
 
 -- the row is of this role of this repository
-abbrev pub is_key_of : List ℕ → List ℕ → RoleKeyRow → Bool
-is_key_of repository role row = bytes_eq (string_bytes row.repository) repository && bytes_eq (string_bytes row.role) role
+abbrev pub is_key_of : List ℕ → List ℕ → RoleKey → Bool
+is_key_of repository role row = bytes_eq row.repository repository && bytes_eq row.role role
 
-abbrev pub secrets_of : List ℕ → List ℕ → List RoleKeyRow → List (List ℕ)
-secrets_of repository role rows = map (λ row. row.secret.items) (filter (is_key_of repository role) rows)
+abbrev pub secrets_of : List ℕ → List ℕ → List RoleKey → List (List ℕ)
+secrets_of repository role rows = map (λ row. row.secret) (filter (is_key_of repository role) rows)
 
 -- the first of its rows has it
-abbrev pub threshold_of : List ℕ → List ℕ → List RoleKeyRow → Option ℕ
+abbrev pub threshold_of : List ℕ → List ℕ → List RoleKey → Option ℕ
 threshold_of repository role rows = option_map (λ row. row.threshold) (find (is_key_of repository role) rows)
 
-pub record IsRoleOf (repository role : List ℕ) (rows : List RoleKeyRow) (keys : RoleSecrets) : Type 0 where
+pub record IsRoleOf (repository role : List ℕ) (rows : List RoleKey) (keys : RoleSecrets) : Type 0 where
   pub secrets : keys.keys ≡ secrets_of repository role rows
   pub threshold : threshold_of repository role rows ≡ Some keys.threshold
 
-pub record AreKeysOf (repository : List ℕ) (rows : List RoleKeyRow) (keys : RepoKeys) : Type 0 where
+pub record AreKeysOf (repository : List ℕ) (rows : List RoleKey) (keys : RepoKeys) : Type 0 where
   pub root : IsRoleOf repository (codes "root") rows keys.root
   pub targets : IsRoleOf repository (codes "targets") rows keys.targets
   pub snapshot : IsRoleOf repository (codes "snapshot") rows keys.snapshot
   pub timestamp : IsRoleOf repository (codes "timestamp") rows keys.timestamp
 
 -- the founding has these numbers and the keys of these rows
-pub record IsFoundingOf (row : MetaRow) (rows : List RoleKeyRow) (read : Option Founding) : Type 0 where
+pub record IsFoundingOf (row : MetaRow) (rows : List RoleKey) (read : Option Founding) : Type 0 where
   pub founding : Founding
   pub is : read ≡ Some founding
   pub numbers : meta_told (Some founding) ≡ row

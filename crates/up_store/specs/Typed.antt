@@ -22,6 +22,9 @@ use Rattle.up_machine.specs.declared.rows.Kept.{Kept}
 use Rattle.up_rows.specs.SecondHashes.{TellsItsHash}
 use Rattle.up_rows.specs.StateRows.{StateRows}
 use Rattle.up_rows.specs.declared.root_row.RootRow.{RootRow}
+use Rattle.up_store.specs.declared.campaign_rows.CampaignShown.{CampaignShown}
+use Rattle.up_store.specs.declared.image_rows.ImageShown.{ImageShown}
+use Rattle.up_store.specs.declared.keys.RoleKey.{RoleKey}
 use Rattle.up_store.specs.declared.files.ServedFile.{ServedFile}
 use Rattle.up_store.specs.declared.second_hashes.SecondHash.{SecondHash}
 use Rattle.up_columns.specs.Typed.{is_typed_need, is_typed_item, is_typed_reach, is_typed_plan}
@@ -54,12 +57,13 @@ pub record AreTypedKeys (keys : RepoKeys) : Type 0 where
 
 -- ---- the founding, root versions, files
 
--- its root version is a number that a column holds
+-- its versions are numbers that a column holds
 pub record IsTypedFounding (founding : Founding) : Type 0 where
   pub director : AreTypedKeys founding.keys.director
   pub image : AreTypedKeys founding.keys.image
   pub stamp : founding.stamp ≤ last_moment
   pub root : founding.root < 2 ^ 63
+  pub image_version : founding.image_version < 2 ^ 63
 
 pub record IsTypedRoot (root : RootRow) : Type 0 where
   pub keys : EachHasKeys root.keys
@@ -77,6 +81,11 @@ pub record IsTypedFile (f : ServedFile) : Type 0 where
   pub name : IsUtf8 f.name
   pub body : IsUtf8 f.body
 
+-- the texts of a key's row
+pub record IsTypedKey (k : RoleKey) : Type 0 where
+  pub repository : IsUtf8 k.repository
+  pub role : IsUtf8 k.role
+
 -- ---- images, campaigns
 
 -- under its own filename, and within an image's limits; its lists are of names, filenames and counts
@@ -92,6 +101,16 @@ pub record IsTypedImage (file : Name) (image : ImageData) : Type 0 where
   pub conflicts : list_all is_file_name image.conflicts ≡ true
   pub fits : image_fits image ≡ true
 
+-- the same of its row, its lists still texts
+pub record IsTypedImageRow (i : ImageShown) : Type 0 where
+  pub file : is_file_name i.file ≡ true
+  pub size : i.length ≤ max_count
+  pub sha256 : length i.sha256 ≡ 32
+  pub hardware : IsUtf8 i.hardware
+  pub release : i.release ≤ max_count
+  pub needs : IsUtf8 i.needs
+  pub conflicts : IsUtf8 i.conflicts
+
 -- under its own name, and within a campaign's limits
 pub record IsTypedCampaign (name : Name) (campaign : CampaignData) : Type 0 where
   pub named : campaign.name ≡ name
@@ -99,6 +118,12 @@ pub record IsTypedCampaign (name : Name) (campaign : CampaignData) : Type 0 wher
   pub reach : is_typed_reach campaign.reach ≡ true
   pub items : list_all is_typed_item campaign.items ≡ true
   pub fits : campaign_fits campaign ≡ true
+
+-- the same of its row, its reach and its items still texts
+pub record IsTypedCampaignRow (c : CampaignShown) : Type 0 where
+  pub name : is_ident c.name ≡ true
+  pub reach : IsUtf8 c.reach
+  pub items : IsUtf8 c.items
 
 -- the second hash of an image, of 64 bytes
 pub record IsTypedHash (h : SecondHash) : Type 0 where

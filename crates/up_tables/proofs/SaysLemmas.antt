@@ -68,3 +68,11 @@ says_passing P p q agree (r ∷ rows) (x ∷ xs) said = rw (agree r x said.0) (g
     go : (b : Bool) → EachSays P (filter p rows) (filter q xs) → EachSays P (cond b (r ∷ filter p rows) (filter p rows)) (cond b (x ∷ filter q xs) (filter q xs))
     go true h = (said.0, h)
     go false h = h
+
+-- where what a row shows is the line of the value that it says, so it is of all rows
+pub lines_said : {T : Type 0} (says : Row → T → Type 0) (line : T → Row) (part : Row → Row) → ((r : Row) (x : T) → says (part r) x → part r ≡ line x) → (rows : List Row) (xs : List T)
+    → EachSays says (map part rows) xs → map part rows ≡ map line xs
+lines_said says line part is [] [] said = refl
+lines_said says line part is [] (x ∷ xs) said = absurd said
+lines_said says line part is (r ∷ rows) [] said = absurd said
+lines_said says line part is (r ∷ rows) (x ∷ xs) said = ap₂ (λ z zs. z ∷ zs) (is r x said.0) (lines_said says line part is rows xs said.1)

@@ -31,21 +31,6 @@ IsBytes v = (b : List ℕ) × (v ≡ Blob b)
 abbrev pub ShowsWords : Row → Type 0
 ShowsWords r = IsWords (column r 0)
 
-abbrev pub ShowsMeta : Row → Type 0
-ShowsMeta r = IsNumber (column r 0) × IsNumber (column r 1) × IsNumber (column r 2)
-
-abbrev pub ShowsRoleKey : Row → Type 0
-ShowsRoleKey r =
-    IsNumber (column r 0) × IsWords (column r 1) × IsWords (column r 2) × IsNumber (column r 3) × IsBytes (column r 4) × IsNumber (column r 5)
-
-abbrev pub ShowsImage : Row → Type 0
-ShowsImage r =
-    IsWords (column r 0) × IsNumber (column r 1) × IsBytes (column r 2) × IsWords (column r 3) × IsNumber (column r 4) × IsWords (column r 5)
-    × IsWords (column r 6)
-
-abbrev pub ShowsCampaign : Row → Type 0
-ShowsCampaign r = IsWords (column r 0) × IsWords (column r 1) × IsWords (column r 2) × IsFlag (column r 3)
-
 -- ---- answers
 
 -- one row at most, which shows a value

@@ -134,13 +134,6 @@ FindsFiles told old new result =
     HasCleanDisk new → IfOk result (λ found. (rows_of : List ℕ → List ℕ → List Row) → HasTables old
     → ListsPairs rows_of (old.now.trees repo_file_table.tree) → told rows_of found)
 
--- the numbers in the one row of `meta`
-abbrev pub FindsMeta : {E : Type 0} → State → State → Result (Option MetaRow) E → Type 0
-FindsMeta old new result =
-    HasCleanDisk new → IfOk result (λ found. (root : ℕ) (image_version : ℕ) (stamp : ℕ) → HasTables old
-    → old.now.trees meta_table.tree ≡ meta_row root image_version stamp ∷ []
-    → found ≡ Some (record { root = root; image_version = image_version; stamp = stamp }))
-
 -- ---- faults of reads
 
 -- where the tables can be read, and P holds of them, `Store` is told only where the disk counted a fault
@@ -159,10 +152,6 @@ HoldsOfAll table P s = (all : List Row) × ListsAll all (s.now.trees table.tree)
 -- of the files' rows, by repository and name
 abbrev pub HoldsOfFiles : ((List ℕ → List ℕ → List Row) → Type 0) → State → Type 0
 HoldsOfFiles P s = (rows_of : List ℕ → List ℕ → List Row) × ListsPairs rows_of (s.now.trees repo_file_table.tree) × P rows_of
-
--- `meta` has its one row
-abbrev pub HasMeta : State → Type 0
-HasMeta s = (root : ℕ) × (image_version : ℕ) × (stamp : ℕ) × (s.now.trees meta_table.tree ≡ meta_row root image_version stamp ∷ [])
 
 -- the vehicle stands there, with its Primary
 abbrev pub HasVehicle : VehicleRow → State → Type 0

@@ -111,6 +111,7 @@ pub fn is_null(row: &Row, at: usize) -> bool
 /// A number that isn't below 0; `Store` where it is.
 fn not_below_zero(number: i64) -> Result<u64, StoreFault>
     ensures ok { IfOk result (λ n. number ≡ pos n) }
+    ensures fits { IfOk result (λ n. n < 2 ^ 63) }
     ensures fault { IfErr result (λ fault. (fault ≡ StoreFault.Store) × ((n : ℕ) → number ≢ pos n)) }
 {
     match u64::try_from(number) {
@@ -122,6 +123,7 @@ fn not_below_zero(number: i64) -> Result<u64, StoreFault>
 /// The number in a column; `Store` where it has none.
 pub fn number_at(row: &Row, at: usize) -> Result<u64, StoreFault>
     ensures ok { IfOk result (λ n. column row.now at ≡ Int (pos n)) }
+    ensures fits { IfOk result (λ n. n < 2 ^ 63) }
     ensures fault { IfErr result (λ fault. (fault ≡ StoreFault.Store) × ((n : ℕ) → column row.now at ≢ Int (pos n))) }
 {
     match row.get_ref(at) {
