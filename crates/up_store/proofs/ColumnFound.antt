@@ -23,19 +23,16 @@ use Rattle.up_rows.specs.StateRows.{StateRows}
 use Rattle.up_rows.specs.Lookups.{kept_with, latest_kept}
 use Rattle.up_store.specs.declared.campaign_shown_lines.CampaignShown.{CampaignShown}
 use Rattle.up_store.specs.declared.image_shown_lines.ImageShown.{ImageShown}
-use Rattle.up_tables.specs.declared.vehicle.VehicleRow.{VehicleRow as VehicleShown}
-use Rattle.up_tables.specs.Forms.{image_places, campaign_places, vehicle_places, vehicle_row}
+use Rattle.up_tables.specs.Forms.{image_places, campaign_places}
 use Rattle.up_tables.specs.Lines.{yes_or_no}
 use Rattle.up_tables.specs.Rows.{columns_at, has_number}
 use Rattle.up_tables.specs.Stands.{IsWith, IsWithin, HasTables, Reads, Lists}
-use Rattle.up_tables.specs.Tables.{up_schema, image_table, campaign_table, vehicle_table}
+use Rattle.up_tables.specs.Tables.{up_schema, image_table, campaign_table}
 use Rattle.up_store.specs.ColumnRows.{IsImage, IsCampaign, AreImages, AreRunning, last_found}
 use Rattle.up_store.specs.Found.{vehicle_found}
 use Rattle.up_store.specs.Lines.{campaign_shown_line, image_shown_line, image_lines, campaign_lines}
 use Rattle.up_store.specs.Listing.{ListsRows}
-use Rattle.up_store.specs.Shown.{vehicle_read}
 use Rattle.up_store.specs.Typed.{AreTyped, IsTypedImage, IsTypedCampaign}
-use Rattle.up_store.proofs.VehicleReads.{vehicle_in}
 
 -- ---- within a transaction
 
@@ -245,8 +242,6 @@ are_running rows before after found reads shows within =
       each = λ name. sym (runs (table.get rows.campaigns name)) ∙ shows (λ n. campaign_lines (table.get rows.campaigns n)) has here.rows.tables.campaigns name;
     }
 
--- ---- kept manifests
-
 -- ---- the latest manifest
 
 pub last_told : (rows : StateRows) (vehicle : Name) → option_map (λ (r : VehicleRow). r.last) (vehicle_found vehicle rows) ≡ last_found vehicle rows
@@ -255,12 +250,6 @@ last_told rows vehicle = by_vehicle (table.get rows.vehicles vehicle)
     by_vehicle : (o : Option VehicleRows) → option_map (λ (r : VehicleRow). r.last) (option_map (λ (v : VehicleRows). v.vehicle) o) ≡ option_map (λ (v : VehicleRows). v.vehicle.last) o
     by_vehicle None = refl
     by_vehicle (Some v) = refl
-
-pub last_in : (rows : StateRows) (name : Name) (before after : Connected) (found is : Option VehicleShown) → is ≡ found → Reads before after
-    → ((rows_of : List ℕ → List Row) → HasTables before → Lists 1 rows_of (before.now.trees vehicle_table.tree) → map (columns_at vehicle_places) (rows_of name) ≡ map vehicle_row (option_to_list found))
-    → IsWithin up_schema (ListsRows rows) before → option_map (λ (r : VehicleRow). r.last) (option_map vehicle_read is) ≡ last_found name rows
-last_in rows name before after found is same reads shows within =
-    ap (option_map (λ (r : VehicleRow). r.last)) (ap (option_map vehicle_read) same ∙ vehicle_in rows name before after found reads shows within) ∙ last_told rows name
 
 -- the vehicle's greatest counter is the latest one's
 pub latest_is : (rows : StateRows) (vehicle : Name) (last : ℕ) → Some last ≡ last_found vehicle rows → kept_with vehicle last rows ≡ latest_kept vehicle rows

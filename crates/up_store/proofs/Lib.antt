@@ -6,7 +6,6 @@ pub mod Raised
 pub mod Closed
 pub mod Written
 pub mod WriteBlames
-pub mod HandedBack
 pub mod VehicleReads
 pub mod Inserted
 pub mod EcuReads

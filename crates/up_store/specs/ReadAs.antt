@@ -1,13 +1,12 @@
 -- What rows are read as, whoever wrote them: each column as what it says, so that a row that says no image, campaign or kept manifest isn't read.
 use Rattle.std.specs.Prelude.{◌≡◌, ◌≢◌, ◌<◌, ◌++◌, ◌∷◌, ◌⊎◌, ℕ, pos, List, [], Option, Some, None, Result, true, false, length, get_or, map, filter}
-use Rattle.std.specs.Prelude.{◌&&◌, ◌||◌, Bool, not, bytes_eq, Ok, IfOk, IfSome, IsSomeAnd, MatchOption, option_map}
+use Rattle.std.specs.Prelude.{bytes_eq, Ok, IfOk, IfSome, IsSomeAnd, MatchOption, option_map}
 use Rattle.std.specs.FinMap as table
 use Rattle.std.specs.List.{list_any}
 use Rattle.std.specs.Option.{option_to_list}
 use Rattle.sqlite.specs.Order.{Row, column}
 use Rattle.sqlite.specs.declared.types.Value.{Value}
 use Rattle.sqlite.specs.declared.types.Value.TheVariants.{Blob, Int, Null, Text}
-use Rattle.sqlite_sql.specs.Ops.{is_null}
 use Rattle.sqlite.specs.State.{State as Connected, HasCleanDisk}
 use Rattle.sqlite.specs.Table.{Table as SqlTable}
 use Rattle.up_canon.specs.Canon.{quoted}
@@ -101,10 +100,9 @@ SaysInstalled row None = (column row 3 ≡ Null) × (column row 4 ≡ Null) × (
 SaysInstalled row (Some i) = IsText (column row 3) i.file × (column row 4 ≡ Int (pos i.length)) × (column row 5 ≡ Blob i.sha256)
 
 -- one of the three is null, and another isn't
-abbrev pub is_partly_null : Row → Bool
-is_partly_null row =
-    (is_null (column row 3) || is_null (column row 4) || is_null (column row 5))
-    && not (is_null (column row 3) && is_null (column row 4) && is_null (column row 5))
+abbrev pub IsPartlyNull : Row → Type 0
+IsPartlyNull row =
+    ¬ ((column row 3 ≡ Null) × (column row 4 ≡ Null) × (column row 5 ≡ Null)) × ¬ ((column row 3 ≢ Null) × (column row 4 ≢ Null) × (column row 5 ≢ Null))
 
 -- what a read shows of an ECU says this one, with the second hash that its report's text has
 pub record SaysEcu (row : Row) (read : EcuRow) : Type 0 where

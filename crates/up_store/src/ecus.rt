@@ -1,5 +1,5 @@
 //! The rows of a vehicle's ECUs, read and written.
-ghost use Rattle.std.specs.Prelude.{◌≡◌, ◌<◌, ◌^◌, ⊤, ℕ, List, Option, None, Ok, Err, IfOk, IfErr, IfSome, IsTrue, IsUtf8, MatchOption, OnOk, length, map};
+ghost use Rattle.std.specs.Prelude.{◌≡◌, ◌<◌, ◌^◌, ⊤, ℕ, List, Option, None, Ok, Err, IfOk, IfErr, IfSome, IsUtf8, MatchOption, OnOk, length, map};
 ghost use Rattle.std.specs.Prelude.{◌≢◌, ◌++◌};
 ghost use Rattle.std.specs.List.{AllByRecursion};
 ghost use Rattle.sqlite.specs.Held.{state};
@@ -16,7 +16,7 @@ ghost use Rattle.up_tables.specs.Stored.{AreWritten};
 ghost use Rattle.up_tables.specs.Tables.{ecu_table};
 ghost use Rattle.up_tables.specs.Texts.{insert_ecu_text, upsert_ecu_text};
 ghost use Rattle.up_store.specs.Lines.{ecu_line, ecu_lines};
-ghost use Rattle.up_store.specs.ReadAs.{SaysInstalled, is_partly_null};
+ghost use Rattle.up_store.specs.ReadAs.{IsPartlyNull, SaysInstalled};
 ghost use Rattle.up_store.specs.Shown.{reported_sha512};
 ghost use Rattle.up_store.specs.Typed.{IsTypedEcu, IsTypedInstalled};
 
@@ -76,7 +76,7 @@ fn installed_at(
     ensures fault { IfErr result (λ fault. fault ≡ Store
         → (installed : Option InstalledData) → IfSome installed IsTypedInstalled → ¬ SaysInstalled row.now installed) }
     ensures none { SaysInstalled row.now None → result ≡ Ok None }
-    ensures mixed { IsTrue (is_partly_null row.now) → result ≡ Err Store }
+    ensures mixed { IsPartlyNull row.now → result ≡ Err Store }
     ensures kind { column row.now 3 ≢ Null → ((s : List ℕ) → IsUtf8 s → column row.now 3 ≢ TextValue s) → result ≡ Err Store }
 {
     match (is_null(row, 3), is_null(row, 4), is_null(row, 5)) {

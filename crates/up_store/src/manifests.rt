@@ -78,7 +78,7 @@ fn put_accepted<D: Alter>(
         tx.old.conn tx.new.conn result }
 {
     check_version(new.vehicle.vehicle.version)?;
-    check_places(new.vehicle.ecus.len())?;
+    check_places(new.vehicle.ecus.as_slice().len())?;
     let plan = make_plan(alloc, &new.kept)?;
     put_planned(tx, new, plan.as_str())
 }

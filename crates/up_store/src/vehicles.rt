@@ -185,7 +185,7 @@ fn put_vehicle<D: Alter>(
         (λ _. FitsVehicle new.now) tx.old.conn tx.new.conn result }
 {
     check_version(new.vehicle.version)?;
-    check_places(new.ecus.len())?;
+    check_places(new.ecus.as_slice().len())?;
     insert_vehicle(tx, &row_of(&new.vehicle))?;
     add_ecus(tx, &new.vehicle.vehicle, new.ecus.as_slice())
 }
