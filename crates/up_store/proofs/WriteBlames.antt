@@ -12,7 +12,7 @@ use Rattle.up_tables.specs.Tried.{BlamesOne, Makes}
 use Rattle.up_tables.proofs.TriedLemmas.{Went}
 use Rattle.up_tables.specs.declared.values.StoreFault.{StoreFault}
 use Rattle.up_tables.specs.declared.values.StoreFault.TheVariants.{Store}
-use Rattle.up_store.specs.Connections.{BlamesWrite, Commits, Handed, HandsBack, RanWrite}
+use Rattle.up_store.specs.Connections.{BlamesWrite, Commits, RanWrite}
 use Rattle.up_store.specs.Listing.{ListsRows}
 
 module _ {S : Type 0} (g : Ghosts S) {viewed : Held S} (old first mid last : Held S) (these : List (List ℕ × Row)) (fits : StateRows → Type 0) (same : viewed ≡ old) (started : first ≡ record viewed { in_transaction = true })
