@@ -1,14 +1,11 @@
 use Rattle.std.proofs.Common.{◌≡◌, ◌∙◌, ap, List, ℕ, length, map, subst, sym, refl, arith, rules}
 use Rattle.std.specs.List.{AllByRecursion}
+use Rattle.std.specs.Prelude.{⊤}
 use Rattle.std.proofs.lemmas.List.{length-map, take_all}
 use Rattle.sqlite.specs.Held.{state}
 use Rattle.sqlite.specs.Order.{Row}
 use Rattle.up_tables.specs.Ecus.{line}
 use Rattle.up_tables.specs.Lines.{EcuLine, ecu_row}
-use Rattle.up_tables.specs.Rows.{with_row}
-use Rattle.up_tables.specs.Statements.{AltersRows}
-use Rattle.up_tables.specs.Stored.{IsWritten}
-use Rattle.up_tables.specs.Tables.{ecu_table}
 use Rattle.up_tables.specs.Texts.{insert_ecu_text}
 use Rattle.up_tables.proofs.CallLemmas.{keeps_on}
 use Rattle.up_tables.proofs.EachLemmas.{statement_at, next_ran, all_ran, blames_next}
@@ -18,7 +15,7 @@ use Rattle.up_tables.proofs.UndoneLemmas.{undoes_next}
 use Rattle.up_store.specs.Lines.{ecu_line, ecu_lines}
 use Rattle.up_store.specs.Typed.{IsTypedEcu}
 use Rattle.up_store.proofs.MadeRows.{each_more}
-use Rattle.up_store.proofs.VehiclePuts.{length-ecu_lines, line_at}
+use Rattle.up_store.proofs.VehiclePuts.{as_added, length-ecu_lines, line_at}
 use Rattle.up_store.proofs.ecus.add_ecus.Goals as goal
 
 abbrev it : EcuLine → List ℕ × Row
@@ -32,8 +29,7 @@ loop-place-preserved g c =
     let there = got_at c.args.ecus.now c.loop-place.place c.index-ecus-place.result (omega (arith, c.loop-place-test.true)) c.index-ecus-place.is in
     let row_there = line_at name c.loop-place.place c.args.ecus.now c.index-ecus-place.result there in
     let to : line c.text.result.now c.loop-place.place c.ecu_of.result ≡ e = ap (λ v. line v c.loop-place.place c.ecu_of.result) c.text.ensures.value ∙ c.ecu_of.ensures.is name c.loop-place.place in
-    let named = subst (λ v. IsWritten g.D.Store insert_ecu_text (ecu_row (line c.text.result.now c.loop-place.place c.ecu_of.result)) (AltersRows ecu_table 2 (with_row v (ecu_row (line c.text.result.now c.loop-place.place c.ecu_of.result)))) _ _ _) c.text.ensures.value c.in_ok-insert_ecu.ensures in
-    let one = subst (λ e. IsWritten g.D.Store insert_ecu_text (ecu_row e) (AltersRows ecu_table 2 (with_row name (ecu_row e))) _ _ _) to named in
+    let one = as_added {A = ⊤} g.D.Store _ name _ e c.text.ensures.value to _ _ _ c.in_ok-insert_ecu.ensures in
     let so = c.loop-place.invariant in (
       keeps_on _ _ _ _ _ _ _ _ so.0 one.step.same_reference one.step.inside one.step.is_open one.step.steps (λ clean so_far. (
         next_put name rows c.loop-place.place e _ _ _ row_there so_far.0 (one.altered clean),
@@ -66,8 +62,7 @@ returns-in_err-insert_ecu-clause-added g c =
     let there = got_at c.args.ecus.now c.loop-place.place c.index-ecus-place.result (omega (arith, c.loop-place-test.true)) c.index-ecus-place.is in
     let row_there = line_at name c.loop-place.place c.args.ecus.now c.index-ecus-place.result there in
     let to : line c.text.result.now c.loop-place.place c.ecu_of.result ≡ e = ap (λ v. line v c.loop-place.place c.ecu_of.result) c.text.ensures.value ∙ c.ecu_of.ensures.is name c.loop-place.place in
-    let named = subst (λ v. IsWritten g.D.Store insert_ecu_text (ecu_row (line c.text.result.now c.loop-place.place c.ecu_of.result)) (AltersRows ecu_table 2 (with_row v (ecu_row (line c.text.result.now c.loop-place.place c.ecu_of.result)))) _ _ _) c.text.ensures.value c.in_err-insert_ecu.ensures in
-    let one = subst (λ e. IsWritten g.D.Store insert_ecu_text (ecu_row e) (AltersRows ecu_table 2 (with_row name (ecu_row e))) _ _ _) to named in
+    let one = as_added {A = ⊤} g.D.Store _ name _ e c.text.ensures.value to _ _ _ c.in_err-insert_ecu.ensures in
     record {
       altered = search rules;
       blame = blames_next c.from_residual.result (map it rows) c.loop-place.place (it e) _ _ _ _ c.from_residual.ensures.1 (statement_at it rows c.loop-place.place e row_there)
