@@ -60,6 +60,3 @@ module _ {A : Type 0} (fits : StateRows → Type 0) where
       → (HasCleanDisk new → (rows : StateRows) → IsWithin up_schema (ListsRows rows) old → fits rows → IfErr r (λ fault. fault ≡ Memory)) → BlamesWithin fits old new r
   memory_blames old new (Ok x) memory clean = tt
   memory_blames old new (Err f) memory clean = λ is is_open unlimited rows within fit. absurd (let no : Memory ≡ Store = sym (memory clean rows within fit) ∙ is in cc)
-
--- a read from the start of its transaction to its end
-module _ {A : Type 0} where

@@ -1,4 +1,4 @@
-use Rattle.std.proofs.Common.{Err, ◌∙◌}
+use Rattle.std.proofs.Common.{Err, ◌∙◌, rules}
 use Rattle.std.specs.Prelude.{⊤}
 use Rattle.sqlite.specs.Held.{state}
 use Rattle.up_tables.proofs.SaysLemmas.{each_said}
