@@ -21,8 +21,8 @@ use Rattle.up_machine.specs.declared.rows.VehicleRow.{VehicleRow}
 use Rattle.up_machine.specs.declared.rows.VehicleRows.{VehicleRows}
 use Rattle.up_rows.specs.StateRows.{StateRows}
 use Rattle.up_rows.specs.Lookups.{kept_with, latest_kept}
-use Rattle.up_store.specs.declared.campaign_shown_lines.CampaignShown.{CampaignShown}
-use Rattle.up_store.specs.declared.image_shown_lines.ImageShown.{ImageShown}
+use Rattle.up_store.specs.declared.campaign_rows.CampaignShown.{CampaignShown}
+use Rattle.up_store.specs.declared.image_rows.ImageShown.{ImageShown}
 use Rattle.up_tables.specs.Forms.{image_places, campaign_places}
 use Rattle.up_tables.specs.Lines.{yes_or_no}
 use Rattle.up_tables.specs.Rows.{columns_at, has_number}
