@@ -74,7 +74,7 @@ fn add_fitting<K: Scheme, D: Alter>(
     ecus_tell_their_hash();
     match decide(store, alloc, scheme, at, new) {
         Ok(Decision::Already) => Ok(Answer::Already),
-        Ok(Decision::New(rows)) => done_of(store.write_vehicle(alloc, &rows)),
+        Ok(Decision::New(rows)) => done_of(store.write_vehicle(&rows)),
         Err(refusal) => Err(refusal),
     }
 }
@@ -159,7 +159,7 @@ fn taken_marks<D: Alter>(
 {
     let mut marks = Vec::with_capacity(alloc, ecus.len())?;
     for ecu in ecus {
-        match is_taken(store, alloc, &ecu.ecu) {
+        match is_taken(store, &ecu.ecu) {
             Ok(is_taken) => marks.push(is_taken)?,
             Err(fault) => return Err(fault),
         }
@@ -168,17 +168,13 @@ fn taken_marks<D: Alter>(
 }
 
 /// Whether the name is that of an ECU of any vehicle, or of one that was replaced.
-pub fn is_taken<D: Alter>(
-    store: &mut Store<D>,
-    alloc: Global,
-    ecu: &Ident,
-) -> Result<bool, StoreFault>
+pub fn is_taken<D: Alter>(store: &mut Store<D>, ecu: &Ident) -> Result<bool, StoreFault>
     ensures told { Tells (λ k s. is_taken_in s ecu.now) (state D.Store store.old) (state D.Store store.new) result }
     ensures blame { Blames (state D.Store store.old) (state D.Store store.new) result }
     ensures reads { Reads (state D.Store store.old) (state D.Store store.new) }
 {
     rows_are_found();
-    match store.ecu_owner(alloc, ecu) {
+    match store.ecu_owner(ecu) {
         Ok(owner) => Ok(owner.is_some()),
         Err(fault) => Err(fault),
     }

@@ -68,7 +68,7 @@ fn replace_fitting<K: Scheme, D: Alter>(
     rows_are_found();
     ecus_are_replaced();
     match decide(store, alloc, scheme, at, new) {
-        Ok(()) => done_of(store.write_replace(alloc, new)),
+        Ok(()) => done_of(store.write_replace(new)),
         Err(refusal) => Err(refusal),
     }
 }
@@ -133,7 +133,7 @@ fn decide_in<K: Scheme, D: Alter>(
         (state D.Store store.old) (state D.Store store.new) result (decide_replace_in (K.rules scheme.now) s at new.now) }
     ensures reads { Reads (state D.Store store.old) (state D.Store store.new) }
 {
-    match is_taken(store, alloc, &new.ecu.ecu) {
+    match is_taken(store, &new.ecu.ecu) {
         Ok(taken) => decide_replace(alloc, scheme, at, new, founded, vehicle, taken),
         Err(fault) => Err(refusal_of(fault)),
     }

@@ -267,7 +267,3 @@ latest_unknown rows vehicle h = by_vehicle (table.get rows.vehicles vehicle) h
     by_vehicle (Some v) h = cc
 
 -- ---- what a read of any rows answers
-
-pub each_ok : {A E B : Type 0} (r : Result A E) (P : B → Type 0) (Q : A → B → Type 0) → ((b : B) → P b → IfOk r (λ x. Q x b)) → IfOk r (λ x. (b : B) → P b → Q x b)
-each_ok (Ok x) P Q h = h
-each_ok (Err e) P Q h = tt

@@ -1,5 +1,5 @@
 -- An ECU stands, or was replaced, in vehicles that have a name, and what was read of it can be read into one.
-use Rattle.std.proofs.Common.{◌≡◌, ℕ, List, [], ◌∷◌, true, false, Option, Some, None, Err, Ok, Result, IfErr, sym, ap, subst, ◌∙◌, string_bytes, bytes_eq, IsUtf8}
+use Rattle.std.proofs.Common.{◌≡◌, ℕ, List, [], ◌∷◌, true, false, Option, Some, None, Err, Ok, Result, IfErr, sym, ap, subst, ◌∙◌, string_bytes, bytes_eq, IsUtf8, refl}
 use Rattle.std.specs.Prelude.{String, option_map}
 use Rattle.std.specs.List.{list_any}
 use Rattle.std.specs.Cmp.Lexicographic.{bytes_decides}

@@ -9,6 +9,7 @@ pub mod WriteBlames
 pub mod VehicleReads
 pub mod Inserted
 pub mod EcuReads
+pub mod EcuSays
 pub mod VehiclePuts
 pub mod FoundingReads
 pub mod RootPuts

@@ -55,10 +55,6 @@ pub told_on : {A : Type 0} (r : Result A StoreFault) (f : StoreFault) (these : L
 told_on (Ok x) f these P old new told h clean = tt
 told_on (Err e) f these P old new told h clean = λ is. h clean (sym told ∙ is)
 
--- a fault that is want of memory
-pub memory_blames_one : (A : Type 0) (these : List (List ℕ × Row)) (P : Connected → Type 0) (old new : Connected) (f : StoreFault) → f ≡ Memory → BlamesOne {A = A} these P old new (Err f)
-memory_blames_one A these P old new f is clean = λ store has. absurd (let no : Memory ≡ Store = sym is ∙ store in cc)
-
 -- a fault that what is written doesn't give
 pub never_blames : {A : Type 0} (these : List (List ℕ × Row)) (P : Connected → Type 0) (old new : Connected) (r : Result A StoreFault) → (P old → ⊥) → BlamesOne these P old new r
 never_blames these P old new (Ok x) never clean = tt

@@ -16,7 +16,7 @@ use Rattle.up_store.specs.Lines.{file_row, root_file_lines, role_file_lines}
 use Rattle.up_store.specs.Shown.{file_read}
 use Rattle.up_store.specs.Writes.{FitsFounding, each_with, founding_writes, key_writes, file_writes, root_writes}
 use Rattle.up_store.proofs.PutBlames.{each_is}
-use Rattle.up_store.proofs.WentOn.{WentOn, then_on, ran_on, blames_on}
+use Rattle.up_store.proofs.WentOn.{WentOn, ran_on, blames_on}
 
 -- the numbers fit their columns
 pub fits_meta : (f : Founding) → FitsFounding f → ((2 ^ 63 ≤ f.root) ⊎ (2 ^ 63 ≤ f.image_version)) → ⊥

@@ -1,5 +1,5 @@
 -- A vehicle is put into the tables, with its ECUs.
-use Rattle.std.proofs.Common.{◌≡◌, ◌+◌, ℕ, zero, suc, pos, List, [], ◌∷◌, ◌++◌, Some, None, Result, Ok, Err, OnOk, IsTrue, length, map, slice_get, refl, sym, ap, ◌∙◌, arith, zero-add}
+use Rattle.std.proofs.Common.{◌≡◌, ◌+◌, ℕ, zero, suc, pos, List, [], ◌∷◌, ◌++◌, Some, None, Result, Ok, Err, OnOk, IsTrue, length, map, slice_get, refl, sym, ap, subst, subst₂, ◌∙◌, arith, zero-add}
 use Rattle.std.specs.List.{AllByRecursion}
 use Rattle.std.specs.FinMap as table
 use Rattle.sqlite.specs.Order.{Row}
@@ -13,8 +13,14 @@ use Rattle.up_rows.specs.StateRows.{StateRows}
 use Rattle.up_tables.specs.declared.values.StoreFault.{StoreFault}
 use Rattle.up_tables.specs.declared.vehicle.VehicleRow.{VehicleRow as VehicleShown}
 use Rattle.up_tables.specs.Forms.{vehicle_row}
-use Rattle.up_tables.specs.Lines.{ecu_row, vehicle_line}
+use Rattle.up_tables.specs.Lines.{EcuLine, ecu_row, vehicle_line}
 use Rattle.up_tables.specs.Rows.{changed_at, with_row}
+use Rattle.std.specs.Borrow.{MutBor}
+use Rattle.sqlite.specs.Held.{Held}
+use Rattle.sqlite_trees.specs.declared.store.Store.{Ghosts}
+use Rattle.up_tables.specs.Statements.{AltersRows, SetsEcu}
+use Rattle.up_tables.specs.Stored.{IsWritten}
+use Rattle.up_tables.specs.Texts.{insert_ecu_text, upsert_ecu_text}
 use Rattle.up_tables.specs.Stands.{IsWithin, GoesOn, HasTables, Alters, Lists}
 use Rattle.up_tables.specs.Tables.{up_schema, vehicle_table, ecu_table}
 use Rattle.up_tables.proofs.ListedLemmas.{goes_on, lists_vehicles, lists_ecus}
@@ -40,6 +46,16 @@ line_at vehicle i rows row there = lines_at vehicle 0 i rows row there ∙ ap (�
 pub length-ecu_lines : (vehicle : Name) (from : ℕ) (rows : List EcuRow) → length (ecu_lines vehicle from rows) ≡ length rows
 length-ecu_lines vehicle from [] = refl
 length-ecu_lines vehicle from (row ∷ rows) = ap suc (length-ecu_lines vehicle (suc from) rows)
+
+-- a statement on the line that is the row's
+pub as_set : {S A : Type 0} (g : Ghosts S) (a e : EcuLine) → a ≡ e → (old new : MutBor (Held S)) (r : Result A StoreFault) → IsWritten g upsert_ecu_text (ecu_row a) (SetsEcu a) old new r
+    → IsWritten g upsert_ecu_text (ecu_row e) (SetsEcu e) old new r
+as_set g a e is old new r h = subst (λ x. IsWritten g upsert_ecu_text (ecu_row x) (SetsEcu x) old new r) is h
+
+pub as_added : {S A : Type 0} (g : Ghosts S) (given name : List ℕ) (a e : EcuLine) → given ≡ name → a ≡ e → (old new : MutBor (Held S)) (r : Result A StoreFault)
+    → IsWritten g insert_ecu_text (ecu_row a) (AltersRows ecu_table 2 (with_row given (ecu_row a))) old new r → IsWritten g insert_ecu_text (ecu_row e) (AltersRows ecu_table 2 (with_row name (ecu_row e))) old new r
+as_added g given name a e named is old new r h =
+    subst₂ (λ v x. IsWritten g insert_ecu_text (ecu_row x) (AltersRows ecu_table 2 (with_row v (ecu_row x))) old new r) named is h
 
 pub vehicle_is : (made : VehicleShown) (row : VehicleRow) → vehicle_read made ≡ row → vehicle_row made ≡ vehicle_line row.vehicle row.primary row.version row.last
 vehicle_is made row same = ap (λ (r : VehicleRow). vehicle_line r.vehicle r.primary r.version r.last) same

@@ -12,17 +12,12 @@ use Rattle.up_tables.proofs.TransactionLemmas.{within_begun, crash_after, stands
 use Rattle.up_store.specs.Connections.{MayWrite, Commits, TakesRows, CommitsRows, SparesRows}
 use Rattle.up_store.specs.Listing.{ListsRows}
 
--- what follows of what a call that went through gives
-pub on_went : {A E P Q : Type 0} (r : Result A E) → (P → Q) → OnOk r P → OnOk r Q
-on_went (Ok x) so h = so h
-on_went (Err e) so h = tt
-
 -- what holds whatever is answered
 pub surely : {A E P : Type 0} (r : Result A E) → P → OnOk r P
 surely (Ok x) h = h
 surely (Err e) h = tt
 
-on_ok : {A E : Type 0} {P Q : Type 0} (r : Result A E) → OnOk r P → (P → Q) → OnOk r Q
+pub on_ok : {A E : Type 0} {P Q : Type 0} (r : Result A E) → OnOk r P → (P → Q) → OnOk r Q
 on_ok (Ok x) h f = f h
 on_ok (Err e) h f = tt
 

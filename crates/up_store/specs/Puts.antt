@@ -50,17 +50,17 @@ pub record AreMadeOfRoot (new : RootRows) (numbers : MetaRow) (keys : List RoleK
   pub name_is : name ≡ numbered_root_name new.founding.root
 
 -- the columns of an image's lists, and those of a campaign, of names and filenames
-pub record IsMadeOfImage (new : ImageData) (first second third : List ℕ) : Type 0 where
-  pub hardware : first ≡ names_column new.hardware
-  pub needs : second ≡ needs_column new.needs
-  pub conflicts : third ≡ names_column new.conflicts
+pub record IsMadeOfImage (new : ImageData) (of_hardware of_needs of_conflicts : List ℕ) : Type 0 where
+  pub hardware : of_hardware ≡ names_column new.hardware
+  pub needs : of_needs ≡ needs_column new.needs
+  pub conflicts : of_conflicts ≡ names_column new.conflicts
   pub idents : list_all is_ident new.hardware ≡ true
   pub typed_needs : list_all is_typed_need new.needs ≡ true
   pub file_names : list_all is_file_name new.conflicts ≡ true
 
-pub record IsMadeOfCampaign (new : CampaignData) (first second : List ℕ) : Type 0 where
-  pub reach : first ≡ reach_column new.reach
-  pub items : second ≡ items_column new.items
+pub record IsMadeOfCampaign (new : CampaignData) (of_reach of_items : List ℕ) : Type 0 where
+  pub reach : of_reach ≡ reach_column new.reach
+  pub items : of_items ≡ items_column new.items
   pub typed_reach : is_typed_reach new.reach ≡ true
   pub typed_items : list_all is_typed_item new.items ≡ true
 

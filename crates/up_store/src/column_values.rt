@@ -173,7 +173,10 @@ pub fn words_at(row: &Row, at: usize) -> Result<Text, StoreFault>
     ensures fault { IfErr result (λ fault. fault ≡ Store → (text : List ℕ) → IsUtf8 text → column row.now at ≢ Value.Text text) }
     ensures kind { ((s : List ℕ) → IsUtf8 s → column row.now at ≢ Value.Text s) → result ≡ Err Store }
 {
-    Ok(Text::new(text_at(row, at)?))
+    match text_at(row, at) {
+        Ok(text) => Ok(Text::new(text)),
+        Err(fault) => Err(fault),
+    }
 }
 
 /// The text in a column, none where it is null; `Store` where it has anything else.

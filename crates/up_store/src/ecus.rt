@@ -113,7 +113,7 @@ fn installed_of<'a>(row: &'a EcuRow) -> Option<InstalledShown<'a>>
         Some(image) => Some(InstalledShown {
             file: image.file.text(),
             length: image.length.get(),
-            sha256: image.sha256.as_slice(),
+            sha256: &image.sha256[..],
         }),
         None => None,
     }

@@ -54,7 +54,7 @@ use Rattle.up_tables.specs.declared.vehicle.VehicleRow.{VehicleRow}
 use Rattle.up_tables.specs.declared.values.StoreFault.{StoreFault}
 use Rattle.up_tables.proofs.ReadLemmas.{Asks}
 use Rattle.up_tables.proofs.AnswerLemmas.{over, given, all_columns, equals_text, equals_int, answer_is, shows_passing}
-use Rattle.up_tables.proofs.ByNameLemmas.{listed_in, named_in, named_blames}
+use Rattle.up_tables.proofs.ByNameLemmas.{listed_in, named_in}
 use Rattle.up_tables.proofs.Casts.{cast_int, cast_null}
 use Rattle.up_tables.proofs.CreateLemmas.{went}
 use Rattle.up_tables.proofs.EcuRows.{text_is, column_after}

@@ -17,12 +17,6 @@ IsWords v = (s : List ℕ) × (v ≡ Text s) × IsUtf8 s
 abbrev pub IsText : Value → List ℕ → Type 0
 IsText v s = (v ≡ Text s) × IsUtf8 s
 
-abbrev pub IsNumber : Value → Type 0
-IsNumber v = (n : ℕ) × (v ≡ Int (pos n))
-
-abbrev pub IsFlag : Value → Type 0
-IsFlag v = (yes : Bool) × (v ≡ Int (yes_or_no yes))
-
 abbrev pub IsBytes : Value → Type 0
 IsBytes v = (b : List ℕ) × (v ≡ Blob b)
 

@@ -1,8 +1,10 @@
-use Rattle.std.proofs.Common.{◌≡◌, ◌∙◌, List, ℕ, length, map, subst, sym, refl, arith, rules}
+use Rattle.std.proofs.Common.{◌≡◌, ◌∙◌, ap, List, ℕ, length, map, subst, sym, refl, arith, rules}
 use Rattle.std.specs.List.{AllByRecursion}
+use Rattle.std.specs.Prelude.{⊤}
 use Rattle.std.proofs.lemmas.List.{length-map, take_all}
 use Rattle.sqlite.specs.Held.{state}
 use Rattle.sqlite.specs.Order.{Row}
+use Rattle.up_tables.specs.Ecus.{line}
 use Rattle.up_tables.specs.Lines.{EcuLine, ecu_row}
 use Rattle.up_tables.specs.Texts.{upsert_ecu_text}
 use Rattle.up_tables.proofs.CallLemmas.{keeps_on}
@@ -13,7 +15,7 @@ use Rattle.up_tables.proofs.UndoneLemmas.{undoes_next}
 use Rattle.up_store.specs.Lines.{ecu_line, ecu_lines}
 use Rattle.up_store.specs.Typed.{IsTypedEcu}
 use Rattle.up_store.proofs.MadeRows.{each_more}
-use Rattle.up_store.proofs.VehiclePuts.{length-ecu_lines, line_at}
+use Rattle.up_store.proofs.VehiclePuts.{as_set, length-ecu_lines, line_at}
 use Rattle.up_store.proofs.ecus.set_ecus.Goals as goal
 
 abbrev it : EcuLine → List ℕ × Row
@@ -26,7 +28,8 @@ loop-place-preserved g c =
     let e = ecu_line name c.loop-place.place c.index-ecus-place.result in
     let there = got_at c.args.ecus.now c.loop-place.place c.index-ecus-place.result (omega (arith, c.loop-place-test.true)) c.index-ecus-place.is in
     let row_there = line_at name c.loop-place.place c.args.ecus.now c.index-ecus-place.result there in
-    let one = rw (c.text.ensures.value, c.ecu_of.ensures.is name c.loop-place.place) at c.in_ok-upsert_ecu.ensures in
+    let to : line c.text.result.now c.loop-place.place c.ecu_of.result ≡ e = ap (λ v. line v c.loop-place.place c.ecu_of.result) c.text.ensures.value ∙ c.ecu_of.ensures.is name c.loop-place.place in
+    let one = as_set {A = ⊤} g.D.Store _ e to _ _ _ c.in_ok-upsert_ecu.ensures in
     let so = c.loop-place.invariant in (
       keeps_on _ _ _ _ _ _ _ _ so.0 one.step.same_reference one.step.inside one.step.is_open one.step.steps (λ clean so_far. (
         counted name rows c.loop-place.place _ _ (next_set name rows c.loop-place.place e _ _ _ refl row_there so_far.0 (one.altered clean)),
@@ -58,7 +61,8 @@ returns-in_err-upsert_ecu-clause-set g c =
     let e = ecu_line name c.loop-place.place c.index-ecus-place.result in
     let there = got_at c.args.ecus.now c.loop-place.place c.index-ecus-place.result (omega (arith, c.loop-place-test.true)) c.index-ecus-place.is in
     let row_there = line_at name c.loop-place.place c.args.ecus.now c.index-ecus-place.result there in
-    let one = rw (c.text.ensures.value, c.ecu_of.ensures.is name c.loop-place.place) at c.in_err-upsert_ecu.ensures in
+    let to : line c.text.result.now c.loop-place.place c.ecu_of.result ≡ e = ap (λ v. line v c.loop-place.place c.ecu_of.result) c.text.ensures.value ∙ c.ecu_of.ensures.is name c.loop-place.place in
+    let one = as_set {A = ⊤} g.D.Store _ e to _ _ _ c.in_err-upsert_ecu.ensures in
     record {
       altered = search rules;
       blame = blames_next c.from_residual.result (map it rows) c.loop-place.place (it e) _ _ _ _ c.from_residual.ensures.1 (statement_at it rows c.loop-place.place e row_there)

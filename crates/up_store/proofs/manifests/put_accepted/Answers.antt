@@ -1,5 +1,6 @@
-use Rattle.std.proofs.Common.{◌≤◌, ◌^◌, Err, length, ap, arith, rules}
+use Rattle.std.proofs.Common.{◌≤◌, ◌^◌, Err, List, length, subst, ap, rules}
 use Rattle.sqlite.specs.Held.{state}
+use Rattle.up_machine.specs.declared.rows.EcuRow.{EcuRow}
 use Rattle.up_store.specs.Puts.{MayAccept}
 use Rattle.up_store.specs.Writes.{accept_writes}
 use Rattle.up_store.proofs.AcceptBlames.{fits_kept}
@@ -23,7 +24,7 @@ pub returns-in_err-check_places : goal.returns-in_err-check_places
 returns-in_err-check_places g c =
     let new = c.args.new.now in
     let before = state g.D.Store c.args.tx.now.conn.now in
-    let many : 2 ^ 63 ≤ length new.vehicle.ecus = omega (arith, c.len.ensures, c.as_slice.ensures, c.in_err-check_places.ensures.fault.1) in
+    let many : 2 ^ 63 ≤ length new.vehicle.ecus = subst (λ (rows : List EcuRow). 2 ^ 63 ≤ length rows) c.as_slice.ensures c.in_err-check_places.ensures.fault.1 in
     record {
       put = search rules;
       ran = search rules;

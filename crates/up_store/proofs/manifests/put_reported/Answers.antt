@@ -7,7 +7,7 @@ use Rattle.up_store.specs.Writes.{reported_writes}
 use Rattle.up_store.proofs.AcceptBlames.{reported_ran, ecus_fail, vehicle_fails}
 use Rattle.up_store.proofs.AcceptPuts.{puts_reported}
 use Rattle.up_store.proofs.PutBlames.{told_on}
-use Rattle.up_store.proofs.Written.{clean_step, on_went, was_open_before}
+use Rattle.up_store.proofs.Written.{clean_step, on_ok, was_open_before}
 use Rattle.up_store.proofs.manifests.put_reported.Goals as goal
 
 pub returns-clause-put : goal.returns-clause-put
@@ -32,7 +32,7 @@ returns-clause-put g c =
 
 pub returns-clause-typed : goal.returns-clause-typed
 returns-clause-typed g c =
-    on_went c.set_ecus.result (λ typed tell. record { named = refl; row = c.row_of.ensures.typed; ecus = typed; tell = tell }) (rw c.as_slice.ensures at c.set_ecus.ensures.typed)
+    on_ok c.set_ecus.result (rw c.as_slice.ensures at c.set_ecus.ensures.typed) (λ typed tell. record { named = refl; row = c.row_of.ensures.typed; ecus = typed; tell = tell })
 
 pub returns-in_err-upsert_vehicle-clause-put : goal.returns-in_err-upsert_vehicle-clause-put
 returns-in_err-upsert_vehicle-clause-put g c =

@@ -1,4 +1,4 @@
-use Rattle.std.proofs.Common.{◌≡◌, Option, Some, None, arith, sym, ap, ◌∙◌, string_bytes, Err}
+use Rattle.std.proofs.Common.{◌≡◌, Option, Some, None, arith, sym, ap, ◌∙◌, string_bytes, Err, rules}
 use Rattle.std.specs.Prelude.{⊤, option_map}
 use Rattle.std.specs.Option.{option_or}
 use Rattle.sqlite.specs.Held.{state}

@@ -1,4 +1,4 @@
-use Rattle.std.proofs.Common.{◌≡◌, Option, Some, sym, ap, ◌∙◌, string_bytes, Err}
+use Rattle.std.proofs.Common.{◌≡◌, Option, Some, sym, ap, ◌∙◌, string_bytes, Err, rules}
 use Rattle.std.specs.Prelude.{⊤, option_map}
 use Rattle.sqlite.specs.Held.{state}
 use Rattle.up_canon.specs.Names.{Name}

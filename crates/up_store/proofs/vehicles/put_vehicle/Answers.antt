@@ -1,6 +1,7 @@
-use Rattle.std.proofs.Common.{◌≤◌, ◌^◌, Ok, Err, Some, inr, length, refl, arith, rules}
+use Rattle.std.proofs.Common.{◌≤◌, ◌^◌, Ok, Err, Some, inr, List, length, subst, refl, rules}
 use Rattle.std.specs.Prelude.{⊤}
 use Rattle.sqlite.specs.Held.{state}
+use Rattle.up_machine.specs.declared.rows.EcuRow.{EcuRow}
 use Rattle.sqlite.specs.State.{State as Connected}
 use Rattle.up_tables.specs.Forms.{vehicle_row}
 use Rattle.up_tables.specs.Lines.{ecu_row}
@@ -24,7 +25,7 @@ returns g c =
     let s2 = state g.D.Store c.add_ecus.new.tx.conn.now in
     let row = c.row_of.result in
     let one = c.in_ok-insert_vehicle.ensures in
-    let two = rw c.as_slice.ensures at c.add_ecus.ensures.added in
+    let two = rw c.as_slice-2.ensures at c.add_ecus.ensures.added in
     let first = each_with insert_vehicle_text (vehicle_lines (Some new)) in
     let rest = each_with insert_ecu_text (ecus_lines name (Some new)) in
     let is = vehicle_row_is new row c.row_of.ensures.same in
@@ -32,7 +33,7 @@ returns g c =
     record {
       put = λ clean.
           let cleanly = clean_step two.step.steps clean in
-          puts_vehicle c.add_ecus.result new row s0 s1 s2 c.row_of.ensures.same c.row_of.ensures.typed (rw c.as_slice.ensures at c.add_ecus.ensures.typed) (one.altered cleanly) (two.altered clean)
+          puts_vehicle c.add_ecus.result new row s0 s1 s2 c.row_of.ensures.same c.row_of.ensures.typed (rw c.as_slice-2.ensures at c.add_ecus.ensures.typed) (one.altered cleanly) (two.altered clean)
           ((one.step.steps.kept cleanly).was_open (one.step.is_open cleanly));
       ran = ran_then first rest s0 s1 s2 one.step.steps.survives two.step.steps.survives c.add_ecus.result went (ran_rows insert_ecu_text ecu_row (ecu_lines name 0 new.ecus) (ecus_lines name (Some new)) s1 s2 c.add_ecus.result refl two.ran);
       blame = blames_then first rest s0 s1 s2 one.step.steps.survives two.step.steps.survives P P c.add_ecus.result went one.step.is_open (λ clean is_open has holds. holds)
@@ -57,7 +58,7 @@ pub returns-in_err-check_places : goal.returns-in_err-check_places
 returns-in_err-check_places g c =
     let new = c.args.new.now in
     let before = state g.D.Store c.args.tx.now.conn.now in
-    let many : 2 ^ 63 ≤ length new.ecus = omega (arith, c.len.ensures, c.as_slice.ensures, c.in_err-check_places.ensures.fault.1) in
+    let many : 2 ^ 63 ≤ length new.ecus = subst (λ (rows : List EcuRow). 2 ^ 63 ≤ length rows) c.as_slice.ensures c.in_err-check_places.ensures.fault.1 in
     record {
       put = search rules;
       ran = search rules;
