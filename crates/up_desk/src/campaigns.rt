@@ -62,7 +62,7 @@ fn decide_opening<D: Alter>(
         (state D.Store store.old) (state D.Store store.new) result (decide_open_in s at campaign.now) }
     ensures reads { Reads (state D.Store store.old) (state D.Store store.new) }
 {
-    match is_founded(store) {
+    match is_founded(store, alloc) {
         Ok(founded) => decide_founded(store, alloc, at, campaign, founded),
         Err(fault) => Err(refusal_of(fault)),
     }
@@ -194,7 +194,7 @@ pub fn close<D: Alter>(
     campaigns_are_written();
     match decide_closing(store, alloc, at, name) {
         Ok(Decision::Already) => Ok(Answer::Already),
-        Ok(Decision::New(row)) => done_of(store.write_close(alloc, &row)),
+        Ok(Decision::New(row)) => done_of(store.write_close(&row)),
         Err(refusal) => Err(refusal),
     }
 }
@@ -211,7 +211,7 @@ fn decide_closing<D: Alter>(
         → GivesOrFails (GivesClosed s name.now) (state D.Store store.old) (state D.Store store.new) result (decide_close_in s at name.now) }
     ensures reads { Reads (state D.Store store.old) (state D.Store store.new) }
 {
-    let founded = match is_founded(store) {
+    let founded = match is_founded(store, alloc) {
         Ok(founded) => founded,
         Err(fault) => return Err(refusal_of(fault)),
     };

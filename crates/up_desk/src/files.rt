@@ -63,20 +63,24 @@ fn read_file<D: Alter>(
     rows_are_found();
     match store.file(alloc, repository, name) {
         Ok(Some(text)) => decide_fetch(at, true, Some(text)),
-        Ok(None) => decide_missing(store, at),
+        Ok(None) => decide_missing(store, alloc, at),
         Err(fault) => Err(refusal_of(fault)),
     }
 }
 
 /// The same where there is no such file: whether the repositories are founded is read for the refusal alone.
-fn decide_missing<D: Alter>(store: &mut Store<D>, at: Moment) -> Result<Text, Refusal>
+fn decide_missing<D: Alter>(
+    store: &mut Store<D>,
+    alloc: Global,
+    at: Moment,
+) -> Result<Text, Refusal>
     requires { at ≤ last_command_moment }
     ensures decided { HasCleanDisk (state D.Store store.new) → (k : Rules) (s : State) (repository : RepositoryName) (name : Name)
         → None ≡ file k s repository name → IfClean (KeepsState k s) (state D.Store store.old)
         → GivesOrFails (GivesFile s) (state D.Store store.old) (state D.Store store.new) result (decide_fetch_in k s at repository name) }
     ensures reads { Reads (state D.Store store.old) (state D.Store store.new) }
 {
-    match is_founded(store) {
+    match is_founded(store, alloc) {
         Ok(founded) => decide_fetch(at, founded, None),
         Err(fault) => Err(refusal_of(fault)),
     }

@@ -94,7 +94,7 @@ fn decide<K: Scheme, D: Alter>(
         (state D.Store store.old) (state D.Store store.new) result (decide_vehicle_in (K.rules scheme.now) s at new.now) }
     ensures reads { Reads (state D.Store store.old) (state D.Store store.new) }
 {
-    match is_founded(store) {
+    match is_founded(store, alloc) {
         Ok(founded) => decide_founded(store, alloc, scheme, at, new, founded),
         Err(fault) => Err(refusal_of(fault)),
     }

@@ -18,12 +18,12 @@ use up_sign::scheme::Scheme;
 use up_store::store::{Store, StoreFault};
 
 /// Whether the repositories are founded.
-pub fn is_founded<D: Alter>(store: &mut Store<D>) -> Result<bool, StoreFault>
+pub fn is_founded<D: Alter>(store: &mut Store<D>, alloc: Global) -> Result<bool, StoreFault>
     ensures told { Tells (λ k s. is_some (founding_row s)) (state D.Store store.old) (state D.Store store.new) result }
     ensures blame { Blames (state D.Store store.old) (state D.Store store.new) result }
     ensures reads { Reads (state D.Store store.old) (state D.Store store.new) }
 {
-    store.is_founded()
+    store.is_founded(alloc)
 }
 
 /// The founding's row, none before founding. `Store` where its keys can't sign, which no call of this product leaves.

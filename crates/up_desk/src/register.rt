@@ -166,7 +166,7 @@ pub fn refresh<K: Scheme, D: Alter>(
 {
     images_are_added();
     match decide_refreshing(store, alloc, scheme, at, version) {
-        Ok(rows) => done_of(store.write_refresh(alloc, &rows)),
+        Ok(rows) => done_of(store.write_refresh(&rows)),
         Err(refusal) => Err(refusal),
     }
 }

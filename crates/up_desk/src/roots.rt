@@ -67,7 +67,7 @@ fn decide_founding<K: Scheme, D: Alter>(
         (state D.Store store.old) (state D.Store store.new) result (decide_found_in (K.rules scheme.now) s at keys.now) }
     ensures reads { Reads (state D.Store store.old) (state D.Store store.new) }
 {
-    match is_founded(store) {
+    match is_founded(store, alloc) {
         Ok(founded) => decide_founding_after(store, alloc, scheme, at, keys, founded),
         Err(fault) => Err(refusal_of(fault)),
     }

@@ -1,5 +1,5 @@
 -- Steps within a transaction, one after another.
-use Rattle.std.proofs.Common.{◌≡◌, ◌++◌, ◌∙◌, inl, inr, ℕ, List, [], ◌∷◌, Ok, Err, Result, IsTrue, OnOk, refl, sym, subst}
+use Rattle.std.proofs.Common.{◌≡◌, ◌++◌, ◌∙◌, inr, ℕ, List, [], ◌∷◌, Ok, Err, Result, IsTrue, subst}
 use Rattle.std.specs.Prelude.{⊤}
 use Rattle.std.specs.Borrow.{MutBor}
 use Rattle.std.specs.Result.{IsErrAnd}
@@ -11,13 +11,12 @@ use Rattle.up_tables.specs.Stands.{HasTables}
 use Rattle.up_tables.specs.Statements.{IsOpenStep}
 use Rattle.up_tables.specs.Stored.{AreWritten, IsWritten}
 use Rattle.up_tables.specs.declared.values.StoreFault.{StoreFault}
-use Rattle.up_tables.specs.declared.values.StoreFault.TheVariants.{Store}
 use Rattle.up_tables.proofs.StepLemmas.{steps_then}
 use Rattle.up_tables.proofs.TriedLemmas.{blames_first, blames_only, blames_so}
 use Rattle.up_tables.proofs.UndoneLemmas.{undoes_next}
 use Rattle.up_store.specs.Within.{MakesAndPuts, PutsWithin}
 use Rattle.up_store.proofs.PutBlames.{told_on}
-use Rattle.up_store.proofs.WentOn.{WentOn, blames_on, never_store, ran_on}
+use Rattle.up_store.proofs.WentOn.{WentOn, blames_on, ran_on}
 
 abbrev Puts : Type 0 → Type 1
 Puts A = Connected → Connected → Result A StoreFault → Type 0
@@ -39,13 +38,6 @@ module _ {S A : Type 0} (g : Ghosts S) (these : List (List ℕ × Row)) (may : C
   pub makes_puts : (puts : Puts A) (may' : Connected → Type 0) → (may (state g old.now) → may' (state g old.now)) → PutsWithin g puts these may' old new r → MakesAndPuts g puts these may old new r
   makes_puts puts may' so c =
       record { put = c.put; ran = c.ran; blame = blames_so these may' may (state g old.now) (state g new.now) r (λ is_open has holds. so holds) c.blame; memory = inr c.memory; step = c.step }
-
--- what wasn't made, so that nothing was asked of the connection
-pub makes_none : {S A : Type 0} (g : Ghosts S) (these : List (List ℕ × Row)) (may : Connected → Type 0) (puts : Puts A) (old : MutBor (Held S)) (r : Result A StoreFault) (f : StoreFault) → IsErrAnd r (λ e. e ≡ f) → (f ≡ Store → may (state g old.now) → ⊥)
-    → ((e : StoreFault) → puts (state g old.now) (state g old.now) (Err e)) → IsOpenStep g old old r → MakesAndPuts g puts these may old old r
-makes_none g these may puts old (Ok x) f told never fails step = absurd told
-makes_none g these may puts old (Err e) f told never fails step =
-    record { put = fails e; ran = λ clean. tt; blame = never_store these may (state g old.now) (state g old.now) (Err e) f told never; memory = inl refl; step = step }
 
 module _ {S A : Type 0} (g : Ghosts S) (puts : Puts A) (these more : List (List ℕ × Row)) (may : Connected → Type 0) where
   -- a step that went through, and the next

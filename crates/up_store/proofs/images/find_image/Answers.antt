@@ -1,5 +1,5 @@
 use Rattle.std.specs.Prelude.{⊤}
-use Rattle.std.proofs.Common.{◌≡◌, ℕ, List, Some, None, Err, Option, map, rules, arith, refl}
+use Rattle.std.proofs.Common.{◌≡◌, ℕ, List, Some, None, Err, map, rules, arith, refl}
 use Rattle.std.specs.FinMap as table
 use Rattle.std.specs.Option.{option_to_list}
 use Rattle.sqlite.specs.Effect.{Database}

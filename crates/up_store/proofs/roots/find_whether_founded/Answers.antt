@@ -1,4 +1,4 @@
-use Rattle.std.proofs.Common.{refl, rules}
+use Rattle.std.proofs.Common.{rules}
 use Rattle.sqlite.specs.Held.{state}
 use Rattle.up_store.proofs.FoundingReads.{founded_by}
 use Rattle.up_store.proofs.roots.find_whether_founded.Goals as goal
