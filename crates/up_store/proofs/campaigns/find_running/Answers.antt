@@ -5,9 +5,10 @@ use Rattle.sqlite.specs.State.{HasCleanDisk}
 use Rattle.up_tables.specs.Stands.{Lists}
 use Rattle.up_tables.specs.Tables.{campaign_table}
 use Rattle.up_tables.proofs.StateLemmas.{ok_then}
-use Rattle.up_store.proofs.Blamed.{by_statement, memory_blames}
+use Rattle.up_store.proofs.Blamed.{memory_blames}
 use Rattle.up_store.proofs.ColumnFound.{are_running}
 use Rattle.up_store.proofs.KindsOfCampaigns.{campaign_lines_said, holds_running, running_by_name}
+use Rattle.up_store.proofs.WithinLemmas.{finds_fault}
 use Rattle.up_store.proofs.campaigns.find_running.Goals as goal
 
 pub returns-in-Ok : goal.returns-in-Ok
@@ -28,11 +29,4 @@ returns-in-Ok g c =
 
 pub returns-in-Err : goal.returns-in-Err
 returns-in-Err g c =
-    let before = state g.D.Store c.args.tx.now.conn.now in
-    record {
-      found = λ clean. tt;
-      shown = λ clean. tt;
-      «open» = λ clean. tt;
-      blame = by_statement (λ _. ⊤) _ before (state g.D.Store c.running_campaigns.new.tx.conn.now) (Err c.in-Err.fault) (λ rows lists fits. holds_running before rows lists) c.in-Err.ensures.blame;
-      step = search rules;
-    }
+    finds_fault g.D.Store _ _ (λ _. ⊤) _ _ c.running_campaigns.result c.in-Err.fault _ (λ clean. tt) (λ rows lists fits. holds_running (state g.D.Store c.args.tx.now.conn.now) rows lists) c.in-Err.ensures.blame c.running_campaigns.ensures.step
