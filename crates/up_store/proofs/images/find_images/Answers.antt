@@ -1,9 +1,10 @@
-use Rattle.std.proofs.Common.{Err, arith, refl, rules}
+use Rattle.std.proofs.Common.{ℕ, List, arith, refl, rules}
 use Rattle.std.specs.Prelude.{⊤}
 use Rattle.sqlite.specs.Effect.{Database}
 use Rattle.sqlite.specs.Held.{state}
+use Rattle.sqlite.specs.Order.{Row}
 use Rattle.sqlite.specs.State.{HasCleanDisk}
-use Rattle.up_tables.specs.Stands.{Lists}
+use Rattle.up_tables.specs.Stands.{HasTables, Lists}
 use Rattle.up_tables.specs.Tables.{image_sha512_table, image_table}
 use Rattle.up_tables.proofs.StateLemmas.{ok_then}
 use Rattle.up_store.specs.ColumnRows.{AreImages}
@@ -19,7 +20,7 @@ returns-in-Ok g c =
     let before = state g.D.Store c.args.tx.now.conn.now in
     let mid = state g.D.Store c.images.new.tx.conn.now in
     let found = c.in-Ok.shown.items in
-    let said = λ (clean : HasCleanDisk mid) (rows_of : _) (has : _) (lists : Lists 1 rows_of (before.now.trees image_table.tree)). images_by_name _ rows_of found lists (c.in-Ok.ensures.found clean _ has (record { shaped = lists.shaped; every = refl })) in
+    let said = λ (clean : HasCleanDisk mid) (rows_of : List ℕ → List Row) (has : HasTables before) (lists : Lists 1 rows_of (before.now.trees image_table.tree)). images_by_name _ rows_of found lists (c.in-Ok.ensures.found clean _ has (record { shaped = lists.shaped; every = refl })) in
     let next = c.find_with_sha512s.ensures in
     record {
       found = λ clean.
