@@ -7,14 +7,17 @@ use Rattle.sqlite_trees.specs.declared.store.Store.{Ghosts}
 use Rattle.sqlite.specs.Held.{Held, state}
 use Rattle.sqlite.specs.Order.{Row}
 use Rattle.sqlite.specs.State.{State as Connected, HasCleanDisk}
+use Rattle.up_rows.specs.StateRows.{StateRows}
 use Rattle.up_tables.specs.Stands.{HasTables}
-use Rattle.up_tables.specs.Statements.{IsOpenStep}
+use Rattle.up_tables.specs.Statements.{BlamesDisk, IsOpenStep}
 use Rattle.up_tables.specs.Stored.{AreWritten, IsWritten}
 use Rattle.up_tables.specs.declared.values.StoreFault.{StoreFault}
 use Rattle.up_tables.proofs.StepLemmas.{steps_then}
 use Rattle.up_tables.proofs.TriedLemmas.{blames_first, blames_only, blames_so}
 use Rattle.up_tables.proofs.UndoneLemmas.{undoes_next}
-use Rattle.up_store.specs.Within.{MakesAndPuts, PutsWithin}
+use Rattle.up_store.specs.Listing.{ListsRows}
+use Rattle.up_store.specs.Within.{FindsWithin, MakesAndPuts, PutsWithin}
+use Rattle.up_store.proofs.Blamed.{by_statement}
 use Rattle.up_store.proofs.PutBlames.{told_on}
 use Rattle.up_store.proofs.WentOn.{WentOn, blames_on, ran_on}
 
@@ -76,3 +79,16 @@ module _ {S A : Type 0} (g : Ghosts S) (puts : Puts A) (these more : List (List 
         memory = undoes_next (Err e) s1 f told c.memory;
         step = record { same_reference = c.step.same_reference; steps = c.step.steps; inside = tt; is_open = tt };
       }
+
+-- ---- reads
+
+-- a fault of a statement, whose table has the rows that it shows
+pub finds_fault : {S A B : Type 0} (g : Ghosts S) (tells : StateRows → A → Type 0) (finds : Puts A) (fits : StateRows → Type 0) (old new : MutBor (Held S)) (r : Result B StoreFault) (f : StoreFault) (P : Type 0) → finds (state g old.now) (state g new.now) (Err f)
+    → ((rows : StateRows) → ListsRows rows (state g old.now).now.trees → fits rows → P) → BlamesDisk {A = ⊤} (λ s. P) (state g old.now) (state g new.now) (Err f) → IsOpenStep g old new r → FindsWithin g tells finds fits old new (Err f)
+finds_fault g tells finds fits old new r f P none holds blame step = record {
+  found = λ clean. tt;
+  shown = none;
+  «open» = λ clean. tt;
+  blame = by_statement fits P (state g old.now) (state g new.now) (Err f) holds blame;
+  step = record { same_reference = step.same_reference; steps = step.steps };
+}
