@@ -44,7 +44,7 @@ use Rattle.up_machine.proofs.Places.{nth_last}
 use Rattle.up_machine.proofs.Fetched.{in_time}
 use Rattle.up_rows.specs.StateRows.{rows_of_state}
 use Rattle.up_store.specs.Connections.{KeepsState}
-use Rattle.up_desk.specs.Laws.{ActsOnce, replaced_in, replaces_own, LeaveAlone, ActsOnceFrom, DeliveriesActOnce, FindsState, IsCalled, CrashesActOnce, ReopenedActsOnce, ReopenedOutlast}
+use Rattle.up_desk.specs.Laws.{ActsOnce, replaced_in, replaces_own, LeaveAlone, ActsOnceFrom, DeliveriesActOnce, FindsState, IsDelivered, CrashesActOnce, ReopenedActsOnce, ReopenedOutlast}
 use Rattle.up_desk.specs.Serving.{HoldsState}
 
 -- ---- a vehicle that is left alone
@@ -318,7 +318,7 @@ served_as_accepted stale counters k s at body incoming o sound reads decides =
     served_new k s at body is.received is.receives (never_kept stale counters k s at body o sound decides) is.checked ∙ is.is
 
 -- a crash leaves the state before the call or the next one
-either : {S : Type 0} (g : Ghosts S) (k : Rules) (s : State) (at : ℕ) (body : List ℕ) (incoming : Incoming) (old new : Held S) → IsCalled g k s at body incoming old new → HasCleanDisk (state g new)
+either : {S : Type 0} (g : Ghosts S) (k : Rules) (s : State) (at : ℕ) (body : List ℕ) (incoming : Incoming) (old new : Held S) → IsDelivered g k s at body incoming old new → HasCleanDisk (state g new)
     → (left : Trees) → (state g new).may_leave left → HoldsState k s left ⊎ HoldsState k (serve k s at (Deliver body)).next left
 either g k s at body incoming old new it clean left may =
     let before : HasCleanDisk (state g old) = omega (arith, it.survives.clean) in

@@ -5,7 +5,6 @@ use Rattle.up_canon.specs.declared.refusal.Refusal.{Refusal}
 use Rattle.up_sign.specs.Schemes.{Rules}
 use Rattle.up_machine.specs.declared.command.Command.{Command}
 use Rattle.up_machine.specs.declared.answer.Answer.{Answer}
-use Rattle.up_machine.specs.declared.answer.Answer.TheVariants.{Refused}
 use Rattle.up_machine.specs.Commands.{is_command}
 use Rattle.up_machine.specs.Laws.{EmptyIsSound, KeptRepliesOutlastRuns}
 use Rattle.up_machine.specs.Primaries.{DeliveriesKeepPrimaries}
@@ -16,9 +15,9 @@ use Rattle.up_machine.specs.State.{State}
 use Rattle.up_tables.specs.Stands as stands
 use Rattle.up_store.specs.Connections as connections
 use Rattle.up_desk.specs.Serving.{HoldsState, told, outcome_due, outright, Serves}
-use Rattle.up_desk.specs.Standing.{Standing, HasCleanDisk, IfClean, KeepsState, Fits, StillFits}
-use Rattle.up_desk.specs.Calls.{BlamesCall, MakesCall, ServesCall, SparesCall, CommitsCall}
-use Rattle.up_desk.proofs.Serving.{answered, blamed, crashed, committed, clean_once, made, told_outright}
+use Rattle.up_desk.specs.Standing.{Standing, HasCleanDisk, IfClean, ShowsState, Fits, StillFits}
+use Rattle.up_desk.specs.Calls.{IsCalled, ServesCall}
+use Rattle.up_desk.proofs.Serving.{answered, blamed, crashed, committed, clean_once, told_outright}
 use Rattle.up_desk.proofs.Outlasting.{answered_stays}
 use Rattle.up_desk.proofs.Cataloged.{still_fits}
 
@@ -39,17 +38,8 @@ Obeys k at c r old new = (s : State) → IsSound k s → stands.IfClean (connect
 abbrev pub Keeps : Command → Standing → Standing → Type 0
 Keeps c old new = HasCleanDisk new → (k : Rules) (s : State) → stands.IfClean (connections.KeepsState k s) old.connection → Fits s old.catalog → StillFits s c new.catalog
 
-pub record IsCall (k : Rules) (at : ℕ) (c : Command) (a : Answer) (old new : Standing) : Type 0 where
-  pub served : ServesCall k at c a old new
-  pub outright : IfSome (outright k at c) (λ r. a ≡ Refused r)
-  pub crash : SparesCall k at c old new
-  pub durable : CommitsCall k at c a old new
-  pub clean : HasCleanDisk new → HasCleanDisk old
-  pub blame : BlamesCall k at c a old new
-  pub made : MakesCall k at c a old new
-
 -- from a state that is shown
-obeyed : (k : Rules) (at : ℕ) (c : Command) (r : Result Answer Refusal) (old new : Standing) → Obeys k at c r old new → (s : State) → IsSound k s → IfClean (KeepsState k s) old
+obeyed : (k : Rules) (at : ℕ) (c : Command) (r : Result Answer Refusal) (old new : Standing) → Obeys k at c r old new → (s : State) → IsSound k s → IfClean (ShowsState k s) old
     → Serves k s old.connection new.connection r (outcome_due k s at c)
 obeyed k at c r old new obeys s sound was = obeys s sound (λ now. (was now).tables) (λ now. (was now).memory)
 
@@ -71,7 +61,7 @@ serves laws k at c r old new fits obeys keeps = λ now s sound was.
     )
 
 told_call : (laws : CallLaws) (k : Rules) (at : ℕ) (c : Command) (r : Result Answer Refusal) (old new : Standing) → IsTrue (is_command c) → Obeys k at c r old new → Keeps c old new
-    → IfSome (outright k at c) (λ q. r ≡ Err q) → IsCall k at c (told r) old new
+    → IfSome (outright k at c) (λ q. r ≡ Err q) → IsCalled k at c (told r) old new
 told_call laws k at c r old new fits obeys keeps due = record {
   served = serves laws k at c r old new fits obeys keeps;
   outright = told_outright (outright k at c) r (told r) refl due;
@@ -79,9 +69,8 @@ told_call laws k at c r old new fits obeys keeps due = record {
   durable = λ s sound was commit. committed k s old.connection new.connection at c r (obeyed k at c r old new obeys s sound was) commit;
   clean = cleaned laws k at c r old new obeys;
   blame = λ now is s sound was. blamed k s old.connection new.connection at c r laws.sound fits sound (obeyed k at c r old new obeys s sound was) now is;
-  made = λ now s sound was is_open. made k s old.connection new.connection at c r (obeyed k at c r old new obeys s sound was) now is_open;
 }
 
 pub called : (laws : CallLaws) (k : Rules) (at : ℕ) (c : Command) (r : Result Answer Refusal) (a : Answer) (old new : Standing) → IsTrue (is_command c) → Obeys k at c r old new → Keeps c old new
-    → IfSome (outright k at c) (λ q. r ≡ Err q) → a ≡ told r → IsCall k at c a old new
-called laws k at c r a old new fits obeys keeps due is = subst (λ (x : Answer). IsCall k at c x old new) (sym is) (told_call laws k at c r old new fits obeys keeps due)
+    → IfSome (outright k at c) (λ q. r ≡ Err q) → a ≡ told r → IsCalled k at c a old new
+called laws k at c r a old new fits obeys keeps due is = subst (λ (x : Answer). IsCalled k at c x old new) (sym is) (told_call laws k at c r old new fits obeys keeps due)

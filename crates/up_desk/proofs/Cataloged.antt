@@ -1,6 +1,5 @@
 -- What is kept in memory, and what keeps it.
-use Rattle.std.proofs.Common.{◌≡◌, ◌+◌, ◌<◌, ◌≤◌, ℕ, List, [], ◌∷◌, ◌++◌, Bool, true, false, cond, Option, Some, None, Result, Ok, Err, filter, inl, inr, length, get_or, take, refl, sym, ap, ◌∙◌, subst, arith}
-use Rattle.std.proofs.lemmas.List.{take_more, take_all}
+use Rattle.std.proofs.Common.{◌≡◌, ◌+◌, ◌≤◌, ℕ, List, [], ◌∷◌, Bool, true, false, cond, Option, Some, None, Result, Ok, Err, filter, inl, inr, refl, sym, ap, ◌∙◌, subst, arith}
 use Rattle.std.specs.Prelude.{⊤, ◌⊎◌, ◌&&◌, if◌then◌else◌, IfSome, OnErr, OnOk, MatchBool, flat_map, is_some}
 use Rattle.std.specs.FinMap.{get-empty, len-empty, len-insert}
 use Rattle.std.specs.Ordering.{nat_cmp}
@@ -38,7 +37,7 @@ use Rattle.up_machine.specs.State.{State, Vehicle}
 use Rattle.up_machine.proofs.Tables.{get_after-insert, kept_by_insert}
 use Rattle.up_store.specs.Found.{values_where}
 use Rattle.up_desk.specs.Serving.{is_failed, IsAnswered, outcome_due}
-use Rattle.up_desk.specs.Standing.{AreFew, ArePrimaries, CanDecide, Come, IsOf, Fits, IsLoaded, KeepsMore, StayKept, StaysLoaded, StillFits, keeps_catalog, kept_for, kept_over, primaries_in}
+use Rattle.up_desk.specs.Standing.{AreFew, ArePrimaries, CanDecide, Come, IsOf, Fits, IsLoaded, KeepsMore, StayKept, StaysLoaded, StillFits, keeps_catalog, kept_for, primaries_in}
 use Rattle.up_desk.specs.declared.catalog.Catalog.{Catalog}
 use Rattle.up_desk.proofs.Serving.{next_is}
 use Rattle.up_desk.proofs.Told.{running_sorted}
@@ -317,26 +316,3 @@ stays_then (Some x) (Some y) (Some z) ab bc = more_then x y z ab bc
 pub loaded_anew : (o new : Option Catalog) → is_some o ≡ false → StaysLoaded o new
 loaded_anew None new none = tt
 loaded_anew (Some c) new none = absurd (let no : true ≡ false = none in cc)
-
--- ---- over a list
-
--- what stayed so far stays over one command more
-stays_on : (c : Command) (old mid new : Option Catalog) → StaysLoaded old mid → StaysLoaded (kept_for c mid) new → StaysLoaded (kept_for c old) new
-stays_on c old mid new far more = by_kind (keeps_catalog c) more
-  where
-    by_kind : (b : Bool) → StaysLoaded (if b then mid else None) new → StaysLoaded (if b then old else None) new
-    by_kind true more = stays_then old mid new far more
-    by_kind false more = tt
-
-kept_next : (cs : List (ℕ × Command)) (c : ℕ × Command) (o : Option Catalog) → kept_over (cs ++ c ∷ []) o ≡ kept_for c.1 (kept_over cs o)
-kept_next [] c o = refl
-kept_next (d ∷ cs) c o = kept_next cs c (kept_for d.1 o)
-
-pub stays_more : (cs : List (ℕ × Command)) (i : ℕ) (c : ℕ × Command) (old mid new : Option Catalog) → i < length cs → c ≡ get_or cs i c
-    → StaysLoaded (kept_over (take i cs) old) mid → StaysLoaded (kept_for c.1 mid) new → StaysLoaded (kept_over (take (i + 1) cs) old) new
-stays_more cs i c old mid new within item far more =
-    let taken : take (i + 1) cs ≡ take i cs ++ c ∷ [] = take_more cs i c within ∙ ap (λ x. take i cs ++ x ∷ []) (sym item) in
-    subst (λ o. StaysLoaded o new) (sym (ap (λ xs. kept_over xs old) taken ∙ kept_next (take i cs) c old)) (stays_on c.1 (kept_over (take i cs) old) mid new far more)
-
-pub stays_whole : (cs : List (ℕ × Command)) (i : ℕ) (old new : Option Catalog) → length cs ≤ i → StaysLoaded (kept_over (take i cs) old) new → StaysLoaded (kept_over cs old) new
-stays_whole cs i old new all far = subst (λ xs. StaysLoaded (kept_over xs old) new) (take_all i cs all) far

@@ -13,9 +13,8 @@ pub mod Outlasting
 pub mod Cataloged
 pub mod SentBy
 pub mod LeftKept
-pub mod Viewed
+pub mod Standings
 pub mod Calls
 pub mod Runs
-pub mod EachCall
 pub mod Commits
 pub mod Again

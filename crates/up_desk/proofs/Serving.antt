@@ -37,7 +37,7 @@ use Rattle.sqlite.specs.State.{State as Connected, HasCleanDisk, Survives}
 use Rattle.up_tables.specs.Stands.{IfClean, LeavesOnly}
 use Rattle.up_store.specs.Connections.{KeepsState}
 use Rattle.up_desk.specs.Delivering.{RefusesRead, RefusesUnread}
-use Rattle.up_desk.specs.Serving.{is_store, is_fault, is_failed, Becomes, DiskFailed, IsAnswered, IsBlamed, IsDueOrFails, told, outcome_due, outright_in_time, outright, alone_in_time, refused_alone, HoldsState, Leaves, IsCommit, Reads, Serves}
+use Rattle.up_desk.specs.Serving.{is_store, is_fault, is_failed, DiskFailed, IsAnswered, IsBlamed, IsDueOrFails, told, outcome_due, outright_in_time, outright, alone_in_time, refused_alone, HoldsState, Leaves, IsCommit, Reads, Serves}
 use Rattle.up_desk.proofs.NeverStore.{NeverStore}
 
 -- ---- the moment
@@ -209,11 +209,6 @@ blamed k s old new at c r stays fits sound h clean is =
     let store = refusal_told_so k s new r (outcome_due k s at c) (h.leaves clean) is in
     let blame = subst (λ (q : Result Answer Refusal). IfErr q (λ e. e ≡ Store → IsBlamed k s old new (outcome_of s (outcome_due k s at c)))) store (h.blame clean next) in
     subst (IsBlamed k s old new) same (blame refl)
-
--- what was made of the database
-pub made : (k : Rules) (s : State) (old new : Connected) (at : ℕ) (c : Command) (r : Result Answer Refusal) → Serves k s old new r (outcome_due k s at c) → HasCleanDisk new
-    → IsTrue new.is_open → Becomes k s (told r) (serve k s at c).next old.step_limit old.now new.now
-made k s old new at c r h clean is_open = subst (λ (n : State). Becomes k s (told r) n old.step_limit old.now new.now) (next_is k s at c) (h.made clean is_open).1
 
 -- ---- what is refused whether or not there is memory
 

@@ -23,12 +23,12 @@ use Rattle.up_tables.specs.declared.values.StoreFault.{StoreFault}
 use Rattle.up_tables.specs.declared.values.StoreFault.TheVariants as fault
 use Rattle.up_tables.specs.Stands.{IfClean, IsAsCommitted, LeavesOnly}
 use Rattle.up_tables.specs.Tables.{up_schema}
-use Rattle.up_tables.specs.Tried.{Makes, RefusesOne}
+use Rattle.up_tables.specs.Tried.{RefusesOne}
 use Rattle.up_tables.proofs.TransactionLemmas.{stands_kept}
-use Rattle.up_store.specs.Connections.{BlamesWrite, KeepsState, KeepsRows, HoldsRows, MayWrite, NeedsOpen, RanWrite, TakesRows, CommitsRows, SparesRows}
+use Rattle.up_store.specs.Connections.{BlamesWrite, KeepsState, KeepsRows, HoldsRows, MayWrite, TakesRows, CommitsRows, SparesRows}
 use Rattle.up_store.specs.Listing.{ListsRows}
 use Rattle.up_store.specs.Writes.{AreWrites}
-use Rattle.up_desk.specs.Serving.{is_store, is_fault, is_failed, told, Becomes, HoldsState, Leaves, IsBlamed, IsCommit, RefusesOutcome, Serves, Reads, DiskFailed, IsDueOrFails, GivesOrFails, refusal_told, answer_written}
+use Rattle.up_desk.specs.Serving.{is_store, is_fault, is_failed, told, HoldsState, Leaves, IsBlamed, IsCommit, RefusesOutcome, Serves, Reads, DiskFailed, IsDueOrFails, GivesOrFails, refusal_told, answer_written}
 use Rattle.up_desk.proofs.NeverStore.{NeverStore}
 
 -- ---- reads
@@ -142,7 +142,6 @@ refused {k} {s} {old} {new} {r} {computed} was reads is_due = record {
   crash = spared (HoldsState k (outcome_of s computed).next) old new reads;
   durable = λ commit. absurd commit;
   blame = λ clean sound store is_open unlimited. inl (blamed old new r computed (is_due clean) store is_open unlimited);
-  made = λ clean is_open. let same = reads.same (rows_of_state k s) was clean is_open in (same.0, inr (λ commit. commit, same.1));
 }
 
 -- its answer leaves the state as it is
@@ -154,9 +153,6 @@ unchanged {k} {s} {old} {new} {answer} {computed} given never was reads is = rec
   crash = spared (HoldsState k (outcome_of s computed).next) old new reads;
   durable = λ commit clean. absurd (never (outcome_of s computed).next commit (ap (λ o. (outcome_of s o).next) (is clean)));
   blame = λ clean sound. tt;
-  made = λ clean is_open.
-      let same = reads.same (rows_of_state k s) was clean is_open in
-      (same.0, inr (λ commit. never (outcome_of s computed).next commit (ap (λ o. (outcome_of s o).next) (is clean)), same.1));
 }
 
 -- a database that refuses behind a read refused before it
@@ -178,16 +174,6 @@ blamed_before k s {old} {mid} new o was reads counts clean h is_open unlimited =
     by_closing (inl still) = by_blame still (h still (reads.survives.limit ∙ unlimited))
     by_closing (inr more) = inl (omega (arith, counts, more))
 
--- what is made of a database behind a read is made of that before it
-made_before : (k : Rules) (s : State) {old mid : Connected} (a : Answer) (next : State) (after : Database) → IfClean (KeepsState k s) old → Reads old mid → HasCleanDisk mid
-    → IsTrue mid.is_open × Becomes k s a next mid.step_limit mid.now after → IsTrue old.is_open × Becomes k s a next old.step_limit old.now after
-made_before k s {old} {mid} a next after was reads clean made =
-    let same = reads.same (rows_of_state k s) was clean made.0 in (
-      same.0,
-      subst (λ (db : Database). Becomes k s a next old.step_limit db after) same.1
-          (subst (λ (l : Option ℕ). Becomes k s a next l mid.now after) reads.survives.limit made.1),
-    )
-
 -- what is served after a read is served after what was before it
 pub after_reads : {k : Rules} {s : State} {old mid new : Connected} {r : Result Answer Refusal} {computed : Result Outcome Refusal} → IfClean (KeepsState k s) old → Reads old mid → Serves k s mid new r computed → Serves k s old new r computed
 after_reads {k} {s} {old} {mid} {new} {r} {computed} was reads serves = record {
@@ -195,7 +181,6 @@ after_reads {k} {s} {old} {mid} {new} {r} {computed} was reads serves = record {
   crash = survives_then old mid new (λ _. ⊥) (HoldsState k (outcome_of s computed).next) (HoldsState k (outcome_of s computed).next) (λ _ db none. absurd none) (λ _ db holds. holds) reads.survives serves.crash;
   durable = serves.durable;
   blame = λ clean sound. by_result r (serves.blame clean sound) (before clean);
-  made = λ clean is_open. made_before k s (told r) (outcome_of s computed).next new.now was reads (before clean) (serves.made clean is_open);
 }
   where
     before : HasCleanDisk new → HasCleanDisk mid
@@ -230,14 +215,13 @@ store_told fault.Store is = refl
 pub written : (k : Rules) (s : State) (old mid new : Connected) (answer : Answer) (w : Result ⊤ StoreFault) (these : List (List ℕ × Row)) (held fits : StateRows → Type 0) (change : StateRows → StateRows)
     (computed : Result Outcome Refusal) → is_failed answer ≡ false → IfClean (KeepsState k s) old → Reads old mid → (HasCleanDisk mid → WillWrite k s these held fits change answer computed)
     → TakesRows fits change mid new w → CommitsRows fits change mid new w → OnErr w (IfClean (IsAsCommitted mid) new) → SparesRows fits change mid new → (HasCleanDisk new → HasCleanDisk mid)
-    → NeedsOpen mid new w → RanWrite these mid new w → BlamesWrite these held mid new w → Serves k s old new (answer_written answer w) computed
-written k s old mid new answer w these held fits change computed given was reads will takes commits kept spares clean opens ran blame = record {
+    → BlamesWrite these held mid new w → Serves k s old new (answer_written answer w) computed
+written k s old mid new answer w these held fits change computed given was reads will takes commits kept spares clean blame = record {
   leaves = leaves w takes kept;
   crash = survives_then old mid new (λ _. ⊥) (HoldsRows (change rows)) (HoldsState k (outcome_of s computed).next) (λ _ db none. absurd none)
       (λ now db holds. subst (λ r. HoldsRows r db) (next_is now) holds) reads.survives (spares rows may);
   durable = durable w commits;
   blame = λ now sound. by_write w (blame now) now sound;
-  made = λ now is_open. made_before k s (told (answer_written answer w)) (outcome_of s computed).next new.now was reads (clean now) (by_kind w kept (opens now) (ran now) now is_open);
 }
   where
     rows : StateRows
@@ -283,28 +267,14 @@ written k s old mid new answer w these held fits change computed given was reads
         blamed_before k s new (outcome_of s computed) was reads (spares rows may).counts before
         (λ is_open unlimited. by_cause before sound (blame (store_told f store) is_open rows stands ((will before).holds (sound_next before sound))))
 
-    becomes : HasCleanDisk mid → Makes mid.step_limit these mid.now new.now → Becomes k s answer (outcome_of s computed).next mid.step_limit mid.now new.now
-    becomes now made =
-        let it = will now in
-        subst (λ (n : State). Becomes k s answer n mid.step_limit mid.now new.now) (sym (ap (λ o. (outcome_of s o).next) it.computed_is))
-        (inl (it.commit, record { these = these; write = it.write; made = made }))
-
-    by_kind : (w : Result ⊤ StoreFault) → OnErr w (IfClean (IsAsCommitted mid) new) → OnOk w (IsTrue mid.is_open) → OnOk w (Makes mid.step_limit these mid.now new.now)
-        → HasCleanDisk new → IsTrue new.is_open → IsTrue mid.is_open × Becomes k s (told (answer_written answer w)) (outcome_of s computed).next mid.step_limit mid.now new.now
-    by_kind (Ok done) kept opens ran now is_open = (opens, becomes (clean now) ran)
-    by_kind (Err f) kept opens ran now is_open =
-        let same = kept now in
-        let was_open = same.was_open is_open in
-        (was_open, inr (λ commit. commit, (same.undone is_open).0 ∙ sym ((stands (clean now)).committed was_open)))
-
 -- the same, told as done
 pub done_written : {k : Rules} {s : State} {old mid new : Connected} {r : Result Answer Refusal} {computed : Result Outcome Refusal} (w : Result ⊤ StoreFault) (these : List (List ℕ × Row))
     (held fits : StateRows → Type 0) (change : StateRows → StateRows)
     → r ≡ answer_written Done w → IfClean (KeepsState k s) old → Reads old mid → (HasCleanDisk mid → WillWrite k s these held fits change Done computed)
     → TakesRows fits change mid new w → CommitsRows fits change mid new w → OnErr w (IfClean (IsAsCommitted mid) new) → SparesRows fits change mid new → (HasCleanDisk new → HasCleanDisk mid)
-    → NeedsOpen mid new w → RanWrite these mid new w → BlamesWrite these held mid new w → Serves k s old new r computed
-done_written {k} {s} {old} {mid} {new} {r} {computed} w these held fits change is was reads will takes commits kept spares clean opens ran blame =
-    subst (λ a. Serves k s old new a computed) (sym is) (written k s old mid new Done w these held fits change computed refl was reads will takes commits kept spares clean opens ran blame)
+    → BlamesWrite these held mid new w → Serves k s old new r computed
+done_written {k} {s} {old} {mid} {new} {r} {computed} w these held fits change is was reads will takes commits kept spares clean blame =
+    subst (λ a. Serves k s old new a computed) (sym is) (written k s old mid new Done w these held fits change computed refl was reads will takes commits kept spares clean blame)
 
 -- ---- decisions
 

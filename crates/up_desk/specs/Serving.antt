@@ -10,7 +10,7 @@ use Rattle.sqlite.specs.Tree.{Trees}
 use Rattle.up_canon.specs.Moments.{last_command_moment}
 use Rattle.up_canon.specs.Names.{Name}
 use Rattle.up_canon.specs.Refusals.{is_memory}
-use Rattle.up_canon.specs.Steps.{◌>>=◌, error_of}
+use Rattle.up_canon.specs.Steps.{error_of}
 use Rattle.up_canon.specs.declared.refusal.Refusal.{Refusal}
 use Rattle.up_canon.specs.declared.refusal.Refusal.TheVariants.{Memory, Store, MomentOutOfRange, TooLarge, BadShape}
 use Rattle.up_sign.specs.Schemes.{Rules}
@@ -30,11 +30,9 @@ use Rattle.up_machine.specs.Sound.{IsSound}
 use Rattle.up_rows.specs.StateRows.{StateRows, rows_of_state}
 use Rattle.up_tables.specs.declared.values.StoreFault.{StoreFault}
 use Rattle.up_tables.specs.declared.values.StoreFault.TheVariants as fault
-use Rattle.up_tables.specs.Stands.{IfClean, IsWith, LeavesOnly}
-use Rattle.up_tables.specs.Tables.{up_schema}
+use Rattle.up_tables.specs.Stands.{IfClean, LeavesOnly}
 use Rattle.up_store.specs.Connections.{KeepsRows, KeepsState, HoldsRows}
-use Rattle.up_store.specs.Listing as listing
-use Rattle.up_store.specs.Writes.{MakesNext, RefusesToWrite}
+use Rattle.up_store.specs.Writes.{RefusesToWrite}
 
 -- ---- answers
 
@@ -117,16 +115,6 @@ IsCommit s (Replied reply) next = next ≡ s → ⊥
 IsCommit s (File text) next = ⊥
 IsCommit s (Refused r) next = ⊥
 
--- the database shows the state
-abbrev pub ShowsState : Rules → State → Database → Type 0
-ShowsState k s = IsWith up_schema (listing.ShowsState k s)
-
--- What is made of a database that shows the state: behind a commit, what statements make that write the rows of the next state. Behind all else
--- it stays.
-abbrev pub Becomes : Rules → State → Answer → State → Option ℕ → Database → Database → Type 0
-Becomes k s a next limit db after =
-    (IsCommit s a next × MakesNext (rows_of_state k s) (rows_of_state k next) limit db after) ⊎ ((IsCommit s a next → ⊥) × (after ≡ db))
-
 -- the outcome is a commit, and the database refuses to write the rows of its next state
 pub record RefusesOutcome (k : Rules) (s : State) (limit : Option ℕ) (db : Database) (o : Outcome) : Type 0 where
   pub commit : IsCommit s o.answer o.next
@@ -137,16 +125,13 @@ abbrev pub IsBlamed : Rules → State → Connected → Connected → Outcome �
 IsBlamed k s old new o = IsTrue old.is_open → old.step_limit ≡ None → MoreFaults old.faults new.faults ⊎ RefusesOutcome k s old.step_limit old.now o
 
 -- It leaves what was computed. Whatever it answers, a crash leaves what it could leave before, or the next state; after a commit that
--- state alone. Where the next state is sound, `Store` is told only where the disk or the database is to blame. A connection that is open was open,
--- and sees what is made of what it saw.
+-- state alone. Where the next state is sound, `Store` is told only where the disk or the database is to blame.
 pub record Serves (k : Rules) (s : State) (old new : Connected) (result : Result Answer Refusal) (computed : Result Outcome Refusal) : Type 0 where
   pub leaves : HasCleanDisk new → Leaves k s new result computed
   pub crash : Survives old new (HoldsState k (outcome_of s computed).next)
   pub durable : IsCommit s (told result) (outcome_of s computed).next → IfClean (LeavesOnly (HoldsState k (outcome_of s computed).next)) new
   pub blame : HasCleanDisk new → IsSound k (outcome_of s computed).next
       → IfErr result (λ r. r ≡ Store → IsBlamed k s old new (outcome_of s computed))
-  pub made : HasCleanDisk new → IsTrue new.is_open
-      → IsTrue old.is_open × Becomes k s (told result) (outcome_of s computed).next old.step_limit old.now new.now
 
 -- ---- its steps
 

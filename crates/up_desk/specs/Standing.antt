@@ -1,6 +1,6 @@
 -- What a desk stands on: the connection to its tables, and what it keeps of them in memory. The tables show a state to a desk where they
 -- show it, and what the desk keeps is of that state. A new desk keeps nothing, so to it they show what they show.
-use Rattle.std.specs.Prelude.{◌≡◌, ◌≤◌, ◌⊎◌, ℕ, ⊤, Bool, true, false, MatchBool, if◌then◌else◌, List, [], ◌∷◌, Option, Some, None, Result, IsTrue}
+use Rattle.std.specs.Prelude.{◌≡◌, ◌≤◌, ◌⊎◌, ℕ, ⊤, Bool, true, false, MatchBool, if◌then◌else◌, Option, Some, None, Result, IfOk, IfErr, IfSome, IsTrue}
 use Rattle.std.specs.FinMap as table
 use Rattle.sqlite.specs.Held.{Held}
 use Rattle.sqlite.specs.Held as holding
@@ -18,11 +18,13 @@ use Rattle.up_machine.specs.declared.primary.Primary.{Primary}
 use Rattle.up_machine.specs.Primaries.{primary_of}
 use Rattle.up_machine.specs.Rows.{founding_row}
 use Rattle.up_machine.specs.RowsFit.{founding_fits}
+use Rattle.up_machine.specs.Sound.{IsSound}
 use Rattle.up_machine.specs.State.{State}
 use Rattle.up_tables.specs.Stands as stands
 use Rattle.up_store.specs.Connections as connections
 use Rattle.up_store.specs.Found.{values_where}
 use Rattle.up_tables.specs.declared.values.StoreFault.{StoreFault}
+use Rattle.up_tables.specs.declared.values.StoreFault.TheVariants as fault
 use Rattle.up_desk.specs.Serving as serving
 use Rattle.up_desk.specs.declared.catalog.Catalog.{Catalog}
 
@@ -97,11 +99,6 @@ keeps_catalog _ = false
 abbrev pub kept_for : Command → Option Catalog → Option Catalog
 kept_for c catalog = if keeps_catalog c then catalog else None
 
--- over a list, each command in its turn
-abbrev pub kept_over : List (ℕ × Command) → Option Catalog → Option Catalog
-kept_over [] catalog = catalog
-kept_over (c ∷ cs) catalog = kept_over cs (kept_for c.1 catalog)
-
 -- what is left in memory after a command: of the same state, or nothing
 abbrev pub StillFits : State → Command → Option Catalog → Type 0
 StillFits s c catalog = MatchBool (keeps_catalog c) (Fits s catalog) (catalog ≡ None)
@@ -138,7 +135,7 @@ abbrev pub IfClean : (Standing → Type 0) → Standing → Type 0
 IfClean P d = HasCleanDisk d → P d
 
 -- the tables show the state, and what is kept in memory is of it
-pub record KeepsState (k : Rules) (s : State) (d : Standing) : Type 0 where
+pub record ShowsState (k : Rules) (s : State) (d : Standing) : Type 0 where
   pub tables : connections.KeepsState k s d.connection
   pub memory : Fits s d.catalog
 
@@ -148,15 +145,34 @@ Survives old new P = connected.Survives old.connection new.connection P
 abbrev pub LeavesOnly : (Trees → Type 0) → Standing → Type 0
 LeavesOnly P d = stands.LeavesOnly P d.connection
 
--- nothing is written, and what is kept stays
-pub record Reads (old new : Standing) : Type 0 where
-  pub tables : serving.Reads old.connection new.connection
-  pub memory : new.catalog ≡ old.catalog
+-- on a connection that was open, with no limit on the steps of a query, the disk counted a fault
+abbrev pub DiskFailed : Standing → Standing → Type 0
+DiskFailed old new = serving.DiskFailed old.connection new.connection
 
--- what is read is told by the state that the tables show
-abbrev pub Tells : {A E : Type 0} → (Rules → State → A) → Standing → Standing → Result A E → Type 0
-Tells of_state old new result = serving.Tells of_state old.connection new.connection result
+-- ---- reads
 
--- `Store` is told only where the disk counted a fault
-abbrev pub Blames : {A : Type 0} → Standing → Standing → Result A StoreFault → Type 0
-Blames old new result = serving.Blames old.connection new.connection result
+-- nothing is written: each state that was shown is shown, a connection that is open was open and sees the database that it saw, a crash leaves
+-- what it could leave before, and what is kept in memory can be used as it could
+pub record Reads (k : Rules) (old new : Standing) : Type 0 where
+  pub keeps : (s : State) → IfClean (ShowsState k s) old → IfClean (ShowsState k s) new
+  pub same : (s : State) → IfClean (ShowsState k s) old → HasCleanDisk new → serving.SeesSame old.connection new.connection
+  pub survives : Survives old new (λ _. ⊥)
+  pub can : IfSome old.catalog (CanDecide k) → IfSome new.catalog (CanDecide k)
+
+-- what is found is told by the state that is shown
+abbrev pub Tells : {A : Type 0} → Rules → (State → A) → Standing → Standing → Result A StoreFault → Type 0
+Tells k of_state old new result = HasCleanDisk new → IfOk result (λ found. (s : State) → IfClean (ShowsState k s) old → found ≡ of_state s)
+
+-- `Store` is told only where the disk counted a fault, over a sound state that is shown
+abbrev pub Blames : {A : Type 0} → Rules → Standing → Standing → Result A StoreFault → Type 0
+Blames k old new result = HasCleanDisk new → (s : State) → IsSound k s → IfClean (ShowsState k s) old
+    → IfErr result (λ f. f ≡ fault.Store → DiskFailed old new)
+
+-- a read, whichever way it ended
+pub record ReadsState {A : Type 0} (k : Rules) (of_state : State → A) (old new : Standing) (result : Result A StoreFault) : Type 0 where
+  -- what is found is told by the state that is shown
+  pub told : Tells k of_state old new result
+  -- `Store` is told only where the disk counted a fault
+  pub blame : Blames k old new result
+  -- nothing is written
+  pub reads : Reads k old new

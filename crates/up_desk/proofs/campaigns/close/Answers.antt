@@ -15,7 +15,7 @@ returns-in-Ok-Already g c = λ k s sound was. unchanged refl (λ next commit sam
 
 pub returns-in-Ok-New : goal.returns-in-Ok-New
 returns-in-Ok-New g c = λ k s sound was. done_written c.write_close.result (close_writes c.in-Ok-New.row) (λ _. ⊤) (IsClosing c.in-Ok-New.row) (λ rows. with_campaign_row rows c.in-Ok-New.row) c.done_of.ensures was c.decide_closing.ensures.reads
-    (λ clean. closing_fits k s c.args.name.now c.in-Ok-New.row (decide_close s c.args.at c.args.name.now) sound c.campaigns_are_written.ensures.campaigns (when_closing s c.args.name.now c.in-Ok-New.field-0 c.in-Ok-New.row (decide_close s c.args.at c.args.name.now) c.in-Ok-New.field-0-is (c.in-Ok-New.ensures.decided clean k s was))) c.write_close.ensures.written c.write_close.ensures.durable c.write_close.ensures.kept c.write_close.ensures.crash c.write_close.ensures.clean c.write_close.ensures.open c.write_close.ensures.ran c.write_close.ensures.blame
+    (λ clean. closing_fits k s c.args.name.now c.in-Ok-New.row (decide_close s c.args.at c.args.name.now) sound c.campaigns_are_written.ensures.campaigns (when_closing s c.args.name.now c.in-Ok-New.field-0 c.in-Ok-New.row (decide_close s c.args.at c.args.name.now) c.in-Ok-New.field-0-is (c.in-Ok-New.ensures.decided clean k s was))) c.write_close.ensures.written c.write_close.ensures.durable c.write_close.ensures.kept c.write_close.ensures.crash c.write_close.ensures.clean c.write_close.ensures.blame
 
 pub returns-in-Err : goal.returns-in-Err
 returns-in-Err g c = λ k s sound was. refused was c.decide_closing.ensures.reads (λ clean. c.in-Err.ensures.decided clean k s was)

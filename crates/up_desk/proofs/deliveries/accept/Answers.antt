@@ -21,7 +21,7 @@ returns-in-Ok-clause-serves g c = λ k s name computed sound was gives.
     (λ clean. subst (λ r. WillWrite k s (accept_writes rows) (λ q. IsRecorded rows q × FitsAccepted rows) (IsRecorded rows) (λ q. with_accepted_rows q rows) (Replied r) computed) (sym c.reply_in.ensures)
     (accepting_fits k s name rows computed sound c.rows_are_found.ensures.vehicles c.manifests_are_added.ensures c.ecus_tell_their_hash.ensures
     (when_accepted k s name (Accepted rows) rows computed refl (gives clean))))
-    c.write_accept-written.ensures.written c.write_accept-written.ensures.durable c.write_accept-written.ensures.kept c.write_accept-written.ensures.crash c.write_accept-written.ensures.clean c.write_accept-written.ensures.open c.write_accept-written.ensures.ran c.write_accept-written.ensures.blame)
+    c.write_accept-written.ensures.written c.write_accept-written.ensures.durable c.write_accept-written.ensures.kept c.write_accept-written.ensures.crash c.write_accept-written.ensures.clean c.write_accept-written.ensures.blame)
 
 pub returns-in-Err-clause-serves : goal.returns-in-Err-clause-serves
 returns-in-Err-clause-serves g c = λ k s name computed sound was gives.

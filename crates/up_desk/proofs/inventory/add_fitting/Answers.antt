@@ -17,7 +17,7 @@ returns-in-Ok-Already g c = λ s sound was. unchanged refl (λ next commit same.
 
 pub returns-in-Ok-New : goal.returns-in-Ok-New
 returns-in-Ok-New g c = λ s sound was. done_written c.write_vehicle.result (vehicle_writes c.in-Ok-New.rows) (λ _. FitsVehicle c.in-Ok-New.rows) (IsNewVehicle c.in-Ok-New.rows) (λ rows. with_vehicle_rows rows c.in-Ok-New.rows) c.done_of.ensures was c.decide.ensures.reads
-    (λ clean. vehicle_fits (g.K.Scheme.rules c.args.scheme.now) s c.args.at c.args.new.now c.in-Ok-New.rows c.rows_are_found.ensures.vehicles c.vehicles_are_added.ensures.vehicles c.vehicles_are_added.ensures.new c.ecus_tell_their_hash.ensures (when_new (λ (r : VehicleRows). r ≡ rows_of c.args.new.now.vehicle (added c.args.new.now)) s (with_vehicle s c.args.new.now) c.in-Ok-New.field-0 c.in-Ok-New.rows (decide_vehicle (g.K.Scheme.rules c.args.scheme.now) s c.args.at c.args.new.now) c.in-Ok-New.field-0-is (c.in-Ok-New.ensures.decided clean s sound was))) c.write_vehicle.ensures.written c.write_vehicle.ensures.durable c.write_vehicle.ensures.kept c.write_vehicle.ensures.crash c.write_vehicle.ensures.clean c.write_vehicle.ensures.open c.write_vehicle.ensures.ran c.write_vehicle.ensures.blame
+    (λ clean. vehicle_fits (g.K.Scheme.rules c.args.scheme.now) s c.args.at c.args.new.now c.in-Ok-New.rows c.rows_are_found.ensures.vehicles c.vehicles_are_added.ensures.vehicles c.vehicles_are_added.ensures.new c.ecus_tell_their_hash.ensures (when_new (λ (r : VehicleRows). r ≡ rows_of c.args.new.now.vehicle (added c.args.new.now)) s (with_vehicle s c.args.new.now) c.in-Ok-New.field-0 c.in-Ok-New.rows (decide_vehicle (g.K.Scheme.rules c.args.scheme.now) s c.args.at c.args.new.now) c.in-Ok-New.field-0-is (c.in-Ok-New.ensures.decided clean s sound was))) c.write_vehicle.ensures.written c.write_vehicle.ensures.durable c.write_vehicle.ensures.kept c.write_vehicle.ensures.crash c.write_vehicle.ensures.clean c.write_vehicle.ensures.blame
 
 pub returns-in-Err : goal.returns-in-Err
 returns-in-Err g c = λ s sound was. refused was c.decide.ensures.reads (λ clean. c.in-Err.ensures.decided clean s sound was)

@@ -7,7 +7,7 @@ use Rattle.up_desk.proofs.roots.found.Goals as goal
 
 pub returns-in-Ok : goal.returns-in-Ok
 returns-in-Ok g c = λ s sound was. done_written c.write_found.result (root_writes c.in-Ok.rows) (λ _. FitsFounding c.in-Ok.rows.founding) (IsNextRoot c.in-Ok.rows) (λ rows. with_root_rows rows c.in-Ok.rows) c.done_of.ensures was c.decide_founding.ensures.reads
-    (λ clean. founding_fits (g.K.Scheme.rules c.args.scheme.now) s c.args.at c.args.keys.now c.in-Ok.rows sound c.roots_are_added.ensures (c.in-Ok.ensures.decided clean s sound was)) c.write_found.ensures.written c.write_found.ensures.durable c.write_found.ensures.kept c.write_found.ensures.crash c.write_found.ensures.clean c.write_found.ensures.open c.write_found.ensures.ran c.write_found.ensures.blame
+    (λ clean. founding_fits (g.K.Scheme.rules c.args.scheme.now) s c.args.at c.args.keys.now c.in-Ok.rows sound c.roots_are_added.ensures (c.in-Ok.ensures.decided clean s sound was)) c.write_found.ensures.written c.write_found.ensures.durable c.write_found.ensures.kept c.write_found.ensures.crash c.write_found.ensures.clean c.write_found.ensures.blame
 
 pub returns-in-Err : goal.returns-in-Err
 returns-in-Err g c = λ s sound was. refused was c.decide_founding.ensures.reads (λ clean. c.in-Err.ensures.decided clean s sound was)
