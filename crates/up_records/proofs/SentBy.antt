@@ -21,7 +21,7 @@ use Rattle.up_machine.proofs.Primaries.{gives_sent}
 use Rattle.up_machine.proofs.Senders.{no_vehicle, refused_first}
 use Rattle.up_records.specs.declared.catalog.Catalog.{Catalog}
 use Rattle.up_records.specs.Senders.{GivesSenderRows, IsLoadedBehind, GivesVehicle, IsSentBy, IsThere, RefusesUnread, refused_by, refused_in}
-use Rattle.up_records.specs.Connected.{DiskFailed, IsDueOrFails, Reads, is_fault, told}
+use Rattle.up_records.specs.Connected.{DiskFailed, IsDueOrFails, Reads, is_fault}
 use Rattle.up_records.specs.Catalogs.{ArePrimaries, Come}
 
 -- what is due, or a fault

@@ -28,24 +28,23 @@ pub record Reads (k : Rules) (old new : Standing) : Type 0 where
 abbrev pub DiskFailed : Standing → Standing → Type 0
 DiskFailed old new = connected.DiskFailed old.connection new.connection
 
--- this error is told only where the disk failed, over a sound state that is shown
-abbrev pub BlamesDisk : {A E : Type 0} → Rules → E → Standing → Standing → Result A E → Type 0
-BlamesDisk k store old new result = HasCleanDisk new → (s : State) → IsSound k s → IfClean (ShowsState k s) old
-    → IfErr result (λ e. e ≡ store → DiskFailed old new)
-
--- what is found is told by the state that is shown
-abbrev pub Tells : {A E : Type 0} → Rules → (State → A) → Standing → Standing → Result A E → Type 0
-Tells k of_state old new result = HasCleanDisk new → IfOk result (λ found. (s : State) → IfClean (ShowsState k s) old → found ≡ of_state s)
-
--- a read, whichever way it ended
-pub record ReadsState {A : Type 0} (k : Rules) (of_state : State → A) (old new : Standing) (result : Result A StoreFault) : Type 0 where
-  -- what is found is told by the state that is shown
-  pub told : Tells k of_state old new result
-  -- `Store` is told only where the disk failed
-  pub blame : BlamesDisk k Store old new result
+-- a read, whichever way it ended: of what it finds this holds in the state
+pub record ReadsSuch {A : Type 0} (k : Rules) (holds : State → A → Type 0) (old new : Standing) (result : Result A StoreFault) : Type 0 where
+  -- it holds of each state that is shown
+  pub told : HasCleanDisk new → IfOk result (λ found. (s : State) → IfClean (ShowsState k s) old → holds s found)
+  -- `Store` is told only where the disk failed, over a sound state that is shown
+  pub blame : HasCleanDisk new → (s : State) → IsSound k s → IfClean (ShowsState k s) old → IfErr result (λ f. f ≡ Store → DiskFailed old new)
   -- nothing is written
   pub reads : Reads k old new
 
--- so of every state that is shown
+-- what it finds is told by the state
+abbrev pub ReadsState : {A : Type 0} → Rules → (State → A) → Standing → Standing → Result A StoreFault → Type 0
+ReadsState k of_state = ReadsSuch k (λ s found. found ≡ of_state s)
+
+-- ---- reads of records
+
+abbrev pub FindsSuch : {D A : Type 0} → Ghosts D → (State → A → Type 0) → Stored D → Stored D → Result A StoreFault → Type 0
+FindsSuch g holds old new result = (k : Rules) → ReadsSuch k holds (state g old) (state g new) result
+
 abbrev pub Finds : {D A : Type 0} → Ghosts D → (Rules → State → A) → Stored D → Stored D → Result A StoreFault → Type 0
 Finds g of_state old new result = (k : Rules) → ReadsState k (of_state k) (state g old) (state g new) result

@@ -1,26 +1,13 @@
-use Rattle.std.proofs.Common.{◌≡◌, ap, ◌∙◌}
-use Rattle.up_machine.specs.Decisions.{GivesDecision}
-use Rattle.up_machine.specs.Inventory.{decide_vehicle, with_vehicle}
-use Rattle.up_machine.specs.Rows.{rows_of, vehicle_rows}
-use Rattle.up_machine.specs.State.{added}
+use Rattle.std.proofs.Common.{ap, ◌∙◌}
+use Rattle.up_machine.specs.Rows.{vehicle_rows}
 use Rattle.up_machine.specs.Vehicles.{NewVehicleData}
-use Rattle.up_machine.specs.declared.rows.VehicleRows.{VehicleRows}
-use Rattle.up_desk.proofs.Steps.{fault_told, following, gives_behind}
+use Rattle.up_desk.proofs.Standings.{read_failed, read_then}
 use Rattle.up_desk.proofs.inventory.decide_founded.Goals as goal
 
 pub returns-in-Ok : goal.returns-in-Ok
-returns-in-Ok g c = let it = following c.read_vehicle.ensures.reads c.decide_named.ensures.reads in record {
-  decided = λ clean s sound founded was.
-      let k = g.K.Scheme.rules c.args.scheme.now in
-      let given = c.args.new.now in
-      let old = c.as_ref.ensures.value ∙ c.in-Ok.ensures.told (it.clean clean) k s was ∙ ap (λ (d : NewVehicleData). vehicle_rows s d.vehicle) c.new.view_is in
-      gives_behind (GivesDecision (λ (rows : VehicleRows). rows ≡ rows_of given.vehicle (added given)) s (with_vehicle s given)) c.decide_named.result (decide_vehicle k s c.args.at given)
-      c.read_vehicle.ensures.reads c.decide_named.ensures.reads clean (c.decide_named.ensures.decided clean s sound founded old (it.keeps k s was));
-  reads = it.reads;
-}
+returns-in-Ok g c =
+    read_then (c.in-Ok.ensures (g.K.Scheme.rules c.args.scheme.now))
+    (λ s founded is. (founded, c.as_ref.ensures.value ∙ is ∙ ap (λ (d : NewVehicleData). vehicle_rows s d.vehicle) c.new.view_is)) c.decide_named.ensures
 
 pub returns-in-Err : goal.returns-in-Err
-returns-in-Err g c = record {
-  decided = λ clean s sound founded was. fault_told c.read_vehicle.ensures.reads c.refusal_of.result c.in-Err.fault _ c.refusal_of.ensures (c.in-Err.ensures.blame (g.K.Scheme.rules c.args.scheme.now) s was clean);
-  reads = c.read_vehicle.ensures.reads;
-}
+returns-in-Err g c = read_failed (c.in-Err.ensures (g.K.Scheme.rules c.args.scheme.now)) c.refusal_of.ensures

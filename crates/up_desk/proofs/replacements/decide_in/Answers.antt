@@ -1,14 +1,14 @@
 use Rattle.up_machine.specs.Decisions.{GivesReplacement}
 use Rattle.up_machine.specs.Inventory.{decide_replace}
-use Rattle.up_desk.proofs.NeverStore.{never_replace}
-use Rattle.up_desk.proofs.Steps.{fault_told, gives_or_fails}
+use Rattle.up_records.proofs.NeverStore.{never_replace}
+use Rattle.up_desk.proofs.Standings.{gives_or_fails, read_failed, then_decided}
 use Rattle.up_desk.proofs.replacements.decide_in.Goals as goal
 
-pub returns-in-Ok-clause-decided : goal.returns-in-Ok-clause-decided
-returns-in-Ok-clause-decided g c clean = λ s sound founded there was.
+pub returns-in-Ok : goal.returns-in-Ok
+returns-in-Ok g c = then_decided (c.in-Ok.ensures (g.K.Scheme.rules c.args.scheme.now)) (λ s sound known is.
     let k = g.K.Scheme.rules c.args.scheme.now in
-    gives_or_fails c.is_taken.ensures.reads (GivesReplacement s c.args.new.now) c.decide_replace.result (decide_replace k s c.args.at c.args.new.now) (never_replace k s c.args.at c.args.new.now) (λ r h. h)
-    (c.decide_replace.ensures.decided s founded there (c.in-Ok.ensures.told clean k s was))
+    gives_or_fails _ _ (GivesReplacement s c.args.new.now) c.decide_replace.result (decide_replace k s c.args.at c.args.new.now) (never_replace k s c.args.at c.args.new.now) (λ r h. h)
+    (c.decide_replace.ensures.decided s known.0 known.1 is))
 
-pub returns-in-Err-clause-decided : goal.returns-in-Err-clause-decided
-returns-in-Err-clause-decided g c = λ clean s sound founded there was. fault_told c.is_taken.ensures.reads c.refusal_of.result c.in-Err.fault _ c.refusal_of.ensures (c.in-Err.ensures.blame (g.K.Scheme.rules c.args.scheme.now) s was clean)
+pub returns-in-Err : goal.returns-in-Err
+returns-in-Err g c = read_failed (c.in-Err.ensures (g.K.Scheme.rules c.args.scheme.now)) c.refusal_of.ensures
