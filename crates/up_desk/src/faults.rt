@@ -5,7 +5,7 @@ ghost use Rattle.up_desk.specs.Serving.{answer_written};
 
 use up_canon::refusal::Refusal;
 use up_machine::answer::{Answer, Reply};
-use up_records::faults::refusal_of;
+pub use up_records::faults::refusal_of;
 use up_store::store::StoreFault;
 
 /// `Done` where it was written.

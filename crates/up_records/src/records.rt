@@ -231,7 +231,7 @@ impl<D: Alter> Records<D> {
         ensures { Writes D.Store (λ k. FoundsWith k new.now) self.old self.new result }
     {
         roots_are_added();
-        self.catalog = None;
+        self.catalog = None; // nothing was founded of which it could be
         self.store.write_found(alloc, new)
     }
 
@@ -240,7 +240,7 @@ impl<D: Alter> Records<D> {
         ensures { Writes D.Store (λ k. RotatesWith k new.now) self.old self.new result }
     {
         roots_are_added();
-        self.catalog = None;
+        self.catalog = None; // its keys are those of the root version before
         self.store.write_rotate(alloc, new)
     }
 
@@ -254,7 +254,7 @@ impl<D: Alter> Records<D> {
         ensures { Writes D.Store (λ k. AddsWith k image.now new.now) self.old self.new result }
     {
         images_are_added();
-        self.catalog = None;
+        self.catalog = None; // its images lack the new one
         self.store.write_image(alloc, image, new)
     }
 
@@ -263,7 +263,7 @@ impl<D: Alter> Records<D> {
         ensures { Writes D.Store (λ k. RefreshesWith k new.now) self.old self.new result }
     {
         images_are_added();
-        self.catalog = None;
+        self.catalog = None; // its numbers are those before the refresh
         self.store.write_refresh(alloc, new)
     }
 
@@ -274,7 +274,7 @@ impl<D: Alter> Records<D> {
         rows_are_found();
         vehicles_are_added();
         ecus_tell_their_hash();
-        self.catalog = None;
+        self.catalog = None; // it may be of a vehicle that is not this one
         self.store.write_vehicle(alloc, new)
     }
 
@@ -284,7 +284,7 @@ impl<D: Alter> Records<D> {
     {
         rows_are_found();
         ecus_are_replaced();
-        self.catalog = None;
+        self.catalog = None; // the Primary of the vehicle may change
         self.store.write_replace(alloc, new)
     }
 
@@ -293,7 +293,7 @@ impl<D: Alter> Records<D> {
         ensures { Writes D.Store (λ k. OpensWith new.now) self.old self.new result }
     {
         campaigns_are_written();
-        self.catalog = None;
+        self.catalog = None; // its campaigns lack the new one
         self.store.write_campaign(alloc, new)
     }
 
@@ -302,7 +302,7 @@ impl<D: Alter> Records<D> {
         ensures { Writes D.Store (λ k. ClosesWith closed.now) self.old self.new result }
     {
         campaigns_are_written();
-        self.catalog = None;
+        self.catalog = None; // its campaigns have the closed one
         self.store.write_close(alloc, closed)
     }
 

@@ -27,8 +27,7 @@ use up_sign::scheme::Scheme;
 /// of a line that was carried out, or before the first, where no room for lines could be made.
 ///
 /// However it ended, a crash behind it leaves what could be left before, or the state behind some line; and none before the last
-/// line that was answered `done`, or got the reply to a new manifest. So nothing that was answered is lost. Where the disk counted no
-/// fault, a line tells a fault of the database only where the database, as the lines before it made it, refuses what it comes to.
+/// line that was answered `done`, or got the reply to a new manifest. So nothing that was answered is lost.
 pub fn run_script<K: Scheme, D: Alter, R: Source, W: Sink>(
     alloc: Global,
     desk: &mut Desk<K, D>,

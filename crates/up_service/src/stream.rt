@@ -26,8 +26,7 @@ use up_sign::scheme::Scheme;
 /// only where the reader failed; `Write` only where the writer failed, or took no byte; and `Memory` only where neither did.
 ///
 /// However it ended, a crash behind it leaves what could be left before, or the state behind some request; and none before the
-/// last that got the reply to a new manifest. So nothing that was answered is lost. Where the disk counted no fault, a request is told
-/// a fault of the database only where the database, as the requests before it made it, refuses what it comes to.
+/// last that got the reply to a new manifest. So nothing that was answered is lost.
 pub fn serve_stream<K: Scheme, D: Alter, R: Source, W: Sink>(
     alloc: Global,
     desk: &mut Desk<K, D>,
