@@ -37,7 +37,7 @@ use Rattle.up_records.specs.Connected.{is_fault, is_store}
 use Rattle.up_records.specs.Reads.{DiskFailed}
 use Rattle.up_records.specs.Standing.{HasCleanDisk, HoldsState, IfClean, LeavesOnly, ShowsState, Standing, Survives}
 use Rattle.up_records.specs.Steps.{IsDueOrFails}
-use Rattle.up_desk.specs.Serving.{IsAnswered, IsBlamed, IsCommit, Leaves, Serves, is_failed, outcome_due, outright, outright_in_time, told}
+use Rattle.up_desk.specs.Serving.{CarriesOut, IsAnswered, IsBlamed, IsCommit, Leaves, Serves, is_failed, outcome_due, outright, outright_in_time, told}
 use Rattle.up_records.proofs.NeverStore.{NeverStore}
 
 -- ---- the moment
@@ -82,12 +82,15 @@ pub delivery_served : (k : Rules) (s : State) (at : ℕ) (body : List ℕ) → a
 unfolding and_then
 delivery_served k s at body h = sym (ap (λ (m : Result ⊤ Refusal). and_then m (λ _. and_then (incoming_in body) (decide_incoming k s at))) (in_time at h))
 
-pub of_command : {k : Rules} {s : State} {old new : Standing} {r : Result Answer Refusal} (at : ℕ) (c d : Command) → c ≡ d → Serves k s old new r (outcome_due k s at d) → Serves k s old new r (outcome_due k s at c)
-of_command {k} {s} {old} {new} {r} at c d is h = subst (λ (e : Command). Serves k s old new r (outcome_due k s at e)) (sym is) h
+pub of_command : {k : Rules} {old new : Standing} {r : Result Answer Refusal} (at : ℕ) (c d : Command) → c ≡ d → CarriesOut k (λ s. outcome_due k s at d) old new r → CarriesOut k (λ s. outcome_due k s at c) old new r
+of_command {k} {old} {new} {r} at c d is h = subst (λ (e : Command). CarriesOut k (λ s. outcome_due k s at e) old new r) (sym is) h
 
-pub of_delivery : {k : Rules} {s : State} {old new : Standing} {r : Result Answer Refusal} (at : ℕ) (c : Command) (body : List ℕ) → c ≡ Deliver body → at ≤ last_command_moment
-    → Serves k s old new r (and_then (incoming_in body) (decide_incoming k s at)) → Serves k s old new r (outcome_due k s at c)
-of_delivery {k} {s} {old} {new} {r} at c body is moment h = of_command at c (Deliver body) is (subst (λ (o : Result Outcome Refusal). Serves k s old new r o) (delivery_served k s at body moment) h)
+pub of_delivery : {k : Rules} {old new : Standing} {r : Result Answer Refusal} (at : ℕ) (c : Command) (body : List ℕ) → c ≡ Deliver body → at ≤ last_command_moment
+    → CarriesOut k (λ s. and_then (incoming_in body) (decide_incoming k s at)) old new r → CarriesOut k (λ s. outcome_due k s at c) old new r
+of_delivery {k} {old} {new} {r} at c body is moment h = of_command at c (Deliver body) is (record {
+  serves = λ s sound was. subst (λ (o : Result Outcome Refusal). Serves k s old new r o) (delivery_served k s at body moment) (h.serves s sound was);
+  can = h.can;
+})
 
 -- a vehicle with a public part that doesn't fit is refused
 pub unfit_vehicle : (k : Rules) (s : State) (at : ℕ) (new : NewVehicleData) → at ≤ last_command_moment → list_all (λ e. public_fits k e.public) new.ecus ≡ false

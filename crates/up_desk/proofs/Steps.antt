@@ -165,7 +165,7 @@ written k s old mid new answer w IsNext computed given sound was reads will it =
     after_reads was reads (wrote k s mid new answer w IsNext computed given sound (reads.keeps s was) will it)
 
 -- told as done
-pub done_written : {k : Rules} {s : State} {old mid new : Standing} {r : Result Answer Refusal} {computed : Result Outcome Refusal} {IsNext : State → State → Type 0} (w : Result ⊤ StoreFault)
-    → r ≡ answer_written Done w → IsSound k s → IfClean (ShowsState k s) old → Reads k old mid → (HasCleanDisk mid → WillWrite s IsNext Done computed) → WritesState k IsNext mid new w → Serves k s old new r computed
-done_written {k} {s} {old} {mid} {new} {r} {computed} {IsNext} w is sound was reads will it =
+pub done_written : {k : Rules} {s : State} {old mid new : Standing} {r : Result Answer Refusal} {computed : Result Outcome Refusal} {IsNext : State → State → Type 0} {w : Result ⊤ StoreFault} → WritesState k IsNext mid new w
+    → r ≡ answer_written Done w → IsSound k s → IfClean (ShowsState k s) old → Reads k old mid → (HasCleanDisk mid → WillWrite s IsNext Done computed) → Serves k s old new r computed
+done_written {k} {s} {old} {mid} {new} {r} {computed} {IsNext} {w} it is sound was reads will =
     subst (λ a. Serves k s old new a computed) (sym is) (written k s old mid new Done w IsNext computed refl sound was reads will it)

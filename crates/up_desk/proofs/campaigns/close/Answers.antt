@@ -12,8 +12,8 @@ returns-in-Ok-Already g c k = record {
 
 pub returns-in-Ok-New : goal.returns-in-Ok-New
 returns-in-Ok-New g c k = record {
-  serves = λ s sound was. done_written c.write_close.result c.done_of.ensures sound was (c.decide_closing.ensures k).reads (λ clean.
-      let it = when_closing s c.args.name.now c.in-Ok-New.field-0 c.in-Ok-New.row (decide_close s c.args.at c.args.name.now) c.in-Ok-New.field-0-is ((c.in-Ok-New.ensures k).decided clean s sound tt was) in record { next = with_campaign s c.in-Ok-New.row; computed_is = it.decided; commit = tt; is_next = (c.args.name.now, it.was, it.there, it.is, refl) }) (c.write_close.ensures (k));
+  serves = λ s sound was. done_written (c.write_close.ensures (k)) c.done_of.ensures sound was (c.decide_closing.ensures k).reads (λ clean.
+      let it = when_closing s c.args.name.now c.in-Ok-New.field-0 c.in-Ok-New.row (decide_close s c.args.at c.args.name.now) c.in-Ok-New.field-0-is ((c.in-Ok-New.ensures k).decided clean s sound tt was) in record { next = with_campaign s c.in-Ok-New.row; computed_is = it.decided; commit = tt; is_next = (c.args.name.now, it.was, it.there, it.is, refl) });
   can = λ can. (c.write_close.ensures (k)).can ((c.decide_closing.ensures k).reads.can can);
 }
 

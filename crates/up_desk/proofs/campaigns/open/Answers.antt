@@ -13,8 +13,8 @@ returns-in-Ok-Already g c k = record {
 
 pub returns-in-Ok-New : goal.returns-in-Ok-New
 returns-in-Ok-New g c k = record {
-  serves = λ s sound was. done_written c.write_campaign.result c.done_of.ensures sound was (c.decide_opening.ensures k).reads (λ clean.
-      let it = when_new (λ (r : CampaignData). r ≡ c.args.campaign.now) s (with_campaign s c.args.campaign.now) c.in-Ok-New.field-0 c.in-Ok-New.row (decide_open s c.args.at c.args.campaign.now) c.in-Ok-New.field-0-is ((c.in-Ok-New.ensures k).decided clean s sound tt was) in record { next = with_campaign s c.args.campaign.now; computed_is = it.0; commit = tt; is_next = opened_as s c.args.at c.args.campaign.now c.in-Ok-New.row it.1 it.0 }) (c.write_campaign.ensures (k));
+  serves = λ s sound was. done_written (c.write_campaign.ensures (k)) c.done_of.ensures sound was (c.decide_opening.ensures k).reads (λ clean.
+      let it = when_new (λ (r : CampaignData). r ≡ c.args.campaign.now) s (with_campaign s c.args.campaign.now) c.in-Ok-New.field-0 c.in-Ok-New.row (decide_open s c.args.at c.args.campaign.now) c.in-Ok-New.field-0-is ((c.in-Ok-New.ensures k).decided clean s sound tt was) in record { next = with_campaign s c.args.campaign.now; computed_is = it.0; commit = tt; is_next = opened_as s c.args.at c.args.campaign.now c.in-Ok-New.row it.1 it.0 });
   can = λ can. (c.write_campaign.ensures (k)).can ((c.decide_opening.ensures k).reads.can can);
 }
 

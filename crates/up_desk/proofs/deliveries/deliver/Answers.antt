@@ -1,8 +1,11 @@
-use Rattle.std.proofs.Common.{Err, sym, ap, ◌∙◌, subst}
+use Rattle.std.proofs.Common.{◌≡◌, ◌<◌, List, ℕ, Result, Err, length, refl, sym, ap, ◌∙◌, subst}
+use Rattle.up_canon.specs.declared.refusal.Refusal.{Refusal}
+use Rattle.up_canon.specs.declared.refusal.Refusal.TheVariants.{TooLarge}
+use Rattle.up_manifest.specs.declared.manifest.Incoming.{Incoming}
 use Rattle.std.specs.Prelude.{⊤, MatchBool}
 use Rattle.up_canon.specs.Refusals.{is_memory}
 use Rattle.up_canon.proofs.Steps.{bind-ok}
-use Rattle.up_manifest.specs.Manifests.{incoming_in}
+use Rattle.up_manifest.specs.Manifests.{incoming_in, largest_body}
 use Rattle.up_machine.specs.Decisions.{decide_incoming}
 use Rattle.up_records.specs.Standing.{state}
 use Rattle.up_records.proofs.NeverStore.{never_incoming}
@@ -27,3 +30,9 @@ returns-in-Err-clause-carries g c = let k = g.K.Scheme.rules c.args.scheme.now i
       (subst (λ b. MatchBool (is_memory c.in-Err.refusal) ⊤ (incoming_in b ≡ Err c.in-Err.refusal)) c.as_slice.ensures c.in-Err.ensures.value));
   can = λ can. can;
 }
+
+pub returns-in-Err-clause-large : goal.returns-in-Err-clause-large
+returns-in-Err-clause-large g c = λ large.
+    let is : ◌≡◌ {A = Result Incoming Refusal} (Err c.in-Err.refusal) (Err TooLarge) = c.in-Err.ensures.large (subst (λ (b : List ℕ). largest_body < length b) (sym c.as_slice.ensures) large) in
+    let same : c.in-Err.refusal ≡ TooLarge = cc in
+    record { refused = ap (λ r. Err r) same; unread = refl }

@@ -1,4 +1,4 @@
-use Rattle.std.proofs.Common.{take}
+use Rattle.std.proofs.Common.{◌≡◌, take}
 use Rattle.up_sign.specs.Schemes.{Rules}
 use Rattle.up_records.specs.Standing.{state}
 use Rattle.up_desk.proofs.Loops.{FarGathered}

@@ -15,8 +15,8 @@ returns-in-Ok-Already g c = record {
 
 pub returns-in-Ok-New : goal.returns-in-Ok-New
 returns-in-Ok-New g c = record {
-  serves = λ s sound was. done_written c.write_vehicle.result c.done_of.ensures sound was c.decide.ensures.reads (λ clean.
-      let it = when_new (λ (r : VehicleRows). r ≡ rows_of c.args.new.now.vehicle (added c.args.new.now)) s (with_vehicle s c.args.new.now) c.in-Ok-New.field-0 c.in-Ok-New.rows (decide_vehicle (g.K.Scheme.rules c.args.scheme.now) s c.args.at c.args.new.now) c.in-Ok-New.field-0-is (c.in-Ok-New.ensures.decided clean s sound tt was) in record { next = with_vehicle s c.args.new.now; computed_is = it.0; commit = tt; is_next = (c.args.at, c.args.new.now, refl, it) }) (c.write_vehicle.ensures (g.K.Scheme.rules c.args.scheme.now));
+  serves = λ s sound was. done_written (c.write_vehicle.ensures (g.K.Scheme.rules c.args.scheme.now)) c.done_of.ensures sound was c.decide.ensures.reads (λ clean.
+      let it = when_new (λ (r : VehicleRows). r ≡ rows_of c.args.new.now.vehicle (added c.args.new.now)) s (with_vehicle s c.args.new.now) c.in-Ok-New.field-0 c.in-Ok-New.rows (decide_vehicle (g.K.Scheme.rules c.args.scheme.now) s c.args.at c.args.new.now) c.in-Ok-New.field-0-is (c.in-Ok-New.ensures.decided clean s sound tt was) in record { next = with_vehicle s c.args.new.now; computed_is = it.0; commit = tt; is_next = (c.args.at, c.args.new.now, refl, it) });
   can = λ can. (c.write_vehicle.ensures (g.K.Scheme.rules c.args.scheme.now)).can (c.decide.ensures.reads.can can);
 }
 

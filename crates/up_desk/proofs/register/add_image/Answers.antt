@@ -13,8 +13,8 @@ returns-in-Ok-Already g c = record {
 
 pub returns-in-Ok-New : goal.returns-in-Ok-New
 returns-in-Ok-New g c = record {
-  serves = λ s sound was. done_written c.write_image.result c.done_of.ensures sound was c.decide_adding.ensures.reads (λ clean.
-      let next = stamped (with_image s c.args.image.now) c.args.at (s.image_version + 1) in let it = when_new (HasRegisterRows (g.K.Scheme.rules c.args.scheme.now) next) s next c.in-Ok-New.field-0 c.in-Ok-New.rows (decide_image s c.args.at c.args.image.now) c.in-Ok-New.field-0-is (c.in-Ok-New.ensures.decided clean s sound tt was) in record { next = next; computed_is = it.0; commit = tt; is_next = (c.args.at, refl, it) }) (c.write_image.ensures (g.K.Scheme.rules c.args.scheme.now));
+  serves = λ s sound was. done_written (c.write_image.ensures (g.K.Scheme.rules c.args.scheme.now)) c.done_of.ensures sound was c.decide_adding.ensures.reads (λ clean.
+      let next = stamped (with_image s c.args.image.now) c.args.at (s.image_version + 1) in let it = when_new (HasRegisterRows (g.K.Scheme.rules c.args.scheme.now) next) s next c.in-Ok-New.field-0 c.in-Ok-New.rows (decide_image s c.args.at c.args.image.now) c.in-Ok-New.field-0-is (c.in-Ok-New.ensures.decided clean s sound tt was) in record { next = next; computed_is = it.0; commit = tt; is_next = (c.args.at, refl, it) });
   can = λ can. (c.write_image.ensures (g.K.Scheme.rules c.args.scheme.now)).can (c.decide_adding.ensures.reads.can can);
 }
 

@@ -5,8 +5,8 @@ use Rattle.up_desk.proofs.register.refresh.Goals as goal
 
 pub returns-in-Ok : goal.returns-in-Ok
 returns-in-Ok g c = record {
-  serves = λ s sound was. done_written c.write_refresh.result c.done_of.ensures sound was c.decide_refreshing.ensures.reads (λ clean.
-      let it = c.in-Ok.ensures.decided clean s sound tt was in record { next = stamped s c.args.at c.args.version; computed_is = it.0; commit = tt; is_next = (c.args.at, c.args.version, refl, it) }) (c.write_refresh.ensures (g.K.Scheme.rules c.args.scheme.now));
+  serves = λ s sound was. done_written (c.write_refresh.ensures (g.K.Scheme.rules c.args.scheme.now)) c.done_of.ensures sound was c.decide_refreshing.ensures.reads (λ clean.
+      let it = c.in-Ok.ensures.decided clean s sound tt was in record { next = stamped s c.args.at c.args.version; computed_is = it.0; commit = tt; is_next = (c.args.at, c.args.version, refl, it) });
   can = λ can. (c.write_refresh.ensures (g.K.Scheme.rules c.args.scheme.now)).can (c.decide_refreshing.ensures.reads.can can);
 }
 

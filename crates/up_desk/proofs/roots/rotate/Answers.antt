@@ -5,8 +5,8 @@ use Rattle.up_desk.proofs.roots.rotate.Goals as goal
 
 pub returns-in-Ok : goal.returns-in-Ok
 returns-in-Ok g c = record {
-  serves = λ s sound was. done_written c.write_rotate.result c.done_of.ensures sound was c.decide_rotation.ensures.reads (λ clean.
-      let it = c.in-Ok.ensures.decided clean s sound tt was in record { next = stamped (with_root s c.args.at c.args.keys.now) c.args.at (s.image_version + 1); computed_is = it.0; commit = tt; is_next = (c.args.at, c.args.keys.now, refl, it) }) (c.write_rotate.ensures (g.K.Scheme.rules c.args.scheme.now));
+  serves = λ s sound was. done_written (c.write_rotate.ensures (g.K.Scheme.rules c.args.scheme.now)) c.done_of.ensures sound was c.decide_rotation.ensures.reads (λ clean.
+      let it = c.in-Ok.ensures.decided clean s sound tt was in record { next = stamped (with_root s c.args.at c.args.keys.now) c.args.at (s.image_version + 1); computed_is = it.0; commit = tt; is_next = (c.args.at, c.args.keys.now, refl, it) });
   can = λ can. (c.write_rotate.ensures (g.K.Scheme.rules c.args.scheme.now)).can (c.decide_rotation.ensures.reads.can can);
 }
 

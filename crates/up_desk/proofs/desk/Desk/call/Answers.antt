@@ -18,3 +18,6 @@ returns g c =
           c.keeps_limits.ensures c.dispatch.ensures.carries c.dispatch.ensures.outright c.answer_of.ensures);
       scheme = ap (λ d. d.scheme) c.self.view_is;
     }
+
+pub invariant_of-self : goal.invariant_of-self
+invariant_of-self g c = c.dispatch.ensures.carries.can c.self.invariant

@@ -8,3 +8,6 @@ returns g c = record {
   found = subst (λ d. Finds g.D.Store (λ k s. installed s c.args.ecu.now) d.store c.installed.new.self c.installed.result) c.self.view_is c.installed.ensures;
   scheme = ap (λ d. d.scheme) c.self.view_is;
 }
+
+pub invariant_of-self : goal.invariant_of-self
+invariant_of-self g c = (c.installed.ensures (g.K.Scheme.rules c.self.inside.scheme)).reads.can c.self.invariant

@@ -8,3 +8,6 @@ returns g c = record {
   found = subst (λ d. Finds g.D.Store (λ k s. version_of s c.args.vehicle.now) d.store c.version.new.self c.version.result) c.self.view_is c.version.ensures;
   scheme = ap (λ d. d.scheme) c.self.view_is;
 }
+
+pub invariant_of-self : goal.invariant_of-self
+invariant_of-self g c = (c.version.ensures (g.K.Scheme.rules c.self.inside.scheme)).reads.can c.self.invariant
