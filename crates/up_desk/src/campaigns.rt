@@ -54,13 +54,13 @@ fn decide_opening<D: Alter>(
     ensures { (k : Rules) → DecidesOpen D.Store k at campaign.now (λ s. ⊤) records.old records.new result }
 {
     match records.is_founded() {
-        Ok(founded) => decide_founded(records, alloc, at, campaign, founded),
+        Ok(founded) => decide_opening_founded(records, alloc, at, campaign, founded),
         Err(fault) => Err(refusal_of(fault)),
     }
 }
 
-/// The same, once it was read whether the repositories are founded.
-fn decide_founded<D: Alter>(
+/// Decides on it once it is known whether the repositories are founded.
+fn decide_opening_founded<D: Alter>(
     records: &mut Records<D>,
     alloc: Global,
     at: Moment,
@@ -71,13 +71,13 @@ fn decide_founded<D: Alter>(
     ensures { (k : Rules) → DecidesOpen D.Store k at campaign.now (λ s. founded ≡ is_some (founding_row s)) records.old records.new result }
 {
     match records.campaign(alloc, &campaign.name) {
-        Ok(old) => decide_named(records, alloc, at, campaign, founded, old.as_ref()),
+        Ok(old) => decide_opening_named(records, alloc, at, campaign, founded, old.as_ref()),
         Err(fault) => Err(refusal_of(fault)),
     }
 }
 
-/// The same, once the campaign of that name was read.
-fn decide_named<D: Alter>(
+/// Decides on it once the campaign of that name is known.
+fn decide_opening_named<D: Alter>(
     records: &mut Records<D>,
     alloc: Global,
     at: Moment,
@@ -90,13 +90,13 @@ fn decide_named<D: Alter>(
         × (option_copied old.entry ≡ table.get s.campaigns campaign.now.name)) records.old records.new result }
 {
     match known_vehicles(records, alloc, &campaign.reach) {
-        Ok(known) => decide_known(records, alloc, at, campaign, founded, old, known.as_slice()),
+        Ok(known) => decide_opening_known(records, alloc, at, campaign, founded, old, known.as_slice()),
         Err(fault) => Err(refusal_of(fault)),
     }
 }
 
-/// The same, once the vehicles were looked up.
-fn decide_known<D: Alter>(
+/// Decides on it once its vehicles are known, with the images that its items name.
+fn decide_opening_known<D: Alter>(
     records: &mut Records<D>,
     alloc: Global,
     at: Moment,

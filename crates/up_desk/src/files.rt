@@ -59,7 +59,7 @@ fn read_file<D: Alter>(
     }
 }
 
-/// The same where there is no such file: whether the repositories are founded is read for the refusal alone.
+/// Decides where there is no such file: whether the repositories are founded is read for the refusal alone.
 fn decide_missing<D: Alter>(records: &mut Records<D>, at: Moment) -> Result<Text, Refusal>
     requires { at ≤ last_command_moment }
     ensures { (k : Rules) (repository : RepositoryName) (name : Name)

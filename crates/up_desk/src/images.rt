@@ -82,7 +82,7 @@ fn put_image(
     Ok(())
 }
 
-/// The same text in memory of its own.
+/// A text, copied.
 fn text_of(alloc: Global, text: &str) -> Result<Text, AllocError>
     ensures { IfOk result (λ made. made ≡ text.now) }
 {

@@ -61,7 +61,7 @@ fn add_fitting<K: Scheme, D: Alter>(
     requires moment { at ≤ last_command_moment }
     ensures { Carries D.Store (K.rules scheme.now) (λ s. decide_vehicle_in (K.rules scheme.now) s at new.now) records.old records.new result }
 {
-    match decide(records, alloc, scheme, at, new) {
+    match decide_adding_vehicle(records, alloc, scheme, at, new) {
         Ok(Decision::Already) => Ok(Answer::Already),
         Ok(Decision::New(rows)) => done_of(records.write_vehicle(alloc, &rows)),
         Err(refusal) => Err(refusal),
@@ -69,7 +69,7 @@ fn add_fitting<K: Scheme, D: Alter>(
 }
 
 /// Decides on a vehicle, over rows that are read one after another.
-fn decide<K: Scheme, D: Alter>(
+fn decide_adding_vehicle<K: Scheme, D: Alter>(
     records: &mut Records<D>,
     alloc: Global,
     scheme: &K,
@@ -80,13 +80,13 @@ fn decide<K: Scheme, D: Alter>(
     ensures { DecidesVehicle D.Store (K.rules scheme.now) at new.now (λ s. ⊤) records.old records.new result }
 {
     match records.is_founded() {
-        Ok(founded) => decide_founded(records, alloc, scheme, at, new, founded),
+        Ok(founded) => decide_vehicle_founded(records, alloc, scheme, at, new, founded),
         Err(fault) => Err(refusal_of(fault)),
     }
 }
 
-/// The same, once it was read whether the repositories are founded.
-fn decide_founded<K: Scheme, D: Alter>(
+/// Decides on it once it is known whether the repositories are founded.
+fn decide_vehicle_founded<K: Scheme, D: Alter>(
     records: &mut Records<D>,
     alloc: Global,
     scheme: &K,
@@ -98,13 +98,13 @@ fn decide_founded<K: Scheme, D: Alter>(
     ensures { DecidesVehicle D.Store (K.rules scheme.now) at new.now (λ s. founded ≡ is_some (founding_row s)) records.old records.new result }
 {
     match records.vehicle(alloc, &new.vehicle) {
-        Ok(old) => decide_named(records, alloc, scheme, at, new, founded, old.as_ref()),
+        Ok(old) => decide_vehicle_named(records, alloc, scheme, at, new, founded, old.as_ref()),
         Err(fault) => Err(refusal_of(fault)),
     }
 }
 
-/// The same, once the vehicle of that name was read.
-fn decide_named<K: Scheme, D: Alter>(
+/// Decides on it once the vehicle of that name is known, with a mark for each of its ECUs.
+fn decide_vehicle_named<K: Scheme, D: Alter>(
     records: &mut Records<D>,
     alloc: Global,
     scheme: &K,

@@ -22,7 +22,7 @@ pub fn deliveries_act_once<D: Alter>()
     states_only_grow();
 }
 
-/// The same where the program stopped and the files are opened again as a crash left them.
+/// So a delivery does where the program stopped, and the files are opened again as a crash left them.
 pub fn reopened_deliveries_act_once<D: Disk>()
     ensures { ReopenedActsOnce D.Disk }
 {

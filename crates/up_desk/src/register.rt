@@ -59,13 +59,13 @@ fn decide_adding<K: Scheme, D: Alter>(
     ensures { DecidesImage D.Store (K.rules scheme.now) at image.now (λ s. ⊤) records.old records.new result }
 {
     match records.founding(alloc, scheme) {
-        Ok(founding) => decide_adding_after(records, alloc, scheme, at, image, founding),
+        Ok(founding) => decide_adding_founded(records, alloc, scheme, at, image, founding),
         Err(fault) => Err(refusal_of(fault)),
     }
 }
 
-/// The same, once the founding's row was read.
-fn decide_adding_after<K: Scheme, D: Alter>(
+/// Decides on it once the founding's row is known.
+fn decide_adding_founded<K: Scheme, D: Alter>(
     records: &mut Records<D>,
     alloc: Global,
     scheme: &K,
@@ -78,13 +78,13 @@ fn decide_adding_after<K: Scheme, D: Alter>(
     ensures { DecidesImage D.Store (K.rules scheme.now) at image.now (λ s. founding ≡ founding_row s) records.old records.new result }
 {
     match records.image(alloc, &image.file) {
-        Ok(old) => decide_named(records, alloc, scheme, at, image, founding, old.as_ref()),
+        Ok(old) => decide_adding_named(records, alloc, scheme, at, image, founding, old.as_ref()),
         Err(fault) => Err(refusal_of(fault)),
     }
 }
 
-/// The same, once the image of that filename was read.
-fn decide_named<K: Scheme, D: Alter>(
+/// Decides on it once the image of that filename is known.
+fn decide_adding_named<K: Scheme, D: Alter>(
     records: &mut Records<D>,
     alloc: Global,
     scheme: &K,
@@ -100,7 +100,7 @@ fn decide_named<K: Scheme, D: Alter>(
 {
     match decide_image(at, image, founding, old) {
         Ok(Decision::Already) => Ok(Decision::Already),
-        Ok(Decision::New(founding)) => Ok(Decision::New(decide_new(
+        Ok(Decision::New(founding)) => Ok(Decision::New(decide_adding_new(
             records, alloc, scheme, at, image, founding,
         )?)),
         Err(refusal) => Err(refusal),
@@ -108,7 +108,7 @@ fn decide_named<K: Scheme, D: Alter>(
 }
 
 /// Decides on an image whose filename is new, over all images, which are read here.
-fn decide_new<K: Scheme, D: Alter>(
+fn decide_adding_new<K: Scheme, D: Alter>(
     records: &mut Records<D>,
     alloc: Global,
     scheme: &K,
@@ -156,13 +156,13 @@ fn decide_refreshing<K: Scheme, D: Alter>(
     ensures { DecidesRefresh D.Store (K.rules scheme.now) at version (λ s. ⊤) records.old records.new result }
 {
     match records.founding(alloc, scheme) {
-        Ok(founding) => decide_refreshing_after(records, alloc, scheme, at, version, founding),
+        Ok(founding) => decide_refreshing_founded(records, alloc, scheme, at, version, founding),
         Err(fault) => Err(refusal_of(fault)),
     }
 }
 
-/// The same, once the founding's row was read.
-fn decide_refreshing_after<K: Scheme, D: Alter>(
+/// Decides on it once the founding's row is known.
+fn decide_refreshing_founded<K: Scheme, D: Alter>(
     records: &mut Records<D>,
     alloc: Global,
     scheme: &K,
@@ -175,13 +175,13 @@ fn decide_refreshing_after<K: Scheme, D: Alter>(
     ensures { DecidesRefresh D.Store (K.rules scheme.now) at version (λ s. founding ≡ founding_row s) records.old records.new result }
 {
     match decide_refresh(at, version, founding) {
-        Ok(founding) => make_rows(records, alloc, scheme, founding),
+        Ok(founding) => make_register_rows(records, alloc, scheme, founding),
         Err(refusal) => Err(refusal),
     }
 }
 
 /// Makes the rows of new files that are due, with all images, which are read here, after every refusal.
-fn make_rows<K: Scheme, D: Alter>(
+fn make_register_rows<K: Scheme, D: Alter>(
     records: &mut Records<D>,
     alloc: Global,
     scheme: &K,

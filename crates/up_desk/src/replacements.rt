@@ -55,14 +55,14 @@ fn replace_fitting<K: Scheme, D: Alter>(
     requires moment { at ≤ last_command_moment }
     ensures { Carries D.Store (K.rules scheme.now) (λ s. decide_replace_in (K.rules scheme.now) s at new.now) records.old records.new result }
 {
-    match decide(records, alloc, scheme, at, new) {
+    match decide_replacing(records, alloc, scheme, at, new) {
         Ok(()) => done_of(records.write_replace(alloc, new)),
         Err(refusal) => Err(refusal),
     }
 }
 
 /// Decides on a replacement, over rows that are read one after another.
-fn decide<K: Scheme, D: Alter>(
+fn decide_replacing<K: Scheme, D: Alter>(
     records: &mut Records<D>,
     alloc: Global,
     scheme: &K,
@@ -73,13 +73,13 @@ fn decide<K: Scheme, D: Alter>(
     ensures { DecidesReplace D.Store (K.rules scheme.now) at new.now (λ s. ⊤) records.old records.new result }
 {
     match records.is_founded() {
-        Ok(founded) => decide_founded(records, alloc, scheme, at, new, founded),
+        Ok(founded) => decide_replacing_founded(records, alloc, scheme, at, new, founded),
         Err(fault) => Err(refusal_of(fault)),
     }
 }
 
-/// The same, once it was read whether the repositories are founded.
-fn decide_founded<K: Scheme, D: Alter>(
+/// Decides on it once it is known whether the repositories are founded.
+fn decide_replacing_founded<K: Scheme, D: Alter>(
     records: &mut Records<D>,
     alloc: Global,
     scheme: &K,
@@ -91,13 +91,13 @@ fn decide_founded<K: Scheme, D: Alter>(
     ensures { DecidesReplace D.Store (K.rules scheme.now) at new.now (λ s. founded ≡ is_some (founding_row s)) records.old records.new result }
 {
     match records.vehicle(alloc, &new.vehicle) {
-        Ok(vehicle) => decide_in(records, alloc, scheme, at, new, founded, vehicle.as_ref()),
+        Ok(vehicle) => decide_replacing_in(records, alloc, scheme, at, new, founded, vehicle.as_ref()),
         Err(fault) => Err(refusal_of(fault)),
     }
 }
 
-/// The same, once the vehicle was read.
-fn decide_in<K: Scheme, D: Alter>(
+/// Decides on it once its vehicle is known, and whether the new identifier is taken.
+fn decide_replacing_in<K: Scheme, D: Alter>(
     records: &mut Records<D>,
     alloc: Global,
     scheme: &K,

@@ -55,13 +55,13 @@ fn decide_founding<K: Scheme, D: Alter>(
     ensures { DecidesFound D.Store (K.rules scheme.now) at keys.now (λ s. ⊤) records.old records.new result }
 {
     match records.is_founded() {
-        Ok(founded) => decide_founding_after(records, alloc, scheme, at, keys, founded),
+        Ok(founded) => decide_founding_anew(records, alloc, scheme, at, keys, founded),
         Err(fault) => Err(refusal_of(fault)),
     }
 }
 
-/// The same, once it was read whether the repositories are founded.
-fn decide_founding_after<K: Scheme, D: Alter>(
+/// Decides on it once it is known whether the repositories are founded.
+fn decide_founding_anew<K: Scheme, D: Alter>(
     records: &mut Records<D>,
     alloc: Global,
     scheme: &K,
@@ -73,7 +73,7 @@ fn decide_founding_after<K: Scheme, D: Alter>(
     ensures { DecidesFound D.Store (K.rules scheme.now) at keys.now (λ s. founded ≡ is_some (founding_row s)) records.old records.new result }
 {
     match decide_found(alloc, scheme, at, keys, founded) {
-        Ok(new) => make_rows(records, alloc, scheme, at, keys, &new),
+        Ok(new) => make_root_rows(records, alloc, scheme, at, keys, &new),
         Err(refusal) => Err(refusal),
     }
 }
@@ -107,13 +107,13 @@ fn decide_rotation<K: Scheme, D: Alter>(
     ensures { DecidesRotate D.Store (K.rules scheme.now) at keys.now (λ s. ⊤) records.old records.new result }
 {
     match records.founding(alloc, scheme) {
-        Ok(founding) => decide_rotation_after(records, alloc, scheme, at, keys, founding),
+        Ok(founding) => decide_rotation_founded(records, alloc, scheme, at, keys, founding),
         Err(fault) => Err(refusal_of(fault)),
     }
 }
 
-/// The same, once the founding's row was read.
-fn decide_rotation_after<K: Scheme, D: Alter>(
+/// Decides on it once the founding's row is known.
+fn decide_rotation_founded<K: Scheme, D: Alter>(
     records: &mut Records<D>,
     alloc: Global,
     scheme: &K,
@@ -126,13 +126,13 @@ fn decide_rotation_after<K: Scheme, D: Alter>(
     ensures { DecidesRotate D.Store (K.rules scheme.now) at keys.now (λ s. founding ≡ founding_row s) records.old records.new result }
 {
     match decide_rotate(alloc, scheme, at, keys, founding) {
-        Ok(new) => make_rows(records, alloc, scheme, at, keys, &new),
+        Ok(new) => make_root_rows(records, alloc, scheme, at, keys, &new),
         Err(refusal) => Err(refusal),
     }
 }
 
 /// Makes the rows of a root version that is due, with all images, which are read here, after every refusal.
-fn make_rows<K: Scheme, D: Alter>(
+fn make_root_rows<K: Scheme, D: Alter>(
     records: &mut Records<D>,
     alloc: Global,
     scheme: &K,

@@ -90,7 +90,7 @@ fn read_catalog<K: Scheme, D: Alter>(
     }
 }
 
-/// The same, once the founding was read.
+/// Reads what is there once the repositories are founded.
 fn read_registers<K: Scheme, D: Alter>(
     store: &mut Store<D>,
     alloc: Global,

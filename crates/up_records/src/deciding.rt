@@ -61,7 +61,7 @@ pub(crate) fn decide<K: Scheme, D: Alter>(
     }
 }
 
-/// The same, once the catalog is loaded; there is none before founding.
+/// Decides on it once the catalog is loaded; there is none before founding.
 fn decide_loaded<K: Scheme, D: Alter>(
     store: &mut Store<D>,
     catalog: &mut Option<Catalog>,
@@ -94,7 +94,7 @@ fn decide_loaded<K: Scheme, D: Alter>(
     }
 }
 
-/// The same of founded repositories. A manifest that its vehicle's Primary didn't sign costs no more than the test of who sent it.
+/// Decides on it by the catalog. A manifest that its vehicle's Primary didn't sign costs no more than the test of who sent it.
 fn decide_founded<K: Scheme, D: Alter>(
     store: &mut Store<D>,
     catalog: &mut Catalog,
@@ -131,7 +131,7 @@ fn decide_founded<K: Scheme, D: Alter>(
     }
 }
 
-/// The same, once it is known who sent it: its counter tells whether it may have been there before.
+/// Decides on it once it is known who sent it: its counter tells whether it may have been there before.
 fn decide_sent<K: Scheme, D: Alter>(
     store: &mut Store<D>,
     catalog: &Catalog,

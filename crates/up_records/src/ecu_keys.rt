@@ -14,7 +14,7 @@ pub(crate) fn keep_primary(keys: &mut KeyCache, alloc: Global, vehicle: &Vehicle
     }
 }
 
-/// The same of a Primary that is kept itself.
+/// Keeps the key of a Primary that is kept itself.
 pub(crate) fn keep_key(keys: &mut KeyCache, alloc: Global, primary: &Primary) {
     keep(keys, alloc, primary.public.as_slice());
 }

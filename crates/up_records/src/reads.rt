@@ -80,7 +80,8 @@ pub fn read_vehicle<D: Alter>(
     }
 }
 
-/// The same: `Store` where the version is past the last counter or an ECU stands twice, which no call of this product leaves.
+/// The rows of a vehicle, none of an unknown one: `Store` where the version is past the last counter or an ECU stands twice, which no
+/// call of this product leaves.
 pub fn read_fitting_vehicle<D: Alter>(
     store: &mut Store<D>,
     alloc: Global,

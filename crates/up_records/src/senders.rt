@@ -199,7 +199,7 @@ fn keep_sender(kept: &mut Table<Primary>, alloc: Global, vehicle: &Ident, rows: 
     }
 }
 
-/// The same while there is room. On an error all is as it was.
+/// Keeps the Primary of a vehicle while there is room. On an error all is as it was.
 fn put_sender(
     kept: &mut Table<Primary>,
     alloc: Global,
@@ -218,7 +218,7 @@ fn put_sender(
     kept.insert(text_of(alloc, vehicle.text())?, primary)
 }
 
-/// The same text in memory of its own.
+/// A text, copied.
 fn text_of(alloc: Global, text: &str) -> Result<Text, AllocError>
     ensures { IfOk result (λ made. made ≡ text.now) }
 {
