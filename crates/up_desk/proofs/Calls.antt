@@ -1,6 +1,6 @@
 -- What a call of a desk comes to, from what its command comes to over the records.
 use Rattle.std.proofs.Common.{◌≡◌, ℕ, refl, sym, subst}
-use Rattle.std.specs.Prelude.{IfSome, IsTrue, Result, Err}
+use Rattle.std.specs.Prelude.{IfSome, IsTrue, Result}
 use Rattle.up_canon.specs.declared.refusal.Refusal.{Refusal}
 use Rattle.up_sign.specs.Schemes.{Rules}
 use Rattle.up_machine.specs.declared.command.Command.{Command}
@@ -9,6 +9,7 @@ use Rattle.up_machine.specs.Commands.{is_command}
 use Rattle.up_machine.specs.Laws.{EmptyIsSound, KeptRepliesOutlastRuns}
 use Rattle.up_machine.specs.RepeatLaws.{ServedIsThinned, ServedStaysSound}
 use Rattle.up_machine.specs.Repeats.{serve}
+use Rattle.up_records.specs.Senders.{RefusesUnread}
 use Rattle.up_records.specs.Standing.{HasCleanDisk, HoldsState, Standing}
 use Rattle.up_desk.specs.Calls.{IsCalled, ServesCall}
 use Rattle.up_desk.specs.Serving.{CarriesOut, outcome_due, outright, told}
@@ -35,17 +36,17 @@ serves laws k at c r old new fits obeys = λ now s sound was.
     let it = answered k s new at c r laws.sound fits sound ((obeys.serves s sound was).leaves now) in
     (it.next, it.answered, answered_stays k s it.next at c (told r) laws.served laws.replies sound it.answered, it.sound, it.keeps)
 
-told_call : (laws : CallLaws) (k : Rules) (at : ℕ) (c : Command) (r : Result Answer Refusal) (old new : Standing) → IsTrue (is_command c) → Obeys k at c r old new
-    → IfSome (outright k at c) (λ q. r ≡ Err q) → IsCalled k at c (told r) old new
-told_call laws k at c r old new fits obeys due = record {
+told_call : {S : Type 0} (laws : CallLaws) (k : Rules) (at : ℕ) (c : Command) (r : Result Answer Refusal) (old new : Standing) (before after : S) → IsTrue (is_command c) → Obeys k at c r old new
+    → IfSome (outright k at c) (RefusesUnread before after r) → IsCalled k at c (told r) old new
+told_call laws k at c r old new before after fits obeys due = record {
   served = serves laws k at c r old new fits obeys;
-  outright = told_outright (outright k at c) r (told r) refl due;
+  outright = told_outright (outright k at c) before after r (told r) refl due;
   crash = λ s sound was. crashed k s old new at c r (obeys.serves s sound was);
   durable = λ s sound was commit. committed k s old new at c r (obeys.serves s sound was) commit;
   blame = λ now is s sound was. blamed k s old new at c r laws.sound fits sound (obeys.serves s sound was) now is;
   clean = cleaned laws k at c r old new obeys;
 }
 
-pub called : (laws : CallLaws) (k : Rules) (at : ℕ) (c : Command) (r : Result Answer Refusal) (a : Answer) (old new : Standing) → IsTrue (is_command c) → Obeys k at c r old new
-    → IfSome (outright k at c) (λ q. r ≡ Err q) → a ≡ told r → IsCalled k at c a old new
-called laws k at c r a old new fits obeys due is = subst (λ (x : Answer). IsCalled k at c x old new) (sym is) (told_call laws k at c r old new fits obeys due)
+pub called : {S : Type 0} (laws : CallLaws) (k : Rules) (at : ℕ) (c : Command) (r : Result Answer Refusal) (a : Answer) (old new : Standing) (before after : S) → IsTrue (is_command c) → Obeys k at c r old new
+    → IfSome (outright k at c) (RefusesUnread before after r) → a ≡ told r → IsCalled k at c a old new
+called laws k at c r a old new before after fits obeys due is = subst (λ (x : Answer). IsCalled k at c x old new) (sym is) (told_call laws k at c r old new before after fits obeys due)

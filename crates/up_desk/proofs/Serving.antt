@@ -36,6 +36,7 @@ use Rattle.up_machine.proofs.Fetched.{in_time}
 use Rattle.up_records.specs.Connected.{is_fault, is_store}
 use Rattle.up_records.specs.Reads.{DiskFailed}
 use Rattle.up_records.specs.Standing.{HasCleanDisk, HoldsState, IfClean, LeavesOnly, ShowsState, Standing, Survives}
+use Rattle.up_records.specs.Senders.{RefusesUnread}
 use Rattle.up_records.specs.Steps.{IsDueOrFails}
 use Rattle.up_desk.specs.Serving.{CarriesOut, IsAnswered, IsBlamed, IsCommit, Leaves, Serves, is_failed, outcome_due, outright, outright_in_time, told}
 use Rattle.up_records.proofs.NeverStore.{NeverStore}
@@ -218,46 +219,44 @@ blamed k s old new at c r stays fits sound h clean is =
 above : (n m : ℕ) → nat_lt n m ≡ true → n < m
 above n m h = grind (arith, nat_tests)
 
-pub key_outright : (k : Rules) (new : NewVehicleData) (c : Command) (result : Result Answer Refusal) → c ≡ AddVehicle new
-    → (list_all (λ e. public_fits k e.public) new.ecus ≡ false → result ≡ Err (BadShape (codes "key"))) → IfSome (outright_in_time k c) (λ r. result ≡ Err r)
-key_outright k new c result is refused =
-    subst (λ (d : Command). IfSome (outright_in_time k d) (λ r. result ≡ Err r)) (sym is) (by_test (list_all (λ e. public_fits k e.public) new.ecus) refl)
+pub key_outright : (k : Rules) (new : NewVehicleData) (c : Command) (P : Refusal → Type 0) → c ≡ AddVehicle new
+    → (list_all (λ e. public_fits k e.public) new.ecus ≡ false → P (BadShape (codes "key"))) → IfSome (outright_in_time k c) P
+key_outright k new c P is refused =
+    subst (λ (d : Command). IfSome (outright_in_time k d) P) (sym is) (by_test (list_all (λ e. public_fits k e.public) new.ecus) refl)
   where
-    by_test : (t : Bool) → list_all (λ e. public_fits k e.public) new.ecus ≡ t → IfSome (if t then None else Some (BadShape (codes "key"))) (λ r. result ≡ Err r)
+    by_test : (t : Bool) → list_all (λ e. public_fits k e.public) new.ecus ≡ t → IfSome (if t then None else Some (BadShape (codes "key"))) P
     by_test true is = tt
     by_test false is = refused is
 
-pub ecu_outright : (k : Rules) (new : Replacement) (c : Command) (result : Result Answer Refusal) → c ≡ ReplaceEcu new
-    → (public_fits k new.ecu.public ≡ false → result ≡ Err (BadShape (codes "key"))) → IfSome (outright_in_time k c) (λ r. result ≡ Err r)
-ecu_outright k new c result is refused =
-    subst (λ (d : Command). IfSome (outright_in_time k d) (λ r. result ≡ Err r)) (sym is) (by_test (public_fits k new.ecu.public) refl)
+pub ecu_outright : (k : Rules) (new : Replacement) (c : Command) (P : Refusal → Type 0) → c ≡ ReplaceEcu new
+    → (public_fits k new.ecu.public ≡ false → P (BadShape (codes "key"))) → IfSome (outright_in_time k c) P
+ecu_outright k new c P is refused =
+    subst (λ (d : Command). IfSome (outright_in_time k d) P) (sym is) (by_test (public_fits k new.ecu.public) refl)
   where
-    by_test : (t : Bool) → public_fits k new.ecu.public ≡ t → IfSome (if t then None else Some (BadShape (codes "key"))) (λ r. result ≡ Err r)
+    by_test : (t : Bool) → public_fits k new.ecu.public ≡ t → IfSome (if t then None else Some (BadShape (codes "key"))) P
     by_test true is = tt
     by_test false is = refused is
 
-pub large_outright : (k : Rules) (body : List ℕ) (c : Command) (result : Result Answer Refusal) → c ≡ Deliver body
-    → (largest_body < length body → result ≡ Err TooLarge) → IfSome (outright_in_time k c) (λ r. result ≡ Err r)
-large_outright k body c result is refused =
-    subst (λ (d : Command). IfSome (outright_in_time k d) (λ r. result ≡ Err r)) (sym is) (by_test (nat_lt largest_body (length body)) refl)
+pub large_outright : (k : Rules) (body : List ℕ) (c : Command) (P : Refusal → Type 0) → c ≡ Deliver body → (largest_body < length body → P TooLarge) → IfSome (outright_in_time k c) P
+large_outright k body c P is refused = subst (λ (d : Command). IfSome (outright_in_time k d) P) (sym is) (by_test (nat_lt largest_body (length body)) refl)
   where
-    by_test : (t : Bool) → nat_lt largest_body (length body) ≡ t → IfSome (if t then Some TooLarge else None) (λ r. result ≡ Err r)
+    by_test : (t : Bool) → nat_lt largest_body (length body) ≡ t → IfSome (if t then Some TooLarge else None) P
     by_test true is = refused (above largest_body (length body) is)
     by_test false is = tt
 
-pub in_time_outright : (k : Rules) (at : ℕ) (c : Command) (result : Result Answer Refusal) → at ≤ last_command_moment
-    → IfSome (outright_in_time k c) (λ r. result ≡ Err r) → IfSome (outright k at c) (λ r. result ≡ Err r)
-in_time_outright k at c result h refused =
-    subst (λ t. IfSome (if t then Some MomentOutOfRange else outright_in_time k c) (λ r. result ≡ Err r)) (sym (in_time_test at h)) refused
+-- a command that isn't refused so
+pub none_outright : (k : Rules) (c d : Command) (P : Refusal → Type 0) → c ≡ d → outright_in_time k d ≡ None → IfSome (outright_in_time k c) P
+none_outright k c d P is none = subst (λ (e : Command). IfSome (outright_in_time k e) P) (sym is) (subst (λ r. IfSome r P) (sym none) tt)
 
-pub late_outright : (k : Rules) (at : ℕ) (c : Command) (result : Result Answer Refusal) → last_command_moment < at → result ≡ Err MomentOutOfRange
-    → IfSome (outright k at c) (λ r. result ≡ Err r)
-late_outright k at c result h is =
-    subst (λ t. IfSome (if t then Some MomentOutOfRange else outright_in_time k c) (λ r. result ≡ Err r)) (sym (late_test at h)) is
+pub in_time_outright : (k : Rules) (at : ℕ) (c : Command) (P : Refusal → Type 0) → at ≤ last_command_moment → IfSome (outright_in_time k c) P → IfSome (outright k at c) P
+in_time_outright k at c P h refused = subst (λ t. IfSome (if t then Some MomentOutOfRange else outright_in_time k c) P) (sym (in_time_test at h)) refused
 
-pub told_outright : (o : Option Refusal) (given : Result Answer Refusal) (answer : Answer) → answer ≡ told given → IfSome o (λ r. given ≡ Err r) → IfSome o (λ r. answer ≡ Refused r)
-told_outright None given answer is h = tt
-told_outright (Some r) given answer is h = is ∙ ap told h
+pub late_outright : (k : Rules) (at : ℕ) (c : Command) (P : Refusal → Type 0) → last_command_moment < at → P MomentOutOfRange → IfSome (outright k at c) P
+late_outright k at c P h is = subst (λ t. IfSome (if t then Some MomentOutOfRange else outright_in_time k c) P) (sym (late_test at h)) is
+
+pub told_outright : {S : Type 0} (o : Option Refusal) (before after : S) (given : Result Answer Refusal) (answer : Answer) → answer ≡ told given → IfSome o (RefusesUnread before after given) → IfSome o (λ r. answer ≡ Refused r)
+told_outright None before after given answer is h = tt
+told_outright (Some r) before after given answer is h = is ∙ ap told h.refused
 
 -- ---- a disk that is clean was clean
 

@@ -11,8 +11,6 @@ ghost use Rattle.up_desk.specs.Serving.{Carries};
 ghost use Rattle.up_records.specs.Reads.{FindsSuch};
 ghost use Rattle.std.specs.Prelude.{⊤};
 
-use up_records::faults::refusal_of;
-use up_records::records::Records;
 use crate::faults::done_of;
 use crate::images::images_of;
 use sqlite::Alter;
@@ -24,6 +22,8 @@ use up_machine::answer::Answer;
 use up_machine::decide_campaign::{decide_close, decide_open};
 use up_machine::decision::Decision;
 use up_plan::campaign::{Campaign, Reach};
+use up_records::faults::refusal_of;
+use up_records::records::Records;
 use up_store::store::StoreFault;
 
 /// Opens a campaign.
@@ -90,7 +90,15 @@ fn decide_opening_named<D: Alter>(
         × (option_copied old.entry ≡ table.get s.campaigns campaign.now.name)) records.old records.new result }
 {
     match known_vehicles(records, alloc, &campaign.reach) {
-        Ok(known) => decide_opening_known(records, alloc, at, campaign, founded, old, known.as_slice()),
+        Ok(known) => decide_opening_known(
+            records,
+            alloc,
+            at,
+            campaign,
+            founded,
+            old,
+            known.as_slice(),
+        ),
         Err(fault) => Err(refusal_of(fault)),
     }
 }

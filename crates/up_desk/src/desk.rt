@@ -18,8 +18,7 @@ use up_canon::listed::Listed;
 use up_machine::answer::Answer;
 use up_machine::command::Command;
 use up_machine::laws::{
-    kept_replies_stay, repeats_change_nothing, states_stay_sound,
-    vehicles_stand_apart,
+    kept_replies_stay, repeats_change_nothing, states_stay_sound, vehicles_stand_apart,
 };
 use up_machine::rows::VehicleRows;
 use up_manifest::report::Installed;
@@ -95,13 +94,7 @@ impl<K: Scheme, D: Alter> Desk<K, D> {
         states_stay_sound();
         repeats_change_nothing();
         kept_replies_stay();
-        answer_of(dispatch(
-            &mut self.records,
-            alloc,
-            &self.scheme,
-            at,
-            command,
-        ))
+        answer_of(dispatch(&mut self.records, alloc, &self.scheme, at, command))
     }
 
     /// Answers commands one after another, each with its moment, and appends one answer for each: where some commands are

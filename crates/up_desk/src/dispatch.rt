@@ -2,6 +2,7 @@
 ghost use Rattle.std.specs.Prelude.{◌≡◌, ◌≤◌, ◌<◌, IsTrue, IfSome, MatchOption, Err};
 ghost use Rattle.up_canon.specs.Moments.{last_command_moment};
 ghost use Rattle.up_machine.specs.Commands.{is_command, opens_running};
+ghost use Rattle.up_records.specs.Senders.{RefusesUnread};
 ghost use Rattle.up_records.specs.Standing.{CanUse, state};
 ghost use Rattle.up_desk.specs.Serving.{Carries, outcome_due, outright as outright_of, outright_in_time, told};
 
@@ -21,7 +22,8 @@ use up_machine::command::Command;
 use up_records::records::Records;
 use up_sign::scheme::Scheme;
 
-/// What a command comes to, whose moment is checked first.
+/// What a command comes to, whose moment is checked first. For a moment that is too late, a body that is too large and a key that
+/// doesn't fit nothing is read of the tables.
 pub fn dispatch<K: Scheme, D: Alter>(
     records: &mut Records<D>,
     alloc: Global,
@@ -32,7 +34,7 @@ pub fn dispatch<K: Scheme, D: Alter>(
     requires { CanUse (K.rules scheme.now) (state D.Store records.old) }
     ensures carries { Carries D.Store (K.rules scheme.now) (λ s. outcome_due (K.rules scheme.now) s at command.now)
         records.old records.new result }
-    ensures outright { IfSome (outright_of (K.rules scheme.now) at command.now) (λ r. result ≡ Err r) }
+    ensures outright { IfSome (outright_of (K.rules scheme.now) at command.now) (RefusesUnread records.old records.new result) }
 {
     match command_moment(at) {
         Some(at) => dispatch_at(records, alloc, scheme, at, command),
@@ -52,7 +54,7 @@ fn dispatch_at<K: Scheme, D: Alter>(
     requires can { CanUse (K.rules scheme.now) (state D.Store records.old) }
     ensures carries { Carries D.Store (K.rules scheme.now) (λ s. outcome_due (K.rules scheme.now) s at command.now)
         records.old records.new result }
-    ensures outright { IfSome (outright_in_time (K.rules scheme.now) command.now) (λ r. result ≡ Err r) }
+    ensures outright { IfSome (outright_in_time (K.rules scheme.now) command.now) (RefusesUnread records.old records.new result) }
 {
     match command {
         Command::Found(keys) => found(records, alloc, scheme, at, keys),

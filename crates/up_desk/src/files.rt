@@ -10,8 +10,6 @@ ghost use Rattle.up_desk.specs.Deciding.{DecidesFile};
 ghost use Rattle.up_desk.specs.Serving.{Carries};
 ghost use Rattle.std.specs.Prelude.{⊤};
 
-use up_records::faults::refusal_of;
-use up_records::records::Records;
 use sqlite::Alter;
 use std::alloc::Global;
 use up_canon::file_name::FileName;
@@ -20,6 +18,8 @@ use up_canon::refusal::Refusal;
 use up_canon::text::Text;
 use up_machine::answer::Answer;
 use up_machine::decide_fetch::decide_fetch;
+use up_records::faults::refusal_of;
+use up_records::records::Records;
 use up_roles::repository::Repository;
 use up_rows::laws::rows_are_found;
 

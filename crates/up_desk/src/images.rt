@@ -5,7 +5,6 @@ ghost use Rattle.up_tables.specs.declared.values.StoreFault.TheVariants as fault
 ghost use Rattle.up_desk.specs.Gathered.{IsPart, with_found, gathered, item_files};
 ghost use Rattle.up_records.specs.Reads.{Finds, FindsSuch};
 
-use up_records::records::Records;
 use sqlite::Alter;
 use std::alloc::{AllocError, Global};
 use up_canon::file_name::FileName;
@@ -13,6 +12,7 @@ use up_canon::table::Table;
 use up_canon::text::Text;
 use up_plan::campaign::Item;
 use up_plan::image::Image;
+use up_records::records::Records;
 use up_store::store::StoreFault;
 
 /// The images of these items' files, each under its filename.

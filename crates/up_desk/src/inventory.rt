@@ -13,8 +13,6 @@ ghost use Rattle.up_records.specs.Reads.{FindsSuch};
 ghost use Rattle.up_records.specs.Senders.{RefusesUnread};
 ghost use Rattle.std.specs.Prelude.{⊤};
 
-use up_records::faults::refusal_of;
-use up_records::records::Records;
 use crate::faults::done_of;
 use sqlite::Alter;
 use std::alloc::Global;
@@ -27,6 +25,8 @@ use up_machine::decision::Decision;
 use up_machine::public_keys::publics_fit;
 use up_machine::rows::VehicleRows;
 use up_machine::vehicle::{NewEcu, NewVehicle};
+use up_records::faults::refusal_of;
+use up_records::records::Records;
 use up_sign::scheme::Scheme;
 use up_store::store::StoreFault;
 

@@ -10,8 +10,6 @@ ghost use Rattle.up_desk.specs.Serving.{Carries};
 ghost use Rattle.up_records.specs.Senders.{RefusesUnread};
 ghost use Rattle.std.specs.Prelude.{⊤};
 
-use up_records::faults::refusal_of;
-use up_records::records::Records;
 use crate::faults::done_of;
 use sqlite::Alter;
 use std::alloc::Global;
@@ -22,6 +20,8 @@ use up_machine::decide_replace::decide_replace;
 use up_machine::public_keys::public_fits;
 use up_machine::rows::VehicleRows;
 use up_machine::vehicle::Replacement;
+use up_records::faults::refusal_of;
+use up_records::records::Records;
 use up_sign::scheme::Scheme;
 
 /// Replaces an ECU. The new one's key is tested before anything is read.
@@ -91,7 +91,15 @@ fn decide_replacing_founded<K: Scheme, D: Alter>(
     ensures { DecidesReplace D.Store (K.rules scheme.now) at new.now (λ s. founded ≡ is_some (founding_row s)) records.old records.new result }
 {
     match records.vehicle(alloc, &new.vehicle) {
-        Ok(vehicle) => decide_replacing_in(records, alloc, scheme, at, new, founded, vehicle.as_ref()),
+        Ok(vehicle) => decide_replacing_in(
+            records,
+            alloc,
+            scheme,
+            at,
+            new,
+            founded,
+            vehicle.as_ref(),
+        ),
         Err(fault) => Err(refusal_of(fault)),
     }
 }

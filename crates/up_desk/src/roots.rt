@@ -11,8 +11,6 @@ ghost use Rattle.up_desk.specs.Serving.{Carries};
 ghost use Rattle.up_records.specs.Standing.{state};
 ghost use Rattle.std.specs.Prelude.{⊤};
 
-use up_records::faults::refusal_of;
-use up_records::records::Records;
 use crate::faults::done_of;
 use sqlite::Alter;
 use std::alloc::Global;
@@ -24,6 +22,8 @@ use up_machine::decision::{NextRoot, RootRows};
 use up_machine::new_files::root_rows;
 use up_machine::rows::Founding;
 use up_metadata::keys::KeySet;
+use up_records::faults::refusal_of;
+use up_records::records::Records;
 use up_sign::scheme::Scheme;
 
 /// Founds the repositories with these keys.

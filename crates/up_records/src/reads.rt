@@ -118,7 +118,11 @@ fn fitting_vehicle(found: Option<VehicleRows>) -> Result<Option<VehicleRows>, St
 }
 
 /// Whether the vehicle is in the inventory.
-pub fn is_known<D: Alter>(store: &mut Store<D>, alloc: Global, name: &Ident) -> Result<bool, StoreFault>
+pub fn is_known<D: Alter>(
+    store: &mut Store<D>,
+    alloc: Global,
+    name: &Ident,
+) -> Result<bool, StoreFault>
     ensures told { Tells (λ k s. table.contains_key s.vehicles name.now) (state D.Store store.old) (state D.Store store.new) result }
     ensures blame { Blames (state D.Store store.old) (state D.Store store.new) result }
     ensures reads { Reads (state D.Store store.old) (state D.Store store.new) }

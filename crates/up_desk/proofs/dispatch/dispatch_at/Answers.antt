@@ -1,5 +1,5 @@
 use Rattle.up_machine.specs.declared.command.Command.TheVariants.{Found, Rotate, AddImage, Refresh, AddVehicle, ReplaceEcu, OpenCampaign, CloseCampaign, Fetch}
-use Rattle.up_desk.proofs.Serving.{of_command, of_delivery, key_outright, ecu_outright, large_outright}
+use Rattle.up_desk.proofs.Serving.{of_command, of_delivery, key_outright, ecu_outright, large_outright, none_outright}
 use Rattle.up_desk.proofs.dispatch.dispatch_at.Goals as goal
 
 pub returns-in-Found-clause-carries : goal.returns-in-Found-clause-carries
@@ -33,10 +33,31 @@ pub returns-in-Deliver-clause-carries : goal.returns-in-Deliver-clause-carries
 returns-in-Deliver-clause-carries g c = of_delivery c.args.at c.args.command.now c.in-Deliver.body c.in-Deliver.is c.requires.moment c.deliver.ensures.carries
 
 pub returns-in-AddVehicle-clause-outright : goal.returns-in-AddVehicle-clause-outright
-returns-in-AddVehicle-clause-outright g c = key_outright (g.K.Scheme.rules c.args.scheme.now) c.in-AddVehicle.new c.args.command.now _ c.in-AddVehicle.is (λ none. (c.add_vehicle.ensures.key none).refused)
+returns-in-AddVehicle-clause-outright g c = key_outright (g.K.Scheme.rules c.args.scheme.now) c.in-AddVehicle.new c.args.command.now _ c.in-AddVehicle.is c.add_vehicle.ensures.key
 
 pub returns-in-ReplaceEcu-clause-outright : goal.returns-in-ReplaceEcu-clause-outright
-returns-in-ReplaceEcu-clause-outright g c = ecu_outright (g.K.Scheme.rules c.args.scheme.now) c.in-ReplaceEcu.new c.args.command.now _ c.in-ReplaceEcu.is (λ none. (c.replace_ecu.ensures.key none).refused)
+returns-in-ReplaceEcu-clause-outright g c = ecu_outright (g.K.Scheme.rules c.args.scheme.now) c.in-ReplaceEcu.new c.args.command.now _ c.in-ReplaceEcu.is c.replace_ecu.ensures.key
 
 pub returns-in-Deliver-clause-outright : goal.returns-in-Deliver-clause-outright
-returns-in-Deliver-clause-outright g c = large_outright (g.K.Scheme.rules c.args.scheme.now) c.in-Deliver.body c.args.command.now _ c.in-Deliver.is (λ large. (c.deliver.ensures.large large).refused)
+returns-in-Deliver-clause-outright g c = large_outright (g.K.Scheme.rules c.args.scheme.now) c.in-Deliver.body c.args.command.now _ c.in-Deliver.is c.deliver.ensures.large
+
+pub returns-in-Found-clause-outright : goal.returns-in-Found-clause-outright
+returns-in-Found-clause-outright g c = none_outright (g.K.Scheme.rules c.args.scheme.now) c.args.command.now (Found c.in-Found.keys) _ c.in-Found.is refl
+
+pub returns-in-Rotate-clause-outright : goal.returns-in-Rotate-clause-outright
+returns-in-Rotate-clause-outright g c = none_outright (g.K.Scheme.rules c.args.scheme.now) c.args.command.now (Rotate c.in-Rotate.keys) _ c.in-Rotate.is refl
+
+pub returns-in-AddImage-clause-outright : goal.returns-in-AddImage-clause-outright
+returns-in-AddImage-clause-outright g c = none_outright (g.K.Scheme.rules c.args.scheme.now) c.args.command.now (AddImage c.in-AddImage.image) _ c.in-AddImage.is refl
+
+pub returns-in-Refresh-clause-outright : goal.returns-in-Refresh-clause-outright
+returns-in-Refresh-clause-outright g c = none_outright (g.K.Scheme.rules c.args.scheme.now) c.args.command.now (Refresh c.in-Refresh.version) _ c.in-Refresh.is refl
+
+pub returns-in-OpenCampaign-clause-outright : goal.returns-in-OpenCampaign-clause-outright
+returns-in-OpenCampaign-clause-outright g c = none_outright (g.K.Scheme.rules c.args.scheme.now) c.args.command.now (OpenCampaign c.in-OpenCampaign.campaign) _ c.in-OpenCampaign.is refl
+
+pub returns-in-CloseCampaign-clause-outright : goal.returns-in-CloseCampaign-clause-outright
+returns-in-CloseCampaign-clause-outright g c = none_outright (g.K.Scheme.rules c.args.scheme.now) c.args.command.now (CloseCampaign c.in-CloseCampaign.name) _ c.in-CloseCampaign.is refl
+
+pub returns-in-Fetch-clause-outright : goal.returns-in-Fetch-clause-outright
+returns-in-Fetch-clause-outright g c = none_outright (g.K.Scheme.rules c.args.scheme.now) c.args.command.now (Fetch c.in-Fetch.repository c.in-Fetch.name) _ c.in-Fetch.is refl

@@ -14,7 +14,7 @@ returns g c =
     } in
     record {
       called = subst (λ d. IsCalled (g.K.Scheme.rules d.scheme) c.args.at c.args.command.now c.answer_of.result (state g.D.Store d.store) (state g.D.Store c.dispatch.new.records)) c.self.view_is
-          (called laws (g.K.Scheme.rules c.self.inside.scheme) c.args.at c.args.command.now c.dispatch.result c.answer_of.result (state g.D.Store c.self.inside.records) (state g.D.Store c.dispatch.new.records)
+          (called laws (g.K.Scheme.rules c.self.inside.scheme) c.args.at c.args.command.now c.dispatch.result c.answer_of.result (state g.D.Store c.self.inside.records) (state g.D.Store c.dispatch.new.records) c.self.inside.records c.dispatch.new.records
           c.keeps_limits.ensures c.dispatch.ensures.carries c.dispatch.ensures.outright c.answer_of.ensures);
       scheme = ap (λ d. d.scheme) c.self.view_is;
     }
