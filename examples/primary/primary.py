@@ -9,6 +9,7 @@
     primary.py trust URL VEHICLE                  puts the first Root of each repository into VEHICLE, as where it is built
     primary.py round URL VEHICLE [IMAGES]         one round of a vehicle: a new manifest, the metadata of both repositories,
                                                   and what is to be installed, from the folder IMAGES
+    primary.py rounds URL VEHICLE [IMAGES]        rounds without end: one a day, and sooner behind one that failed
 
 Nothing but Python's standard library is used. The input of `build` is one JSON object:
 
@@ -40,9 +41,12 @@ sys.dont_write_bytecode = True
 import verify
 from envelopes import canonical, hashes, key_identifier, manifest
 
-# seconds: what an answer may take, and the waits between tries, each half as long again at random so that a fleet doesn't come at once
-PATIENCE = 20
+# seconds: what an answer may take, longer than the proxies of `examples/service` wait, and the waits between tries, each half as long again at
+# random so that a fleet doesn't come at once
+PATIENCE = 100
 WAITS = (1, 3, 9)
+# seconds between two rounds, and behind the first that failed; that wait doubles with each further one
+INTERVAL, FAILED = 86_400, 300
 
 
 class Failed(Exception):
@@ -111,11 +115,23 @@ def verified(told, reply, url, now):
     director["versions"] |= verify.check_reply(director, reply, secrets, told["vehicle"], now)
     if not reply["targets"]["signed"]["targets"]:
         return {}, {"director": director}
-    image = verify.latest_root(told["image"], fetch, secrets, "image", now)
-    files = {role: fetch("image/%s.json" % role) for role in verify.ROLES}
-    verify.expect(all(files.values()), "the Image repository lacks a file")
-    image["versions"] |= verify.check_files(image, files, secrets, "image", now)
-    return verify.check_targets(reply["targets"], files["targets"], ecus), {"director": director, "image": image}
+    targets, image = image_repository(told["image"], fetch, secrets, now)
+    return verify.check_targets(reply["targets"], targets, ecus), {"director": director, "image": image}
+
+
+def image_repository(trust, fetch, secrets, now):
+    """The Image repository's Targets, and what is trusted from now on. A change of the repository between two of these requests mixes
+    files of two versions: so what can't be verified is fetched once more, from the Root on."""
+    for again in (True, False):
+        try:
+            image = verify.latest_root(trust, fetch, secrets, "image", now)
+            files = {role: fetch("image/%s.json" % role) for role in verify.ROLES}
+            verify.expect(all(files.values()), "the Image repository lacks a file")
+            versions = verify.check_files(image, files, secrets, "image", now)
+            return files["targets"], image | {"versions": image["versions"] | versions}
+        except verify.Refused:
+            if not again:
+                raise
 
 
 def answered(told, url, save):
@@ -131,8 +147,13 @@ def answered(told, url, save):
         if refused.get("error") == 13:
             told["counter"], told["pending"] = int(refused["text"].split()[1]), None
             continue
+        if refused.get("error") == 18:
+            # (the ECU has lost its counter: no one says what the last one was, but counters needn't be consecutive)
+            skip(told, refused["text"].split()[1], now)
+            continue
         if status != 200:
-            told["pending"] = told["pending"] if status >= 500 else None
+            # (without an error it is a proxy's answer, and the service may not have had the manifest)
+            told["pending"] = None if refused and status < 500 else told["pending"]
             raise Failed("%d %s" % (status, text))
         try:
             return verified(told, json.loads(text), url, now)
@@ -142,11 +163,25 @@ def answered(told, url, save):
     raise Failed("the service's replies stay old: is its clock right?")
 
 
+def skip(told, name, now):
+    """The ECU goes on from the time in seconds, which is above all of its reports so far."""
+    for ecu in told["ecus"]:
+        if ecu["ecu"] == name:
+            ecu["counter"] = max(ecu["counter"], now)
+    told["pending"] = None
+
+
+def within(folder, name):
+    """The path of an image. A filename that would leave the folder is refused: the repository takes any."""
+    verify.expect(not name.startswith("/") and ".." not in name.split("/"), "the filename %s leaves its folder", name)
+    return folder / name
+
+
 def install(told, due, folder):
     """Puts each image that is there into its ECU."""
     for ecu in told["ecus"]:
         target = due.get(ecu["ecu"])
-        path = folder / target["file"] if target and folder else None
+        path = within(folder, target["file"]) if target and folder else None
         if target and not (path and path.is_file()):
             print("%s is to install %s, which isn't here yet" % (ecu["ecu"], target["file"]))
         elif target:
@@ -175,6 +210,28 @@ def go_round(url, path, images):
         print("verified: version %d, targets %d" % (told["director"]["versions"]["targets"], len(due)))
     finally:
         save()
+
+
+def pause(failed):
+    """The seconds until the next round, behind so many that failed in a row. They differ at random, so that a fleet that was switched
+    on at one moment, or met one outage, doesn't come at one moment: by a tenth, and behind a failure by half the wait."""
+    if not failed:
+        return INTERVAL * random.uniform(0.9, 1.1)
+    return min(INTERVAL, FAILED * 2 ** min(failed - 1, 20)) * random.uniform(0.5, 1)
+
+
+def go_rounds(url, path, images):
+    failed = 0
+    while True:
+        try:
+            go_round(url, path, images)
+            failed = 0
+        except (Failed, verify.Refused, OSError, ValueError, KeyError, TypeError, AttributeError) as wrong:
+            print("primary: %s" % (wrong if isinstance(wrong, (Failed, verify.Refused)) else repr(wrong)), file=sys.stderr, flush=True)
+            failed += 1
+        wait = pause(failed)
+        print("the next round is in %d minutes" % (wait // 60), flush=True)
+        time.sleep(wait)
 
 
 def trust(url, path):
@@ -224,8 +281,9 @@ def carried_out(words):
     elif len(words) == 3 and words[0] == "trust":
         trust(words[1].rstrip("/"), Path(words[2]))
         print("trusted: root version 1 of both repositories")
-    elif len(words) in (3, 4) and words[0] == "round":
-        go_round(words[1].rstrip("/"), Path(words[2]), Path(words[3]) if len(words) == 4 else None)
+    elif len(words) in (3, 4) and words[0] in ("round", "rounds"):
+        go = go_round if words[0] == "round" else go_rounds
+        go(words[1].rstrip("/"), Path(words[2]), Path(words[3]) if len(words) == 4 else None)
     else:
         print(__doc__.strip(), file=sys.stderr)
         return 2

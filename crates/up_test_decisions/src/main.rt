@@ -2,7 +2,7 @@
 //!
 //! A decision is made on each line over the rows of a register, and what it answers is told as a text and kept in the register;
 //! in a section of plans a line's image or campaign is kept without a decision, and a row `plan ECUS` plans over what is kept.
-//! Each section is carried out under two schemes. Digests are an outside program's: `tools/expected_decisions.py` prints them, by
+//! Each section is carried out under two schemes. Digests are an outside program's: `tools/rows/expected_decisions.py` prints them, by
 //! Python's `hmac`, `hashlib` and `json` alone.
 #![tactic(auto)]
 

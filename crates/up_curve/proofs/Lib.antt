@@ -1,0 +1,12 @@
+pub mod Ring
+pub mod Assoc
+pub mod Fermat
+pub mod Group
+pub mod Prime
+pub mod Curve
+pub mod Decode
+pub mod Signatures
+pub mod Vectors
+pub mod Extended
+pub mod Decoded
+pub mod Negated

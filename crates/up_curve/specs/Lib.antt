@@ -1,0 +1,9 @@
+pub mod Coordinates
+pub mod Curve
+pub mod Encoding
+pub mod Field
+pub mod Laws
+pub mod LittleEndian
+pub mod Points
+pub mod Primes
+pub mod Signatures

@@ -1,0 +1,9 @@
+pub mod ByteLists
+pub mod CombPoints
+pub mod Doubling
+pub mod Horner
+pub mod Pairs
+pub mod Powers
+pub mod Steps
+pub mod Sums
+pub mod Tests

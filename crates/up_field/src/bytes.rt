@@ -1,0 +1,103 @@
+//! Numbers of 256 bits as 32 bytes, the least significant first (RFC 8032, section 5.1.2).
+ghost use Rattle.std.specs.Prelude.{◌≡◌, ◌+◌, ◌*◌, ◌/◌, ◌%◌, ◌<◌, ◌^◌, length};
+ghost use Rattle.up_field.specs.Limbs.{limbs, AreBelow};
+ghost use Rattle.up_curve.specs.LittleEndian.{number, bytes};
+
+use crate::limbs::Field;
+
+/// 256 times a number, and a byte.
+#[inline(always)]
+fn pushed(a: Field, byte: u8) -> Field
+    requires limit { AreBelow (2 ^ 51) a.l0 a.l1 a.l2 a.l3 a.l4 }
+    requires small { limbs a.l0 a.l1 a.l2 a.l3 a.l4 < 2 ^ 248 }
+    ensures value { limbs result.l0 result.l1 result.l2 result.l3 result.l4 ≡ 256 * limbs a.l0 a.l1 a.l2 a.l3 a.l4 + byte }
+    ensures limit { AreBelow (2 ^ 51) result.l0 result.l1 result.l2 result.l3 0 }
+    ensures last { result.l4 < 2 ^ 52 }
+{
+    let m0 = a.l0 * 256 + byte as u64;
+    let m1 = a.l1 * 256 + (m0 >> 51);
+    let m2 = a.l2 * 256 + (m1 >> 51);
+    let m3 = a.l3 * 256 + (m2 >> 51);
+    Field {
+        l0: m0 % (1 << 51),
+        l1: m1 % (1 << 51),
+        l2: m2 % (1 << 51),
+        l3: m3 % (1 << 51),
+        l4: a.l4 * 256 + (m3 >> 51),
+    }
+}
+
+/// The number without its lowest byte.
+#[inline(always)]
+fn shifted(a: Field) -> Field
+    requires limit { AreBelow (2 ^ 51) a.l0 a.l1 a.l2 a.l3 0 }
+    requires last { a.l4 < 2 ^ 52 }
+    ensures value { limbs result.l0 result.l1 result.l2 result.l3 result.l4 ≡ (limbs a.l0 a.l1 a.l2 a.l3 a.l4) / 256 }
+    ensures limit { AreBelow (2 ^ 51) result.l0 result.l1 result.l2 result.l3 0 }
+    ensures last { result.l4 < 2 ^ 52 }
+{
+    Field {
+        l0: a.l0 / 256 + a.l1 % 256 * (1 << 43),
+        l1: a.l1 / 256 + a.l2 % 256 * (1 << 43),
+        l2: a.l2 / 256 + a.l3 % 256 * (1 << 43),
+        l3: a.l3 / 256 + a.l4 % 256 * (1 << 43),
+        l4: a.l4 / 256,
+    }
+}
+
+/// The number that 32 bytes write.
+pub(crate) fn from_bytes(bytes: &[u8]) -> Field
+    requires { length bytes.now ≡ 32 }
+    ensures value { limbs result.l0 result.l1 result.l2 result.l3 result.l4 ≡ number bytes.now }
+    ensures limit { AreBelow (2 ^ 51) result.l0 result.l1 result.l2 result.l3 0 }
+    ensures last { result.l4 < 2 ^ 52 }
+{
+    let mut r = Field {
+        l0: 0,
+        l1: 0,
+        l2: 0,
+        l3: 0,
+        l4: 0,
+    };
+    for i in 0..32usize {
+        r = pushed(r, bytes[31 - i]);
+    }
+    r
+}
+
+/// The 32 bytes of a number.
+pub(crate) fn to_bytes(a: Field) -> [u8; 32]
+    requires limit { AreBelow (2 ^ 51) a.l0 a.l1 a.l2 a.l3 0 }
+    requires last { a.l4 < 2 ^ 52 }
+    ensures { result ≡ bytes 32 (limbs a.l0 a.l1 a.l2 a.l3 a.l4) }
+{
+    let mut out = [0u8; 32];
+    let mut r = a;
+    for i in 0..32usize {
+        out[i] = (r.l0 % 256) as u8;
+        r = shifted(r);
+    }
+    out
+}
+
+/// The lowest 255 bits of a number of 256 bits, and the last bit.
+#[inline(always)]
+pub(crate) fn split(a: Field) -> (Field, u64)
+    requires limit { AreBelow (2 ^ 51) a.l0 a.l1 a.l2 a.l3 0 }
+    requires last { a.l4 < 2 ^ 52 }
+    ensures value { limbs result.0.l0 result.0.l1 result.0.l2 result.0.l3 result.0.l4 ≡ (limbs a.l0 a.l1 a.l2 a.l3 a.l4) % 2 ^ 255 }
+    ensures limit { AreBelow (2 ^ 51) result.0.l0 result.0.l1 result.0.l2 result.0.l3 result.0.l4 }
+    ensures bit { result.1 ≡ (limbs a.l0 a.l1 a.l2 a.l3 a.l4) / 2 ^ 255 }
+    ensures one { result.1 < 2 }
+{
+    (
+        Field {
+            l0: a.l0,
+            l1: a.l1,
+            l2: a.l2,
+            l3: a.l3,
+            l4: a.l4 % (1 << 51),
+        },
+        a.l4 >> 51,
+    )
+}

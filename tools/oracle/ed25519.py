@@ -1,0 +1,159 @@
+#!/usr/bin/env python3
+"""Ed25519 by RFC 8032, section 5.1, in plain Python: what is signed and verified is compared with it.
+
+    ed25519.py
+
+tries it on the test vectors of RFC 8032, section 7.1. It is slow, and its time depends on secrets: no one signs with it what
+matters. Where the RFC leaves a choice, it takes that of the RFC's own code (section 6): the equation without the cofactor, k
+modulo the order. Comments name the sections.
+"""
+import hashlib
+import sys
+from pathlib import Path
+
+# ---- 5.1: the parameters
+
+P = 2**255 - 19
+D = -121665 * pow(121666, P - 2, P) % P
+ORDER = 2**252 + 27742317777372353535851937790883648493
+ROOT_OF_MINUS_1 = pow(2, (P - 1) // 4, P)
+NEUTRAL = (0, 1, 1, 0)
+
+
+def digest(*parts):
+    return hashlib.sha512(b"".join(parts)).digest()
+
+
+def number(data):
+    return int.from_bytes(data, "little")
+
+
+# ---- 5.1.4: points as (X, Y, Z, T), where x = X / Z, y = Y / Z and x * y = T / Z
+
+
+def add(one, other):
+    (x1, y1, z1, t1), (x2, y2, z2, t2) = one, other
+    a, b = (y1 - x1) * (y2 - x2) % P, (y1 + x1) * (y2 + x2) % P
+    c, d = t1 * 2 * D * t2 % P, z1 * 2 * z2 % P
+    e, f, g, h = b - a, d - c, d + c, b + a
+    return e * f % P, g * h % P, f * g % P, e * h % P
+
+
+def multiple(count, point):
+    total = NEUTRAL
+    while count:
+        if count & 1:
+            total = add(total, point)
+        point = add(point, point)
+        count >>= 1
+    return total
+
+
+def is_same(one, other):
+    (x1, y1, z1, _), (x2, y2, z2, _) = one, other
+    return (x1 * z2 - x2 * z1) % P == 0 and (y1 * z2 - y2 * z1) % P == 0
+
+
+# ---- 5.1.2 and 5.1.3: points as bytes
+
+
+def encode(point):
+    inverse = pow(point[2], P - 2, P)
+    x, y = point[0] * inverse % P, point[1] * inverse % P
+    return (y | (x & 1) << 255).to_bytes(32, "little")
+
+
+def decode(data):
+    """The point that 32 bytes write; none where they write none."""
+    if len(data) != 32:
+        return None
+    sign, y = number(data) >> 255, number(data) & 2**255 - 1
+    if y >= P:
+        return None
+    u, v = (y * y - 1) % P, (D * y * y + 1) % P
+    x = u * v**3 * pow(u * v**7, (P - 5) // 8, P) % P
+    if (v * x * x + u) % P == 0:
+        x = x * ROOT_OF_MINUS_1 % P
+    if (v * x * x - u) % P != 0:
+        return None
+    if x == 0 and sign == 1:
+        return None
+    if x & 1 != sign:
+        x = P - x
+    return x, y, 1, x * y % P
+
+
+BASE = decode((4 * pow(5, P - 2, P) % P).to_bytes(32, "little"))
+
+# ---- 5.1.5 to 5.1.7: keys, signatures
+
+
+def expanded(secret):
+    """The scalar and the prefix of a secret."""
+    if len(secret) != 32:
+        raise ValueError("a secret of %d bytes" % len(secret))
+    hashed = bytearray(digest(secret))
+    hashed[0] &= 0b11111000
+    hashed[31] &= 0b01111111
+    hashed[31] |= 0b01000000
+    return number(hashed[:32]), bytes(hashed[32:])
+
+
+def public_of(secret):
+    return encode(multiple(expanded(secret)[0], BASE))
+
+
+def sign(secret, message):
+    scalar, prefix = expanded(secret)
+    r = number(digest(prefix, message)) % ORDER
+    first = encode(multiple(r, BASE))
+    k = number(digest(first, public_of(secret), message)) % ORDER
+    return first + ((r + k * scalar) % ORDER).to_bytes(32, "little")
+
+
+def verify(public, message, signature):
+    if len(signature) != 64:
+        return False
+    first, s = decode(signature[:32]), number(signature[32:])
+    key = decode(public)
+    if first is None or key is None or s >= ORDER:
+        return False
+    k = number(digest(signature[:32], public, message)) % ORDER
+    return is_same(multiple(s, BASE), add(first, multiple(k, key)))
+
+
+# ---- 7.1: test vectors
+
+
+def vectors():
+    """Secret, public key, message and signature of each: tests 1, 2, 3, 1024 and SHA(abc)."""
+    lines = (Path(__file__).parent / "ed25519_vectors.txt").read_text(encoding="ascii").splitlines()
+    return [[bytes.fromhex(word.removeprefix("x")) for word in line.split(" ")] for line in lines]
+
+
+def wrong(secret, public, message, signature):
+    """What isn't answered for a vector as the RFC answers it."""
+    turned = [signature[:at] + bytes([signature[at] ^ 1]) + signature[at + 1:] for at in range(64)]
+    turned.append(signature[:32] + (number(signature[32:]) + ORDER).to_bytes(32, "little"))
+    if public_of(secret) != public:
+        yield "another public key"
+    if sign(secret, message) != signature:
+        yield "another signature"
+    if not verify(public, message, signature):
+        yield "its signature is refused"
+    if any(verify(public, message, one) for one in turned):
+        yield "a changed signature is taken"
+
+
+def main():
+    if sys.argv[1:]:
+        sys.exit(__doc__.strip())
+    told = ["test vector %d: %s" % (at, what) for at, vector in enumerate(vectors(), 1) for what in wrong(*vector)]
+    print("\n".join(told) or "%d test vectors hold" % len(vectors()))
+    return 1 if told else 0
+
+
+if __name__ == "__main__":
+    if {"-h", "--help"} & {*sys.argv[1:]}:
+        sys.exit(print(__doc__))
+    sys.exit(main())

@@ -1,0 +1,117 @@
+#!/usr/bin/env python3
+"""Compares the examples and the rows with the formats and the rules alone: it needs neither the program nor the kit.
+
+    check_rows.py
+
+Nothing is missing that there has to be; each script prints what stands beside it by the independent rules, and each row wants what is
+computed from the formats; the crates that carry rows out have just these; the small Primary builds and checks what its page shows.
+"""
+import contextlib
+import re
+import shlex
+import socket
+import subprocess
+import sys
+import time
+from pathlib import Path
+
+sys.dont_write_bytecode = True
+sys.path += map(str, Path(__file__).resolve().parents[1].iterdir())
+
+import collect_rows
+import expected_files
+import http_cases
+import row_texts
+import trials
+
+EXAMPLES, ROWS = trials.TOP / "examples", trials.TOP / "rows"
+PRIMARY = EXAMPLES / "primary"
+REFERENCE = trials.TOP / "tools" / "oracle" / "reference.py"
+CARRIES = trials.TOP / "crates" / "up_test_worked_rows"
+COMPUTED = [("texts", "rows/expected_texts.py"), ("decisions", "rows/expected_decisions.py"), ("the store", "rows/expected_store.py"),
+            ("streams", "rows/expected_streams.py"), ("lines", "try/each_line.py", "wanted")]
+
+
+def read(path):
+    return path.read_text(encoding="ascii")
+
+
+def ran(path, *words, given=""):
+    """The status of a program of Python's, and what it prints."""
+    done = subprocess.run([sys.executable, path, *words], input=given.encode(), capture_output=True, check=False)
+    return done.returncode, done.stdout.decode("ascii", "replace")
+
+
+def scripts():
+    """Each script that an example or a row has, but those under a scheme that the rules haven't."""
+    for script in sorted([*EXAMPLES.glob("*/script"), *ROWS.glob("*/script")]):
+        if not (script.parent / "under").exists():
+            wanted = read(script.parent / "printed").split("\n")[:-1]
+            yield "%s, by the rules" % script.parent.relative_to(trials.TOP), trials.expected(":memory:", read(script).split("\n")) == wanted
+
+
+def texts():
+    """The texts of the rows are those of the formats, and the crate that carries the rows out has them all."""
+    yield "the crate's rows are those of rows/", not collect_rows.differing(CARRIES)
+    for name in row_texts.REPLIES:
+        yield "replies of %s, from the formats" % name, read(ROWS / name / "replies") == row_texts.replies(name)
+    for name in row_texts.FILES:
+        files = [line[5:] + "\n" for line in expected_files.lines(ROWS / name / "printed") if line.startswith("file ")]
+        yield "files of %s, from the formats" % name, "".join(files) == row_texts.files(name)
+
+
+def primary():
+    given, body, reply = (read(PRIMARY / name) for name in ("manifest-input.json", "manifest.json", "reply.json"))
+    tool, keys = PRIMARY / "primary.py", str(PRIMARY / "director-secrets.json")
+    yield "the Primary builds the manifest that the page shows", ran(tool, "build", given=given) == (0, body)
+    yield "the Primary checks the reply that the page shows", ran(tool, "check", keys, given=reply)[0] == 0
+    broken = reply.replace('"version":1}', '"version":2}', 1)
+    yield "the Primary refuses a changed reply", broken != reply and ran(tool, "check", keys, given=broken)[0] == 1
+
+
+@contextlib.contextmanager
+def served(path):
+    """The port at which the independent rules answer over HTTP."""
+    with socket.socket() as it:
+        it.bind(("127.0.0.1", 0))
+        port = it.getsockname()[1]
+    words = [sys.executable, REFERENCE, "serve", path, str(port)]
+    with subprocess.Popen(words, stderr=subprocess.DEVNULL) as running:
+        try:
+            for _ in range(100):
+                with contextlib.suppress(OSError), socket.create_connection(("127.0.0.1", port), 1):
+                    break
+                time.sleep(0.1)
+            yield port
+        finally:
+            running.kill()
+
+
+def reference():
+    """What stands in for the product where the kit isn't there: a script's answers, and the exchanges of the page on HTTP."""
+    first = EXAMPLES / "first_path"
+    with trials.folder() as own:
+        yield "the rules print the first path", ran(REFERENCE, "run", own / "desk", given=read(first / "script")) == (0, read(first / "printed"))
+        page = read(trials.TOP / "docs" / "integrate" / "HTTP.md")
+        with served(own / "desk") as port:
+            for asked, shown in re.findall(r"^    \$ (curl [^\n]*)\n((?:    [^\n]*\n|\n(?=    ))*)", page, re.M):
+                came = http_cases.by_library(shlex.split(asked.replace(":8080", ":%d" % port)))
+                yield "the rules answer `%s`" % asked, came.strip() == re.sub("(?m)^    ", "", shown).strip()
+
+
+def cases():
+    gaps = list(expected_files.gaps())
+    yield from ((gap, False) for gap in gaps)
+    yield "nothing is missing", not gaps
+    yield from scripts()
+    yield from texts()
+    for rows, *words in COMPUTED:
+        yield "answers that the rows of %s want" % rows, ran(trials.TOP / "tools" / words[0], *words[1:])[0] == 0
+    yield from primary()
+    yield from reference()
+
+
+if __name__ == "__main__":
+    if {"-h", "--help"} & {*sys.argv[1:]}:
+        sys.exit(print(__doc__))
+    sys.exit(trials.judged("rows", cases()))

@@ -1,0 +1,84 @@
+#!/usr/bin/env python3
+"""Which examples, rows and texts there have to be: what is missing, and what nobody lists.
+
+    expected_files.py       tells it
+"""
+import re
+import sys
+from pathlib import Path
+
+import row_texts
+
+TOP = Path(__file__).resolve().parents[2]
+EXAMPLE = {"README.md", "script", "printed"}
+PRIMARY = {"primary.py", "envelopes.py", "verify.py", "director-secrets.json", "manifest-input.json", "manifest.json", "reply.json", "vehicle.json"}
+SERVICE = {"README.md", "nginx.conf", "haproxy.cfg", "uptane-desk.service", "uptane-desk-refresh.service", "uptane-desk-refresh.timer", "refresh.sh", "several"}
+SEVERAL = {"nginx.conf", "haproxy.cfg", "uptane-desk@.service"}
+ROW = {"script", "printed"}
+
+
+def names(folder):
+    return {path.name for path in folder.iterdir() if not path.name.startswith("_")}
+
+
+def folders(folder):
+    return {name for name in names(folder) if (folder / name).is_dir()}
+
+
+def listed(page):
+    """The names that begin the lines of a page's table."""
+    return set(re.findall(r"^\| `(\w+)/?` \|", page.read_text(encoding="utf-8"), re.MULTILINE))
+
+
+def apart(what, wanted, there):
+    """A line for each name that stands in one of two sets alone."""
+    yield from ("%s: %s is missing" % (what, name) for name in sorted(wanted - there))
+    yield from ("%s: nothing speaks of %s" % (what, name) for name in sorted(there - wanted))
+
+
+def lines(path):
+    return path.read_text(encoding="ascii").split("\n")[:-1]
+
+
+def row_gaps(folder):
+    """What a row lacks: files, printed lines, texts of replies."""
+    what = "rows/" + folder.name
+    if not ROW <= names(folder):
+        yield from apart(what, ROW, names(folder) & ROW)
+        return
+    printed = lines(folder / "printed")
+    replies = [line for line in printed if line.startswith("reply ")]
+    yield from apart(what, ROW | ({"replies"} if replies else set()), names(folder) - {"under"})
+    if len(printed) != sum(bool(line) for line in lines(folder / "script")):
+        yield what + ": another number of printed lines than of lines that are answered"
+    if replies and (folder / "replies").exists() and len(lines(folder / "replies")) != len(replies):
+        yield what + ": another number of texts than of replies"
+    yield from text_gaps(folder.name, bool(replies), any(line.startswith("file ") for line in printed))
+
+
+def text_gaps(row, has_replies, has_files):
+    """Whether the texts of a row are computed from the formats."""
+    if has_replies != (row in row_texts.REPLIES):
+        yield "tools/rows/row_texts.py: the replies of %s" % row
+    if has_files != (row in row_texts.FILES):
+        yield "tools/rows/row_texts.py: the files of %s" % row
+
+
+def gaps():
+    """A line for each example, row or text that is missing, or that nothing speaks of."""
+    examples, rows = TOP / "examples", TOP / "rows"
+    yield from apart("examples", listed(examples / "README.md"), folders(examples))
+    for name in sorted(folders(examples)):
+        yield from apart("examples/" + name, {"primary": PRIMARY, "service": SERVICE}.get(name, EXAMPLE), names(examples / name))
+    yield from apart("examples/service/several", SEVERAL, names(examples / "service" / "several"))
+    yield from apart("rows", listed(rows / "README.md") | set(row_texts.REPLIES) | set(row_texts.FILES), folders(rows))
+    for name in sorted(folders(rows)):
+        yield from row_gaps(rows / name)
+
+
+if __name__ == "__main__":
+    if {"-h", "--help"} & {*sys.argv[1:]}:
+        sys.exit(print(__doc__))
+    other = list(gaps())
+    print("\n".join(other) or "nothing is missing")
+    sys.exit(bool(other))

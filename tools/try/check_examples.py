@@ -1,0 +1,97 @@
+#!/usr/bin/env python3
+"""Runs the examples and the worked rows with the program, tries its words and limits, and sees that it answers the small Primary
+as the page for integrators shows. What needs no program is compared by `tools/rows/check_rows.py`.
+
+    check_examples.py PROGRAM [ROWS]    PROGRAM is uptane_desk, ROWS the program of the crate that carries the rows out, which is
+                                        given the page's reply, and a changed one, too
+
+promise: script-ends
+"""
+import subprocess
+import sys
+from pathlib import Path
+
+sys.dont_write_bytecode = True
+sys.path += map(str, Path(__file__).resolve().parents[1].iterdir())
+
+import program_cases
+import trials
+from check_rows import EXAMPLES, PRIMARY, ROWS, ran, read
+
+
+def printed(program, script, path=":memory:"):
+    done = subprocess.run([program, "run", path], input=script.encode(), capture_output=True, check=False)
+    if done.returncode or done.stderr:
+        return "status %d: %s" % (done.returncode, done.stderr.decode())
+    return done.stdout.decode("ascii")
+
+
+def scripts(program):
+    """Each script over memory and over a new file, but those under a scheme that the program hasn't."""
+    for script in sorted([*EXAMPLES.glob("*/script"), *ROWS.glob("*/script")]):
+        folder = script.parent
+        if not (folder / "under").exists():
+            name, wanted = str(folder.relative_to(trials.TOP)), read(folder / "printed")
+            yield name, printed(program, read(script)) == wanted
+            with trials.folder() as own:
+                over_file = printed(program, read(script), own / "desk") == wanted
+                yield name + " over a file", over_file and trials.faults(own / "desk") == []
+
+
+def limits(program):
+    """1,024 images and 64 root versions over a file, which another start opens before one more of each; and bodies of 262,144
+    bytes and of one more."""
+    row = read(ROWS / "kept_reply_after_a_rotation" / "script").split("\n")
+    rotate = next(line for line in row if '"do":"rotate"' in line)
+    image = '{"at":1767225600,"do":"add_image","file":"%d.bin","hardware":["HS"],"length":0,"release":1,"sha256":"%s"}'
+    most = [row[0], *63 * [rotate], *(image % (number, 64 * "0") for number in range(1024))]
+    with trials.folder() as folder:
+        well = trials.printed(program, folder / "most", most, 600) == len(most) * ["done"]
+        more = trials.printed(program, folder / "most", [image % (1024, 64 * "0"), rotate, image % (3, 64 * "0")])
+        yield "images and root versions at their limits", well and more == ["refused 20 RegisterFull", "refused 30 RootFull", "already"]
+    body = '{"at":1767225600,"body":"%s","do":"deliver"}\n'
+    bodies = body % (262144 * " ") + body % (262145 * " ")
+    yield "bodies at their limit", printed(program, bodies) == "refused 5 NotJson\nrefused 4 TooLarge\n"
+
+
+def first_reply(rows, given, reply):
+    """What is said of a row in which the desk answers the Primary's manifest by this text: a line over memory, and one over files."""
+    found, vehicle = read(EXAMPLES / "first_path" / "script").split("\n")[:2]
+    manifest = ran(PRIMARY / "primary.py", "line", "1767225600", given=given)[1].strip()
+    row = ["", "row reply", "@ hmac-sha256", "> " + found, "< done", "> " + vehicle, "< done"]
+    row += ["> " + manifest, "< reply V1 version 1 targets 0", "= " + reply.strip(), ""]
+    done = subprocess.run([rows], input="\n".join(row).encode(), capture_output=True, check=False)
+    return done.stdout.decode("utf-8", "replace").splitlines() if done.returncode == 0 else []
+
+
+def primaries(program, rows):
+    given, reply = (read(PRIMARY / name) for name in ("manifest-input.json", "reply.json"))
+    # the bench line of the first path builds the same manifest: delivered again it is a repeat, and the version stays
+    again = read(EXAMPLES / "first_path" / "script") + ran(PRIMARY / "primary.py", "line", "1767225600", given=given)[1]
+    wanted = ["done", "done"] + 2 * ["reply V1 version 1 targets 0"] + [""]
+    yield "the Primary's manifest is the bench line's", printed(program, again) == "\n".join(wanted)
+    if rows:
+        broken = reply.replace('"version":1}', '"version":2}', 1)
+        had, of_changed = first_reply(rows, given, reply), first_reply(rows, given, broken)
+        scripts_run = ["reply in %s: script 3, by bytes 3, run " % it for it in ("memory", "files")]
+        yield "the desk answers the reply that the page shows", had == [it + "4, calls 4, in turns 4" for it in scripts_run]
+        differs = [line.startswith(it + "DIFFERS: ") for line, it in zip(of_changed, scripts_run)]
+        yield "the desk doesn't answer a changed reply", differs == [True, True]
+
+
+def cases(program, rows):
+    missing = [it for it in (program, rows) if it and not Path(it).is_file()]
+    yield from (("%s is built" % it, False) for it in missing)
+    if not missing:
+        yield from scripts(program)
+        yield from program_cases.cases(program)
+        yield from limits(program)
+        yield from primaries(program, rows)
+
+
+if __name__ == "__main__":
+    if {"-h", "--help"} & {*sys.argv[1:]}:
+        sys.exit(print(__doc__))
+    if len(sys.argv) not in (2, 3):
+        sys.exit(__doc__)
+    sys.exit(trials.judged("example", cases(*sys.argv[1:], *[None] * (3 - len(sys.argv)))))

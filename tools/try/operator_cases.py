@@ -1,0 +1,475 @@
+#!/usr/bin/env python3
+"""Tries what operators use beside the program: the makers of lines, the checkers of scripts and of files, the page of the fleet,
+and the queries and idioms of `docs/use/OPERATING.md`.
+
+    operator_cases.py PROGRAM
+"""
+import json
+import re
+import sqlite3
+import subprocess
+import sys
+from contextlib import closing
+from pathlib import Path
+
+sys.dont_write_bytecode = True
+sys.path += map(str, Path(__file__).resolve().parents[1].iterdir())
+
+import check_script
+import fleet
+import fleet_page
+import http_cases
+import page_sums
+import reference
+import schemas
+import statements
+import trials
+
+TOOLS = trials.TOP / "tools" / "operate"
+NOW = fleet.START
+ROLES = ["%s-%s" % (repository, role) for repository in reference.REPOSITORIES for role in reference.ROLES]
+
+
+def made(*words, given=b""):
+    """The status, the lines and the message of the maker of lines."""
+    ran = subprocess.run([sys.executable, TOOLS / "make_lines.py", *map(str, words)], input=given, capture_output=True, check=False)
+    return ran.returncode, ran.stdout.decode("ascii").splitlines(), ran.stderr.decode("ascii")
+
+
+def key_files(folder, start):
+    folder.mkdir()
+    for number, name in enumerate([role + "-1" for role in ROLES] + ["director-root-2"]):
+        (folder / (name + ".key")).write_text(fleet.key(start + number) + "\n", encoding="ascii")
+        (folder / (name + ".key")).chmod(0o600)
+    return folder
+
+
+# ---- makers of lines
+
+
+TABLE = "vehicle,ecu,hardware,primary,key\nV1,P1,HP,yes,%s\nV1,S1,HS,,%s\nV2,P2,HP,yes,%s\n" % tuple(map(fleet.key, (1, 2, 3)))
+WRONG_TABLES = {
+    "an ECU twice": TABLE.replace("P2", "P1"),
+    "no Primary": TABLE.replace("P2,HP,yes", "P2,HP,"),
+    "two Primaries": TABLE.replace("S1,HS,", "S1,HS,yes"),
+    "rows apart": TABLE + "V1,S9,HS,,%s\n" % fleet.key(9),
+    "a short key": TABLE.replace(fleet.key(2), "02"),
+    "a name past its limit": TABLE.replace("V2", 65 * "V"),
+    "other columns": TABLE.replace("primary", "first"),
+}
+
+
+def makers(program, own):
+    path, at = own / "desk", ("--at", str(NOW))
+    first, second = key_files(own / "first", 1), key_files(own / "second", 101)
+    (own / "image.bin").write_bytes(b"abc")
+    (own / "vehicles.csv").write_text(TABLE, encoding="ascii")
+    asked = [("found", first, "--threshold", "director-root=1"), ("add_vehicle", own / "vehicles.csv"), ("add_image", own / "image.bin", "--hardware", "HP", "--release", 1),
+             ("add_image", own / "image.bin", "--hardware", "HS", "HT", "--release", 2, "--file", "a/2.bin", "--needs", "HP=1", "--conflicts", "old.bin"), ("rotate", second)]
+    told = [made(*words, *at) for words in asked]
+    lines = [line for _, out, _ in told for line in out]
+    yield "lines are made", [(status, err) for status, _, err in told] == 5 * [(0, "")] and len(lines) == 6
+    yield "the checker finds nothing in them", list(check_script.amiss("\n".join(lines).encode(), NOW)) == []
+    yield "the program takes them", trials.printed(program, path, lines) == 6 * ["done"]
+    with trials.read(path) as db:
+        yield "thresholds", db.execute("SELECT root, threshold, count(*) FROM role_key WHERE repository = 'director' AND role = 'root' GROUP BY root").fetchall() == [(1, 1, 2), (2, 2, 2)]
+        hashed = db.execute("SELECT length, hex(sha256), hex(sha512) FROM image JOIN image_sha512 USING (file) WHERE file = 'a/2.bin'").fetchall()
+        yield "an image's hashes", hashed == [(3, ABC_256.upper(), ABC_512.upper())]
+    words = ("add_image", own / "image.bin", "--hardware", "HP", "--release", 1, "--file", "one.bin", "--no-sha512", *at)
+    yield "an image with one hash", "sha512" not in made(*words)[1][0] and ABC_256 in made(*words)[1][0]
+    stamp = trials.printed(program, path, [fleet.line("fetch", repository="image", file="timestamp.json")])[0]
+    by_file = made("refresh", "-", *at, given=stamp.encode())
+    with http_cases.served(program, path, 1) as running:
+        by_url = made("refresh", "http://127.0.0.1:%d" % running.port, *at)
+    yield from replaced(program, path, own, at)
+    yield "a refresh by either way", by_file == by_url and json.loads(by_file[1][0])["version"] == 5
+    yield "the program takes it once", trials.printed(program, path, 2 * by_file[1]) == ["done", "refused 28 VersionNotGreater"]
+    yield from refusals(own, first, at)
+
+
+def replaced(program, path, own, at):
+    """The line for an ECU that a workshop put in, and that the program takes it once."""
+    (own / "S3.key").write_text(fleet.key(3 * 32) + "\n", encoding="ascii")
+    (own / "S3.key").chmod(0o600)
+    words = ["replace_ecu", "V1", "S1", "S3", "--hardware", "HS", "--key", own / "S3.key", *at]
+    status, lines, err = made(*words)
+    yield "an ECU is replaced", (status, err, len(lines)) == (0, "", 1) and list(check_script.amiss(lines[0].encode(), NOW)) == []
+    yield "the program replaces it once", trials.printed(program, path, 2 * lines) == ["done", "refused 14 UnknownEcu S1"]
+    with trials.read(path) as db:
+        now = db.execute("SELECT ecu, place, hardware FROM ecu WHERE vehicle = 'V1' ORDER BY place").fetchall()
+        gone = db.execute("SELECT ecu, vehicle FROM retired").fetchall()
+    yield "the new one stands in its place", [row[0::2] for row in now] == [("P1", "HP"), ("S3", "HS")] and gone == [("S1", "V1")]
+    words[3] = "S1"
+    yield "not by itself", made(*words)[:2] == (1, [])
+
+
+def refusals(own, keys, at):
+    one_line = lambda ran: ran[:2] == (1, []) and ran[2].startswith("make_lines: ") and ran[2].count("\n") == 1
+    yield "a key that others may read is told of", (keys / "image-root-1.key").chmod(0o644) is None and made("found", keys, *at)[2].count("others may read") == 1
+    (keys / "image-root-1.key").chmod(0o600)
+    yield "a threshold past the keys", one_line(made("found", keys, "--threshold", "director-root=3", *at))
+    yield "a role that isn't one", one_line(made("found", keys, "--threshold", "director-rot=1", *at))
+    (keys / "director-targets-2.key").write_text(fleet.key(1), encoding="ascii")
+    (keys / "director-targets-2.key").chmod(0o600)
+    yield "a key that stands twice", one_line(made("found", keys, *at))
+    (keys / "director-targets-2.key").unlink()
+    (keys / "image-root-1.key").unlink()
+    yield "a key that is missing", one_line(made("found", keys, *at))
+    for name, text in WRONG_TABLES.items():
+        (own / "wrong.csv").write_text(text, encoding="ascii")
+        yield "a table with " + name, one_line(made("add_vehicle", own / "wrong.csv", *at))
+    yield "an image's name past its limit", one_line(made("add_image", own / "image.bin", "--hardware", "HP", "--release", 1, "--file", 129 * "a", *at))
+    yield "no Timestamp", one_line(made("refresh", "-", *at, given=b"{}"))
+    yield "no service", one_line(made("refresh", "http://127.0.0.1:%d" % http_cases.free_port(), *at))
+
+
+# ---- the checker of scripts
+
+
+# of `abc`, by FIPS 180-4
+ABC_256 = "ba7816bf8f01cfea414140de5dae2223b00361a396177a9cb410ff61f20015ad"
+ABC_512 = ("ddaf35a193617abacc417349ae20413112e6fa4e89a97ea20a9eeee64b55d39a"
+           "2192992a274fc1a836ba3c23a3feebbd454d4423643ce80e2a9ac94fa54ca49f")
+IMAGE = {"file": "a.bin", "length": 3, "sha256": 64 * "0", "hardware": ["HP"], "release": 1}
+KEYS = fleet.key_set(1)
+AMISS = [
+    (fleet.line("add_image", NOW, **IMAGE, need=[]), "look: need: no such member; it is ignored; is it needs?"),
+    (fleet.line("add_image", NOW, **IMAGE, needs=[{"hardware": "HP", "release": 1, "file": "x"}]), "look: file: no such member, in needs[0]; it is ignored"),
+    (fleet.line("add_image", NOW, **IMAGE | {"file": 129 * "a"}), "fault: file: 1 to 128 bytes of A-Z a-z 0-9 . _ - /"),
+    (fleet.line("add_image", NOW, **IMAGE, sha512=127 * "0"), "fault: sha512: 128 hexadecimal digits"),
+    (fleet.line("add_image", NOW, **IMAGE, sha512=None), "fault: sha512: 128 hexadecimal digits"),
+    (fleet.line("add_image", NOW, **IMAGE, sha51=128 * "0"), "look: sha51: no such member; it is ignored; is it sha512?"),
+    (fleet.line("add_image", NOW + 40 * 86400, **IMAGE), "look: at: 40.0 days after now; it is taken as it stands, and files expire by it"),
+    (fleet.line("add_image", NOW * 1000, **IMAGE), "fault: at: past 2100-01-01T00:00:00Z; the moment is in seconds"),
+    (fleet.line("add_images", NOW, **IMAGE), "fault: do: one of %s; is it add_image?" % ", ".join(check_script.WORDS)),
+    ('{"at":%d,"at":%d,"do":"refresh","version":2}' % (NOW, NOW), "look: at: it stands twice, and the last one counts"),
+    (fleet.line("replace_ecu", NOW, vehicle="v", old="a", ecu="a", hardware="HP", key=fleet.key(1)), "fault: ecu: another identifier than the old ECU's"),
+    (fleet.line("replace_ecu", NOW, vehicle="v", ecu="a", hardware="HP", key=fleet.key(1)), "fault: old: it is missing"),
+    (fleet.line("replace_ecu", NOW, vehicle="v", old="b", ecu="a", hardware=["HP"], key=fleet.key(1)), "fault: hardware: " + check_script.A_NAME),
+    (fleet.line("show", NOW, vehicle=65 * "v"), "fault: vehicle: 1 to 64 bytes of A-Z a-z 0-9 . _ -"),
+    (fleet.line("found", NOW, **KEYS | {"image": KEYS["director"]}), "look: keys: a key stands in two roles: whoever has it can sign for both"),
+    (fleet.line("refresh", NOW, version=2**53 - 1), "final: version: none is above it: no image, no keys and no new files could follow, and all metadata would expire for good"),
+    (fleet.line("refresh", NOW, version=2**53 - 10**6), "final: version: none is above it: no image, no keys and no new files could follow, and all metadata would expire for good"),
+    (fleet.line("refresh", NOW, version=2**53 - 1 - 10**6), "look: version: above 1,000,000; it never goes back"),
+    (fleet.line("add_image", NOW, **IMAGE | {"release": 2**53 - 1}), "final: release: none is above it: this hardware could get no further image"),
+    (fleet.line("add_image", NOW, **IMAGE | {"file": "/etc/passwd"}), "final: file: it leaves the folder in which a Primary puts images"),
+    (fleet.line("add_image", NOW, **IMAGE | {"file": "a/../../b"}), "final: file: it leaves the folder in which a Primary puts images"),
+    (fleet.line("add_image", NOW, **IMAGE | {"file": "a//b"}), "look: file: a part of its path is empty, or is a point"),
+    (fleet.line("bench", NOW, vehicle="v", primary="a", key=fleet.key(1), counter=2**53 - 1, reports=[]), "final: counter: none is above it: the vehicle's next manifests would be stale for good"),
+    ("nope", "fault: line: no JSON"),
+    (2_097_153 * " ", "fault: line: longer than 2097152 bytes: it ends the run"),
+]
+
+
+def of_the_line(text, answer):
+    """Whether such an answer is the fault of the line alone, whatever was done before."""
+    asked = text if isinstance(text, bytes) else text.encode()
+    return answer == "refused 5 NotJson" and b'"deliver"' not in asked or answer.startswith("refused 7 ") and b'"do":"deliver"' not in asked
+
+
+def checker():
+    for text, wanted in AMISS:
+        yield "the checker: " + wanted, list(check_script.amiss(text.encode(), NOW)) == ["line 1: " + wanted]
+    last = fleet.line("refresh", NOW, version=2**53 - 1) + "\n"
+    ran = [subprocess.run([sys.executable, TOOLS / "check_script.py", "--now", str(NOW), *words], input=last.encode(), capture_output=True, check=False)
+           for words in ([], ["--final"])]
+    yield "what can't be undone is refused, or only told where that is asked", [(it.returncode, it.stdout.split(b": ")[1]) for it in ran] == [(1, b"final"), (1, b"look")]
+    for name in ("/a.bin", "a.bin/..", "..", "x/../a.bin", "a..b.bin", "..a.bin"):
+        leaves = check_script.checked(fleet.line("add_image", NOW, **IMAGE | {"file": name}), None, NOW, 1e12)[0]
+        yield "the filename " + name, bool(leaves) == (name[0] == "/" or ".." in name.split("/"))
+    backwards = [fleet.line("show", at, vehicle="v") for at in (NOW, NOW - 1)]
+    yield "moments that go back", list(check_script.amiss("\n".join(backwards).encode(), NOW)) == ["line 2: look: at: earlier than in a line before"]
+    yield "lines past the limit", list(check_script.amiss(100_001 * b"\n", NOW)) == ["line 100001: fault: line: a script has at most 100000 lines"]
+    # random lines, some of them damaged: what the rules refuse for the line's sake is a fault, and nothing else is
+    faults = missed = 0
+    import fuzz
+    for seed in range(1, 41):
+        lines = fuzz.Script(seed).made()
+        with closing(sqlite3.connect(":memory:")) as db:
+            desk = reference.Desk(db)
+            for line in lines:
+                refused = of_the_line(line, desk.answer(line))
+                found = any(it.startswith("fault") for it in check_script.checked(line, None, NOW, 1e12)[0])
+                faults += refused
+                missed += refused and not found
+                if refused and not found:
+                    print("the checker has nothing on: %r" % line)
+    yield "%d lines that the rules refuse for their own sake" % faults, faults > 40 and not missed
+    for script in sorted(trials.TOP.glob("examples/*/script")):
+        found = check_script.amiss(script.read_bytes(), NOW, 1e12)
+        yield "the checker on %s" % script.parent.name, [it for it in found if "earlier" not in it] == []
+
+
+# ---- the checker of files
+
+
+# what someone does to a file of the latest schema, and what the checker has to say of it
+CHANGED = [
+    ("an index", ["CREATE INDEX by_hardware ON ecu (hardware)"], ["index by_hardware on ecu: it is too much"]),
+    ("an index of one rule more", ["CREATE UNIQUE INDEX Once ON image (sha256)"], ["index once on image: it is too much"]),
+    ("a trigger", ["CREATE TRIGGER told AFTER INSERT ON kept BEGIN DELETE FROM campaign; END"], ["trigger told on kept: it is too much"]),
+    ("a view", ["CREATE VIEW seen AS SELECT vehicle FROM vehicle"], ["view seen: it is too much"]),
+    ("a dropped table", ["DROP TABLE image_sha512"], ["table image_sha512: it is missing"]),
+    ("another table", ["CREATE TABLE notes (note TEXT)"], ["table notes: it is too much"]),
+    ("an added column", ["ALTER TABLE ecu ADD COLUMN note TEXT"], ["table ecu: the column note is too much"]),
+    ("a column of another name", ["ALTER TABLE meta RENAME COLUMN stamp TO moment"], ["table meta: the column stamp is missing", "table meta: the column moment is too much"]),
+    ("a column of another name, and back", ["ALTER TABLE meta RENAME COLUMN stamp TO moment", "ALTER TABLE meta RENAME COLUMN moment TO stamp"], []),
+    ("statistics", ["ANALYZE"], ["table sqlite_stat1: it is too much"]),
+    ("a number set back", ["UPDATE meta SET schema = 1"], ["table image_sha512: it is too much", "table retired: it is too much"]),
+    ("a number set forward", ["UPDATE meta SET schema = 4"], ["it is no database of this product: its schema is 4, and not one of 1, 2, 3"]),
+    ("another product", ["UPDATE meta SET app = 'desk'"], ["it is no database of this product: meta names 'desk' and not uptane_desk"]),
+    ("an empty meta", ["DELETE FROM meta"], ["meta: it has 0 rows and not one"]),
+    ("two rows in meta", ["INSERT INTO meta SELECT 2, app, schema, root, image_version, stamp FROM meta"], ["meta: it has 2 rows and not one"]),
+    ("no meta", ["DROP TABLE meta", "DROP TABLE retired", "DROP TABLE image_sha512"], ["table meta: it is missing"]),
+    ("no tables", ["DROP TABLE " + table for table in reversed(trials.TABLES)], ["it is no database of this product: it has no tables"]),
+]
+# the same columns, but another rule for one of them, another key or reference, or no strictness
+MADE_ANEW = [
+    ("a rule of a column", "running INTEGER NOT NULL", "running INTEGER NOT NULL CHECK (running < 2)", "table campaign: it is made by other words: create table campaign"),
+    ("a table that isn't strict", ") STRICT", ")", "table campaign: it is made by other words: create table campaign"),
+    ("a column of another kind", "items TEXT NOT NULL", "items BLOB NOT NULL", "table campaign: the column items is another"),
+    ("a column that may be null", "items TEXT NOT NULL", "items TEXT", "table campaign: the column items is another"),
+    ("one key more", "running INTEGER NOT NULL", "running INTEGER NOT NULL, UNIQUE (reach)", "table campaign: the key reach is too much"),
+    ("a reference", "items TEXT NOT NULL", "items TEXT NOT NULL REFERENCES image (file)", "table campaign: the reference items to image is too much"),
+]
+
+
+def check(path):
+    """The status and the lines of the checker of files; none where it says something on standard error, or changes what is there."""
+    before = {it.name: it.read_bytes() for it in path.parent.iterdir() if it.is_file()}
+    ran = subprocess.run([sys.executable, TOOLS / "check_file.py", path], capture_output=True, check=False)
+    after = {it.name: it.read_bytes() for it in path.parent.iterdir() if it.is_file()}
+    return (ran.returncode, ran.stdout.decode("ascii").splitlines()) if after == before and not ran.stderr else None
+
+
+def changed(path, to, made_of):
+    """A copy of a file of the program's own in which SQLite carries out statements."""
+    trials.copied(path, to)
+    with closing(sqlite3.connect(to, isolation_level=None)) as db:
+        for statement in made_of:
+            db.execute(statement)
+    return to
+
+
+def campaign_anew(old, new):
+    made = next(it for it in statements.schema() if statements.table_of(it) == "campaign")
+    assert made.count(old) == 1
+    return ["DROP TABLE campaign", made.replace(old, new)]
+
+
+def checked_files(program, own):
+    path = own / "first"
+    lines = (trials.TOP / "examples" / "fleet_day" / "script").read_text(encoding="ascii").split("\n")[:-1]
+    trials.printed(program, path, lines)
+    yield "a file of the program's own is as it has to be", check(path) == (0, [])
+    for number in statements.LACKS:
+        yield "one of schema %d" % number, check(schemas.written(path, own / ("written%d" % number), number)) == (0, [])
+        yield "one of schema %d with sums" % number, check(schemas.lowered(path, own / ("lowered%d" % number), number)) == (0, [])
+    stopped = trials.copied(path, own / "stopped")
+    yield "one with the log that a stop left", stop_after(program, stopped, fleet.line("refresh", version=1000)) and check(stopped) == (0, [])
+    anew = [(name, campaign_anew(old, new), said) for name, old, new, said in MADE_ANEW]
+    for name, sql, said in CHANGED + anew:
+        found = check(changed(path, own / "changed", sql))
+        wanted = said if isinstance(said, list) else [said]
+        yield "one with " + name, found is not None and found[0] == bool(wanted) and begin(found[1], wanted)
+    # (the log alone has the change)
+    other = trials.copied(path, own / "logged")
+    with closing(sqlite3.connect(other, isolation_level=None)) as db:
+        db.execute("PRAGMA journal_mode = WAL").fetchall()
+        db.execute("CREATE TABLE notes (note TEXT)")
+        yield "one whose log has a table more", trials.log_of(other).stat().st_size > 0 and check_beside(other) == (1, ["table notes: it is too much"])
+    for name, data in (("an empty file", b""), ("a text", b"no database\n"), ("half a file", path.read_bytes()[:2000])):
+        (own / "other").write_bytes(data)
+        found = check(own / "other")
+        yield "%s is none" % name, found is not None and found[0] == 1 and found[1][0].startswith("it is no database of this product: ")
+    ran = subprocess.run([sys.executable, TOOLS / "check_file.py", own / "none"], capture_output=True, check=False)
+    yield "no file", (ran.returncode, ran.stdout) == (2, b"") and ran.stderr.count(b"\n") == 1 and not (own / "none").exists()
+
+
+# what someone does to a file, and which of the lines that follow are then lost; the others are answered as ever
+TAKEN = [
+    ("an index", ["CREATE INDEX by_hardware ON ecu (hardware)"], ()),
+    ("a view", ["CREATE VIEW seen AS SELECT vehicle FROM vehicle"], ()),
+    ("another table", ["CREATE TABLE notes (note TEXT)"], ()),
+    ("an added column", ["ALTER TABLE ecu ADD COLUMN note TEXT"], ()),
+    ("a column of another name", ["ALTER TABLE meta RENAME COLUMN stamp TO moment"], (1, 2, 3, 4)),
+    ("a dropped table", ["DROP TABLE kept"], (0, 1)),
+    ("another dropped table", ["DROP TABLE retired"], (3, 4)),
+    ("a trigger on a table", ["CREATE TRIGGER told AFTER INSERT ON campaign BEGIN DELETE FROM role_key; END"], (1,)),
+]
+REFUSED = [
+    ("a trigger on a table that refers to another", ["CREATE TRIGGER told AFTER INSERT ON kept BEGIN DELETE FROM campaign; END"]),
+    ("an index of some rows", ["CREATE INDEX some ON vehicle (version) WHERE version > 1"]),
+]
+ASKED = [
+    fleet.line("show", vehicle="V1"), http_cases.FIRST_PATH[-1], fleet.line("refresh", version=50),
+    fleet.line("add_vehicle", vehicle="V2", primary="P2", ecus=[{"ecu": it, "hardware": "HP", "key": fleet.key(2)} for it in ("P2", "S2")]),
+    fleet.line("replace_ecu", vehicle="V2", old="S2", ecu="S3", hardware="HP", key=fleet.key(3)),
+]
+
+
+def taken_changed(program, own):
+    """What a start makes of a file that someone changed, as the page on tables has it."""
+    path = own / "first"
+    trials.printed(program, path, http_cases.FIRST_PATH)
+    as_ever = trials.printed(program, trials.copied(path, own / "same"), ASKED)
+    yield "each line is answered", len(as_ever) == 5 and not any(it.startswith("refused") for it in as_ever)
+    for name, sql, lost in TAKEN + [(name, it, None) for name, it in REFUSED]:
+        other = changed(path, own / name.replace(" ", "-"), sql)
+        unwritten = trials.run(program, trials.copied(other, own / "unwritten"), ASKED)
+        yield "a file with %s is refused for its sums" % name, unwritten == (3, b"", trials.NO_DATABASE)
+        page_sums.main(other)
+        if lost is None:
+            yield "and with sums, where it is %s" % name, trials.run(program, other, ASKED) == (3, b"", trials.NO_DATABASE)
+        else:
+            wanted = ["refused 2 Store" if at in lost else it for at, it in enumerate(as_ever)]
+            yield "with sums it is taken, and %d lines are lost" % len(lost), trials.printed(program, other, ASKED) == wanted
+
+
+def stop_after(program, path, line):
+    """Whether the program was killed once this line was done, and left a log."""
+    with subprocess.Popen([program, "run", path], stdin=subprocess.PIPE, stdout=subprocess.PIPE) as running:
+        running.stdin.write(line.encode() + b"\n")
+        running.stdin.flush()
+        told = running.stdout.readline()
+        running.kill()
+    return told == b"done\n" and trials.log_of(path).exists() and trials.log_of(path).stat().st_size > 0
+
+
+def begin(lines, wanted):
+    """Whether the lines are as many as the wanted ones and begin like them."""
+    return len(lines) == len(wanted) and all(line.startswith(it) for line, it in zip(lines, wanted))
+
+
+def check_beside(path):
+    """The same of a file that a connection has open, whose index of the log may change."""
+    ran = subprocess.run([sys.executable, TOOLS / "check_file.py", path], capture_output=True, check=False)
+    return ran.returncode, ran.stdout.decode("ascii").splitlines()
+
+
+# ---- the page
+
+
+def data_of(page):
+    return json.loads(re.search(r'id="data" data-now="\d+">(.*?)</script>', page).group(1))
+
+
+def pages(program, own):
+    path = own / "fleet"
+    lines = list(fleet.script(vehicles=10, ecus=4, rounds=3, second_hashes=0.7))
+    lines += unlike(lines)
+    lines.append(fleet.line("add_vehicle", vehicle="new", primary="n", ecus=[{"ecu": "n", "hardware": "HP", "key": fleet.key(9)}]))
+    attack = {"ecu": "n", "key": fleet.key(9), "counter": 1, "time": NOW, "attack": "</script><b>&", **fleet.FACTORY}
+    yield "a fleet", trials.printed(program, path, lines) is not None
+    made = page_of(path)
+    packed = data_of(made)
+    yield "all vehicles are on the page", len(packed["vehicles"]) == 11 and packed["vehicles"][0][0] == "new" and packed["vehicles"][0][2] is None
+    yield "nothing comes from outside", not re.search(r"(?:src|href)=\"(?!#)|url\(|@import|https?:", made)
+    with trials.read(path) as db:
+        left = dict(db.execute(query("use/TABLES.md", "SELECT campaign.name, count(ecu.ecu)")))
+        secrets = [row[0].hex() for row in db.execute("SELECT secret FROM role_key UNION SELECT public_key FROM ecu")]
+    with fleet_page.opened(path) as db:
+        schema = fleet_page.meta_of(db)["schema"]
+        images = fleet_page.registered(db, schema)
+        vehicles = fleet_page.vehicles_of(db, fleet_page.ecus_of(db, images, schema))
+        far = {it["name"]: it["ecus"] - it["done"] for it in fleet_page.campaigns_of(db, images, vehicles) if it["running"]}
+    yield "campaigns are as far as the query says", far == left and len(far) == 5
+    yield "no secret is on the page", secrets and not any(secret in made for secret in secrets)
+    trials.printed(program, path, [fleet.line("bench", vehicle="new", primary="n", key=fleet.key(9), counter=1, reports=[attack])])
+    made = page_of(path)
+    yield "an attack's note is text", "<b>&" not in made and data_of(made)["vehicles"][0][4][0][4] == "</script><b>&"
+    yield "expired files are told", "expired 29 days ago" in page_of(path, NOW + 30 * 86400 + 5) and ">301<" not in made
+    other = own / "other"
+    other.write_bytes(b"")
+    ran = subprocess.run([sys.executable, TOOLS / "fleet_page.py", other], capture_output=True, check=False)
+    yield "another file is refused", (ran.returncode, ran.stdout) == (1, b"") and ran.stderr.count(b"\n") == 1
+    yield from other_schemas(path, own)
+
+
+def unlike(lines):
+    """One more manifest of each vehicle, whose ECUs report another second hash than the registered image's, or none that is one."""
+    told = [json.loads(line) for line in lines]
+    for at, last in enumerate({it["vehicle"]: it for it in told if it["do"] == "bench"}.values()):
+        hash = [fleet.second("another"), fleet.second("another").upper(), 128 * "x"][at % 3]
+        reports = [report | {"counter": report["counter"] + 9, "sha512": hash} for report in last["reports"]]
+        yield fleet.line("deliver", last["at"], body=fleet.body(last | {"counter": last["counter"] + 9, "reports": reports}))
+
+
+def page_of(path, now=NOW + 4 * 3600):
+    ran = subprocess.run([sys.executable, TOOLS / "fleet_page.py", path, "--now", str(now)], capture_output=True, check=False)
+    return ran.stdout.decode("ascii") if not ran.returncode and not ran.stderr else ""
+
+
+def other_schemas(path, own):
+    """A file of schema 1 hasn't the retired identifiers, and one of 1 or 2 no second hashes; where an image has one, the page is the same."""
+    wanted = data_of(page_of(path))
+    for schema in sorted(statements.LACKS):
+        other = own / ("schema%d" % schema)
+        if statements.LACKS[schema]:
+            schemas.written(path, other, schema)
+        else:
+            trials.copied(path, other)
+            with closing(sqlite3.connect(other)) as db, db:
+                db.execute("INSERT OR REPLACE INTO image_sha512 SELECT file, zeroblob(64) FROM image")
+        yield "a page of schema %d" % schema, schemas.schema_of(other) == schema and data_of(page_of(other)) == wanted
+
+
+# ---- what the page for operators says
+
+
+def query(page, begins):
+    """The statement of a page of `docs/` that begins so."""
+    text = (trials.TOP / "docs" / page).read_text(encoding="utf-8")
+    found = re.search(r"^    %s.*?(?=\n\n|\n[^ ])" % re.escape(begins), text, re.MULTILINE | re.DOTALL)
+    return re.sub(r"\s+", " ", found.group(0)).strip()
+
+
+def operating(program, own):
+    path = own / "first"
+    lines = (trials.TOP / "examples" / "operating" / "script").read_text(encoding="ascii").split("\n")[:-1]
+    yield "an operator's first days", trials.printed(program, own / "days", lines) is not None
+    with trials.read(own / "days") as db:
+        silent = [row[0] for row in db.execute(query("use/OPERATING.md", "SELECT vehicle.vehicle, datetime(max(moment)"))]
+        yield "vehicles that are silent", silent == ["VIN-0001", "VIN-0002"]
+        expired = [row[0] for row in db.execute(query("use/OPERATING.md", "SELECT repository || '/' || name"))]
+        yield "files that expire, the next first", expired[0] == "image/timestamp.json" and len(expired) == 5
+        attacks = db.execute(query("use/OPERATING.md", "SELECT vehicle, ecu, json_extract(report, '$.attack')")).fetchall()
+        yield "attacks", len(attacks) == 1 and attacks[0][:2] == ("VIN-0001", "br-0001")
+    text = "\n".join(["", lines[0], "", "nope", '{"at":1767225600,"do":"show","vehicle":"V9"}']) + "\n"
+    (own / "today.script").write_text(text, encoding="ascii")
+    for idiom in idioms():
+        asked = idiom.replace("uptane_desk run", "%s run" % program).replace("/srv/uptane/desk.db", str(path))
+        ran = subprocess.run(["bash", "-c", asked], cwd=own, capture_output=True, check=False)
+        if "paste" in idiom:
+            told = ran.stdout.decode("ascii").splitlines()
+            yield "refused lines beside their answers", told == ["4\tnope\trefused 5 NotJson", '5\t{"at":1767225600,"do":"show","vehicle":"V9"}\trefused 10 UnknownVehicle']
+        elif ran.returncode or ran.stderr:
+            yield "the idiom: " + idiom, False
+
+
+def idioms():
+    """The commands of the section on long scripts, in order."""
+    page = (trials.TOP / "docs" / "use" / "OPERATING.md").read_text(encoding="utf-8").split("\n## Long scripts\n")[1].split("\n## ")[0]
+    return [" ".join(line.strip().rstrip("\\") for line in it.splitlines()) for it in re.findall(r"(?:^    .*\n)+", page, re.MULTILINE)]
+
+
+def cases(program):
+    with trials.folder() as own:
+        yield from makers(program, own)
+    yield from checker()
+    with trials.folder() as own:
+        yield from checked_files(program, own)
+    with trials.folder() as own:
+        yield from taken_changed(program, own)
+    with trials.folder() as own:
+        yield from pages(program, own)
+    with trials.folder() as own:
+        yield from operating(program, own)
+
+
+if __name__ == "__main__":
+    if {"-h", "--help"} & {*sys.argv[1:]}:
+        sys.exit(print(__doc__))
+    if len(sys.argv) != 2:
+        sys.exit(__doc__)
+    sys.exit(trials.judged("operator", cases(Path(sys.argv[1]).resolve())))

@@ -1,0 +1,258 @@
+#!/usr/bin/env python3
+"""Tries the configurations of `examples/service`: the program behind each proxy that is installed, and the units.
+
+    proxy_cases.py PROGRAM
+
+Hundreds of clients that send nothing, a part or a byte a second, or that read nothing, stay at the proxy while vehicles'
+requests are sent through it. Of the configurations addresses, paths and the user are changed, and nothing else. What
+isn't installed (nginx, haproxy, systemd-analyze; openssl, without which the proxies are tried without TLS) is left out, and
+told. Takes half a minute.
+"""
+import contextlib
+import http.client
+import os
+import re
+import resource
+import shutil
+import socket
+import ssl
+import subprocess
+import sys
+import tempfile
+import threading
+import time
+from concurrent.futures import ThreadPoolExecutor
+from pathlib import Path
+
+sys.dont_write_bytecode = True
+
+import http_cases
+import trials
+
+GIVEN = trials.TOP / "examples" / "service"
+KEPT = trials.TOP / "examples" / "primary"
+MANIFEST, REPLY = ((KEPT / name).read_bytes().strip() for name in ("manifest.json", "reply.json"))
+STRANGERS, AT_ONCE, ROUNDS, PATIENCE, SLOWEST = 40, 300, 20, 60, 10
+
+
+class Proxy:
+    """A proxy at a port, before a service at another one."""
+
+    def __init__(self, own, name, port, service, secret):
+        self.own, self.name, self.port, self.service, self.secret = own, name, port, service, secret
+
+    def words(self):
+        text = self.changed((GIVEN / ("nginx.conf" if self.name == "nginx" else "haproxy.cfg")).read_text("ascii"))
+        path = self.own / (self.name + ".conf")
+        path.write_text(text, "ascii")
+        return ["nginx", "-p", str(self.own), "-c", str(path)] if self.name == "nginx" else ["haproxy", "-db", "-f", str(path)]
+
+    def changed(self, text):
+        """The configuration with other addresses, paths and user."""
+        own, there = str(self.own), "127.0.0.1:%d" % self.port
+        text = text.replace("127.0.0.1:8080", "127.0.0.1:%d" % self.service)
+        if self.name == "haproxy":
+            bound = there + (" ssl crt %s/both.pem" % own if self.secret else "")
+            return text.replace(":443 ssl crt /etc/uptane/both.pem", bound)
+        text = text.replace("listen 443 ssl", "listen %s%s" % (there, " ssl" if self.secret else ""))
+        text = text.replace("/etc/uptane/", own + "/") if self.secret else re.sub(r"(?m)^ *ssl_.*\n", "", text)
+        text = text.replace("/var/log/nginx/", own + "/").replace("/run/nginx.pid", own + "/nginx.pid")
+        text = text.replace("user www-data;", "user root;" if os.getuid() == 0 else "")
+        kept = "".join("    %s_temp_path %s/%s;\n" % (it, own, it) for it in ("client_body", "proxy", "fastcgi", "uwsgi", "scgi"))
+        return "daemon off;\n" + text.replace("http {\n", "http {\n" + kept, 1)
+
+    @contextlib.contextmanager
+    def running(self):
+        """The proxy, once it takes connections."""
+        with open(self.own / (self.name + ".out"), "wb") as out:
+            it = subprocess.Popen(self.words(), stdout=out, stderr=out)
+        try:
+            for _ in range(100):
+                with contextlib.suppress(OSError), socket.create_connection(("127.0.0.1", self.port), timeout=1):
+                    break
+                time.sleep(0.1)
+            yield it
+        finally:
+            it.terminate()
+            it.wait()
+
+    def connected(self):
+        plain = socket.create_connection(("127.0.0.1", self.port), timeout=PATIENCE)
+        if not self.secret:
+            return plain
+        trusting = ssl.create_default_context(cafile=str(self.own / "certificate.pem"))
+        return trusting.wrap_socket(plain, server_hostname="desk.example")
+
+    def client(self):
+        """Python's client, over a connection of this kind."""
+        client = http.client.HTTPConnection("desk.example", timeout=PATIENCE)
+        client.sock = self.connected()
+        return client
+
+
+def certified(own):
+    """Makes a certificate of the name that the configurations have; whether it could."""
+    if not shutil.which("openssl"):
+        return False
+    words = ["openssl", "req", "-x509", "-newkey", "rsa:2048", "-nodes", "-days", "2", "-subj", "/CN=desk.example"]
+    words += ["-addext", "subjectAltName=DNS:desk.example", "-keyout", str(own / "key.pem"), "-out", str(own / "certificate.pem")]
+    subprocess.run(words, check=True, capture_output=True)
+    (own / "both.pem").write_bytes((own / "certificate.pem").read_bytes() + (own / "key.pem").read_bytes())
+    return True
+
+
+def asked(proxy, method, target, body=None, times=1, **more):
+    """The answers to a request, so many times over one connection of the client's."""
+    with contextlib.closing(proxy.client()) as client:
+        told = []
+        for _ in range(times):
+            client.request(method, target, body, **more)
+            came = client.getresponse()
+            told.append((came.status, came.read()))
+        return told
+
+
+def timed(*words, **more):
+    begun = time.monotonic()
+    return asked(*words, **more), time.monotonic() - begun
+
+
+# what vehicles and others ask, and how it is answered
+def exchanges(root):
+    large = b'{"error":4,"text":"TooLarge"}'
+    return [("POST", "/director/manifest", MANIFEST, (200, REPLY)), ("GET", "/image/root.json?a=%20", None, (200, root)),
+            ("POST", "/director/manifest", b"{", (400, b'{"error":5,"text":"NotJson"}')),
+            ("GET", "/nothing", None, (404, b'{"error":0,"text":"not found"}')),
+            ("POST", "/director/manifest", 262144 * b" ", (400, b'{"error":5,"text":"NotJson"}')),
+            ("POST", "/director/manifest", 262145 * b" ", (413, large))]
+
+
+# ---- clients that stay
+
+HEAD = b"POST /director/manifest HTTP/1.1\r\nHost: desk.example\r\nContent-Length: %d\r\n" % len(MANIFEST)
+TARGETS = b"GET /image/targets.json HTTP/1.1\r\nHost: desk.example\r\n\r\n"
+BEGUN = [b"", HEAD[:20], HEAD + b"\r\n" + MANIFEST[:100], 50 * TARGETS]
+
+
+class Strangers:
+    """Clients that send nothing, half a head, half a body, a byte a second, or that read nothing of fifty answers."""
+
+    def __init__(self, proxy):
+        self.proxy, self.left, self.all = proxy, threading.Event(), []
+
+    def __enter__(self):
+        with ThreadPoolExecutor(16) as pool:
+            self.all = list(pool.map(self.come, (STRANGERS * BEGUN) + STRANGERS * [None]))
+        self.dripping = threading.Thread(target=self.drip)
+        self.dripping.start()
+        return self
+
+    def come(self, begun):
+        client = self.proxy.connected()
+        if begun:
+            client.sendall(begun)
+        return begun is None, client
+
+    def drip(self):
+        for at in range(len(HEAD)):
+            for drips, client in self.all:
+                with contextlib.suppress(OSError):
+                    if drips:
+                        client.sendall(HEAD[at : at + 1])
+            if self.left.wait(1):
+                return
+
+    def __exit__(self, *_):
+        self.left.set()
+        self.dripping.join()
+        for _, client in self.all:
+            client.close()
+
+
+def passes(proxy, root):
+    """Each case with whether requests pass the proxy as they should."""
+    name = proxy.name
+    yield name + ": each kind of request", all(asked(proxy, *words) == [wanted] for *words, wanted in exchanges(root))
+    kept = asked(proxy, "GET", "/image/root.json", times=5)
+    yield name + ": a client keeps its connection", kept == 5 * [(200, root)]
+    chunks = asked(proxy, "POST", "/director/manifest", iter([MANIFEST[:100], MANIFEST[100:]]), encode_chunked=True,
+                   headers={"Transfer-Encoding": "chunked"})
+    unchunked = {"nginx": (200, REPLY), "haproxy": (501, b'{"error":0,"text":"not implemented"}')}
+    yield name + ": a body in chunks", chunks == [unchunked[name]]
+    with Strangers(proxy) as strangers, ThreadPoolExecutor(8) as pool:
+        time.sleep(1)
+        told = list(pool.map(lambda words: (timed(proxy, *words[:-1]), words[-1]), ROUNDS * exchanges(root)))
+        well = all(came == [wanted] and after < SLOWEST for (came, after), wanted in told)
+        words = name, len(told), len(strangers.all), max(after for (_, after), _ in told)
+        print("%s: %d requests beside %d strangers, the slowest took %.2f seconds" % words, flush=True)
+        yield name + ": requests beside clients that hold their connections", well
+    with ThreadPoolExecutor(AT_ONCE) as pool:
+        told = list(pool.map(lambda _: timed(proxy, "POST", "/director/manifest", MANIFEST), range(AT_ONCE)))
+        print("%s: %d at once, the slowest took %.2f seconds" % (name, AT_ONCE, max(after for _, after in told)), flush=True)
+        yield name + ": many at once", all(came == [(200, REPLY)] for came, _ in told)
+
+
+def proxied(program, own, name, secret):
+    """The cases of one proxy, before a service of its own that is started again in the end."""
+    path = trials.copied(own / "first", own / (name + ".db"))
+    root = http_cases.root_text()
+    with contextlib.ExitStack() as up:
+        service = up.enter_context(http_cases.served(program, path, 100_000))
+        proxy = Proxy(own, name, http_cases.free_port(), service.port, secret)
+        up.enter_context(proxy.running())
+        yield from passes(proxy, root)
+        service.kill()
+        service.wait()
+        (status, _), = asked(proxy, "GET", "/image/root.json")
+        yield name + ": no service is the proxy's own answer", status in (502, 503)
+        words = [str(program), "serve", str(path), str(service.port), "100000"]
+        with subprocess.Popen(words, stdout=subprocess.PIPE) as again:
+            again.stdout.readline()
+            yield name + ": a service that is started again", asked(proxy, "GET", "/image/root.json") == [(200, root)]
+            again.kill()
+
+
+# ---- units
+
+
+def units(program, own):
+    """What systemd says of the units, with the program in its place."""
+    for path in GIVEN.glob("uptane-desk*"):
+        text = path.read_text("ascii").replace("/usr/local/bin/uptane_desk", str(Path(program).resolve()))
+        (own / path.name).write_text(text.replace("/usr/local/lib/uptane_desk/refresh.sh", str(GIVEN / "refresh.sh")), "ascii")
+    names = [str(path) for path in sorted(own.glob("uptane-desk*"))]
+    ran = subprocess.run(["systemd-analyze", "verify", "--man=no", *names], capture_output=True, text=True, check=False, timeout=60)
+    own_lines = [line for line in ran.stderr.splitlines() if "uptane-desk" in line]
+    print("".join(line + "\n" for line in own_lines), end="")
+    yield "systemd verifies the units", len(names) == 3 and ran.returncode == 0 and not own_lines
+    shell = subprocess.run(["sh", "-n", str(GIVEN / "refresh.sh")], check=False)
+    yield "a shell reads the refreshing script", shell.returncode == 0
+
+
+def cases(program):
+    soft, hard = resource.getrlimit(resource.RLIMIT_NOFILE)
+    resource.setrlimit(resource.RLIMIT_NOFILE, (max(soft, min(hard, 8192)), hard))
+    with tempfile.TemporaryDirectory() as folder:
+        own = Path(folder)
+        own.chmod(0o755)
+        trials.printed(program, own / "first", http_cases.FIRST_PATH)
+        secret = certified(own)
+        if not secret:
+            print("no openssl, so no TLS")
+        for name in ("nginx", "haproxy"):
+            if shutil.which(name):
+                yield from proxied(program, own, name, secret)
+            else:
+                print("%s isn't installed, so it is left out" % name)
+        if shutil.which("systemd-analyze"):
+            yield from units(program, own)
+        else:
+            print("systemd-analyze isn't installed, so no units are verified")
+
+
+if __name__ == "__main__":
+    if {"-h", "--help"} & {*sys.argv[1:]}:
+        sys.exit(print(__doc__))
+    if len(sys.argv) != 2:
+        sys.exit(__doc__)
+    sys.exit(trials.judged("proxy", cases(sys.argv[1])))

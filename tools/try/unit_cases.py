@@ -1,0 +1,361 @@
+#!/usr/bin/env python3
+"""Tries the units of `examples/service` under a systemd that runs, set up by the commands of its page.
+
+    unit_cases.py PROGRAM
+
+systemd starts in a container: its files are this machine's, what it writes is in memory and gone at the end, and it has a
+network of its own. That needs root, overlayfs, systemd and systemd-nspawn (Debian's `systemd-container`), iproute2 and
+curl. Where one of them is missing nothing is tried, and it says which. Takes a few minutes.
+"""
+import contextlib
+import http.client
+import json
+import os
+import re
+import shutil
+import signal
+import subprocess
+import sys
+import time
+from pathlib import Path
+
+sys.dont_write_bytecode = True
+
+import http_cases
+import trials
+
+GIVEN = trials.TOP / "examples" / "service"
+UNIT, REFRESH, TIMER = "uptane-desk.service", "uptane-desk-refresh.service", "uptane-desk-refresh.timer"
+FOLDER, PORT, PATIENCE = Path("/var/lib/uptane"), 8080, 240
+FILE = FOLDER / "desk.db"
+AS_OWNER, RUN = ["runuser", "-u", "uptane", "--"], ["/usr/local/bin/uptane_desk", "run"]
+PATH = "/usr/local/sbin:/usr/local/bin:/usr/sbin:/usr/bin:/sbin:/bin"
+
+
+# ---- the container
+
+
+def missing():
+    """What the container needs and isn't there."""
+    found = [] if os.getuid() == 0 else ["root"]
+    found += [word for word in ("systemd-nspawn", "nsenter", "useradd", "runuser", "ip", "curl") if not shutil.which(word)]
+    found += [] if Path("/lib/systemd/systemd").exists() else ["systemd"]
+    found += [] if "\toverlay\n" in Path("/proc/filesystems").read_text("ascii") else ["overlayfs"]
+    return found + ([] if control_groups() else ["control groups of the second version"])
+
+
+def control_groups():
+    """Where they are mounted."""
+    return [line.split()[1] for line in Path("/proc/mounts").read_text("ascii").splitlines() if line.split()[2] == "cgroup2"]
+
+
+@contextlib.contextmanager
+def mounted(own):
+    """This machine's files, with what is written to them in memory. No service but systemd's own starts with them."""
+    subprocess.run(["mount", "-t", "tmpfs", "-o", "mode=755,size=1g", "unit_cases", str(own)], check=True)
+    try:
+        upper, work, root = made = [own / name for name in ("upper", "work", "root")]
+        for name in made:
+            name.mkdir()
+        options = "lowerdir=/,upperdir=%s,workdir=%s" % (upper, work)
+        subprocess.run(["mount", "-t", "overlay", "-o", options, "unit_cases", str(root)], check=True)
+        for link in root.glob("etc/systemd/system/*.wants/*"):
+            link.unlink()
+        (root / "etc" / "machine-id").unlink(missing_ok=True)
+        (root / "etc" / "machine-id").write_text(os.urandom(16).hex() + "\n", "ascii")
+        yield root
+    finally:
+        subprocess.run(["umount", "-R", str(own)], check=True)
+
+
+@contextlib.contextmanager
+def own_group():
+    """A control group of its own, so that two containers don't meet in one."""
+    group = Path(control_groups()[0]) / ("unit_cases_%d" % os.getpid())
+    group.mkdir()
+    try:
+        yield group
+    finally:
+        for name, _, _ in os.walk(group, topdown=False):
+            os.rmdir(name)
+
+
+@contextlib.contextmanager
+def booted(root, group, folders):
+    """The words that enter a container of these files in which systemd has come up."""
+    words = ["sh", "-c", 'echo $$ > "$0" && exec "$@"', str(group / "cgroup.procs")]
+    words += ["systemd-nspawn", "--quiet", "--boot", "--register=no", "--keep-unit", "--private-network", "--directory", str(root)]
+    words += ["--machine=unit-cases-%d" % os.getpid(), "--system-call-filter=bpf", "--capability=CAP_BPF,CAP_PERFMON"]
+    words += ["--bind-ro=%s" % name for name in folders]
+    told = os.environ | {"SYSTEMD_NSPAWN_UNIFIED_HIERARCHY": "1"}
+    with open(root.parent / "said", "wb") as said:
+        running = subprocess.Popen(words, stdin=subprocess.DEVNULL, stdout=said, stderr=said, env=told, start_new_session=True)
+    try:
+        yield entered(running)
+    finally:
+        running.terminate()
+        running.wait(PATIENCE)
+
+
+def entered(running):
+    children = Path("/proc/%d/task/%d/children" % (running.pid, running.pid))
+    for _ in range(PATIENCE):
+        time.sleep(1)
+        for child in children.read_text("ascii").split():
+            words = ["nsenter", "-t", child, "-m", "-u", "-i", "-n", "-p", "-C", "env", "-i", "PATH=" + PATH, "setsid", "--wait"]
+            if subprocess.run([*words, "systemctl", "is-system-running"], capture_output=True, check=False).stdout == b"running\n":
+                return words
+    raise OSError("systemd didn't come up")
+
+
+# ---- inside
+
+
+def ran(*words, limit=PATIENCE, **more):
+    return subprocess.run(words, capture_output=True, check=False, timeout=limit, **more)
+
+
+def well(*words, **more):
+    return ran(*words, **more).returncode == 0
+
+
+def shown(name, unit=UNIT):
+    """A property of the unit."""
+    return ran("systemctl", "show", "-p", name, "--value", unit, text=True).stdout.strip()
+
+
+def changed(lines, unit=UNIT):
+    """Whether the unit could be given these lines in the place of its own, or its own again where there are none."""
+    path = Path("/run/systemd/system/%s.d/changed.conf" % unit)
+    path.parent.mkdir(parents=True, exist_ok=True)
+    path.write_text(lines, "ascii")
+    return well("systemctl", "daemon-reload")
+
+
+def until(test):
+    """Whether a test holds within the time that is given to it."""
+    end = time.monotonic() + PATIENCE
+    while not test():
+        if time.monotonic() > end:
+            return False
+        time.sleep(0.2)
+    return True
+
+
+def asked(target, body=None, port=PORT):
+    """The body of an answer, once the service gives one."""
+    for _ in range(PATIENCE):
+        with contextlib.suppress(OSError, http.client.HTTPException):
+            with contextlib.closing(http.client.HTTPConnection("127.0.0.1", port, timeout=PATIENCE)) as client:
+                client.request("POST" if body else "GET", target, body)
+                return client.getresponse().read()
+        time.sleep(1)
+    return None
+
+
+def delivered(body):
+    return asked("/director/manifest", body)
+
+
+def version():
+    """The Image repository's version."""
+    return json.loads(asked("/image/timestamp.json"))["signed"]["version"]
+
+
+def page():
+    """The blocks of commands of the page: for one desk, for several, and to refresh these."""
+    return re.findall(r"(?m)((?:^    .*\n)+)", (GIVEN / "README.md").read_text("ascii"))
+
+
+def carried_out(block, folder):
+    """What the commands print, and whether they go well, one after another."""
+    done = ran("sh", "-eu", limit=4 * PATIENCE, cwd=folder, input=block.encode("ascii"))
+    return done.stdout.decode("ascii"), done.returncode == 0
+
+
+def set_up(program, own):
+    """The page's commands, given where it says."""
+    shutil.copytree(trials.TOP / "docs", own / "docs")
+    folder = Path(shutil.copytree(GIVEN, own / "examples" / "service"))
+    shutil.copy(program, folder / "uptane_desk")
+    (folder / "founding.script").write_text("\n".join(http_cases.FIRST_PATH) + "\n", "ascii")
+    said = carried_out(page()[0], folder)
+    yield "the page's commands", said == ("done\ndone\nreply V1 version 1 targets 0\n", True)
+    yield "the service serves", delivered(http_cases.MANIFEST) == http_cases.REPLY and shown("ActiveState") == "active"
+    yield "it starts with the machine", [shown("UnitFileState", unit) for unit in (UNIT, TIMER)] == ["enabled", "enabled"]
+    yield "what the units name is there", all(Path(name[7:]).exists() for name in shown("Documentation").split())
+    modes = [path.stat().st_mode & 0o777 for path in (FOLDER, FILE)]
+    yield "the file and its folder are their owner's alone", modes == [0o700, 0o600] and {FOLDER.owner(), FILE.owner()} == {"uptane"}
+
+
+# ---- how the program ends
+
+
+def replies():
+    """Manifests with their replies, and what tells whether they come back when the program has ended so."""
+    kept = [(http_cases.MANIFEST, http_cases.REPLY)]
+
+    def comes_back(end):
+        body = http_cases.next_manifest(len(kept) + 1)
+        kept.append((body, delivered(body)))
+        before = shown("MainPID")
+        return end() and until(lambda: shown("MainPID") not in ("0", before)) and delivered(body) == kept[-1][1]
+
+    return kept, comes_back
+
+
+def served_so(count):
+    """The unit's lines for another COUNT."""
+    return "[Service]\nExecStart=\nExecStart=%s serve %s %d %s\n" % (RUN[0], FILE, PORT, count)
+
+
+def by_script(path, *lines):
+    """What an operator's script prints, given as the page says, while the service doesn't run."""
+    return ran(*AS_OWNER, *RUN, str(path), input="".join(line + "\n" for line in lines).encode("ascii")).stdout.decode("ascii")
+
+
+def ends():
+    """However the program ends, the service comes back with what it had."""
+    kept, comes_back = replies()
+    yield "a restart", comes_back(lambda: well("systemctl", "restart", UNIT))
+    for name in ("KILL", "SEGV", "TERM"):
+        yield "the program ends by SIG" + name, comes_back(lambda: well("systemctl", "kill", "--signal=" + name, UNIT))
+    begun = changed(served_so(3)) and well("systemctl", "restart", UNIT)
+    yield "the last of the connections", begun and comes_back(lambda: [asked("/image/root.json"), asked("/image/root.json")])
+    wrong = changed(served_so(0)) and ran("systemctl", "restart", UNIT) and until(lambda: shown("ActiveState") == "failed")
+    yield "wrong words aren't tried again", wrong and (shown("ExecMainStatus"), shown("NRestarts")) == ("2", "0")
+    yield "its own words again", changed("") and well("systemctl", "restart", UNIT) and delivered(kept[-1][0]) == kept[-1][1]
+    yield "a stop", well("systemctl", "stop", UNIT) and shown("ActiveState") == "inactive" and trials.faults(FILE) == []
+    show = '{"at":1767225600,"do":"show","vehicle":"V1"}'
+    yield "a script meanwhile", by_script(FILE, show) == "vehicle V1 version %d P1=factory.bin\n" % len(kept)
+    with subprocess.Popen([*AS_OWNER, *RUN, str(FILE)], stdin=subprocess.PIPE, stdout=subprocess.PIPE, text=True, bufsize=1) as other:
+        print(show, file=other.stdin)
+        waits = other.stdout.readline() and well("systemctl", "start", UNIT) and until(lambda: int(shown("NRestarts")) > 1)
+        other.stdin.close()
+    yield "it waits for a program that has the file", waits and all(delivered(body) == reply for body, reply in kept)
+
+
+# ---- files, and what the program may do
+
+
+PROBE = """
+import ctypes, mmap, os, socket
+def write(path):
+    open(path, "w").close()
+def call(*words):
+    child = os.fork()
+    if child == 0:
+        os._exit(ctypes.CDLL(None).syscall(*words) < 0)
+    assert os.waitpid(child, 0)[1] == 0
+def send(address):
+    socket.socket(socket.AF_INET, socket.SOCK_DGRAM).sendto(b"x", (address, 9))
+every = mmap.PROT_READ | mmap.PROT_WRITE | mmap.PROT_EXEC
+tried = {"writes in " + name: lambda name=name: write(name + "/probe") for name in ["/var/lib/uptane", *OTHERS]}
+tried |= {"a socket of " + name: lambda name=name: socket.socket(getattr(socket, name), socket.SOCK_DGRAM) for name in
+          ("AF_INET", "AF_INET6", "AF_UNIX", "AF_NETLINK")}
+tried |= {"sends to " + name: lambda name=name: send(name) for name in ("127.0.0.1", "192.0.2.1")}
+tried |= {"sees " + name: lambda name=name: os.stat(name) for name in ["/proc/1/status", "/proc/sys", *SEEN]}
+tried |= {"memory to write and to execute": lambda: mmap.mmap(-1, 4096, prot=every),
+          "a file that runs as its owner": lambda: os.chmod("/var/lib/uptane/probe", 0o4700),
+          "another priority": lambda: call(141, 0, 0, 19), "an owner of a file": lambda: call(92, b"/var/lib/uptane/probe", -1, -1),
+          "another personality": lambda: call(135, 8), "another user": lambda: call(105, os.getuid()),
+          "a core of its memory": lambda: call(160, 4, (ctypes.c_long * 2)(1, 1))}
+with open("/var/lib/uptane/told", "w") as out:
+    for name, made in tried.items():
+        try:
+            made()
+            print("may:", name, file=out)
+        except (OSError, AssertionError):
+            print("may not:", name, file=out)
+"""
+OTHERS = ["%s/other" % name for name in ("/etc", "/usr/local", "/var/lib", "/var/log", "/srv", "/run", "/tmp", "/dev/shm", "/home")]
+OTHERS += ["/run/lock", "/dev/mqueue"]
+SEEN = [name for name in OTHERS if name.startswith(("/tmp", "/home"))]
+MAY = ["writes in /var/lib/uptane", "a socket of AF_INET", "sends to 127.0.0.1"]
+
+
+def told_of(word, path):
+    """What the probe may do, or may not."""
+    return re.findall("(?m)^%s: (.*)$" % word, path.read_text("ascii"))
+
+
+def hardened():
+    """A program in the place of the service's may do what the service does, and nothing of what the same user may otherwise."""
+    for name in map(Path, OTHERS):
+        name.mkdir(exist_ok=True)
+        name.chmod(0o1777)
+    script = Path("/usr/local/lib/probe.py")
+    script.write_text(PROBE.replace("*OTHERS", "*%r" % OTHERS).replace("*SEEN", "*%r" % SEEN), "ascii")
+    words, told = ["/usr/bin/python3", str(script)], FOLDER / "told"
+    made = well("ip", "address", "add", "192.0.2.1/32", "dev", "lo") and well(*AS_OWNER, *words)
+    yield "without the unit its user may do all of it", made and told_of("may not", told) == []
+    told.unlink()
+    lines = "[Service]\nType=oneshot\nRestart=no\nExecStart=\nExecStart=%s\n" % " ".join(words)
+    made = well("systemctl", "stop", UNIT) and changed(lines) and well("systemctl", "start", UNIT)
+    yield "in the unit it may do what the service needs", made and told_of("may", told) == MAY
+    yield "what it makes is its owner's alone", (told.stat().st_mode & 0o777, FOLDER.stat().st_mode & 0o777) == (0o600, 0o700)
+    yield "the service again", changed("") and well("systemctl", "start", UNIT) and asked("/image/root.json") is not None
+
+
+# ---- new files of the Image repository
+
+
+def refreshed():
+    """The refreshing script gives new files and leaves the service running; the timer starts it at its time, and after a missed one."""
+    before = version()
+    yield "a refresh", well("systemctl", "start", REFRESH) and version() == before + 1
+    begun = well("systemctl", "stop", UNIT) and well("systemctl", "start", "--no-block", UNIT, REFRESH)
+    yield "a refresh right after a start", begun and until(lambda: shown("ActiveState", REFRESH) != "activating") and version() == before + 2
+    before = version()
+    words = ["/usr/local/lib/uptane_desk/refresh.sh", RUN[0], str(FILE), str(PORT), UNIT, "nobody"]
+    yield "after one that fails the service runs", not well(*words) and version() == before
+    stamp, now = Path("/var/lib/systemd/timers/stamp-" + TIMER), time.time()
+    missed = well("systemctl", "stop", TIMER) and stamp.exists() and changed("[Timer]\nRandomizedDelaySec=0\n", TIMER)
+    os.utime(stamp, (now - 2 * 86400, now - 2 * 86400))
+    yield "the timer's time was missed", missed and well("systemctl", "start", TIMER) and until(lambda: version() == before + 1)
+    soon = changed("[Timer]\nRandomizedDelaySec=0\nOnCalendar=\nOnCalendar=*:*:0/20\n", TIMER)
+    yield "the timer's time has come", soon and well("systemctl", "restart", TIMER) and until(lambda: version() > before + 1)
+    yield "its own times again", changed("", TIMER) and well("systemctl", "restart", TIMER)
+
+
+# ---- several desks
+
+
+def several(own):
+    """Four desks by the page's commands, and a refresh of each."""
+    folder, desks = own / "examples" / "service", range(1, 5)
+    paths = [FOLDER / ("desk%d.db" % desk) for desk in desks]
+    yield "four are founded", [by_script(path, *http_cases.FIRST_PATH)[:5] for path in paths] == 4 * ["done\n"]
+    served = carried_out(page()[1], folder)[1]
+    yield "four serve", served and [asked("/director/manifest", http_cases.MANIFEST, 8080 + desk) for desk in desks] == 4 * [http_cases.REPLY]
+    said, done = carried_out(page()[2], folder)
+    yield "four are refreshed", done and said == 4 * "version 2: done\n"
+
+
+def cases(program):
+    with trials.folder() as own:
+        for tried in (set_up(program, own), ends(), hardened(), refreshed(), several(own)):
+            yield from tried
+
+
+def main(program):
+    lacks = missing()
+    if lacks:
+        print("there is no %s, so no unit is started" % ", no ".join(lacks))
+        return trials.judged("units", [])
+    # where it is told to end, the container ends first
+    signal.signal(signal.SIGTERM, lambda *_: sys.exit(1))
+    folders = {trials.TOP, Path(program).resolve().parent}
+    with trials.folder() as own, mounted(own) as root, own_group() as group, booted(root, group, folders) as words:
+        tool = [sys.executable, str(Path(__file__).resolve()), str(Path(program).resolve()), "inside"]
+        return subprocess.run([*words, *tool], check=False).returncode
+
+
+if __name__ == "__main__":
+    if {"-h", "--help"} & {*sys.argv[1:]}:
+        sys.exit(print(__doc__))
+    if sys.argv[2:] == ["inside"]:
+        sys.exit(trials.judged("units", cases(sys.argv[1])))
+    if len(sys.argv) != 2:
+        sys.exit(__doc__)
+    sys.exit(main(sys.argv[1]))

@@ -1,0 +1,303 @@
+#!/usr/bin/env python3
+"""Tries the vectors of `vectors/`: by the small Primaries, and by the program where it takes them.
+
+    vector_cases.py [PROGRAM]
+
+They have to be what `tools/oracle/make_vectors.py` makes. Without a PROGRAM the small Primaries alone are tried; the one in JavaScript
+where Node is installed.
+"""
+import contextlib
+import copy
+import hashlib
+import hmac
+import http.client
+import json
+import re
+import shutil
+import subprocess
+import sys
+import types
+from contextlib import closing
+from pathlib import Path
+
+sys.dont_write_bytecode = True
+sys.path += map(str, Path(__file__).resolve().parents[1].iterdir())
+
+import fleet
+import http_cases
+import make_vectors
+import reference
+import trials
+
+PRIMARY = trials.TOP / "examples" / "primary"
+sys.path.insert(0, str(PRIMARY))
+
+import envelopes
+import primary
+import verify
+
+FOLDER = trials.TOP / "vectors"
+
+
+def vectors(name):
+    return json.loads((FOLDER / (name + ".json")).read_text(encoding="ascii"))
+
+
+def made():
+    yield "the vectors are those of the rules", make_vectors.main(["--check"]) == 0
+    shown = re.findall(r"(?s)```json\n(.*?)\n```", (trials.TOP / "docs" / "integrate" / "PRIMARY.md").read_text(encoding="ascii"))
+    of_primary = [path.read_text(encoding="ascii").strip() for path in PRIMARY.glob("*.json")]
+    texts = of_primary + [it["reply"] for it in vectors("replies")["cases"]] + list(vectors("chains")["files of update"].values())
+    yield "the page shows five messages", len(shown) == 5
+    for text in shown:
+        yield "the page shows %s.." % text[:60], any(text in it for it in texts)
+    known = {name for name, _ in make_vectors.files()} | {"README.md"}
+    yield "there is no other file", {path.name for path in FOLDER.iterdir()} == known
+
+
+# ---- the small Primary
+
+
+def by_primary():
+    for case in vectors("canonical_texts")["cases"]:
+        if "canonical" in case:
+            yield "canonical text: %(name)s" % case, envelopes.canonical(json.loads(case["text"])) == case["canonical"]
+    for case in vectors("key_identifiers")["cases"]:
+        yield "key identifier: %(name)s" % case, envelopes.key_identifier(bytes.fromhex(case["public"])) == case["keyid"]
+    told = vectors("signatures_hmac")
+    for case in told["tags"]:
+        tag = hmac.new(bytes.fromhex(case["key"]), bytes.fromhex(case["data"]), hashlib.sha256).hexdigest()
+        yield "tag: %(name)s" % case, tag == case["tag"]
+    for case in told["cases"]:
+        if "refused" not in case:
+            signed = envelopes.is_signed_by(json.loads(case["envelope"]), bytes.fromhex(told["key"]))
+            yield "signature: %(name)s" % case, signed == case["signed_by_the_key"]
+    yield from verified(verify)
+    told = vectors("chains")
+    first = {name: key for name, key in told["vehicle"]["role_keys"].items() if name in told["files of update"]["director/1.root.json"]}
+    lacks = told | {"vehicle": told["vehicle"] | {"role_keys": first}}
+    yield "a change of the repository between two requests", begins_again(told)
+    yield "a Root whose keys the vehicle hasn't", verdict(verify, lacks, {"base": "rotation"})[0] == "refused"
+
+
+def begins_again(told):
+    """Whether the small Primary verifies the Image repository where its Targets were of another moment once, and not where they always are."""
+    files = {name: json.loads(text) for name, text in told["files of update"].items()}
+    other = next(case["replace"] for case in told["cases"] if case["name"] == "the Image repository's Targets are of another moment")
+    found = []
+    for times in (1, 2):
+        mixed = times * [json.loads(other["image/targets.json"])]
+        fetch = lambda name: mixed.pop() if mixed and name == "image/targets.json" else files.get(name)
+        trust = {"root": files["image/1.root.json"], "versions": {}}
+        secrets = {name: bytes.fromhex(it) for name, it in told["vehicle"]["role_keys"].items()}
+        with contextlib.suppress(verify.Refused):
+            found.append(primary.image_repository(trust, fetch, secrets, told["now"])[0])
+    return found == [files["image/targets.json"]]
+
+
+def by_node():
+    """Whether the small Primary in JavaScript answers all of them."""
+    if shutil.which("node"):
+        words = ["node", trials.TOP / "examples" / "primary_node" / "primary.mjs", "vectors", FOLDER]
+        ran = subprocess.run(words, capture_output=True, check=False, timeout=http_cases.PATIENCE)
+        counts = re.fullmatch(rb"([0-9]+) passed, 0 failed\n", ran.stdout)
+        yield "the small Primary in JavaScript", ran.returncode == 0 and not ran.stderr and bool(counts) and int(counts[1]) > 100
+
+
+def verified(verify):
+    """Whether this module gives each chain and each image its verdict, and installs what it has to."""
+    told = vectors("chains")
+    for case in told["cases"]:
+        yield "%(attack)s: %(name)s" % case, verdict(verify, told, case) == (case["verdict"], told["installs"] if case["verdict"] == "accepted" else None)
+    for case in told["contents"]:
+        yield "image: %(name)s" % case, taken(verify, case["target"], case["content"].encode()) == case["verdict"]
+
+
+def each_check():
+    """Without any one of the small Primary's checks some chain or image has another verdict."""
+    source = (PRIMARY / "verify.py").read_text(encoding="ascii")
+    checks = list(re.finditer(r"(?m)^ +(expect\(.*\)|check_signed\(.*\))$", source))
+    yield "the small Primary's checks are found", len(checks) > 20
+    for found in checks:
+        without = types.ModuleType("verify")
+        exec(source[: found.start(1)] + "pass" + source[found.end(1) :], vars(without))
+        yield "a vector needs the check %s" % found[1][:60], differs(without)
+
+
+def differs(module):
+    try:
+        return not all(well for _, well in verified(module))
+    except (KeyError, TypeError):
+        return True
+
+
+def taken(verify, target, content):
+    try:
+        verify.check_image(target, content)
+    except verify.Refused:
+        return "refused"
+    return "accepted"
+
+
+def verdict(verify, told, case):
+    """What the small Primary says of a chain, and what it would install."""
+    texts = told["files of " + case["base"]] | case.get("replace", {})
+    files = {name: json.loads(text) for name, text in texts.items() if text is not None}
+    first = told["files of update"]
+    trust = {it: {"root": json.loads(first[it + "/1.root.json"]), "versions": case.get("trusted", {}).get(it, {})} for it in reference.REPOSITORIES}
+    ecus = {ecu["ecu"]: copy.deepcopy(ecu) for ecu in told["vehicle"]["ecus"]}
+    for ecu, more in case.get("installed", {}).items():
+        ecus[ecu]["installed"] |= more
+    for ecu, hardware in case.get("hardware", {}).items():
+        ecus[ecu]["hardware"] = hardware
+    secrets = {name: bytes.fromhex(it) for name, it in told["vehicle"]["role_keys"].items()}
+    now = case.get("now", told["now"])
+    try:
+        director = verify.latest_root(trust["director"], files.get, secrets, "director", now)
+        verify.check_reply(director, files["reply"], secrets, told["vehicle"]["vehicle"], now)
+        image = verify.latest_root(trust["image"], files.get, secrets, "image", now)
+        of_image = {role: files.get("image/%s.json" % role) for role in verify.ROLES}
+        verify.expect(all(of_image.values()), "the Image repository lacks a file")
+        verify.check_files(image, of_image, secrets, "image", now)
+        due = verify.check_targets(files["reply"]["targets"], of_image["targets"], ecus)
+    except verify.Old:
+        return "old", None
+    except verify.Refused:
+        return "refused", None
+    return "accepted", {ecu: target["file"] for ecu, target in due.items()}
+
+
+# ---- the program
+
+
+def delivered(body, at=None):
+    return fleet.line("deliver", at or vectors("manifests")["at"], body=body)
+
+
+def of_text(secret, counter, case):
+    """A manifest of VIN-2 that has the text as a member more. One level of a text that is as deep as may be is left to what is
+    signed, which has it round the member."""
+    payload = make_vectors.payload_of("VIN-2", counter, make_vectors.reports_of("VIN-2", counter))
+    texts = [case["text"], case.get("canonical", "[0]")]
+    if texts[0].startswith((14 * "[", 14 * '{"a":')):
+        texts = [it[1:-1] if it.startswith("[") else it[5:-1] for it in texts]
+    with_member = ['%s,"x":%s}' % (payload[:-1], it) for it in texts]
+    signature = json.loads(reference.sealed([secret], with_member[1]))["signatures"]
+    return '{"signatures":%s,"signed":%s}' % (reference.canonical(signature), with_member[0])
+
+
+def texts(program):
+    told, setup = vectors("canonical_texts")["cases"], vectors("manifests")["setup"]
+    secret, version, lines, wanted = bytes.fromhex(vectors("signatures_hmac")["key"]), 0, [], []
+    for counter, case in enumerate(told, 1):
+        lines.append(delivered(of_text(secret, counter, case)))
+        version += "canonical" in case
+        number = {"NotJson": 5, "NotCanonical": 6}
+        wanted.append("refused %d %s" % (number[case["refused"]], case["refused"]) if "refused" in case else "reply VIN-2 version %d targets 0" % version)
+    printed = trials.printed(program, ":memory:", [*setup, *lines]) or []
+    for case, line, it in zip(told, printed[len(setup):] or len(told) * [None], wanted, strict=True):
+        yield "the program: canonical text: %(name)s" % case, line == it
+
+
+def identifiers(program):
+    keys = [case for case in vectors("key_identifiers")["cases"] if len(case["public"]) == 64]
+    role = lambda *given: {"keys": list(given), "threshold": 1}
+    roles = {it: role(make_vectors.key(0x70 + at)) for at, it in enumerate(reference.ROLES)}
+    lines = [fleet.line("found", director=roles | {"root": role(*(case["public"] for case in keys))}, image=roles),
+             fleet.line("fetch", repository="director", file="root.json")]
+    printed = trials.printed(program, ":memory:", lines) or ["", "file null"]
+    root = json.loads(printed[1].removeprefix("file ")) or {}
+    yield "the program: key identifiers", bool(root) and root["signed"]["roles"]["root"]["keyids"] == [case["keyid"] for case in keys]
+
+
+def signatures(program):
+    told = vectors("signatures_hmac")
+    printed = trials.printed(program, ":memory:", [*told["setup"], *(delivered(case["envelope"]) for case in told["cases"])]) or []
+    for case, line in zip(told["cases"], printed[len(told["setup"]):] or len(told["cases"]) * [None], strict=True):
+        wanted = "reply VIN-2 version 1 targets 0" if case.get("signed_by_the_key") else "refused 12 BadManifestSignature"
+        yield "the program: signature: %(name)s" % case, line == ("refused 7 " + case["refused"] if "refused" in case else wanted)
+
+
+def body_of(case):
+    return case["body"] if "body" in case else case["spaces"] * " "
+
+
+def manifests(program, own):
+    told = vectors("manifests")
+    printed = trials.printed(program, ":memory:", [*told["setup"], *(delivered(body_of(case)) for case in told["cases"])]) or []
+    for case, line in zip(told["cases"], printed[len(told["setup"]):] or len(told["cases"]) * [None], strict=True):
+        yield "the program: manifest: %(name)s" % case, line == case["printed"]
+    trials.printed(program, own / "desk", told["setup"])
+    with http_cases.served(program, own / "desk", len(told["cases"])) as running:
+        for case in told["cases"]:
+            yield "the program, over HTTP: manifest: %(name)s" % case, posted(running, body_of(case)) == answered(case)
+        yield "the program ends well", http_cases.ended(running)
+
+
+def posted(running, body):
+    """The status of a manifest that is posted, and the body of the answer where it is refused."""
+    with contextlib.suppress(OSError, http.client.HTTPException), closing(http.client.HTTPConnection("127.0.0.1", running.port, timeout=90)) as client:
+        client.request("POST", "/director/manifest", body.encode(), {"Connection": "close"})
+        came = client.getresponse()
+        text = came.read().decode()
+        return came.status, None if came.status == 200 else json.loads(text)
+    return None
+
+
+def answered(case):
+    """The same as the vector says."""
+    words = case["printed"].split(" ", 2)
+    return case["status"], {"error": int(words[1]), "text": words[2]} if words[0] == "refused" else None
+
+
+def replies(program, own):
+    told, version = vectors("replies"), {}
+    path = own / "replies"
+    trials.printed(program, path, told["setup"])
+    for case in told["cases"]:
+        printed = trials.printed(program, path, [*case["lines"], delivered(case["body"], told["at"])]) or [None]
+        signed = json.loads(case["body"])["signed"]
+        with trials.read(path) as db:
+            kept = db.execute("SELECT reply FROM kept WHERE vehicle = ? AND counter = ?", (signed["vehicle"], signed["counter"])).fetchone()
+        yield "the program: reply: %(name)s" % case, printed[-1] == case["printed"] and kept == (case["reply"],)
+
+
+def bases(program, own):
+    """The files and the reply of each base are those that the program makes."""
+    told = vectors("chains")
+    for base in ("update", "rotation"):
+        path, files = own / base, dict(told["files of " + base])
+        printed = trials.printed(program, path, told["lines of " + base])
+        reply, names = files.pop("reply"), [name.split("/") for name in files]
+        fetched = trials.printed(program, path, [fleet.line("fetch", repository=repository, file=name) for repository, name in names])
+        with trials.read(path) as db:
+            kept = db.execute("SELECT reply FROM kept WHERE vehicle = 'VIN-1' ORDER BY version DESC").fetchone()
+        well = printed is not None and fetched == ["file " + text for text in files.values()] and kept == (reply,)
+        yield "the program: the files and the reply of the base %s" % base, well
+
+
+def by_program(program):
+    with trials.folder() as own:
+        yield from texts(program)
+        yield from identifiers(program)
+        yield from signatures(program)
+        yield from manifests(program, own)
+        yield from replies(program, own)
+        yield from bases(program, own)
+
+
+def cases(program=None):
+    yield from made()
+    yield from by_primary()
+    yield from by_node()
+    yield from each_check()
+    if program:
+        yield from by_program(program)
+
+
+if __name__ == "__main__":
+    if {"-h", "--help"} & {*sys.argv[1:]}:
+        sys.exit(print(__doc__))
+    if len(sys.argv) > 2:
+        sys.exit(__doc__)
+    sys.exit(trials.judged("vectors", cases(*sys.argv[1:])))
