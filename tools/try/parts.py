@@ -25,7 +25,7 @@ LANES = {
         "up_metadata": "keys and files", "up_manifest": "manifests", "up_plan": "plans", "up_machine": "state, decisions",
     },
     "the database": {
-        "up_tables": "tables, statements", "up_columns": "lists in columns", "up_rows": "rows of a state", "up_records": "records of tables",
+        "up_tables": "tables, statements", "up_columns": "lists in columns", "up_rows": "rows of a state", "up_records": "store and cache",
         "up_store": "reads, writes", "up_file": "database files",
     },
     "the program": {"up_desk": "commands, the headline", "up_service": "scripts, streams", "uptane_desk": "the program"},
