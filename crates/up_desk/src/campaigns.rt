@@ -68,7 +68,9 @@ fn decide_opening_founded<D: Alter>(
     founded: bool,
 ) -> Result<Decision<Campaign>, Refusal>
     requires { at ≤ last_command_moment }
-    ensures { (k : Rules) → DecidesOpen D.Store k at campaign.now (λ s. founded ≡ is_some (founding_row s)) records.old records.new result }
+    ensures { (k : Rules)
+        → DecidesOpen D.Store k at campaign.now (λ s. founded ≡ is_some (founding_row s))
+        records.old records.new result }
 {
     match records.campaign(alloc, &campaign.name) {
         Ok(old) => decide_opening_named(records, alloc, at, campaign, founded, old.as_ref()),
@@ -116,7 +118,8 @@ fn decide_opening_known<D: Alter>(
     requires { at ≤ last_command_moment }
     ensures { (k : Rules) → DecidesOpen D.Store k at campaign.now (λ s. (founded ≡ is_some (founding_row s))
         × (option_copied old.entry ≡ table.get s.campaigns campaign.now.name)
-        × (known.now ≡ map (table.contains_key s.vehicles) (named_in campaign.now.reach))) records.old records.new result }
+        × (known.now ≡ map (table.contains_key s.vehicles) (named_in campaign.now.reach)))
+        records.old records.new result }
 {
     match images_of(records, alloc, campaign.items.as_slice()) {
         Ok(images) => decide_open(alloc, at, campaign, founded, old, known, &images),

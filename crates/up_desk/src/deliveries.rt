@@ -35,7 +35,8 @@ pub fn deliver<K: Scheme, D: Alter>(
     requires moment { at ≤ last_command_moment }
     requires can { CanUse (K.rules scheme.now) (state D.Store records.old) }
     ensures large { largest_body < length body.now → RefusesUnread records.old records.new result TooLarge }
-    ensures carries { Carries D.Store (K.rules scheme.now) (λ s. and_then (incoming_in body.now) (decide_incoming (K.rules scheme.now) s at))
+    ensures carries { Carries D.Store (K.rules scheme.now)
+        (λ s. and_then (incoming_in body.now) (decide_incoming (K.rules scheme.now) s at))
         records.old records.new result }
 {
     match read_manifest(alloc, body.as_slice()) {

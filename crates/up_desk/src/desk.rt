@@ -2,7 +2,8 @@
 ghost use Rattle.std.specs.Prelude.{◌≡◌, ◌+◌, ◌<◌, length, vec_capacity, vec_len, OnOk, OnErr, IsTrue};
 ghost use Rattle.std.specs.List.{AllByRecursion};
 ghost use Rattle.up_machine.specs.Commands.{opens_running};
-ghost use Rattle.up_machine.specs.Reads.{ecus_of as ecus_in, version_of as version_in, installed as installed_in, assigned_to};
+ghost use Rattle.up_machine.specs.Reads.{ecus_of as ecus_in, version_of as version_in, installed as installed_in};
+ghost use Rattle.up_machine.specs.Reads.{assigned_to};
 ghost use Rattle.up_machine.specs.Rows.{vehicle_rows};
 ghost use Rattle.up_desk.specs.Calls.{IsCalled};
 ghost use Rattle.up_desk.specs.Runs.{AreCalled};

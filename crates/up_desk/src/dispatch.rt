@@ -34,7 +34,8 @@ pub fn dispatch<K: Scheme, D: Alter>(
     requires { CanUse (K.rules scheme.now) (state D.Store records.old) }
     ensures carries { Carries D.Store (K.rules scheme.now) (λ s. outcome_due (K.rules scheme.now) s at command.now)
         records.old records.new result }
-    ensures outright { IfSome (outright_of (K.rules scheme.now) at command.now) (RefusesUnread records.old records.new result) }
+    ensures outright { IfSome (outright_of (K.rules scheme.now) at command.now)
+        (RefusesUnread records.old records.new result) }
 {
     match command_moment(at) {
         Some(at) => dispatch_at(records, alloc, scheme, at, command),
@@ -54,7 +55,8 @@ fn dispatch_at<K: Scheme, D: Alter>(
     requires can { CanUse (K.rules scheme.now) (state D.Store records.old) }
     ensures carries { Carries D.Store (K.rules scheme.now) (λ s. outcome_due (K.rules scheme.now) s at command.now)
         records.old records.new result }
-    ensures outright { IfSome (outright_in_time (K.rules scheme.now) command.now) (RefusesUnread records.old records.new result) }
+    ensures outright { IfSome (outright_in_time (K.rules scheme.now) command.now)
+        (RefusesUnread records.old records.new result) }
 {
     match command {
         Command::Found(keys) => found(records, alloc, scheme, at, keys),

@@ -32,7 +32,8 @@ pub fn fetch<D: Alter>(
     name: &FileName,
 ) -> Result<Answer, Refusal>
     requires { at ≤ last_command_moment }
-    ensures { (k : Rules) → Carries D.Store k (λ s. decide_fetch_in k s at repository name.now) records.old records.new result }
+    ensures { (k : Rules)
+        → Carries D.Store k (λ s. decide_fetch_in k s at repository name.now) records.old records.new result }
 {
     match read_file(records, alloc, at, repository, name) {
         Ok(text) => Ok(Answer::File(text)),
@@ -63,7 +64,8 @@ fn read_file<D: Alter>(
 fn decide_missing<D: Alter>(records: &mut Records<D>, at: Moment) -> Result<Text, Refusal>
     requires { at ≤ last_command_moment }
     ensures { (k : Rules) (repository : RepositoryName) (name : Name)
-        → DecidesFile D.Store k at repository name (λ s. None ≡ file k s repository name) records.old records.new result }
+        → DecidesFile D.Store k at repository name (λ s. None ≡ file k s repository name)
+        records.old records.new result }
 {
     match records.is_founded() {
         Ok(founded) => decide_fetch(at, founded, None),

@@ -21,7 +21,8 @@ pub fn images_of<D: Alter>(
     alloc: Global,
     items: &[Item],
 ) -> Result<Table<Image>, StoreFault>
-    ensures { Finds D.Store (λ k s. gathered s.images (item_files items.now) table.empty) records.old records.new result }
+    ensures { Finds D.Store (λ k s. gathered s.images (item_files items.now) table.empty)
+        records.old records.new result }
 {
     let mut images = Table::new(alloc);
     match add_items(records, alloc, &mut images, items) {
@@ -36,7 +37,8 @@ fn add_items<D: Alter>(
     images: &mut Table<Image>,
     items: &[Item],
 ) -> Result<(), StoreFault>
-    ensures { FindsSuch D.Store (λ s _. IsPart s.images images.old → images.new ≡ gathered s.images (item_files items.now) images.old)
+    ensures { FindsSuch D.Store
+        (λ s _. IsPart s.images images.old → images.new ≡ gathered s.images (item_files items.now) images.old)
         records.old records.new result }
 {
     for item in items {
@@ -55,7 +57,8 @@ fn add_file<D: Alter>(
     images: &mut Table<Image>,
     file: &FileName,
 ) -> Result<(), StoreFault>
-    ensures { FindsSuch D.Store (λ s _. IsPart s.images images.old → images.new ≡ with_found s.images images.old file.now)
+    ensures { FindsSuch D.Store
+        (λ s _. IsPart s.images images.old → images.new ≡ with_found s.images images.old file.now)
         records.old records.new result }
 {
     if images.contains(file.text()) {

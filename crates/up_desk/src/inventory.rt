@@ -41,7 +41,8 @@ pub fn add_vehicle<K: Scheme, D: Alter>(
     requires moment { at ≤ last_command_moment }
     ensures key { list_all (λ e. public_fits (K.rules scheme.now) e.public) new.now.ecus ≡ false
         → RefusesUnread records.old records.new result (BadShape (codes "key")) }
-    ensures carries { Carries D.Store (K.rules scheme.now) (λ s. decide_vehicle_in (K.rules scheme.now) s at new.now) records.old records.new result }
+    ensures carries { Carries D.Store (K.rules scheme.now) (λ s. decide_vehicle_in (K.rules scheme.now) s at new.now)
+        records.old records.new result }
 {
     if publics_fit(scheme, new.ecus.as_slice()) {
         add_fitting(records, alloc, scheme, at, new)
@@ -59,7 +60,8 @@ fn add_fitting<K: Scheme, D: Alter>(
     new: &NewVehicle,
 ) -> Result<Answer, Refusal>
     requires moment { at ≤ last_command_moment }
-    ensures { Carries D.Store (K.rules scheme.now) (λ s. decide_vehicle_in (K.rules scheme.now) s at new.now) records.old records.new result }
+    ensures { Carries D.Store (K.rules scheme.now) (λ s. decide_vehicle_in (K.rules scheme.now) s at new.now)
+        records.old records.new result }
 {
     match decide_adding_vehicle(records, alloc, scheme, at, new) {
         Ok(Decision::Already) => Ok(Answer::Already),
@@ -95,7 +97,8 @@ fn decide_vehicle_founded<K: Scheme, D: Alter>(
     founded: bool,
 ) -> Result<Decision<VehicleRows>, Refusal>
     requires { at ≤ last_command_moment }
-    ensures { DecidesVehicle D.Store (K.rules scheme.now) at new.now (λ s. founded ≡ is_some (founding_row s)) records.old records.new result }
+    ensures { DecidesVehicle D.Store (K.rules scheme.now) at new.now (λ s. founded ≡ is_some (founding_row s))
+        records.old records.new result }
 {
     match records.vehicle(alloc, &new.vehicle) {
         Ok(old) => decide_vehicle_named(records, alloc, scheme, at, new, founded, old.as_ref()),
@@ -129,7 +132,8 @@ fn taken_marks<D: Alter>(
     alloc: Global,
     ecus: &[NewEcu],
 ) -> Result<Vec<bool>, StoreFault>
-    ensures { FindsSuch D.Store (λ s marks. marks.items ≡ map (λ e. is_taken_in s e.ecu) ecus.now) records.old records.new result }
+    ensures { FindsSuch D.Store (λ s marks. marks.items ≡ map (λ e. is_taken_in s e.ecu) ecus.now)
+        records.old records.new result }
 {
     let mut marks = Vec::with_capacity(alloc, ecus.len())?;
     for ecu in ecus {

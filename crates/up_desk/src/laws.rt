@@ -1,5 +1,6 @@
 //! The laws of commits, and of deliveries that come again.
-ghost use Rattle.up_desk.specs.Laws.{NewRepliesCommit, DeliveriesActOnce, CrashesActOnce, LastCommitsStand, ReopenedActsOnce, ReopenedOutlast};
+ghost use Rattle.up_desk.specs.Laws.{NewRepliesCommit, DeliveriesActOnce, CrashesActOnce, LastCommitsStand};
+ghost use Rattle.up_desk.specs.Laws.{ReopenedActsOnce, ReopenedOutlast};
 
 use sqlite::Alter;
 use sqlite_disk::Disk;

@@ -38,7 +38,8 @@ pub fn add_image<K: Scheme, D: Alter>(
     image: &Image,
 ) -> Result<Answer, Refusal>
     requires { at ≤ last_command_moment }
-    ensures { Carries D.Store (K.rules scheme.now) (λ s. decide_image_in s at image.now) records.old records.new result }
+    ensures { Carries D.Store (K.rules scheme.now) (λ s. decide_image_in s at image.now)
+        records.old records.new result }
 {
     match decide_adding(records, alloc, scheme, at, image) {
         Ok(Decision::Already) => Ok(Answer::Already),
@@ -75,7 +76,8 @@ fn decide_adding_founded<K: Scheme, D: Alter>(
 ) -> Result<Decision<RegisterRows>, Refusal>
     requires moment { at ≤ last_command_moment }
     requires keys { IfSome founding (λ f. IsTrue (founding_fits (K.rules scheme.now) f)) }
-    ensures { DecidesImage D.Store (K.rules scheme.now) at image.now (λ s. founding ≡ founding_row s) records.old records.new result }
+    ensures { DecidesImage D.Store (K.rules scheme.now) at image.now (λ s. founding ≡ founding_row s)
+        records.old records.new result }
 {
     match records.image(alloc, &image.file) {
         Ok(old) => decide_adding_named(records, alloc, scheme, at, image, founding, old.as_ref()),
@@ -136,7 +138,8 @@ pub fn refresh<K: Scheme, D: Alter>(
     version: Count,
 ) -> Result<Answer, Refusal>
     requires { at ≤ last_command_moment }
-    ensures { Carries D.Store (K.rules scheme.now) (λ s. decide_refresh_in s at version) records.old records.new result }
+    ensures { Carries D.Store (K.rules scheme.now) (λ s. decide_refresh_in s at version)
+        records.old records.new result }
 {
     match decide_refreshing(records, alloc, scheme, at, version) {
         Ok(rows) => done_of(records.write_refresh(alloc, &rows)),
@@ -172,7 +175,8 @@ fn decide_refreshing_founded<K: Scheme, D: Alter>(
 ) -> Result<RegisterRows, Refusal>
     requires moment { at ≤ last_command_moment }
     requires keys { IfSome founding (λ f. IsTrue (founding_fits (K.rules scheme.now) f)) }
-    ensures { DecidesRefresh D.Store (K.rules scheme.now) at version (λ s. founding ≡ founding_row s) records.old records.new result }
+    ensures { DecidesRefresh D.Store (K.rules scheme.now) at version (λ s. founding ≡ founding_row s)
+        records.old records.new result }
 {
     match decide_refresh(at, version, founding) {
         Ok(founding) => make_register_rows(records, alloc, scheme, founding),

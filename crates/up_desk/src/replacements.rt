@@ -35,7 +35,8 @@ pub fn replace_ecu<K: Scheme, D: Alter>(
     requires moment { at ≤ last_command_moment }
     ensures key { public_fits_in (K.rules scheme.now) new.now.ecu.public ≡ false
         → RefusesUnread records.old records.new result (BadShape (codes "key")) }
-    ensures carries { Carries D.Store (K.rules scheme.now) (λ s. decide_replace_in (K.rules scheme.now) s at new.now) records.old records.new result }
+    ensures carries { Carries D.Store (K.rules scheme.now) (λ s. decide_replace_in (K.rules scheme.now) s at new.now)
+        records.old records.new result }
 {
     if public_fits(scheme, new.ecu.public.as_slice()) {
         replace_fitting(records, alloc, scheme, at, new)
@@ -53,7 +54,8 @@ fn replace_fitting<K: Scheme, D: Alter>(
     new: &Replacement,
 ) -> Result<Answer, Refusal>
     requires moment { at ≤ last_command_moment }
-    ensures { Carries D.Store (K.rules scheme.now) (λ s. decide_replace_in (K.rules scheme.now) s at new.now) records.old records.new result }
+    ensures { Carries D.Store (K.rules scheme.now) (λ s. decide_replace_in (K.rules scheme.now) s at new.now)
+        records.old records.new result }
 {
     match decide_replacing(records, alloc, scheme, at, new) {
         Ok(()) => done_of(records.write_replace(alloc, new)),
@@ -88,7 +90,8 @@ fn decide_replacing_founded<K: Scheme, D: Alter>(
     founded: bool,
 ) -> Result<(), Refusal>
     requires { at ≤ last_command_moment }
-    ensures { DecidesReplace D.Store (K.rules scheme.now) at new.now (λ s. founded ≡ is_some (founding_row s)) records.old records.new result }
+    ensures { DecidesReplace D.Store (K.rules scheme.now) at new.now (λ s. founded ≡ is_some (founding_row s))
+        records.old records.new result }
 {
     match records.vehicle(alloc, &new.vehicle) {
         Ok(vehicle) => decide_replacing_in(

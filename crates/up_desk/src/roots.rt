@@ -35,7 +35,8 @@ pub fn found<K: Scheme, D: Alter>(
     keys: &KeySet,
 ) -> Result<Answer, Refusal>
     requires { at ≤ last_command_moment }
-    ensures { Carries D.Store (K.rules scheme.now) (λ s. decide_found_in (K.rules scheme.now) s at keys.now) records.old records.new result }
+    ensures { Carries D.Store (K.rules scheme.now) (λ s. decide_found_in (K.rules scheme.now) s at keys.now)
+        records.old records.new result }
 {
     match decide_founding(records, alloc, scheme, at, keys) {
         Ok(rows) => done_of(records.write_found(alloc, &rows)),
@@ -70,7 +71,8 @@ fn decide_founding_anew<K: Scheme, D: Alter>(
     founded: bool,
 ) -> Result<RootRows, Refusal>
     requires { at ≤ last_command_moment }
-    ensures { DecidesFound D.Store (K.rules scheme.now) at keys.now (λ s. founded ≡ is_some (founding_row s)) records.old records.new result }
+    ensures { DecidesFound D.Store (K.rules scheme.now) at keys.now (λ s. founded ≡ is_some (founding_row s))
+        records.old records.new result }
 {
     match decide_found(alloc, scheme, at, keys, founded) {
         Ok(new) => make_root_rows(records, alloc, scheme, at, keys, &new),
@@ -87,7 +89,8 @@ pub fn rotate<K: Scheme, D: Alter>(
     keys: &KeySet,
 ) -> Result<Answer, Refusal>
     requires { at ≤ last_command_moment }
-    ensures { Carries D.Store (K.rules scheme.now) (λ s. decide_rotate_in (K.rules scheme.now) s at keys.now) records.old records.new result }
+    ensures { Carries D.Store (K.rules scheme.now) (λ s. decide_rotate_in (K.rules scheme.now) s at keys.now)
+        records.old records.new result }
 {
     match decide_rotation(records, alloc, scheme, at, keys) {
         Ok(rows) => done_of(records.write_rotate(alloc, &rows)),
@@ -123,7 +126,8 @@ fn decide_rotation_founded<K: Scheme, D: Alter>(
 ) -> Result<RootRows, Refusal>
     requires moment { at ≤ last_command_moment }
     requires keys { IfSome founding (λ f. IsTrue (founding_fits (K.rules scheme.now) f)) }
-    ensures { DecidesRotate D.Store (K.rules scheme.now) at keys.now (λ s. founding ≡ founding_row s) records.old records.new result }
+    ensures { DecidesRotate D.Store (K.rules scheme.now) at keys.now (λ s. founding ≡ founding_row s)
+        records.old records.new result }
 {
     match decide_rotate(alloc, scheme, at, keys, founding) {
         Ok(new) => make_root_rows(records, alloc, scheme, at, keys, &new),

@@ -54,8 +54,10 @@ pub(crate) fn load<K: Scheme, D: Alter>(
         → IfClean (KeepsState k s) (state D.Store store.old) → Fits s catalog.old → IsLoaded s catalog.new) }
     ensures kept { StaysLoaded catalog.old catalog.new }
     ensures came { Come (λ vehicle primary. ⊥) (primaries_in catalog.old) (primaries_in catalog.new) }
-    ensures there { is_some catalog.old ≡ true → (result ≡ Ok tt) × (catalog.new ≡ catalog.old) × (store.new ≡ store.old) }
-    ensures blame { BlamesSound faults.Store (K.rules scheme.now) (state D.Store store.old) (state D.Store store.new) result }
+    ensures there { is_some catalog.old ≡ true → (result ≡ Ok tt) × (catalog.new ≡ catalog.old)
+        × (store.new ≡ store.old) }
+    ensures blame { BlamesSound faults.Store (K.rules scheme.now)
+        (state D.Store store.old) (state D.Store store.new) result }
     ensures reads { Reads (state D.Store store.old) (state D.Store store.new) }
 {
     if catalog.is_some() {
@@ -80,7 +82,8 @@ fn read_catalog<K: Scheme, D: Alter>(
         → IfClean (KeepsState k s) (state D.Store store.old) → IsLoaded s read) }
     ensures can { IfOk result (λ read. IfSome read (CanDecide (K.rules scheme.now))) }
     ensures none { IfOk result (λ read. primaries_in read ≡ table.empty) }
-    ensures blame { BlamesSound faults.Store (K.rules scheme.now) (state D.Store store.old) (state D.Store store.new) result }
+    ensures blame { BlamesSound faults.Store (K.rules scheme.now)
+        (state D.Store store.old) (state D.Store store.new) result }
     ensures reads { Reads (state D.Store store.old) (state D.Store store.new) }
 {
     match read_founding(store, alloc, scheme) {

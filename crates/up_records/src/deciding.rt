@@ -11,7 +11,8 @@ ghost use Rattle.up_machine.specs.Sound.{IsSound};
 ghost use Rattle.up_machine.specs.State.{State};
 ghost use Rattle.up_store.specs.Connections.{KeepsState};
 ghost use Rattle.up_tables.specs.Stands.{IfClean};
-ghost use Rattle.up_records.specs.Catalogs.{CanDecide, Come, Fits, IsLoaded, IsOf, KeepsMore, StaysLoaded, primaries_in};
+ghost use Rattle.up_records.specs.Catalogs.{CanDecide, Come, Fits, IsLoaded, IsOf, KeepsMore, StaysLoaded};
+ghost use Rattle.up_records.specs.Catalogs.{primaries_in};
 ghost use Rattle.up_records.specs.Connected.{DecidesIncoming, Reads};
 ghost use Rattle.up_records.specs.Senders.{IsSent, IsSentBy, IsThere, KeepsOver, RefusesUnread, refused_by, refused_in};
 ghost use Rattle.up_records.specs.Standing.{over};
@@ -48,12 +49,14 @@ pub(crate) fn decide<K: Scheme, D: Alter>(
     requires moment { at ≤ last_command_moment }
     requires read { IsRead incoming.now }
     requires can { IfSome catalog.old (CanDecide (K.rules scheme.now)) }
-    ensures decided { Decides (K.rules scheme.now) (λ s. ⊤) (λ s. GivesDelivered (K.rules scheme.now) s incoming.now.manifest.vehicle)
+    ensures decided { Decides (K.rules scheme.now) (λ s. ⊤)
+        (λ s. GivesDelivered (K.rules scheme.now) s incoming.now.manifest.vehicle)
         (λ s. decide_incoming (K.rules scheme.now) s at incoming.now)
         (over D.Store store.old catalog.old) (over D.Store store.new catalog.new) result }
     ensures kept { KeepsOver (K.rules scheme.now) incoming.now
         (over D.Store store.old catalog.old) (over D.Store store.new catalog.new) result }
-    ensures forged { IfSome (refused_in (K.rules scheme.now) catalog.old incoming.now) (RefusesUnread store.old store.new result) }
+    ensures forged { IfSome (refused_in (K.rules scheme.now) catalog.old incoming.now)
+        (RefusesUnread store.old store.new result) }
 {
     match load(store, catalog, alloc, scheme) {
         Ok(()) => decide_loaded(store, catalog, keys, alloc, scheme, at, incoming),
@@ -84,7 +87,8 @@ fn decide_loaded<K: Scheme, D: Alter>(
         → Come (IsSentBy (K.rules scheme.now) incoming.now) (primaries_in catalog.old) (primaries_in catalog.new) }
     ensures loads { IsThere result catalog.new }
     ensures can { IfSome catalog.new (CanDecide (K.rules scheme.now)) }
-    ensures forged { IfSome (refused_in (K.rules scheme.now) catalog.old incoming.now) (RefusesUnread store.old store.new result) }
+    ensures forged { IfSome (refused_in (K.rules scheme.now) catalog.old incoming.now)
+        (RefusesUnread store.old store.new result) }
     ensures left { IfSome (refused_in (K.rules scheme.now) catalog.old incoming.now) (λ r. catalog.new ≡ catalog.old) }
     ensures reads { Reads (state D.Store store.old) (state D.Store store.new) }
 {
@@ -115,8 +119,10 @@ fn decide_founded<K: Scheme, D: Alter>(
     ensures came { HasCleanDisk (state D.Store store.new) → (s : State)
         → IfClean (KeepsState (K.rules scheme.now) s) (state D.Store store.old) → IsOf s catalog.old
         → Come (IsSentBy (K.rules scheme.now) incoming.now) catalog.old.primaries catalog.new.primaries }
-    ensures forged { IfSome (refused_by (K.rules scheme.now) catalog.old.primaries incoming.now) (RefusesUnread store.old store.new result) }
-    ensures left { IfSome (refused_by (K.rules scheme.now) catalog.old.primaries incoming.now) (λ r. catalog.new ≡ catalog.old) }
+    ensures forged { IfSome (refused_by (K.rules scheme.now) catalog.old.primaries incoming.now)
+        (RefusesUnread store.old store.new result) }
+    ensures left { IfSome (refused_by (K.rules scheme.now) catalog.old.primaries incoming.now)
+        (λ r. catalog.new ≡ catalog.old) }
     ensures reads { Reads (state D.Store store.old) (state D.Store store.new) }
 {
     match read_sender(store, catalog, keys, alloc, scheme, incoming) {
@@ -146,7 +152,8 @@ fn decide_sent<K: Scheme, D: Alter>(
     requires read { IsRead incoming.now }
     requires can { CanAnswer (K.rules scheme.now) sender.now }
     requires hashed { catalog.now.hashed ≡ hashed_roles (K.rules scheme.now) sender.now.founding.keys.director }
-    ensures decided { DecidesIncoming (K.rules scheme.now) at incoming.now (λ s. IsSent (K.rules scheme.now) s incoming.now catalog.now sender.now)
+    ensures decided { DecidesIncoming (K.rules scheme.now) at incoming.now
+        (λ s. IsSent (K.rules scheme.now) s incoming.now catalog.now sender.now)
         (state D.Store store.old) (state D.Store store.new) result }
     ensures reads { Reads (state D.Store store.old) (state D.Store store.new) }
 {
@@ -195,8 +202,10 @@ fn decide_later<K: Scheme>(
     requires later { sender.now.vehicle.vehicle.last < incoming.now.manifest.counter }
     requires can { CanAnswer (K.rules scheme.now) sender.now }
     requires hashed { catalog.now.hashed ≡ hashed_roles (K.rules scheme.now) sender.now.founding.keys.director }
-    ensures { (s : State) → IsSound (K.rules scheme.now) s → IsSent (K.rules scheme.now) s incoming.now catalog.now sender.now
-        → GivesDelivered (K.rules scheme.now) s incoming.now.manifest.vehicle result (decide_incoming (K.rules scheme.now) s at incoming.now) }
+    ensures { (s : State) → IsSound (K.rules scheme.now) s
+        → IsSent (K.rules scheme.now) s incoming.now catalog.now sender.now
+        → GivesDelivered (K.rules scheme.now) s incoming.now.manifest.vehicle result
+        (decide_incoming (K.rules scheme.now) s at incoming.now) }
 {
     keep_ecus(keys, alloc, sender);
     let items = catalog

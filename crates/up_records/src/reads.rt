@@ -26,7 +26,8 @@ pub fn read_founding<K: Scheme, D: Alter>(
     scheme: &K,
 ) -> Result<Option<Founding>, StoreFault>
     ensures told { Tells (λ k s. founding_row s) (state D.Store store.old) (state D.Store store.new) result }
-    ensures blame { BlamesSound faults.Store (K.rules scheme.now) (state D.Store store.old) (state D.Store store.new) result }
+    ensures blame { BlamesSound faults.Store (K.rules scheme.now)
+        (state D.Store store.old) (state D.Store store.new) result }
     ensures reads { Reads (state D.Store store.old) (state D.Store store.new) }
     ensures fits { IfOk result (λ found. IfSome found (λ f. IsTrue (founding_fits_in (K.rules scheme.now) f))) }
 {
@@ -44,7 +45,8 @@ fn fitting_founding<K: Scheme>(
 ) -> Result<Option<Founding>, StoreFault>
     ensures went { IfOk result (λ same. same ≡ found) }
     ensures fits { IfOk result (λ same. IfSome same (λ f. IsTrue (founding_fits_in (K.rules scheme.now) f))) }
-    ensures fault { IfErr result (λ e. (e ≡ faults.Store) × IsSomeAnd found (λ f. founding_fits_in (K.rules scheme.now) f ≡ false)) }
+    ensures fault { IfErr result
+        (λ e. (e ≡ faults.Store) × IsSomeAnd found (λ f. founding_fits_in (K.rules scheme.now) f ≡ false)) }
 {
     match found {
         Some(founding) => {
@@ -64,7 +66,8 @@ pub fn read_vehicle<D: Alter>(
     alloc: Global,
     name: &Ident,
 ) -> Result<Option<VehicleRows>, StoreFault>
-    ensures told { Tells (λ k s. vehicle_rows_in s name.now) (state D.Store store.old) (state D.Store store.new) result }
+    ensures told { Tells (λ k s. vehicle_rows_in s name.now)
+        (state D.Store store.old) (state D.Store store.new) result }
     ensures blame { Blames (state D.Store store.old) (state D.Store store.new) result }
     ensures reads { Reads (state D.Store store.old) (state D.Store store.new) }
 {
@@ -87,8 +90,10 @@ pub fn read_fitting_vehicle<D: Alter>(
     alloc: Global,
     name: &Ident,
 ) -> Result<Option<VehicleRows>, StoreFault>
-    ensures told { Tells (λ k s. vehicle_rows_in s name.now) (state D.Store store.old) (state D.Store store.new) result }
-    ensures blame { (k : Rules) → BlamesSound faults.Store k (state D.Store store.old) (state D.Store store.new) result }
+    ensures told { Tells (λ k s. vehicle_rows_in s name.now)
+        (state D.Store store.old) (state D.Store store.new) result }
+    ensures blame { (k : Rules)
+        → BlamesSound faults.Store k (state D.Store store.old) (state D.Store store.new) result }
     ensures reads { Reads (state D.Store store.old) (state D.Store store.new) }
     ensures fits { IfOk result (λ found. IfSome found (λ v. IsTrue (rows_fit_in v))) }
 {
@@ -123,7 +128,8 @@ pub fn is_known<D: Alter>(
     alloc: Global,
     name: &Ident,
 ) -> Result<bool, StoreFault>
-    ensures told { Tells (λ k s. table.contains_key s.vehicles name.now) (state D.Store store.old) (state D.Store store.new) result }
+    ensures told { Tells (λ k s. table.contains_key s.vehicles name.now)
+        (state D.Store store.old) (state D.Store store.new) result }
     ensures blame { Blames (state D.Store store.old) (state D.Store store.new) result }
     ensures reads { Reads (state D.Store store.old) (state D.Store store.new) }
 {

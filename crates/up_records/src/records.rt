@@ -212,8 +212,10 @@ impl<D: Alter> Records<D> {
         requires moment { at ≤ last_command_moment }
         requires read { IsRead incoming.now }
         requires can { CanUse (K.rules scheme.now) (state D.Store self.old) }
-        ensures { Decides (K.rules scheme.now) (λ s. ⊤) (λ s. GivesDelivered (K.rules scheme.now) s incoming.now.manifest.vehicle)
-            (λ s. decide_incoming (K.rules scheme.now) s at incoming.now) (state D.Store self.old) (state D.Store self.new) result }
+        ensures { Decides (K.rules scheme.now) (λ s. ⊤)
+            (λ s. GivesDelivered (K.rules scheme.now) s incoming.now.manifest.vehicle)
+            (λ s. decide_incoming (K.rules scheme.now) s at incoming.now)
+            (state D.Store self.old) (state D.Store self.new) result }
     {
         decide(
             &mut self.store,

@@ -13,7 +13,8 @@ ghost use Rattle.up_machine.specs.Sound.{IsSound};
 ghost use Rattle.up_machine.specs.State.{State};
 ghost use Rattle.up_store.specs.Connections.{KeepsState};
 ghost use Rattle.up_tables.specs.Stands.{IfClean};
-ghost use Rattle.up_records.specs.Senders.{GivesKept, GivesSenderRows, GivesVehicle, IsSentBy, RefusesUnread, refused_by};
+ghost use Rattle.up_records.specs.Senders.{GivesKept, GivesSenderRows, GivesVehicle, IsSentBy, RefusesUnread};
+ghost use Rattle.up_records.specs.Senders.{refused_by};
 ghost use Rattle.up_records.specs.Connected.{BlamesDisk, BlamesSound, Reads};
 ghost use Rattle.up_records.specs.Catalogs.{AreFew, ArePrimaries, Come, IsOf, KeepsMore, StayKept};
 
@@ -60,9 +61,12 @@ pub(crate) fn read_sender<K: Scheme, D: Alter>(
     ensures came { HasCleanDisk (state D.Store store.new) → (s : State)
         → IfClean (KeepsState (K.rules scheme.now) s) (state D.Store store.old) → IsOf s catalog.old
         → Come (IsSentBy (K.rules scheme.now) incoming.now) catalog.old.primaries catalog.new.primaries }
-    ensures forged { IfSome (refused_by (K.rules scheme.now) catalog.old.primaries incoming.now) (RefusesUnread store.old store.new result) }
-    ensures left { IfSome (refused_by (K.rules scheme.now) catalog.old.primaries incoming.now) (λ r. catalog.new ≡ catalog.old) }
-    ensures blame { (s : State) → IsSound (K.rules scheme.now) s → IfClean (KeepsState (K.rules scheme.now) s) (state D.Store store.old)
+    ensures forged { IfSome (refused_by (K.rules scheme.now) catalog.old.primaries incoming.now)
+        (RefusesUnread store.old store.new result) }
+    ensures left { IfSome (refused_by (K.rules scheme.now) catalog.old.primaries incoming.now)
+        (λ r. catalog.new ≡ catalog.old) }
+    ensures blame { (s : State) → IsSound (K.rules scheme.now) s
+        → IfClean (KeepsState (K.rules scheme.now) s) (state D.Store store.old)
         → IsOf s catalog.old → BlamesDisk refusal.Store (state D.Store store.old) (state D.Store store.new) result }
     ensures reads { Reads (state D.Store store.old) (state D.Store store.new) }
 {
@@ -83,7 +87,8 @@ fn test_by_kept<K: Scheme>(
 ) -> Result<bool, Refusal>
     ensures sent { (s : State) → IsOf s catalog.now → GivesKept (K.rules scheme.now) s incoming.now result }
     ensures forged { IfSome (refused_by (K.rules scheme.now) catalog.now.primaries incoming.now) (λ r. result ≡ Err r) }
-    ensures kept { IfOk result (λ is_kept. MatchBool is_kept ⊤ (table.get catalog.now.primaries incoming.now.manifest.vehicle ≡ None)) }
+    ensures kept { IfOk result
+        (λ is_kept. MatchBool is_kept ⊤ (table.get catalog.now.primaries incoming.now.manifest.vehicle ≡ None)) }
 {
     let vehicle = incoming.manifest.vehicle.text();
     let Some(primary) = catalog.primaries.get(vehicle) else {
@@ -105,7 +110,8 @@ fn read_rows<D: Alter>(
     ensures told { HasCleanDisk (state D.Store store.new) → (k : Rules) (s : State)
         → IfClean (KeepsState k s) (state D.Store store.old) → GivesVehicle s vehicle.now result }
     ensures fits { IfOk result (λ rows. IsTrue (rows_fit rows)) }
-    ensures blame { (k : Rules) → BlamesSound refusal.Store k (state D.Store store.old) (state D.Store store.new) result }
+    ensures blame { (k : Rules)
+        → BlamesSound refusal.Store k (state D.Store store.old) (state D.Store store.new) result }
     ensures reads { Reads (state D.Store store.old) (state D.Store store.new) }
 {
     match read_fitting_vehicle(store, alloc, vehicle) {
@@ -136,7 +142,8 @@ fn read_first<K: Scheme, D: Alter>(
     ensures came { HasCleanDisk (state D.Store store.new) → (s : State)
         → IfClean (KeepsState (K.rules scheme.now) s) (state D.Store store.old) → IsOf s catalog.old
         → Come (IsSentBy (K.rules scheme.now) incoming.now) catalog.old.primaries catalog.new.primaries }
-    ensures blame { (s : State) → IsSound (K.rules scheme.now) s → IfClean (KeepsState (K.rules scheme.now) s) (state D.Store store.old)
+    ensures blame { (s : State) → IsSound (K.rules scheme.now) s
+        → IfClean (KeepsState (K.rules scheme.now) s) (state D.Store store.old)
         → IsOf s catalog.old → BlamesDisk refusal.Store (state D.Store store.old) (state D.Store store.new) result }
     ensures reads { Reads (state D.Store store.old) (state D.Store store.new) }
 {
@@ -161,7 +168,8 @@ fn test_by_rows<K: Scheme>(
     requires keys { IsTrue (founding_fits (K.rules scheme.now) catalog.old.founding) }
     requires rows { IsTrue (rows_fit rows.now) }
     requires first { table.get catalog.old.primaries incoming.now.manifest.vehicle ≡ None }
-    ensures sent { (s : State) → founding_row s ≡ Some catalog.old.founding → vehicle_rows s incoming.now.manifest.vehicle ≡ Some rows.now
+    ensures sent { (s : State) → founding_row s ≡ Some catalog.old.founding
+        → vehicle_rows s incoming.now.manifest.vehicle ≡ Some rows.now
         → GivesSent (K.rules scheme.now) s incoming.now result }
     ensures of { (s : State) → vehicle_rows s incoming.now.manifest.vehicle ≡ Some rows.now
         → ArePrimaries s catalog.old.primaries → ArePrimaries s catalog.new.primaries }
@@ -189,7 +197,8 @@ fn test_by_rows<K: Scheme>(
 /// vehicle's next manifest costs its rows again.
 fn keep_sender(kept: &mut Table<Primary>, alloc: Global, vehicle: &Ident, rows: &VehicleRows)
     requires { table.get kept.old vehicle.now ≡ None }
-    ensures of { (s : State) → vehicle_rows s vehicle.now ≡ Some rows.now → ArePrimaries s kept.old → ArePrimaries s kept.new }
+    ensures of { (s : State) → vehicle_rows s vehicle.now ≡ Some rows.now → ArePrimaries s kept.old
+        → ArePrimaries s kept.new }
     ensures stay { StayKept kept.old kept.new }
     ensures came { Come (λ name primary. name ≡ vehicle.now) kept.old kept.new }
     ensures few { AreFew kept.old → AreFew kept.new }
@@ -207,7 +216,8 @@ fn put_sender(
     rows: &VehicleRows,
 ) -> Result<(), AllocError>
     requires { table.get kept.old vehicle.now ≡ None }
-    ensures of { (s : State) → vehicle_rows s vehicle.now ≡ Some rows.now → ArePrimaries s kept.old → ArePrimaries s kept.new }
+    ensures of { (s : State) → vehicle_rows s vehicle.now ≡ Some rows.now → ArePrimaries s kept.old
+        → ArePrimaries s kept.new }
     ensures stay { StayKept kept.old kept.new }
     ensures came { Come (λ name primary. name ≡ vehicle.now) kept.old kept.new }
     ensures one { table.len kept.new ≤ table.len kept.old + 1 }

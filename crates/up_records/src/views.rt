@@ -1,7 +1,8 @@
 //! What is read of the inventory.
 ghost use Rattle.std.specs.Prelude.{◌≡◌, IfErr, IfOk, Some, map, option_and_then, find, bytes_eq, option_copied};
 ghost use Rattle.sqlite.specs.Held.{state};
-ghost use Rattle.up_machine.specs.Reads.{ecus_of as ecus_in, version_of as version_in, installed as installed_in, assigned_to};
+ghost use Rattle.up_machine.specs.Reads.{ecus_of as ecus_in, version_of as version_in, installed as installed_in};
+ghost use Rattle.up_machine.specs.Reads.{assigned_to};
 ghost use Rattle.up_rows.specs.Lookups.{installed_among};
 ghost use Rattle.up_tables.specs.declared.values.StoreFault.TheVariants as faults;
 ghost use Rattle.up_records.specs.Connected.{Blames, Reads, Tells};

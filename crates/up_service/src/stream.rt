@@ -50,17 +50,21 @@ pub fn serve_stream<K: Scheme, D: Alter, R: Source, W: Sink>(
 
     // Where it is known what the reader has, by its requests.
     ensures whole { IfOk result (λ served. IfSome (R.remaining reader.old) (λ input.
-        FinishedRequests (Responses (K.rules) D.Store at) input served.requests (record { state = desk.old; held = W.contents writer.old })
+        FinishedRequests (Responses (K.rules) D.Store at) input served.requests
+        (record { state = desk.old; held = W.contents writer.old })
         (record { state = desk.new; held = W.contents writer.new }))) }
     ensures prefix { IfErr result (λ fault. IfSome (R.remaining reader.old) (λ input.
-        AnswersFirst (Responses (K.rules) D.Store at) input fault (record { state = desk.old; held = W.contents writer.old })
+        AnswersFirst (Responses (K.rules) D.Store at) input fault
+        (record { state = desk.old; held = W.contents writer.old })
         (record { state = desk.new; held = W.contents writer.new }))) }
 
     // Nothing was tried twice: where it ended well the writer may be written again.
     ensures goes_on { OnOk result (W.can_write writer.new) }
 
     // What ended it is told of the part that failed, and a read that failed isn't taken for the stream's end.
-    ensures blames { IfErr result (λ fault. Blames (cause_of fault.cause) (R.has_failed reader.new) (R.can_read reader.new ⊎ R.has_ended reader.new)
+    ensures blames { IfErr result
+        (λ fault. Blames (cause_of fault.cause) (R.has_failed reader.new)
+        (R.can_read reader.new ⊎ R.has_ended reader.new)
         (W.has_failed writer.new) (W.can_write writer.new)) }
     ensures stands { OnOk result (R.can_read reader.new ⊎ R.has_ended reader.new) }
 {
