@@ -53,7 +53,7 @@ fn decide_opening<D: Alter>(
     requires { at ≤ last_command_moment }
     ensures { (k : Rules) → DecidesOpen D.Store k at campaign.now (λ s. ⊤) records.old records.new result }
 {
-    match records.is_founded() {
+    match records.is_founded(alloc) {
         Ok(founded) => decide_opening_founded(records, alloc, at, campaign, founded),
         Err(fault) => Err(refusal_of(fault)),
     }
@@ -168,7 +168,7 @@ pub fn close<D: Alter>(
 {
     match decide_closing(records, alloc, at, name) {
         Ok(Decision::Already) => Ok(Answer::Already),
-        Ok(Decision::New(row)) => done_of(records.write_close(alloc, &row)),
+        Ok(Decision::New(row)) => done_of(records.write_close(&row)),
         Err(refusal) => Err(refusal),
     }
 }
@@ -183,7 +183,7 @@ fn decide_closing<D: Alter>(
     requires { at ≤ last_command_moment }
     ensures { (k : Rules) → DecidesClose D.Store k at name.now (λ s. ⊤) records.old records.new result }
 {
-    let founded = match records.is_founded() {
+    let founded = match records.is_founded(alloc) {
         Ok(founded) => founded,
         Err(fault) => return Err(refusal_of(fault)),
     };

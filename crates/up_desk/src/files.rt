@@ -55,19 +55,23 @@ fn read_file<D: Alter>(
     rows_are_found();
     match records.file(alloc, repository, name) {
         Ok(Some(text)) => decide_fetch(at, true, Some(text)),
-        Ok(None) => decide_missing(records, at),
+        Ok(None) => decide_missing(records, alloc, at),
         Err(fault) => Err(refusal_of(fault)),
     }
 }
 
 /// Decides where there is no such file: whether the repositories are founded is read for the refusal alone.
-fn decide_missing<D: Alter>(records: &mut Records<D>, at: Moment) -> Result<Text, Refusal>
+fn decide_missing<D: Alter>(
+    records: &mut Records<D>,
+    alloc: Global,
+    at: Moment,
+) -> Result<Text, Refusal>
     requires { at ≤ last_command_moment }
     ensures { (k : Rules) (repository : RepositoryName) (name : Name)
         → DecidesFile D.Store k at repository name (λ s. None ≡ file k s repository name)
         records.old records.new result }
 {
-    match records.is_founded() {
+    match records.is_founded(alloc) {
         Ok(founded) => decide_fetch(at, founded, None),
         Err(fault) => Err(refusal_of(fault)),
     }

@@ -65,7 +65,7 @@ fn add_fitting<K: Scheme, D: Alter>(
 {
     match decide_adding_vehicle(records, alloc, scheme, at, new) {
         Ok(Decision::Already) => Ok(Answer::Already),
-        Ok(Decision::New(rows)) => done_of(records.write_vehicle(alloc, &rows)),
+        Ok(Decision::New(rows)) => done_of(records.write_vehicle(&rows)),
         Err(refusal) => Err(refusal),
     }
 }
@@ -81,7 +81,7 @@ fn decide_adding_vehicle<K: Scheme, D: Alter>(
     requires { at ≤ last_command_moment }
     ensures { DecidesVehicle D.Store (K.rules scheme.now) at new.now (λ s. ⊤) records.old records.new result }
 {
-    match records.is_founded() {
+    match records.is_founded(alloc) {
         Ok(founded) => decide_vehicle_founded(records, alloc, scheme, at, new, founded),
         Err(fault) => Err(refusal_of(fault)),
     }
@@ -137,7 +137,7 @@ fn taken_marks<D: Alter>(
 {
     let mut marks = Vec::with_capacity(alloc, ecus.len())?;
     for ecu in ecus {
-        match records.is_taken(alloc, &ecu.ecu) {
+        match records.is_taken(&ecu.ecu) {
             Ok(is_taken) => marks.push(is_taken)?,
             Err(fault) => return Err(fault),
         }

@@ -142,7 +142,7 @@ pub fn refresh<K: Scheme, D: Alter>(
         records.old records.new result }
 {
     match decide_refreshing(records, alloc, scheme, at, version) {
-        Ok(rows) => done_of(records.write_refresh(alloc, &rows)),
+        Ok(rows) => done_of(records.write_refresh(&rows)),
         Err(refusal) => Err(refusal),
     }
 }

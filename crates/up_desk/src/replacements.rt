@@ -58,7 +58,7 @@ fn replace_fitting<K: Scheme, D: Alter>(
         records.old records.new result }
 {
     match decide_replacing(records, alloc, scheme, at, new) {
-        Ok(()) => done_of(records.write_replace(alloc, new)),
+        Ok(()) => done_of(records.write_replace(new)),
         Err(refusal) => Err(refusal),
     }
 }
@@ -74,7 +74,7 @@ fn decide_replacing<K: Scheme, D: Alter>(
     requires { at ≤ last_command_moment }
     ensures { DecidesReplace D.Store (K.rules scheme.now) at new.now (λ s. ⊤) records.old records.new result }
 {
-    match records.is_founded() {
+    match records.is_founded(alloc) {
         Ok(founded) => decide_replacing_founded(records, alloc, scheme, at, new, founded),
         Err(fault) => Err(refusal_of(fault)),
     }
@@ -121,7 +121,7 @@ fn decide_replacing_in<K: Scheme, D: Alter>(
     ensures { DecidesReplace D.Store (K.rules scheme.now) at new.now (λ s. (founded ≡ is_some (founding_row s))
         × (option_copied vehicle.entry ≡ vehicle_rows s new.now.vehicle)) records.old records.new result }
 {
-    match records.is_taken(alloc, &new.ecu.ecu) {
+    match records.is_taken(&new.ecu.ecu) {
         Ok(taken) => decide_replace(alloc, scheme, at, new, founded, vehicle, taken),
         Err(fault) => Err(refusal_of(fault)),
     }

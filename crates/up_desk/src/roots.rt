@@ -55,7 +55,7 @@ fn decide_founding<K: Scheme, D: Alter>(
     requires { at ≤ last_command_moment }
     ensures { DecidesFound D.Store (K.rules scheme.now) at keys.now (λ s. ⊤) records.old records.new result }
 {
-    match records.is_founded() {
+    match records.is_founded(alloc) {
         Ok(founded) => decide_founding_anew(records, alloc, scheme, at, keys, founded),
         Err(fault) => Err(refusal_of(fault)),
     }

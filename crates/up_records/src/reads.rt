@@ -141,17 +141,13 @@ pub fn is_known<D: Alter>(
 }
 
 /// Whether the name is that of an ECU of any vehicle, or of one that was replaced.
-pub fn is_taken<D: Alter>(
-    store: &mut Store<D>,
-    alloc: Global,
-    ecu: &Ident,
-) -> Result<bool, StoreFault>
+pub fn is_taken<D: Alter>(store: &mut Store<D>, ecu: &Ident) -> Result<bool, StoreFault>
     ensures told { Tells (λ k s. is_taken_in s ecu.now) (state D.Store store.old) (state D.Store store.new) result }
     ensures blame { Blames (state D.Store store.old) (state D.Store store.new) result }
     ensures reads { Reads (state D.Store store.old) (state D.Store store.new) }
 {
     rows_are_found();
-    match store.ecu_owner(alloc, ecu) {
+    match store.ecu_owner(ecu) {
         Ok(owner) => Ok(owner.is_some()),
         Err(fault) => Err(fault),
     }

@@ -90,10 +90,10 @@ impl<D: Alter> Records<D> {
     }
 
     /// Whether the repositories are founded.
-    pub fn is_founded(&mut self) -> Result<bool, StoreFault>
+    pub fn is_founded(&mut self, alloc: Global) -> Result<bool, StoreFault>
         ensures { Finds D.Store (λ k s. is_some (founding_row s)) self.old self.new result }
     {
-        self.store.is_founded()
+        self.store.is_founded(alloc)
     }
 
     /// The founding's row, none before founding. `Store` where its keys can't sign, which no call of this product leaves.
@@ -151,10 +151,10 @@ impl<D: Alter> Records<D> {
     }
 
     /// Whether the name is that of an ECU of any vehicle, or of one that was replaced.
-    pub fn is_taken(&mut self, alloc: Global, ecu: &Ident) -> Result<bool, StoreFault>
+    pub fn is_taken(&mut self, ecu: &Ident) -> Result<bool, StoreFault>
         ensures { Finds D.Store (λ k s. is_taken_in s ecu.now) self.old self.new result }
     {
-        is_taken(&mut self.store, alloc, ecu)
+        is_taken(&mut self.store, ecu)
     }
 
     /// The rows of a vehicle, none of an unknown one.
@@ -261,33 +261,33 @@ impl<D: Alter> Records<D> {
     }
 
     /// Writes new files of the image repository.
-    pub fn write_refresh(&mut self, alloc: Global, new: &RegisterRows) -> Result<(), StoreFault>
+    pub fn write_refresh(&mut self, new: &RegisterRows) -> Result<(), StoreFault>
         ensures { Writes D.Store (λ k. RefreshesWith k new.now) self.old self.new result }
     {
         images_are_added();
         self.catalog = None; // its numbers are those before the refresh
-        self.store.write_refresh(alloc, new)
+        self.store.write_refresh(new)
     }
 
     /// Writes a vehicle whose name is new, with its ECUs.
-    pub fn write_vehicle(&mut self, alloc: Global, new: &VehicleRows) -> Result<(), StoreFault>
+    pub fn write_vehicle(&mut self, new: &VehicleRows) -> Result<(), StoreFault>
         ensures { Writes D.Store (λ k. AddsVehicleWith k new.now) self.old self.new result }
     {
         rows_are_found();
         vehicles_are_added();
         ecus_tell_their_hash();
         self.catalog = None; // it may be of a vehicle that is not this one
-        self.store.write_vehicle(alloc, new)
+        self.store.write_vehicle(new)
     }
 
     /// Puts an ECU, before its first report, in the place of one of its vehicle, whose identifier is retired.
-    pub fn write_replace(&mut self, alloc: Global, new: &Replacement) -> Result<(), StoreFault>
+    pub fn write_replace(&mut self, new: &Replacement) -> Result<(), StoreFault>
         ensures { Writes D.Store (λ k. ReplacesWith k new.now) self.old self.new result }
     {
         rows_are_found();
         ecus_are_replaced();
         self.catalog = None; // the Primary of the vehicle may change
-        self.store.write_replace(alloc, new)
+        self.store.write_replace(new)
     }
 
     /// Writes a campaign whose name is new.
@@ -300,12 +300,12 @@ impl<D: Alter> Records<D> {
     }
 
     /// Closes a campaign that is there: `closed` is the same, not running.
-    pub fn write_close(&mut self, alloc: Global, closed: &Campaign) -> Result<(), StoreFault>
+    pub fn write_close(&mut self, closed: &Campaign) -> Result<(), StoreFault>
         ensures { Writes D.Store (λ k. ClosesWith closed.now) self.old self.new result }
     {
         campaigns_are_written();
         self.catalog = None; // its campaigns have the closed one
-        self.store.write_close(alloc, closed)
+        self.store.write_close(closed)
     }
 
     /// Writes an accepted manifest: its vehicle's row, what its ECUs reported, and the row that is kept for it. What is kept in memory stays.

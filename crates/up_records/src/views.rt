@@ -83,7 +83,7 @@ pub fn installed_on<D: Alter>(
     ensures reads { Reads (state D.Store store.old) (state D.Store store.new) }
 {
     views_are_told();
-    let owner = match store.ecu_owner(alloc, ecu) {
+    let owner = match store.ecu_owner(ecu) {
         Ok(Some(owner)) => owner,
         Ok(None) => return Ok(None),
         Err(fault) => return Err(fault),

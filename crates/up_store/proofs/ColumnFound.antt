@@ -21,21 +21,18 @@ use Rattle.up_machine.specs.declared.rows.VehicleRow.{VehicleRow}
 use Rattle.up_machine.specs.declared.rows.VehicleRows.{VehicleRows}
 use Rattle.up_rows.specs.StateRows.{StateRows}
 use Rattle.up_rows.specs.Lookups.{kept_with, latest_kept}
-use Rattle.up_tables.specs.declared.campaign.CampaignRow.{CampaignRow}
-use Rattle.up_tables.specs.declared.image.ImageRow.{ImageRow}
-use Rattle.up_tables.specs.declared.vehicle.VehicleRow.{VehicleRow as VehicleShown}
-use Rattle.up_tables.specs.Forms.{image_places, image_row, campaign_places, campaign_row, vehicle_places, vehicle_row}
+use Rattle.up_store.specs.declared.campaign_rows.CampaignShown.{CampaignShown}
+use Rattle.up_store.specs.declared.image_rows.ImageShown.{ImageShown}
+use Rattle.up_tables.specs.Forms.{image_places, campaign_places}
 use Rattle.up_tables.specs.Lines.{yes_or_no}
 use Rattle.up_tables.specs.Rows.{columns_at, has_number}
 use Rattle.up_tables.specs.Stands.{IsWith, IsWithin, HasTables, Reads, Lists}
-use Rattle.up_tables.specs.Tables.{up_schema, image_table, campaign_table, vehicle_table}
+use Rattle.up_tables.specs.Tables.{up_schema, image_table, campaign_table}
 use Rattle.up_store.specs.ColumnRows.{IsImage, IsCampaign, AreImages, AreRunning, last_found}
 use Rattle.up_store.specs.Found.{vehicle_found}
-use Rattle.up_store.specs.Lines.{image_lines, campaign_lines}
+use Rattle.up_store.specs.Lines.{campaign_shown_line, image_shown_line, image_lines, campaign_lines}
 use Rattle.up_store.specs.Listing.{ListsRows}
-use Rattle.up_store.specs.Shown.{vehicle_read}
 use Rattle.up_store.specs.Typed.{AreTyped, IsTypedImage, IsTypedCampaign}
-use Rattle.up_store.proofs.VehicleReads.{vehicle_in}
 
 -- ---- within a transaction
 
@@ -132,20 +129,20 @@ module _ {X R : Type 0} (t : NamedRows X R) where
   none_found rows name before after found is reads shows within =
       sym (none (table.get (t.values rows) name) (rows_are rows name before after found reads shows within ∙ ap (λ o. map t.row_of (option_to_list o)) is))
 
-pub image_shown : (image : ImageData) (shown : ImageRow) → image_lines (Some image) ≡ image_row shown ∷ [] → IsImage shown image
+pub image_shown : (image : ImageData) (shown : ImageShown) → image_lines (Some image) ≡ image_shown_line shown ∷ [] → IsImage shown image
 image_shown image shown h = record { file = cc; length = cc; sha256 = cc; hardware = cc; release = cc; needs = cc; conflicts = cc }
 
-pub no_image : (shown : ImageRow) → [] ≡ image_row shown ∷ [] → ⊥
+pub no_image : (shown : ImageShown) → [] ≡ image_shown_line shown ∷ [] → ⊥
 no_image shown h = cc
 
 pub one_image : (image : ImageData) → map (columns_at image_places) (image_lines (Some image)) ≡ [] → ⊥
 one_image image h = cc
 
-abbrev pub images : NamedRows ImageData ImageRow
+abbrev pub images : NamedRows ImageData ImageShown
 images = record {
   listed = image_table;
   places = image_places;
-  row_of = image_row;
+  row_of = image_shown_line;
   lines = image_lines;
   values = λ rows. rows.images;
   IsRow = IsImage;
@@ -163,20 +160,20 @@ same_yes true false h = cc
 same_yes false true h = cc
 same_yes false false h = refl
 
-pub campaign_shown : (campaign : CampaignData) (shown : CampaignRow) → campaign_lines (Some campaign) ≡ campaign_row shown ∷ [] → IsCampaign shown campaign
+pub campaign_shown : (campaign : CampaignData) (shown : CampaignShown) → campaign_lines (Some campaign) ≡ campaign_shown_line shown ∷ [] → IsCampaign shown campaign
 campaign_shown campaign shown h = record { name = cc; reach = cc; items = cc; running = let same : yes_or_no shown.running ≡ yes_or_no campaign.running = cc in same_yes shown.running campaign.running same }
 
-pub no_campaign : (shown : CampaignRow) → [] ≡ campaign_row shown ∷ [] → ⊥
+pub no_campaign : (shown : CampaignShown) → [] ≡ campaign_shown_line shown ∷ [] → ⊥
 no_campaign shown h = cc
 
 pub one_campaign : (campaign : CampaignData) → map (columns_at campaign_places) (campaign_lines (Some campaign)) ≡ [] → ⊥
 one_campaign campaign h = cc
 
-abbrev pub campaigns : NamedRows CampaignData CampaignRow
+abbrev pub campaigns : NamedRows CampaignData CampaignShown
 campaigns = record {
   listed = campaign_table;
   places = campaign_places;
-  row_of = campaign_row;
+  row_of = campaign_shown_line;
   lines = campaign_lines;
   values = λ rows. rows.campaigns;
   IsRow = IsCampaign;
@@ -197,13 +194,13 @@ columns_are : (o : Option ImageData) → map (columns_at image_places) (image_li
 columns_are None = refl
 columns_are (Some image) = refl
 
-abbrev ShowsImages : List ImageRow → Connected → Type 0
+abbrev ShowsImages : List ImageShown → Connected → Type 0
 ShowsImages found before =
     (rows_of : List ℕ → List Row) → HasTables before → Lists 1 rows_of (before.now.trees image_table.tree)
-    → (name : List ℕ) → map (columns_at image_places) (rows_of name) ≡ map image_row (filter (λ (i : ImageRow). bytes_eq (string_bytes i.file) name) found)
+    → (name : List ℕ) → map (columns_at image_places) (rows_of name) ≡ map image_shown_line (filter (λ (i : ImageShown). bytes_eq i.file name) found)
 
 -- the rows that are found are those of the images
-pub are_images : (rows : StateRows) (before after : Connected) (found : List ImageRow) → Reads before after → ShowsImages found before
+pub are_images : (rows : StateRows) (before after : Connected) (found : List ImageShown) → Reads before after → ShowsImages found before
     → IsWithin up_schema (ListsRows rows) before → AreImages found rows.images
 are_images rows before after found reads shows within =
     let has = has_tables rows before within in
@@ -229,13 +226,13 @@ runs (Some c) = passed c.running ∙ lines_of c.running refl
     lines_of true is = ap (λ r. row_with c r ∷ []) (sym is)
     lines_of false is = refl
 
-abbrev ShowsRunning : List CampaignRow → Connected → Type 0
+abbrev ShowsRunning : List CampaignShown → Connected → Type 0
 ShowsRunning found before =
     (rows_of : List ℕ → List Row) → HasTables before → Lists 1 rows_of (before.now.trees campaign_table.tree)
-    → (name : List ℕ) → map (columns_at campaign_places) (filter (has_number 3 (pos 1)) (rows_of name)) ≡ map campaign_row (filter (λ (c : CampaignRow). bytes_eq (string_bytes c.name) name) found)
+    → (name : List ℕ) → map (columns_at campaign_places) (filter (has_number 3 (pos 1)) (rows_of name)) ≡ map campaign_shown_line (filter (λ (c : CampaignShown). bytes_eq c.name name) found)
 
 -- the rows that are found are those of the running campaigns
-pub are_running : (rows : StateRows) (before after : Connected) (found : List CampaignRow) → Reads before after → ShowsRunning found before
+pub are_running : (rows : StateRows) (before after : Connected) (found : List CampaignShown) → Reads before after → ShowsRunning found before
     → IsWithin up_schema (ListsRows rows) before → AreRunning found rows.campaigns
 are_running rows before after found reads shows within =
     let has = has_tables rows before within in
@@ -245,8 +242,6 @@ are_running rows before after found reads shows within =
       each = λ name. sym (runs (table.get rows.campaigns name)) ∙ shows (λ n. campaign_lines (table.get rows.campaigns n)) has here.rows.tables.campaigns name;
     }
 
--- ---- kept manifests
-
 -- ---- the latest manifest
 
 pub last_told : (rows : StateRows) (vehicle : Name) → option_map (λ (r : VehicleRow). r.last) (vehicle_found vehicle rows) ≡ last_found vehicle rows
@@ -255,12 +250,6 @@ last_told rows vehicle = by_vehicle (table.get rows.vehicles vehicle)
     by_vehicle : (o : Option VehicleRows) → option_map (λ (r : VehicleRow). r.last) (option_map (λ (v : VehicleRows). v.vehicle) o) ≡ option_map (λ (v : VehicleRows). v.vehicle.last) o
     by_vehicle None = refl
     by_vehicle (Some v) = refl
-
-pub last_in : (rows : StateRows) (name : Name) (before after : Connected) (found is : Option VehicleShown) → is ≡ found → Reads before after
-    → ((rows_of : List ℕ → List Row) → HasTables before → Lists 1 rows_of (before.now.trees vehicle_table.tree) → map (columns_at vehicle_places) (rows_of name) ≡ map vehicle_row (option_to_list found))
-    → IsWithin up_schema (ListsRows rows) before → option_map (λ (r : VehicleRow). r.last) (option_map vehicle_read is) ≡ last_found name rows
-last_in rows name before after found is same reads shows within =
-    ap (option_map (λ (r : VehicleRow). r.last)) (ap (option_map vehicle_read) same ∙ vehicle_in rows name before after found reads shows within) ∙ last_told rows name
 
 -- the vehicle's greatest counter is the latest one's
 pub latest_is : (rows : StateRows) (vehicle : Name) (last : ℕ) → Some last ≡ last_found vehicle rows → kept_with vehicle last rows ≡ latest_kept vehicle rows
@@ -278,7 +267,3 @@ latest_unknown rows vehicle h = by_vehicle (table.get rows.vehicles vehicle) h
     by_vehicle (Some v) h = cc
 
 -- ---- what a read of any rows answers
-
-pub each_ok : {A E B : Type 0} (r : Result A E) (P : B → Type 0) (Q : A → B → Type 0) → ((b : B) → P b → IfOk r (λ x. Q x b)) → IfOk r (λ x. (b : B) → P b → Q x b)
-each_ok (Ok x) P Q h = h
-each_ok (Err e) P Q h = tt

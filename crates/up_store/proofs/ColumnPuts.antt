@@ -24,9 +24,9 @@ use Rattle.up_tables.specs.Rows.{changed_at, with_row}
 use Rattle.up_tables.specs.Stands.{IsWithin, GoesOn, HasTables, Alters, Lists}
 use Rattle.up_tables.specs.Tables.{up_schema, image_table, image_sha512_table, campaign_table, kept_table}
 use Rattle.up_tables.proofs.ListedLemmas.{goes_on, lists_images, lists_sha512s, lists_campaigns, lists_kept}
-use Rattle.up_store.specs.ColumnRows.{IsImage, IsCampaign, with_image, with_kept}
+use Rattle.up_store.specs.ColumnRows.{with_image, with_kept}
 use Rattle.up_store.specs.Fitting.{IsNewCampaign, IsNewImage, IsSameRoot}
-use Rattle.up_store.specs.Lines.{image_lines, second_hash, sha512_lines, campaign_lines, kept_line}
+use Rattle.up_store.specs.Lines.{image_line, image_lines, line_of_campaign, second_hash, sha512_lines, campaign_lines, kept_line}
 use Rattle.up_store.specs.Listing.{ListsRows, table_rows}
 use Rattle.up_store.specs.Puts.{with_image_line, with_sha512_line}
 use Rattle.up_store.specs.Typed.{IsTypedImage, IsTypedCampaign}
@@ -58,20 +58,16 @@ puts_named (Ok done) listed lines values name x made_name row Fits next before a
 
 -- ---- images
 
-pub image_is : (made : ImageRow) (image : ImageData) → IsImage made image → image_row made ∷ [] ≡ image_lines (Some image)
-image_is made image is = λ i.
-    (Text (is.file i) ∷ Int (pos (is.length i)) ∷ Blob (is.sha256 i) ∷ Text (is.hardware i) ∷ Int (pos (is.release i)) ∷ Text (is.needs i) ∷ Text (is.conflicts i) ∷ []) ∷ []
-
-pub puts_image : {A : Type 0} (r : Result A StoreFault) (image : ImageData) (made : ImageRow) (before after : Connected) → IsImage made image
-    → OnOk r ((rows_of : List ℕ → List Row) → HasTables before → Lists 1 rows_of (before.now.trees image_table.tree) → Alters image_table (Lists 1 (with_row (string_bytes made.file) (image_row made) rows_of)) before after)
+pub puts_image : {A : Type 0} (r : Result A StoreFault) (image : ImageData) (made : ImageRow) (before after : Connected) → image_row made ≡ image_line image
+    → OnOk r ((rows_of : List ℕ → List Row) → HasTables before → Lists 1 rows_of (before.now.trees image_table.tree) → Alters image_table (Lists 1 (with_row made.file.now (image_row made) rows_of)) before after)
     → OnOk r (IsTrue before.is_open) → OnOk r ((rows : TableRows) → IsWithin up_schema (ListsTables rows) before → Unit {0} → GoesOn up_schema (ListsTables (with_image_line image rows)) after)
 puts_image (Err e) image made before after is puts was_open = tt
 puts_image (Ok done) image made before after is puts was_open = λ rows within fits.
     let here = within.here was_open in
     let images : List ℕ → List Row = changed_at image.file (λ were. were ++ image_lines (Some image)) rows.images in
     let put = puts rows.images (λ _. record { schema_is = here.schema_is; sound = here.sound; rows = tt }) here.rows.images in
-    let named : (n : List ℕ) → with_row (string_bytes made.file) (image_row made) rows.images n ≡ images n =
-    λ n. ap (λ m. with_row m (image_row made) rows.images n) is.file ∙ ap (λ (more : List Row). changed_at image.file (λ were. were ++ more) rows.images n) (image_is made image is) in
+    let named : (n : List ℕ) → with_row made.file.now (image_row made) rows.images n ≡ images n =
+    λ n. ap (λ m. with_row m (image_row made) rows.images n) (let e = is in cc) ∙ ap (λ (row : Row). changed_at image.file (λ were. were ++ row ∷ []) rows.images n) is in
     let now : Alters image_table (Lists 1 images) before after = alters_as image_table _ _ (λ trees. lists_as 1 _ _ trees named) before after put in
     goes_on image_table _ (ListsTables (with_image_line image rows)) before after now (lists_images rows images before after here.rows now)
 
@@ -167,15 +163,12 @@ puts_both (Ok done) image new before mid after first second = λ rows within fit
 
 -- ---- campaigns
 
-pub campaign_is : (made : CampaignRow) (campaign : CampaignData) → IsCampaign made campaign → campaign_row made ∷ [] ≡ campaign_lines (Some campaign)
-campaign_is made campaign is = λ i. (Text (is.name i) ∷ Text (is.reach i) ∷ Text (is.items i) ∷ Int (yes_or_no (is.running i)) ∷ []) ∷ []
-
-pub puts_campaign : {A : Type 0} (r : Result A StoreFault) (new : CampaignData) (made : CampaignRow) (before after : Connected) → IsCampaign made new → IsTypedCampaign new.name new
-    → OnOk r ((rows_of : List ℕ → List Row) → HasTables before → Lists 1 rows_of (before.now.trees campaign_table.tree) → Alters campaign_table (Lists 1 (with_row (string_bytes made.name) (campaign_row made) rows_of)) before after)
+pub puts_campaign : {A : Type 0} (r : Result A StoreFault) (new : CampaignData) (made : CampaignRow) (before after : Connected) → campaign_row made ≡ line_of_campaign new → IsTypedCampaign new.name new
+    → OnOk r ((rows_of : List ℕ → List Row) → HasTables before → Lists 1 rows_of (before.now.trees campaign_table.tree) → Alters campaign_table (Lists 1 (with_row made.name.now (campaign_row made) rows_of)) before after)
     → OnOk r (IsTrue before.is_open) → OnOk r ((rows : StateRows) → IsWithin up_schema (ListsRows rows) before → IsNewCampaign new rows → GoesOn up_schema (ListsRows (with_campaign_row rows new)) after)
 puts_campaign r new made before after is typed puts was_open =
-    puts_named r campaign_table campaign_lines (λ rows. rows.campaigns) new.name new (string_bytes made.name) (campaign_row made) (IsNewCampaign new) (λ rows. with_campaign_row rows new) before after (λ rows fits. fits)
-    refl (sym (campaign_is made new is)) is.name (λ rows lists. lists.tables.campaigns)
+    puts_named r campaign_table campaign_lines (λ rows. rows.campaigns) new.name new made.name.now (campaign_row made) (IsNewCampaign new) (λ rows. with_campaign_row rows new) before after (λ rows fits. fits)
+    refl (ap (λ (row : Row). row ∷ []) (sym is)) (let e = is in cc) (λ rows lists. lists.tables.campaigns)
     (λ rows lists now. record { last = lists.last; numbered = lists.numbered; typed = typed_campaign rows new lists.typed typed; tables = lists_campaigns (table_rows rows) _ before after lists.tables now }) puts was_open
 
 -- ---- kept manifests

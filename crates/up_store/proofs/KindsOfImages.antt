@@ -17,26 +17,27 @@ use Rattle.up_columns.proofs.NeedsRead.{needs-canon}
 use Rattle.up_plan.specs.Images.{ImageData}
 use Rattle.up_plan.specs.declared.image.Need.{Need}
 use Rattle.up_rows.specs.StateRows.{StateRows}
-use Rattle.up_tables.specs.Kinds.{IsWords, ShowsOne, ShowsImage}
+use Rattle.up_tables.specs.Kinds.{IsWords}
 use Rattle.up_tables.specs.Statements.{HoldsBy}
 use Rattle.up_tables.specs.Tables.{image_table, image_sha512_table, up_schema}
-use Rattle.up_tables.specs.Forms.{sha512_places}
+use Rattle.up_tables.specs.Forms.{image_places, sha512_places}
 use Rattle.up_tables.specs.Rows.{bare, columns_at, has_text}
 use Rattle.up_tables.specs.Stands.{HasTables, IsWith, IsWithin, Lists, ListsAll, Reads}
 use Rattle.up_tables.specs.Stored.{AreLines, EachSays, IsLine, IsTold, Tells}
-use Rattle.up_tables.proofs.ByNameLemmas.{each_named, filter_true, map_filter, named_parts}
-use Rattle.up_tables.proofs.EcuRows.{column_after, text_is}
-use Rattle.up_tables.proofs.ReadLemmas.{bare_filter}
-use Rattle.up_tables.proofs.SaysLemmas.{each_said, same_values, says_passing, values_there}
+use Rattle.up_tables.proofs.ByNameLemmas.{each_named, filter_true, named_parts}
+use Rattle.up_tables.proofs.EcuRows.{text_is}
+use Rattle.up_tables.proofs.SaysLemmas.{each_said, lines_said, same_values, values_there}
 use Rattle.up_tables.proofs.Sha512Lemmas.{sha512s_listed}
+use Rattle.up_store.specs.declared.image_rows.ImageShown.{ImageShown}
 use Rattle.up_store.specs.declared.second_hashes.SecondHash.{SecondHash}
 use Rattle.up_store.specs.ColumnRows.{AreSha512s}
-use Rattle.up_store.specs.Lines.{hash_line, image_lines, second_hash, sha512_lines}
+use Rattle.up_store.specs.Lines.{hash_line, image_lines, image_shown_line, second_hash, sha512_lines}
 use Rattle.up_store.specs.Listing.{ListsRows}
-use Rattle.up_store.specs.Typed.{AreTyped, IsTypedHash, IsTypedImage}
-use Rattle.up_store.specs.ReadAs.{SaysHash}
+use Rattle.up_store.specs.Typed.{AreTyped, IsTypedHash, IsTypedImage, IsTypedImageRow}
+use Rattle.up_store.specs.ReadAs.{SaysHash, SaysImage}
+use Rattle.up_store.proofs.ByName.{said_by_name}
 use Rattle.up_store.proofs.ColumnFound.{has_tables}
-use Rattle.up_store.proofs.KindsOfTexts.{file_name, canonical}
+use Rattle.up_store.proofs.KindsOfTexts.{file_name, canonical, utf8}
 
 -- ---- images
 
@@ -52,18 +53,60 @@ needs_words : (needs : List Need) → list_all is_typed_need needs ≡ true → 
 unfolding needs_column
 needs_words needs h = canonical (needs_data needs) (needs-canon needs h)
 
-image_shows : (o : Option ImageData) (name : Name) → ((image : ImageData) → o ≡ Some image → IsTypedImage name image) → ShowsOne ShowsImage (image_lines o)
-image_shows None name typed = (omega arith, tt)
-image_shows (Some i) name typed =
-    let t = typed i refl in
-    (omega arith, ((file_name i.file t.file_name, (i.length, refl), (i.sha256, refl), names_words i.hardware t.hardware, (i.release, refl), needs_words i.needs t.needs, file_names_words i.conflicts t.conflicts), tt))
+-- as it is read
+abbrev shown_of : ImageData → ImageShown
+shown_of i = record {
+  file = i.file;
+  length = i.length;
+  sha256 = i.sha256;
+  hardware = names_column i.hardware;
+  release = i.release;
+  needs = needs_column i.needs;
+  conflicts = names_column i.conflicts;
+}
 
-pub holds_image : (file : Name) (s : Connected) (rows : StateRows) → ListsRows rows s.now.trees → HoldsBy image_table 1 (λ rows_of. ShowsOne ShowsImage (rows_of file)) s
-holds_image file s rows lists = ((λ name. image_lines (table.get rows.images name)), lists.tables.images, image_shows (table.get rows.images file) file (lists.typed.images file))
+image_typed : (i : ImageData) (name : Name) → IsTypedImage name i → IsTypedImageRow (shown_of i)
+image_typed i name t = record {
+  file = t.file_name;
+  size = t.size;
+  sha256 = t.sha256;
+  hardware = utf8 _ (names_words i.hardware t.hardware);
+  release = t.release;
+  needs = utf8 _ (needs_words i.needs t.needs);
+  conflicts = utf8 _ (file_names_words i.conflicts t.conflicts);
+}
 
-pub holds_images : (s : Connected) (rows : StateRows) → ListsRows rows s.now.trees → HoldsBy image_table 1 (λ rows_of. (name : List ℕ) → AllByRecursion ShowsImage (rows_of name)) s
-holds_images s rows lists =
-    ((λ name. image_lines (table.get rows.images name)), lists.tables.images, (λ name. (image_shows (table.get rows.images name) name (lists.typed.images name)).1))
+pub holds_image : (file : Name) (s : Connected) (rows : StateRows) → ListsRows rows s.now.trees → HoldsBy image_table 1 (λ rows_of. AreLines IsTypedImageRow image_shown_line (map (columns_at image_places) (rows_of file))) s
+holds_image file s rows lists = ((λ name. image_lines (table.get rows.images name)), lists.tables.images, by_image (table.get rows.images file) (lists.typed.images file))
+  where
+    by_image : (o : Option ImageData) → ((image : ImageData) → o ≡ Some image → IsTypedImage file image) → AreLines IsTypedImageRow image_shown_line (map (columns_at image_places) (image_lines o))
+    by_image None typed = (None, tt, refl)
+    by_image (Some i) typed = (Some (shown_of i), (image_typed i file (typed i refl), tt), refl)
+
+pub holds_images : (s : Connected) (rows : StateRows) → ListsRows rows s.now.trees
+    → HoldsBy image_table 1 (λ rows_of. (name : List ℕ) → AllByRecursion (IsLine IsTypedImageRow image_shown_line) (map (columns_at image_places) (rows_of name))) s
+holds_images s rows lists = ((λ name. image_lines (table.get rows.images name)), lists.tables.images, λ name. by_image name (table.get rows.images name) (lists.typed.images name))
+  where
+    by_image : (name : Name) (o : Option ImageData) → ((image : ImageData) → o ≡ Some image → IsTypedImage name image) → AllByRecursion (IsLine IsTypedImageRow image_shown_line) (map (columns_at image_places) (image_lines o))
+    by_image name None typed = tt
+    by_image name (Some i) typed = ((shown_of i, image_typed i name (typed i refl), refl), tt)
+
+-- what a row says is its line
+image_said : (r : Row) (i : ImageShown) → SaysImage (columns_at image_places r) i → columns_at image_places r ≡ image_shown_line i
+image_said r i said = rw (said.file.0, said.length, said.sha256, said.hardware.0, said.release, said.needs.0, said.conflicts.0) refl
+
+pub image_lines_said : (rows : List Row) (found : List ImageShown) → EachSays SaysImage (map (columns_at image_places) rows) found → map (columns_at image_places) rows ≡ map image_shown_line found
+image_lines_said = lines_said SaysImage image_shown_line (columns_at image_places) image_said
+
+-- the rows of a name say those that have it
+pub images_by_name : (rows : List Row) (rows_of : List ℕ → List Row) (found : List ImageShown) → Lists 1 rows_of rows
+    → EachSays (Tells SaysImage IsTypedImageRow image_shown_line) (map (columns_at image_places) (bare rows)) found
+    → (name : List ℕ) → EachSays SaysImage (map (columns_at image_places) (rows_of name)) (filter (λ i. bytes_eq i.file name) found)
+images_by_name rows rows_of found lists told name =
+    subst (λ rs. EachSays SaysImage (map (columns_at image_places) rs) (filter (λ (i : ImageShown). bytes_eq i.file name) found)) (filter_true (rows_of name))
+    (said_by_name SaysImage (columns_at image_places) (λ i. i.file) (λ r n. refl) (λ n r i said. ap (λ v. is_eq (value_cmp v (Text n))) said.file.0 ∙ text_is i.file n) (λ _. true) rows rows_of found lists
+    (subst (λ rs. EachSays SaysImage (map (columns_at image_places) rs) found) (sym (filter_true (bare rows)))
+    (each_said (Tells SaysImage IsTypedImageRow image_shown_line) SaysImage (λ r i t. t.said) (map (columns_at image_places) (bare rows)) found told)) name)
 
 -- ---- second hashes
 
@@ -82,12 +125,9 @@ hash_typed : (name : Name) (o : Option ImageData) → ((image : ImageData) → o
 hash_typed name None typed = tt
 hash_typed name (Some i) typed = by_hash i.sha512 (typed i refl).sha512
   where
-    utf8 : IsUtf8 name
-    utf8 = let w = file_name name (subst (λ n. is_file_name n ≡ true) (typed i refl).named (typed i refl).file_name) in subst IsUtf8 (let e = w.1 in cc) w.2
-
     by_hash : (o : Option (List ℕ)) → IfSome o (λ hash. length hash ≡ 64) → AllByRecursion IsTypedHash (option_to_list (named_hash name o))
     by_hash None whole = tt
-    by_hash (Some hash) whole = (record { file = utf8; whole = whole }, tt)
+    by_hash (Some hash) whole = (record { file = utf8 name (file_name name (subst (λ n. is_file_name n ≡ true) (typed i refl).named (typed i refl).file_name)); whole = whole }, tt)
 
 pub holds_hash : (file : Name) (s : Connected) (rows : StateRows) → ListsRows rows s.now.trees
     → HoldsBy image_sha512_table 1 (λ rows_of. AreLines IsTypedHash hash_line (map (columns_at sha512_places) (rows_of file))) s
@@ -163,15 +203,11 @@ are_hashes list (Ok found) before after told reads = λ rows within name.
     ∙ named_parts (columns_at sha512_places) hash_line (λ h. h.file) (λ _. true) all (hash_lines_of rows) there.0 (λ r n. refl) (λ h n. text_is h.file n) lists (ap (map (columns_at sha512_places)) (filter_true (bare all)) ∙ shown) name
     ∙ ap (λ hs. map hash_line (filter (λ h. bytes_eq h.file name) hs)) (sym same)
 
--- what the rows of a name say, whoever wrote them
-says_name : (name : List ℕ) (r : Row) (h : SecondHash) → SaysHash r h → has_text 0 name r ≡ bytes_eq h.file name
-says_name name r h said = ap (λ v. is_eq (value_cmp v (Text name))) said.file ∙ text_is h.file name
-
-pub said_by_name : (rows : List Row) (rows_of : List ℕ → List Row) (found : List SecondHash) → Lists 1 rows_of rows → EachSays tells (map (columns_at sha512_places) (bare rows)) found
+-- the rows of a name say those that have it
+pub hashes_by_name : (rows : List Row) (rows_of : List ℕ → List Row) (found : List SecondHash) → Lists 1 rows_of rows → EachSays tells (map (columns_at sha512_places) (bare rows)) found
     → (name : List ℕ) → EachSays SaysHash (map (columns_at sha512_places) (rows_of name)) (filter (λ h. bytes_eq h.file name) found)
-said_by_name rows rows_of found lists told name =
-    let part = columns_at sha512_places in
-    let its : rows_of name ≡ filter (has_text 0 name) (bare rows) = sym (lists.parts name) ∙ bare_filter (has_text 1 name) (has_text 0 name) (λ r. ap (λ v. is_eq (value_cmp v (Text name))) (column_after r 0)) rows in
-    subst (λ shown. EachSays SaysHash shown (filter (λ h. bytes_eq h.file name) found))
-    (sym (map_filter part (has_text 0 name) (has_text 0 name) (λ r. refl) (bare rows)) ∙ ap (map part) (sym its))
-    (says_passing SaysHash (has_text 0 name) (λ h. bytes_eq h.file name) (says_name name) (map part (bare rows)) found (each_said tells SaysHash (λ r h t. t.said) (map part (bare rows)) found told))
+hashes_by_name rows rows_of found lists told name =
+    subst (λ rs. EachSays SaysHash (map (columns_at sha512_places) rs) (filter (λ (h : SecondHash). bytes_eq h.file name) found)) (filter_true (rows_of name))
+    (said_by_name SaysHash (columns_at sha512_places) (λ h. h.file) (λ r n. refl) (λ n r h said. ap (λ v. is_eq (value_cmp v (Text n))) said.file.0 ∙ text_is h.file n) (λ _. true) rows rows_of found lists
+    (subst (λ rs. EachSays SaysHash (map (columns_at sha512_places) rs) found) (sym (filter_true (bare rows)))
+    (each_said tells SaysHash (λ r h t. t.said) (map (columns_at sha512_places) (bare rows)) found told)) name)

@@ -1,6 +1,6 @@
 -- Names and canonical texts as columns: they are UTF-8.
-use Rattle.std.proofs.Common.{◌≡◌, ℕ, List, [], ◌∷◌, true, refl, arith}
-use Rattle.std.specs.Prelude.{nat_le}
+use Rattle.std.proofs.Common.{◌≡◌, ℕ, List, [], ◌∷◌, true, refl, subst, arith}
+use Rattle.std.specs.Prelude.{IsUtf8, nat_le}
 use Rattle.std.proofs.lemmas.Bool.{and_parts}
 use Rattle.std.proofs.lemmas.Bool.Decides.{nat_tests}
 use Rattle.std.proofs.lemmas.Str.{IsUtf8-from_ascii}
@@ -18,6 +18,9 @@ small x h = grind (arith, nat_tests)
 prints-small : (t : List ℕ) → is_printable_text t ≡ true → are_small t ≡ true
 prints-small [] h = refl
 prints-small (x ∷ t) h = let p = and_parts (is_printable x) _ h in both _ _ (small x p.0) (prints-small t p.1)
+
+pub utf8 : (t : List ℕ) → IsWords (Text t) → IsUtf8 t
+utf8 t is = subst IsUtf8 (let e = is.1 in cc) is.2
 
 pub printed : (t : List ℕ) → is_printable_text t ≡ true → IsWords (Text t)
 printed t h = (t, refl, IsUtf8-from_ascii t (small-ascii t (prints-small t h)))

@@ -1,102 +1,27 @@
--- Rows of vehicles, of their ECUs and of those that were replaced have the columns that the statements show, and what was read of them can be
--- read into values.
-use Rattle.std.proofs.Common.{◌≡◌, ◌⊎◌, inl, inr, ℕ, suc, pos, ◌<◌, List, [], ◌∷◌, true, false, Option, Some, None, Err, Ok, Result, IfErr, map, refl, sym, ap, subst, ◌∙◌, arith, string_bytes, bytes_eq, IsUtf8}
-use Rattle.std.specs.Prelude.{IfSome, String, option_map, unwrap_or}
-use Rattle.std.specs.List.{AllByRecursion, list_any}
+-- An ECU stands, or was replaced, in vehicles that have a name, and what was read of it can be read into one.
+use Rattle.std.proofs.Common.{◌≡◌, ℕ, List, [], ◌∷◌, true, false, Option, Some, None, Err, Ok, Result, IfErr, sym, ap, subst, ◌∙◌, string_bytes, bytes_eq, IsUtf8, refl}
+use Rattle.std.specs.Prelude.{String, option_map}
+use Rattle.std.specs.List.{list_any}
 use Rattle.std.specs.Cmp.Lexicographic.{bytes_decides}
 use Rattle.std.specs.FinMap as table
-use Rattle.sqlite.specs.Values.{or_null}
-use Rattle.sqlite.specs.declared.types.Value.TheVariants.{Null, Int, Text, Blob}
 use Rattle.sqlite.specs.Order.{Row}
 use Rattle.sqlite.specs.State.{State as Connected}
-use Rattle.up_canon.specs.Canon.{max_count}
 use Rattle.up_canon.specs.Names.{Name, is_ident}
-use Rattle.up_manifest.specs.declared.report.Installed.{Installed}
-use Rattle.up_machine.specs.declared.rows.EcuRow.{EcuRow}
 use Rattle.up_machine.specs.declared.rows.VehicleRows.{VehicleRows}
 use Rattle.up_rows.specs.StateRows.{StateRows}
-use Rattle.up_tables.specs.declared.ecu.EcuRow.{EcuRow as EcuShown}
 use Rattle.up_tables.specs.declared.values.StoreFault.{StoreFault}
 use Rattle.up_tables.specs.declared.values.StoreFault.TheVariants.{Memory, Store}
-use Rattle.up_tables.specs.declared.vehicle.VehicleRow.{VehicleRow as VehicleShown}
 use Rattle.up_tables.specs.Ecus.{owns}
-use Rattle.up_tables.specs.Kinds.{IsWords, IsWordsOrNull, IsNumber, IsBytes, ShowsOne, ShowsVehicle, ShowsEcuLine, HasOwner}
-use Rattle.up_tables.specs.Lines.{ecu_row}
+use Rattle.up_tables.specs.Kinds.{HasOwner}
 use Rattle.up_tables.specs.Rows.{has_text}
 use Rattle.up_tables.specs.Stands.{IsWithin, HasTables, Reads, Lists}
 use Rattle.up_tables.specs.Statements.{HoldsBy}
-use Rattle.up_tables.specs.Tables.{up_schema, vehicle_table, ecu_table, retired_table}
-use Rattle.up_store.specs.Found.{vehicle_found, ecus_found}
-use Rattle.up_store.specs.Lines.{vehicle_lines, ecu_lines, ecus_lines, retired_lines}
+use Rattle.up_tables.specs.Tables.{up_schema, ecu_table, retired_table}
+use Rattle.up_store.specs.Lines.{ecus_lines, retired_lines}
 use Rattle.up_store.specs.Listing.{ListsRows}
-use Rattle.up_store.specs.Shown.{vehicle_read, ecu_read}
-use Rattle.up_store.specs.Typed.{AreTyped, IsTypedEcu, IsTypedInstalled, IsTypedVehicle, IsTypedVehicleRow}
+use Rattle.up_store.specs.Typed.{AreTyped}
 use Rattle.up_store.proofs.ColumnFound.{has_tables}
-use Rattle.up_store.proofs.KindsOfTexts.{ident, file_name}
-
--- ---- vehicles
-
-row_typed : (name : Name) (o : Option VehicleRows) → ((v : VehicleRows) → o ≡ Some v → IsTypedVehicle name v) → IfSome (option_map (λ (v : VehicleRows). v.vehicle) o) IsTypedVehicleRow
-row_typed name None typed = tt
-row_typed name (Some v) typed = (typed v refl).row
-
-vehicle_shows : (o : Option VehicleRows) → IfSome (option_map (λ (v : VehicleRows). v.vehicle) o) IsTypedVehicleRow → ShowsOne ShowsVehicle (vehicle_lines o)
-vehicle_shows None typed = (omega arith, tt)
-vehicle_shows (Some v) typed =
-    (omega arith, ((ident v.vehicle.vehicle typed.vehicle, ident v.vehicle.primary typed.primary, (v.vehicle.version, refl), (v.vehicle.last, refl)), tt))
-
-pub holds_vehicle : (name : Name) (s : Connected) (rows : StateRows) → ListsRows rows s.now.trees → HoldsBy vehicle_table 1 (λ rows_of. ShowsOne ShowsVehicle (rows_of name)) s
-holds_vehicle name s rows lists = ((λ n. vehicle_lines (table.get rows.vehicles n)), lists.tables.vehicles, vehicle_shows (table.get rows.vehicles name) (row_typed name (table.get rows.vehicles name) (lists.typed.vehicles name)))
-
--- the row that was found is a vehicle's
-pub is_typed_vehicle : (rows : StateRows) (name : Name) (found : Option VehicleShown) (shown : VehicleShown) → AreTyped rows → found ≡ Some shown → option_map vehicle_read found ≡ vehicle_found name rows → IsTypedVehicleRow (vehicle_read shown)
-is_typed_vehicle rows name found shown typed some same =
-    subst (λ o. IfSome o IsTypedVehicleRow) (sym same ∙ ap (option_map vehicle_read) some) (row_typed name (table.get rows.vehicles name) (typed.vehicles name))
-
-pub reads_vehicle : {A : Type 0} (r : Result A StoreFault) (shown : VehicleShown) → IsTypedVehicleRow (vehicle_read shown)
-    → IfErr r (λ fault. (fault ≡ Store) × (is_ident (string_bytes shown.vehicle) ≡ true → is_ident (string_bytes shown.primary_ecu) ≡ true → max_count < shown.last_counter)) → IfErr r (λ fault. fault ≡ Memory)
-reads_vehicle (Ok x) shown typed fault = tt
-reads_vehicle (Err f) shown typed fault = absurd (omega (arith, fault.1 typed.vehicle typed.primary, typed.last))
-
-pub reads_last : {A : Type 0} (r : Result A StoreFault) (shown : VehicleShown) → IsTypedVehicleRow (vehicle_read shown) → IfErr r (λ fault. (fault ≡ Store) × (max_count < shown.last_counter)) → IfErr r (λ fault. fault ≡ Memory)
-reads_last (Ok x) shown typed fault = tt
-reads_last (Err f) shown typed fault = absurd (omega (arith, fault.1, typed.last))
-
--- ---- ECUs
-
-installed_shows : (o : Option Installed) → IfSome o IsTypedInstalled
-    → ((or_null (λ (i : Installed). Text i.file) o ≡ Null) × (or_null (λ (i : Installed). Int (pos i.length)) o ≡ Null) × (or_null (λ (i : Installed). Blob i.sha256) o ≡ Null))
-    ⊎ (IsWords (or_null (λ (i : Installed). Text i.file) o) × IsNumber (or_null (λ (i : Installed). Int (pos i.length)) o) × IsBytes (or_null (λ (i : Installed). Blob i.sha256) o))
-installed_shows None typed = inl (refl, refl, refl)
-installed_shows (Some i) typed = inr (file_name i.file typed.file, (i.length, refl), (i.sha256, refl))
-
-report_shows : (o : Option (List ℕ)) → IfSome o IsUtf8 → IsWordsOrNull (or_null (λ (t : List ℕ). Text t) o)
-report_shows None utf8 = inl refl
-report_shows (Some t) utf8 = inr (t, refl, utf8)
-
-ecus_show : (vehicle : Name) (place : ℕ) (rows : List EcuRow) → AllByRecursion IsTypedEcu rows → AllByRecursion ShowsEcuLine (map ecu_row (ecu_lines vehicle place rows))
-ecus_show vehicle place [] typed = tt
-ecus_show vehicle place (row ∷ rows) typed =
-    let t = typed.0 in (
-      (ident row.ecu t.ecu, ident row.hardware t.hardware, (row.public, refl), installed_shows row.installed t.installed, (row.counter, refl), report_shows row.report t.report),
-      ecus_show vehicle (suc place) rows typed.1,
-    )
-
-ecus_typed : (name : Name) (o : Option VehicleRows) → ((v : VehicleRows) → o ≡ Some v → IsTypedVehicle name v) → AllByRecursion IsTypedEcu (unwrap_or (option_map (λ (v : VehicleRows). v.ecus) o) [])
-ecus_typed name None typed = tt
-ecus_typed name (Some v) typed = (typed v refl).ecus
-
-pub holds_ecus : (name : Name) (s : Connected) (rows : StateRows) → ListsRows rows s.now.trees → HoldsBy ecu_table 2 (λ rows_of. AllByRecursion ShowsEcuLine (rows_of name)) s
-holds_ecus name s rows lists =
-    ((λ n. ecus_lines n (table.get rows.vehicles n)), lists.tables.ecus, by_vehicle (table.get rows.vehicles name) (ecus_typed name (table.get rows.vehicles name) (lists.typed.vehicles name)))
-  where
-    by_vehicle : (o : Option VehicleRows) → AllByRecursion IsTypedEcu (unwrap_or (option_map (λ (v : VehicleRows). v.ecus) o) []) → AllByRecursion ShowsEcuLine (ecus_lines name o)
-    by_vehicle None typed = tt
-    by_vehicle (Some v) typed = ecus_show name 0 v.ecus typed
-
--- the rows that were found are ECUs'
-pub are_typed_ecus : (rows : StateRows) (name : Name) (found : List EcuShown) → AreTyped rows → map ecu_read found ≡ ecus_found name rows → AllByRecursion IsTypedEcu (map ecu_read found)
-are_typed_ecus rows name found typed same = subst (AllByRecursion IsTypedEcu) (sym same) (ecus_typed name (table.get rows.vehicles name) (typed.vehicles name))
+use Rattle.up_store.proofs.KindsOfTexts.{ident}
 
 -- ---- the vehicle of an ECU, and of one that was replaced
 

@@ -11,13 +11,6 @@ taken {X} (y ∷ ys) (suc i) x h =
     let next : suc i + 1 ≡ suc (i + 1) = omega arith in
     ap (λ (n : ℕ). take n (y ∷ ys)) next ∙ ap (λ (l : List X). y ∷ l) (taken ys i x h)
 
--- one more is made of the next row
-pub next_made : {X Y Z : Type 0} (f : Y → X) (g : Z → X) (rows : List Z) (made more : List Y) (i : ℕ) (row : Z) (y : Y) → map f made ≡ map g (take i rows) → slice_get rows i ≡ Some row → f y ≡ g row → more ≡ made ++ y ∷ []
-    → map f more ≡ map g (take (i + 1) rows)
-next_made {X} {Y} {Z} f g rows made more i row y so_far there same is =
-    ap (map f) is ∙ map-append f made (y ∷ []) ∙ ap₂ (λ (l : List X) (x : X). l ++ x ∷ []) so_far same
-    ∙ sym (map-append g (take i rows) (row ∷ [])) ∙ sym (ap (map g) (taken rows i row there))
-
 -- what holds of the rows before a place and of the one there holds of those before the next
 pub each_more : {X : Type 0} (P : X → Type 0) (rows : List X) (i : ℕ) (row : X) → AllByRecursion P (take i rows) → slice_get rows i ≡ Some row → P row → AllByRecursion P (take (i + 1) rows)
 each_more P [] i row all h new = absurd (let e = h in cc)

@@ -64,12 +64,6 @@ of_column (Err r) result x gives went told = go (is_memory r) refl gives
 pub read_again : {A : Type 0} (read : Result A Refusal) (x y : A) → Gives read (Ok x) → read ≡ Ok y → y ≡ x
 read_again read x y gives is = let e : Gives (Ok y) (Ok x) = subst (λ r. Gives r (Ok x)) is gives in cc
 
--- an image that is installed
-pub reads_installed : (shown : Option InstalledShown) (hash : Option (List ℕ)) → MatchOption shown ⊥ (λ image. is_file_name (string_bytes image.file) ≡ true → image.length ≤ max_count → length image.sha256.items ≢ 32)
-    → IfSome (option_map (installed_read hash) shown) IsTypedInstalled → ⊥
-reads_installed None hash bad valid = bad
-reads_installed (Some i) hash bad valid = bad valid.file valid.size valid.sha256
-
 -- what fits is never refused
 pub fits_alone : {A : Type 0} (P : Type 0) (result : Result A StoreFault) → IfErr result (λ f. (f ≡ Store) × P) → ¬ P → IfErr result (λ f. f ≡ Memory)
 fits_alone P (Ok x) told fits = tt

@@ -1,26 +1,23 @@
 -- What the parts of a write carried out, and why they tell `Store`.
 use Rattle.std.proofs.Common.{◌≡◌, ◌<◌, ◌≤◌, ◌^◌, inl, inr, ℕ, List, [], ◌∷◌, Some, None, Ok, Err, Result, length, map, refl, sym, ap, subst, ◌∙◌, arith}
-use Rattle.std.proofs.lemmas.List.{length-map}
 use Rattle.std.specs.Prelude.{⊤}
 use Rattle.std.specs.Result.{IsErrAnd}
 use Rattle.sqlite.specs.Order.{Row}
 use Rattle.sqlite.specs.State.{State as Connected}
 use Rattle.up_plan.specs.Images.{ImageData}
 use Rattle.up_machine.specs.declared.rows.VehicleRows.{VehicleRows}
-use Rattle.up_tables.specs.declared.ecu.EcuRow.{EcuRow as EcuShown}
 use Rattle.up_tables.specs.declared.vehicle.VehicleRow.{VehicleRow as VehicleShown}
-use Rattle.up_tables.specs.Ecus.{lines}
 use Rattle.up_tables.specs.Forms.{vehicle_row}
-use Rattle.up_tables.specs.Lines.{ecu_row, sha512_line}
+use Rattle.up_tables.specs.Lines.{sha512_line}
 use Rattle.up_tables.specs.Stands.{IfClean, IsOpen}
 use Rattle.up_tables.specs.Tried.{BlamesOne, BlamesRefusal, Ran, RefusesOne}
 use Rattle.up_tables.specs.declared.values.StoreFault.{StoreFault}
 use Rattle.up_tables.specs.declared.values.StoreFault.TheVariants.{Memory, Store}
 use Rattle.up_tables.proofs.TriedLemmas.{blames_only}
-use Rattle.up_store.specs.Lines.{sha512_lines, vehicle_lines, ecus_lines}
-use Rattle.up_store.specs.Shown.{as_told, vehicle_read, ecu_read}
+use Rattle.up_store.specs.Lines.{sha512_lines, vehicle_lines}
+use Rattle.up_store.specs.Shown.{vehicle_read}
 use Rattle.up_store.specs.Writes.{FitsVehicle, each_with}
-use Rattle.up_store.proofs.VehiclePuts.{made_lines, vehicle_is}
+use Rattle.up_store.proofs.VehiclePuts.{vehicle_is}
 
 -- ---- rows as they are made
 
@@ -58,10 +55,6 @@ pub told_on : {A : Type 0} (r : Result A StoreFault) (f : StoreFault) (these : L
 told_on (Ok x) f these P old new told h clean = tt
 told_on (Err e) f these P old new told h clean = λ is. h clean (sym told ∙ is)
 
--- a fault that is want of memory
-pub memory_blames_one : (A : Type 0) (these : List (List ℕ × Row)) (P : Connected → Type 0) (old new : Connected) (f : StoreFault) → f ≡ Memory → BlamesOne {A = A} these P old new (Err f)
-memory_blames_one A these P old new f is clean = λ store has. absurd (let no : Memory ≡ Store = sym is ∙ store in cc)
-
 -- a fault that what is written doesn't give
 pub never_blames : {A : Type 0} (these : List (List ℕ × Row)) (P : Connected → Type 0) (old new : Connected) (r : Result A StoreFault) → (P old → ⊥) → BlamesOne these P old new r
 never_blames these P old new (Ok x) never clean = tt
@@ -78,16 +71,10 @@ no_hash_is image is = ap (sha512_lines image.file) (sym is)
 -- ---- vehicles
 
 pub vehicle_row_is : (new : VehicleRows) (made : VehicleShown) → vehicle_read made ≡ new.vehicle → vehicle_row made ∷ [] ≡ vehicle_lines (Some new)
-vehicle_row_is new made same = ap (λ (row : Row). row ∷ []) (vehicle_is made new.vehicle same)
+vehicle_row_is new made same = ap (λ row. row ∷ []) (vehicle_is made new.vehicle same)
 
-pub ecu_rows_are : (new : VehicleRows) (made : List EcuShown) → map ecu_read made ≡ map as_told new.ecus → map ecu_row (lines new.vehicle.vehicle 0 made) ≡ ecus_lines new.vehicle.vehicle (Some new)
-ecu_rows_are new made same = ap (map ecu_row) (sym (made_lines new.vehicle.vehicle new.ecus made same))
-
--- as many rows as ECUs
-pub places_fit : (new : VehicleRows) (made : List EcuShown) → map ecu_read made ≡ map as_told new.ecus → length new.ecus < 2 ^ 63 → 2 ^ 63 ≤ length made → ⊥
-places_fit new made same few many =
-    let as_many : length made ≡ length new.ecus = omega (arith, length-map made ecu_read, length-map new.ecus as_told, ap length same) in
-    omega (arith, as_many, few, many)
+pub places_fit : (new : VehicleRows) → FitsVehicle new → 2 ^ 63 ≤ length new.ecus → ⊥
+places_fit new fits many = let few = fits.ecus in omega (arith, few, many)
 
 pub version_fits : (new : VehicleRows) → FitsVehicle new → 2 ^ 63 ≤ new.vehicle.version → ⊥
 version_fits new fits large = let small = fits.version in omega (arith, small, large)

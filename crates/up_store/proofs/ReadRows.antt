@@ -19,14 +19,6 @@ pub some_then : {A : Type 0} (P Q : A → Type 0) (read : Option A) → ((x : A)
 some_then P Q None f h = h
 some_then P Q (Some x) f h = f x h
 
-pub some_both : {A : Type 0} (P Q : A → Type 0) (read : Option A) → IsSomeAnd read P → IsSomeAnd read Q → IsSomeAnd read (λ x. P x × Q x)
-some_both P Q None h k = h
-some_both P Q (Some x) h k = (h, k)
-
-pub both_then : {A E : Type 0} (P Q R : A → Type 0) (r : Result A E) → ((x : A) → P x → Q x → R x) → IfOk r P → IfOk r Q → IfOk r R
-both_then P Q R (Ok x) f h k = f x h k
-both_then P Q R (Err e) f h k = tt
-
 -- a read that went through leaves the tables, and what they list
 pub tables_stay : (before after : Connected) → Reads before after → HasTables before → HasTables after
 tables_stay before after reads has = λ is_open. subst (IsWith up_schema AnyRows) (sym reads.now_is) (has reads.was_open)

@@ -16,14 +16,6 @@ pub record WentOn (these : List (List ℕ × Row)) (old mid : Connected) : Type 
   pub went : Went these old mid
   pub opened : IfClean IsOpen mid
 
--- and those of the next part
-pub then_on : (these those : List (List ℕ × Row)) (old mid new : Connected) → WentOn these old mid → WentOn those mid new → WentOn (these ++ those) old new
-then_on these those old mid new on next = record {
-  steps = steps_then old mid new on.steps next.steps;
-  went = ran_then {T = Unit {0}} these those old mid new on.steps.survives next.steps.survives {E = Unit {0}} (Ok tt) on.went next.went;
-  opened = next.opened;
-}
-
 pub ran_on : {A E : Type 0} (these those : List (List ℕ × Row)) (old mid new : Connected) (r : Result A E) → WentOn these old mid → Steps mid new → Ran those mid new r → Ran (these ++ those) old new r
 ran_on these those old mid new r on steps ran = ran_then these those old mid new on.steps.survives steps.survives r on.went ran
 

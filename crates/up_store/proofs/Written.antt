@@ -17,7 +17,7 @@ pub surely : {A E P : Type 0} (r : Result A E) → P → OnOk r P
 surely (Ok x) h = h
 surely (Err e) h = tt
 
-on_ok : {A E : Type 0} {P Q : Type 0} (r : Result A E) → OnOk r P → (P → Q) → OnOk r Q
+pub on_ok : {A E : Type 0} {P Q : Type 0} (r : Result A E) → OnOk r P → (P → Q) → OnOk r Q
 on_ok (Ok x) h f = f h
 on_ok (Err e) h f = tt
 

@@ -1,5 +1,6 @@
 pub mod Lines
 pub mod Typed
+pub mod Within
 pub mod Listing
 pub mod Connections
 pub mod Fitting

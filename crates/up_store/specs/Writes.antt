@@ -20,8 +20,9 @@ use Rattle.up_tables.specs.Texts.{insert_image_text, insert_sha512_text, insert_
 use Rattle.up_tables.specs.Texts.{insert_retired_text, insert_kept_text, update_meta_text, replace_ecu_text, insert_ecu_text, upsert_ecu_text}
 use Rattle.up_tables.specs.Texts.{insert_role_key_text, upsert_file_text, upsert_vehicle_text}
 use Rattle.up_tables.specs.Tried.{Makes, RefusesOne}
+use Rattle.up_store.specs.declared.files.ServedFile.{ServedFile}
 use Rattle.up_store.specs.Fitting.{IsNextRoot, IsSameRoot, IsNewImage, IsNewVehicle, IsReplacement, IsNewCampaign, IsClosing, IsRecorded}
-use Rattle.up_store.specs.Lines.{FileLine, file_row, root_file_lines, role_file_lines, repository_lines, image_lines, sha512_lines}
+use Rattle.up_store.specs.Lines.{file_row, root_file_lines, role_file_lines, repository_lines, image_lines, sha512_lines}
 use Rattle.up_store.specs.Lines.{campaign_lines, vehicle_lines, ecus_lines, kept_line}
 
 -- ---- the statements of each write
@@ -36,7 +37,7 @@ founding_writes f = each_with update_meta_text ((Int (pos f.root) ∷ Int (pos f
 abbrev pub key_writes : Founding → List (List ℕ × Row)
 key_writes f = each_with insert_role_key_text (repository_lines f.root Director f.keys.director ++ repository_lines f.root Image f.keys.image)
 
-abbrev pub file_writes : List FileLine → List (List ℕ × Row)
+abbrev pub file_writes : List ServedFile → List (List ℕ × Row)
 file_writes files = each_with upsert_file_text (map file_row files)
 
 -- the founding's numbers, and the image repository's files

@@ -1,16 +1,17 @@
 //! Columns as values of their types: a column that isn't one is answered `Store`.
-ghost use Rattle.std.specs.Prelude.{◌≡◌, ◌≢◌, ◌<◌, ◌≤◌, ◌^◌, ℕ, List, pos, true, false, length, Ok, Err, IfOk, IfErr, IsUtf8, OnOk, string_bytes};
+ghost use Rattle.std.specs.Prelude.{◌≡◌, ◌≢◌, ◌<◌, ◌≤◌, ◌^◌, ℕ, List, pos, true, false, length, Option, None, Ok, Err, IfOk, IfErr, IsUtf8, OnOk, string_bytes};
 ghost use Rattle.sqlite.specs.Order.{column};
 ghost use Rattle.sqlite.specs.declared.types.Value.TheVariants as Value;
 ghost use Rattle.up_canon.specs.Canon.{max_count};
 ghost use Rattle.up_canon.specs.Moments.{last_moment};
 ghost use Rattle.up_canon.specs.Names.{is_ident, is_file_name};
+ghost use Rattle.up_tables.specs.Kinds.{IsText};
 ghost use Rattle.up_tables.specs.declared.values.StoreFault.TheVariants.{Store};
 ghost use Rattle.up_columns.specs.PlanColumns.{plan_column, plan_in};
 ghost use Rattle.up_columns.specs.Typed.{is_typed_plan};
 ghost use Rattle.up_plan.specs.declared.assigned.Plan.{Plan as PlanData};
 ghost use Rattle.up_store.specs.ColumnRows.{column_fault};
-ghost use Rattle.up_store.specs.ReadAs.{IsColumnOf};
+ghost use Rattle.up_store.specs.ReadAs.{IsColumnOf, IsTextOrNull};
 
 use crate::store::{MOST_NUMBER, MOST_ROWS, StoreFault};
 use sqlite::Row;
@@ -24,7 +25,7 @@ use up_canon::refusal::Refusal;
 use up_canon::text::Text;
 use up_columns::plans::read_plan;
 use up_plan::assigned::Plan;
-use up_tables::values::{number_at, text_at};
+use up_tables::values::{is_null, number_at, text_at};
 
 /// The text as an identifier.
 pub fn ident_in(text: String) -> Result<Ident, StoreFault>
@@ -144,19 +145,53 @@ pub fn check_places(rows: usize) -> Result<(), StoreFault>
 
 /// The identifier in a column; `Store` where it has none.
 pub fn ident_at(row: &Row, at: usize) -> Result<Ident, StoreFault>
-    ensures ok { IfOk result (λ name. column row.now at ≡ Value.Text name) }
+    ensures ok { IfOk result (IsText (column row.now at)) }
     ensures fault { IfErr result (λ fault. fault ≡ Store → (name : List ℕ) → is_ident name ≡ true → column row.now at ≢ Value.Text name) }
+    ensures kind { ((s : List ℕ) → IsUtf8 s → column row.now at ≢ Value.Text s) → result ≡ Err Store }
 {
-    let text = text_at(row, at)?;
-    ident_in(text)
+    match text_at(row, at) {
+        Ok(text) => ident_in(text),
+        Err(fault) => Err(fault),
+    }
+}
+
+/// The filename in a column; `Store` where it has none.
+pub fn file_name_at(row: &Row, at: usize) -> Result<FileName, StoreFault>
+    ensures ok { IfOk result (IsText (column row.now at)) }
+    ensures fault { IfErr result (λ fault. fault ≡ Store → (name : List ℕ) → is_file_name name ≡ true → column row.now at ≢ Value.Text name) }
+    ensures kind { ((s : List ℕ) → IsUtf8 s → column row.now at ≢ Value.Text s) → result ≡ Err Store }
+{
+    match text_at(row, at) {
+        Ok(text) => file_name_in(text),
+        Err(fault) => Err(fault),
+    }
 }
 
 /// The text in a column; `Store` where it has none.
 pub fn words_at(row: &Row, at: usize) -> Result<Text, StoreFault>
-    ensures ok { IfOk result (λ text. column row.now at ≡ Value.Text text) }
+    ensures ok { IfOk result (IsText (column row.now at)) }
     ensures fault { IfErr result (λ fault. fault ≡ Store → (text : List ℕ) → IsUtf8 text → column row.now at ≢ Value.Text text) }
+    ensures kind { ((s : List ℕ) → IsUtf8 s → column row.now at ≢ Value.Text s) → result ≡ Err Store }
 {
-    Ok(Text::new(text_at(row, at)?))
+    match text_at(row, at) {
+        Ok(text) => Ok(Text::new(text)),
+        Err(fault) => Err(fault),
+    }
+}
+
+/// The text in a column, none where it is null; `Store` where it has anything else.
+pub fn words_or_null_at(row: &Row, at: usize) -> Result<Option<Text>, StoreFault>
+    ensures ok { IfOk result (IsTextOrNull (column row.now at)) }
+    ensures fault { IfErr result (λ fault. fault ≡ Store → (text : Option (List ℕ)) → ¬ IsTextOrNull (column row.now at) text) }
+    ensures none { column row.now at ≡ Value.Null → result ≡ Ok None }
+{
+    if is_null(row, at) {
+        return Ok(None);
+    }
+    match words_at(row, at) {
+        Ok(text) => Ok(Some(text)),
+        Err(fault) => Err(fault),
+    }
 }
 
 /// The count in a column; `Store` where it has none.
@@ -183,9 +218,24 @@ pub fn plan_at(alloc: Global, row: &Row, at: usize) -> Result<Plan, StoreFault>
     ensures same { IfOk result (λ plan. (other : PlanData) → is_typed_plan other ≡ true → column row.now at ≡ Value.Text (plan_column other) → plan ≡ other) }
     ensures fault { IfErr result (λ fault. fault ≡ Store
         → (other : PlanData) → is_typed_plan other ≡ true → column row.now at ≢ Value.Text (plan_column other)) }
+    ensures damaged { IfErr result (λ fault. fault ≡ Store → (other : PlanData) → ¬ IsColumnOf plan_in (column row.now at) other) }
+    ensures kind { ((s : List ℕ) → IsUtf8 s → column row.now at ≢ Value.Text s) → result ≡ Err Store }
 {
-    let text = text_at(row, at)?;
-    read_column(read_plan(alloc, text.as_str()))
+    match text_at(row, at) {
+        Ok(text) => read_column(read_plan(alloc, text.as_str())),
+        Err(fault) => Err(fault),
+    }
+}
+
+/// The SHA-256 in a column; `Store` where it has none. It is copied to where it stands, and takes no memory.
+pub fn sha256_at(row: &Row, at: usize) -> Result<[u8; 32], StoreFault>
+    ensures ok { IfOk result (λ hash. column row.now at ≡ Value.Blob hash) }
+    ensures fault { IfErr result (λ fault. (fault ≡ Store) × ((hash : List ℕ) → length hash ≡ 32 → column row.now at ≢ Value.Blob hash)) }
+{
+    match row.get_ref(at) {
+        Ok(ValueRef::Blob(bytes)) => sha256_in(bytes),
+        _ => Err(StoreFault::Store),
+    }
 }
 
 /// The SHA-512 in a column; `Store` where it has none. It is copied to where it stands, and takes no memory.

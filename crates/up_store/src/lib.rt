@@ -12,6 +12,7 @@ mod kept_rows;
 mod keys;
 pub mod laws;
 mod manifests;
+mod numbers;
 mod replaced;
 mod roots;
 mod second_hashes;

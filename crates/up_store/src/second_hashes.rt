@@ -3,19 +3,19 @@ ghost use Rattle.std.specs.Prelude.{◌≡◌, ⊤, length, IfErr, IfOk, IfSome,
 ghost use Rattle.std.specs.FinMap as table;
 ghost use Rattle.sqlite.specs.Held.{state};
 ghost use Rattle.up_canon.specs.Names.{Table as Named};
-ghost use Rattle.up_tables.specs.declared.values.StoreFault.TheVariants as StoreFault;
 ghost use Rattle.up_plan.specs.Images.{ImageData};
 ghost use Rattle.up_tables.specs.Stands.{IfClean, IsInside, IsOpen};
-ghost use Rattle.up_tables.specs.Statements.{IsStep, IsOpenStep, Finds};
+ghost use Rattle.up_tables.specs.Statements.{Finds};
 ghost use Rattle.up_tables.specs.Tables.{image_sha512_table};
 ghost use Rattle.up_tables.specs.Texts.{insert_sha512_text};
-ghost use Rattle.up_tables.specs.Tried.{BlamesOne, Ran, Undoes};
+ghost use Rattle.up_tables.specs.declared.values.StoreFault.TheVariants as StoreFault;
 ghost use Rattle.up_store.specs.ColumnRows.{AreHashesOf, AreSha512s};
+ghost use Rattle.up_store.specs.Connections.{PutsTables};
 ghost use Rattle.up_store.specs.Lines.{second_hash, sha512_lines};
-ghost use Rattle.up_store.specs.ReadAs.{InTurn, PutsSha512, ReadsSha512, ReadsSha512s};
-ghost use Rattle.up_store.specs.Writes.{each_with};
 ghost use Rattle.up_store.specs.Puts.{with_sha512_line};
-ghost use Rattle.up_store.specs.Connections.{NeedsOpen, BlamesWithin, FindsRows, FindsSuch, PutsTables};
+ghost use Rattle.up_store.specs.ReadAs.{InTurn, PutsSha512, ReadsSha512, ReadsSha512s};
+ghost use Rattle.up_store.specs.Within.{FindsWithin, PutsWithin};
+ghost use Rattle.up_store.specs.Writes.{each_with};
 
 use crate::column_values::{sha512_at, words_at};
 use crate::store::StoreFault;
@@ -66,12 +66,8 @@ pub(crate) fn find_sha512<D: Alter>(
     file: &FileName,
 ) -> Result<Option<[u8; 64]>, StoreFault>
     requires mode { IfClean IsInside (state D.Store tx.old.conn.now) }
-    ensures found { FindsRows (λ rows. second_hash (table.get rows.images file.now))
-        (state D.Store tx.old.conn.now) (state D.Store tx.new.conn.now) result }
-    ensures shown { Finds image_sha512_table 1 (ReadsSha512 file.now) (state D.Store tx.old.conn.now) (state D.Store tx.new.conn.now) result }
-    ensures open { NeedsOpen (state D.Store tx.old.conn.now) (state D.Store tx.new.conn.now) result }
-    ensures blame { BlamesWithin (λ _. ⊤) (state D.Store tx.old.conn.now) (state D.Store tx.new.conn.now) result }
-    ensures step { IsStep D.Store tx.old.conn tx.new.conn }
+    ensures { FindsWithin D.Store (λ rows found. found ≡ second_hash (table.get rows.images file.now)) (Finds image_sha512_table 1 (ReadsSha512 file.now)) (λ _. ⊤)
+        tx.old.conn tx.new.conn result }
 {
     match image_sha512::<D, HashReading>(tx, alloc, file.text()) {
         Ok(found) => Ok(hash_of(found)),
@@ -95,11 +91,7 @@ pub(crate) fn find_sha512s<D: Alter>(
     alloc: Global,
 ) -> Result<Table<[u8; 64]>, StoreFault>
     requires mode { IfClean IsInside (state D.Store tx.old.conn.now) }
-    ensures found { FindsSuch (λ rows read. AreHashesOf read rows.images) (state D.Store tx.old.conn.now) (state D.Store tx.new.conn.now) result }
-    ensures shown { Finds image_sha512_table 1 ReadsSha512s (state D.Store tx.old.conn.now) (state D.Store tx.new.conn.now) result }
-    ensures open { NeedsOpen (state D.Store tx.old.conn.now) (state D.Store tx.new.conn.now) result }
-    ensures blame { BlamesWithin (λ _. ⊤) (state D.Store tx.old.conn.now) (state D.Store tx.new.conn.now) result }
-    ensures step { IsStep D.Store tx.old.conn tx.new.conn }
+    ensures { FindsWithin D.Store (λ rows read. AreHashesOf read rows.images) (Finds image_sha512_table 1 ReadsSha512s) (λ _. ⊤) tx.old.conn tx.new.conn result }
 {
     match image_sha512s::<D, HashReading>(tx, alloc) {
         Ok(found) => by_file(alloc, found),
@@ -127,14 +119,9 @@ pub(crate) fn put_sha512<D: Alter>(
 ) -> Result<(), StoreFault>
     requires mode { IfClean IsInside (state D.Store tx.old.conn.now) }
     requires open { IfClean IsOpen (state D.Store tx.old.conn.now) }
-    ensures put { PutsTables (λ _. ⊤) (with_sha512_line image.now) (state D.Store tx.old.conn.now) (state D.Store tx.new.conn.now) result }
+    ensures put { PutsWithin D.Store (PutsTables (λ _. ⊤) (with_sha512_line image.now)) (each_with insert_sha512_text (sha512_lines image.now.file image.now.sha512))
+        (λ _. ⊤) tx.old.conn tx.new.conn result }
     ensures typed { OnOk result (IfSome image.now.sha512 (λ hash. length hash ≡ 64)) }
-    ensures ran { Ran (each_with insert_sha512_text (sha512_lines image.now.file image.now.sha512))
-        (state D.Store tx.old.conn.now) (state D.Store tx.new.conn.now) result }
-    ensures blame { BlamesOne (each_with insert_sha512_text (sha512_lines image.now.file image.now.sha512)) (λ _. ⊤)
-        (state D.Store tx.old.conn.now) (state D.Store tx.new.conn.now) result }
-    ensures memory { Undoes (state D.Store tx.new.conn.now) result }
-    ensures step { IsOpenStep D.Store tx.old.conn tx.new.conn result }
 {
     match &image.sha512 {
         Some(hash) => insert_image_sha512(tx, image.file.text(), &hash[..]),

@@ -95,15 +95,6 @@ module _ {X T : Type 0} (items : X → List Row) (table : Table) (at : ℕ) (sql
       ok_then _ _ r (λ found it rows_of has lists. ap (map part) (its_rows rows_of (old.now.trees table.tree) lists) ∙ it has)
       (one_in items part part whole values sql (Text name ∷ []) old new (filter (has_text at name) (bare (old.now.trees table.tree))) answer r (its_answer old new) h ran)
 
-  -- it tells `Store` only by a fault of the disk, where that name has one row at most, of the right kinds
-  pub named_blames : (S : Row → Type 0) → ((r : Row) → S r → S (part r)) → Takes sql (Text name ∷ []) (over table.tree (equals (suc at) 0 ∷ []) shown []) → (answer : Result X Error) (r : Result (Option T) StoreFault) (old new : State)
-      → IfErr answer (λ e. r ≡ Err (store_fault e)) → IfOk answer (λ v. IfErr r (λ fault. fault ≡ Store → ¬ ShowsOne S (items v)))
-      → (HasCleanDisk new → IfOk answer (λ v. Shown sql (Text name ∷ []) old new (items v))) → (HasCleanDisk new → IfErr answer (λ e. FailsToQuery sql (Text name ∷ []) old new e ⊎ IsTooLate sql (Text name ∷ []) old new e))
-      → BlamesDisk (HoldsBy table (suc at) (λ rows_of. ShowsOne S (rows_of name))) old new r
-  named_blames S keeps takes answer r old new =
-      blames items sql (Text name ∷ []) table.tree (equals (suc at) 0 ∷ []) shown [] names is takes answer r old new (HoldsBy table (suc at) (λ rows_of. ShowsOne S (rows_of name))) (ShowsOne S)
-      (λ ready holds rows h. shown_one part S S keeps _ rows (its_answer old new rows ready.here.schema_is h) (subst (ShowsOne S) (its_rows holds.0 (old.now.trees table.tree) holds.1) holds.2))
-
 -- ---- all rows are read
 
 filter_swap : {A : Type 0} (p q : A → Bool) (xs : List A) → filter p (filter q xs) ≡ filter q (filter p xs)

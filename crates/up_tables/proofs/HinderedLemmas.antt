@@ -113,20 +113,3 @@ hindered_in (Err e) old new inside clean (inl h) = λ kept told. hinders old new
 hindered_in (Err e) old new inside clean (inr late) = absurd (let no = sym late.3 ∙ inside clean in cc)
 
 -- ---- from the transaction to the connection
-
-pub hindered_begun : {S : Type 0} (g : Ghosts S) (old first mid dropped last : Held S) → first ≡ record old { in_transaction = true } → last ≡ dropped → Survives (state g mid) (state g dropped) (λ _. ⊥)
-    → IsHindered (state g first) (state g mid) → IsHindered (state g old) (state g last)
-hindered_begun g old first mid dropped last begun same survives h = go (subst (λ s. IsHindered (state g s) (state g mid)) begun h)
-  where
-    more : (state g mid).faults ≤ (state g last).faults
-    more = subst (λ s. (state g mid).faults ≤ (state g s).faults) (sym same) survives.counts
-
-    go : IsHindered (state g (record old { in_transaction = true })) (state g mid) → IsHindered (state g old) (state g last)
-    go (inl (inl shut)) = inl (inl shut)
-    go (inl (inr faults)) = inl (inr (omega (arith, faults, more)))
-    go (inr limited) = inr limited
-
-pub hindered_told : {A : Type 0} (H : Type 0) (e : Error) (r : Result A OpenFault) → IfErr r (λ f. (f ≢ opening.NotOurs) × (is_refused e ≡ false)) → IfErr r (λ f. f ≡ open_fault e) → (is_refused e ≡ false → open_fault e ≡ opening.Store → H)
-    → IfErr r (λ f. f ≡ opening.Store → H)
-hindered_told H e (Ok found) kept told h = tt
-hindered_told H e (Err f) kept told h = λ is. h kept.1 (sym told ∙ is)

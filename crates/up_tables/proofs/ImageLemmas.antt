@@ -1,9 +1,7 @@
 -- The statements on images.
-use Rattle.std.proofs.Common.{◌≡◌, ◌==◌, ℕ, pos, List, [], ◌∷◌, map, filter, Bool, true, false, length, Ok, Err, Result, OnOk, IfOk, Option, IsTrue, refl, sym, ap, ◌∙◌, codes, string_bytes, append-nil, bytes_eq, ◌⊎◌, IfErr, inl, inr, subst}
+use Rattle.std.proofs.Common.{◌≡◌, ℕ, pos, List, [], ◌∷◌, true, length, refl, sym, codes, append-nil, inl, inr}
 use Rattle.sqlite.specs.declared.types.Value.TheVariants.{Text}
-use Rattle.sqlite.specs.Order.{Row, column, value_cmp}
-use Rattle.sqlite.specs.Term.{Term}
-use Rattle.sqlite.specs.Cast.{cast_row}
+use Rattle.sqlite.specs.Order.{Row}
 use Rattle.sqlite.specs.Source.TheVariants.{Values}
 use Rattle.sqlite.specs.Command.TheVariants.{Insert}
 use Rattle.sqlite.specs.Listing.{understood}
@@ -23,7 +21,6 @@ use Rattle.up_tables.proofs.StoredLemmas.{IsInsertOf, IsListingOf, IsQueryOf, na
 use Rattle.up_tables.proofs.ReadLemmas.{Asks, by_rowid}
 use Rattle.up_tables.proofs.BlameLemmas.{Takes}
 use Rattle.up_tables.proofs.TypedLemmas.{first_texts}
-use Rattle.sqlite.specs.Tree.{Trees}
 
 -- ---- put in
 
@@ -31,7 +28,7 @@ insert_is : (command_of (understood up_schema insert_image_text) ≡ Insert 3 (V
 unfolding understood everything
 insert_is = (refl, (refl, refl))
 
-pub image_put : (i : ImageRow) → IsInsertOf insert_image_text image_table 1 (string_bytes i.file) (image_row i) 3 7
+pub image_put : (i : ImageRow) → IsInsertOf insert_image_text image_table 1 i.file.now (image_row i) 3 7
 unfolding understood everything
 image_put i = record {
   writes = record { row = refl; is = insert_is.0; plain = insert_is.1; writes = refl; whole = refl; count = refl };
@@ -40,7 +37,7 @@ image_put i = record {
   unstamped = append-nil _;
   values = refl;
   casts = rw (cast_null, cast_int (pos i.length), cast_int (pos i.release_count)) refl;
-  named = λ x n. text_is (string_bytes i.file) n;
+  named = λ x n. text_is i.file.now n;
 }
 
 -- ---- read

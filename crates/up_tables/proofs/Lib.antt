@@ -59,6 +59,7 @@ pub mod OwnerLemmas
 pub mod OpenedLemmas
 pub mod HinderedLemmas
 pub mod MakingLemmas
+pub mod OpenedParts
 pub mod AnywhereLemmas
 pub mod UndoneLemmas
 pub mod UnmadeLemmas

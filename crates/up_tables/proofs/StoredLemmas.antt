@@ -3,6 +3,7 @@ use Rattle.std.proofs.Common.{◌≡◌, ◌≤◌, ◌⊎◌, ◌/◌, Bool, �
 use Rattle.std.proofs.Math.Bool.{and-true}
 use Rattle.std.proofs.lemmas.List.Sorted.{length_permutation}
 use Rattle.std.specs.List.{AllByRecursion, list_all}
+use Rattle.std.specs.List.Sorted.{IsPermutation}
 use Rattle.std.specs.Option.{option_to_list}
 use Rattle.std.specs.Ordering.{is_eq}
 use Rattle.std.specs.Borrow.{MutBor}
@@ -33,7 +34,7 @@ use Rattle.up_tables.specs.declared.values.StoreFault.TheVariants.{Store}
 use Rattle.up_tables.specs.Faults.{store_fault}
 use Rattle.up_tables.specs.Kinds.{ShowsOne}
 use Rattle.up_tables.specs.Rows.{bare, has_text, with_row}
-use Rattle.up_tables.specs.Stands.{IfClean, IsInside, Lists}
+use Rattle.up_tables.specs.Stands.{HasTables, IfClean, IsInside, Lists}
 use Rattle.up_tables.specs.Statements.{AltersRows, FindsAll, HoldsBy}
 use Rattle.up_tables.specs.Stored.{AreLines, EachSays, IsAsked, IsCarriedOut, IsFound, IsListed, IsQueried, IsTold, IsWritten}
 use Rattle.up_tables.specs.Tables.{up_schema}
@@ -48,6 +49,7 @@ use Rattle.up_tables.proofs.ReadLemmas.{Asks, answers_all, answers_some, bare_fi
 use Rattle.up_tables.proofs.StateLemmas.{each_in, ok_then, one_in, query_told}
 use Rattle.up_tables.proofs.StepLemmas.{shown_open}
 use Rattle.up_tables.proofs.RefusalLemmas.{Writes, blames_refusal}
+use Rattle.up_tables.proofs.SaysLemmas.{says_few}
 use Rattle.up_tables.proofs.TriedLemmas.{ran_only}
 use Rattle.up_tables.proofs.TypedLemmas.{HasTextAt}
 use Rattle.up_tables.proofs.UndoneLemmas.{undoes_only}
@@ -134,44 +136,84 @@ found g text values table at part columns tests width names passes value_of kind
 
 -- ---- one value
 
-says_few : {T : Type 0} (says : Row → T → Type 0) (rows : List Row) (o : Option T) → EachSays says rows (option_to_list o) → length rows ≤ 1
-says_few says [] o said = omega arith
-says_few says (row ∷ []) o said = omega arith
-says_few says (row ∷ more ∷ rows) None said = absurd said
-says_few says (row ∷ more ∷ rows) (Some x) said = absurd said.1
-
 few_lines : {T : Type 0} (line : T → Row) (o : Option T) → length (map line (option_to_list o)) ≤ 1
 few_lines line None = omega arith
 few_lines line (Some x) = omega arith
+
+-- the text asks for one row at most of rows that are listed in any way, and shows this part of them
+pub record IsQueryIn {L : Type 0} (lists : L → List Row → Type 0) (text : List ℕ) (values : Row) (table : Table) (part : L → List Row) (tests shown : List Term) (names : List (List ℕ)) : Type 1 where
+  pub asks : Asks up_schema text (over table.tree tests shown []) names
+  pub takes : Takes text values (over table.tree tests shown [])
+  pub answers : (old new : State) (listed : L) (rows : List Row) → old.now.schema ≡ up_schema → lists listed (old.now.trees table.tree) → Shown text values old new rows → IsPermutation (part listed) rows
+
+pub queried_value : {S T L : Type 0} (g : Ghosts S) (lists : L → List Row → Type 0) (text : List ℕ) (values : Row) (table : Table) (part : L → List Row) (tests shown : List Term) (names : List (List ℕ))
+    (says : Row → T → Type 0) (fits : T → Type 0) (line : T → Row) (old new : MutBor (Held S)) (r : Result (Option T) StoreFault) → IsQueryIn lists text values table part tests shown names
+    → IsAsked g text values (IsTold says fits line) (AreLines fits line) old new r
+    → IsQueried g text values (IsTold says fits line)
+    (λ old new r. HasCleanDisk new → IfOk r (λ found. (listed : L) → HasTables old → lists listed (old.now.trees table.tree) → IsTold says fits line (part listed) found))
+    (λ s. (listed : L) × lists listed (s.now.trees table.tree) × AreLines fits line (part listed)) old new r
+queried_value {S} {T} {L} g lists text values table part tests shown names says fits line old new r is c =
+    let before = state g old.now in
+    let after = state g new.now in
+    let read = is_read (λ rows. rows) text values before after c.answer r _ is.asks.3 c.reads c.mode c.survives c.ok c.err in
+    let asks = query_told (λ rows. rows) (IsTold says fits line) text values before after c.answer r c.reads c.ok in
+    record {
+      found = λ clean. ok_then _ _ r
+          (λ found a listed has here.
+          let order = is.answers before after listed a.0 (has (shown_open text values before after a.0 a.1)).schema_is here a.1 in
+          subst (λ rows. IsTold says fits line rows found) (sym (few_permutation (part listed) a.0 order (says_few says a.0 found a.2.said))) a.2)
+          (asks clean);
+      reads = read.reads;
+      asks = asks;
+      blame = blames (λ rows. rows) text values table.tree tests shown [] names is.asks is.takes c.answer r before after (λ (s : State). (listed : L) × lists listed (s.now.trees table.tree) × AreLines fits line (part listed)) (AreLines fits line)
+          (λ ready holds rows h.
+          let order = is.answers before after holds.0 rows ready.here.schema_is holds.1 h in
+          let few : length rows ≤ 1 = omega (arith, length_permutation _ rows order, ap length holds.2.2, few_lines line holds.2.0) in
+          subst (AreLines fits line) (few_permutation (part holds.0) rows order few) holds.2)
+          c.fault c.damaged c.ok c.err;
+      step = record { same_reference = c.same_reference; steps = read.steps; inside = read.inside; is_open = read.opened };
+    }
+
+-- the text asks for all of them, in the order of the table
+pub record IsListingIn {L : Type 0} (lists : L → List Row → Type 0) (text : List ℕ) (values : Row) (table : Table) (part : L → List Row) (tests shown : List Term) (names : List (List ℕ)) : Type 1 where
+  pub asks : Asks up_schema text (over table.tree tests shown by_rowid) names
+  pub takes : Takes text values (over table.tree tests shown by_rowid)
+  pub answers : (old new : State) (listed : L) (rows : List Row) → old.now.schema ≡ up_schema → lists listed (old.now.trees table.tree) → Shown text values old new rows → rows ≡ part listed
+
+pub queried_values : {S T A L : Type 0} (g : Ghosts S) (lists : L → List Row → Type 0) (text : List ℕ) (values : Row) (table : Table) (part : L → List Row) (tests shown : List Term) (names : List (List ℕ))
+    (tells : Row → T → Type 0) (lines : Row → Type 0) (list : A → List T) (old new : MutBor (Held S)) (r : Result A StoreFault) → IsListingIn lists text values table part tests shown names
+    → IsAsked g text values (λ rows found. EachSays tells rows (list found)) (AllByRecursion lines) old new r
+    → IsQueried g text values (λ rows found. EachSays tells rows (list found))
+    (λ old new r. HasCleanDisk new → IfOk r (λ found. (listed : L) → HasTables old → lists listed (old.now.trees table.tree) → EachSays tells (part listed) (list found)))
+    (λ s. (listed : L) × lists listed (s.now.trees table.tree) × AllByRecursion lines (part listed)) old new r
+queried_values {S} {T} {A} {L} g lists text values table part tests shown names tells lines list old new r is c =
+    let before = state g old.now in
+    let after = state g new.now in
+    let read = is_read (λ rows. rows) text values before after c.answer r _ is.asks.3 c.reads c.mode c.survives c.ok c.err in
+    let asks = query_told (λ rows. rows) (λ rows found. EachSays tells rows (list found)) text values before after c.answer r c.reads c.ok in
+    record {
+      found = λ clean. ok_then _ _ r
+          (λ found a listed has here. subst (λ rows. EachSays tells rows (list found)) (is.answers before after listed a.0 (has (shown_open text values before after a.0 a.1)).schema_is here a.1) a.2)
+          (asks clean);
+      reads = read.reads;
+      asks = asks;
+      blame = blames (λ rows. rows) text values table.tree tests shown by_rowid names is.asks is.takes c.answer r before after (λ (s : State). (listed : L) × lists listed (s.now.trees table.tree) × AllByRecursion lines (part listed)) (AllByRecursion lines)
+          (λ ready holds rows h. subst (AllByRecursion lines) (sym (is.answers before after holds.0 rows ready.here.schema_is holds.1 h)) holds.2) c.fault c.damaged c.ok c.err;
+      step = record { same_reference = c.same_reference; steps = read.steps; inside = read.inside; is_open = read.opened };
+    }
 
 pub found_value : {S T : Type 0} (g : Ghosts S) (text : List ℕ) (values : Row) (table : Table) (at : ℕ) (part : (List ℕ → List Row) → List Row) (columns : Row → Row) (tests : List Term) (width : ℕ) (names : List (List ℕ)) (passes : Row → Bool)
     (says : Row → T → Type 0) (fits : T → Type 0) (line : T → Row) (old new : MutBor (Held S)) (r : Result (Option T) StoreFault) → IsQueryOf text values table at part columns tests width names passes
     → IsAsked g text values (IsTold says fits line) (AreLines fits line) old new r
     → IsFound g text values table at (λ rows_of. map columns (part rows_of)) (IsTold says fits line) (AreLines fits line) old new r
-found_value {T = T} g text values table at part columns tests width names passes says fits line old new r is c =
-    let before = state g old.now in
-    let after = state g new.now in
-    let all = before.now.trees table.tree in
-    let answers = answers_some up_schema text table.tree tests (all_columns width) names values passes columns is.meets is.shows is.base is.asks before after in
-    let read = is_read (λ rows. rows) text values before after c.answer r _ is.asks.3 c.reads c.mode c.survives c.ok c.err in
-    let asks = query_told (λ rows. rows) (IsTold says fits line) text values before after c.answer r c.reads c.ok in
-    record {
-      found = λ clean. ok_then _ _ r
-          (λ found a rows_of has lists.
-          let same = few_permutation _ a.0 (answers a.0 (has (shown_open text values before after a.0 a.1)).schema_is a.1) (says_few says a.0 found a.2.said) in
-          subst (λ rows. IsTold says fits line rows found) (sym (ap (map columns) (is.its rows_of all lists) ∙ same)) a.2)
-          (asks clean);
-      reads = read.reads;
-      asks = asks;
-      blame = blames (λ rows. rows) text values table.tree tests (all_columns width) [] names is.asks is.takes c.answer r before after (HoldsBy table at (λ rows_of. AreLines fits line (map columns (part rows_of)))) (AreLines fits line)
-          (λ ready holds rows h.
-          let mine : AreLines fits line (map columns (filter passes (bare all))) = subst (λ rows. AreLines fits line (map columns rows)) (is.its holds.0 all holds.1) holds.2 in
-          let order = answers rows ready.here.schema_is h in
-          let few : length rows ≤ 1 = omega (arith, length_permutation _ rows order, ap length mine.2, few_lines line mine.0) in
-          subst (AreLines fits line) (few_permutation _ rows order few) mine)
-          c.fault c.damaged c.ok c.err;
-      step = record { same_reference = c.same_reference; steps = read.steps; inside = read.inside; is_open = read.opened };
-    }
+found_value g text values table at part columns tests width names passes says fits line old new r is =
+    queried_value g (Lists at) text values table (λ rows_of. map columns (part rows_of)) tests (all_columns width) names says fits line old new r
+    (record {
+      asks = is.asks;
+      takes = is.takes;
+      answers = λ before after rows_of rows has here h. subst (λ xs. IsPermutation (map columns xs) rows) (sym (is.its rows_of (before.now.trees table.tree) here))
+          (answers_some up_schema text table.tree tests (all_columns width) names values passes columns is.meets is.shows is.base is.asks before after rows has h);
+    })
 
 -- the test of a text in a column, and the rows of that text
 pub has_its_text : (at : ℕ) (name : List ℕ) (r : Row) → has_text (suc at) name r ≡ has_text at name (drop 1 r)

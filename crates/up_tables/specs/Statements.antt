@@ -67,8 +67,8 @@ SetsMeta meta old new result =
 abbrev pub SetsFile : {A E : Type 0} → FileRow → State → State → Result A E → Type 0
 SetsFile file old new result =
     HasCleanDisk new → OnOk result ((rows_of : List ℕ → List ℕ → List Row) → HasTables old
-    → ListsPairs rows_of (old.now.trees repo_file_table.tree) → length (rows_of (string_bytes file.repository) (string_bytes file.name)) ≤ 1
-    → Alters repo_file_table (ListsPairs (with_only_at (string_bytes file.repository) (string_bytes file.name) (file_row file) rows_of)) old new)
+    → ListsPairs rows_of (old.now.trees repo_file_table.tree) → length (rows_of file.repository.now file.name.now) ≤ 1
+    → Alters repo_file_table (ListsPairs (with_only_at file.repository.now file.name.now (file_row file) rows_of)) old new)
 
 -- where each file stood there once at most, these have their texts
 abbrev pub SetsFiles : {A E : Type 0} → List FileRow → State → State → Result A E → Type 0
@@ -89,8 +89,8 @@ abbrev pub SetsVehicle : {A E : Type 0} → VehicleRow → State → State → R
 SetsVehicle vehicle old new result =
     HasCleanDisk new → OnOk result ((rows_of : List ℕ → List Row) (primary : List ℕ) (version : ℕ) (last : ℕ) → HasTables old
     → Lists 1 rows_of (old.now.trees vehicle_table.tree)
-    → rows_of (string_bytes vehicle.vehicle) ≡ vehicle_line (string_bytes vehicle.vehicle) primary version last ∷ []
-    → Alters vehicle_table (Lists 1 (with_only (string_bytes vehicle.vehicle) (vehicle_row vehicle) rows_of)) old new)
+    → rows_of vehicle.vehicle.now ≡ vehicle_line vehicle.vehicle.now primary version last ∷ []
+    → Alters vehicle_table (Lists 1 (with_only vehicle.vehicle.now (vehicle_row vehicle) rows_of)) old new)
 
 -- the ECU that was recorded has this row
 abbrev pub SetsEcu : {A E : Type 0} → EcuLine → State → State → Result A E → Type 0
@@ -134,20 +134,6 @@ FindsFiles told old new result =
     HasCleanDisk new → IfOk result (λ found. (rows_of : List ℕ → List ℕ → List Row) → HasTables old
     → ListsPairs rows_of (old.now.trees repo_file_table.tree) → told rows_of found)
 
--- the numbers in the one row of `meta`
-abbrev pub FindsMeta : {E : Type 0} → State → State → Result (Option MetaRow) E → Type 0
-FindsMeta old new result =
-    HasCleanDisk new → IfOk result (λ found. (root : ℕ) (image_version : ℕ) (stamp : ℕ) → HasTables old
-    → old.now.trees meta_table.tree ≡ meta_row root image_version stamp ∷ []
-    → found ≡ Some (record { root = root; image_version = image_version; stamp = stamp }))
-
--- the ECUs of the vehicle, in order of their places
-abbrev pub FindsEcus : {A E : Type 0} → List ℕ → (A → List EcuLine) → State → State → Result A E → Type 0
-FindsEcus vehicle read old new result =
-    HasCleanDisk new → IfOk result (λ found. (rows_of : List ℕ → List Row) (es : List EcuLine) → HasTables old
-    → Lists 2 rows_of (old.now.trees ecu_table.tree) → rows_of vehicle ≡ map ecu_row es → AreInPlace vehicle 0 es
-    → rows_of vehicle ≡ map ecu_row (read found))
-
 -- ---- faults of reads
 
 -- where the tables can be read, and P holds of them, `Store` is told only where the disk counted a fault
@@ -167,15 +153,11 @@ HoldsOfAll table P s = (all : List Row) × ListsAll all (s.now.trees table.tree)
 abbrev pub HoldsOfFiles : ((List ℕ → List ℕ → List Row) → Type 0) → State → Type 0
 HoldsOfFiles P s = (rows_of : List ℕ → List ℕ → List Row) × ListsPairs rows_of (s.now.trees repo_file_table.tree) × P rows_of
 
--- `meta` has its one row
-abbrev pub HasMeta : State → Type 0
-HasMeta s = (root : ℕ) × (image_version : ℕ) × (stamp : ℕ) × (s.now.trees meta_table.tree ≡ meta_row root image_version stamp ∷ [])
-
 -- the vehicle stands there, with its Primary
 abbrev pub HasVehicle : VehicleRow → State → Type 0
 HasVehicle vehicle =
     HoldsBy vehicle_table 1 (λ rows_of. (version : ℕ) × (last : ℕ)
-    × (rows_of (string_bytes vehicle.vehicle) ≡ vehicle_line (string_bytes vehicle.vehicle) (string_bytes vehicle.primary_ecu) version last ∷ []))
+    × (rows_of vehicle.vehicle.now ≡ vehicle_line vehicle.vehicle.now vehicle.primary_ecu.now version last ∷ []))
 
 -- ---- tables that are made, and raised to the latest version of the schema
 

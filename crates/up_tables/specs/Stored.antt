@@ -14,7 +14,7 @@ use Rattle.up_tables.specs.declared.values.StoreFault.{StoreFault}
 use Rattle.up_tables.specs.Faults.{store_fault}
 use Rattle.up_tables.specs.Stands.{IfClean, IsInside}
 use Rattle.up_tables.specs.Statements.{BlamesDisk, Finds, FindsAll, HoldsBy, IsOpenStep, OnlyReads}
-use Rattle.up_tables.specs.Tried.{AnswersQuery, BlamesRefusal, Ran, Undoes}
+use Rattle.up_tables.specs.Tried.{AnswersQuery, BlamesOne, BlamesRefusal, Ran, Undoes}
 
 -- ---- what rows say
 
@@ -79,6 +79,15 @@ pub record IsWritten {S A : Type 0} (g : Ghosts S) (text : List ℕ) (row : Row)
   pub altered : alters (state g old.now) (state g new.now) result
   pub blame : BlamesRefusal text row (state g old.now) (state g new.now) result
   pub ran : Ran ((text, row) ∷ []) (state g old.now) (state g new.now) result
+  pub memory : Undoes (state g new.now) result
+  pub step : IsOpenStep g old new result
+
+-- these statements are carried out, one after another: the same of all of them, over rows of which this holds
+pub record AreWritten {S A : Type 0} (g : Ghosts S) (these : List (List ℕ × Row)) (may : State → Type 0) (alters : State → State → Result A StoreFault → Type 0)
+    (old new : MutBor (Held S)) (result : Result A StoreFault) : Type 0 where
+  pub altered : alters (state g old.now) (state g new.now) result
+  pub blame : BlamesOne these may (state g old.now) (state g new.now) result
+  pub ran : Ran these (state g old.now) (state g new.now) result
   pub memory : Undoes (state g new.now) result
   pub step : IsOpenStep g old new result
 

@@ -69,5 +69,6 @@ pub fn image_sha512s<S: Alter, R: RowReading>(
         tx,
         alloc,
         "SELECT file, sha512 FROM image_sha512 ORDER BY rowid",
+        &[],
     )
 }

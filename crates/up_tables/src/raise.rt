@@ -1,15 +1,12 @@
 //! Tables of an older version of the schema become those of the latest, in one transaction.
 
-ghost use Rattle.std.specs.Prelude.{◌≡◌, ◌≢◌, ◌⊎◌, false, OnOk, OnErr, IfErr, IsTrue};
+ghost use Rattle.std.specs.Prelude.{◌≡◌, false, OnOk, IfErr};
 ghost use Rattle.sqlite.specs.Held.{state};
-ghost use Rattle.sqlite.specs.State.{HasCleanDisk, Survives};
-ghost use Rattle.up_tables.specs.Listed.{TableRows, ListsTables};
-ghost use Rattle.up_tables.specs.Making.{alone, raising, set_schema_text, RaisesBy, ShowsRaised, StopsAtOne, TriesAnywhere};
-ghost use Rattle.up_tables.specs.Ours.{HasFailed, IsOlder, RaisedFrom};
-ghost use Rattle.up_tables.specs.Stands.{IfClean, IsAsCommitted, IsInside, IsOpen, Stands};
-ghost use Rattle.up_tables.specs.Tables.{up_schema};
-ghost use Rattle.up_tables.specs.Versions.{StandsAs};
-ghost use Rattle.up_tables.specs.declared.open.OpenFault.TheVariants as OpenFault;
+ghost use Rattle.sqlite.specs.State.{HasCleanDisk};
+ghost use Rattle.up_tables.specs.Making.{alone, raising, set_schema_text, RaisesBy, TriesAnywhere};
+ghost use Rattle.up_tables.specs.Opened.{Ends, IsRaised, IsUnraised};
+ghost use Rattle.up_tables.specs.Ours.{IsOlder, RaisedFrom};
+ghost use Rattle.up_tables.specs.Stands.{IfClean, IsInside, IsOpen};
 ghost use Rattle.up_tables.specs.declared.open.SchemaVersion.TheVariants.{One, Two};
 ghost use Rattle.up_tables.specs.Statements.{IsStep, NamesLatest, RaisesFrom};
 
@@ -87,20 +84,10 @@ pub(crate) fn raise<S: Alter>(
 ) -> Result<(), OpenFault>
     requires older { IsOlder version }
     requires mode { (state S.Store conn.old).in_transaction ≡ false }
-    ensures raised { HasCleanDisk (state S.Store conn.new) → OnOk result ((rows : TableRows) → StandsAs version rows (state S.Store conn.old)
-        → Stands up_schema (ListsTables rows) (state S.Store conn.new)) }
-    ensures ran { HasCleanDisk (state S.Store conn.new) → OnOk result
-        (ShowsRaised version (state S.Store conn.old).step_limit (state S.Store conn.old).now (state S.Store conn.new)) }
-    ensures older { IsOlder version }
-    ensures kept { OnErr result (IfClean (IsAsCommitted (state S.Store conn.old)) (state S.Store conn.new)) }
-    ensures fault { IfErr result (λ e. e ≢ OpenFault.NotOurs) }
-    ensures cause { HasCleanDisk (state S.Store conn.new) → IfErr result (λ e. e ≡ OpenFault.Store
-        → HasFailed (state S.Store conn.old) (state S.Store conn.new)
-        ⊎ StopsAtOne (state S.Store conn.old).step_limit (raising version) (state S.Store conn.old).now) }
-    ensures autocommit { (state S.Store conn.new).in_transaction ≡ false }
-    ensures crash { Survives (state S.Store conn.old) (state S.Store conn.new)
+    ensures raised { OnOk result (IsRaised version (state S.Store conn.old) (state S.Store conn.new)) }
+    ensures ends { Ends (state S.Store conn.old) (state S.Store conn.new)
         (λ trees. RaisedFrom version (state S.Store conn.old) trees × RaisesBy version (state S.Store conn.old) trees) }
-    ensures open { HasCleanDisk (state S.Store conn.new) → OnOk result (IsTrue (state S.Store conn.old).is_open) }
+    ensures fault { IfErr result (IsUnraised version (state S.Store conn.old) (state S.Store conn.new)) }
 {
     let mut tx = conn.transaction();
     if let Err(fault) = opened(raise_tables(&mut tx, version)) {

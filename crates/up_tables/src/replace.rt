@@ -6,8 +6,7 @@ ghost use Rattle.sqlite.specs.Held.{state};
 ghost use Rattle.up_tables.specs.Texts.{replace_ecu_text};
 ghost use Rattle.up_tables.specs.Stands.{IfClean, IsInside};
 ghost use Rattle.up_tables.specs.Stored.{IsWritten};
-ghost use Rattle.up_tables.specs.Statements.{IsOpenStep, ReplacesEcu};
-ghost use Rattle.up_tables.specs.Tried.{BlamesRefusal, Ran, Undoes};
+ghost use Rattle.up_tables.specs.Statements.{ReplacesEcu};
 
 use crate::statement::write;
 use crate::values::{StoreFault, bytes, words};

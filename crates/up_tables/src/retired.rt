@@ -12,11 +12,10 @@ ghost use Rattle.up_tables.specs.Rows.{has_text, columns_at, with_row};
 ghost use Rattle.up_tables.specs.Lines.{retired_line};
 ghost use Rattle.up_tables.specs.Ecus.{owns};
 ghost use Rattle.up_tables.specs.Stands.{IfClean, IsInside};
-ghost use Rattle.up_tables.specs.Statements.{AltersRows, IsOpenStep, OnlyReads, Finds, BlamesDisk, HoldsBy};
+ghost use Rattle.up_tables.specs.Statements.{AltersRows, Finds, HoldsBy};
 ghost use Rattle.up_tables.specs.Stored.{IsQueried, IsWritten};
-ghost use Rattle.up_tables.specs.Tried.{AnswersQuery};
 
-use crate::reading::at_most_one;
+use crate::reading::one_text;
 use crate::statement::write;
 use crate::values::{StoreFault, words};
 use sqlite::{Alter, Transaction};
@@ -48,5 +47,5 @@ pub fn retired_owner<S: Alter>(
         (Finds retired_table 2 (λ rows_of found. (vehicle : List ℕ) → list_any (has_text 0 ecu.now) (rows_of vehicle) ≡ owns (option_map (λ s. string_bytes s) found) vehicle))
         (HoldsBy retired_table 2 (HasOwner ecu.now)) tx.old.conn tx.new.conn result }
 {
-    at_most_one(tx.query_all("SELECT vehicle FROM retired WHERE ecu = ?1", &[words(ecu)]))
+    one_text(tx.query_all("SELECT vehicle FROM retired WHERE ecu = ?1", &[words(ecu)]))
 }

@@ -1,16 +1,12 @@
 //! One statement within a transaction: a write, or a query whose rows are read.
 
-ghost use Rattle.std.specs.Prelude.{◌≡◌, [], map};
 ghost use Rattle.std.specs.List.{AllByRecursion};
-ghost use Rattle.std.specs.Option.{option_to_list};
 ghost use Rattle.sqlite.specs.Held.{state};
 ghost use Rattle.sqlite.specs.Values.{bound};
-ghost use Rattle.up_tables.specs.Kinds.{ShowsOne};
-ghost use Rattle.up_tables.specs.Rows.{columns_at};
 ghost use Rattle.up_tables.specs.Stands.{IfClean, IsInside};
 ghost use Rattle.up_tables.specs.Stored.{AreLines, EachSays, IsAsked, IsCarriedOut, IsLine, IsTold, Tells};
 
-use crate::reading::{Decode, RowReading, at_most_one, each_row, each_value, one_value};
+use crate::reading::{RowReading, each_value, one_value};
 use crate::values::{StoreFault, done};
 use sqlite::{Alter, Transaction};
 use sqlite_value::value::ValueRef;
@@ -28,32 +24,6 @@ pub(crate) fn write<S: Alter>(
     done(tx.execute(sql, values))
 }
 
-/// Asks for one row at most.
-pub(crate) fn find<S: Alter, T: Decode + Drop>(
-    tx: &mut Transaction<'_, S>,
-    sql: &str,
-    values: &[ValueRef<'_>],
-) -> Result<Option<T>, StoreFault>
-    requires mode { IfClean IsInside (state S.Store tx.old.conn.now) }
-    ensures { IsAsked S.Store sql.now (bound values.now) (λ rows found. map (columns_at T.places) rows ≡ map T.values (option_to_list found))
-        (ShowsOne T.shows) tx.old.conn tx.new.conn result }
-{
-    at_most_one(tx.query_all(sql, values))
-}
-
-/// Asks for all rows.
-pub(crate) fn list<S: Alter, T: Decode + Drop>(
-    tx: &mut Transaction<'_, S>,
-    alloc: Global,
-    sql: &str,
-) -> Result<Vec<T>, StoreFault>
-    requires mode { IfClean IsInside (state S.Store tx.old.conn.now) }
-    ensures { IsAsked S.Store sql.now [] (λ rows found. map (columns_at T.places) rows ≡ map T.values found.items)
-        (AllByRecursion T.shows) tx.old.conn tx.new.conn result }
-{
-    each_row(alloc, tx.query_all(sql, &[]))
-}
-
 /// Asks for the value of one row at most.
 pub(crate) fn find_value<S: Alter, R: RowReading>(
     tx: &mut Transaction<'_, S>,
@@ -67,15 +37,16 @@ pub(crate) fn find_value<S: Alter, R: RowReading>(
     one_value::<R>(alloc, tx.query_all(sql, values))
 }
 
-/// Asks for the values of all rows.
+/// Asks for the values of rows.
 pub(crate) fn list_values<S: Alter, R: RowReading>(
     tx: &mut Transaction<'_, S>,
     alloc: Global,
     sql: &str,
+    values: &[ValueRef<'_>],
 ) -> Result<Vec<R::Item>, StoreFault>
     requires mode { IfClean IsInside (state S.Store tx.old.conn.now) }
-    ensures { IsAsked S.Store sql.now [] (λ rows found. EachSays (Tells R.says R.fits R.line) rows found.items)
+    ensures { IsAsked S.Store sql.now (bound values.now) (λ rows found. EachSays (Tells R.says R.fits R.line) rows found.items)
         (AllByRecursion (IsLine R.fits R.line)) tx.old.conn tx.new.conn result }
 {
-    each_value::<R>(alloc, tx.query_all(sql, &[]))
+    each_value::<R>(alloc, tx.query_all(sql, values))
 }

@@ -82,14 +82,14 @@ fn write_image<S: Alter>(alloc: Global, store: &mut Store<S>, given: &str) -> Re
 
 fn write_vehicle<S: Alter>(alloc: Global, store: &mut Store<S>, given: &str) -> Result<(), Fault> {
     match vehicle_rows(alloc, given) {
-        Ok(rows) => done(store.write_vehicle(alloc, &rows)),
+        Ok(rows) => done(store.write_vehicle(&rows)),
         Err(fault) => Err(fault),
     }
 }
 
 fn write_replace<S: Alter>(alloc: Global, store: &mut Store<S>, given: &str) -> Result<(), Fault> {
     match replacement(alloc, given) {
-        Ok(new) => done(store.write_replace(alloc, &new)),
+        Ok(new) => done(store.write_replace(&new)),
         Err(fault) => Err(fault),
     }
 }

@@ -1,9 +1,13 @@
-use Rattle.std.proofs.Common.{◌∙◌}
-use Rattle.up_tables.proofs.ColumnLemmas.{handed_on}
+use Rattle.std.proofs.Common.{ap, subst, sym, ◌∙◌, IsUtf8}
+use Rattle.std.proofs.lemmas.Str.{IsUtf8-string_bytes}
+use Rattle.sqlite.specs.declared.types.Value.TheVariants.{Text}
+use Rattle.up_tables.proofs.ColumnLemmas.{on_ok}
 use Rattle.up_store.proofs.KindsOfTexts.{ident}
 use Rattle.up_store.proofs.column_values.ident_at.Goals as goal
 
-pub returns-in_err-text-clause-fault : goal.returns-in_err-text-clause-fault
-returns-in_err-text-clause-fault c =
-    handed_on c.from_residual.result c.in_err-text.field-0.0 _ c.from_residual.ensures.1
-    (λ is name typed same. let w = ident name typed in c.in_err-text.ensures.fault is w.0 w.2 (same ∙ w.1))
+pub returns-in-Ok-clause-ok : goal.returns-in-Ok-clause-ok
+returns-in-Ok-clause-ok c =
+    on_ok c.ident_in.result _ _ (λ name is. (c.in-Ok.ensures.ok ∙ ap (λ t. Text t) (sym is), subst IsUtf8 (sym is) (IsUtf8-string_bytes c.in-Ok.text))) c.ident_in.ensures.ok
+
+pub returns-in-Err-clause-fault : goal.returns-in-Err-clause-fault
+returns-in-Err-clause-fault c = λ is name typed same. let w = ident name typed in c.in-Err.ensures.fault is w.0 w.2 (same ∙ w.1)

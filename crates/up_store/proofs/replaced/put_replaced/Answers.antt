@@ -1,48 +1,54 @@
-use Rattle.std.proofs.Common.{arith}
-use Rattle.sqlite.specs.Held.{state}
-use Rattle.up_store.proofs.ReplacePuts.{puts_replaced}
-use Rattle.up_store.proofs.Written.{clean_step, was_open_before}
-use Rattle.std.proofs.Common.{ℕ, List, [], ◌∷◌, Err}
-use Rattle.sqlite.specs.Order.{Row}
-use Rattle.up_store.specs.Writes.{replace_writes}
-use Rattle.up_store.proofs.PutBlames.{told_on}
+use Rattle.std.proofs.Common.{ℕ, List, [], ◌∷◌, Err, arith, rules}
 use Rattle.std.specs.Prelude.{⊤}
+use Rattle.sqlite.specs.Held.{state}
+use Rattle.sqlite.specs.Order.{Row}
 use Rattle.sqlite.specs.declared.types.Value.TheVariants.{Text, Blob}
 use Rattle.up_tables.specs.Lines.{retired_line}
 use Rattle.up_tables.specs.Texts.{replace_ecu_text, insert_retired_text}
 use Rattle.up_tables.proofs.TriedLemmas.{blames_first, blames_only, blames_then, ran_then}
+use Rattle.up_tables.proofs.UndoneLemmas.{undoes_next}
+use Rattle.up_store.specs.Writes.{replace_writes}
+use Rattle.up_store.proofs.PutBlames.{told_on}
+use Rattle.up_store.proofs.ReplacePuts.{puts_replaced}
+use Rattle.up_store.proofs.Written.{clean_step, was_open_before}
 use Rattle.up_store.proofs.replaced.put_replaced.Goals as goal
 
-pub returns-clause-put : goal.returns-clause-put
-returns-clause-put g c clean =
-    let cleanly = clean_step c.insert_retired.ensures.step.steps clean in
-    puts_replaced c.insert_retired.result c.args.new.now (state g.D.Store c.args.tx.now.conn.now) (state g.D.Store c.replace_ecu.new.tx.conn.now) (state g.D.Store c.insert_retired.new.tx.conn.now)
-    (rw (c.text.ensures.value, c.text-2.ensures.value, c.text-3.ensures.value, c.as_slice.ensures) at c.in_ok-replace_ecu.ensures.altered cleanly) (rw (c.text-4.ensures.value, c.text-5.ensures.value) at c.insert_retired.ensures.altered clean)
-    (record { ecu = c.text-2.ensures.fits; hardware = c.text-3.ensures.fits; installed = tt; counter = omega arith; report = tt })
-    (was_open_before c.insert_retired.result (state g.D.Store c.args.tx.now.conn.now) ((c.replace_ecu.ensures.step.steps.kept cleanly).was_open (c.in_ok-replace_ecu.ensures.step.is_open cleanly)))
-
-pub returns-clause-blame : goal.returns-clause-blame
-returns-clause-blame g c =
+pub returns : goal.returns
+returns g c =
     let new = c.args.new.now in
-    blames_then ((replace_ecu_text, Text new.ecu.ecu ∷ Text new.ecu.hardware ∷ Blob new.ecu.public ∷ Text new.old ∷ []) ∷ []) ((insert_retired_text, retired_line new.old new.vehicle) ∷ [])
-    (state g.D.Store c.args.tx.now.conn.now) (state g.D.Store c.replace_ecu.new.tx.conn.now) (state g.D.Store c.insert_retired.new.tx.conn.now) c.replace_ecu.ensures.step.steps.survives c.insert_retired.ensures.step.steps.survives (λ _. ⊤) (λ _. ⊤) c.insert_retired.result
-    (rw (c.text.ensures.value, c.text-2.ensures.value, c.text-3.ensures.value, c.as_slice.ensures) at c.in_ok-replace_ecu.ensures.ran) c.in_ok-replace_ecu.ensures.step.is_open (λ clean is_open has holds. tt)
-    (blames_only (λ _. ⊤) insert_retired_text _ (state g.D.Store c.replace_ecu.new.tx.conn.now) (state g.D.Store c.insert_retired.new.tx.conn.now) c.insert_retired.result (rw (c.text-4.ensures.value, c.text-5.ensures.value) at c.insert_retired.ensures.blame))
+    let s0 = state g.D.Store c.args.tx.now.conn.now in
+    let s1 = state g.D.Store c.replace_ecu.new.tx.conn.now in
+    let s2 = state g.D.Store c.insert_retired.new.tx.conn.now in
+    let first : List (List ℕ × Row) = (replace_ecu_text, Text new.ecu.ecu ∷ Text new.ecu.hardware ∷ Blob new.ecu.public ∷ Text new.old ∷ []) ∷ [] in
+    let rest : List (List ℕ × Row) = (insert_retired_text, retired_line new.old new.vehicle) ∷ [] in
+    let one = rw (c.text.ensures.value, c.text-2.ensures.value, c.text-3.ensures.value, c.as_slice.ensures) at c.in_ok-replace_ecu.ensures in
+    let two = rw (c.text-4.ensures.value, c.text-5.ensures.value) at c.insert_retired.ensures in
+    record {
+      put = λ clean.
+          let cleanly = clean_step two.step.steps clean in
+          puts_replaced c.insert_retired.result new s0 s1 s2 (one.altered cleanly) (two.altered clean)
+          (record { ecu = c.text-2.ensures.fits; hardware = c.text-3.ensures.fits; installed = tt; counter = omega arith; report = tt })
+          (was_open_before c.insert_retired.result s0 ((one.step.steps.kept cleanly).was_open (one.step.is_open cleanly)));
+      ran = ran_then first rest s0 s1 s2 one.step.steps.survives two.step.steps.survives c.insert_retired.result one.ran two.ran;
+      blame = blames_then first rest s0 s1 s2 one.step.steps.survives two.step.steps.survives (λ _. ⊤) (λ _. ⊤) c.insert_retired.result one.ran one.step.is_open (λ clean is_open has holds. tt)
+          (blames_only (λ _. ⊤) insert_retired_text _ s1 s2 c.insert_retired.result two.blame);
+      memory = two.memory;
+      step = search rules;
+    }
 
-pub returns-in_err-replace_ecu-clause-blame : goal.returns-in_err-replace_ecu-clause-blame
-returns-in_err-replace_ecu-clause-blame g c =
+pub returns-in_err-replace_ecu : goal.returns-in_err-replace_ecu
+returns-in_err-replace_ecu g c =
     let new = c.args.new.now in
     let f = c.in_err-replace_ecu.field-0.0 in
-    let before = state g.D.Store c.args.tx.now.conn.now in
-    let after = state g.D.Store c.replace_ecu.new.tx.conn.now in
-    let these : List (List ℕ × Row) = (replace_ecu_text, Text new.ecu.ecu ∷ Text new.ecu.hardware ∷ Blob new.ecu.public ∷ Text new.old ∷ []) ∷ [] in
-    told_on c.from_residual.result f (replace_writes new) (λ _. ⊤) before after c.from_residual.ensures.1
-    (blames_first {T = ⊤} these ((insert_retired_text, retired_line new.old new.vehicle) ∷ []) (λ _. ⊤) before after (Err f)
-    (blames_only {T = ⊤} (λ _. ⊤) replace_ecu_text _ before after (Err f) (rw (c.text.ensures.value, c.text-2.ensures.value, c.text-3.ensures.value, c.as_slice.ensures) at c.in_err-replace_ecu.ensures.blame)))
-
-pub returns-clause-ran : goal.returns-clause-ran
-returns-clause-ran g c =
-    let new = c.args.new.now in
-    ran_then ((replace_ecu_text, Text new.ecu.ecu ∷ Text new.ecu.hardware ∷ Blob new.ecu.public ∷ Text new.old ∷ []) ∷ []) ((insert_retired_text, retired_line new.old new.vehicle) ∷ [])
-    (state g.D.Store c.args.tx.now.conn.now) (state g.D.Store c.replace_ecu.new.tx.conn.now) (state g.D.Store c.insert_retired.new.tx.conn.now) c.replace_ecu.ensures.step.steps.survives c.insert_retired.ensures.step.steps.survives c.insert_retired.result
-    (rw (c.text.ensures.value, c.text-2.ensures.value, c.text-3.ensures.value, c.as_slice.ensures) at c.in_ok-replace_ecu.ensures.ran) (rw (c.text-4.ensures.value, c.text-5.ensures.value) at c.insert_retired.ensures.ran)
+    let s0 = state g.D.Store c.args.tx.now.conn.now in
+    let s1 = state g.D.Store c.replace_ecu.new.tx.conn.now in
+    let first : List (List ℕ × Row) = (replace_ecu_text, Text new.ecu.ecu ∷ Text new.ecu.hardware ∷ Blob new.ecu.public ∷ Text new.old ∷ []) ∷ [] in
+    let one = rw (c.text.ensures.value, c.text-2.ensures.value, c.text-3.ensures.value, c.as_slice.ensures) at c.in_err-replace_ecu.ensures in
+    record {
+      put = search rules;
+      ran = search rules;
+      blame = told_on c.from_residual.result f (replace_writes new) (λ _. ⊤) s0 s1 c.from_residual.ensures.1
+          (blames_first {T = ⊤} first ((insert_retired_text, retired_line new.old new.vehicle) ∷ []) (λ _. ⊤) s0 s1 (Err f) (blames_only {T = ⊤} (λ _. ⊤) replace_ecu_text _ s0 s1 (Err f) one.blame));
+      memory = undoes_next c.from_residual.result s1 _ c.from_residual.ensures.1 one.memory;
+      step = search rules;
+    }

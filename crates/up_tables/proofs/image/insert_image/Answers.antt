@@ -5,4 +5,4 @@ use Rattle.up_tables.proofs.image.insert_image.Goals as goal
 pub returns : goal.returns
 returns g c =
     inserted g.S.Store _ _ 1 _ _ 3 7 _ _ c.write.result (image_put c.args.image.now)
-    (rw (c.words.ensures, c.as_str.ensures.value, c.number.ensures, c.bytes.ensures, c.as_slice.ensures.value, c.words-2.ensures, c.as_str-2.ensures.value, c.number-2.ensures, c.words-3.ensures, c.as_str-3.ensures.value, c.words-4.ensures, c.as_str-4.ensures.value) at c.write.ensures)
+    (rw (c.words.ensures, c.number.ensures, c.bytes.ensures, c.words-2.ensures, c.number-2.ensures, c.words-3.ensures, c.words-4.ensures) at c.write.ensures)

@@ -1,0 +1,67 @@
+-- What a call that makes, takes or raises the tables leaves, and why it tells a fault, each in one relation.
+use Rattle.std.specs.Prelude.{◌≡◌, ◌≢◌, ◌⊎◌, Bool, false, IsTrue}
+use Rattle.sqlite.specs.State.{State, HasCleanDisk, Survives}
+use Rattle.sqlite.specs.Tree.{Trees}
+use Rattle.up_tables.specs.declared.open.OpenFault.{OpenFault}
+use Rattle.up_tables.specs.declared.open.OpenFault.TheVariants.{NotOurs, Store}
+use Rattle.up_tables.specs.declared.open.SchemaVersion.{SchemaVersion}
+use Rattle.up_tables.specs.Lines.{AreNew}
+use Rattle.up_tables.specs.Listed.{TableRows, ListsTables}
+use Rattle.up_tables.specs.Making.{FailsToMake, FailsToRaise, IsTaken, ShowsRaised, StopsAtOne, raising}
+use Rattle.up_tables.specs.Ours.{HasFailed, IsHindered, ListsUs, NamesOthers, NamesUs}
+use Rattle.up_tables.specs.Stands.{AreWith, HasNoTables, IfClean, IsAsCommitted, LeavesOnly, Stands}
+use Rattle.up_tables.specs.Tables.{up_schema}
+use Rattle.up_tables.specs.Versions.{StandsAs}
+
+-- whatever is answered: no transaction is under way, and a crash leaves what it could leave before, or this
+pub record Ends (old new : State) (may : Trees → Type 0) : Type 0 where
+  pub mode : new.in_transaction ≡ false
+  pub survives : Survives old new may
+
+-- ---- made
+
+-- where there were none, the tables are there, empty but for the row of `meta`, and a crash leaves them alone
+pub record IsMade (old new : State) : Type 0 where
+  pub made : IfClean (Stands up_schema AreNew) new
+  pub durable : IfClean (LeavesOnly (AreWith up_schema AreNew)) new
+  pub empty : HasCleanDisk new → HasNoTables old
+  pub «open» : HasCleanDisk new → IsTrue old.is_open
+
+-- why they aren't made; what was committed is there still
+pub record IsUnmade (old new : State) (fault : OpenFault) : Type 0 where
+  pub known : fault ≢ NotOurs
+  pub cause : HasCleanDisk new → fault ≡ Store → FailsToMake old new
+  pub kept : IfClean (IsAsCommitted old) new
+
+-- ---- taken
+
+-- Whether `meta` names this product, as it does where tables list its rows. Then those rows are listed by the latest version; else what was
+-- committed is there still.
+pub record Takes (old new : State) (yes : Bool) : Type 0 where
+  pub ours : IsTrue yes → HasCleanDisk new → NamesUs old
+  pub others : yes ≡ false → HasCleanDisk new → NamesOthers old
+  pub listed : HasCleanDisk new → (version : SchemaVersion) → ListsUs version old → IsTrue yes
+  pub taken : IsTrue yes → HasCleanDisk new → (version : SchemaVersion) (rows : TableRows) → StandsAs version rows old → Stands up_schema (ListsTables rows) new
+  pub ran : IsTrue yes → HasCleanDisk new → IsTaken old new
+  pub kept : yes ≡ false → IfClean (IsAsCommitted old) new
+  pub «open» : HasCleanDisk new → IsTrue old.is_open
+
+-- why they aren't taken; what was committed is there still
+pub record IsUntaken (old new : State) (fault : OpenFault) : Type 0 where
+  pub known : fault ≢ NotOurs
+  pub cause : HasCleanDisk new → fault ≡ Store → IsHindered old new ⊎ FailsToRaise old
+  pub kept : IfClean (IsAsCommitted old) new
+
+-- ---- raised
+
+-- the rows of the older version are listed by the latest, and what its statements make of what was there is shown
+pub record IsRaised (version : SchemaVersion) (old new : State) : Type 0 where
+  pub raised : HasCleanDisk new → (rows : TableRows) → StandsAs version rows old → Stands up_schema (ListsTables rows) new
+  pub ran : HasCleanDisk new → ShowsRaised version old.step_limit old.now new
+  pub «open» : HasCleanDisk new → IsTrue old.is_open
+
+-- why they aren't raised; what was committed is there still
+pub record IsUnraised (version : SchemaVersion) (old new : State) (fault : OpenFault) : Type 0 where
+  pub known : fault ≢ NotOurs
+  pub cause : HasCleanDisk new → fault ≡ Store → HasFailed old new ⊎ StopsAtOne old.step_limit (raising version) old.now
+  pub kept : IfClean (IsAsCommitted old) new
