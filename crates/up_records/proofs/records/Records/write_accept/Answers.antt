@@ -17,15 +17,6 @@ returns g c k =
       takes = λ s next sound was is.
           takes k s next (state g.D.Store old) (state g.D.Store new) c.write_accept.result (accept_writes c.args.new.now) (λ rows. IsRecorded c.args.new.now rows × FitsAccepted c.args.new.now) (IsRecorded c.args.new.now) (λ rows. with_accepted_rows rows c.args.new.now) was
           (λ now. subst (λ t. WillWrite k s t (accept_writes c.args.new.now) (λ rows. IsRecorded c.args.new.now rows × FitsAccepted c.args.new.now) (IsRecorded c.args.new.now) (λ rows. with_accepted_rows rows c.args.new.now)) (sym (is now).4) (accepting_fits k s (is now).0 (is now).1 (is now).2 c.args.new.now sound c.rows_are_found.ensures.vehicles c.manifests_are_added.ensures c.ecus_tell_their_hash.ensures (is now).3 (is now).5))
-          (λ now. accepted_fits s next (is now).0 (is now).1 (is now).2 _ _ (is now).3 (is now).4 refl) (record {
-            written = c.write_accept.ensures.written;
-            durable = c.write_accept.ensures.durable;
-            kept = c.write_accept.ensures.kept;
-            crash = c.write_accept.ensures.crash;
-            clean = c.write_accept.ensures.clean;
-            «open» = c.write_accept.ensures.open;
-            ran = c.write_accept.ensures.ran;
-            blame = c.write_accept.ensures.blame;
-          });
+          (λ now. accepted_fits s next (is now).0 (is now).1 (is now).2 _ _ (is now).3 (is now).4 refl) c.write_accept.ensures;
       can = λ can. can;
     })
