@@ -1,6 +1,5 @@
 -- What a decision that went through says.
-use Rattle.std.proofs.Common.{◌≡◌, ℕ, List, Option, Some, None, Result, Ok, Err, refl, sym, ap, ◌∙◌, subst}
-use Rattle.std.specs.Prelude.{IfSome}
+use Rattle.std.proofs.Common.{◌≡◌, ℕ, List, Some, Result, Ok, Err, refl, sym, ap, ◌∙◌, subst}
 use Rattle.std.specs.FinMap as table
 use Rattle.up_canon.specs.Names.{Name}
 use Rattle.up_canon.specs.declared.refusal.Refusal.{Refusal}
@@ -72,11 +71,6 @@ when_accepted k s name (Repeat reply) rows computed is h = cc
 when_accepted k s name (Accepted other) rows computed is h =
     let same : other ≡ rows = cc in
     subst (λ (r : AcceptedRows). IsAccepted k s name r computed) same (record { vehicle = h.0; entry = h.1; found = h.2; decided = h.3; has = h.4 })
-
--- what holds of each value that may be there
-pub if_some : {T : Type 0} (P : T → Type 0) (o : Option T) → ((x : T) → o ≡ Some x → P x) → IfSome o P
-if_some P None h = tt
-if_some P (Some x) h = h x refl
 
 -- the text of a file, or what is due
 pub file_or_fault : (old new : Standing) (s : State) (result : Result (List ℕ) Refusal) (computed : Result Outcome Refusal) → NeverStore computed → GivesFile s result computed → GivesOrFails (GivesFile s) old new result computed

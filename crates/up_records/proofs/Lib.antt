@@ -6,4 +6,5 @@ pub mod Viewing
 pub mod Writing
 pub mod Cataloged
 pub mod SentBy
+pub mod Leaving
 pub mod Fitting

@@ -1,6 +1,6 @@
 -- Reads over a connection one after another, and what is decided by them.
-use Rattle.std.proofs.Common.{◌≡◌, ◌⊎◌, ◌≤◌, Bool, true, false, Result, Ok, Err, OnOk, IsTrue, inl, inr, refl, sym, ap, ◌∙◌, subst, arith}
-use Rattle.std.specs.Prelude.{◌||◌, ⊤, MatchBool, IfErr, IfOk}
+use Rattle.std.proofs.Common.{◌≡◌, ◌⊎◌, ◌≤◌, Bool, true, false, Result, Ok, Err, IsTrue, inl, inr, refl, sym, ap, ◌∙◌, subst, arith}
+use Rattle.std.specs.Prelude.{◌||◌, ⊤, MatchBool, IfOk}
 use Rattle.sqlite_disk.specs.Disk.{MoreFaults}
 use Rattle.sqlite.specs.Tree.{Trees}
 use Rattle.sqlite.specs.State.{State as Connected, HasCleanDisk, Survives}
@@ -45,15 +45,6 @@ reads_then {a} {b} {c} ab bc = record {
 
 pub keeps_after : (k : Rules) (s : State) {old new : Connected} → IfClean (KeepsState k s) old → Reads old new → IfClean (KeepsState k s) new
 keeps_after k s was reads = reads.kept (rows_of_state k s) was
-
--- two that follow on each other
-pub record Following (old mid new : Connected) : Type 0 where
-  pub clean : HasCleanDisk new → HasCleanDisk mid
-  pub keeps : (k : Rules) (s : State) → IfClean (KeepsState k s) old → IfClean (KeepsState k s) mid
-  pub reads : Reads old new
-
-pub following : {old mid new : Connected} → Reads old mid → Reads mid new → Following old mid new
-following first second = record { clean = clean_before second; keeps = λ k s was. keeps_after k s was first; reads = reads_then first second }
 
 -- a fault of the disk behind a read, or one that shut the connection in it
 pub blamed_over : {old mid : Connected} (new : Connected) → Reads old mid → mid.faults ≤ new.faults → HasCleanDisk mid → (IsTrue mid.is_open → MoreFaults mid.faults new.faults) → IsTrue old.is_open → MoreFaults old.faults new.faults
@@ -143,11 +134,3 @@ failed_told r f X is = subst (λ q. MatchBool (is_fault q) ⊤ X) (sym is) (faul
 pub if_ok_then : {A E : Type 0} (r : Result A E) (P Q : A → Type 0) → IfOk r P → ((x : A) → P x → Q x) → IfOk r Q
 if_ok_then (Ok x) P Q h f = f x h
 if_ok_then (Err e) P Q h f = tt
-
-pub if_err_then : {A E : Type 0} (r : Result A E) (P Q : E → Type 0) → IfErr r P → ((e : E) → P e → Q e) → IfErr r Q
-if_err_then (Ok x) P Q h f = tt
-if_err_then (Err e) P Q h f = f e h
-
-pub on_ok_then : {A E : Type 0} (r : Result A E) (P Q : Type 0) → OnOk r P → (P → Q) → OnOk r Q
-on_ok_then (Ok x) P Q h f = f h
-on_ok_then (Err e) P Q h f = tt

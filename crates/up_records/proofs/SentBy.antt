@@ -59,10 +59,6 @@ pub passed_on : {S A : Type 0} (o : Option Refusal) (old new : S) (x : A) (P : R
 passed_on None old new x P h = tt
 passed_on {A = A} (Some r) old new x P h = absurd (let is : ◌≡◌ {A = Result A Refusal} (Ok x) (Err r) = h.refused in cc)
 
--- before founding nothing is refused so
-pub unloaded : (k : Rules) (incoming : Incoming) (o : Option Catalog) (P : Refusal → Type 0) → o ≡ None → IfSome (refused_in k o incoming) P
-unloaded k incoming o P none = subst (λ q. IfSome (refused_in k q incoming) P) (sym none) tt
-
 -- where nothing is loaded yet nothing is refused so, and what was there is still there
 pub still_refused : {S A : Type 0} (k : Rules) (incoming : Incoming) (old mid : Option Catalog) (before after last : S) (result : Result A Refusal) (P : Type 0)
     → (is_some old ≡ true → P × (mid ≡ old) × (after ≡ before)) → IfSome (refused_in k mid incoming) (RefusesUnread after last result) → IfSome (refused_in k old incoming) (RefusesUnread before last result)
@@ -97,16 +93,6 @@ come_sent k s incoming founding received old new there receives are come vehicle
 
 -- ---- what is loaded for it
 
--- the refusal of one step is that of the next
-pub still_there : (A B : Type 0) (r : Refusal) (catalog : Option Catalog) → IsThere {A = A} (Err r) catalog → IsThere {A = B} (Err r) catalog
-still_there A B r catalog (inl is) = let same : r ≡ NotFounded = cc in inl (ap (λ x. Err x) same)
-still_there A B r catalog (inr there) = inr there
-
--- what passed was founded
-pub there_behind : (A B : Type 0) (x : A) (result : Result B Refusal) (catalog : Option Catalog) → IsThere {A = A} (Ok x) catalog → IsThere result catalog
-there_behind A B x result catalog (inl is) = let no : ◌≡◌ {A = Result A Refusal} (Ok x) (Err NotFounded) = is in cc
-there_behind A B x result catalog (inr there) = inr there
-
 -- ---- the rows of its vehicle
 
 pub unknown_refused : (k : Rules) (s : State) (incoming : Incoming) (founding : Founding) (r : Refusal) → founding_row s ≡ Some founding → GivesVehicle s incoming.manifest.vehicle (Err r)
@@ -131,16 +117,6 @@ sender_refused {old} {new} reads k s at incoming r blame h = by_loss (is_fault r
     by_loss : (b : Bool) → MatchBool b ⊤ (receive_manifest k s incoming ≡ Err r) → MatchBool b (r ≡ Store → DiskFailed old new) (decide_incoming k s at incoming ≡ Err r)
     by_loss true h = blame
     by_loss false h = refused_first k s at incoming r h
-
--- whatever the refusal
-pub always : (o : Option Refusal) (X : Type 0) → X → IfSome o (λ r. X)
-always None X h = tt
-always (Some r) X h = h
-
--- what is kept, where something is
-pub some_left : (o : Option Refusal) (old new : Catalog) → IfSome o (λ r. new ≡ old) → IfSome o (λ r. ◌≡◌ {A = Option Catalog} (Some new) (Some old))
-some_left None old new h = tt
-some_left (Some r) old new h = ap Some h
 
 -- what was there is still there, and where nothing was nothing is refused so
 pub still_left : (k : Rules) (incoming : Incoming) (old mid new : Option Catalog) (Q R : Type 0) → (is_some old ≡ true → Q × (mid ≡ old) × R)

@@ -1,6 +1,9 @@
 -- Who sent a manifest, by what is kept in memory and by the tables.
 use Rattle.std.specs.Prelude.{◌≡◌, ◌⊎◌, Bool, true, Option, None, Some, IfSome, is_some, option_and_then, Result, Ok, Err, MatchBool, ⊤}
 use Rattle.std.specs.FinMap as table
+use Rattle.sqlite.specs.Held.{Held, state}
+use Rattle.sqlite.specs.State as connected
+use Rattle.sqlite_trees.specs.declared.store.Store.{Ghosts}
 use Rattle.up_canon.specs.Names.{Name, Table}
 use Rattle.up_canon.specs.Steps.{error_of}
 use Rattle.up_canon.specs.declared.refusal.Refusal.{Refusal}
@@ -16,8 +19,10 @@ use Rattle.up_machine.specs.Rows.{vehicle_rows}
 use Rattle.up_machine.specs.Senders.{IsSenderOf, SenderData}
 use Rattle.up_machine.specs.State.{State}
 use Rattle.up_records.specs.declared.catalog.Catalog.{Catalog}
-use Rattle.up_records.specs.Catalogs.{Come, IsOf, StaysLoaded, primaries_in}
-use Rattle.up_records.specs.Connected.{is_fault}
+use Rattle.up_tables.specs.Stands as stands
+use Rattle.up_store.specs.Connections.{KeepsState}
+use Rattle.up_records.specs.Catalogs.{Come, IsOf, KeepsMore, StaysLoaded, primaries_in}
+use Rattle.up_records.specs.Connected.{Reads, is_fault}
 use Rattle.up_records.specs.Standing.{Standing, HasCleanDisk, IfClean, ShowsState}
 
 -- the refusal by what is kept of its vehicle's Primary, if it is kept and didn't send the manifest
@@ -62,6 +67,34 @@ pub record IsSent (k : Rules) (s : State) (incoming : Incoming) (catalog : Catal
   pub from : IsSenderOf k s incoming sender
 
 -- ---- what a manifest leaves in memory
+
+-- what it leaves of a store and of a catalog, whatever is answered
+pub record Leaves {D A : Type 0} (g : Ghosts D) (k : Rules) (incoming : Incoming) (kept after : Catalog) (old new : Held D)
+    (result : Result A Refusal) : Type 0 where
+  -- nothing is written
+  pub reads : Reads (state g old) (state g new)
+  -- Primaries may come, but no more than so many, and all else stays
+  pub more : KeepsMore kept after
+  -- it is of the state of which it was
+  pub of : connected.HasCleanDisk (state g new) → (s : State) → stands.IfClean (KeepsState k s) (state g old) → IsOf s kept → IsOf s after
+  -- each Primary that comes sent the manifest
+  pub came : connected.HasCleanDisk (state g new) → (s : State) → stands.IfClean (KeepsState k s) (state g old) → IsOf s kept
+      → Come (IsSentBy k incoming) kept.primaries after.primaries
+  -- one that the kept Primary of its vehicle didn't send is refused as that, and nothing is read or kept
+  pub unread : IfSome (refused_by k kept.primaries incoming) (RefusesUnread (old, kept) (new, after) result)
+
+-- before founding it is refused, and all stays as it is
+pub record LeavesNone {S A : Type 0} (after : Option Catalog) (old new : S) (result : Result A Refusal) : Type 0 where
+  pub refused : result ≡ Err NotFounded
+  pub unread : new ≡ old
+  pub none : after ≡ None
+
+-- so of what is kept, if anything
+abbrev pub LeavesIn : {D A : Type 0} → Ghosts D → Rules → Incoming → Option Catalog → Option Catalog → Held D → Held D → Result A Refusal
+    → Type 0
+LeavesIn g k incoming None after old new result = LeavesNone after old new result
+LeavesIn g k incoming (Some c) None old new result = ⊥
+LeavesIn g k incoming (Some c) (Some d) old new result = Leaves g k incoming c d old new result
 
 -- a catalog is there, unless a fault was told or the repositories aren't founded
 abbrev pub IsLoadedBehind : {A : Type 0} → Result A Refusal → Option Catalog → Type 0

@@ -1,7 +1,6 @@
 //! What is decided on a manifest.
 ghost use Rattle.std.specs.Prelude.{◌≡◌, ◌≤◌, ◌<◌, IfSome, ⊤};
 ghost use Rattle.sqlite.specs.Held.{state};
-ghost use Rattle.sqlite.specs.State.{HasCleanDisk};
 ghost use Rattle.up_canon.specs.Moments.{last_command_moment};
 ghost use Rattle.up_sign.specs.Schemes.{Rules};
 ghost use Rattle.up_metadata.specs.Keys.{hashed_roles};
@@ -9,12 +8,9 @@ ghost use Rattle.up_machine.specs.Decisions.{IsRead, decide_incoming, GivesDeliv
 ghost use Rattle.up_machine.specs.Senders.{CanAnswer, IsSenderOf};
 ghost use Rattle.up_machine.specs.Sound.{IsSound};
 ghost use Rattle.up_machine.specs.State.{State};
-ghost use Rattle.up_store.specs.Connections.{KeepsState};
-ghost use Rattle.up_tables.specs.Stands.{IfClean};
-ghost use Rattle.up_records.specs.Catalogs.{CanDecide, Come, Fits, IsLoaded, IsOf, KeepsMore, StaysLoaded};
-ghost use Rattle.up_records.specs.Catalogs.{primaries_in};
+ghost use Rattle.up_records.specs.Catalogs.{CanDecide, IsLoaded, IsOf};
 ghost use Rattle.up_records.specs.Connected.{DecidesIncoming, Reads};
-ghost use Rattle.up_records.specs.Senders.{IsSent, IsSentBy, IsThere, KeepsOver, RefusesUnread, refused_by, refused_in};
+ghost use Rattle.up_records.specs.Senders.{IsSent, KeepsOver, RefusesUnread, refused_in};
 ghost use Rattle.up_records.specs.Standing.{over};
 ghost use Rattle.up_records.specs.Steps.{Decides};
 
@@ -79,18 +75,8 @@ fn decide_loaded<K: Scheme, D: Alter>(
     requires can { IfSome catalog.old (CanDecide (K.rules scheme.now)) }
     ensures decided { DecidesIncoming (K.rules scheme.now) at incoming.now (λ s. IsLoaded s catalog.old)
         (state D.Store store.old) (state D.Store store.new) result }
-    ensures fits { HasCleanDisk (state D.Store store.new) → (k : Rules) (s : State)
-        → IfClean (KeepsState k s) (state D.Store store.old) → Fits s catalog.old → Fits s catalog.new }
-    ensures kept { StaysLoaded catalog.old catalog.new }
-    ensures came { HasCleanDisk (state D.Store store.new) → (s : State)
-        → IfClean (KeepsState (K.rules scheme.now) s) (state D.Store store.old) → Fits s catalog.old
-        → Come (IsSentBy (K.rules scheme.now) incoming.now) (primaries_in catalog.old) (primaries_in catalog.new) }
-    ensures loads { IsThere result catalog.new }
-    ensures can { IfSome catalog.new (CanDecide (K.rules scheme.now)) }
-    ensures forged { IfSome (refused_in (K.rules scheme.now) catalog.old incoming.now)
-        (RefusesUnread store.old store.new result) }
-    ensures left { IfSome (refused_in (K.rules scheme.now) catalog.old incoming.now) (λ r. catalog.new ≡ catalog.old) }
-    ensures reads { Reads (state D.Store store.old) (state D.Store store.new) }
+    ensures leaves { LeavesIn D.Store (K.rules scheme.now) incoming.now
+        catalog.old catalog.new store.old store.new result }
 {
     match catalog {
         Some(catalog) => decide_founded(store, catalog, keys, alloc, scheme, at, incoming),
@@ -113,17 +99,8 @@ fn decide_founded<K: Scheme, D: Alter>(
     requires can { CanDecide (K.rules scheme.now) catalog.old }
     ensures decided { DecidesIncoming (K.rules scheme.now) at incoming.now (λ s. IsOf s catalog.old)
         (state D.Store store.old) (state D.Store store.new) result }
-    ensures of { HasCleanDisk (state D.Store store.new) → (k : Rules) (s : State)
-        → IfClean (KeepsState k s) (state D.Store store.old) → IsOf s catalog.old → IsOf s catalog.new }
-    ensures more { KeepsMore catalog.old catalog.new }
-    ensures came { HasCleanDisk (state D.Store store.new) → (s : State)
-        → IfClean (KeepsState (K.rules scheme.now) s) (state D.Store store.old) → IsOf s catalog.old
-        → Come (IsSentBy (K.rules scheme.now) incoming.now) catalog.old.primaries catalog.new.primaries }
-    ensures forged { IfSome (refused_by (K.rules scheme.now) catalog.old.primaries incoming.now)
-        (RefusesUnread store.old store.new result) }
-    ensures left { IfSome (refused_by (K.rules scheme.now) catalog.old.primaries incoming.now)
-        (λ r. catalog.new ≡ catalog.old) }
-    ensures reads { Reads (state D.Store store.old) (state D.Store store.new) }
+    ensures leaves { Leaves D.Store (K.rules scheme.now) incoming.now
+        catalog.old catalog.new store.old store.new result }
 {
     match read_sender(store, catalog, keys, alloc, scheme, incoming) {
         Ok(rows) => {

@@ -13,7 +13,7 @@ ghost use Rattle.up_machine.specs.Sound.{IsSound};
 ghost use Rattle.up_machine.specs.State.{State};
 ghost use Rattle.up_store.specs.Connections.{KeepsState};
 ghost use Rattle.up_tables.specs.Stands.{IfClean};
-ghost use Rattle.up_records.specs.Senders.{GivesKept, GivesSenderRows, GivesVehicle, IsSentBy, RefusesUnread};
+ghost use Rattle.up_records.specs.Senders.{GivesKept, GivesSenderRows, GivesVehicle, IsSentBy};
 ghost use Rattle.up_records.specs.Senders.{refused_by};
 ghost use Rattle.up_records.specs.Connected.{BlamesDisk, BlamesSound, Reads};
 ghost use Rattle.up_records.specs.Catalogs.{AreFew, ArePrimaries, Come, IsOf, KeepsMore, StayKept};
@@ -55,20 +55,11 @@ pub(crate) fn read_sender<K: Scheme, D: Alter>(
         → IfClean (KeepsState (K.rules scheme.now) s) (state D.Store store.old) → IsOf s catalog.old
         → GivesSenderRows (K.rules scheme.now) s incoming.now catalog.new.founding result }
     ensures fits { IfOk result (λ rows. IsTrue (rows_fit rows)) }
-    ensures of { HasCleanDisk (state D.Store store.new) → (k : Rules) (s : State)
-        → IfClean (KeepsState k s) (state D.Store store.old) → IsOf s catalog.old → IsOf s catalog.new }
-    ensures more { KeepsMore catalog.old catalog.new }
-    ensures came { HasCleanDisk (state D.Store store.new) → (s : State)
-        → IfClean (KeepsState (K.rules scheme.now) s) (state D.Store store.old) → IsOf s catalog.old
-        → Come (IsSentBy (K.rules scheme.now) incoming.now) catalog.old.primaries catalog.new.primaries }
-    ensures forged { IfSome (refused_by (K.rules scheme.now) catalog.old.primaries incoming.now)
-        (RefusesUnread store.old store.new result) }
-    ensures left { IfSome (refused_by (K.rules scheme.now) catalog.old.primaries incoming.now)
-        (λ r. catalog.new ≡ catalog.old) }
     ensures blame { (s : State) → IsSound (K.rules scheme.now) s
         → IfClean (KeepsState (K.rules scheme.now) s) (state D.Store store.old)
         → IsOf s catalog.old → BlamesDisk refusal.Store (state D.Store store.old) (state D.Store store.new) result }
-    ensures reads { Reads (state D.Store store.old) (state D.Store store.new) }
+    ensures leaves { Leaves D.Store (K.rules scheme.now) incoming.now
+        catalog.old catalog.new store.old store.new result }
 {
     match test_by_kept(catalog, keys, alloc, scheme, incoming) {
         Ok(true) => read_rows(store, alloc, &incoming.manifest.vehicle),
@@ -136,16 +127,11 @@ fn read_first<K: Scheme, D: Alter>(
         → IfClean (KeepsState (K.rules scheme.now) s) (state D.Store store.old) → IsOf s catalog.old
         → GivesSenderRows (K.rules scheme.now) s incoming.now catalog.new.founding result }
     ensures fits { IfOk result (λ rows. IsTrue (rows_fit rows)) }
-    ensures of { HasCleanDisk (state D.Store store.new) → (k : Rules) (s : State)
-        → IfClean (KeepsState k s) (state D.Store store.old) → IsOf s catalog.old → IsOf s catalog.new }
-    ensures more { KeepsMore catalog.old catalog.new }
-    ensures came { HasCleanDisk (state D.Store store.new) → (s : State)
-        → IfClean (KeepsState (K.rules scheme.now) s) (state D.Store store.old) → IsOf s catalog.old
-        → Come (IsSentBy (K.rules scheme.now) incoming.now) catalog.old.primaries catalog.new.primaries }
     ensures blame { (s : State) → IsSound (K.rules scheme.now) s
         → IfClean (KeepsState (K.rules scheme.now) s) (state D.Store store.old)
         → IsOf s catalog.old → BlamesDisk refusal.Store (state D.Store store.old) (state D.Store store.new) result }
-    ensures reads { Reads (state D.Store store.old) (state D.Store store.new) }
+    ensures leaves { Leaves D.Store (K.rules scheme.now) incoming.now
+        catalog.old catalog.new store.old store.new result }
 {
     match read_rows(store, alloc, &incoming.manifest.vehicle) {
         Ok(rows) => match test_by_rows(catalog, keys, alloc, scheme, incoming, &rows) {
