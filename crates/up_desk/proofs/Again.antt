@@ -45,7 +45,7 @@ use Rattle.up_machine.proofs.Fetched.{in_time}
 use Rattle.up_rows.specs.StateRows.{rows_of_state}
 use Rattle.up_store.specs.Connections.{KeepsState}
 use Rattle.up_desk.specs.Laws.{ActsOnce, replaced_in, replaces_own, LeaveAlone, ActsOnceFrom, DeliveriesActOnce, FindsState, IsDelivered, CrashesActOnce, ReopenedActsOnce, ReopenedOutlast}
-use Rattle.up_desk.specs.Serving.{HoldsState}
+use Rattle.up_records.specs.Standing.{HoldsState}
 
 -- ---- a vehicle that is left alone
 

@@ -20,8 +20,9 @@ use Rattle.up_machine.specs.RepeatLaws.{AreCommands, RepeatsChangeNothing, Serve
 use Rattle.up_machine.specs.ApartLaws.{VehiclesStandApart, DeliveriesCommute, AreExchanged}
 use Rattle.up_machine.specs.Laws.{KeptRepliesOutlastRuns}
 use Rattle.up_machine.specs.Replies.{kept_reply}
-use Rattle.up_desk.specs.Standing.{Standing, HasCleanDisk, IfClean, ShowsState, Survives, LeavesOnly}
-use Rattle.up_desk.specs.Serving.{HoldsState, IsCommit, is_failed, IsAnswered, outright}
+use Rattle.up_records.specs.Standing.{Standing, HasCleanDisk, IfClean, ShowsState, Survives, LeavesOnly}
+use Rattle.up_desk.specs.Serving.{IsCommit, is_failed, IsAnswered, outright}
+use Rattle.up_records.specs.Standing.{HoldsState}
 use Rattle.up_desk.specs.Calls.{CommitsCall, IsCalled, IsServed, ServesCall, SparesCall}
 use Rattle.up_desk.specs.Runs.{AreCalled, AreOutright, AreNeighbours, timed, sent, unless_failed, IsRun, outcome_behind, ComesTo, SparesCalls, IsAnsweredCommit, StaysOrComesTo, OutlastsCalls, CommitsCalls}
 

@@ -1,24 +1,31 @@
--- Reads over what a desk stands on, one after another.
-use Rattle.std.proofs.Common.{◌≡◌, Result, Ok, Err, IfOk, IfSome, inl, inr, ◌⊎◌, refl, sym, ◌∙◌, subst, arith, IsTrue}
+-- Reads over records one after another, and what a step decides by them.
+use Rattle.std.proofs.Common.{◌≡◌, ◌⊎◌, Bool, true, false, Result, Ok, Err, IsTrue, inl, inr, refl, sym, ap, ◌∙◌, subst, arith}
+use Rattle.std.specs.Prelude.{◌||◌, ⊤, MatchBool}
 use Rattle.sqlite_disk.specs.Disk.{MoreFaults}
 use Rattle.sqlite.proofs.StateLemmas.{survives_then}
-use Rattle.sqlite.specs.Held as holding
-use Rattle.sqlite_trees.specs.declared.store.Store.{Ghosts}
+use Rattle.up_canon.specs.declared.refusal.Refusal.{Refusal}
+use Rattle.up_canon.specs.declared.refusal.Refusal.TheVariants.{Store}
+use Rattle.up_canon.specs.Refusals.{is_memory}
 use Rattle.up_sign.specs.Schemes.{Rules}
+use Rattle.up_machine.specs.Deciding.{Outcome}
+use Rattle.up_machine.specs.Sound.{IsSound}
 use Rattle.up_machine.specs.State.{State}
-use Rattle.up_rows.specs.StateRows.{rows_of_state}
-use Rattle.up_tables.specs.Stands as stands
 use Rattle.up_tables.specs.declared.values.StoreFault.{StoreFault}
-use Rattle.up_store.specs.Connections as connections
-use Rattle.up_desk.specs.Serving as serving
-use Rattle.up_desk.specs.Standing.{CanDecide, DeskView, DiskFailed, Fits, HasCleanDisk, IfClean, Reads, ReadsState, ShowsState, Standing, Stored, state}
-use Rattle.up_desk.proofs.Steps as steps
+use Rattle.up_tables.specs.declared.values.StoreFault.TheVariants as fault
+use Rattle.up_records.specs.Connected.{is_fault, is_store, refusal_told}
+use Rattle.up_records.specs.Reads.{DiskFailed, Reads, ReadsSuch}
+use Rattle.up_records.specs.Standing.{HasCleanDisk, Standing}
+use Rattle.up_records.specs.Steps.{Decides, GivesOrFails, IsDueOrFails}
+use Rattle.up_records.proofs.NeverStore.{NeverStore}
+use Rattle.up_records.proofs.Reading as reading
+
+-- ---- reads
 
 pub clean_before : {k : Rules} {old new : Standing} → Reads k old new → HasCleanDisk new → HasCleanDisk old
 clean_before {k} {old} {new} reads now = let before : HasCleanDisk old = omega (arith, reads.survives.clean) in before
 
 pub reads_none : (k : Rules) (d : Standing) → Reads k d d
-reads_none k d = record { keeps = λ s was. was; same = λ s was now is_open. (is_open, refl); survives = (steps.reads_none d.connection).survives; can = λ can. can }
+reads_none k d = record { keeps = λ s was. was; same = λ s was now is_open. (is_open, refl); survives = (reading.reads_none d.connection).survives; can = λ can. can }
 
 pub reads_then : {k : Rules} {a b c : Standing} → Reads k a b → Reads k b c → Reads k a c
 reads_then {k} {a} {b} {c} ab bc = record {
@@ -39,32 +46,91 @@ failed_behind {k} {old} {mid} {new} first second clean failed is_open unlimited 
     by_closing (inl still) = let more = failed still (first.survives.limit ∙ unlimited) in omega (arith, first.survives.counts, more)
     by_closing (inr more) = omega (arith, second.survives.counts, more)
 
--- what was read over the connection, while what is kept in memory stayed
-reads_over : (k : Rules) {old new : Standing} → serving.Reads old.connection new.connection → new.catalog ≡ old.catalog → Reads k old new
-reads_over k {old} {new} reads kept = record {
-  keeps = λ s was now.
-      let before : HasCleanDisk old = steps.clean_before reads now in
-      record {
-        tables = steps.keeps_after k s (λ clean. (was clean).tables) reads now;
-        memory = subst (Fits s) (sym kept) (was before).memory;
-      };
-  same = λ s was now is_open. reads.same (rows_of_state k s) (λ clean. (was clean).tables) now is_open;
-  survives = reads.survives;
-  can = λ can. subst (λ c. IfSome c (CanDecide k)) (sym kept) can;
+-- ---- refusals, and `Store`
+
+pub surely_due : (old new : Standing) (r : Refusal) (computed : Result Outcome Refusal) → NeverStore computed → computed ≡ Err r → IsDueOrFails old new r computed
+surely_due old new r computed never is = by_fault (is_fault r)
+  where
+    by_fault : (b : Bool) → MatchBool b (r ≡ Store → DiskFailed old new) (computed ≡ Err r)
+    by_fault true = λ store. absurd (never (is ∙ ap (λ (q : Refusal). Err q) store))
+    by_fault false = is
+
+-- a refusal that is due, or want of memory
+pub due_or_memory : (old new : Standing) (r : Refusal) (computed : Result Outcome Refusal) → NeverStore computed → MatchBool (is_memory r) ⊤ (computed ≡ Err r) → IsDueOrFails old new r computed
+due_or_memory old new r computed never h = by_memory (is_memory r) refl h
+  where
+    by_memory : (b : Bool) → is_memory r ≡ b → MatchBool b ⊤ (computed ≡ Err r) → IsDueOrFails old new r computed
+    by_memory true is h =
+        let fails : is_fault r ≡ true = ap (λ (m : Bool). m || is_store r) is in
+        subst (λ (b : Bool). MatchBool b (r ≡ Store → DiskFailed old new) (computed ≡ Err r)) (sym fails)
+        (λ store. absurd (let both : true ≡ false = sym is ∙ ap is_memory store in cc))
+    by_memory false is h = surely_due old new r computed never h
+
+due_behind : {k : Rules} {old mid new : Standing} (r : Refusal) (computed : Result Outcome Refusal) → Reads k old mid → Reads k mid new → HasCleanDisk new → IsDueOrFails mid new r computed → IsDueOrFails old new r computed
+due_behind {k} {old} {mid} {new} r computed first second clean h = by_fault (is_fault r) h
+  where
+    by_fault : (b : Bool) → MatchBool b (r ≡ Store → DiskFailed mid new) (computed ≡ Err r) → MatchBool b (r ≡ Store → DiskFailed old new) (computed ≡ Err r)
+    by_fault true h = λ store. failed_behind first second clean (h store)
+    by_fault false h = h
+
+gives_behind : {R : Type 0} {k : Rules} {old mid new : Standing} (gives : Result R Refusal → Result Outcome Refusal → Type 0) (result : Result R Refusal) (computed : Result Outcome Refusal)
+    → Reads k old mid → Reads k mid new → HasCleanDisk new → GivesOrFails gives mid new result computed → GivesOrFails gives old new result computed
+gives_behind gives (Ok x) computed first second clean h = h
+gives_behind gives (Err r) computed first second clean h = due_behind r computed first second clean h
+
+pub gives_or_fails : {R : Type 0} (old new : Standing) (gives : Result R Refusal → Result Outcome Refusal → Type 0) (result : Result R Refusal) (computed : Result Outcome Refusal) → NeverStore computed
+    → ((r : Refusal) → gives (Err r) computed → MatchBool (is_memory r) ⊤ (computed ≡ Err r)) → gives result computed → GivesOrFails gives old new result computed
+gives_or_fails old new gives (Ok x) computed never is_due h = h
+gives_or_fails old new gives (Err r) computed never is_due h = due_or_memory old new r computed never (is_due r h)
+
+pub due : (old new : Standing) (r : Refusal) (computed : Result Outcome Refusal) → IsDueOrFails old new r computed → MatchBool (is_fault r) ⊤ (computed ≡ Err r)
+due old new r computed h = by_fault (is_fault r) h
+  where
+    by_fault : (b : Bool) → MatchBool b (r ≡ Store → DiskFailed old new) (computed ≡ Err r) → MatchBool b ⊤ (computed ≡ Err r)
+    by_fault true h = tt
+    by_fault false h = h
+
+pub blamed : (old new : Standing) (r : Refusal) (computed : Result Outcome Refusal) → IsDueOrFails old new r computed → r ≡ Store → DiskFailed old new
+blamed old new r computed h store =
+    let fails : is_fault r ≡ true = ap is_fault store in
+    (subst (λ (b : Bool). MatchBool b (r ≡ Store → DiskFailed old new) (computed ≡ Err r)) fails h) store
+
+-- a fault of the store is told as a refusal
+pub told_fault : (old new : Standing) (r : Refusal) (f : StoreFault) (computed : Result Outcome Refusal) → r ≡ refusal_told f → (f ≡ fault.Store → DiskFailed old new) → IsDueOrFails old new r computed
+told_fault old new r f computed is blame = subst (λ (q : Refusal). IsDueOrFails old new q computed) (sym is) (by_fault f blame)
+  where
+    by_fault : (f : StoreFault) → (f ≡ fault.Store → DiskFailed old new) → IsDueOrFails old new (refusal_told f) computed
+    by_fault fault.Memory blame = λ store. cc
+    by_fault fault.Store blame = λ store. blame refl
+
+-- ---- steps
+
+-- what is decided behind a read, by what was known and what was read
+pub read_then : {A R : Type 0} {k : Rules} {holds : State → A → Type 0} {known more : State → Type 0} {gives : State → Result R Refusal → Result Outcome Refusal → Type 0} {rule : State → Result Outcome Refusal}
+    {old mid new : Standing} {found : A} {result : Result R Refusal}
+    → ReadsSuch k holds old mid (Ok found) → ((s : State) → known s → holds s found → more s) → Decides k more gives rule mid new result → Decides k known gives rule old new result
+read_then {gives = gives} {rule = rule} {result = result} read knows rest = record {
+  decided = λ clean s sound known was.
+      gives_behind (gives s) result (rule s) read.reads rest.reads clean
+      (rest.decided clean s sound (knows s known (read.told (clean_before rest.reads clean) s was)) (read.reads.keeps s was));
+  reads = reads_then read.reads rest.reads;
 }
 
--- the desk was opened, something was read over its connection, and what is kept in memory stayed
-pub read_over : {K D A : Type 0} (g : Ghosts D) (of_state : State → A) (opened old : DeskView K D) (new : Stored D) (result : Result A StoreFault) → opened ≡ old → new.catalog ≡ opened.store.catalog
-    → serving.Tells (λ k s. of_state s) (holding.state g opened.store.held) (holding.state g new.held) result → serving.Blames (holding.state g opened.store.held) (holding.state g new.held) result
-    → serving.Reads (holding.state g opened.store.held) (holding.state g new.held) → (k : Rules) → ReadsState k of_state (state g old.store) (state g new) result
-read_over {K} {D} {A} g of_state opened old new result is kept told blame reads k =
-    subst (λ (d : DeskView K D). ReadsState k of_state (state g d.store) (state g new) result) is (record {
-      told = λ now. tells result (told now);
-      blame = λ now s sound was. blame k s (λ clean. (was clean).tables) now;
-      reads = reads_over k reads kept;
-    })
-  where
-    tells : (r : Result A StoreFault) → IfOk r (λ found. (j : Rules) (s : State) → stands.IfClean (connections.KeepsState j s) (holding.state g opened.store.held) → found ≡ of_state s)
-        → IfOk r (λ found. (s : State) → IfClean (ShowsState k s) (state g opened.store) → found ≡ of_state s)
-    tells (Ok x) told = λ s was. told k s (λ clean. (was clean).tables)
-    tells (Err f) told = tt
+-- a read failed
+pub read_failed : {A R : Type 0} {k : Rules} {holds : State → A → Type 0} {known : State → Type 0} {gives : State → Result R Refusal → Result Outcome Refusal → Type 0} {rule : State → Result Outcome Refusal}
+    {old new : Standing} {f : StoreFault} {r : Refusal} → ReadsSuch k holds old new (Err f) → r ≡ refusal_told f → Decides k known gives rule old new (Err r)
+read_failed {rule = rule} {old = old} {new = new} {f = f} {r = r} read is = record {
+  decided = λ clean s sound known was. told_fault old new r f (rule s) is (read.blame clean s sound was);
+  reads = read.reads;
+}
+
+-- behind the last read it is decided
+pub then_decided : {A R : Type 0} {k : Rules} {holds : State → A → Type 0} {known : State → Type 0} {gives : State → Result R Refusal → Result Outcome Refusal → Type 0} {rule : State → Result Outcome Refusal}
+    {old new : Standing} {found : A} {result : Result R Refusal} → ReadsSuch k holds old new (Ok found)
+    → ((s : State) → IsSound k s → known s → holds s found → GivesOrFails (gives s) old new result (rule s)) → Decides k known gives rule old new result
+then_decided read decides = record { decided = λ clean s sound known was. decides s sound known (read.told clean s was); reads = read.reads }
+
+-- nothing is read
+pub decided_now : {R : Type 0} {known : State → Type 0} {gives : State → Result R Refusal → Result Outcome Refusal → Type 0} {rule : State → Result Outcome Refusal}
+    {result : Result R Refusal} (k : Rules) (d : Standing) → ((s : State) → IsSound k s → known s → GivesOrFails (gives s) d d result (rule s)) → Decides k known gives rule d d result
+decided_now k d decides = record { decided = λ clean s sound known was. decides s sound known; reads = reads_none k d }

@@ -8,8 +8,9 @@ use Rattle.up_canon.specs.declared.refusal.Refusal.TheVariants.{Store}
 use Rattle.up_machine.specs.State.{State}
 use Rattle.up_machine.specs.Repeats.{serve}
 use Rattle.up_machine.specs.Sound.{IsSound}
-use Rattle.up_desk.specs.Standing.{Standing, HasCleanDisk, IfClean, ShowsState, Survives, LeavesOnly}
-use Rattle.up_desk.specs.Serving.{HoldsState, IsAnswered, IsBlamed, IsCommit, RepliesStay, outright}
+use Rattle.up_records.specs.Standing.{Standing, HasCleanDisk, IfClean, ShowsState, Survives, LeavesOnly}
+use Rattle.up_desk.specs.Serving.{IsAnswered, IsBlamed, IsCommit, RepliesStay, outright}
+use Rattle.up_records.specs.Standing.{HoldsState}
 
 -- The answer and the next state are those of what is served, and where the command failed the state is as it was. Kept replies are
 -- kept on, the state stays sound, and the tables show it.

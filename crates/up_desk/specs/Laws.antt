@@ -34,9 +34,10 @@ use Rattle.up_tables.specs.Stands.{IfClean, LeavesOnly}
 use Rattle.up_store.specs.Connections.{KeepsState}
 use Rattle.up_store.specs.Stopped.{AreFoundAgain}
 use Rattle.up_desk.specs.Runs.{sent, outcome_behind, IsAnsweredCommit, StaysOrComesTo, OutlastsCalls, CommitsCalls}
-use Rattle.up_desk.specs.Serving.{HoldsState, IsCommit}
-use Rattle.up_desk.specs.Standing.{Stored}
-use Rattle.up_desk.specs.Standing as standing
+use Rattle.up_desk.specs.Serving.{IsCommit}
+use Rattle.up_records.specs.Standing.{HoldsState}
+use Rattle.up_records.specs.Standing.{Stored}
+use Rattle.up_records.specs.Standing as standing
 
 -- ---- commits
 

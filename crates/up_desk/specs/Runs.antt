@@ -13,8 +13,9 @@ use Rattle.up_machine.specs.Deciding.{Outcome}
 use Rattle.up_machine.specs.Repeats.{Sent, serve, after, thinned, expected, not_lost, vehicle_of, without_others, own_answers}
 use Rattle.up_machine.specs.ApartLaws.{AreExchanged}
 use Rattle.up_machine.specs.Sound.{IsSound}
-use Rattle.up_desk.specs.Standing.{Standing, HasCleanDisk, IfClean, ShowsState, Survives, LeavesOnly}
-use Rattle.up_desk.specs.Serving.{HoldsState, IsCommit, is_failed, outright, RepliesStay}
+use Rattle.up_records.specs.Standing.{Standing, HasCleanDisk, IfClean, ShowsState, Survives, LeavesOnly}
+use Rattle.up_desk.specs.Serving.{IsCommit, is_failed, outright, RepliesStay}
+use Rattle.up_records.specs.Standing.{HoldsState}
 
 -- a command with its moment
 abbrev pub timed : ℕ × Command → Timed

@@ -2,17 +2,15 @@
 ghost use Rattle.std.specs.Prelude.{◌≡◌, ◌+◌, ◌<◌, length, vec_capacity, vec_len, OnOk, OnErr, IsTrue};
 ghost use Rattle.std.specs.List.{AllByRecursion};
 ghost use Rattle.up_machine.specs.Commands.{opens_running};
-ghost use Rattle.up_machine.specs.Reads.{ecus_of as ecus_in, version_of as version_in, installed as installed_in, assigned_to};
+ghost use Rattle.up_machine.specs.Reads.{ecus_of as ecus_in, version_of as version_in, installed as installed_in};
+ghost use Rattle.up_machine.specs.Reads.{assigned_to};
 ghost use Rattle.up_machine.specs.Rows.{vehicle_rows};
-ghost use Rattle.up_sign.specs.Schemes.{Rules};
 ghost use Rattle.up_desk.specs.Calls.{IsCalled};
 ghost use Rattle.up_desk.specs.Runs.{AreCalled};
-ghost use Rattle.up_desk.specs.Standing.{ReadsState, bare, state};
+ghost use Rattle.up_records.specs.Reads.{Finds};
+ghost use Rattle.up_records.specs.Standing.{bare, state};
 
-use crate::catalog::Catalog;
 use crate::dispatch::{answer_of, dispatch, keeps_limits};
-use crate::reads::read_vehicle;
-use crate::views::{assigned_of, ecus_of, installed_on, version_of};
 use sqlite::Alter;
 use std::alloc::{AllocError, Global};
 use std::marker::Model;
@@ -21,13 +19,12 @@ use up_canon::listed::Listed;
 use up_machine::answer::Answer;
 use up_machine::command::Command;
 use up_machine::laws::{
-    deliveries_keep_primaries, kept_replies_stay, repeats_change_nothing, states_stay_sound,
-    vehicles_stand_apart,
+    kept_replies_stay, repeats_change_nothing, states_stay_sound, vehicles_stand_apart,
 };
 use up_machine::rows::VehicleRows;
 use up_manifest::report::Installed;
 use up_plan::assigned::Plan;
-use up_sign::key_cache::KeyCache;
+use up_records::records::Records;
 use up_sign::scheme::Scheme;
 use up_store::store::{Store, StoreFault};
 
@@ -35,13 +32,12 @@ use up_store::store::{Store, StoreFault};
 #[derive(Drop)]
 pub struct Desk<K: Scheme, D: Alter> {
     scheme: K,
-    store: Store<D>,
-    catalog: Option<Catalog>,
-    keys: KeyCache,
+    records: Records<D>,
 }
 
 impl<K: Scheme, D: Alter> Model for Desk<K, D> {
-    ghost use Rattle.up_desk.specs.Standing.{CanDecide, DeskView};
+    ghost use Rattle.up_desk.specs.Desks.{DeskView};
+    ghost use Rattle.up_records.specs.Catalogs.{CanDecide};
     ghost use Rattle.std.specs.Prelude.{IfSome};
 
     ghost Value = { DeskView K D };
@@ -52,9 +48,9 @@ impl<K: Scheme, D: Alter> Model for Desk<K, D> {
 
     ghost coded = { Prim.hlevel (codes, held_code D.code, table.code) };
 
-    ghost view = { λ a. record { scheme = a.scheme; store = record { held = a.store; catalog = a.catalog } } };
+    ghost view = { λ a. record { scheme = a.scheme; store = a.records } };
 
-    ghost invariant = { λ a. IfSome a.catalog (CanDecide (K.rules a.scheme)) };
+    ghost invariant = { λ a. IfSome a.records.catalog (CanDecide (K.rules a.scheme)) };
 }
 
 impl<K: Scheme, D: Alter> Desk<K, D> {
@@ -64,9 +60,7 @@ impl<K: Scheme, D: Alter> Desk<K, D> {
     {
         Desk {
             scheme,
-            store,
-            catalog: None,
-            keys: KeyCache::new(),
+            records: Records::new(store),
         }
     }
 
@@ -74,7 +68,7 @@ impl<K: Scheme, D: Alter> Desk<K, D> {
     pub fn release(self) -> Store<D>
         ensures { result ≡ self.store.held }
     {
-        self.store
+        self.records.release()
     }
 
     /// The scheme that it was made with.
@@ -101,16 +95,7 @@ impl<K: Scheme, D: Alter> Desk<K, D> {
         states_stay_sound();
         repeats_change_nothing();
         kept_replies_stay();
-        deliveries_keep_primaries();
-        answer_of(dispatch(
-            &mut self.store,
-            &mut self.catalog,
-            &mut self.keys,
-            alloc,
-            &self.scheme,
-            at,
-            command,
-        ))
+        answer_of(dispatch(&mut self.records, alloc, &self.scheme, at, command))
     }
 
     /// Answers commands one after another, each with its moment, and appends one answer for each: where some commands are
@@ -152,10 +137,10 @@ impl<K: Scheme, D: Alter> Desk<K, D> {
         alloc: Global,
         vehicle: &Ident,
     ) -> Result<Option<VehicleRows>, StoreFault>
-        ensures found { (k : Rules) → ReadsState k (λ s. vehicle_rows s vehicle.now) (state D.Store self.old.store) (state D.Store self.new.store) result }
+        ensures found { Finds D.Store (λ k s. vehicle_rows s vehicle.now) self.old.store self.new.store result }
         ensures scheme { self.new.scheme ≡ self.old.scheme }
     {
-        read_vehicle(&mut self.store, alloc, vehicle)
+        self.records.vehicle(alloc, vehicle)
     }
 
     /// The ECUs of a vehicle in inventory order, none of an unknown vehicle.
@@ -164,33 +149,33 @@ impl<K: Scheme, D: Alter> Desk<K, D> {
         alloc: Global,
         vehicle: &Ident,
     ) -> Result<Option<Listed<Ident>>, StoreFault>
-        ensures found { (k : Rules) → ReadsState k (λ s. ecus_in s vehicle.now) (state D.Store self.old.store) (state D.Store self.new.store) result }
+        ensures found { Finds D.Store (λ k s. ecus_in s vehicle.now) self.old.store self.new.store result }
         ensures scheme { self.new.scheme ≡ self.old.scheme }
     {
-        ecus_of(&mut self.store, alloc, vehicle)
+        self.records.ecus(alloc, vehicle)
     }
 
     /// How many manifests of a vehicle were accepted, none of an unknown vehicle.
     pub fn version(&mut self, alloc: Global, vehicle: &Ident) -> Result<Option<u64>, StoreFault>
-        ensures found { (k : Rules) → ReadsState k (λ s. version_in s vehicle.now) (state D.Store self.old.store) (state D.Store self.new.store) result }
+        ensures found { Finds D.Store (λ k s. version_in s vehicle.now) self.old.store self.new.store result }
         ensures scheme { self.new.scheme ≡ self.old.scheme }
     {
-        version_of(&mut self.store, alloc, vehicle)
+        self.records.version(alloc, vehicle)
     }
 
     /// The image that an ECU reported last, none of an unknown ECU and before its first report.
     pub fn installed(&mut self, alloc: Global, ecu: &Ident) -> Result<Option<Installed>, StoreFault>
-        ensures found { (k : Rules) → ReadsState k (λ s. installed_in s ecu.now) (state D.Store self.old.store) (state D.Store self.new.store) result }
+        ensures found { Finds D.Store (λ k s. installed_in s ecu.now) self.old.store self.new.store result }
         ensures scheme { self.new.scheme ≡ self.old.scheme }
     {
-        installed_on(&mut self.store, alloc, ecu)
+        self.records.installed(alloc, ecu)
     }
 
     /// What is assigned to a vehicle, none of an unknown vehicle and before its first manifest.
     pub fn assigned(&mut self, alloc: Global, vehicle: &Ident) -> Result<Option<Plan>, StoreFault>
-        ensures found { (k : Rules) → ReadsState k (λ s. assigned_to s vehicle.now) (state D.Store self.old.store) (state D.Store self.new.store) result }
+        ensures found { Finds D.Store (λ k s. assigned_to s vehicle.now) self.old.store self.new.store result }
         ensures scheme { self.new.scheme ≡ self.old.scheme }
     {
-        assigned_of(&mut self.store, alloc, vehicle)
+        self.records.assigned(alloc, vehicle)
     }
 }

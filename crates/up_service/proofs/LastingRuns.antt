@@ -29,8 +29,9 @@ use Rattle.up_lines.specs.Lines as lines
 use Rattle.up_lines.specs.LineRuns as line_runs
 use Rattle.up_lines.specs.Runs.{At, LastRead}
 use Rattle.up_lines.specs.declared.fault.ScriptFault.{ScriptFault}
-use Rattle.up_desk.specs.Serving.{is_fault}
-use Rattle.up_desk.specs.Standing.{DeskView, Standing, state}
+use Rattle.up_records.specs.Connected.{is_fault}
+use Rattle.up_records.specs.Standing.{Standing, state}
+use Rattle.up_desk.specs.Desks.{DeskView}
 use Rattle.up_service.specs.Answers.{answered_as, AnswersAs, HoldsNext}
 use Rattle.up_service.specs.LineAnswers.{Lines, line_answer, answer_to, carried_out}
 use Rattle.up_service.specs.Responses.{Responses, IsResponseTo, answer_response}

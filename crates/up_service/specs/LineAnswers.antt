@@ -3,7 +3,7 @@ use Rattle.std.specs.Prelude.{◌≡◌, ◌⊎◌, ℕ, List, ◌++◌, flat_ma
 use Rattle.sqlite_trees.specs.declared.store.Store.{Ghosts}
 use Rattle.up_canon.specs.Names.{Name}
 use Rattle.up_canon.specs.Refusals.{Gives}
-use Rattle.up_canon.specs.Steps.{◌>>=◌, or_error}
+use Rattle.up_canon.specs.Steps.{or_error}
 use Rattle.up_canon.specs.declared.refusal.Refusal.{Refusal}
 use Rattle.up_canon.specs.declared.refusal.Refusal.TheVariants.{NotJson, UnknownVehicle}
 use Rattle.up_sign.specs.Schemes.{Rules}
@@ -16,7 +16,8 @@ use Rattle.up_machine.specs.declared.rows.VehicleRows.{VehicleRows}
 use Rattle.up_machine.specs.Reads.{ecus_of, version_of, installed, assigned_to}
 use Rattle.up_machine.specs.State.{State}
 use Rattle.up_desk.specs.Serving.{outright}
-use Rattle.up_desk.specs.Standing.{DeskView, Standing, state}
+use Rattle.up_records.specs.Standing.{Standing, state}
+use Rattle.up_desk.specs.Desks.{DeskView}
 use Rattle.up_script.specs.AskedLines.{asked_in}
 use Rattle.up_script.specs.PrintedLines.{answer_text, refused_text, vehicle_text, ecu_text}
 use Rattle.up_script.specs.declared.asked.Asked.{Asked}

@@ -7,7 +7,7 @@ use Rattle.up_lines.specs.Lines.{most_bytes}
 use Rattle.up_lines.specs.LineRuns.{FinishedLines, Stopped}
 use Rattle.up_lines.specs.Runs.{At, Ran}
 use Rattle.up_lines.specs.declared.fault.ScriptFault.{ScriptFault}
-use Rattle.up_desk.specs.Standing.{DeskView}
+use Rattle.up_desk.specs.Desks.{DeskView}
 use Rattle.up_service.specs.LineAnswers.{Lines, line_answer}
 use Rattle.up_service.specs.Runs.{Service, LastsFrom, RunsLast}
 

@@ -11,7 +11,7 @@ use Rattle.up_http.specs.declared.asked.What.TheVariants.{Call, Fixed}
 use Rattle.up_http.specs.declared.fault.ServeFault.{ServeFault}
 use Rattle.up_http.specs.declared.served.Served.{Served}
 use Rattle.up_lines.specs.Runs.{At, Ran}
-use Rattle.up_desk.specs.Standing.{DeskView}
+use Rattle.up_desk.specs.Desks.{DeskView}
 use Rattle.up_service.specs.Answers.{Answered, answered_as}
 use Rattle.up_service.specs.Responses.{Responses, answer_response}
 use Rattle.up_service.specs.Runs.{Service, LastsFrom, RunsLast}

@@ -38,7 +38,8 @@ pub fn digest_stream<R: Source>(reader: &mut R) -> Result<(u64, [u8; 32], [u8; 6
     // Where it is known what the reader has.
     ensures whole { IfOk result (λ told. IfSome (R.remaining reader.old) (λ input.
         (told.0 ≡ length input) × (told.1 ≡ sha256 input) × (told.2 ≡ sha512 input))) }
-    ensures too_long { IfErr result (λ fault. fault ≡ DigestFault.TooLong → IfSome (R.remaining reader.old) (λ input. most_bytes < length input)) }
+    ensures too_long { IfErr result
+        (λ fault. fault ≡ DigestFault.TooLong → IfSome (R.remaining reader.old) (λ input. most_bytes < length input)) }
 {
     let mut buffer = [0; PIECE_BYTES];
     let mut shorter = Sha256::new();

@@ -37,8 +37,10 @@ fn line_text<C: Called + Asks + Viewed>(
     desk: &mut C,
     line: &[u8],
 ) -> Result<String, AllocError>
-    ensures ok { IfOk result (λ t. TellsLine C.asks C.gives C.finds C.finds_plan desk.old line.now (string_bytes t) desk.new) }
-    ensures err { OnErr result ((text : List ℕ) × TellsLine C.asks C.gives C.finds C.finds_plan desk.old line.now text desk.new) }
+    ensures ok { IfOk result
+        (λ t. TellsLine C.asks C.gives C.finds C.finds_plan desk.old line.now (string_bytes t) desk.new) }
+    ensures err { OnErr result
+        ((text : List ℕ) × TellsLine C.asks C.gives C.finds C.finds_plan desk.old line.now text desk.new) }
 {
     match desk.asked(alloc, line) {
         Ok(asked) => carry_out(alloc, desk, &asked),
@@ -53,8 +55,10 @@ fn carry_out<C: Called + Viewed>(
     asked: &Asked,
 ) -> Result<String, AllocError>
     requires { IsTrue (asks_running asked.now.what) }
-    ensures ok { IfOk result (λ t. TellsWhat C.gives C.finds C.finds_plan desk.old asked.now.at asked.now.what (string_bytes t) desk.new) }
-    ensures err { OnErr result ((text : List ℕ) × TellsWhat C.gives C.finds C.finds_plan desk.old asked.now.at asked.now.what text desk.new) }
+    ensures ok { IfOk result
+        (λ t. TellsWhat C.gives C.finds C.finds_plan desk.old asked.now.at asked.now.what (string_bytes t) desk.new) }
+    ensures err { OnErr result
+        ((text : List ℕ) × TellsWhat C.gives C.finds C.finds_plan desk.old asked.now.at asked.now.what text desk.new) }
 {
     match &asked.what {
         What::Call(command) => called_text(alloc, desk, asked.at.get(), command),

@@ -27,8 +27,7 @@ use up_sign::scheme::Scheme;
 /// of a line that was carried out, or before the first, where no room for lines could be made.
 ///
 /// However it ended, a crash behind it leaves what could be left before, or the state behind some line; and none before the last
-/// line that was answered `done`, or got the reply to a new manifest. So nothing that was answered is lost. Where the disk counted no
-/// fault, a line tells a fault of the database only where the database, as the lines before it made it, refuses what it comes to.
+/// line that was answered `done`, or got the reply to a new manifest. So nothing that was answered is lost.
 pub fn run_script<K: Scheme, D: Alter, R: Source, W: Sink>(
     alloc: Global,
     desk: &mut Desk<K, D>,
@@ -51,9 +50,11 @@ pub fn run_script<K: Scheme, D: Alter, R: Source, W: Sink>(
 
     // Where it is known what the reader has, by its lines.
     ensures whole { IfOk result (λ answered. IfSome (R.remaining reader.old) (λ input.
-        FinishedLines (Lines (K.rules) D.Store) input answered (record { state = desk.old; held = W.contents writer.old })
+        FinishedLines (Lines (K.rules) D.Store) input answered
+        (record { state = desk.old; held = W.contents writer.old })
         (record { state = desk.new; held = W.contents writer.new }))) }
-    ensures too_long { IfErr result (λ fault. fault.cause ≡ ScriptCause.TooLong → IfSome (R.remaining reader.old) (λ input.
+    ensures too_long { IfErr result
+        (λ fault. fault.cause ≡ ScriptCause.TooLong → IfSome (R.remaining reader.old) (λ input.
         fits (lines_of true input) ≡ false)) }
     ensures prefix { IfErr result (λ fault. IfSome (R.remaining reader.old) (λ input.
         AnswersFirst (Lines (K.rules) D.Store) input fault (record { state = desk.old; held = W.contents writer.old })
@@ -63,7 +64,8 @@ pub fn run_script<K: Scheme, D: Alter, R: Source, W: Sink>(
     ensures goes_on { OnOk result (W.can_write writer.new) }
 
     // What ended it is told of the part that failed, and a reader that didn't end isn't taken for one that did.
-    ensures blames { IfErr result (λ fault. Blames fault.cause (R.has_failed reader.new) (R.can_read reader.new ⊎ R.has_ended reader.new)
+    ensures blames { IfErr result
+        (λ fault. Blames fault.cause (R.has_failed reader.new) (R.can_read reader.new ⊎ R.has_ended reader.new)
         (W.has_failed writer.new) (W.can_write writer.new)) }
     ensures ended { OnOk result (R.has_ended reader.new) }
 {

@@ -26,8 +26,7 @@ use up_sign::scheme::Scheme;
 /// only where the reader failed; `Write` only where the writer failed, or took no byte; and `Memory` only where neither did.
 ///
 /// However it ended, a crash behind it leaves what could be left before, or the state behind some request; and none before the
-/// last that got the reply to a new manifest. So nothing that was answered is lost. Where the disk counted no fault, a request is told
-/// a fault of the database only where the database, as the requests before it made it, refuses what it comes to.
+/// last that got the reply to a new manifest. So nothing that was answered is lost.
 pub fn serve_stream<K: Scheme, D: Alter, R: Source, W: Sink>(
     alloc: Global,
     desk: &mut Desk<K, D>,
@@ -51,17 +50,21 @@ pub fn serve_stream<K: Scheme, D: Alter, R: Source, W: Sink>(
 
     // Where it is known what the reader has, by its requests.
     ensures whole { IfOk result (λ served. IfSome (R.remaining reader.old) (λ input.
-        FinishedRequests (Responses (K.rules) D.Store at) input served.requests (record { state = desk.old; held = W.contents writer.old })
+        FinishedRequests (Responses (K.rules) D.Store at) input served.requests
+        (record { state = desk.old; held = W.contents writer.old })
         (record { state = desk.new; held = W.contents writer.new }))) }
     ensures prefix { IfErr result (λ fault. IfSome (R.remaining reader.old) (λ input.
-        AnswersFirst (Responses (K.rules) D.Store at) input fault (record { state = desk.old; held = W.contents writer.old })
+        AnswersFirst (Responses (K.rules) D.Store at) input fault
+        (record { state = desk.old; held = W.contents writer.old })
         (record { state = desk.new; held = W.contents writer.new }))) }
 
     // Nothing was tried twice: where it ended well the writer may be written again.
     ensures goes_on { OnOk result (W.can_write writer.new) }
 
     // What ended it is told of the part that failed, and a read that failed isn't taken for the stream's end.
-    ensures blames { IfErr result (λ fault. Blames (cause_of fault.cause) (R.has_failed reader.new) (R.can_read reader.new ⊎ R.has_ended reader.new)
+    ensures blames { IfErr result
+        (λ fault. Blames (cause_of fault.cause) (R.has_failed reader.new)
+        (R.can_read reader.new ⊎ R.has_ended reader.new)
         (W.has_failed writer.new) (W.can_write writer.new)) }
     ensures stands { OnOk result (R.can_read reader.new ⊎ R.has_ended reader.new) }
 {

@@ -1,4 +1,4 @@
-use Rattle.up_desk.specs.Standing.{state}
+use Rattle.up_records.specs.Standing.{state}
 use Rattle.up_desk.proofs.Runs.{last_stays}
 use Rattle.up_desk.proofs.laws.last_commits_stand.Goals as goal
 

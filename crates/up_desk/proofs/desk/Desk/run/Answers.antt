@@ -1,5 +1,5 @@
 use Rattle.std.proofs.Common.{◌≡◌, ◌+◌, ◌∙◌, refl, ap, arith, vec_len}
-use Rattle.up_desk.specs.Standing.{state}
+use Rattle.up_records.specs.Standing.{state}
 use Rattle.up_desk.proofs.Runs.{ListLaws, none_so_far, one_more, chosen_ok, run_whole}
 use Rattle.up_desk.proofs.desk.Desk.run.Goals as goal
 

@@ -1,6 +1,6 @@
 use Rattle.std.proofs.Common.{◌≡◌, ◌+◌, ◌-◌, ◌≤◌, length, take, vec_len}
 use Rattle.std.specs.Prelude.{vec_capacity}
-use Rattle.up_desk.specs.Standing.{state}
+use Rattle.up_records.specs.Standing.{state}
 use Rattle.up_desk.proofs.Runs.{SoFar}
 use Rattle.up_desk.proofs.desk.Desk.run.Given as goal
 

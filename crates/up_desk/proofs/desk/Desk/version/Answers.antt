@@ -1,10 +1,13 @@
-use Rattle.std.proofs.Common.{ap, refl}
+use Rattle.std.proofs.Common.{ap, subst}
 use Rattle.up_machine.specs.Reads.{version_of}
-use Rattle.up_desk.specs.Standing.{Stored}
-use Rattle.up_desk.proofs.Standings.{read_over}
+use Rattle.up_records.specs.Reads.{Finds}
 use Rattle.up_desk.proofs.desk.Desk.version.Goals as goal
 
 pub returns : goal.returns
-returns g c =
-    let left : Stored _ = record { held = c.version_of.new.store; catalog = c.self.inside.catalog } in
-    record { found = read_over g.D.Store (λ s. version_of s c.args.vehicle.now) _ _ left c.version_of.result c.self.view_is refl c.version_of.ensures.told c.version_of.ensures.blame c.version_of.ensures.reads; scheme = ap (λ d. d.scheme) c.self.view_is }
+returns g c = record {
+  found = subst (λ d. Finds g.D.Store (λ k s. version_of s c.args.vehicle.now) d.store c.version.new.self c.version.result) c.self.view_is c.version.ensures;
+  scheme = ap (λ d. d.scheme) c.self.view_is;
+}
+
+pub invariant_of-self : goal.invariant_of-self
+invariant_of-self g c = (c.version.ensures (g.K.Scheme.rules c.self.inside.scheme)).reads.can c.self.invariant

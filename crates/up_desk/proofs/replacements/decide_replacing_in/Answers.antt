@@ -1,0 +1,14 @@
+use Rattle.up_machine.specs.Decisions.{GivesReplacement}
+use Rattle.up_machine.specs.Inventory.{decide_replace}
+use Rattle.up_records.proofs.NeverStore.{never_replace}
+use Rattle.up_desk.proofs.Standings.{gives_or_fails, read_failed, then_decided}
+use Rattle.up_desk.proofs.replacements.decide_replacing_in.Goals as goal
+
+pub returns-in-Ok : goal.returns-in-Ok
+returns-in-Ok g c = then_decided (c.in-Ok.ensures (g.K.Scheme.rules c.args.scheme.now)) (λ s sound known is.
+    let k = g.K.Scheme.rules c.args.scheme.now in
+    gives_or_fails _ _ (GivesReplacement s c.args.new.now) c.decide_replace.result (decide_replace k s c.args.at c.args.new.now) (never_replace k s c.args.at c.args.new.now) (λ r h. h)
+    (c.decide_replace.ensures.decided s known.0 known.1 is))
+
+pub returns-in-Err : goal.returns-in-Err
+returns-in-Err g c = read_failed (c.in-Err.ensures (g.K.Scheme.rules c.args.scheme.now)) c.refusal_of.ensures
