@@ -42,8 +42,8 @@ pub fn run_script<K: Scheme, D: Alter, R: Source, W: Sink>(
         (record { state = desk.old; held = W.contents writer.old })
         (record { state = desk.new; held = W.contents writer.new }) result }
 
-    // From each state that the tables showed: each answer is due, the tables show the state behind the lines, a crash loses nothing
-    // that was answered, and the database refuses what is told as a fault of it.
+    // From each state that the tables showed: each answer is due, the tables show the state behind the lines, and a crash loses
+    // nothing that was answered.
     ensures lasts { ScriptLasts (K.rules) D.Store (R.remaining reader.old) (R.remaining reader.new)
         (record { state = desk.old; held = W.contents writer.old })
         (record { state = desk.new; held = W.contents writer.new }) result }

@@ -42,8 +42,8 @@ pub fn serve_stream<K: Scheme, D: Alter, R: Source, W: Sink>(
         (record { state = desk.old; held = W.contents writer.old })
         (record { state = desk.new; held = W.contents writer.new }) result }
 
-    // From each state that the tables showed: each answer is due, the tables show the state behind the requests, a crash loses
-    // nothing that was answered, and the database refuses what is told as a fault of it.
+    // From each state that the tables showed: each answer is due, the tables show the state behind the requests, and a crash
+    // loses nothing that was answered.
     ensures lasts { StreamLasts (K.rules) D.Store at (R.remaining reader.old) (R.remaining reader.new)
         (record { state = desk.old; held = W.contents writer.old })
         (record { state = desk.new; held = W.contents writer.new }) result }
