@@ -1,7 +1,7 @@
 #!/usr/bin/env python3
 """Measures the program: instructions a line, lines a second, and what a start takes. `docs/use/SPEED.md` has the figures.
 
-    speed.py PROGRAM fleets         instructions and compressions of SHA-256 a line, of scripts of seven fleets
+    speed.py PROGRAM fleets         instructions a line, over memory and over a file, and compressions of SHA-256, of scripts of seven fleets
     speed.py PROGRAM functions      the five functions that take most of them, in the fleet of `fleets` that is first
     speed.py PROGRAM malloc         calls of malloc, calloc and realloc a line, of the same scripts
     speed.py PROGRAM commands       instructions and compressions of SHA-256 of a line of each kind
@@ -94,10 +94,12 @@ def hashed(program, script, own):
 
 
 def fleets(program, own):
-    for name, words in FLEETS.items():
+    for at, (name, words) in enumerate(FLEETS.items()):
         script = list(fleet.script(**words))
         taken, blocks = hashed(program, script, own)
-        print("| %s | %d | %d | %d |" % (name, len(script), taken // len(script), blocks // len(script)), flush=True)
+        kept = counted(program, script, own, own / "told", own / ("fleet%d" % at))
+        each = [number // len(script) for number in (taken, kept, blocks)]
+        print("| %s | %d | %d | %d | %d |" % (name, len(script), *each), flush=True)
 
 
 def malloc(program, own):

@@ -74,13 +74,6 @@ pub fn hmac(key: &[u8], message: &[u8]) -> [u8; 32]
     HmacKey::new(key).tag(message)
 }
 
-/// The block of a key, 64 bytes: a key of at most 64 bytes is at its front, and zeros follow (RFC 2104, section 2).
-pub fn block_under(key: &HmacKey) -> &[u8; 64]
-    ensures { result.now ≡ key.now }
-{
-    &key.block
-}
-
 /// A key of HMAC over SHA-256 whose two pads are hashed, so that its tags don't hash them again (RFC 2104, section 4). It is
 /// seen as the block of the key.
 #[derive(Drop)]

@@ -1,18 +1,16 @@
 -- Why a read tells `Store`: each of its statements does so only where the disk counted a fault, and what is read into values tells `Memory`
 -- alone.
-use Rattle.std.proofs.Common.{◌≡◌, List, [], ◌∷◌, Bool, true, false, cond, filter, Option, Some, None, IfSome, Ok, Err, Result, IfErr, refl, sym, subst, ◌∙◌, arith}
+use Rattle.std.proofs.Common.{◌≡◌, List, [], ◌∷◌, Bool, true, false, cond, filter, Option, Some, None, IfSome, Ok, Err, Result, IfErr, refl, sym, ◌∙◌, arith}
 use Rattle.std.specs.Prelude.{⊤}
 use Rattle.std.specs.List.{AllByRecursion}
-use Rattle.sqlite.specs.Held.{Held, state}
-use Rattle.sqlite.specs.State.{State as Connected, HasCleanDisk, Survives}
-use Rattle.sqlite_trees.specs.declared.store.Store.{Ghosts}
+use Rattle.sqlite.specs.State.{State as Connected, HasCleanDisk}
 use Rattle.up_rows.specs.StateRows.{StateRows}
 use Rattle.up_tables.specs.Stands.{IsWithin, Reads, Steps}
 use Rattle.up_tables.specs.Statements.{BlamesDisk}
 use Rattle.up_tables.specs.Tables.{up_schema}
 use Rattle.up_tables.specs.declared.values.StoreFault.{StoreFault}
 use Rattle.up_tables.specs.declared.values.StoreFault.TheVariants.{Memory, Store}
-use Rattle.up_store.specs.Connections.{Blames, BlamesWithin}
+use Rattle.up_store.specs.Connections.{BlamesWithin}
 use Rattle.up_store.specs.Listing.{ListsRows}
 use Rattle.up_store.proofs.ColumnFound.{within_read}
 

@@ -1,5 +1,5 @@
 -- What is read of the tables of images, campaigns and kept manifests.
-use Rattle.std.proofs.Common.{◌≡◌, ℕ, pos, List, [], ◌∷◌, Bool, true, false, Option, Some, None, Result, Ok, Err, IsTrue, map, filter, refl, sym, ap, subst, ◌∙◌, string_bytes, bytes_eq, arith}
+use Rattle.std.proofs.Common.{◌≡◌, ℕ, pos, List, [], ◌∷◌, Bool, true, false, Option, Some, None, Result, Ok, Err, IsTrue, map, filter, refl, sym, ap, subst, ◌∙◌, bytes_eq, arith}
 use Rattle.std.specs.Prelude.{◌==◌, if◌then◌else◌, option_map, option_and_then, IfOk}
 use Rattle.std.specs.Option.{option_to_list}
 use Rattle.std.specs.Ordering.{is_eq}

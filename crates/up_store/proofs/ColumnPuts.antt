@@ -1,8 +1,7 @@
 -- Images, campaigns and kept manifests are put into the tables.
-use Rattle.std.proofs.Common.{◌≡◌, ℕ, pos, List, [], ◌∷◌, ◌++◌, Bool, true, false, Option, Some, None, Result, Ok, Err, OnOk, IsTrue, refl, sym, ap, ◌∙◌, string_bytes, bytes_eq, append-nil}
+use Rattle.std.proofs.Common.{◌≡◌, ℕ, List, [], ◌∷◌, ◌++◌, Bool, true, false, Option, Some, None, Result, Ok, Err, OnOk, IsTrue, refl, sym, ap, ◌∙◌, bytes_eq, append-nil}
 use Rattle.std.specs.Prelude.{if◌then◌else◌, IfSome, length}
 use Rattle.std.specs.FinMap as table
-use Rattle.sqlite.specs.declared.types.Value.TheVariants.{Int, Text, Blob}
 use Rattle.sqlite.specs.Order.{Row}
 use Rattle.sqlite.specs.State.{State as Connected}
 use Rattle.sqlite.specs.Table.{Table as Written}
@@ -18,7 +17,7 @@ use Rattle.up_tables.specs.declared.image.ImageRow.{ImageRow}
 use Rattle.up_tables.specs.declared.kept.KeptRow.{KeptRow}
 use Rattle.up_tables.specs.declared.values.StoreFault.{StoreFault}
 use Rattle.up_tables.specs.Forms.{image_row, campaign_row, kept_row}
-use Rattle.up_tables.specs.Lines.{sha512_line, yes_or_no}
+use Rattle.up_tables.specs.Lines.{sha512_line}
 use Rattle.up_tables.specs.Listed.{TableRows, ListsTables}
 use Rattle.up_tables.specs.Rows.{changed_at, with_row}
 use Rattle.up_tables.specs.Stands.{IsWithin, GoesOn, HasTables, Alters, Lists}

@@ -1,20 +1,16 @@
 -- The tables of images and of campaigns, read whole.
-use Rattle.std.proofs.Common.{◌≡◌, ℕ, pos, ◌+◌, ◌<◌, List, [], ◌∷◌, Bool, true, false, Option, Some, None, length, take, get_or, refl, sym, ap, ◌∙◌, string_bytes}
+use Rattle.std.proofs.Common.{◌≡◌, ℕ, ◌+◌, ◌<◌, List, [], ◌∷◌, Bool, true, false, Option, Some, None, length, take, get_or, refl, sym, ap, ◌∙◌}
 use Rattle.std.specs.Prelude.{◌&&◌, if◌then◌else◌}
 use Rattle.std.specs.FinMap as table
-use Rattle.sqlite.specs.declared.types.Value.TheVariants.{Int, Text, Blob}
-use Rattle.sqlite.specs.Order.{Row}
 use Rattle.up_canon.specs.Names.{Name, Table}
 use Rattle.up_canon.specs.Steps.{if_passes}
-use Rattle.up_columns.specs.Columns.{names_column, needs_column}
-use Rattle.up_columns.specs.CampaignColumns.{reach_column, items_column}
 use Rattle.up_plan.specs.Campaigns.{CampaignData}
 use Rattle.up_plan.specs.Images.{ImageData}
 use Rattle.up_plan.specs.Planning.{reaches}
 use Rattle.up_store.specs.declared.campaign_rows.CampaignShown.{CampaignShown}
 use Rattle.up_store.specs.declared.image_rows.ImageShown.{ImageShown}
 use Rattle.up_store.specs.declared.second_hashes.SecondHash.{SecondHash}
-use Rattle.up_tables.specs.Lines.{campaign_line, sha512_line, yes_or_no}
+use Rattle.up_tables.specs.Lines.{sha512_line}
 use Rattle.up_store.specs.ColumnRows.{IsImage, IsCampaign, AreImages, AreSha512s, AreHashesOf, AreRunning}
 use Rattle.up_store.specs.Found.{values_where}
 use Rattle.up_store.specs.Lines.{campaign_shown_line, hash_line, image_line, image_lines, image_shown_line, line_of_campaign, second_hash, sha512_lines, campaign_lines}

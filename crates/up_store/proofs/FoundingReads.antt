@@ -1,5 +1,5 @@
 -- What is read of the founding: its numbers, and the keys of the last root version.
-use Rattle.std.proofs.Common.{◌≡◌, ◌≤◌, ◌<◌, ◌+◌, ◌-◌, ℕ, suc, pos, List, [], ◌∷◌, ◌++◌, Bool, true, false, ◌&&◌, Option, Some, None, map, filter, length, slice_get, refl, sym, ap, ap₂, subst, ◌∙◌, arith, append-nil, string_bytes, bytes_eq, codes, IsTrue, append_assoc, Result, Ok, IfOk, OnOk}
+use Rattle.std.proofs.Common.{◌≡◌, ◌≤◌, ◌<◌, ◌+◌, ◌-◌, ℕ, suc, pos, List, [], ◌∷◌, ◌++◌, Bool, true, false, ◌&&◌, Option, Some, None, map, filter, length, slice_get, refl, sym, ap, ap₂, subst, ◌∙◌, arith, append-nil, bytes_eq, codes, IsTrue, append_assoc}
 use Rattle.std.specs.Prelude.{option_map, find, flat_map, is_some, not, ◌==◌}
 use Rattle.std.specs.List.{AllByRecursion, enumerate_from}
 use Rattle.std.specs.Option.{option_or}
@@ -24,13 +24,12 @@ use Rattle.up_rows.specs.StateRows.{StateRows}
 use Rattle.up_rows.proofs.Files.{or_mapped}
 use Rattle.up_tables.specs.declared.meta.MetaRow.{MetaRow}
 use Rattle.up_store.specs.declared.keys.RoleKey.{RoleKey}
-use Rattle.up_tables.specs.Lines.{meta_row}
-use Rattle.up_tables.specs.Stands.{IsWith, IsWithin, HasTables, Reads, ListsAll}
-use Rattle.up_tables.specs.Tables.{up_schema, meta_table, role_key_table}
+use Rattle.up_tables.specs.Stands.{IsWithin, HasTables, Reads, ListsAll}
+use Rattle.up_tables.specs.Tables.{up_schema, role_key_table}
 use Rattle.up_store.specs.Listing.{ListsRows, IsOfLastRoot}
 use Rattle.up_tables.specs.Forms.{role_key_places}
 use Rattle.up_tables.specs.Rows.{columns_at, has_number}
-use Rattle.up_store.specs.Lines.{key_row, founding_number, repository_word, role_lines, repository_lines, root_lines, roots_lines}
+use Rattle.up_store.specs.Lines.{key_row, repository_word, role_lines, repository_lines, root_lines, roots_lines}
 use Rattle.up_store.specs.Shown.{is_key_of, secrets_of, threshold_of, IsRoleOf, AreKeysOf, IsFoundingOf, meta_told}
 use Rattle.up_store.specs.Typed.{HasKeys, HaveKeys, EachHasKeys, IsTypedRoot}
 
@@ -455,8 +454,4 @@ founded_by rows row before was_open within numbers = by_root (row.root == 0) ref
     by_root true zero = ap is_some (none_founded rows row before zero was_open within numbers)
     by_root false some = there rows.founding refl some
 
-pub within_read : (rows : StateRows) (before mid : Connected) → Reads before mid → IsWithin up_schema (ListsRows rows) before → IsWithin up_schema (ListsRows rows) mid
-within_read rows before mid reads within = record {
-  mode = reads.mode ∙ within.mode;
-  here = λ _. subst (IsWith up_schema (ListsRows rows)) (sym reads.now_is) (within.here reads.was_open);
 }

@@ -1,5 +1,5 @@
 -- Rows of campaigns have the columns that the statements show.
-use Rattle.std.proofs.Common.{◌≡◌, ℕ, pos, List, [], ◌∷◌, Option, Some, None, filter, map, refl, ap, ◌∙◌, true}
+use Rattle.std.proofs.Common.{◌≡◌, ℕ, pos, List, [], ◌∷◌, Option, Some, None, map, refl, ap, ◌∙◌, true}
 use Rattle.std.specs.Ordering.{is_eq}
 use Rattle.sqlite.specs.Order.{Row, value_cmp}
 use Rattle.std.specs.List.{AllByRecursion, list_all}

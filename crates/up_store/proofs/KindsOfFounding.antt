@@ -1,5 +1,5 @@
 -- The row of `meta`, the rows of keys and those of files have the columns that the statements show.
-use Rattle.std.proofs.Common.{◌≡◌, ◌⊎◌, inl, inr, ℕ, pos, ◌+◌, ◌-◌, ◌≤◌, ◌^◌, zero, suc, Bool, cond, length, bytes_eq, false, List, [], ◌∷◌, ◌++◌, Option, Some, None, Ok, Err, map, filter, codes, refl, sym, ap, ◌∙◌, subst, arith, true, IsUtf8}
+use Rattle.std.proofs.Common.{◌≡◌, ℕ, pos, ◌+◌, ◌-◌, zero, suc, Bool, cond, length, bytes_eq, false, List, [], ◌∷◌, ◌++◌, Option, Some, None, Ok, Err, map, codes, refl, ap, ◌∙◌, subst, arith, true, IsUtf8}
 use Rattle.std.specs.Prelude.{IsTrue, IfOk, IfErr, IfSome, OnOk, Result, flat_map, find, slice_get, if◌then◌else◌, option_map}
 use Rattle.std.specs.Option.{option_or, option_to_list}
 use Rattle.std.specs.List.{AllByRecursion, enumerate_from}
@@ -19,7 +19,7 @@ use Rattle.up_rows.specs.StateRows.{StateRows}
 use Rattle.up_tables.specs.declared.meta.MetaRow.{MetaRow}
 use Rattle.up_store.specs.declared.keys.RoleKey.{RoleKey}
 use Rattle.up_tables.specs.declared.values.StoreFault.{StoreFault}
-use Rattle.up_tables.specs.declared.values.StoreFault.TheVariants.{Memory, Store}
+use Rattle.up_tables.specs.declared.values.StoreFault.TheVariants.{Memory}
 use Rattle.up_tables.specs.Forms.{FitMeta, file_places, keys_shown, meta_values, role_key_places}
 use Rattle.up_tables.specs.Found.{HoldsOfMeta, meta_shown}
 use Rattle.up_tables.specs.Kinds.{IsWords}

@@ -1,5 +1,5 @@
 -- Rows of images and of their second hashes have the columns that the statements show.
-use Rattle.std.proofs.Common.{◌≡◌, ℕ, List, [], ◌∷◌, Option, Some, None, Result, Ok, Err, IfOk, OnOk, option_map, length, map, filter, bytes_eq, refl, sym, ap, subst, ◌∙◌, IsUtf8, arith, true}
+use Rattle.std.proofs.Common.{◌≡◌, ℕ, List, [], ◌∷◌, Option, Some, None, Result, Ok, Err, IfOk, OnOk, option_map, length, map, filter, bytes_eq, refl, sym, ap, subst, ◌∙◌, true}
 use Rattle.std.specs.Prelude.{IfSome}
 use Rattle.std.specs.Option.{option_to_list}
 use Rattle.std.specs.Ordering.{is_eq}
@@ -21,7 +21,7 @@ use Rattle.up_tables.specs.Kinds.{IsWords}
 use Rattle.up_tables.specs.Statements.{HoldsBy}
 use Rattle.up_tables.specs.Tables.{image_table, image_sha512_table, up_schema}
 use Rattle.up_tables.specs.Forms.{image_places, sha512_places}
-use Rattle.up_tables.specs.Rows.{bare, columns_at, has_text}
+use Rattle.up_tables.specs.Rows.{bare, columns_at}
 use Rattle.up_tables.specs.Stands.{HasTables, IsWith, IsWithin, Lists, ListsAll, Reads}
 use Rattle.up_tables.specs.Stored.{AreLines, EachSays, IsLine, IsTold, Tells}
 use Rattle.up_tables.proofs.ByNameLemmas.{each_named, filter_true, named_parts}
@@ -165,9 +165,6 @@ hash_found (Ok found) file before after told reads = λ rows within.
 plain_columns : (name : Name) (o : Option (List ℕ)) → map (columns_at sha512_places) (sha512_lines name o) ≡ sha512_lines name o
 plain_columns name None = refl
 plain_columns name (Some hash) = refl
-
-same_columns : (h : SecondHash) → columns_at sha512_places (hash_line h) ≡ hash_line h
-same_columns h = refl
 
 columns_lines : (ys : List SecondHash) → map (columns_at sha512_places) (map hash_line ys) ≡ map hash_line ys
 columns_lines [] = refl

@@ -1,17 +1,12 @@
 -- Where a row can be read, want of memory is the one fault.
-use Rattle.std.proofs.Common.{◌≡◌, ◌≢◌, ◌≤◌, List, ℕ, Bool, true, false, Option, Some, None, option_map, length, string_bytes, Result, Ok, Err, IfOk, IfErr, sym, subst, ◌∙◌, refl}
-use Rattle.std.specs.Prelude.{⊤, IsErrAnd, IfSome, MatchBool, MatchOption}
-use Rattle.up_canon.specs.Canon.{max_count}
-use Rattle.up_canon.specs.Names.{is_file_name}
+use Rattle.std.proofs.Common.{◌≡◌, Bool, true, false, Result, Ok, Err, IfOk, IfErr, sym, subst, ◌∙◌, refl}
+use Rattle.std.specs.Prelude.{⊤, IsErrAnd, MatchBool}
 use Rattle.up_canon.specs.Refusals.{Gives, is_memory}
 use Rattle.up_canon.specs.declared.refusal.Refusal.{Refusal}
 use Rattle.up_canon.specs.declared.refusal.Refusal.TheVariants as refusal
-use Rattle.up_tables.specs.declared.ecu.Installed.{Installed as InstalledShown}
 use Rattle.up_tables.specs.declared.values.StoreFault.{StoreFault}
 use Rattle.up_tables.specs.declared.values.StoreFault.TheVariants.{Memory, Store}
 use Rattle.up_store.specs.ColumnRows.{column_fault}
-use Rattle.up_store.specs.Shown.{installed_read}
-use Rattle.up_store.specs.Typed.{IsTypedInstalled}
 
 -- want of memory is handed on
 pub memory_on : {A : Type 0} (result : Result A StoreFault) (fault : StoreFault) → IsErrAnd result (λ f. f ≡ fault) → fault ≡ Memory → IfErr result (λ f. f ≡ Memory)

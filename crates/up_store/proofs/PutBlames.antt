@@ -1,5 +1,5 @@
 -- What the parts of a write carried out, and why they tell `Store`.
-use Rattle.std.proofs.Common.{◌≡◌, ◌<◌, ◌≤◌, ◌^◌, inl, inr, ℕ, List, [], ◌∷◌, Some, None, Ok, Err, Result, length, map, refl, sym, ap, subst, ◌∙◌, arith}
+use Rattle.std.proofs.Common.{◌≡◌, ◌≤◌, ◌^◌, inl, inr, ℕ, List, [], ◌∷◌, Some, None, Ok, Err, Result, length, map, refl, sym, ap, subst, ◌∙◌, arith}
 use Rattle.std.specs.Prelude.{⊤}
 use Rattle.std.specs.Result.{IsErrAnd}
 use Rattle.sqlite.specs.Order.{Row}
@@ -12,7 +12,7 @@ use Rattle.up_tables.specs.Lines.{sha512_line}
 use Rattle.up_tables.specs.Stands.{IfClean, IsOpen}
 use Rattle.up_tables.specs.Tried.{BlamesOne, BlamesRefusal, Ran, RefusesOne}
 use Rattle.up_tables.specs.declared.values.StoreFault.{StoreFault}
-use Rattle.up_tables.specs.declared.values.StoreFault.TheVariants.{Memory, Store}
+use Rattle.up_tables.specs.declared.values.StoreFault.TheVariants.{Store}
 use Rattle.up_tables.proofs.TriedLemmas.{blames_only}
 use Rattle.up_store.specs.Lines.{sha512_lines, vehicle_lines}
 use Rattle.up_store.specs.Shown.{vehicle_read}

@@ -1,5 +1,5 @@
 -- Steps within a transaction, one after another.
-use Rattle.std.proofs.Common.{◌≡◌, ◌++◌, ◌∙◌, inl, inr, ℕ, List, [], ◌∷◌, Ok, Err, Result, IsTrue, OnOk, refl, sym, subst}
+use Rattle.std.proofs.Common.{◌≡◌, ◌++◌, ◌∙◌, inr, ℕ, List, [], ◌∷◌, Ok, Err, Result, IsTrue, subst}
 use Rattle.std.specs.Prelude.{⊤}
 use Rattle.std.specs.Borrow.{MutBor}
 use Rattle.std.specs.Result.{IsErrAnd}
@@ -7,17 +7,19 @@ use Rattle.sqlite_trees.specs.declared.store.Store.{Ghosts}
 use Rattle.sqlite.specs.Held.{Held, state}
 use Rattle.sqlite.specs.Order.{Row}
 use Rattle.sqlite.specs.State.{State as Connected, HasCleanDisk}
+use Rattle.up_rows.specs.StateRows.{StateRows}
 use Rattle.up_tables.specs.Stands.{HasTables}
-use Rattle.up_tables.specs.Statements.{IsOpenStep}
+use Rattle.up_tables.specs.Statements.{BlamesDisk, IsOpenStep}
 use Rattle.up_tables.specs.Stored.{AreWritten, IsWritten}
 use Rattle.up_tables.specs.declared.values.StoreFault.{StoreFault}
-use Rattle.up_tables.specs.declared.values.StoreFault.TheVariants.{Store}
 use Rattle.up_tables.proofs.StepLemmas.{steps_then}
 use Rattle.up_tables.proofs.TriedLemmas.{blames_first, blames_only, blames_so}
 use Rattle.up_tables.proofs.UndoneLemmas.{undoes_next}
-use Rattle.up_store.specs.Within.{MakesAndPuts, PutsWithin}
+use Rattle.up_store.specs.Listing.{ListsRows}
+use Rattle.up_store.specs.Within.{FindsWithin, MakesAndPuts, PutsWithin}
+use Rattle.up_store.proofs.Blamed.{by_statement}
 use Rattle.up_store.proofs.PutBlames.{told_on}
-use Rattle.up_store.proofs.WentOn.{WentOn, blames_on, never_store, ran_on}
+use Rattle.up_store.proofs.WentOn.{WentOn, blames_on, ran_on}
 
 abbrev Puts : Type 0 → Type 1
 Puts A = Connected → Connected → Result A StoreFault → Type 0
@@ -39,13 +41,6 @@ module _ {S A : Type 0} (g : Ghosts S) (these : List (List ℕ × Row)) (may : C
   pub makes_puts : (puts : Puts A) (may' : Connected → Type 0) → (may (state g old.now) → may' (state g old.now)) → PutsWithin g puts these may' old new r → MakesAndPuts g puts these may old new r
   makes_puts puts may' so c =
       record { put = c.put; ran = c.ran; blame = blames_so these may' may (state g old.now) (state g new.now) r (λ is_open has holds. so holds) c.blame; memory = inr c.memory; step = c.step }
-
--- what wasn't made, so that nothing was asked of the connection
-pub makes_none : {S A : Type 0} (g : Ghosts S) (these : List (List ℕ × Row)) (may : Connected → Type 0) (puts : Puts A) (old : MutBor (Held S)) (r : Result A StoreFault) (f : StoreFault) → IsErrAnd r (λ e. e ≡ f) → (f ≡ Store → may (state g old.now) → ⊥)
-    → ((e : StoreFault) → puts (state g old.now) (state g old.now) (Err e)) → IsOpenStep g old old r → MakesAndPuts g puts these may old old r
-makes_none g these may puts old (Ok x) f told never fails step = absurd told
-makes_none g these may puts old (Err e) f told never fails step =
-    record { put = fails e; ran = λ clean. tt; blame = never_store these may (state g old.now) (state g old.now) (Err e) f told never; memory = inl refl; step = step }
 
 module _ {S A : Type 0} (g : Ghosts S) (puts : Puts A) (these more : List (List ℕ × Row)) (may : Connected → Type 0) where
   -- a step that went through, and the next
@@ -84,3 +79,16 @@ module _ {S A : Type 0} (g : Ghosts S) (puts : Puts A) (these more : List (List 
         memory = undoes_next (Err e) s1 f told c.memory;
         step = record { same_reference = c.step.same_reference; steps = c.step.steps; inside = tt; is_open = tt };
       }
+
+-- ---- reads
+
+-- a fault of a statement, whose table has the rows that it shows
+pub finds_fault : {S A B : Type 0} (g : Ghosts S) (tells : StateRows → A → Type 0) (finds : Puts A) (fits : StateRows → Type 0) (old new : MutBor (Held S)) (r : Result B StoreFault) (f : StoreFault) (P : Type 0) → finds (state g old.now) (state g new.now) (Err f)
+    → ((rows : StateRows) → ListsRows rows (state g old.now).now.trees → fits rows → P) → BlamesDisk {A = ⊤} (λ s. P) (state g old.now) (state g new.now) (Err f) → IsOpenStep g old new r → FindsWithin g tells finds fits old new (Err f)
+finds_fault g tells finds fits old new r f P none holds blame step = record {
+  found = λ clean. tt;
+  shown = none;
+  «open» = λ clean. tt;
+  blame = by_statement fits P (state g old.now) (state g new.now) (Err f) holds blame;
+  step = record { same_reference = step.same_reference; steps = step.steps };
+}

@@ -4,6 +4,7 @@ pub mod Within
 pub mod Listing
 pub mod Connections
 pub mod Fitting
+pub mod Opening
 pub mod Puts
 pub mod Writes
 pub mod Found

@@ -184,6 +184,7 @@ pub fn words_or_null_at(row: &Row, at: usize) -> Result<Option<Text>, StoreFault
     ensures ok { IfOk result (IsTextOrNull (column row.now at)) }
     ensures fault { IfErr result (λ fault. fault ≡ Store → (text : Option (List ℕ)) → ¬ IsTextOrNull (column row.now at) text) }
     ensures none { column row.now at ≡ Value.Null → result ≡ Ok None }
+    ensures kind { column row.now at ≢ Value.Null → ((s : List ℕ) → IsUtf8 s → column row.now at ≢ Value.Text s) → result ≡ Err Store }
 {
     if is_null(row, at) {
         return Ok(None);

@@ -1,6 +1,6 @@
 //! The rows of the keys of roles, read and made.
 ghost use Rattle.std.specs.Prelude.{◌≡◌, ◌<◌, ◌^◌, ◌++◌, ◌∷◌, [], pos, All, Some, OnOk, IfOk, map, codes};
-ghost use Rattle.sqlite.specs.declared.types.Value.TheVariants.{Int, Text, Blob};
+ghost use Rattle.sqlite.specs.declared.types.Value.TheVariants as Value;
 ghost use Rattle.up_roles.specs.declared.repository.Repository.TheVariants.{Director, Image};
 ghost use Rattle.std.specs.Prelude.{◌≤◌, ℕ, IfErr};
 ghost use Rattle.up_tables.specs.declared.values.StoreFault.TheVariants.{Memory, Store};
@@ -251,7 +251,7 @@ fn key_of<'a>(
     requires root { root < 2 ^ 63 }
     requires place { place < 2 ^ 63 }
     ensures row { role_key_row result
-        ≡ Int (pos root) ∷ Text (word_of repository) ∷ Text role.now ∷ Int (pos place) ∷ Blob key.now ∷ Int (pos threshold) ∷ [] }
+        ≡ Value.Int (pos root) ∷ Value.Text (word_of repository) ∷ Value.Text role.now ∷ Value.Int (pos place) ∷ Value.Blob key.now ∷ Value.Int (pos threshold) ∷ [] }
     ensures fit { FitRoleKey result }
 {
     RoleKeyRow {

@@ -82,9 +82,6 @@ meta_of m = meta_row m.root m.image_version m.stamp
 abbrev pub meta_values : MetaRow → Row
 meta_values m = Int (pos m.root) ∷ Int (pos m.image_version) ∷ Int (pos m.stamp) ∷ []
 
-abbrev pub meta_places : List ℕ
-meta_places = 0 ∷ 1 ∷ 2 ∷ []
-
 pub record FitMeta (m : MetaRow) : Type 0 where
   pub root : m.root < 2 ^ 63
   pub image_version : m.image_version < 2 ^ 63

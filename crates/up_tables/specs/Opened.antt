@@ -1,5 +1,10 @@
 -- What a call that makes, takes or raises the tables leaves, and why it tells a fault, each in one relation.
-use Rattle.std.specs.Prelude.{◌≡◌, ◌≢◌, ◌⊎◌, Bool, false, IsTrue}
+use Rattle.std.specs.Prelude.{◌≡◌, ◌≢◌, ◌⊎◌, ℕ, List, Bool, false, Result, OnOk, IsTrue}
+use Rattle.std.specs.Borrow.{MutBor}
+use Rattle.sqlite_trees.specs.declared.store.Store.{Ghosts}
+use Rattle.sqlite.specs.declared.error.Error.{Error}
+use Rattle.sqlite.specs.Held.{Held, state}
+use Rattle.sqlite.specs.Order.{Row}
 use Rattle.sqlite.specs.State.{State, HasCleanDisk, Survives}
 use Rattle.sqlite.specs.Tree.{Trees}
 use Rattle.up_tables.specs.declared.open.OpenFault.{OpenFault}
@@ -7,11 +12,20 @@ use Rattle.up_tables.specs.declared.open.OpenFault.TheVariants.{NotOurs, Store}
 use Rattle.up_tables.specs.declared.open.SchemaVersion.{SchemaVersion}
 use Rattle.up_tables.specs.Lines.{AreNew}
 use Rattle.up_tables.specs.Listed.{TableRows, ListsTables}
-use Rattle.up_tables.specs.Making.{FailsToMake, FailsToRaise, IsTaken, ShowsRaised, StopsAtOne, raising}
+use Rattle.up_tables.specs.Making.{FailsToMake, FailsToRaise, IsTaken, ShowsRaised, StopsAtOne, Tries, raising}
 use Rattle.up_tables.specs.Ours.{HasFailed, IsHindered, ListsUs, NamesOthers, NamesUs}
 use Rattle.up_tables.specs.Stands.{AreWith, HasNoTables, IfClean, IsAsCommitted, LeavesOnly, Stands}
+use Rattle.up_tables.specs.Statements.{IsStep}
 use Rattle.up_tables.specs.Tables.{up_schema}
 use Rattle.up_tables.specs.Versions.{StandsAs}
+
+-- a step that makes tables by these statements: what then holds of the connection, that its error is told for its cause, and that nothing is
+-- committed
+pub record MakesBy {S : Type 0} (g : Ghosts S) (these : List (List ℕ × Row)) (makes : State → Type 0) (old new : MutBor (Held S))
+    (result : Result ℕ Error) : Type 0 where
+  pub made : OnOk result (IfClean makes (state g new.now))
+  pub tried : HasCleanDisk (state g new.now) → Tries these (state g old.now) (state g new.now) result
+  pub step : IsStep g old new
 
 -- whatever is answered: no transaction is under way, and a crash leaves what it could leave before, or this
 pub record Ends (old new : State) (may : Trees → Type 0) : Type 0 where

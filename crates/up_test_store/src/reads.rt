@@ -89,7 +89,7 @@ fn founding<S: Alter>(alloc: Global, store: &mut Store<S>) -> Result<String, Fau
 }
 
 fn founded<S: Alter>(alloc: Global, store: &mut Store<S>) -> Result<String, Fault> {
-    match store.is_founded() {
+    match store.is_founded(alloc) {
         Ok(true) => made("yes".to_string(alloc)),
         Ok(false) => made("no".to_string(alloc)),
         Err(fault) => Err(Fault::from(fault)),

@@ -1,5 +1,4 @@
-use Rattle.std.proofs.Common.{rules, ◌≡◌, Err, true, false, string_bytes, sym, ap, ◌∙◌}
-use Rattle.up_canon.specs.Names.{is_ident}
+use Rattle.std.proofs.Common.{◌≡◌, Err, true, false, sym, ap, ◌∙◌}
 use Rattle.up_plan.specs.Campaigns.{campaign_fits}
 use Rattle.up_tables.proofs.StateLemmas.{ok_then}
 use Rattle.up_store.proofs.ColumnReads.{same_campaign}

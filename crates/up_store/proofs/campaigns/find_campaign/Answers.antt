@@ -10,9 +10,10 @@ use Rattle.up_tables.specs.Stands.{HasTables, Lists}
 use Rattle.up_tables.specs.Tables.{campaign_table}
 use Rattle.up_tables.proofs.StateLemmas.{ok_then}
 use Rattle.up_store.specs.Lines.{campaign_shown_line}
-use Rattle.up_store.proofs.Blamed.{by_statement, memory_blames}
+use Rattle.up_store.proofs.Blamed.{memory_blames}
 use Rattle.up_store.proofs.ColumnFound.{campaigns, found_in, none_found, some_found}
 use Rattle.up_store.proofs.KindsOfCampaigns.{campaign_lines_said, holds_campaign}
+use Rattle.up_store.proofs.WithinLemmas.{finds_fault}
 use Rattle.up_store.proofs.campaigns.find_campaign.Goals as goal
 
 pub returns-in-Ok-Some : goal.returns-in-Ok-Some
@@ -49,11 +50,4 @@ returns-in-Ok-None g c =
 
 pub returns-in-Err : goal.returns-in-Err
 returns-in-Err g c =
-    let before = state g.D.Store c.args.tx.now.conn.now in
-    record {
-      found = λ clean. tt;
-      shown = λ clean. tt;
-      «open» = λ clean. tt;
-      blame = by_statement (λ _. ⊤) _ before (state g.D.Store c.campaign.new.tx.conn.now) (Err c.in-Err.fault) (λ rows lists fits. holds_campaign c.args.name.now before rows lists) (rw c.text.ensures.value at c.in-Err.ensures.blame);
-      step = search rules;
-    }
+    finds_fault g.D.Store _ _ (λ _. ⊤) _ _ c.campaign.result c.in-Err.fault _ (λ clean. tt) (λ rows lists fits. holds_campaign c.args.name.now (state g.D.Store c.args.tx.now.conn.now) rows lists) (rw c.text.ensures.value at c.in-Err.ensures.blame) c.campaign.ensures.step

@@ -1,13 +1,17 @@
-use Rattle.std.proofs.Common.{Err, refl, rules}
+use Rattle.std.proofs.Common.{ℕ, List, refl, rules}
 use Rattle.std.specs.Prelude.{⊤}
 use Rattle.sqlite.specs.Held.{state}
+use Rattle.sqlite.specs.Order.{Row}
 use Rattle.sqlite.specs.State.{HasCleanDisk}
-use Rattle.up_tables.specs.Stands.{Lists}
-use Rattle.up_tables.specs.Tables.{campaign_table}
+use Rattle.up_tables.specs.Stands.{HasTables, IsWithin, Lists}
+use Rattle.up_tables.specs.Tables.{campaign_table, up_schema}
+use Rattle.up_rows.specs.StateRows.{StateRows}
+use Rattle.up_store.specs.Listing.{ListsRows}
 use Rattle.up_tables.proofs.StateLemmas.{ok_then}
-use Rattle.up_store.proofs.Blamed.{by_statement, memory_blames}
+use Rattle.up_store.proofs.Blamed.{memory_blames}
 use Rattle.up_store.proofs.ColumnFound.{are_running}
 use Rattle.up_store.proofs.KindsOfCampaigns.{campaign_lines_said, holds_running, running_by_name}
+use Rattle.up_store.proofs.WithinLemmas.{finds_fault}
 use Rattle.up_store.proofs.campaigns.find_campaigns.Goals as goal
 
 pub returns-in-Ok : goal.returns-in-Ok
@@ -15,8 +19,8 @@ returns-in-Ok g c =
     let before = state g.D.Store c.args.tx.now.conn.now in
     let after = state g.D.Store c.running_campaigns.new.tx.conn.now in
     let found = c.in-Ok.shown.items in
-    let said = λ (clean : HasCleanDisk after) (rows_of : _) (has : _) (lists : Lists 1 rows_of (before.now.trees campaign_table.tree)). running_by_name _ rows_of found lists (c.in-Ok.ensures.found clean _ has (record { shaped = lists.shaped; every = refl })) in
-    let are = λ (clean : HasCleanDisk after) (rows : _) (within : _). are_running rows before after found (c.in-Ok.ensures.reads clean) (λ rows_of has lists name. campaign_lines_said _ _ (said clean rows_of has lists name)) within in
+    let said = λ (clean : HasCleanDisk after) (rows_of : List ℕ → List Row) (has : HasTables before) (lists : Lists 1 rows_of (before.now.trees campaign_table.tree)). running_by_name _ rows_of found lists (c.in-Ok.ensures.found clean _ has (record { shaped = lists.shaped; every = refl })) in
+    let are = λ (clean : HasCleanDisk after) (rows : StateRows) (within : IsWithin up_schema (ListsRows rows) before). are_running rows before after found (c.in-Ok.ensures.reads clean) (λ rows_of has lists name. campaign_lines_said _ _ (said clean rows_of has lists name)) within in
     let r = c.read_reaching.result in
     record {
       found = λ clean. ok_then _ _ r (λ read is rows within. is rows.campaigns (are clean rows within)) (rw c.as_slice.ensures.value at c.read_reaching.ensures.same);
@@ -28,11 +32,4 @@ returns-in-Ok g c =
 
 pub returns-in-Err : goal.returns-in-Err
 returns-in-Err g c =
-    let before = state g.D.Store c.args.tx.now.conn.now in
-    record {
-      found = λ clean. tt;
-      shown = λ clean. tt;
-      «open» = λ clean. tt;
-      blame = by_statement (λ _. ⊤) _ before (state g.D.Store c.running_campaigns.new.tx.conn.now) (Err c.in-Err.fault) (λ rows lists fits. holds_running before rows lists) c.in-Err.ensures.blame;
-      step = search rules;
-    }
+    finds_fault g.D.Store _ _ (λ _. ⊤) _ _ c.running_campaigns.result c.in-Err.fault _ (λ clean. tt) (λ rows lists fits. holds_running (state g.D.Store c.args.tx.now.conn.now) rows lists) c.in-Err.ensures.blame c.running_campaigns.ensures.step

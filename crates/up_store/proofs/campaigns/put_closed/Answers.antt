@@ -1,6 +1,6 @@
 use Rattle.std.proofs.Common.{ap, refl}
 use Rattle.sqlite.specs.Held.{state}
-use Rattle.up_store.proofs.ColumnPuts.{puts_closed}
+use Rattle.up_store.proofs.Closed.{puts_closed}
 use Rattle.up_store.proofs.WithinLemmas.{puts_one}
 use Rattle.up_store.proofs.Written.{open_before}
 use Rattle.up_store.proofs.campaigns.put_closed.Goals as goal

@@ -1,5 +1,4 @@
-use Rattle.std.proofs.Common.{◌≡◌, true, false, length, refl, sym, ap, ◌∙◌, arith}
-use Rattle.up_canon.specs.Names.{is_file_name}
+use Rattle.std.proofs.Common.{◌≡◌, true, false, length, refl, sym, ap, ◌∙◌}
 use Rattle.up_plan.specs.Images.{image_fits}
 use Rattle.up_tables.proofs.StateLemmas.{ok_then}
 use Rattle.up_store.proofs.ColumnReads.{same_image}

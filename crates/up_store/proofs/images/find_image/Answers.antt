@@ -1,5 +1,5 @@
 use Rattle.std.specs.Prelude.{⊤}
-use Rattle.std.proofs.Common.{◌≡◌, ℕ, List, Some, None, Err, Option, map, rules, arith, refl}
+use Rattle.std.proofs.Common.{◌≡◌, ℕ, List, Some, None, Err, map, rules, arith, refl}
 use Rattle.std.specs.FinMap as table
 use Rattle.std.specs.Option.{option_to_list}
 use Rattle.sqlite.specs.Effect.{Database}
@@ -13,11 +13,12 @@ use Rattle.up_tables.specs.Stands.{HasTables, Lists}
 use Rattle.up_tables.specs.Tables.{image_sha512_table, image_table}
 use Rattle.up_store.specs.ColumnRows.{IsImage}
 use Rattle.up_store.specs.Lines.{image_shown_line}
-use Rattle.up_store.proofs.Blamed.{by_statement, then_blames}
+use Rattle.up_store.proofs.Blamed.{then_blames}
 use Rattle.up_store.proofs.ReadRows.{tables_stay, now_stays}
 use Rattle.up_store.proofs.ColumnFound.{images, found_in, none_found, joined_found}
 use Rattle.up_store.proofs.KindsOfImages.{holds_image, image_lines_said}
 use Rattle.up_tables.proofs.StateLemmas.{ok_then}
+use Rattle.up_store.proofs.WithinLemmas.{finds_fault}
 use Rattle.up_store.proofs.images.find_image.Goals as goal
 
 pub returns-in-Ok-Some : goal.returns-in-Ok-Some
@@ -65,11 +66,4 @@ returns-in-Ok-None g c =
 
 pub returns-in-Err : goal.returns-in-Err
 returns-in-Err g c =
-    let before = state g.D.Store c.args.tx.now.conn.now in
-    record {
-      found = λ clean. tt;
-      shown = λ clean. tt;
-      «open» = λ clean. tt;
-      blame = by_statement (λ _. ⊤) _ before (state g.D.Store c.image.new.tx.conn.now) (Err c.in-Err.fault) (λ rows lists fits. holds_image c.args.file.now before rows lists) (rw c.text.ensures.value at c.in-Err.ensures.blame);
-      step = search rules;
-    }
+    finds_fault g.D.Store _ _ (λ _. ⊤) _ _ c.image.result c.in-Err.fault _ (λ clean. tt) (λ rows lists fits. holds_image c.args.file.now (state g.D.Store c.args.tx.now.conn.now) rows lists) (rw c.text.ensures.value at c.in-Err.ensures.blame) c.image.ensures.step

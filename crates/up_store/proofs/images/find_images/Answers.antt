@@ -1,16 +1,18 @@
-use Rattle.std.proofs.Common.{Err, arith, refl, rules}
+use Rattle.std.proofs.Common.{ℕ, List, arith, refl, rules}
 use Rattle.std.specs.Prelude.{⊤}
 use Rattle.sqlite.specs.Effect.{Database}
 use Rattle.sqlite.specs.Held.{state}
+use Rattle.sqlite.specs.Order.{Row}
 use Rattle.sqlite.specs.State.{HasCleanDisk}
-use Rattle.up_tables.specs.Stands.{Lists}
+use Rattle.up_tables.specs.Stands.{HasTables, Lists}
 use Rattle.up_tables.specs.Tables.{image_sha512_table, image_table}
 use Rattle.up_tables.proofs.StateLemmas.{ok_then}
 use Rattle.up_store.specs.ColumnRows.{AreImages}
 use Rattle.up_store.proofs.ReadRows.{tables_stay, now_stays}
-use Rattle.up_store.proofs.Blamed.{by_statement, then_blames}
+use Rattle.up_store.proofs.Blamed.{then_blames}
 use Rattle.up_store.proofs.ColumnFound.{within_read, are_images}
 use Rattle.up_store.proofs.KindsOfImages.{holds_images, image_lines_said, images_by_name}
+use Rattle.up_store.proofs.WithinLemmas.{finds_fault}
 use Rattle.up_store.proofs.images.find_images.Goals as goal
 
 pub returns-in-Ok : goal.returns-in-Ok
@@ -18,7 +20,7 @@ returns-in-Ok g c =
     let before = state g.D.Store c.args.tx.now.conn.now in
     let mid = state g.D.Store c.images.new.tx.conn.now in
     let found = c.in-Ok.shown.items in
-    let said = λ (clean : HasCleanDisk mid) (rows_of : _) (has : _) (lists : Lists 1 rows_of (before.now.trees image_table.tree)). images_by_name _ rows_of found lists (c.in-Ok.ensures.found clean _ has (record { shaped = lists.shaped; every = refl })) in
+    let said = λ (clean : HasCleanDisk mid) (rows_of : List ℕ → List Row) (has : HasTables before) (lists : Lists 1 rows_of (before.now.trees image_table.tree)). images_by_name _ rows_of found lists (c.in-Ok.ensures.found clean _ has (record { shaped = lists.shaped; every = refl })) in
     let next = c.find_with_sha512s.ensures in
     record {
       found = λ clean.
@@ -44,11 +46,4 @@ returns-in-Ok g c =
 
 pub returns-in-Err : goal.returns-in-Err
 returns-in-Err g c =
-    let before = state g.D.Store c.args.tx.now.conn.now in
-    record {
-      found = λ clean. tt;
-      shown = λ clean. tt;
-      «open» = λ clean. tt;
-      blame = by_statement (λ _. ⊤) _ before (state g.D.Store c.images.new.tx.conn.now) (Err c.in-Err.fault) (λ rows lists fits. holds_images before rows lists) c.in-Err.ensures.blame;
-      step = search rules;
-    }
+    finds_fault g.D.Store _ _ (λ _. ⊤) _ _ c.images.result c.in-Err.fault _ (λ clean. tt) (λ rows lists fits. holds_images (state g.D.Store c.args.tx.now.conn.now) rows lists) c.in-Err.ensures.blame c.images.ensures.step

@@ -1,4 +1,4 @@
-use Rattle.std.proofs.Common.{◌∷◌, [], Ok, Some, ap, refl}
+use Rattle.std.proofs.Common.{◌∷◌, [], Ok, Some, ap}
 use Rattle.std.specs.Prelude.{⊤}
 use Rattle.sqlite.specs.Held.{state}
 use Rattle.sqlite.specs.Order.{Row}

@@ -1,12 +1,14 @@
-use Rattle.std.proofs.Common.{refl, rules}
+use Rattle.std.proofs.Common.{ap, rules}
+use Rattle.std.specs.Prelude.{◌==◌, not}
 use Rattle.sqlite.specs.Held.{state}
+use Rattle.up_tables.specs.declared.meta.MetaRow.{MetaRow}
 use Rattle.up_store.proofs.FoundingReads.{founded_by}
 use Rattle.up_store.proofs.roots.find_whether_founded.Goals as goal
 
 pub returns-in-Ok : goal.returns-in-Ok
 returns-in-Ok g c = record {
   found = λ clean rows within. founded_by rows c.in-Ok.row (state g.D.Store c.args.tx.now.conn.now) (c.in-Ok.ensures.reads clean).was_open within (c.in-Ok.ensures.finds.found clean rows within);
-  shown = λ clean has. let told = c.in-Ok.ensures.finds.shown clean has in (told.0, told.1, search rules);
+  shown = λ clean has. let told = c.in-Ok.ensures.finds.shown clean has in (told.0, told.1, ap (λ (m : MetaRow). not (m.root == 0)) told.2);
   «open» = search rules;
   blame = λ clean. tt;
   step = search rules;

@@ -1,8 +1,7 @@
-use Rattle.std.proofs.Common.{Err, Ok, ap, rules}
+use Rattle.std.proofs.Common.{Err, ap, rules}
 use Rattle.std.specs.Prelude.{⊤}
 use Rattle.sqlite.specs.Held.{state}
 use Rattle.sqlite.specs.State.{HasCleanDisk}
-use Rattle.up_tables.proofs.StepLemmas.{steps_same}
 use Rattle.up_store.specs.Lines.{role_file_lines}
 use Rattle.up_store.specs.Writes.{FitsFounding, file_writes, founding_writes, register_writes}
 use Rattle.up_store.proofs.PutBlames.{never_blames}

@@ -1,8 +1,8 @@
 use Rattle.std.proofs.Common.{Err, Ok, ◌∙◌, rules}
 use Rattle.std.specs.Prelude.{⊤}
 use Rattle.sqlite.specs.Held.{state}
-use Rattle.up_store.proofs.Blamed.{by_statement}
 use Rattle.up_store.proofs.KindsOfImages.{holds_hash, hash_found}
+use Rattle.up_store.proofs.WithinLemmas.{finds_fault}
 use Rattle.up_store.proofs.second_hashes.find_sha512.Goals as goal
 
 pub returns-in-Ok : goal.returns-in-Ok
@@ -18,11 +18,4 @@ returns-in-Ok g c =
 
 pub returns-in-Err : goal.returns-in-Err
 returns-in-Err g c =
-    let before = state g.D.Store c.args.tx.now.conn.now in
-    record {
-      found = λ clean. tt;
-      shown = λ clean. tt;
-      «open» = λ clean. tt;
-      blame = by_statement (λ _. ⊤) _ before (state g.D.Store c.image_sha512.new.tx.conn.now) (Err c.in-Err.fault) (λ rows lists fits. holds_hash c.args.file.now before rows lists) (rw c.text.ensures.value at c.in-Err.ensures.blame);
-      step = search rules;
-    }
+    finds_fault g.D.Store _ _ (λ _. ⊤) _ _ c.image_sha512.result c.in-Err.fault _ (λ clean. tt) (λ rows lists fits. holds_hash c.args.file.now (state g.D.Store c.args.tx.now.conn.now) rows lists) (rw c.text.ensures.value at c.in-Err.ensures.blame) c.image_sha512.ensures.step

@@ -2,8 +2,9 @@ use Rattle.std.proofs.Common.{Err, Ok, refl, rules}
 use Rattle.std.specs.Prelude.{⊤}
 use Rattle.sqlite.specs.Held.{state}
 use Rattle.up_tables.proofs.StateLemmas.{ok_then}
-use Rattle.up_store.proofs.Blamed.{by_statement, memory_blames}
+use Rattle.up_store.proofs.Blamed.{memory_blames}
 use Rattle.up_store.proofs.KindsOfImages.{are_hashes, hashes_by_name, holds_hashes}
+use Rattle.up_store.proofs.WithinLemmas.{finds_fault}
 use Rattle.up_store.proofs.second_hashes.find_sha512s.Goals as goal
 
 pub returns-in-Ok : goal.returns-in-Ok
@@ -19,11 +20,4 @@ returns-in-Ok g c = record {
 
 pub returns-in-Err : goal.returns-in-Err
 returns-in-Err g c =
-    let before = state g.D.Store c.args.tx.now.conn.now in
-    record {
-      found = λ clean. tt;
-      shown = λ clean. tt;
-      «open» = λ clean. tt;
-      blame = by_statement (λ _. ⊤) _ before (state g.D.Store c.image_sha512s.new.tx.conn.now) (Err c.in-Err.fault) (λ rows lists fits. holds_hashes before rows lists) c.in-Err.ensures.blame;
-      step = search rules;
-    }
+    finds_fault g.D.Store _ _ (λ _. ⊤) _ _ c.image_sha512s.result c.in-Err.fault _ (λ clean. tt) (λ rows lists fits. holds_hashes (state g.D.Store c.args.tx.now.conn.now) rows lists) c.in-Err.ensures.blame c.image_sha512s.ensures.step

@@ -1,7 +1,6 @@
-use Rattle.std.proofs.Common.{◌∷◌, [], Ok, List, ℕ, ap, map, refl, sym, ◌∙◌, rules}
+use Rattle.std.proofs.Common.{Ok, ap, sym, ◌∙◌, rules}
 use Rattle.std.specs.Prelude.{⊤}
 use Rattle.sqlite.specs.Held.{state}
-use Rattle.sqlite.specs.Order.{Row}
 use Rattle.up_plan.specs.Images.{ImageData}
 use Rattle.up_tables.specs.Texts.{insert_sha512_text}
 use Rattle.up_tables.specs.declared.values.StoreFault.{StoreFault}
